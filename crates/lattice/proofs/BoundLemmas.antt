@@ -1,0 +1,45 @@
+-- What follows from the laws of bounds.
+use Rattle.std.proofs.Common.{◌≡◌, Bool, true, false, ◌&&◌, IsTrue, refl, sym}
+use Rattle.std.proofs.lemmas.Bool.{and_parts, and_from}
+use Rattle.lattice.specs.Order.{PartialOrderLaws, LatticeLaws}
+
+-- two tests that hold at the same times are the same
+pub same_test : (a b : Bool) → (IsTrue a → IsTrue b) → (IsTrue b → IsTrue a) → a ≡ b
+same_test true b h k = sym (h refl)
+same_test false true h k = k refl
+same_test false false h k = refl
+
+module _ {T : Type 0} {below : T → T → Bool} {joined met : T → T → T} (o : PartialOrderLaws below) (l : LatticeLaws below joined met) where
+  pub join_below : (t u s : T) → below (joined t u) s ≡ (below t s && below u s)
+  join_below t u s =
+      same_test _ _
+      (λ h. and_from _ _ (o.transitive _ _ _ (l.join_left t u) h) (o.transitive _ _ _ (l.join_right t u) h))
+      (λ h. let p = and_parts _ _ h in l.join_least t u s p.0 p.1)
+
+  pub below_meet : (t u s : T) → below s (met t u) ≡ (below s t && below s u)
+  below_meet t u s =
+      same_test _ _
+      (λ h. and_from _ _ (o.transitive _ _ _ h (l.meet_left t u)) (o.transitive _ _ _ h (l.meet_right t u)))
+      (λ h. let p = and_parts _ _ h in l.meet_greatest t u s p.0 p.1)
+
+  join_one_way : (t u : T) → IsTrue (below (joined t u) (joined u t))
+  join_one_way t u = l.join_least t u (joined u t) (l.join_right u t) (l.join_left u t)
+
+  pub join_commutes : (t u : T) → joined t u ≡ joined u t
+  join_commutes t u = o.antisymmetric _ _ (join_one_way t u) (join_one_way u t)
+
+  pub join_associates : (t u v : T) → joined (joined t u) v ≡ joined t (joined u v)
+  join_associates t u v =
+      let left = l.join_left t (joined u v) in
+      let right = l.join_right t (joined u v) in
+      let first = l.join_left (joined t u) v in
+      o.antisymmetric _ _
+      (l.join_least _ _ _
+      (l.join_least _ _ _ left (o.transitive _ _ _ (l.join_left u v) right))
+      (o.transitive _ _ _ (l.join_right u v) right))
+      (l.join_least _ _ _
+      (o.transitive _ _ _ (l.join_left t u) first)
+      (l.join_least _ _ _ (o.transitive _ _ _ (l.join_right t u) first) (l.join_right (joined t u) v)))
+
+  pub join_same : (t : T) → joined t t ≡ t
+  join_same t = o.antisymmetric _ _ (l.join_least t t t (o.reflexive t) (o.reflexive t)) (l.join_left t t)

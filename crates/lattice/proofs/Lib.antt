@@ -1,0 +1,3 @@
+pub mod BoundLemmas
+pub mod FrontierLemmas
+pub mod RepresentativeLemmas

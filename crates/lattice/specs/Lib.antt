@@ -1,0 +1,5 @@
+pub mod Order
+pub mod Frontiers
+pub mod Representatives
+pub mod Naturals
+pub mod Pairs

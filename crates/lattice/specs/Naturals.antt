@@ -1,0 +1,32 @@
+-- The laws at whole numbers, whose order is total: the join is the greater, the meet the lesser.
+use Rattle.std.specs.Prelude.{ℕ, IsTrue, nat_le, max, min}
+use Rattle.std.specs.Ordering.{nat_cmp}
+use Rattle.std.proofs.Common.{arith}
+use Rattle.std.proofs.lemmas.Bool.Decides.{nat_tests}
+use Rattle.lattice.specs.Order.{PartialOrderLaws, LatticeLaws, ExtendsLaws}
+
+pub nat_order : PartialOrderLaws nat_le
+nat_order = record {
+  reflexive = λ t. grind (arith, nat_tests);
+  transitive = λ t u v h k. grind (arith, nat_tests);
+  antisymmetric = λ t u h k. grind (arith, nat_tests);
+}
+
+pub nat_bounds : LatticeLaws nat_le max min
+nat_bounds = record {
+  join_left = λ t u. grind (arith, nat_tests);
+  join_right = λ t u. grind (arith, nat_tests);
+  join_least = λ t u v h k. grind (arith, nat_tests);
+  meet_left = λ t u. grind (arith, nat_tests);
+  meet_right = λ t u. grind (arith, nat_tests);
+  meet_greatest = λ t u v h k. grind (arith, nat_tests);
+}
+
+pub nat_extends : ExtendsLaws nat_le nat_cmp
+nat_extends = record {
+  extends = λ t u h. grind (arith, nat_tests);
+  exact = λ t u e. grind (arith, nat_tests);
+}
+
+pub nat_lowest : (t : ℕ) → IsTrue (nat_le 0 t)
+nat_lowest t = grind (arith, nat_tests)
