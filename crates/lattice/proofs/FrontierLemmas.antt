@@ -33,3 +33,7 @@ module _ {T : Type 0} {below : T → T → Bool} (o : PartialOrderLaws below) wh
 
   pub all_beyond_later : (F G H : List T) → IsTrue (all_beyond below F G) → IsTrue (all_beyond below G H) → IsTrue (all_beyond below F H)
   all_beyond_later F G H a b = all_more (is_beyond below G) (is_beyond below F) (λ t h. beyond_later F G t a h) H b
+
+  -- a frontier beyond whose times lie in those beyond another is beyond that one
+  pub all_beyond_from : (F G : List T) → ((t : T) → IsTrue (is_beyond below G t) → IsTrue (is_beyond below F t)) → IsTrue (all_beyond below F G)
+  all_beyond_from F G h = all_more (is_beyond below G) (is_beyond below F) h G (beyond_itself G)

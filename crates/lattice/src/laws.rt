@@ -21,6 +21,8 @@ pub fn later_frontiers_are_beyond<T: Lattice>()
         → IsTrue (is_beyond T.below F u) }
     ensures later { (F G : List T) (t : T) → IsTrue (all_beyond T.below F G) → IsTrue (is_beyond T.below G t)
         → IsTrue (is_beyond T.below F t) }
+    ensures covers { (F G : List T) → ((t : T) → IsTrue (is_beyond T.below G t) → IsTrue (is_beyond T.below F t))
+        → IsTrue (all_beyond T.below F G) }
     ensures itself { (F : List T) → IsTrue (all_beyond T.below F F) }
     ensures transitive { (F G H : List T) → IsTrue (all_beyond T.below F G) → IsTrue (all_beyond T.below G H)
         → IsTrue (all_beyond T.below F H) }

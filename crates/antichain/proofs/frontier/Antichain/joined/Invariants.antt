@@ -1,0 +1,12 @@
+use Rattle.std.proofs.Common.{◌≡◌, ◌*◌, ◌≤◌, ◌||◌, ◌&&◌, length, drop}
+use Rattle.lattice.specs.Frontiers.{is_beyond}
+use Rattle.antichain.proofs.frontier.Antichain.joined.Given as goal
+
+-- what is beyond the result so far, or beyond one of the elements to come and the other antichain, is beyond both
+abbrev pub invariant-loop-f : goal.invariant-loop-f
+invariant-loop-f g l =
+    let below = g.T.PartialOrder.below in
+    record {
+      beyond : (t : g.row.T.Denot) → (is_beyond below l.both t || (is_beyond below (drop l.f-index l.f-items) t && is_beyond below l.other t)) ≡ (is_beyond below l.f-items t && is_beyond below l.other t);
+      few : length l.both ≤ l.f-index * length l.other;
+    }

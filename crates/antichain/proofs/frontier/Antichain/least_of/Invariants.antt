@@ -1,0 +1,14 @@
+use Rattle.std.proofs.Common.{◌≡◌, ◌≤◌, ◌||◌, length, drop}
+use Rattle.lattice.specs.Frontiers.{is_beyond}
+use Rattle.antichain.specs.Antichains.{IsFrontier}
+use Rattle.antichain.proofs.frontier.Antichain.least_of.Given as goal
+
+-- what is beyond the frontier or one of the times to come is beyond one of the times
+abbrev pub invariant-loop-t : goal.invariant-loop-t
+invariant-loop-t g l =
+    let below = g.T.PartialOrder.below in
+    record {
+      beyond : (s : g.row.T.Denot) → (is_beyond below l.frontier s || is_beyond below (drop l.t-index l.times) s) ≡ is_beyond below l.times s;
+      frontier : IsFrontier below g.T.Ord.cmp l.frontier;
+      few : length l.frontier ≤ l.t-index;
+    }

@@ -1,0 +1,64 @@
+//! The steps of an insertion, over the elements alone: what the new time makes superfluous goes, room is made where
+//! nothing went, and the place is found at which the order of sorting wants the time. Only making room can be
+//! refused, and then nothing has changed.
+ghost use Rattle.std.specs.Prelude.{◌≡◌, ◌≤◌, length, OnOk, OnErr};
+ghost use Rattle.std.specs.List.{insert};
+ghost use Rattle.smallvec.specs.SmallVec.{small_vec_len, HasRoomFor};
+ghost use Rattle.antichain.specs.Insertion.{placed, not_above};
+
+use crate::NoMemory;
+use lattice::Lattice;
+use smallvec::SmallVec;
+
+// Puts `t` into elements in `Ord` order, and removes those that it is at or before. It is refused only where there is
+// none of these and no room.
+pub(crate) fn insert_new<T: Lattice>(elements: &mut SmallVec<T, 4>, t: T) -> Result<(), NoMemory>
+    ensures ok { OnOk result (elements.new.items ≡ placed T.cmp t (not_above T.below t elements.old.items)) }
+    ensures err { OnErr result (elements.new.items ≡ elements.old.items) }
+    ensures full { OnErr result (elements.old.capacity ≤ small_vec_len elements.old) }
+    ensures none_above { OnErr result (not_above T.below t elements.old.items ≡ elements.old.items) }
+    ensures capacity { elements.old.capacity ≤ elements.new.capacity }
+{
+    make_way(elements, t)?;
+    let at = place_of(elements.as_slice(), t);
+    elements.insert(at, t).unwrap();
+    Ok(())
+}
+
+// Removes the elements that `t` is at or before; where there is none, makes room for one more.
+fn make_way<T: Lattice>(elements: &mut SmallVec<T, 4>, t: T) -> Result<(), NoMemory>
+    ensures rest { OnOk result (elements.new.items ≡ not_above T.below t elements.old.items) }
+    ensures room { OnOk result (HasRoomFor elements.new 1) }
+    ensures err { OnErr result (elements.new.items ≡ elements.old.items) }
+    ensures full { OnErr result (elements.old.capacity ≤ small_vec_len elements.old) }
+    ensures none_above { OnErr result (not_above T.below t elements.old.items ≡ elements.old.items) }
+    ensures capacity { elements.old.capacity ≤ elements.new.capacity }
+{
+    let before = elements.len();
+    remove_above(elements, t);
+    if elements.len() == before {
+        elements.reserve(1)?;
+    }
+    Ok(())
+}
+
+// Removes the elements that `t` is at or before.
+fn remove_above<T: Lattice>(elements: &mut SmallVec<T, 4>, t: T)
+    ensures rest { elements.new.items ≡ not_above T.below t elements.old.items }
+    ensures capacity { elements.new.capacity ≡ elements.old.capacity }
+{
+    elements.retain(|e| !t.less_equal(e));
+}
+
+// The index of the first element that comes after `t` in order, or the length.
+fn place_of<T: Lattice>(elements: &[T], t: T) -> usize
+    ensures within { result ≤ length elements.now }
+    ensures place { insert elements.now result t ≡ placed T.cmp t elements.now }
+{
+    for (i, e) in elements.iter().enumerate() {
+        if t < *e {
+            return i;
+        }
+    }
+    elements.len()
+}
