@@ -5,6 +5,9 @@ ghost use Rattle.std.specs.Prelude.{◌≡◌};
 use std::alloc::{AllocError, AllocFailed};
 use thiserror::Error;
 
+// The number of this refusal among all refusals.
+const NUMBER: u8 = 1;
+
 /// A growth was refused.
 #[derive(Clone, Copy, Debug, PartialEq, Eq, Error)]
 #[error("no memory")]
@@ -15,7 +18,7 @@ impl NoMemory {
     pub fn code(self) -> u8
         ensures { result ≡ 1 }
     {
-        1
+        NUMBER
     }
 }
 

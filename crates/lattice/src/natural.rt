@@ -40,7 +40,7 @@ impl Minimum for u64 {
     ghost lowest = { λ t _. nat_lowest t };
 
     fn minimum() -> u64 {
-        0
+        u64::MIN
     }
 
     fn known(&self) {
