@@ -1,6 +1,6 @@
 //! The antichain itself. The elements are private, and every value keeps that no two can be compared and that they lie
 //! in `Ord` order: by that a contract may see the list of them and mean the set.
-ghost use Rattle.std.specs.Prelude.{◌≡◌, ℕ, ◌+◌, ◌*◌, ◌<◌, ◌≤◌, ◌↔◌, ◌==◌, Bool, not, ◌&&◌, ◌||◌, List, [], ◌∷◌, length, IsTrue, IsOk, IfOk, OnOk, OnErr, MatchResult};
+ghost use Rattle.std.specs.Prelude.{◌≡◌, ◌+◌, ◌*◌, ◌<◌, ◌≤◌, ◌↔◌, not, ◌&&◌, ◌||◌, [], ◌∷◌, length, IsTrue, IsOk, IfOk, OnOk, OnErr};
 ghost use Rattle.std.specs.List.{list_all};
 ghost use Rattle.lattice.specs.Frontiers.{is_beyond, all_beyond};
 ghost use Rattle.antichain.specs.Antichains.{SameElements, IsFrontier, is_incomparable, least};
@@ -13,8 +13,8 @@ use smallvec::SmallVec;
 use std::alloc::{AllocError, Global};
 use std::marker::Model;
 
-/// A set of times of which no two can be compared. A contract sees the list of its elements, in `Ord` order, so that
-/// equal sets are equal lists. Up to four elements take no memory.
+/// A set of times of which no two can be compared, as timely dataflow has it. A contract sees the list of its elements,
+/// in `Ord` order, so that equal sets are equal lists. Up to four elements take no memory.
 #[derive(Debug, Drop)]
 pub struct Antichain<T: Lattice> {
     elements: SmallVec<T, 4>,
@@ -59,7 +59,8 @@ impl<T: Lattice> Antichain<T> {
     /// Cost: the number of times by that of the least of them.
     pub fn least_of(alloc: Global, times: &[T]) -> Result<Self, NoMemory>
         ensures least { IfOk result (λ frontier. SameElements frontier (least T.below times.now)) }
-        ensures beyond { IfOk result (λ frontier. (s : T) → is_beyond T.below frontier s ≡ is_beyond T.below times.now s) }
+        ensures beyond { IfOk result (λ frontier. (s : T)
+            → is_beyond T.below frontier s ≡ is_beyond T.below times.now s) }
         ensures small { length times.now ≤ 4 → IsOk result }
     {
         let mut frontier = Antichain::new(alloc);
@@ -107,7 +108,8 @@ impl<T: Lattice> Antichain<T> {
     /// Cost: a comparison for each pair of elements.
     pub fn is_beyond(&self, other: &Antichain<T>) -> bool
         ensures value { result ≡ all_beyond T.below other.now self.now }
-        ensures times { IsTrue result ↔ ((t : T) → IsTrue (is_beyond T.below self.now t) → IsTrue (is_beyond T.below other.now t)) }
+        ensures times { IsTrue result ↔ ((t : T)
+            → IsTrue (is_beyond T.below self.now t) → IsTrue (is_beyond T.below other.now t)) }
     {
         all_beyond(other.elements.as_slice(), self.elements.as_slice())
     }
@@ -121,14 +123,16 @@ impl<T: Lattice> Antichain<T> {
     /// Cost: linear in the elements.
     pub fn insert(&mut self, t: T) -> Result<bool, NoMemory>
         ensures least { OnOk result (SameElements self.new (least T.below (t ∷ self.old))) }
-        ensures beyond { OnOk result ((s : T) → is_beyond T.below self.new s ≡ (T.below t s || is_beyond T.below self.old s)) }
+        ensures beyond { OnOk result ((s : T)
+            → is_beyond T.below self.new s ≡ (T.below t s || is_beyond T.below self.old s)) }
         ensures answer { IfOk result (λ inserted. inserted ≡ not (is_beyond T.below self.old t)) }
         ensures already { IsTrue (is_beyond T.below self.old t) → self.new ≡ self.old }
         ensures frontier { IsFrontier T.below T.cmp self.new }
         ensures len { OnOk result (length self.new ≤ length self.old + 1) }
 
         ensures err { OnErr result (self.new ≡ self.old) }
-        ensures full { OnErr result ((4 ≤ length self.old) × IsTrue (list_all (is_incomparable T.below t) self.old)) }
+        ensures full { OnErr result ((4 ≤ length self.old)
+            × IsTrue (list_all (is_incomparable T.below t) self.old)) }
     {
         if self.less_equal(&t) {
             return Ok(false);
@@ -142,7 +146,8 @@ impl<T: Lattice> Antichain<T> {
     ///
     /// Cost: the product of both numbers of elements by the number of elements of the result.
     pub fn joined(&self, other: &Antichain<T>) -> Result<Antichain<T>, NoMemory>
-        ensures beyond { IfOk result (λ both. (t : T) → is_beyond T.below both t ≡ (is_beyond T.below self.now t && is_beyond T.below other.now t)) }
+        ensures beyond { IfOk result (λ both. (t : T)
+            → is_beyond T.below both t ≡ (is_beyond T.below self.now t && is_beyond T.below other.now t)) }
         ensures small { OnErr result (4 < length self.now * length other.now) }
     {
         let mut both = Antichain::new(*self.elements.allocator());
@@ -155,7 +160,8 @@ impl<T: Lattice> Antichain<T> {
 
 // Adds the joins of one time with each of the others.
 fn insert_joins<T: Lattice>(both: &mut Antichain<T>, f: T, others: &[T]) -> Result<(), NoMemory>
-    ensures beyond { OnOk result ((t : T) → is_beyond T.below both.new t ≡ (is_beyond T.below both.old t || (T.below f t && is_beyond T.below others.now t))) }
+    ensures beyond { OnOk result ((t : T) → is_beyond T.below both.new t
+        ≡ (is_beyond T.below both.old t || (T.below f t && is_beyond T.below others.now t))) }
     ensures len { OnOk result (length both.new ≤ length both.old + length others.now) }
     ensures full { OnErr result (4 < length both.old + length others.now) }
 {
@@ -165,6 +171,7 @@ fn insert_joins<T: Lattice>(both: &mut Antichain<T>, f: T, others: &[T]) -> Resu
     Ok(())
 }
 
+/// A copy of at most four elements is never refused.
 impl<T: Lattice> Clone for Antichain<T> {
     ghost use Rattle.std.specs.Prelude.{◌≡◌, ◌≤◌, length};
 

@@ -1,5 +1,5 @@
 use crate::{Antichain, NoMemory, all_beyond, is_beyond};
-use lattice::{Bitime, Lattice, Pair};
+use lattice::{Bitime, Lattice, Pair, PartialOrder};
 use std::alloc::Global;
 use std::process::Abort;
 
@@ -9,6 +9,24 @@ fn at(first: u64, second: u64) -> Bitime {
 
 fn antichain(rt: &impl Abort, alloc: Global, times: &[Bitime]) -> Antichain<Bitime> {
     Antichain::least_of(alloc, times).expect(rt, "memory for a small antichain")
+}
+
+// The late correction of the README: posted for day 10 in revision 1, corrected for day 5 in revision 2.
+#[test]
+fn a_late_correction(rt: HostRuntime) {
+    let (posted, corrected) = (at(10, 1), at(5, 2));
+    assert!(rt; !posted.less_equal(&corrected) && !corrected.less_equal(&posted));
+    assert_eq!(rt; posted.join(corrected), at(10, 2));
+    for (read, sees_posted, sees_corrected) in [
+        (at(10, 1), true, false),
+        (at(7, 2), false, true),
+        (at(10, 2), true, true),
+    ] {
+        assert_eq!(rt; posted.less_equal(&read), sees_posted, "at {read}");
+        assert_eq!(rt; corrected.less_equal(&read), sees_corrected, "at {read}");
+    }
+    let open = Antichain::from_elem(rt.alloc(), at(0, 2));
+    assert!(rt; !open.less_equal(&posted) && open.less_equal(&corrected));
 }
 
 // The worked insertions into the empty antichain, with what each answers and leaves.

@@ -1,5 +1,5 @@
 -- Representatives of times as of a frontier, by which compaction may replace them
--- (McSherry et al., Shared Arrangements, VLDB 2020, section on consolidation).
+-- (McSherry et al., Shared Arrangements, VLDB 2020).
 use Rattle.std.specs.Prelude.{◌≡◌, Bool, List, [], ◌∷◌, IsTrue, map}
 use Rattle.std.specs.List.{fold}
 use Rattle.lattice.specs.Frontiers.{is_beyond}

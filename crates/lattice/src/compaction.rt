@@ -10,8 +10,8 @@ use crate::Lattice;
 /// The meet, over the frontier, of the joins of the time with its elements; as of the empty frontier the time itself.
 /// It is at or after the time, need not be beyond the frontier, and stays where the time is beyond it already.
 ///
-/// Cost: a join and a meet for each element; takes no memory. This is `advance_by` of differential dataflow, proved
-/// optimal in Abadi, McSherry and Plotkin, Foundations of Differential Dataflow, 2015.
+/// Cost: a join and a meet for each element; takes no memory. This is `advance_by` of differential dataflow, and the
+/// representative of McSherry et al., Shared Arrangements, VLDB 2020.
 pub fn representative<T: Lattice>(t: T, frontier: &[T]) -> T
     ensures value { result ≡ representative_of T.joined T.met frontier.now t }
     ensures keeps { Indistinguishable T.below frontier.now t result }

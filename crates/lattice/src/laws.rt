@@ -1,6 +1,6 @@
 //! Laws that follow from those of the traits, and that layers above lean on. The functions do nothing: they are
 //! called, or their clauses cited, for what they promise in every lattice.
-ghost use Rattle.std.specs.Prelude.{◌≡◌, ◌&&◌, ◌||◌, List, IsTrue};
+ghost use Rattle.std.specs.Prelude.{◌≡◌, ◌&&◌, List, IsTrue};
 ghost use Rattle.lattice.specs.Frontiers.{is_beyond, all_beyond};
 
 use crate::Lattice;

@@ -1,4 +1,4 @@
-use Rattle.std.proofs.Common.{◌≡◌, ◌+◌, ◌*◌, ◌<◌, ◌≤◌, ◌∷◌, ◌||◌, ◌&&◌, length, drop, sym, ◌∙◌, ap, subst, arith}
+use Rattle.std.proofs.Common.{◌≡◌, ◌+◌, ◌*◌, ◌<◌, ◌≤◌, ◌∷◌, ◌&&◌, length, drop, ap, arith}
 use Rattle.std.proofs.Math.Nat.{mul-le-mul_left}
 use Rattle.std.proofs.lemmas.Grind.{common_steps}
 use Rattle.std.proofs.lemmas.Result.{err_from_is_err_and}
@@ -19,14 +19,16 @@ returns-in_err-insert_joins-clause-small g c =
 pub loop-f-preserved : goal.loop-f-preserved
 loop-f-preserved g c =
     let below = g.T.PartialOrder.below in
-    let rest = drop (c.loop-f.f-index + 1) c.as_slice-f-items.result.now in
-    let left : drop c.loop-f.f-index c.as_slice-f-items.result.now ≡ c.f-item.result ∷ rest = grind (arith, common_steps) in
+    let items = c.as_slice-f-items.result.now in
+    let other = c.args.other.now in
+    let rest = drop (c.loop-f.f-index + 1) items in
+    let left : drop c.loop-f.f-index items ≡ c.f-item.result ∷ rest = grind (arith, common_steps) in
     let others = c.elements.ensures.value in
     record {
       beyond = λ s.
-          joined_step g.met.T.PartialOrder.order c.loop-f.both c.insert_joins.new.both rest c.args.other.now c.f-item.result s
-          (is_beyond below c.as_slice-f-items.result.now s && is_beyond below c.args.other.now s)
-          (subst (λ ts. is_beyond below c.insert_joins.new.both s ≡ (is_beyond below c.loop-f.both s || (below c.f-item.result s && is_beyond below ts s))) others (c.in_ok-insert_joins.ensures.beyond s))
-          (ap (λ ts. is_beyond below c.loop-f.both s || (is_beyond below ts s && is_beyond below c.args.other.now s)) (sym left) ∙ c.loop-f.invariant.beyond s);
+          let all = is_beyond below items s && is_beyond below other s in
+          let inserted = rw others at (c.in_ok-insert_joins.ensures.beyond s) in
+          let so_far = rw left at (c.loop-f.invariant.beyond s) in
+          joined_step g.met.T.PartialOrder.order c.loop-f.both c.insert_joins.new.both rest other c.f-item.result s all inserted so_far;
       few = let more = c.in_ok-insert_joins.ensures.len in omega (arith, c.loop-f.invariant.few, more, ap length others);
     }
