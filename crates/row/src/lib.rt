@@ -1,0 +1,16 @@
+//! Rows: the values that a table holds, of one to eight whole-number columns.
+//!
+//! A row moves through every operator and lies in every batch, so it must cost little and never fail: its columns are
+//! kept in the value itself, and no call here takes memory. The one invariant is its width, 1 to 8, which [`Row::new`]
+//! tests once, so that no layer above tests it again.
+//!
+//! Contracts see a row as the list of its columns. Rows are ordered column by column, and equal exactly where their
+//! columns are.
+#![tactic(auto)]
+
+mod columns;
+mod comparing;
+mod refusal;
+
+pub use columns::Row;
+pub use refusal::WidthRefused;
