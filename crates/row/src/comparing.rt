@@ -12,12 +12,18 @@ use crate::Row;
 use std::cmp::Ordering;
 use std::hash::{Hash, Hasher};
 
+/// Two rows are equal exactly where their columns are.
 impl PartialEq for Row {
+    ghost use Rattle.std.specs.Prelude.{◌≡◌, ◌↔◌, IsTrue};
+
     ghost eq = { pointwise int_eq };
 
     ghost laws = { Prim.search (comparing, rules) };
 
-    fn eq(&self, other: &Row) -> bool {
+    fn eq(&self, other: &Row) -> bool
+        ensures value { result ≡ pointwise int_eq self.now other.now }
+        ensures same { IsTrue result ↔ (self.now ≡ other.now) }
+    {
         self.columns() == other.columns()
     }
 }
