@@ -11,6 +11,8 @@
 mod columns;
 mod comparing;
 mod refusal;
+mod routing;
 
 pub use columns::Row;
 pub use refusal::WidthRefused;
+pub use routing::{route, routes_are_remainders};
