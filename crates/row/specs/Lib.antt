@@ -1,1 +1,2 @@
+pub mod Projection
 pub mod Routing

@@ -55,6 +55,11 @@ impl Row {
         self.columns.as_slice()
     }
 
+    /// The allocator of the row, which no call of this crate asks for memory. Takes no memory.
+    pub(crate) fn allocator(&self) -> Global {
+        *self.columns.allocator()
+    }
+
     /// How many columns there are, 1 to 8. Takes no memory.
     pub fn width(&self) -> usize
         ensures width { result ≡ length self.now }
@@ -84,7 +89,7 @@ impl Row {
     pub fn copy(&self) -> Row
         ensures { result ≡ self.now }
     {
-        Row::of(*self.columns.allocator(), self.columns())
+        Row::of(self.allocator(), self.columns())
     }
 
     /// The row with more columns behind its own. Takes no memory.
@@ -92,11 +97,9 @@ impl Row {
         requires { length self.now + length more.now ≤ 8 }
         ensures { result ≡ self.now ++ more.now }
     {
-        let mut columns = SmallVec::from_slice(*self.columns.allocator(), self.columns()).unwrap();
+        let mut columns = SmallVec::from_slice(self.allocator(), self.columns()).unwrap();
         columns.extend_from_slice(more).unwrap();
-        Row {
-            columns,
-        }
+        Row { columns }
     }
 }
 

@@ -10,9 +10,11 @@
 
 mod columns;
 mod comparing;
+mod projection;
 mod refusal;
 mod routing;
 
 pub use columns::Row;
+pub use projection::{Item, project};
 pub use refusal::WidthRefused;
 pub use routing::{route, routes_are_remainders};
