@@ -13,8 +13,10 @@ mod comparing;
 mod projection;
 mod refusal;
 mod routing;
+mod testing;
 
 pub use columns::Row;
 pub use projection::{Item, project};
 pub use refusal::WidthRefused;
 pub use routing::{route, routes_are_remainders};
+pub use testing::{Cmp, Test, holds};

@@ -1,0 +1,20 @@
+-- Whether a row passes a filter.
+use Rattle.std.specs.Prelude.{Bool, List, ℤ}
+use Rattle.std.specs.Ordering.{int_cmp, is_eq, is_ne, is_lt, is_le, is_gt, is_ge}
+use Rattle.row.specs.declared.testing.Cmp.{Cmp}
+use Rattle.row.specs.declared.testing.Cmp.TheVariants.{Eq, Ne, Lt, Le, Gt, Ge}
+use Rattle.row.specs.declared.testing.Test.{Test}
+use Rattle.row.specs.Projection.{item_value}
+
+-- what the comparison says of two whole numbers
+abbrev pub compares : Cmp → ℤ → ℤ → Bool
+compares Eq x y = is_eq (int_cmp x y)
+compares Ne x y = is_ne (int_cmp x y)
+compares Lt x y = is_lt (int_cmp x y)
+compares Le x y = is_le (int_cmp x y)
+compares Gt x y = is_gt (int_cmp x y)
+compares Ge x y = is_ge (int_cmp x y)
+
+-- what it says of the test's two items at a row
+abbrev pub passes : Test → List ℤ → Bool
+passes test row = compares test.op (item_value test.left row) (item_value test.right row)
