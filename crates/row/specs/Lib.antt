@@ -1,3 +1,4 @@
 pub mod Projection
 pub mod Routing
 pub mod Testing
+pub mod Text

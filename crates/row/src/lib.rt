@@ -6,6 +6,9 @@
 //!
 //! Contracts see a row as the list of its columns. Rows are ordered column by column, and equal exactly where their
 //! columns are.
+//!
+//! What operators ask of rows stands here too, each in a file of its own: which worker has the rows of a key ([`route`]),
+//! what a map makes of a row ([`project`]), whether a row passes a filter ([`holds`]), and its text.
 #![tactic(auto)]
 
 mod columns;
@@ -14,6 +17,7 @@ mod projection;
 mod refusal;
 mod routing;
 mod testing;
+mod text;
 
 pub use columns::Row;
 pub use projection::{Item, project};
