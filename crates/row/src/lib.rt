@@ -17,6 +17,8 @@ mod projection;
 mod refusal;
 mod routing;
 mod testing;
+#[cfg(test)]
+mod tests;
 mod text;
 
 pub use columns::Row;
