@@ -1,0 +1,84 @@
+-- A consolidated list has the least size of all lists with its sums.
+use Rattle.std.proofs.Common.{◌≡◌, ◌≤◌, ℕ, ◌+◌, Bool, true, false, cond, not, ◌&&◌, List, [], ◌∷◌, IsTrue, refl, sym, ◌∙◌, ap, inl, inr, arith}
+use Rattle.std.specs.Prelude.{ℤ, ◌+ℤ◌, unsigned_abs}
+use Rattle.std.specs.List.{filter}
+use Rattle.std.specs.List.Sorted.{IsStrictlySortedBy}
+use Rattle.std.specs.Cmp.{IsTotalOrder}
+use Rattle.std.specs.declared.cmp.Ordering.{Ordering}
+use Rattle.std.specs.declared.cmp.Ordering.TheVariants.{Less}
+use Rattle.std.proofs.lemmas.Int.{ints}
+use Rattle.std.proofs.lemmas.Map.Keys.{sorted_head, sorted_tail}
+use Rattle.std.proofs.lemmas.List.Recursion.{is_sum_by}
+use Rattle.std.proofs.lemmas.List.Kept.{IsStrictlySortedBy-filter}
+use Rattle.lattice.specs.Order.{PartialOrderLaws}
+use Rattle.antichain.proofs.Lists.{Among, filter_has}
+use Rattle.antichain.proofs.AntichainLemmas.{not_from}
+use Rattle.update.specs.Bags.{total_by, same_row, Alike}
+use Rattle.update.specs.Updates.{as_of, total_at, by_time_then_row, IsConsolidated, size}
+use Rattle.update.specs.declared.change.Update.{Update}
+use Rattle.update.proofs.SumLemmas.{total_by-filter, total_where-filter}
+use Rattle.update.proofs.UniqueLemmas.{same_totals, own_total, ties, meets, meets_row, meets_time, not_in_order, at_each}
+
+triangle : (a b : ℤ) → unsigned_abs (a +ℤ b) ≤ unsigned_abs a + unsigned_abs b
+triangle a b = omega (arith, ints)
+
+module _ {T : Type 0} where
+  -- the size, by recursion
+  abbrev weight : List (Update T) → ℕ
+  weight [] = 0
+  weight (u ∷ us) = unsigned_abs u.diff + weight us
+
+  weight_is_size : (us : List (Update T)) → weight us ≡ size us
+  weight_is_size us = is_sum_by weight (λ u. unsigned_abs u.diff) refl (λ _ _. refl) us
+
+  weight-split : (p : Update T → Bool) (us : List (Update T)) → weight us ≡ weight (filter p us) + weight (filter (λ u. not (p u)) us)
+  weight-split p [] = omega arith
+  weight-split p (u ∷ us) =
+      let h = weight-split p us in
+      elim (p u) as (λ b. unsigned_abs u.diff + weight us ≡ weight (cond b (u ∷ filter p us) (filter p us)) + weight (cond (not b) (u ∷ filter (λ w. not (p w)) us) (filter (λ w. not (p w)) us))) [
+        | true ↦ omega arith
+        | false ↦ omega arith
+      ]
+
+  total-le-weight : (us : List (Update T)) → unsigned_abs (total_by (λ u. u.diff) us) ≤ weight us
+  total-le-weight [] = omega arith
+  total-le-weight (u ∷ us) =
+      let h = total-le-weight us in
+      let t = triangle u.diff (total_by (λ w. w.diff) us) in
+      omega arith
+
+module _ {T : Type 0} {below : T → T → Bool} {cmp : T → T → Ordering} (o : PartialOrderLaws below) (total : IsTotalOrder cmp) where
+  -- a list that comes, at the row and time of each of some updates in order, to that update's diff, is no smaller than these
+  covers : (us vs : List (Update T)) → IsStrictlySortedBy (by_time_then_row cmp) us → ((u : Update T) → Among u us → total_at below u.row u.time vs ≡ u.diff) → weight us ≤ weight vs
+  covers [] vs s h = omega arith
+  covers (u ∷ us) vs s h =
+      let here = total-le-weight (filter (meets below u) vs) in
+      let same = ap unsigned_abs (total_by-filter (λ w. w.diff) (meets below u) vs ∙ h u (inl refl)) in
+      let elsewhere = covers us (filter (λ v. not (meets below u v)) vs) (sorted_tail (by_time_then_row cmp) u us s) still in
+      let split = weight-split (meets below u) vs in
+      omega arith
+    where
+      apart : (w v : Update T) → Among w us → IsTrue (meets below w v) → IsTrue (not (meets below u v))
+      apart w v m e =
+          let later = at_each (λ y. by_time_then_row cmp u y ≡ Less) us w (sorted_head (by_time_then_row cmp) u us s) m in
+          not_from (meets below u v) (λ k. not_in_order o total u w (sym (meets_row o w v e) ∙ meets_row o u v k) (sym (meets_time o w v e) ∙ meets_time o u v k) later)
+
+      still : (w : Update T) → Among w us → total_at below w.row w.time (filter (λ v. not (meets below u v)) vs) ≡ w.diff
+      still w m =
+          total_where-filter (λ r t. same_row r w.row && ties below t w.time) (λ v. not (meets below u v)) vs (λ v. apart w v m)
+          ∙ h w (inr m)
+
+  pub least_size : (among : T → Bool) (us vs : List (Update T)) → ((s t : T) → IsTrue (below s t) → IsTrue (among t) → IsTrue (among s)) → ((t : T) → IsTrue (among t) → Alike (as_of below t us) (as_of below t vs)) → IsConsolidated cmp us → size (filter (λ u. among u.time) us) ≤ size (filter (λ u. among u.time) vs)
+  least_size among us vs down same a =
+      let ordered = IsStrictlySortedBy-filter (by_time_then_row cmp) (λ u. among u.time) us a.ascending in
+      let no_smaller = covers (filter (λ u. among u.time) us) (filter (λ u. among u.time) vs) ordered diff_there in
+      let ours = weight_is_size (filter (λ u. among u.time) us) in
+      let theirs = weight_is_size (filter (λ u. among u.time) vs) in
+      omega arith
+    where
+      diff_there : (u : Update T) → Among u (filter (λ w. among w.time) us) → total_at below u.row u.time (filter (λ v. among v.time) vs) ≡ u.diff
+      diff_there u m =
+          let has = filter_has (λ w. among w.time) us u m in
+          total_where-filter (λ r t. same_row r u.row && ties below t u.time) (λ v. among v.time) vs (λ v e. ap among (meets_time o u v e) ∙ has.1)
+          ∙ sym (same_totals o among us vs down same u.row u.time has.1)
+          ∙ own_total o total us a.ascending u has.0

@@ -1,0 +1,42 @@
+use Rattle.std.proofs.Common.{true, ◌≡◌, [], ◌∷◌, ◌++◌, ◌+◌, refl, take, drop, slice_index_or, sym, ◌∙◌, ap, rules, arith}
+use Rattle.std.specs.Prelude.{FitsSigned}
+use Rattle.std.specs.Int.{w128}
+use Rattle.std.proofs.lemmas.Int.{to_z-of_z}
+use Rattle.std.proofs.lemmas.List.{append-nil}
+use Rattle.std.proofs.lemmas.Result.{on_ok_weaker, IfOk-weaker}
+use Rattle.std.proofs.lemmas.Grind.{common_steps}
+use Rattle.update.proofs.consolidation.gather.Goals as goal
+
+pub returns-in_err-run-clause-large : goal.returns-in_err-run-clause-large
+returns-in_err-run-clause-large g c err all =
+    let d = c.index-updates-0.result in
+    let xs = c.args.updates.now in
+    let next = c.loop-next.next in
+    let left : drop next xs ≡ slice_index_or c.loop-next.updates next d ∷ drop (next + 1) xs = grind (arith, common_steps) in
+    let here = rw left at (c.loop-next.invariant.fits d all) in
+    let fits : FitsSigned w128 c.loop-next.run.total = search rules in
+    c.in_err-run.ensures.large (refl {a = true}) d (drop (next + 1) xs) here
+
+pub returns-clause-gathered : goal.returns-clause-gathered
+returns-clause-gathered g c =
+    let d = c.index-updates-0.result in
+    let nothing : drop c.loop-next.next c.args.updates.now ≡ [] = grind (arith, common_steps) in
+    let so_far = rw nothing at (c.loop-next.invariant.gathered d) in
+    let fits : FitsSigned w128 c.loop-next.run.total = search rules in
+    IfOk-weaker c.settle.result _ _ (λ kept h. simp to_z-of_z at (h d) ∙ ap (λ us. take c.loop-next.run.at c.loop-next.updates ++ us) (sym (append-nil _)) ∙ so_far) c.settle.ensures.settled
+
+pub returns-clause-fits : goal.returns-clause-fits
+returns-clause-fits g c =
+    let d = c.index-updates-0.result in
+    let nothing : drop c.loop-next.next c.args.updates.now ≡ [] = grind (arith, common_steps) in
+    let so_far = rw nothing at (c.loop-next.invariant.so_far d) in
+    let fits : FitsSigned w128 c.loop-next.run.total = search rules in
+    on_ok_weaker c.settle.result (λ f. so_far (simp to_z-of_z at f, tt)) c.settle.ensures.fits
+
+pub returns-clause-large : goal.returns-clause-large
+returns-clause-large g c err all =
+    let d = c.index-updates-0.result in
+    let nothing : drop c.loop-next.next c.args.updates.now ≡ [] = grind (arith, common_steps) in
+    let last = rw nothing at (c.loop-next.invariant.fits d all) in
+    let fits : FitsSigned w128 c.loop-next.run.total = search rules in
+    c.settle.ensures.large err (simp to_z-of_z last.0)

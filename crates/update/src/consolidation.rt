@@ -1,0 +1,162 @@
+//! Consolidation: one update for each row and time, and none of nothing.
+ghost use Rattle.std.specs.Prelude.{◌≡◌, ◌≤◌, ◌<◌, ◌+◌, ◌++◌, length, take, drop, List, ◌∷◌, ◌*◌, ◌^◌, unsigned_abs, FitsSigned, IfOk, IfErr, IsErr, OnOk, IsTrue, Bool, ℤ, ◌↔◌, slice_index_or};
+ghost use Rattle.std.specs.List.{list_all};
+ghost use Rattle.std.specs.Int.{w64};
+ghost use Rattle.update.specs.Gathering.{is_same, settled, settled_runs, runs_of, runs_from, AllFit};
+ghost use Rattle.update.specs.Bags.{Alike};
+ghost use Rattle.update.specs.Updates.{as_of, total_where, HasLargeTotal, IsConsolidated, size};
+ghost use Rattle.update.specs.declared.change.Update.{Update};
+
+use crate::{Refusal, Update};
+use lattice::Lattice;
+use std::cmp::Ordering;
+
+// Whether the updates are of one row and time.
+fn are_same<T: Lattice>(u: &Update<T>, v: &Update<T>) -> bool
+    ensures { result ≡ is_same T.cmp u.now v.now }
+{
+    u.time.cmp(&v.time) == Ordering::Equal && u.row == v.row
+}
+
+// Ends the run whose first update stands at `at`: the update gets the total, and the next run begins behind it; where
+// the total is 0 the next run begins in its place.
+fn settle<T: Lattice>(updates: &mut [Update<T>], at: usize, total: i128) -> Result<usize, Refusal>
+    requires { at < length updates.old }
+    ensures next { IfOk result (λ next. next ≤ at + 1) }
+    ensures settled { IfOk result (λ next. (d : Update T)
+        → take next updates.new ≡ take at updates.old ++ settled (slice_index_or updates.old at d) total) }
+    ensures rest { drop (at + 1) updates.new ≡ drop (at + 1) updates.old }
+    ensures fits { OnOk result (FitsSigned w64 total) }
+    ensures large { IsErr result → FitsSigned w64 total → ⊥ }
+    ensures only { IfErr result (λ refused. refused ≡ Refusal.Overflow) }
+{
+    if total == 0 {
+        return Ok(at);
+    }
+    let Ok(diff) = i64::try_from(total) else {
+        return Err(Refusal::Overflow);
+    };
+    let first = &mut updates[at];
+    first.diff = diff;
+    Ok(at + 1)
+}
+
+// Ends the run in hand, and begins the next one with the update at `from`, which moves there. Gives where it stands.
+fn next_run<T: Lattice>(updates: &mut [Update<T>], at: usize, from: usize, total: i128) -> Result<usize, Refusal>
+    requires before { at < from }
+    requires within { from < length updates.old }
+    ensures next { IfOk result (λ next. next ≤ from) }
+    ensures settled { IfOk result (λ next. (d : Update T)
+        → take next updates.new ≡ take at updates.old ++ settled (slice_index_or updates.old at d) total) }
+    ensures first { IfOk result (λ next. (d : Update T)
+        → slice_index_or updates.new next d ≡ slice_index_or updates.old from d) }
+    ensures rest { OnOk result (drop (from + 1) updates.new ≡ drop (from + 1) updates.old) }
+    ensures fits { OnOk result (FitsSigned w64 total) }
+    ensures large { IsErr result → FitsSigned w64 total → ⊥ }
+    ensures only { IfErr result (λ refused. refused ≡ Refusal.Overflow) }
+{
+    let next = settle(updates, at, total)?;
+    updates.swap(next, from);
+    Ok(next)
+}
+
+// The run in hand: where its first update stands, and the total of its diffs so far.
+#[derive(Clone, Copy)]
+struct InHand {
+    at: usize,
+    total: i128,
+}
+
+// Takes the next update into the run in hand, or ends that and begins the next run with it.
+fn take_in<T: Lattice>(updates: &mut [Update<T>], run: InHand, next: usize) -> Result<InHand, Refusal>
+    requires before { run.at < next }
+    requires within { next < length updates.old }
+    requires small { unsigned_abs run.total ≤ next * 2 ^ 63 }
+    ensures before { IfOk result (λ new. new.at ≤ next) }
+    ensures small { IfOk result (λ new. unsigned_abs new.total ≤ (next + 1) * 2 ^ 63) }
+    ensures gathered { IfOk result (λ new. (d : Update T) (more : List (Update T))
+        → take new.at updates.new ++ settled_runs (runs_of T.cmp (slice_index_or updates.new new.at d) new.total more)
+        ≡ take run.at updates.old ++ settled_runs (runs_of T.cmp (slice_index_or updates.old run.at d) run.total
+            (slice_index_or updates.old next d ∷ more))) }
+    ensures fits { IfOk result (λ new. (d : Update T) (more : List (Update T))
+        → AllFit (runs_of T.cmp (slice_index_or updates.old run.at d) run.total (slice_index_or updates.old next d ∷ more))
+        → AllFit (runs_of T.cmp (slice_index_or updates.new new.at d) new.total more)) }
+    ensures so_far { IfOk result (λ new. (d : Update T) (more : List (Update T))
+        → AllFit (runs_of T.cmp (slice_index_or updates.new new.at d) new.total more)
+        → AllFit (runs_of T.cmp (slice_index_or updates.old run.at d) run.total (slice_index_or updates.old next d ∷ more))) }
+    ensures rest { OnOk result (drop (next + 1) updates.new ≡ drop (next + 1) updates.old) }
+    ensures large { IsErr result → (d : Update T) (more : List (Update T))
+        → AllFit (runs_of T.cmp (slice_index_or updates.old run.at d) run.total (slice_index_or updates.old next d ∷ more))
+        → ⊥ }
+    ensures only { IfErr result (λ refused. refused ≡ Refusal.Overflow) }
+{
+    let diff = i128::from(updates[next].diff);
+    if are_same(&updates[run.at], &updates[next]) {
+        return Ok(InHand {
+            at: run.at,
+            total: run.total + diff,
+        });
+    }
+    let at = next_run(updates, run.at, next, run.total)?;
+    Ok(InHand {
+        at,
+        total: diff,
+    })
+}
+
+// Gathers the runs of a sorted list at its front, one update for each whose total is not 0, and gives how many there are.
+fn gather<T: Lattice>(updates: &mut [Update<T>]) -> Result<usize, Refusal>
+    requires { 0 < length updates.old }
+    ensures gathered { IfOk result (λ kept. take kept updates.new ≡ settled_runs (runs_from T.cmp updates.old)) }
+    ensures fits { OnOk result (AllFit (runs_from T.cmp updates.old)) }
+    ensures large { IsErr result → AllFit (runs_from T.cmp updates.old) → ⊥ }
+    ensures only { IfErr result (λ refused. refused ≡ Refusal.Overflow) }
+{
+    let mut run = InHand {
+        at: 0,
+        total: i128::from(updates[0].diff),
+    };
+    for next in 1..updates.len() {
+        run = take_in(updates, run, next)?;
+    }
+    settle(updates, run.at, run.total)
+}
+
+// Leaves in a sorted list one update for each run whose total is not 0.
+fn keep_totals<T: Lattice>(updates: &mut Vec<Update<T>>) -> Result<(), Refusal>
+    ensures kept { OnOk result (updates.new.items ≡ settled_runs (runs_from T.cmp updates.old.items)) }
+    ensures fits { OnOk result (AllFit (runs_from T.cmp updates.old.items)) }
+    ensures large { IsErr result → AllFit (runs_from T.cmp updates.old.items) → ⊥ }
+    ensures only { IfErr result (λ refused. refused ≡ Refusal.Overflow) }
+{
+    if updates.is_empty() {
+        return Ok(());
+    }
+    let kept = gather(updates)?;
+    updates.truncate(kept);
+    Ok(())
+}
+
+/// Consolidates a list: one update for each row and time, in order of time, then row, and none with a difference of 0.
+/// Every total stays, and so does every sum. [`Refusal::Overflow`] exactly where the total of some row at some time is no
+/// 64-bit number, whatever the order of the updates: they are added up in 128 bits. Takes no memory; on a refusal the
+/// list is dropped.
+///
+/// Cost: n log n comparisons in the number of updates, for one sort in place; then each update is looked at once, and
+/// moved at most once.
+pub fn consolidate<T: Lattice>(mut updates: Vec<Update<T>>) -> Result<Vec<Update<T>>, Refusal>
+    ensures consolidated { IfOk result (λ out. IsConsolidated T.cmp out.items) }
+    ensures totals { IfOk result (λ out. (p : List ℤ → T → Bool)
+        → total_where p out.items ≡ total_where p updates.items) }
+    ensures sums { IfOk result (λ out. (t : T) → Alike (as_of T.below t out.items) (as_of T.below t updates.items)) }
+    ensures among { IfOk result (λ out. (p : List ℤ → T → Bool)
+        → IsTrue (list_all (λ u. p u.row u.time) updates.items)
+        → IsTrue (list_all (λ u. p u.row u.time) out.items)) }
+    ensures size { IfOk result (λ out. size out.items ≤ size updates.items) }
+    ensures overflow { IsErr result ↔ HasLargeTotal T.below updates.items }
+    ensures only { IfErr result (λ refused. refused ≡ Refusal.Overflow) }
+{
+    updates.sort_unstable();
+    keep_totals(&mut updates)?;
+    Ok(updates)
+}

@@ -1,0 +1,33 @@
+//! Why a consolidated list may stand for all lists with its sums. The functions do nothing: they are called, or their
+//! clauses cited, for what they promise in every lattice.
+ghost use Rattle.std.specs.Prelude.{◌≡◌, ◌≤◌, Bool, List, ℤ, IsTrue};
+ghost use Rattle.std.specs.List.{filter};
+ghost use Rattle.update.specs.Bags.{Alike};
+ghost use Rattle.update.specs.Updates.{as_of, total_at, IsConsolidated, size};
+ghost use Rattle.update.specs.declared.change.Update.{Update};
+
+use lattice::Lattice;
+
+/// Lists that sum to alike bags at each time of a set that has, with a time, all that are at or before it, have the same
+/// totals of each row at each of these times; and if they are consolidated, they have the same updates there. `among` is
+/// the test of the set.
+pub fn sums_determine_a_list<T: Lattice>()
+    ensures totals { (among : T → Bool) (us vs : List (Update T))
+        → ((s t : T) → IsTrue (T.below s t) → IsTrue (among t) → IsTrue (among s))
+        → ((t : T) → IsTrue (among t) → Alike (as_of T.below t us) (as_of T.below t vs))
+        → (row : List ℤ) (t : T) → IsTrue (among t) → total_at T.below row t us ≡ total_at T.below row t vs }
+    ensures updates { (among : T → Bool) (us vs : List (Update T))
+        → ((s t : T) → IsTrue (T.below s t) → IsTrue (among t) → IsTrue (among s))
+        → ((t : T) → IsTrue (among t) → Alike (as_of T.below t us) (as_of T.below t vs))
+        → IsConsolidated T.cmp us → IsConsolidated T.cmp vs
+        → filter (λ u. among u.time) us ≡ filter (λ u. among u.time) vs }
+{}
+
+/// Of all lists that sum to alike bags at each time of such a set, a consolidated one has the least size there.
+pub fn consolidated_lists_are_least<T: Lattice>()
+    ensures { (among : T → Bool) (us vs : List (Update T))
+        → ((s t : T) → IsTrue (T.below s t) → IsTrue (among t) → IsTrue (among s))
+        → ((t : T) → IsTrue (among t) → Alike (as_of T.below t us) (as_of T.below t vs))
+        → IsConsolidated T.cmp us
+        → size (filter (λ u. among u.time) us) ≤ size (filter (λ u. among u.time) vs) }
+{}
