@@ -1,5 +1,6 @@
 -- Bags: rows, each with how often it counts (Abadi, McSherry and Plotkin, Foundations of Differential Dataflow, 2015).
-use Rattle.std.specs.Prelude.{◌≡◌, ◌≢◌, ℕ, Bool, if◌then◌else◌, List, [], ◌∷◌, ℤ, pos, ◌+ℤ◌, unsigned_abs, sum_by}
+use Rattle.std.specs.Prelude.{◌≡◌, ◌≢◌, ℕ, Bool, if◌then◌else◌, List, [], ◌∷◌, ℤ, pos, ◌+ℤ◌, FitsSigned, unsigned_abs, sum_by}
+use Rattle.std.specs.Int.{w64}
 use Rattle.std.specs.List.{AllByRecursion}
 use Rattle.std.specs.List.Sorted.{IsStrictlySortedBy}
 use Rattle.std.specs.Cmp.Lexicographic.{pointwise, slice_cmp}
@@ -26,6 +27,10 @@ count_of entries row = total_by (λ e. if same_row e.row row then e.count else p
 -- the same bag: each row counts as often in the one as in the other
 abbrev pub Alike : List Entry → List Entry → Type 0
 Alike a b = (row : List ℤ) → count_of a row ≡ count_of b row
+
+-- some row's count is no 64-bit number
+abbrev pub HasLargeCount : List Entry → Type 0
+HasLargeCount entries = (row : List ℤ) × (FitsSigned w64 (count_of entries row) → ⊥)
 
 -- each row once, in order, and none that does not count: of all lists of a bag the one that a contract sees
 pub record IsBag (entries : List Entry) : Type 0 where

@@ -4,3 +4,4 @@ pub mod Bags
 pub mod Updates
 pub mod Refusals
 pub mod Gathering
+pub mod Moments

@@ -4,7 +4,9 @@
 mod change;
 mod consolidation;
 mod laws;
+mod moment;
 mod refusal;
+mod summation;
 
 pub use change::Update;
 pub use consolidation::consolidate;
