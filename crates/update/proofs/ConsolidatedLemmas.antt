@@ -66,11 +66,11 @@ module _ {T : Type 0} {cmp : T → T → Ordering} (total : IsTotalOrder cmp) wh
         (sorted_far (λ x y. is_lt (by_all cmp x y)) (ranks_by by_all_total (λ u. u)) xs s i j d (omega (arith, l)) m))
 
 -- the size as a recursion
-abbrev weight : {T : Type 0} → List (Update T) → ℕ
+abbrev pub weight : {T : Type 0} → List (Update T) → ℕ
 weight [] = 0
 weight (u ∷ us) = unsigned_abs u.diff + weight us
 
-weight_is : {T : Type 0} (us : List (Update T)) → weight us ≡ size us
+pub weight_is : {T : Type 0} (us : List (Update T)) → weight us ≡ size us
 weight_is us = is_sum_by weight (λ u. unsigned_abs u.diff) refl (λ _ _. refl) us
 
 weight-append : {T : Type 0} (us vs : List (Update T)) → weight (us ++ vs) ≡ weight us + weight vs

@@ -6,3 +6,4 @@ pub mod GatherLemmas
 pub mod RunLemmas
 pub mod TotalLemmas
 pub mod ConsolidatedLemmas
+pub mod MomentLemmas
