@@ -7,3 +7,4 @@ pub mod RunLemmas
 pub mod TotalLemmas
 pub mod ConsolidatedLemmas
 pub mod MomentLemmas
+pub mod BagLemmas

@@ -5,3 +5,5 @@ pub mod Updates
 pub mod Refusals
 pub mod Gathering
 pub mod Moments
+pub mod Equality
+pub mod Text

@@ -1,8 +1,8 @@
-//! Why a consolidated list may stand for all lists with its sums. The functions do nothing: they are called, or their
-//! clauses cited, for what they promise in every lattice.
+//! Why a consolidated list may stand for all lists with its sums, and a list of entries for a bag. The functions do
+//! nothing: they are called, or their clauses cited, for what they promise in every lattice.
 ghost use Rattle.std.specs.Prelude.{◌≡◌, ◌≤◌, Bool, List, ℤ, IsTrue};
 ghost use Rattle.std.specs.List.{filter};
-ghost use Rattle.update.specs.Bags.{Alike};
+ghost use Rattle.update.specs.Bags.{Entry, Alike, IsBag};
 ghost use Rattle.update.specs.Updates.{as_of, total_at, IsConsolidated, size};
 ghost use Rattle.update.specs.declared.change.Update.{Update};
 
@@ -30,4 +30,9 @@ pub fn consolidated_lists_are_least<T: Lattice>()
         → ((t : T) → IsTrue (among t) → Alike (as_of T.below t us) (as_of T.below t vs))
         → IsConsolidated T.cmp us
         → size (filter (λ u. among u.time) us) ≤ size (filter (λ u. among u.time) vs) }
+{}
+
+/// A bag, as a contract sees it, is determined by how often each row counts.
+pub fn bags_are_determined()
+    ensures { (a b : List Entry) → IsBag a → IsBag b → Alike a b → a ≡ b }
 {}

@@ -1,11 +1,11 @@
 //! What a list of updates sums to at a time: each row, as often as the updates at or before the time say together.
-ghost use Rattle.std.specs.Prelude.{◌≡◌, ◌≤◌, List, ℤ, map, filter, FitsSigned, IfOk, IfErr, IsErr, OnOk};
-ghost use Rattle.update.specs.Bags.{Alike, HasLargeCount, bag_size};
+ghost use Rattle.std.specs.Prelude.{◌≡◌, ◌≤◌, ◌⊎◌, map, filter, IfOk, IfErr, OnOk};
+ghost use Rattle.update.specs.Bags.{Alike, IsBag, HasLargeCount, bag_size};
 ghost use Rattle.update.specs.Moments.{at_moment};
-ghost use Rattle.update.specs.Updates.{as_of, entry, size, IsConsolidated};
+ghost use Rattle.update.specs.Updates.{as_of, size};
 
 use crate::moment::Moment;
-use crate::{Refusal, Update, consolidate};
+use crate::{Bag, Refusal, Update, consolidate};
 use lattice::Lattice;
 use std::alloc::Global;
 
@@ -25,4 +25,22 @@ fn gone_by<T: Lattice>(alloc: Global, updates: &[Update<T>], t: T) -> Result<Vec
         }
     }
     Ok(gone)
+}
+
+/// What the updates sum to at `t`: each row, as often as the updates at or before `t` say together.
+/// [`Refusal::Overflow`] only where a row counts more often than a 64-bit number can say, whatever the order of the
+/// updates, and no bag is given there; [`Refusal::OutOfMemory`] only where memory for those at or before `t` was refused.
+///
+/// Cost: linear in the updates, and one sort of those at or before `t`, which are copied.
+pub fn sum_at<T: Lattice>(alloc: Global, updates: &[Update<T>], t: T) -> Result<Bag, Refusal>
+    ensures sum { IfOk result (λ bag. Alike bag (as_of T.below t updates.now)) }
+    ensures bag { IfOk result IsBag }
+    ensures size { IfOk result (λ bag. bag_size bag ≤ size updates.now) }
+    ensures fits { OnOk result (HasLargeCount (as_of T.below t updates.now) → ⊥) }
+    ensures refused { IfErr result (λ refused. (refused ≡ Refusal.OutOfMemory)
+        ⊎ ((refused ≡ Refusal.Overflow) × HasLargeCount (as_of T.below t updates.now))) }
+{
+    let gone = gone_by(alloc, updates, t)?;
+    let entries = consolidate(gone)?;
+    Ok(Bag::from_consolidated(entries))
 }

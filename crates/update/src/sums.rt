@@ -1,0 +1,143 @@
+//! Bags: what updates sum to at a time. A bag is a consolidated list of updates at one moment, and that is its one
+//! invariant: each row stands there once, in order, and none that does not count. So equal bags are equal lists, and a
+//! row is found by a binary search.
+ghost use Rattle.std.specs.Prelude.{◌≡◌, ◌<◌, ◌↔◌, [], Some, map, length, slice_get, IsTrue, IsSomeAnd};
+ghost use Rattle.update.specs.Bags.{IsBag, count_of};
+ghost use Rattle.update.specs.Updates.{IsConsolidated, entry};
+ghost use Rattle.update.specs.Text.{bag_text};
+
+use crate::Update;
+use crate::moment::Moment;
+use row::Row;
+use std::alloc::AllocError;
+use std::fmt;
+use std::marker::Model;
+
+/// Rows, each with how often it counts, which is never 0. A contract sees the list of its entries, in the order of rows,
+/// so that equal bags are equal lists.
+#[derive(Debug, Drop)]
+pub struct Bag {
+    entries: Vec<Update<Moment>>,
+}
+
+impl Model for Bag {
+    ghost use Rattle.std.specs.Prelude.{List, map};
+    ghost use Rattle.update.specs.Bags.{Entry, IsBag};
+    ghost use Rattle.update.specs.Updates.{entry};
+
+    ghost Value = { List Entry };
+
+    ghost view = { λ b. map entry b.entries.items };
+
+    ghost invariant = { λ b. IsBag (map entry b.entries.items) };
+}
+
+impl Bag {
+    /// The bag of a consolidated list.
+    pub(crate) fn from_consolidated(entries: Vec<Update<Moment>>) -> Bag
+        requires { IsConsolidated ⟦<Moment as Ord>⟧.cmp entries.items }
+        ensures { result ≡ map entry entries.items }
+    {
+        Bag { entries }
+    }
+
+    /// How many rows there are, each counted once. Takes no memory.
+    pub fn len(&self) -> usize
+        ensures len { result ≡ length self.now }
+        ensures bag { IsBag self.now }
+    {
+        self.entries.len()
+    }
+
+    /// Whether no row counts. Takes no memory.
+    pub fn is_empty(&self) -> bool
+        ensures { IsTrue result ↔ (self.now ≡ []) }
+    {
+        self.entries.is_empty()
+    }
+
+    /// How often the row counts, which is 0 where it is not there. Takes no memory.
+    ///
+    /// Cost: a binary search, so comparisons of rows as many as the logarithm of the number of entries.
+    pub fn get(&self, row: &Row) -> i64
+        ensures { result ≡ count_of self.now row.now }
+    {
+        match self
+            .entries
+            .as_slice()
+            .binary_search_by(|update| update.row.cmp(row))
+        {
+            Ok(at) => self.entries[at].diff,
+            Err(_) => 0,
+        }
+    }
+
+    /// The row of entry number `i`, counted from 0. Takes no memory.
+    pub fn row(&self, i: usize) -> &Row
+        requires { i < length self.now }
+        ensures { IsSomeAnd (slice_get self.now i) (λ e. result.now ≡ e.row) }
+    {
+        &self.entries[i].row
+    }
+
+    /// The count of entry number `i`, counted from 0, which is not 0. Takes no memory.
+    pub fn count(&self, i: usize) -> i64
+        requires { i < length self.now }
+        ensures { IsSomeAnd (slice_get self.now i) (λ e. result ≡ e.count) }
+    {
+        self.entries[i].diff
+    }
+}
+
+/// A copy. Refused only where memory is.
+impl Clone for Bag {
+    ghost use Rattle.std.specs.Prelude.{◌≡◌};
+
+    ghost is_clone = { λ a b. b ≡ a };
+
+    fn clone(&self) -> Result<Bag, AllocError> {
+        let mut entries = Vec::with_capacity(*self.entries.allocator(), self.entries.len())?;
+        for update in &self.entries {
+            entries.push(update.copy())?;
+        }
+        Ok(Bag { entries })
+    }
+}
+
+/// Two bags are equal exactly where each row counts as often in both.
+impl PartialEq for Bag {
+    ghost use Rattle.std.specs.Prelude.{◌≡◌, ◌↔◌, IsTrue};
+    ghost use Rattle.std.specs.Cmp.{partial_equiv_from_equiv};
+    ghost use Rattle.update.specs.Equality.{same_bag, bags_equivalence};
+
+    ghost eq = { same_bag };
+
+    ghost laws = { partial_equiv_from_equiv bags_equivalence };
+
+    fn eq(&self, other: &Bag) -> bool
+        ensures value { result ≡ same_bag self.now other.now }
+        ensures same { IsTrue result ↔ (self.now ≡ other.now) }
+    {
+        self.entries.as_slice() == other.entries.as_slice()
+    }
+}
+
+impl Eq for Bag {
+    ghost use Rattle.update.specs.Equality.{bags_equivalence};
+
+    ghost laws = { bags_equivalence };
+}
+
+/// A line for each entry: its count, then its row, each of the numbers parted from the next by one space.
+impl fmt::Display for Bag {
+    ghost output = { λ bag. Some (bag_text bag) };
+
+    fn fmt<W: fmt::Write>(&self, f: &mut fmt::Formatter<W>) -> fmt::Result {
+        for update in &self.entries {
+            let count = update.diff;
+            let row = &update.row;
+            writeln!(f, "{count} {row}")?;
+        }
+        Ok(())
+    }
+}
