@@ -124,7 +124,7 @@ fn a_fifth_element_takes_memory(rt: HostRuntime) {
 
 // The other calls that can be refused: they answer the refusal, or what they answer with ample memory.
 #[test]
-fn copies_and_joins_of_many_elements(rt: HostRuntime) {
+fn copies_and_joins_take_memory(rt: HostRuntime) {
     let five = [at(0, 4), at(1, 3), at(2, 2), at(3, 1), at(4, 0)];
     match grown(rt.alloc(), &five) {
         Ok(copy) => {

@@ -8,6 +8,8 @@ mod laws;
 mod moment;
 mod refusal;
 mod summation;
+#[cfg(test)]
+mod summation_tests;
 mod sums;
 
 pub use arithmetic::Weight;
