@@ -1,7 +1,6 @@
 -- Updates moved to the one time sum to what they did at the time up to which they were kept.
 use Rattle.std.proofs.Common.{◌≡◌, ℕ, ◌+◌, ◌≤◌, Bool, true, false, cond, ◌&&◌, List, [], ◌∷◌, map, filter, ℤ, pos, ◌+ℤ◌, refl, sym, ◌∙◌, ap, subst, arith, w64}
 use Rattle.std.specs.Prelude.{FitsSigned, unsigned_abs}
-use Rattle.std.specs.List.{sum_by}
 use Rattle.std.proofs.lemmas.List.Recursion.{is_sum_by}
 use Rattle.update.specs.declared.change.Update.{Update}
 use Rattle.update.specs.declared.moment.Moment.{Moment}

@@ -1,6 +1,5 @@
 -- The lattice of one time: its laws, and updates moved to it.
-use Rattle.std.specs.Prelude.{◌≡◌, true, refl}
-use Rattle.std.specs.declared.cmp.Ordering.{Ordering}
+use Rattle.std.specs.Prelude.{true, refl}
 use Rattle.std.specs.declared.cmp.Ordering.TheVariants.{Equal}
 use Rattle.lattice.specs.Order.{PartialOrderLaws, LatticeLaws, ExtendsLaws}
 use Rattle.update.specs.declared.change.Update.{Update}

@@ -1,8 +1,7 @@
 //! Weights: the numbers that say how often a row counts. Sums of them may grow past what a number of 64 bits holds, so
 //! each operation says so instead of wrapping: it gives nothing exactly where the whole-number result is none that the
 //! type holds.
-ghost use Rattle.std.specs.Prelude.{ℤ, ◌+ℤ◌, ◌*ℤ◌, neg_ℤ, SomeIff, option_map};
-ghost use Rattle.std.specs.Prelude.{FitsSigned};
+ghost use Rattle.std.specs.Prelude.{ℤ, ◌+ℤ◌, ◌*ℤ◌, neg_ℤ, FitsSigned, SomeIff, option_map};
 ghost use Rattle.std.specs.Int.{w64};
 
 /// Numbers that are added, negated and multiplied as whole numbers are, as far as the type reaches. Contracts see each
@@ -14,15 +13,15 @@ pub trait Weight {
 
     /// The sum, or nothing exactly where the type does not hold it. Takes no memory.
     fn plus(self, other: Self) -> Option<Self>
-        ensures { SomeIff (option_map whole result) (holds (whole self +ℤ whole other)) (whole self +ℤ whole other) };
+        ensures { let sum = whole self +ℤ whole other in SomeIff (option_map whole result) (holds sum) sum };
 
     /// The number with the other sign, or nothing exactly where the type does not hold it. Takes no memory.
     fn negate(self) -> Option<Self>
-        ensures { SomeIff (option_map whole result) (holds (neg_ℤ (whole self))) (neg_ℤ (whole self)) };
+        ensures { let other = neg_ℤ (whole self) in SomeIff (option_map whole result) (holds other) other };
 
     /// The product, or nothing exactly where the type does not hold it. Takes no memory.
     fn times(self, other: Self) -> Option<Self>
-        ensures { SomeIff (option_map whole result) (holds (whole self *ℤ whole other)) (whole self *ℤ whole other) };
+        ensures { let product = whole self *ℤ whole other in SomeIff (option_map whole result) (holds product) product };
 }
 
 /// The numbers from -9223372036854775808 to 9223372036854775807.

@@ -1,9 +1,20 @@
 //! Updates: rows at times, with differences, and the bags that lists of them sum to.
+//!
+//! A list of updates is the one form in which everything travels: what is fed, what a batch holds, what an operator
+//! answers and what a view shows. The order of a list, and which updates it has, mean nothing by themselves; what a list
+//! means is what it sums to at each time ([`sum_at`]), a [`Bag`]. Many lists mean the same, and [`consolidate`] gives the
+//! one of them that is sorted and has nothing to spare: two consolidated lists with the same sums are equal
+//! ([`sums_determine_a_list`]), and none with these sums is smaller ([`consolidated_lists_are_least`]).
+//!
+//! Differences are numbers of 64 bits and are added in 128, so that it never depends on the order of a list whether a
+//! sum is refused. [`Refusal`] is why: the one error type of this crate and all that stand on it.
 #![tactic(auto)]
 
 mod arithmetic;
 mod change;
 mod consolidation;
+#[cfg(test)]
+mod consolidation_tests;
 mod laws;
 mod moment;
 mod refusal;
@@ -11,6 +22,8 @@ mod summation;
 #[cfg(test)]
 mod summation_tests;
 mod sums;
+#[cfg(test)]
+mod tests;
 
 pub use arithmetic::Weight;
 pub use change::Update;

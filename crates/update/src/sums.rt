@@ -33,7 +33,7 @@ impl Model for Bag {
 }
 
 impl Bag {
-    /// The bag of a consolidated list.
+    /// The bag of a consolidated list. Takes no memory.
     pub(crate) fn from_consolidated(entries: Vec<Update<Moment>>) -> Bag
         requires { IsConsolidated ⟦<Moment as Ord>⟧.cmp entries.items }
         ensures { result ≡ map entry entries.items }
@@ -89,11 +89,13 @@ impl Bag {
     }
 }
 
-/// A copy. Refused only where memory is.
+/// A copy. Refused only where memory is; that of no entries never.
 impl Clone for Bag {
-    ghost use Rattle.std.specs.Prelude.{◌≡◌};
+    ghost use Rattle.std.specs.Prelude.{◌≡◌, []};
 
     ghost is_clone = { λ a b. b ≡ a };
+
+    ghost is_infallible = { λ a. a ≡ [] };
 
     fn clone(&self) -> Result<Bag, AllocError> {
         let mut entries = Vec::with_capacity(*self.entries.allocator(), self.entries.len())?;
