@@ -10,7 +10,7 @@
 //! sum is refused. [`Refusal`] is why: the one error type of this crate and all that stand on it.
 #![tactic(auto)]
 
-mod arithmetic;
+mod bag;
 mod change;
 mod consolidation;
 #[cfg(test)]
@@ -21,14 +21,14 @@ mod refusal;
 mod summation;
 #[cfg(test)]
 mod summation_tests;
-mod sums;
 #[cfg(test)]
 mod tests;
+mod weight;
 
-pub use arithmetic::Weight;
+pub use bag::Bag;
 pub use change::Update;
 pub use consolidation::consolidate;
 pub use laws::{bags_are_determined, consolidated_lists_are_least, sums_determine_a_list};
 pub use refusal::Refusal;
 pub use summation::sum_at;
-pub use sums::Bag;
+pub use weight::Weight;

@@ -1,5 +1,5 @@
 use Rattle.std.proofs.Common.{◌≡◌, take}
-use Rattle.update.proofs.sums.BagClone.clone.Given as goal
+use Rattle.update.proofs.bag.BagClone.clone.Given as goal
 
 -- the entries so far are copied
 abbrev pub invariant-loop-update : goal.invariant-loop-update

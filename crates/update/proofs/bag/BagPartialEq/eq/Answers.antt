@@ -1,7 +1,7 @@
 use Rattle.std.proofs.Common.{sym, ◌∙◌}
 use Rattle.update.specs.Equality.{bags_decide}
 use Rattle.update.proofs.BagLemmas.{same_by_items}
-use Rattle.update.proofs.sums.BagPartialEq.eq.Goals as goal
+use Rattle.update.proofs.bag.BagPartialEq.eq.Goals as goal
 
 pub returns-clause-value : goal.returns-clause-value
 returns-clause-value c =

@@ -6,7 +6,7 @@ use Rattle.std.specs.Ordering.{int_cmp}
 use Rattle.update.specs.declared.change.Update.{Update}
 use Rattle.update.specs.declared.moment.Moment.{Moment}
 use Rattle.update.proofs.BagLemmas.{count_found, count_missing}
-use Rattle.update.proofs.sums.Bag.get.Goals as goal
+use Rattle.update.proofs.bag.Bag.get.Goals as goal
 
 pub returns-in-Ok : goal.returns-in-Ok
 returns-in-Ok c =

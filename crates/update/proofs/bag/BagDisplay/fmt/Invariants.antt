@@ -3,7 +3,7 @@ use Rattle.std.specs.List.{flat_map}
 use Rattle.std.specs.Fmt.{HasWritten, IsPlainFormatter}
 use Rattle.update.specs.Updates.{entry}
 use Rattle.update.specs.Text.{entry_text}
-use Rattle.update.proofs.sums.BagDisplay.fmt.Given as goal
+use Rattle.update.proofs.bag.BagDisplay.fmt.Given as goal
 
 -- the lines of the entries so far are written
 abbrev pub invariant-loop-update : goal.invariant-loop-update

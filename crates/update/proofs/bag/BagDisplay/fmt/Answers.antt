@@ -1,7 +1,7 @@
 use Rattle.std.proofs.Common.{subst}
 use Rattle.std.specs.Fmt.{HasWritten}
 use Rattle.update.proofs.BagLemmas.{text_by_items}
-use Rattle.update.proofs.sums.BagDisplay.fmt.Goals as goal
+use Rattle.update.proofs.bag.BagDisplay.fmt.Goals as goal
 
 pub returns-clause-writes : goal.returns-clause-writes
 returns-clause-writes g c plain ok =
