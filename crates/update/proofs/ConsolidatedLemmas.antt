@@ -56,14 +56,15 @@ module _ {T : Type 0} {cmp : T → T → Ordering} (total : IsTotalOrder cmp) wh
 
   ascends_by : (xs : List (Update T)) → ((i j : ℕ) (d : Update T) → i < j → j < length xs → is_gt (by_time_then_row cmp (get_or xs i d) (get_or xs j d)) ≡ false) → Ascends total xs
   ascends_by [] h = tt
-  ascends_by (u ∷ us) h =
-      ( recursion_from_All (λ v. is_gt (by_time_then_row cmp u v) ≡ false) us (λ k d l. h 0 (suc k) d (omega arith) (omega (arith, l)))
-      , ascends_by us (λ i j d l m. h (suc i) (suc j) d (omega (arith, l)) (omega (arith, m))))
+  ascends_by (u ∷ us) h = (
+    recursion_from_All (λ v. is_gt (by_time_then_row cmp u v) ≡ false) us (λ k d l. h 0 (suc k) d (omega arith) (omega (arith, l))),
+    ascends_by us (λ i j d l m. h (suc i) (suc j) d (omega (arith, l)) (omega (arith, m))),
+  )
 
   pub ascends_sorted : (xs : List (Update T)) → IsSortedBy (λ x y. is_lt (by_all cmp x y)) xs → Ascends total xs
   ascends_sorted xs s =
       ascends_by xs (λ i j d l m. in_order (get_or xs i d) (get_or xs j d)
-        (sorted_far (λ x y. is_lt (by_all cmp x y)) (ranks_by by_all_total (λ u. u)) xs s i j d (omega (arith, l)) m))
+      (sorted_far (λ x y. is_lt (by_all cmp x y)) (ranks_by by_all_total (λ u. u)) xs s i j d (omega (arith, l)) m))
 
 -- the size as a recursion
 abbrev pub weight : {T : Type 0} → List (Update T) → ℕ
@@ -90,10 +91,10 @@ weight_left cmp u n (v ∷ vs) =
     elim (is_same cmp u v) as (λ b. weight (settled_runs (cond b (runs_of cmp u (n +ℤ v.diff) vs) (record { first = u; total = n } ∷ runs_of cmp v v.diff vs))) ≤ unsigned_abs n + (unsigned_abs v.diff + weight vs)) [
       | true ↦ let h = weight_left cmp u (n +ℤ v.diff) vs in let t = no_larger n v.diff in omega (arith, h, t)
       | false ↦
-        let a = weight-append (settled u n) (settled_runs (runs_of cmp v v.diff vs)) in
-        let s = weight_settled u n in
-        let h = weight_left cmp v v.diff vs in
-        omega (arith, a, s, h)
+          let a = weight-append (settled u n) (settled_runs (runs_of cmp v v.diff vs)) in
+          let s = weight_settled u n in
+          let h = weight_left cmp v v.diff vs in
+          omega (arith, a, s, h)
     ]
   where
     no_larger : (x y : ℤ) → unsigned_abs (x +ℤ y) ≤ unsigned_abs x + unsigned_abs y

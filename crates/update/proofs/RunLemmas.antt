@@ -123,10 +123,10 @@ module _ {T : Type 0} {cmp : T → T → Ordering} (total : IsTotalOrder cmp) wh
       elim (is_same cmp u v) as (λ b. is_same cmp u v ≡ b → IsStrictlySortedBy order (settled_runs (cond b (runs_of cmp u (n +ℤ v.diff) vs) (record { first = u; total = n } ∷ runs_of cmp v v.diff vs)))) [
         | true ↦ λ e. left_sorted u (n +ℤ v.diff) vs (skip_second u v vs a)
         | false ↦ λ e.
-          let after = rest_after u v vs a e in
-          sorted_join u n (settled_runs (runs_of cmp v v.diff vs))
-          (left_all (λ w. order u w ≡ Less) (λ w m h. h) v v.diff vs after.0 after.1)
-          (left_sorted v v.diff vs a.1)
+            let after = rest_after u v vs a e in
+            sorted_join u n (settled_runs (runs_of cmp v v.diff vs))
+            (left_all (λ w. order u w ≡ Less) (λ w m h. h) v v.diff vs after.0 after.1)
+            (left_sorted v v.diff vs a.1)
       ] refl
 
 -- what is left counts
@@ -174,7 +174,7 @@ module _ {T : Type 0} {cmp : T → T → Ordering} (exact : (s t : T) → cmp s 
       elim (is_same cmp u v) as (λ b. is_same cmp u v ≡ b → total_where p (settled_runs (cond b (runs_of cmp u (n +ℤ v.diff) vs) (record { first = u; total = n } ∷ runs_of cmp v v.diff vs))) ≡ cond (p u.row u.time) n (pos 0) +ℤ (cond (p v.row v.time) v.diff (pos 0) +ℤ total_where p vs)) [
         | true ↦ λ e. left_total p u (n +ℤ v.diff) vs ∙ more_of (p u.row u.time) (p v.row v.time) n v.diff (total_where p vs) (same_passes p u v e)
         | false ↦ λ e.
-          total_by-append (λ w. cond (p w.row w.time) w.diff (pos 0)) (settled u n) (settled_runs (runs_of cmp v v.diff vs))
-          ∙ ap (λ x. x +ℤ total_where p (settled_runs (runs_of cmp v v.diff vs))) (total_settled p u n)
-          ∙ ap (λ x. cond (p u.row u.time) n (pos 0) +ℤ x) (left_total p v v.diff vs)
+            total_by-append (λ w. cond (p w.row w.time) w.diff (pos 0)) (settled u n) (settled_runs (runs_of cmp v v.diff vs))
+            ∙ ap (λ x. x +ℤ total_where p (settled_runs (runs_of cmp v v.diff vs))) (total_settled p u n)
+            ∙ ap (λ x. cond (p u.row u.time) n (pos 0) +ℤ x) (left_total p v v.diff vs)
       ] refl

@@ -85,11 +85,11 @@ module _ {T : Type 0} {below : T → T → Bool} {cmp : T → T → Ordering} (o
       elim (is_same cmp u v) as (λ b. is_same cmp u v ≡ b → AllFit (cond b (runs_of cmp u (n +ℤ v.diff) vs) (record { first = u; total = n } ∷ runs_of cmp v v.diff vs)) → FitsSigned w64 (with_hand row t u n (v ∷ vs))) [
         | true ↦ λ e g. subst (FitsSigned w64) (grown row t u v n vs e) (totals_fit u (n +ℤ v.diff) vs (skip_second total u v vs a) g row t)
         | false ↦ λ e g.
-          let later = totals_fit v v.diff vs a.1 g.1 row t in
-          elim (is_at row t u) as (λ b. is_at row t u ≡ b → FitsSigned w64 (cond b n (pos 0) +ℤ total_at below row t (v ∷ vs))) [
-            | true ↦ λ h. rw (at_its_own row t u (v ∷ vs) h (rest_after total u v vs a e)) (subst (FitsSigned w64) (sym (+ℤ_idr n)) g.0)
-            | false ↦ λ h. subst (FitsSigned w64) (sym (+ℤ_idl (total_at below row t (v ∷ vs)))) later
-          ] refl
+            let later = totals_fit v v.diff vs a.1 g.1 row t in
+            elim (is_at row t u) as (λ b. is_at row t u ≡ b → FitsSigned w64 (cond b n (pos 0) +ℤ total_at below row t (v ∷ vs))) [
+              | true ↦ λ h. rw (at_its_own row t u (v ∷ vs) h (rest_after total u v vs a e)) (subst (FitsSigned w64) (sym (+ℤ_idr n)) g.0)
+              | false ↦ λ h. subst (FitsSigned w64) (sym (+ℤ_idl (total_at below row t (v ∷ vs)))) later
+            ] refl
       ] refl f
 
   -- where not each run's total fits, some total of a row and time does not
@@ -99,14 +99,14 @@ module _ {T : Type 0} {below : T → T → Bool} {cmp : T → T → Ordering} (o
   some_large u n (v ∷ vs) a f =
       elim (is_same cmp u v) as (λ b. is_same cmp u v ≡ b → (AllFit (cond b (runs_of cmp u (n +ℤ v.diff) vs) (record { first = u; total = n } ∷ runs_of cmp v v.diff vs)) → ⊥) → (row : List ℤ) × (t : T) × (FitsSigned w64 (with_hand row t u n (v ∷ vs)) → ⊥)) [
         | true ↦ λ e g.
-          let r = some_large u (n +ℤ v.diff) vs (skip_second total u v vs a) g in
-          (r.0, r.1, λ h. r.2 (subst (FitsSigned w64) (sym (grown r.0 r.1 u v n vs e)) h))
+            let r = some_large u (n +ℤ v.diff) vs (skip_second total u v vs a) g in
+            (r.0, r.1, λ h. r.2 (subst (FitsSigned w64) (sym (grown r.0 r.1 u v n vs e)) h))
         | false ↦ λ e g.
-          let after = rest_after total u v vs a e in
-          ⊎_elim
-          (λ fits.
+            let after = rest_after total u v vs a e in
+            ⊎_elim
+            (λ fits.
             let r = some_large v v.diff vs a.1 (λ k. g (fits, k)) in
             (r.0, r.1, λ h. r.2 (later r.0 r.1 u n (v ∷ vs) after h)))
-          (λ large. (u.row, u.time, λ h. large (subst (FitsSigned w64) (ap (λ b. cond b n (pos 0) +ℤ total_at below u.row u.time (v ∷ vs)) (at_itself u) ∙ ap (λ x. n +ℤ x) (none_after u (v ∷ vs) after) ∙ +ℤ_idr n) h)))
-          (fits_or_not n)
+            (λ large. (u.row, u.time, λ h. large (subst (FitsSigned w64) (ap (λ b. cond b n (pos 0) +ℤ total_at below u.row u.time (v ∷ vs)) (at_itself u) ∙ ap (λ x. n +ℤ x) (none_after u (v ∷ vs) after) ∙ +ℤ_idr n) h)))
+            (fits_or_not n)
       ] refl f

@@ -42,7 +42,12 @@ fn settle<T: Lattice>(updates: &mut [Update<T>], at: usize, total: i128) -> Resu
 }
 
 // Ends the run in hand, and begins the next one with the update at `from`, which moves there. Gives where it stands.
-fn next_run<T: Lattice>(updates: &mut [Update<T>], at: usize, from: usize, total: i128) -> Result<usize, Refusal>
+fn next_run<T: Lattice>(
+    updates: &mut [Update<T>],
+    at: usize,
+    from: usize,
+    total: i128,
+) -> Result<usize, Refusal>
     requires before { at < from }
     requires within { from < length updates.old }
     ensures next { IfOk result (λ next. next ≤ from) }
@@ -68,7 +73,11 @@ struct InHand {
 }
 
 // Takes the next update into the run in hand, or ends that and begins the next run with it.
-fn take_in<T: Lattice>(updates: &mut [Update<T>], run: InHand, next: usize) -> Result<InHand, Refusal>
+fn take_in<T: Lattice>(
+    updates: &mut [Update<T>],
+    run: InHand,
+    next: usize,
+) -> Result<InHand, Refusal>
     requires before { run.at < next }
     requires within { next < length updates.old }
     requires small { unsigned_abs run.total ≤ next * 2 ^ 63 }
@@ -77,7 +86,7 @@ fn take_in<T: Lattice>(updates: &mut [Update<T>], run: InHand, next: usize) -> R
     ensures gathered { IfOk result (λ new. (d : Update T) (more : List (Update T))
         → take new.at updates.new ++ settled_runs (runs_of T.cmp (slice_index_or updates.new new.at d) new.total more)
         ≡ take run.at updates.old ++ settled_runs (runs_of T.cmp (slice_index_or updates.old run.at d) run.total
-            (slice_index_or updates.old next d ∷ more))) }
+        (slice_index_or updates.old next d ∷ more))) }
     ensures fits { IfOk result (λ new. (d : Update T) (more : List (Update T))
         → AllFit (runs_of T.cmp (slice_index_or updates.old run.at d) run.total (slice_index_or updates.old next d ∷ more))
         → AllFit (runs_of T.cmp (slice_index_or updates.new new.at d) new.total more)) }
@@ -98,10 +107,7 @@ fn take_in<T: Lattice>(updates: &mut [Update<T>], run: InHand, next: usize) -> R
         });
     }
     let at = next_run(updates, run.at, next, run.total)?;
-    Ok(InHand {
-        at,
-        total: diff,
-    })
+    Ok(InHand { at, total: diff })
 }
 
 // Gathers the runs of a sorted list at its front, one update for each whose total is not 0, and gives how many there are.

@@ -177,3 +177,26 @@ fn large_totals_are_counted_apart(rt: HostRuntime) {
         assert_eq!(rt; kept, Err(Refusal::Overflow), "of {refused:?}");
     }
 }
+
+// The list is there, so nothing is left to be refused. Run with each allocation refused in turn, this sees the first
+// refusal before, and none in the call.
+#[test]
+fn consolidation_takes_no_memory(rt: HostRuntime) {
+    let room = match Vec::with_capacity(rt.alloc(), 3) {
+        Err(_refused) => Vec::with_capacity(rt.alloc(), 3),
+        done => done,
+    };
+    let mut given = room.expect(&rt, "memory the second time");
+    for diff in [4, -1, -3] {
+        let row = Row::new(rt.alloc(), &[7]).expect(&rt, "one column");
+        let time = Pair {
+            first: 0u64,
+            second: 5u64,
+        };
+        given
+            .push(Update { time, row, diff })
+            .expect(&rt, "the room that is there");
+    }
+    let kept = consolidate(given).expect(&rt, "no need of memory");
+    assert!(rt; kept.is_empty());
+}

@@ -10,7 +10,11 @@ use lattice::Lattice;
 use std::alloc::Global;
 
 // The updates at or before `t`, all moved to the one moment.
-fn gone_by<T: Lattice>(alloc: Global, updates: &[Update<T>], t: T) -> Result<Vec<Update<Moment>>, Refusal>
+fn gone_by<T: Lattice>(
+    alloc: Global,
+    updates: &[Update<T>],
+    t: T,
+) -> Result<Vec<Update<Moment>>, Refusal>
     ensures gone { IfOk result (λ gone. gone.items ≡ map at_moment (filter (λ u. T.below u.time t) updates.now)) }
     ensures only { IfErr result (λ refused. refused ≡ Refusal.OutOfMemory) }
 {

@@ -2,7 +2,7 @@
 use crate::{Bag, Refusal, Update, sum_at};
 use lattice::{Bitime, Pair};
 use row::Row;
-use std::alloc::Global;
+use std::alloc::{AllocError, Global};
 use std::process::Abort;
 
 fn at(first: u64, second: u64) -> Bitime {
@@ -13,7 +13,13 @@ fn row(rt: &impl Abort, alloc: Global, column: i64) -> Row {
     Row::new(alloc, &[column]).expect(rt, "one column")
 }
 
-fn update(rt: &impl Abort, alloc: Global, time: (u64, u64), column: i64, diff: i64) -> Update<Bitime> {
+fn update(
+    rt: &impl Abort,
+    alloc: Global,
+    time: (u64, u64),
+    column: i64,
+    diff: i64,
+) -> Update<Bitime> {
     Update {
         time: at(time.0, time.1),
         row: row(rt, alloc, column),
@@ -38,6 +44,25 @@ fn assert_counts(rt: &impl Abort, alloc: Global, bag: &Bag, counts: &[(i64, i64)
     assert_eq!(rt; bag.len(), counts.len());
     for &(column, count) in counts {
         assert_eq!(rt; bag.get(&row(rt, alloc, column)), count, "of {column}");
+    }
+}
+
+// The late correction of the README: 3 posted for day 10 in revision 1, and -1 for day 5 in revision 2.
+#[test]
+fn a_late_correction(rt: HostRuntime) {
+    let account = row(&rt, rt.alloc(), 7);
+    let ledger = [
+        update(&rt, rt.alloc(), (10, 1), 7, 3),
+        update(&rt, rt.alloc(), (5, 2), 7, -1),
+    ];
+    for (time, count) in [
+        (at(10, 1), 3),
+        (at(7, 2), -1),
+        (at(10, 2), 2),
+        (at(4, 9), 0),
+    ] {
+        let bag = sum_at(rt.alloc(), &ledger, time).expect(&rt, "memory for a short list");
+        assert_eq!(rt; bag.get(&account), count, "at {time}");
     }
 }
 
@@ -96,7 +121,10 @@ fn sums_take_memory(rt: HostRuntime) {
         done => done,
     };
     let bag = bag.expect(&rt, "memory the second time");
-    assert_counts(&rt, rt.alloc(), &bag, &[(3, 1), (7, 4)]);
+    let once: Result<Bag, AllocError> = bag.clone();
+    let twice: Result<Bag, AllocError> = bag.clone();
+    let copy = once.or(twice).expect(&rt, "memory one of two times");
+    assert_counts(&rt, rt.alloc(), &copy, &[(3, 1), (7, 4)]);
 }
 
 // No update is at or before the time, so nothing is kept and no memory is taken, not even where the list is long.

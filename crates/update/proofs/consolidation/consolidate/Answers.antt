@@ -4,9 +4,10 @@ use Rattle.update.proofs.ConsolidatedLemmas.{gathered_consolidated, gathered_tot
 use Rattle.update.proofs.consolidation.consolidate.Goals as goal
 
 pub returns-in_err-keep_totals-clause-overflow : goal.returns-in_err-keep_totals-clause-overflow
-returns-in_err-keep_totals-clause-overflow g c =
-    ( λ _. gathered_large g.met.T.PartialOrder.order g.met.T.Ord.total g.met.T.Lattice.extends.exact _ _ c.sort_unstable.ensures.permutation c.sort_unstable.ensures.sorted (c.in_err-keep_totals.ensures.large refl)
-    , λ _. search rules)
+returns-in_err-keep_totals-clause-overflow g c = (
+  λ _. gathered_large g.met.T.PartialOrder.order g.met.T.Ord.total g.met.T.Lattice.extends.exact _ _ c.sort_unstable.ensures.permutation c.sort_unstable.ensures.sorted (c.in_err-keep_totals.ensures.large refl),
+  λ _. search rules,
+)
 
 pub returns-clause-consolidated : goal.returns-clause-consolidated
 returns-clause-consolidated g c =
@@ -29,6 +30,7 @@ returns-clause-size g c =
     rw c.in_ok-keep_totals.ensures.kept (gathered_size g.met.T.Ord.total g.met.T.Lattice.extends.exact _ _ c.sort_unstable.ensures.permutation)
 
 pub returns-clause-overflow : goal.returns-clause-overflow
-returns-clause-overflow g c =
-    ( λ e. search rules
-    , λ large. absurd (gathered_fit g.met.T.PartialOrder.order g.met.T.Ord.total g.met.T.Lattice.extends.exact _ _ c.sort_unstable.ensures.permutation c.sort_unstable.ensures.sorted c.in_ok-keep_totals.ensures.fits large))
+returns-clause-overflow g c = (
+  λ e. search rules,
+  λ large. absurd (gathered_fit g.met.T.PartialOrder.order g.met.T.Ord.total g.met.T.Lattice.extends.exact _ _ c.sort_unstable.ensures.permutation c.sort_unstable.ensures.sorted c.in_ok-keep_totals.ensures.fits large),
+)

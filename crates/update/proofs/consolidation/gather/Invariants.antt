@@ -16,5 +16,5 @@ invariant-loop-next g l =
       gathered : (d : Update g.row.T.Denot) → take l.run.at l.updates ++ settled_runs (runs_of cmp (slice_index_or l.updates l.run.at d) l.run.total (drop l.next all)) ≡ settled_runs (runs_from cmp all);
       fits : (d : Update g.row.T.Denot) → AllFit (runs_from cmp all) → AllFit (runs_of cmp (slice_index_or l.updates l.run.at d) l.run.total (drop l.next all));
       so_far : (d : Update g.row.T.Denot) → AllFit (runs_of cmp (slice_index_or l.updates l.run.at d) l.run.total (drop l.next all)) → AllFit (runs_from cmp all);
-      small : unsigned_abs l.run.total ≤ l.next * 2 ^ 63
+      small : unsigned_abs l.run.total ≤ l.next * 2 ^ 63;
     }
