@@ -1,4 +1,6 @@
-//! One update of a table: a row, the time from which on it counts, and how often.
+//! One update of a table: a row, the time from which on it counts, and how often. All that changes in the engine is a
+//! list of these. The fields stand in the order in which lists are sorted, so that the derived order is that of
+//! consolidation.
 ghost use Rattle.std.specs.Prelude.{◌≡◌};
 
 use lattice::Lattice;

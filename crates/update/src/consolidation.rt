@@ -1,4 +1,13 @@
-//! Consolidation: one update for each row and time, and none of nothing.
+//! Consolidation: one update for each row and time, and none of nothing. Every layer above calls it, so it is one sort
+//! and one pass in the list that it is given.
+//!
+//! After the sort the updates of one row and time are neighbours, a run. The pass keeps this: in front stand the settled
+//! runs, one update each; behind them the first update of the run in hand, whose total is counted beside the list; and
+//! from `next` on the updates still to come, as they were. A settled update is written where a read one stood, so no
+//! second list is needed.
+//!
+//! Totals are counted in 128 bits and brought to 64 only where a run ends. So what is refused depends on the totals alone,
+//! and not on the order in which they are added up.
 ghost use Rattle.std.specs.Prelude.{◌≡◌, ◌≤◌, ◌<◌, ◌+◌, ◌++◌, length, take, drop, List, ◌∷◌, ◌*◌, ◌^◌, unsigned_abs, FitsSigned, IfOk, IfErr, IsErr, OnOk, IsTrue, Bool, ℤ, ◌↔◌, slice_index_or};
 ghost use Rattle.std.specs.List.{list_all};
 ghost use Rattle.std.specs.Int.{w64};

@@ -1,4 +1,6 @@
-//! What a list of updates sums to at a time: each row, as often as the updates at or before the time say together.
+//! What a list of updates sums to at a time: each row, as often as the updates at or before the time say together. The
+//! updates that count are moved to the one time of [`Moment`] and consolidated there, which adds them up and sorts them by
+//! row: so there is one place where updates are added up, and a sum is refused as a consolidation is.
 ghost use Rattle.std.specs.Prelude.{◌≡◌, ◌≤◌, ◌⊎◌, map, filter, IfOk, IfErr, OnOk};
 ghost use Rattle.update.specs.Bags.{Alike, IsBag, HasLargeCount, bag_size};
 ghost use Rattle.update.specs.Moments.{at_moment};
