@@ -1,0 +1,14 @@
+pub use Rattle.lattice.specs.Order
+pub use Rattle.lattice.specs.Frontiers
+pub use Rattle.update.specs.Bags
+pub use Rattle.update.specs.Updates
+pub mod Nodes
+pub mod Upward
+pub mod Widths
+pub mod Rules
+pub mod Reductions
+pub mod Operators
+pub mod Queries
+pub mod Ancestors
+pub mod Changes
+pub mod Weights

@@ -1,0 +1,16 @@
+-- What a view is: the operators, one upon another, from the bags of the inputs.
+use Rattle.std.specs.Prelude.{ℕ, List, [], Option, Some, None, slice_get}
+use Rattle.update.specs.Bags.{Entry}
+use Rattle.plan.specs.Nodes.{sources, key_width}
+use Rattle.plan.specs.Upward.{found}
+use Rattle.plan.specs.Operators.{given}
+use Rattle.plan.specs.declared.node.Node.{Node}
+
+-- what comes to a port: what its source has; an input has no source, and what comes is from outside
+abbrev pub handed : {A : Type 0} → A → (ℕ → A) → Option ℕ → A
+handed outside of None = outside
+handed outside of (Some source) = of source
+
+-- the bag of node n, where each input has its bag
+abbrev pub query : List Node → (ℕ → List Entry) → ℕ → List Entry
+query p inputs n = found [] (λ m node bags. given (key_width p node) node (λ port. handed (inputs m) bags (slice_get (sources node) port))) p n

@@ -1,0 +1,31 @@
+-- How many columns the rows of a node have.
+use Rattle.std.specs.Prelude.{ℕ, suc, ◌+◌, ◌-◌, List, length}
+use Rattle.plan.specs.Nodes.{key_width}
+use Rattle.plan.specs.Upward.{found}
+use Rattle.plan.specs.declared.node.Kind.{Kind}
+use Rattle.plan.specs.declared.node.Kind.TheVariants.{Count, Distinct, Min, Max}
+use Rattle.plan.specs.declared.node.Node.{Node}
+use Rattle.plan.specs.declared.node.Node.TheVariants.{Input, Map, Filter, Concat, Negate, Arrange, Join, Reduce, Output}
+
+-- the width of a reduction's rows, from the key's and its source's: a count has the key and one column more
+abbrev pub reduced_width : Kind → ℕ → ℕ → ℕ
+reduced_width Count key width = suc key
+reduced_width Distinct key width = width
+reduced_width Min key width = width
+reduced_width Max key width = width
+
+-- the width of a node's rows, from the key's and those of its sources; a pair has the key and the rest of both rows
+abbrev pub width_from : ℕ → Node → (ℕ → ℕ) → ℕ
+width_from key (Input width) widths = width
+width_from key (Map source items) widths = length items
+width_from key (Filter source test) widths = widths source
+width_from key (Concat left right) widths = widths left
+width_from key (Negate source) widths = widths source
+width_from key (Arrange source columns) widths = widths source
+width_from key (Join left right) widths = key + ((widths left - key) + (widths right - key))
+width_from key (Reduce kind source) widths = reduced_width kind key (widths source)
+width_from key (Output source) widths = widths source
+
+-- the width of the rows of node n
+abbrev pub width_of : List Node → ℕ → ℕ
+width_of p n = found 0 (λ m node widths. width_from (key_width p node) node widths) p n

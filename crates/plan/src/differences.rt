@@ -1,0 +1,28 @@
+//! What the definitions promise of the changes of a view. The functions do nothing: they are called, or their clauses
+//! cited, for what they promise in every lattice.
+ghost use Rattle.std.specs.Prelude.{◌≡◌, ℕ, List, IsTrue};
+ghost use Rattle.std.specs.List.{filter};
+ghost use Rattle.lattice.specs.Frontiers.{all_beyond};
+ghost use Rattle.update.specs.declared.change.Update.{Update};
+ghost use Rattle.plan.specs.Changes.{AreDifferences, has_passed};
+ghost use Rattle.plan.specs.Weights.{IsWeight};
+ghost use Rattle.plan.specs.declared.node.Node.{Node};
+
+use lattice::Lattice;
+
+/// The differences of a node are one list: two lists that are its differences, as of the same changes and frontier, are
+/// equal. And as of a later frontier they go on: the differences at what had been passed stay as they were.
+pub fn differences_are_one_list<T: Lattice>()
+    ensures one { (p : List Node) (changes : ℕ → List (Update T)) (frontier : List T) (n : ℕ) (us vs : List (Update T))
+        → AreDifferences T.below T.cmp p changes frontier n us → AreDifferences T.below T.cmp p changes frontier n vs → us ≡ vs }
+    ensures goes_on { (p : List Node) (changes : ℕ → List (Update T)) (earlier later : List T) (n : ℕ) (us vs : List (Update T))
+        → IsTrue (all_beyond T.below earlier later)
+        → AreDifferences T.below T.cmp p changes earlier n us → AreDifferences T.below T.cmp p changes later n vs
+        → us ≡ filter (λ u. has_passed T.below earlier u.time) vs }
+{}
+
+/// A node has one weight: it depends on the plan and the changes alone.
+pub fn weights_are_determined<T: Lattice>()
+    ensures { (p : List Node) (changes : ℕ → List (Update T)) (n v w : ℕ)
+        → IsWeight T.below T.cmp p changes n v → IsWeight T.below T.cmp p changes n w → v ≡ w }
+{}

@@ -1,0 +1,81 @@
+//! What the definitions of plans and queries promise by themselves. The functions do nothing: they are called, or their
+//! clauses cited, for what they promise. A layer above needs no more of the definitions than stands here.
+ghost use Rattle.std.specs.Prelude.{◌≡◌, ◌<◌, ◌≤◌, ◌↔◌, ℕ, ℤ, Bool, false, not, List, [], ◌++◌, None, Some, IsTrue, map, take, length, eqb, ◌||◌, slice_get};
+ghost use Rattle.std.specs.List.{filter, flat_map, list_any};
+ghost use Rattle.update.specs.Bags.{Entry, Alike, count_of};
+ghost use Rattle.plan.specs.Nodes.{node_at, sources, key_width};
+ghost use Rattle.plan.specs.Widths.{width_of, width_from};
+ghost use Rattle.plan.specs.Rules.{IsPlan, is_output, is_width, faults, first_refusal};
+ghost use Rattle.plan.specs.Reductions.{IsReducer, reduced, has_key};
+ghost use Rattle.plan.specs.Operators.{given, is_linear, reduced_by_key};
+ghost use Rattle.plan.specs.Queries.{query, handed};
+ghost use Rattle.plan.specs.Ancestors.{is_above, feeds, numbers_below};
+ghost use Rattle.plan.specs.Weights.{weight_by};
+ghost use Rattle.plan.specs.declared.node.Kind.{Kind};
+ghost use Rattle.plan.specs.declared.node.Node.{Node};
+
+/// Each of the four reductions has the laws of a reducer; and of any reducer only the rows of a key matter for what is
+/// answered for the key.
+pub fn reductions_are_reducers()
+    ensures reducers { (kind : Kind) (k : ℕ) → IsReducer k (reduced kind) }
+    ensures by_key { (k : ℕ) (reduce : List ℤ → List Entry → List Entry) → IsReducer k reduce
+        → (entries : List Entry) (row : List ℤ) → k ≤ length row
+        → count_of (reduced_by_key k reduce entries) row ≡ count_of (reduce (take k row) (filter (has_key k (take k row)) entries)) row }
+{}
+
+/// Alike bags give alike bags: at every node of every list of nodes, and, of a plan, wherever the inputs that feed the
+/// node have alike bags.
+pub fn queries_depend_on_bags()
+    ensures operators { (k : ℕ) (node : Node) (a b : ℕ → List Entry) → ((port : ℕ) → Alike (a port) (b port)) → Alike (given k node a) (given k node b) }
+    ensures queries { (p : List Node) (a b : ℕ → List Entry) → ((input : ℕ) → Alike (a input) (b input)) → (n : ℕ) → Alike (query p a n) (query p b n) }
+    ensures fed { (p : List Node) → IsPlan p → (a b : ℕ → List Entry) (n : ℕ) → n < length p
+        → ((input : ℕ) → IsTrue (feeds p input n) → Alike (a input) (b input)) → Alike (query p a n) (query p b n) }
+{}
+
+/// What all nodes but joins and reductions give of two bags together is what they give of each, together; and of nothing
+/// every node gives nothing.
+pub fn linear_operators_add_up()
+    ensures sums { (k : ℕ) (node : Node) → IsTrue (is_linear node) → (a b : ℕ → List Entry)
+        → Alike (given k node (λ port. a port ++ b port)) (given k node a ++ given k node b) }
+    ensures nothing { (k : ℕ) (node : Node) → Alike (given k node (λ port. [])) [] }
+{}
+
+/// What joins and reductions give of the rows whose keys pass a test is the part of what they give whose keys pass it. So
+/// where each key has one worker, all workers together give what one would give of all rows.
+pub fn keyed_operators_add_up()
+    ensures parts { (k : ℕ) (node : Node) → is_linear node ≡ false → (test : List ℤ → Bool) (bags : ℕ → List Entry)
+        → Alike (given k node (λ port. filter (λ e. test (take k e.row)) (bags port))) (filter (λ e. test (take k e.row)) (given k node bags)) }
+    ensures workers { (k : ℕ) (node : Node) → is_linear node ≡ false → (workers : ℕ) (route : List ℤ → ℕ) → ((key : List ℤ) → route key < workers) → (bags : ℕ → List Entry)
+        → Alike (flat_map (λ worker. given k node (λ port. filter (λ e. eqb (route (take k e.row)) worker) (bags port))) (numbers_below workers)) (given k node bags) }
+{}
+
+/// What every plan has: at most 256 nodes; sources with smaller numbers, none of which is a view; widths of 1 to 8
+/// columns, each found from the sources'; and no fault of any rule, by the widths of the whole plan.
+pub fn plans_are_in_order()
+    ensures few { (p : List Node) → IsPlan p → length p ≤ 256 }
+    ensures smaller { (p : List Node) → IsPlan p → (n port source : ℕ) → slice_get (sources (node_at p n)) port ≡ Some source → source < n }
+    ensures readable { (p : List Node) → IsPlan p → (n port source : ℕ) → slice_get (sources (node_at p n)) port ≡ Some source → is_output (node_at p source) ≡ false }
+    ensures faultless { (p : List Node) → IsPlan p → (n : ℕ) → n < length p → first_refusal (faults p (node_at p n)) ≡ None }
+    ensures widths { (p : List Node) → IsPlan p → (n : ℕ) → n < length p → IsTrue (is_width (width_of p n)) }
+    ensures width { (p : List Node) → IsPlan p → (n : ℕ) → width_of p n ≡ width_from (key_width p (node_at p n)) (node_at p n) (width_of p) }
+{}
+
+/// What is found of a node is found from its sources: its query is its operator on their queries, and above it stand
+/// itself and what stands above them. Ancestors have smaller numbers, and every node has an input that feeds it.
+pub fn nodes_stand_on_their_sources()
+    ensures query { (p : List Node) → IsPlan p → (inputs : ℕ → List Entry) (n : ℕ)
+        → query p inputs n ≡ given (key_width p (node_at p n)) (node_at p n) (λ port. handed (inputs n) (query p inputs) (slice_get (sources (node_at p n)) port)) }
+    ensures above { (p : List Node) → IsPlan p → (m n : ℕ) → is_above p m n ≡ (eqb m n || list_any (is_above p m) (sources (node_at p n))) }
+    ensures earlier { (p : List Node) → IsPlan p → (m n : ℕ) → IsTrue (is_above p m n) → m ≤ n }
+    ensures transitive { (p : List Node) → IsPlan p → (l m n : ℕ) → IsTrue (is_above p l m) → IsTrue (is_above p m n) → IsTrue (is_above p l n) }
+    ensures fed { (p : List Node) → IsPlan p → (n : ℕ) → n < length p → (input : ℕ) × (input < length p) × IsTrue (feeds p input n) }
+{}
+
+/// A plan that goes on is a plan as far as it went, and nothing changes for the nodes that it had.
+pub fn extensions_keep_plans()
+    ensures plan { (p more : List Node) → IsPlan (p ++ more) → IsPlan p }
+    ensures widths { (p more : List Node) → IsPlan p → (n : ℕ) → n < length p → width_of (p ++ more) n ≡ width_of p n }
+    ensures queries { (p more : List Node) → IsPlan p → (inputs : ℕ → List Entry) (n : ℕ) → n < length p → query (p ++ more) inputs n ≡ query p inputs n }
+    ensures above { (p more : List Node) → IsPlan p → (m n : ℕ) → n < length p → is_above (p ++ more) m n ≡ is_above p m n }
+    ensures weights { (p more : List Node) → IsPlan p → (own inputs : ℕ → ℕ) (n : ℕ) → n < length p → weight_by (p ++ more) own inputs n ≡ weight_by p own inputs n }
+{}
