@@ -7,7 +7,7 @@ use Rattle.plan.specs.declared.node.Node.{Node}
 use Rattle.plan.specs.declared.node.Node.TheVariants.{Input, Map, Filter, Concat, Negate, Arrange, Join, Reduce, Output}
 
 -- m is n or an ancestor of n
-abbrev pub is_above : List Node → ℕ → ℕ → Bool
+unfoldable pub is_above : List Node → ℕ → ℕ → Bool
 is_above p m n = found false (λ k node above. eqb m k || list_any above (sources node)) p n
 
 abbrev pub is_input : Node → Bool

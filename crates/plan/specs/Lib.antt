@@ -2,6 +2,7 @@ pub use Rattle.lattice.specs.Order
 pub use Rattle.lattice.specs.Frontiers
 pub use Rattle.update.specs.Bags
 pub use Rattle.update.specs.Updates
+pub mod Equality
 pub mod Nodes
 pub mod Upward
 pub mod Widths
@@ -12,3 +13,5 @@ pub mod Queries
 pub mod Ancestors
 pub mod Changes
 pub mod Weights
+pub mod Stages
+pub mod Text

@@ -1,5 +1,5 @@
 -- The nodes of a plan, each by its number, which is its place in the plan's list.
-use Rattle.std.specs.Prelude.{ℕ, List, [], ◌∷◌, Option, Some, None, slice_get, unwrap_or}
+use Rattle.std.specs.Prelude.{ℕ, List, [], ◌∷◌, Option, Some, None, slice_get, unwrap_or, option_map}
 use Rattle.plan.specs.declared.node.Node.{Node}
 use Rattle.plan.specs.declared.node.Node.TheVariants.{Input, Map, Filter, Concat, Negate, Arrange, Join, Reduce, Output}
 
@@ -35,6 +35,6 @@ arranged_by (Output source) = None
 abbrev pub key_of : List Node → ℕ → ℕ
 key_of p n = unwrap_or (arranged_by (node_at p n)) 0
 
--- how many columns the key has by which a node's sources are arranged: its first source's
+-- how many columns the key has by which a node's sources are arranged: its first source's; 0 where it has none
 abbrev pub key_width : List Node → Node → ℕ
-key_width p node = key_of p (unwrap_or (slice_get (sources node) 0) 0)
+key_width p node = unwrap_or (option_map (key_of p) (slice_get (sources node) 0)) 0

@@ -12,5 +12,5 @@ handed outside of None = outside
 handed outside of (Some source) = of source
 
 -- the bag of node n, where each input has its bag
-abbrev pub query : List Node → (ℕ → List Entry) → ℕ → List Entry
+unfoldable pub query : List Node → (ℕ → List Entry) → ℕ → List Entry
 query p inputs n = found [] (λ m node bags. given (key_width p node) node (λ port. handed (inputs m) bags (slice_get (sources node) port))) p n

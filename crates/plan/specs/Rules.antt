@@ -4,7 +4,7 @@ use Rattle.std.specs.List.{list_any, list_all}
 use Rattle.row.specs.Projection.{is_within}
 use Rattle.row.specs.declared.testing.Test.{Test}
 use Rattle.update.specs.declared.refusal.Refusal.{Refusal}
-use Rattle.update.specs.declared.refusal.Refusal.TheVariants.{TooManyNodes, UnknownName, BadColumn, WidthMismatch, NotArranged, KeyMismatch, BadWidth, BadKey}
+use Rattle.update.specs.declared.refusal.Refusal.TheVariants.{OutOfMemory, TooManyNodes, UnknownName, BadColumn, WidthMismatch, NotArranged, KeyMismatch, BadWidth, BadKey}
 use Rattle.plan.specs.Nodes.{node_at, sources, arranged_by, key_of, key_width}
 use Rattle.plan.specs.Widths.{width_of, width_from}
 use Rattle.plan.specs.declared.node.Node.{Node}
@@ -61,3 +61,8 @@ refusal_of p node = first_refusal ((nat_le 256 (length p), TooManyNodes) ∷ (no
 -- a plan: the rules accept each of its nodes after those before it
 abbrev pub IsPlan : List Node → Type 0
 IsPlan p = (n : ℕ) → n < length p → refusal_of (take n p) (node_at p n) ≡ None
+
+-- a refusal by the rules, or, where they accept the node, for want of memory
+abbrev pub IsRefusalBy : Option Refusal → Refusal → Type 0
+IsRefusalBy (Some refusal) r = r ≡ refusal
+IsRefusalBy None r = r ≡ OutOfMemory

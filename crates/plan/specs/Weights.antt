@@ -25,7 +25,7 @@ load (Reduce kind source) own weights = own
 load (Output source) own weights = weights 0
 
 -- the weight of node n, where each reduction has its own and each input its size
-abbrev pub weight_by : List Node → (ℕ → ℕ) → (ℕ → ℕ) → ℕ → ℕ
+unfoldable pub weight_by : List Node → (ℕ → ℕ) → (ℕ → ℕ) → ℕ → ℕ
 weight_by p own inputs n = found 0 (λ m node weights. load node (own m) (λ port. handed (inputs m) weights (slice_get (sources node) port))) p n
 
 module _ {T : Type 0} (below : T → T → Bool) (cmp : T → T → Ordering) where

@@ -27,5 +27,5 @@ width_from key (Reduce kind source) widths = reduced_width kind key (widths sour
 width_from key (Output source) widths = widths source
 
 -- the width of the rows of node n
-abbrev pub width_of : List Node → ℕ → ℕ
+unfoldable pub width_of : List Node → ℕ → ℕ
 width_of p n = found 0 (λ m node widths. width_from (key_width p node) node widths) p n

@@ -1,17 +1,19 @@
 //! What the definitions of plans and queries promise by themselves. The functions do nothing: they are called, or their
 //! clauses cited, for what they promise. A layer above needs no more of the definitions than stands here.
-ghost use Rattle.std.specs.Prelude.{◌≡◌, ◌<◌, ◌≤◌, ◌↔◌, ℕ, ℤ, Bool, false, not, List, [], ◌++◌, None, Some, IsTrue, map, take, length, eqb, ◌||◌, slice_get};
+ghost use Rattle.std.specs.Prelude.{◌≡◌, ◌<◌, ◌≤◌, ◌↔◌, ℕ, ℤ, Bool, false, not, List, [], ◌++◌, None, Some, IsTrue, map, take, length, eqb, ◌||◌, ◌&&◌, ◌⊎◌, slice_get, pos, ◌∷◌, int_lt, if◌then◌else◌};
+ghost use Rattle.std.specs.Ordering.{int_eq};
 ghost use Rattle.std.specs.List.{filter, flat_map, list_any};
-ghost use Rattle.update.specs.Bags.{Entry, Alike, count_of};
-ghost use Rattle.plan.specs.Nodes.{node_at, sources, key_width};
+ghost use Rattle.update.specs.Bags.{Entry, Alike, count_of, same_row};
+ghost use Rattle.plan.specs.Nodes.{node_at, sources, arranged_by, key_width};
 ghost use Rattle.plan.specs.Widths.{width_of, width_from};
 ghost use Rattle.plan.specs.Rules.{IsPlan, is_output, is_width, faults, first_refusal};
-ghost use Rattle.plan.specs.Reductions.{IsReducer, reduced, has_key};
+ghost use Rattle.plan.specs.Reductions.{IsReducer, reduced, has_key, is_before, sum_of_counts};
 ghost use Rattle.plan.specs.Operators.{given, is_linear, reduced_by_key};
 ghost use Rattle.plan.specs.Queries.{query, handed};
 ghost use Rattle.plan.specs.Ancestors.{is_above, feeds, numbers_below};
 ghost use Rattle.plan.specs.Weights.{weight_by};
 ghost use Rattle.plan.specs.declared.node.Kind.{Kind};
+ghost use Rattle.plan.specs.declared.node.Kind.TheVariants.{Count, Distinct, Min, Max};
 ghost use Rattle.plan.specs.declared.node.Node.{Node};
 
 /// Each of the four reductions has the laws of a reducer; and of any reducer only the rows of a key matter for what is
@@ -21,6 +23,22 @@ pub fn reductions_are_reducers()
     ensures by_key { (k : ℕ) (reduce : List ℤ → List Entry → List Entry) → IsReducer k reduce
         → (entries : List Entry) (row : List ℤ) → k ≤ length row
         → count_of (reduced_by_key k reduce entries) row ≡ count_of (reduce (take k row) (filter (has_key k (take k row)) entries)) row }
+{}
+
+/// What each reduction answers for a key, row by row, by the counts alone: the key and the sum of all counts, where that
+/// is not 0; each row that counts more than 0 times; of these the one that none of them stands before, and the one that
+/// stands before none. No row is answered more than once.
+pub fn reductions_answer_rows()
+    ensures count { (key : List ℤ) (entries : List Entry) (row : List ℤ) → count_of (reduced Count key entries) row
+        ≡ (if not (int_eq (sum_of_counts entries) (pos 0)) && same_row (key ++ sum_of_counts entries ∷ []) row then pos 1 else pos 0) }
+    ensures distinct { (key : List ℤ) (entries : List Entry) (row : List ℤ) → count_of (reduced Distinct key entries) row
+        ≡ (if int_lt (pos 0) (count_of entries row) then pos 1 else pos 0) }
+    ensures least { (key : List ℤ) (entries : List Entry) (row : List ℤ) → (count_of (reduced Min key entries) row ≡ pos 1)
+        ↔ (IsTrue (int_lt (pos 0) (count_of entries row)) × ((other : List ℤ) → IsTrue (int_lt (pos 0) (count_of entries other)) → is_before other row ≡ false)) }
+    ensures greatest { (key : List ℤ) (entries : List Entry) (row : List ℤ) → (count_of (reduced Max key entries) row ≡ pos 1)
+        ↔ (IsTrue (int_lt (pos 0) (count_of entries row)) × ((other : List ℤ) → IsTrue (int_lt (pos 0) (count_of entries other)) → is_before row other ≡ false)) }
+    ensures once { (kind : Kind) (key : List ℤ) (entries : List Entry) (row : List ℤ)
+        → (count_of (reduced kind key entries) row ≡ pos 0) ⊎ (count_of (reduced kind key entries) row ≡ pos 1) }
 {}
 
 /// Alike bags give alike bags: at every node of every list of nodes, and, of a plan, wherever the inputs that feed the
@@ -50,13 +68,17 @@ pub fn keyed_operators_add_up()
 {}
 
 /// What every plan has: at most 256 nodes; sources with smaller numbers, none of which is a view; widths of 1 to 8
-/// columns, each found from the sources'; and no fault of any rule, by the widths of the whole plan.
+/// columns, each found from the sources'; no fault of any rule, by the widths of the whole plan; keys of at least one
+/// column; and sources of joins and reductions that are arranged by the key of the node.
 pub fn plans_are_in_order()
     ensures few { (p : List Node) → IsPlan p → length p ≤ 256 }
     ensures smaller { (p : List Node) → IsPlan p → (n port source : ℕ) → slice_get (sources (node_at p n)) port ≡ Some source → source < n }
     ensures readable { (p : List Node) → IsPlan p → (n port source : ℕ) → slice_get (sources (node_at p n)) port ≡ Some source → is_output (node_at p source) ≡ false }
     ensures faultless { (p : List Node) → IsPlan p → (n : ℕ) → n < length p → first_refusal (faults p (node_at p n)) ≡ None }
     ensures widths { (p : List Node) → IsPlan p → (n : ℕ) → n < length p → IsTrue (is_width (width_of p n)) }
+    ensures keys { (p : List Node) → IsPlan p → (n key : ℕ) → n < length p → arranged_by (node_at p n) ≡ Some key → (1 ≤ key) × (key ≤ width_of p n) }
+    ensures arranged { (p : List Node) → IsPlan p → (n port source : ℕ) → n < length p → is_linear (node_at p n) ≡ false
+        → slice_get (sources (node_at p n)) port ≡ Some source → arranged_by (node_at p source) ≡ Some (key_width p (node_at p n)) }
     ensures width { (p : List Node) → IsPlan p → (n : ℕ) → width_of p n ≡ width_from (key_width p (node_at p n)) (node_at p n) (width_of p) }
 {}
 

@@ -1,7 +1,11 @@
 //! The nodes of a plan: what each of them does, and which nodes it reads.
-ghost use Rattle.std.specs.Prelude.{◌≡◌};
+ghost use Rattle.std.specs.Prelude.{◌≡◌, slice_get};
+ghost use Rattle.plan.specs.Nodes.{sources, arranged_by};
+ghost use Rattle.plan.specs.Rules.{is_output};
+ghost use Rattle.plan.specs.Ancestors.{is_input};
 
-use row::{Item, Test};
+use crate::items::Items;
+use row::Test;
 use std::marker::Model;
 
 /// The number of a node in its plan, counted from 0 in the order in which nodes were added.
@@ -36,30 +40,6 @@ impl NodeId {
     }
 }
 
-/// What a map makes of each row: an item for each column. A contract sees the list.
-#[derive(Debug, Drop)]
-pub struct Items {
-    items: Vec<Item>,
-}
-
-impl Model for Items {
-    ghost use Rattle.std.specs.Prelude.{List};
-    ghost use Rattle.row.specs.declared.projection.Item.{Item};
-
-    ghost Value = { List Item };
-
-    ghost view = { λ i. i.items.items };
-}
-
-impl Items {
-    /// The items, in the order of the columns that they make.
-    pub fn as_slice(&self) -> &[Item]
-        ensures { result.now ≡ self.now }
-    {
-        self.items.as_slice()
-    }
-}
-
 /// Which reduction: what is answered for each key of its rows.
 #[derive(Clone, Copy, Debug, PartialEq, Eq, Hash)]
 pub enum Kind {
@@ -74,7 +54,7 @@ pub enum Kind {
 }
 
 /// What a node does, and with which nodes.
-#[derive(Debug, Drop)]
+#[derive(Clone, Debug, Drop, PartialEq, Eq)]
 pub enum Node {
     /// Rows of `width` columns, from outside.
     Input { width: usize },
@@ -94,4 +74,51 @@ pub enum Node {
     Reduce { kind: Kind, source: NodeId },
     /// A view.
     Output { source: NodeId },
+}
+
+impl Node {
+    /// The node that is read at a port, counted from 0: the left one at 0 and the right one at 1. None where the node has
+    /// no such port; an input has none at all. Takes no memory.
+    pub fn source(&self, port: usize) -> Option<NodeId>
+        ensures { result ≡ slice_get (sources self.now) port }
+    {
+        match (self, port) {
+            (
+                Node::Map { source, .. }
+                | Node::Filter { source, .. }
+                | Node::Negate { source }
+                | Node::Arrange { source, .. }
+                | Node::Reduce { source, .. }
+                | Node::Output { source },
+                0,
+            ) => Some(*source),
+            (Node::Concat { left, .. } | Node::Join { left, .. }, 0) => Some(*left),
+            (Node::Concat { right, .. } | Node::Join { right, .. }, 1) => Some(*right),
+            _ => None,
+        }
+    }
+
+    /// By how many columns the node arranges its rows; None where it is no arrange node. Takes no memory.
+    pub fn arranged_by(&self) -> Option<usize>
+        ensures { result ≡ arranged_by self.now }
+    {
+        match self {
+            Node::Arrange { key, .. } => Some(*key),
+            _ => None,
+        }
+    }
+
+    /// Whether rows come here from outside. Takes no memory.
+    pub fn is_input(&self) -> bool
+        ensures { result ≡ is_input self.now }
+    {
+        matches!(self, Node::Input { .. })
+    }
+
+    /// Whether this is a view. Takes no memory.
+    pub fn is_output(&self) -> bool
+        ensures { result ≡ is_output self.now }
+    {
+        matches!(self, Node::Output { .. })
+    }
 }

@@ -1,8 +1,31 @@
--- How a row is printed.
-use Rattle.std.specs.Prelude.{ℕ, List, ℤ, codes}
+-- How rows are printed, and what maps and filters say of them, in the words of a script.
+use Rattle.std.specs.Prelude.{ℕ, List, ◌++◌, ℤ, codes, decimal}
 use Rattle.std.specs.List.{join_by}
 use Rattle.std.specs.Fmt.{signed_decimal}
+use Rattle.row.specs.declared.projection.Item.{Item}
+use Rattle.row.specs.declared.projection.Item.TheVariants.{Column, Constant}
+use Rattle.row.specs.declared.testing.Cmp.{Cmp}
+use Rattle.row.specs.declared.testing.Cmp.TheVariants.{Eq, Ne, Lt, Le, Gt, Ge}
+use Rattle.row.specs.declared.testing.Test.{Test}
 
 -- the columns as decimal numbers, parted by one space
 abbrev pub row_text : List ℤ → List ℕ
 row_text row = join_by signed_decimal (codes " ") row
+
+-- a column's number behind a c, a constant behind an equals sign
+abbrev pub item_text : Item → List ℕ
+item_text (Column number) = codes "c" ++ decimal number
+item_text (Constant value) = codes "=" ++ signed_decimal value
+
+-- the word of a comparison
+abbrev pub cmp_text : Cmp → List ℕ
+cmp_text Eq = codes "eq"
+cmp_text Ne = codes "ne"
+cmp_text Lt = codes "lt"
+cmp_text Le = codes "le"
+cmp_text Gt = codes "gt"
+cmp_text Ge = codes "ge"
+
+-- both items with the comparison between them, parted by one space
+abbrev pub test_text : Test → List ℕ
+test_text test = item_text test.left ++ (codes " " ++ (cmp_text test.op ++ (codes " " ++ item_text test.right)))

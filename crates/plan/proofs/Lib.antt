@@ -1,0 +1,15 @@
+pub mod ChangeLemmas
+pub mod FedLemmas
+pub mod KeyLemmas
+pub mod OperatorLemmas
+pub mod PlanLemmas
+pub mod QueryLemmas
+pub mod ReducerLemmas
+pub mod ReductionLemmas
+pub mod RefusalLemmas
+pub mod StageLemmas
+pub mod StandLemmas
+pub mod StepLemmas
+pub mod UpwardLemmas
+pub mod WeighLemmas
+pub mod WidthLemmas

@@ -1,0 +1,18 @@
+use Rattle.plan.proofs.PlanLemmas.{plan_before_more}
+use Rattle.plan.proofs.StepLemmas.{width_before_more, query_before_more, above_before_more, weight_before_more}
+use Rattle.plan.proofs.laws.extensions_keep_plans.Goals as goal
+
+pub returns-clause-plan : goal.returns-clause-plan
+returns-clause-plan c = plan_before_more
+
+pub returns-clause-widths : goal.returns-clause-widths
+returns-clause-widths c = width_before_more
+
+pub returns-clause-queries : goal.returns-clause-queries
+returns-clause-queries c = query_before_more
+
+pub returns-clause-above : goal.returns-clause-above
+returns-clause-above c = above_before_more
+
+pub returns-clause-weights : goal.returns-clause-weights
+returns-clause-weights c = weight_before_more

@@ -1,0 +1,107 @@
+//! A finished plan.
+ghost use Rattle.std.specs.Prelude.{◌≡◌, ◌<◌, ◌≤◌, ◌++◌, [], ◌∷◌, None, length, IsTrue, IfOk, IfErr, OnErr};
+ghost use Rattle.update.specs.declared.refusal.Refusal.TheVariants.{OutOfMemory};
+ghost use Rattle.plan.specs.Nodes.{node_at, key_of, key_width};
+ghost use Rattle.plan.specs.Widths.{width_of};
+ghost use Rattle.plan.specs.Rules.{is_width, is_arranged, refusal_of};
+
+use crate::node::{Node, NodeId};
+use std::alloc::Global;
+use std::marker::Model;
+use update::Refusal;
+
+/// A node of a plan, and the width of its rows.
+#[derive(Debug, Drop)]
+pub(crate) struct Stage {
+    pub(crate) node: Node,
+    pub(crate) width: usize,
+}
+
+/// A query graph: nodes, each of which reads nodes with smaller numbers. A contract sees the list of its nodes, in the
+/// order of their numbers.
+#[derive(Debug, Drop)]
+pub struct Plan {
+    stages: Vec<Stage>,
+}
+
+impl Model for Plan {
+    ghost use Rattle.std.specs.Prelude.{List, map};
+    ghost use Rattle.plan.specs.Rules.{IsPlan};
+    ghost use Rattle.plan.specs.Stages.{AreStages, nodes_of};
+    ghost use Rattle.plan.specs.declared.node.Node.{Node};
+
+    ghost Value = { List Node };
+
+    ghost view = { λ p. nodes_of p.stages.items };
+
+    ghost invariant = { λ p. AreStages p.stages.items };
+}
+
+impl Plan {
+    /// The plan of no nodes. Takes no memory.
+    pub(crate) fn empty(alloc: Global) -> Plan
+        ensures { result ≡ [] }
+    {
+        Plan {
+            stages: Vec::new(alloc),
+        }
+    }
+
+    /// How many nodes there are: 256 at most. Takes no memory.
+    pub fn len(&self) -> usize
+        ensures len { result ≡ length self.now }
+        ensures few { length self.now ≤ 256 }
+    {
+        self.stages.len()
+    }
+
+    /// The node of a number. Takes no memory, and constant time.
+    pub fn node(&self, id: NodeId) -> &Node
+        requires { id < length self.now }
+        ensures { result.now ≡ node_at self.now id }
+    {
+        &self.stages[id.number()].node
+    }
+
+    /// How many columns the rows of a node have, 1 to 8. Takes no memory, and constant time.
+    pub fn width(&self, id: NodeId) -> usize
+        requires { id < length self.now }
+        ensures width { result ≡ width_of self.now id }
+        ensures few { IsTrue (is_width result) }
+    {
+        self.stages[id.number()].width
+    }
+
+    /// Whether the node is an arrange node. Takes no memory, and constant time.
+    pub fn is_arranged(&self, id: NodeId) -> bool
+        requires { id < length self.now }
+        ensures { result ≡ is_arranged self.now id }
+    {
+        self.node(id).arranged_by().is_some()
+    }
+
+    /// How many columns the key has by which the node is arranged, 1 to 8; 0 where it is no arrange node. Takes no memory,
+    /// and constant time.
+    pub fn key(&self, id: NodeId) -> usize
+        requires { id < length self.now }
+        ensures key { result ≡ key_of self.now id }
+        ensures few { result ≤ 8 }
+        ensures some { IsTrue (is_arranged self.now id) → 1 ≤ result }
+    {
+        let _ = &self.stages;
+        self.node(id).arranged_by().unwrap_or(0)
+    }
+
+    /// Adds a node that the rules accept; refused only for want of memory.
+    pub(crate) fn push(&mut self, node: Node) -> Result<NodeId, Refusal>
+        requires { refusal_of self.old node ≡ None }
+        ensures added { IfOk result (λ id. (id ≡ length self.old) × (self.new ≡ self.old ++ node ∷ [])) }
+        ensures refused { IfErr result (λ refusal. refusal ≡ OutOfMemory) }
+        ensures unchanged { OnErr result (self.new ≡ self.old) }
+    {
+        let id = NodeId::new(self.len());
+        let width = self.width_from(&node);
+        self.stages.push(Stage { node, width })?;
+        Ok(id)
+    }
+}

@@ -1,0 +1,194 @@
+//! The rules of plans: which node may come next. They are tested in the order in which they stand here, so that a node
+//! with several faults is always refused for the same one: first the number of nodes, then whether the sources are there,
+//! then what the kind of the node asks of them, left before right and the width of its own rows last.
+ghost use Rattle.std.specs.Prelude.{◌≡◌, ◌<◌, ◌≤◌, ◌+◌, ◌-◌, ℕ, not, Some, None, [], ◌∷◌, length, IsTrue, nat_lt};
+ghost use Rattle.std.specs.List.{list_all};
+ghost use Rattle.plan.specs.Nodes.{sources, key_of, key_width};
+ghost use Rattle.plan.specs.Widths.{width_of, width_from, reduced_width};
+ghost use Rattle.plan.specs.Rules.{is_width, is_readable, is_test_within, faults, first_refusal, refusal_of};
+ghost use Rattle.plan.specs.declared.node.Node.TheVariants.{Join, Reduce};
+ghost use Rattle.row.specs.Projection.{is_within};
+ghost use Rattle.update.specs.declared.refusal.Refusal.TheVariants.{BadWidth, BadColumn};
+
+use crate::node::{Kind, Node, NodeId};
+use crate::plan::Plan;
+use row::{Item, Test};
+use update::Refusal;
+
+/// How many nodes a plan has at most.
+pub const MAX_NODES: usize = 256;
+
+impl Plan {
+    /// What refuses the node as the next one, if anything does.
+    pub(crate) fn refusal_of(&self, node: &Node) -> Option<Refusal>
+        ensures { result ≡ refusal_of self.now node.now }
+    {
+        if self.len() >= MAX_NODES {
+            return Some(Refusal::TooManyNodes);
+        }
+        if !self.has_sources(node) {
+            return Some(Refusal::UnknownName);
+        }
+        self.fault_of(node)
+    }
+
+    // Whether the node's sources are there to be read.
+    fn has_sources(&self, node: &Node) -> bool
+        ensures { result ≡ list_all (is_readable self.now) (sources node.now) }
+    {
+        match (node.source(0), node.source(1)) {
+            (None, _) => true,
+            (Some(source), None) => self.is_readable(source),
+            (Some(left), Some(right)) => self.is_readable(left) && self.is_readable(right),
+        }
+    }
+
+    /// Whether there is such a node, and it is no view: whether another one may read it. Takes no memory.
+    pub fn is_readable(&self, id: NodeId) -> bool
+        ensures { result ≡ is_readable self.now id }
+    {
+        id.number() < self.len() && !self.node(id).is_output()
+    }
+
+    // What refuses a node whose sources are there.
+    fn fault_of(&self, node: &Node) -> Option<Refusal>
+        requires { IsTrue (list_all (is_readable self.now) (sources node.now)) }
+        ensures { result ≡ first_refusal (faults self.now node.now) }
+    {
+        match node {
+            Node::Input { width } => refused(!is_width(*width), Refusal::BadWidth),
+            Node::Map { source, items } => items_fault(items.as_slice(), self.width(*source)),
+            Node::Filter { source, test } => refused(
+                !is_test_within(test, self.width(*source)),
+                Refusal::BadColumn,
+            ),
+            Node::Concat { left, right } => refused(
+                self.width(*left) != self.width(*right),
+                Refusal::WidthMismatch,
+            ),
+            Node::Arrange { source, key } => {
+                refused(*key < 1 || *key > self.width(*source), Refusal::BadKey)
+            }
+            Node::Join { left, right } => self.join_fault(*left, *right),
+            Node::Reduce { kind, source } => self.reduce_fault(*kind, *source),
+            Node::Negate { .. } | Node::Output { .. } => None,
+        }
+    }
+
+    // What refuses a join of two nodes that are there.
+    fn join_fault(&self, left: NodeId, right: NodeId) -> Option<Refusal>
+        requires left { IsTrue (is_readable self.now left) }
+        requires right { IsTrue (is_readable self.now right) }
+        ensures { result ≡ first_refusal (faults self.now (Join left right)) }
+    {
+        if !self.is_arranged(left) || !self.is_arranged(right) {
+            return Some(Refusal::NotArranged);
+        }
+        let key = self.key(left);
+        let width = joined_width(key, self.width(left), self.width(right));
+        refused(key != self.key(right), Refusal::KeyMismatch)
+            .or(refused(!is_width(width), Refusal::BadWidth))
+    }
+
+    // What refuses a reduction of a node that is there.
+    fn reduce_fault(&self, kind: Kind, source: NodeId) -> Option<Refusal>
+        requires { IsTrue (is_readable self.now source) }
+        ensures { result ≡ first_refusal (faults self.now (Reduce kind source)) }
+    {
+        if !self.is_arranged(source) {
+            return Some(Refusal::NotArranged);
+        }
+        let width = reduced_width(kind, self.key(source), self.width(source));
+        refused(!is_width(width), Refusal::BadWidth)
+    }
+
+    /// How many columns the rows of a node have whose sources there are.
+    pub(crate) fn width_from(&self, node: &Node) -> usize
+        requires { IsTrue (list_all (is_readable self.now) (sources node.now)) }
+        ensures { result ≡ width_from (key_width self.now node.now) node.now (width_of self.now) }
+    {
+        match node {
+            Node::Input { width } => *width,
+            Node::Map { items, .. } => items.len(),
+            Node::Join { left, right } => {
+                joined_width(self.key(*left), self.width(*left), self.width(*right))
+            }
+            Node::Reduce { kind, source } => {
+                reduced_width(*kind, self.key(*source), self.width(*source))
+            }
+            Node::Concat { left: source, .. }
+            | Node::Filter { source, .. }
+            | Node::Negate { source }
+            | Node::Arrange { source, .. }
+            | Node::Output { source } => self.width(*source),
+        }
+    }
+}
+
+// The width of a pair: the key, and the rest of both rows.
+fn joined_width(key: usize, left: usize, right: usize) -> usize
+    requires key { key ≤ 8 }
+    requires left { left ≤ 8 }
+    requires right { right ≤ 8 }
+    ensures { result ≡ key + ((left - key) + (right - key)) }
+{
+    key + (left.saturating_sub(key) + right.saturating_sub(key))
+}
+
+// The width of a reduction's rows.
+fn reduced_width(kind: Kind, key: usize, width: usize) -> usize
+    requires { key ≤ 8 }
+    ensures { result ≡ reduced_width kind key width }
+{
+    match kind {
+        Kind::Count => key + 1,
+        Kind::Distinct | Kind::Min | Kind::Max => width,
+    }
+}
+
+// The refusal, where there is the fault.
+fn refused(fault: bool, refusal: Refusal) -> Option<Refusal>
+    ensures { result ≡ first_refusal ((fault, refusal) ∷ []) }
+{
+    if fault { Some(refusal) } else { None }
+}
+
+// Whether rows can have so many columns.
+fn is_width(width: usize) -> bool
+    ensures { result ≡ is_width width }
+{
+    1 <= width && width <= 8
+}
+
+// What refuses these items of a map of rows of that width.
+fn items_fault(items: &[Item], width: usize) -> Option<Refusal>
+    ensures { result ≡ first_refusal ((not (is_width (length items.now)), BadWidth)
+        ∷ (not (list_all (λ item. is_within item width) items.now), BadColumn) ∷ []) }
+{
+    refused(!is_width(items.len()), Refusal::BadWidth)
+        .or(refused(!are_within(items, width), Refusal::BadColumn))
+}
+
+// Whether rows of that width have the columns that the items name.
+fn are_within(items: &[Item], width: usize) -> bool
+    ensures { result ≡ list_all (λ item. is_within item width) items.now }
+{
+    items.iter().all(|item| is_within(*item, width))
+}
+
+// Whether rows of that width have the column that the item names, if it names one.
+fn is_within(item: Item, width: usize) -> bool
+    ensures { result ≡ is_within item width }
+{
+    match item {
+        Item::Column(number) => number < width,
+        Item::Constant(_) => true,
+    }
+}
+
+// Whether rows of that width have the columns that the test names.
+fn is_test_within(test: &Test, width: usize) -> bool
+    ensures { result ≡ is_test_within test.now width }
+{
+    is_within(test.left, width) && is_within(test.right, width)
+}
