@@ -1,5 +1,5 @@
 -- Width, query, ancestors and weight of a plan's nodes: each is found from the sources, and stays when the plan goes on.
-use Rattle.std.proofs.Common.{◌≡◌, ℕ, suc, ◌+◌, ◌-◌, ◌<◌, Bool, false, ◌||◌, eqb, ◌⊎◌, inl, inr, ⊎_elim, Option, Some, None, List, [], ◌∷◌, ◌++◌, length, slice_get, unwrap_or, refl, ap, ap₂, sym, ◌∙◌, arith}
+use Rattle.std.proofs.Common.{◌≡◌, ℕ, suc, ◌+◌, ◌-◌, ◌<◌, Bool, false, ◌||◌, eqb, ◌⊎◌, inl, inr, ⊎_elim, Option, Some, None, List, [], ◌∷◌, ◌++◌, length, slice_get, unwrap_or, option_map, refl, ap, ap₂, sym, ◌∙◌, arith}
 use Rattle.std.specs.List.{list_any}
 use Rattle.update.specs.Bags.{Entry}
 use Rattle.plan.specs.Nodes.{node_at, sources, key_of, key_width, arranged_by}
@@ -89,15 +89,15 @@ module _ (p : List Node) (plan : IsPlan p) where
 
 -- a plan that goes on
 module _ (p more : List Node) (plan : IsPlan p) where
-  -- the keys stay: a node's first source, or node 0 where it has none, is one that the plan had
+  -- the keys stay: a node's first source is one that the plan had
   pub key_width_before_more : (n : ℕ) → n < length p → key_width (p ++ more) (node_at p n) ≡ key_width p (node_at p n)
   key_width_before_more n l = first (slice_get (sources (node_at p n)) 0) refl
     where
       key_before_more : (s : ℕ) → s < length p → key_of (p ++ more) s ≡ key_of p s
       key_before_more s j = ap (λ node. unwrap_or (arranged_by node) 0) (node_before_more p more s j)
 
-      first : (o : Option ℕ) → slice_get (sources (node_at p n)) 0 ≡ o → key_of (p ++ more) (unwrap_or o 0) ≡ key_of p (unwrap_or o 0)
-      first None e = key_before_more 0 (omega arith)
+      first : (o : Option ℕ) → slice_get (sources (node_at p n)) 0 ≡ o → unwrap_or (option_map (key_of (p ++ more)) o) 0 ≡ unwrap_or (option_map (key_of p) o) 0
+      first None e = refl
       first (Some s) e = key_before_more s (let i = smaller p plan (length p) n 0 s l e in omega arith)
 
   -- steps that look at the sources alone, and are the same at the nodes of both
@@ -143,6 +143,6 @@ module _ (p : List Node) (node : Node) (plan : IsPlan p) (unrefused : refusal_of
 
       same_key : (s : ℕ) → slice_get (sources node) 0 ≡ Some s → key_width q node ≡ key_width p node
       same_key s e =
-          ap (λ o. key_of q (unwrap_or o 0)) e
+          ap (λ o. unwrap_or (option_map (key_of q) o) 0) e
           ∙ ap (λ m. unwrap_or (arranged_by m) 0) (node_before_more p (node ∷ []) s (source_before 0 s e))
-          ∙ sym (ap (λ o. key_of p (unwrap_or o 0)) e)
+          ∙ sym (ap (λ o. unwrap_or (option_map (key_of p) o) 0) e)
