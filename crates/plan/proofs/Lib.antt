@@ -1,4 +1,6 @@
+pub mod AnswerLemmas
 pub mod ChangeLemmas
+pub mod EdgeLemmas
 pub mod FedLemmas
 pub mod KeyLemmas
 pub mod OperatorLemmas

@@ -79,10 +79,10 @@ each_once_has (first ∷ rows) row m =
     ] refl
 
 -- the rows that count, each once, are just those
-present_counts : (entries : List Entry) (row : List ℤ) → Among row (present entries) → is_present entries row ≡ true
+pub present_counts : (entries : List Entry) (row : List ℤ) → Among row (present entries) → is_present entries row ≡ true
 present_counts entries row m = (filter_has (is_present entries) (map (λ e. e.row) entries) row (each_once_among (filter (is_present entries) (map (λ e. e.row) entries)) row m)).1
 
-counts_present : (entries : List Entry) (row : List ℤ) → is_present entries row ≡ true → Among row (present entries)
+pub counts_present : (entries : List Entry) (row : List ℤ) → is_present entries row ≡ true → Among row (present entries)
 counts_present entries row h = each_once_has (filter (is_present entries) (map (λ e. e.row) entries)) row (filter_takes (is_present entries) (map (λ e. e.row) entries) row (present_among entries row h) h)
 
 present_alike : (a b : List Entry) → Alike a b → (row : List ℤ) → Among row (present a) → Among row (present b)
@@ -94,7 +94,7 @@ absent_elsewhere k key row entries d = ap (int_lt (pos 0)) (count_of-filter (λ 
 
 -- ---- the distinct rows
 
-count_present : (entries : List Entry) (row : List ℤ) → count_of (map single (present entries)) row ≡ cond (is_present entries row) (pos 1) (pos 0)
+pub count_present : (entries : List Entry) (row : List ℤ) → count_of (map single (present entries)) row ≡ cond (is_present entries row) (pos 1) (pos 0)
 count_present entries row =
     total_by-map (λ e. cond (same_row e.row row) e.count (pos 0)) single (present entries)
     ∙ (total_by-once (λ r. cond (same_row r row) (pos 1) (pos 0)) row (filter (is_present entries) (map (λ e. e.row) entries)) (λ r m d. ap (λ b. cond b (pos 1) (pos 0)) d)
@@ -111,7 +111,7 @@ distinct_reduces k = record {
 
 module _ (keep : List (List ℤ) → List ℤ → Bool) where
   -- keep is a test of a row beside all of them
-  count_kept : (entries : List Entry) (row : List ℤ) → count_of (map single (filter (keep (present entries)) (present entries))) row ≡ cond (is_present entries row) (cond (keep (present entries) row) (pos 1) (pos 0)) (pos 0)
+  pub count_kept : (entries : List Entry) (row : List ℤ) → count_of (map single (filter (keep (present entries)) (present entries))) row ≡ cond (is_present entries row) (cond (keep (present entries) row) (pos 1) (pos 0)) (pos 0)
   count_kept entries row =
       total_by-map (λ e. cond (same_row e.row row) e.count (pos 0)) single (filter (keep (present entries)) (present entries))
       ∙ (total_by-filter (λ r. cond (same_row r row) (pos 1) (pos 0)) (keep (present entries)) (present entries)

@@ -15,3 +15,4 @@ pub mod Changes
 pub mod Weights
 pub mod Stages
 pub mod Text
+pub mod Edges

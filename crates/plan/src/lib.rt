@@ -3,6 +3,7 @@
 
 mod builder;
 mod differences;
+mod edges;
 mod items;
 mod laws;
 mod node;
@@ -12,6 +13,7 @@ mod text;
 
 pub use builder::PlanBuilder;
 pub use differences::{differences_are_one_list, weights_are_determined};
+pub use edges::Edge;
 pub use items::Items;
 pub use laws::{
     extensions_keep_plans, keyed_operators_add_up, linear_operators_add_up, nodes_stand_on_their_sources,

@@ -3,7 +3,7 @@ ghost use Rattle.std.specs.Prelude.{◌≡◌, ◌<◌, ◌≤◌, ◌++◌, [],
 ghost use Rattle.update.specs.declared.refusal.Refusal.TheVariants.{OutOfMemory};
 ghost use Rattle.plan.specs.Nodes.{node_at, key_of, key_width};
 ghost use Rattle.plan.specs.Widths.{width_of};
-ghost use Rattle.plan.specs.Rules.{is_width, is_arranged, refusal_of};
+ghost use Rattle.plan.specs.Rules.{IsPlan, is_width, is_arranged, refusal_of};
 
 use crate::node::{Node, NodeId};
 use std::alloc::Global;
@@ -51,6 +51,7 @@ impl Plan {
     pub fn len(&self) -> usize
         ensures len { result ≡ length self.now }
         ensures few { length self.now ≤ 256 }
+        ensures plan { IsPlan self.now }
     {
         self.stages.len()
     }

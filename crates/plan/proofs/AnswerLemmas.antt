@@ -1,0 +1,92 @@
+-- What each reduction answers, row by row, found from how often the rows count.
+use Rattle.std.proofs.Common.{◌≡◌, Bool, true, false, cond, not, IsTrue, List, [], ◌∷◌, ◌++◌, map, refl, ap, sym, ◌∙◌, ◌⊎◌, inl, inr, ◌↔◌}
+use Rattle.std.specs.Prelude.{ℤ, pos, int_lt}
+use Rattle.std.specs.List.{filter, list_any}
+use Rattle.std.specs.Ordering.{int_eq}
+use Rattle.std.proofs.lemmas.Bool.{true≢false, false_from_ne_true}
+use Rattle.update.specs.Bags.{Entry, count_of, same_row}
+use Rattle.plan.specs.Reductions.{single, is_present, present, is_before, sum_of_counts, counted, reduced}
+use Rattle.plan.specs.declared.node.Kind.{Kind}
+use Rattle.plan.specs.declared.node.Kind.TheVariants.{Count, Distinct, Min, Max}
+use Rattle.plan.proofs.ReductionLemmas.{any_at, any_none}
+use Rattle.plan.proofs.ReducerLemmas.{present_counts, counts_present, count_present, count_kept}
+
+-- ---- one where both tests hold, 0 elsewhere
+
+zero_or_one : (b c : Bool) (n : ℤ) → n ≡ cond b (cond c (pos 1) (pos 0)) (pos 0) → (n ≡ pos 0) ⊎ (n ≡ pos 1)
+zero_or_one true true n h = inr h
+zero_or_one true false n h = inl h
+zero_or_one false c n h = inl h
+
+one_both : (b c : Bool) → cond b (cond c (pos 1) (pos 0)) (pos 0) ≡ pos 1 → IsTrue b × IsTrue c
+one_both true true h = (refl, refl)
+one_both true false h = absurd (true≢false (sym (ap (int_lt (pos 0)) h)))
+one_both false c h = absurd (true≢false (sym (ap (int_lt (pos 0)) h)))
+
+-- ---- the rows that stand out among those that count
+
+module _ (beats : List ℤ → List ℤ → Bool) where
+  -- no row of the list beats it
+  abbrev is_unbeaten : List (List ℤ) → List ℤ → Bool
+  is_unbeaten rows row = not (list_any (λ other. beats other row) rows)
+
+  -- how often the row is among the rows that count and that no row that counts beats
+  abbrev times_answered : List Entry → List ℤ → ℤ
+  times_answered entries row = count_of (map single (filter (is_unbeaten (present entries)) (present entries))) row
+
+  -- a row that beats another and counts is among the rows that the other is held against
+  unbeaten_by : (entries : List Entry) (row : List ℤ) → is_unbeaten (present entries) row ≡ true → (other : List ℤ) → IsTrue (is_present entries other) → beats other row ≡ false
+  unbeaten_by entries row u other h =
+      false_from_ne_true (beats other row) (λ e.
+        true≢false (sym u ∙ ap not (any_at (λ r. beats r row) (present entries) other (counts_present entries other h) e)))
+
+  unbeaten_from : (entries : List Entry) (row : List ℤ) → ((other : List ℤ) → IsTrue (is_present entries other) → beats other row ≡ false) → is_unbeaten (present entries) row ≡ true
+  unbeaten_from entries row h = ap not (any_none (λ r. beats r row) (present entries) (λ r m. h r (present_counts entries r m)))
+
+  -- what is answered is a row that counts and that no row that counts beats
+  unbeaten_answered : (entries : List Entry) (row : List ℤ) → (times_answered entries row ≡ pos 1)
+    ↔ (IsTrue (is_present entries row) × ((other : List ℤ) → IsTrue (is_present entries other) → beats other row ≡ false))
+  unbeaten_answered entries row = (there, back)
+    where
+      there : times_answered entries row ≡ pos 1 → IsTrue (is_present entries row) × ((other : List ℤ) → IsTrue (is_present entries other) → beats other row ≡ false)
+      there h =
+          let both = one_both (is_present entries row) (is_unbeaten (present entries) row) (sym (count_kept is_unbeaten entries row) ∙ h) in
+          (both.0, unbeaten_by entries row both.1)
+
+      back : IsTrue (is_present entries row) × ((other : List ℤ) → IsTrue (is_present entries other) → beats other row ≡ false) → times_answered entries row ≡ pos 1
+      back h = count_kept is_unbeaten entries row ∙ rw (h.0, unbeaten_from entries row h.1) refl
+
+  unbeaten_once : (entries : List Entry) (row : List ℤ)
+    → (times_answered entries row ≡ pos 0) ⊎ (times_answered entries row ≡ pos 1)
+  unbeaten_once entries row = zero_or_one (is_present entries row) (is_unbeaten (present entries) row) (times_answered entries row) (count_kept is_unbeaten entries row)
+
+-- ---- each kind
+
+pub distinct_answered : (key : List ℤ) (entries : List Entry) (row : List ℤ) → count_of (reduced Distinct key entries) row ≡ cond (is_present entries row) (pos 1) (pos 0)
+distinct_answered key entries row = count_present entries row
+
+pub least_answered : (key : List ℤ) (entries : List Entry) (row : List ℤ) → (count_of (reduced Min key entries) row ≡ pos 1)
+  ↔ (IsTrue (is_present entries row) × ((other : List ℤ) → IsTrue (is_present entries other) → is_before other row ≡ false))
+least_answered key entries row = unbeaten_answered is_before entries row
+
+pub greatest_answered : (key : List ℤ) (entries : List Entry) (row : List ℤ) → (count_of (reduced Max key entries) row ≡ pos 1)
+  ↔ (IsTrue (is_present entries row) × ((other : List ℤ) → IsTrue (is_present entries other) → is_before row other ≡ false))
+greatest_answered key entries row = unbeaten_answered (λ other row. is_before row other) entries row
+
+counted_once : (key row : List ℤ) (n : ℤ) → (count_of (counted key n) row ≡ pos 0) ⊎ (count_of (counted key n) row ≡ pos 1)
+counted_once key row n =
+    elim (int_eq n (pos 0)) as (λ b. (count_of (cond b [] (single (key ++ n ∷ []) ∷ [])) row ≡ pos 0) ⊎ (count_of (cond b [] (single (key ++ n ∷ []) ∷ [])) row ≡ pos 1)) [
+      | true ↦ inl refl
+      | false ↦ one_row (same_row (key ++ n ∷ []) row) refl
+    ]
+  where
+    one_row : (b : Bool) → same_row (key ++ n ∷ []) row ≡ b → (count_of (single (key ++ n ∷ []) ∷ []) row ≡ pos 0) ⊎ (count_of (single (key ++ n ∷ []) ∷ []) row ≡ pos 1)
+    one_row true e = inr (rw e refl)
+    one_row false e = inl (rw e refl)
+
+-- no row is answered more than once
+pub answered_once : (kind : Kind) (key : List ℤ) (entries : List Entry) (row : List ℤ) → (count_of (reduced kind key entries) row ≡ pos 0) ⊎ (count_of (reduced kind key entries) row ≡ pos 1)
+answered_once Count key entries row = counted_once key row (sum_of_counts entries)
+answered_once Distinct key entries row = zero_or_one (is_present entries row) true (count_of (map single (present entries)) row) (count_present entries row)
+answered_once Min key entries row = unbeaten_once is_before entries row
+answered_once Max key entries row = unbeaten_once (λ other row. is_before row other) entries row

@@ -1,0 +1,118 @@
+//! What a plan tells of its graph: who reads a node, what stands above it, where rows come in and where views are. A plan
+//! has 256 nodes at most, so nothing of it is kept beside the nodes: each question goes once over the nodes.
+ghost use Rattle.std.specs.Prelude.{◌≡◌, ◌<◌, ◌++◌, false, length, get_or, IfOk, IfErr, OnErr};
+ghost use Rattle.std.specs.List.{filter, list_any};
+ghost use Rattle.plan.specs.Nodes.{sources};
+ghost use Rattle.plan.specs.Rules.{is_output};
+ghost use Rattle.plan.specs.Ancestors.{is_above, is_input};
+ghost use Rattle.plan.specs.Edges.{edges_from, leads_from, ports_of, numbers_where, is_marked};
+ghost use Rattle.update.specs.declared.refusal.Refusal.TheVariants.{OutOfMemory};
+
+use crate::node::{Node, NodeId};
+use crate::plan::Plan;
+use crate::rules::MAX_NODES;
+use std::alloc::Global;
+use update::Refusal;
+
+/// An edge of a plan, named by its end: the node that reads, and the port at which it reads, counted from 0.
+#[derive(Clone, Copy, Debug, PartialEq, Eq, Hash)]
+pub struct Edge {
+    pub reader: NodeId,
+    pub port: usize,
+}
+
+impl Plan {
+    /// The edges that lead from a node, in the order of their readers and then of their ports. A node that reads it at
+    /// both ports has two. Refused only for want of memory.
+    ///
+    /// Cost: linear in the plan.
+    pub fn edges_from(&self, alloc: Global, id: NodeId) -> Result<Vec<Edge>, Refusal>
+        ensures edges { IfOk result (λ edges. edges.items ≡ edges_from self.now id) }
+        ensures refused { IfErr result (λ refusal. refusal ≡ OutOfMemory) }
+    {
+        let mut edges = Vec::new(alloc);
+        for n in 0..self.len() {
+            self.push_edges(&mut edges, id, NodeId::new(n))?;
+        }
+        Ok(edges)
+    }
+
+    // Adds the edges between two nodes.
+    fn push_edges(&self, edges: &mut Vec<Edge>, id: NodeId, reader: NodeId) -> Result<(), Refusal>
+        requires { reader < length self.now }
+        ensures edges { IfOk result (λ _. edges.new.items ≡ edges.old.items ++ filter (leads_from self.now id) (ports_of reader)) }
+        ensures refused { IfErr result (λ refusal. refusal ≡ OutOfMemory) }
+    {
+        if self.node(reader).source(0) == Some(id) {
+            edges.push(Edge { reader, port: 0 })?;
+        }
+        if self.node(reader).source(1) == Some(id) {
+            edges.push(Edge { reader, port: 1 })?;
+        }
+        Ok(())
+    }
+
+    /// The inputs, in the order of their numbers. Refused only for want of memory.
+    ///
+    /// Cost: linear in the plan.
+    pub fn inputs(&self, alloc: Global) -> Result<Vec<NodeId>, Refusal>
+        ensures inputs { IfOk result (λ ids. ids.items ≡ numbers_where is_input self.now) }
+        ensures refused { IfErr result (λ refusal. refusal ≡ OutOfMemory) }
+    {
+        let mut ids = Vec::new(alloc);
+        for n in 0..self.len() {
+            if self.node(NodeId::new(n)).is_input() {
+                ids.push(NodeId::new(n))?;
+            }
+        }
+        Ok(ids)
+    }
+
+    /// The views, in the order of their numbers. Refused only for want of memory.
+    ///
+    /// Cost: linear in the plan.
+    pub fn views(&self, alloc: Global) -> Result<Vec<NodeId>, Refusal>
+        ensures views { IfOk result (λ ids. ids.items ≡ numbers_where is_output self.now) }
+        ensures refused { IfErr result (λ refusal. refusal ≡ OutOfMemory) }
+    {
+        let mut ids = Vec::new(alloc);
+        for n in 0..self.len() {
+            if self.node(NodeId::new(n)).is_output() {
+                ids.push(NodeId::new(n))?;
+            }
+        }
+        Ok(ids)
+    }
+
+    /// Whether the one node is the other or an ancestor of it. Takes no memory.
+    ///
+    /// Cost: linear in the plan.
+    pub fn is_above(&self, above: NodeId, id: NodeId) -> bool
+        requires { id < length self.now }
+        ensures { result ≡ is_above self.now above id }
+    {
+        let mut marks = [false; MAX_NODES];
+        for n in 0..self.len() {
+            let node = self.node(NodeId::new(n));
+            marks[n] = (above.number() == n) | reads_marked(node, &marks);
+        }
+        marks[id.number()]
+    }
+}
+
+// Whether some source of the node is marked.
+fn reads_marked(node: &Node, marks: &[bool]) -> bool
+    ensures { result ≡ list_any (λ source. get_or marks.now source false) (sources node.now) }
+{
+    is_marked(node.source(0), marks) || is_marked(node.source(1), marks)
+}
+
+// Whether there is such a node, and it is marked.
+fn is_marked(id: Option<NodeId>, marks: &[bool]) -> bool
+    ensures { result ≡ is_marked marks.now id }
+{
+    match id {
+        Some(id) => id.number() < marks.len() && marks[id.number()],
+        None => false,
+    }
+}
