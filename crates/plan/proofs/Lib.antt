@@ -9,6 +9,7 @@ pub mod QueryLemmas
 pub mod ReducerLemmas
 pub mod ReductionLemmas
 pub mod RefusalLemmas
+pub mod SameLemmas
 pub mod StageLemmas
 pub mod StandLemmas
 pub mod StepLemmas

@@ -16,3 +16,4 @@ pub mod Weights
 pub mod Stages
 pub mod Text
 pub mod Edges
+pub mod NodeEquality

@@ -1,8 +1,9 @@
 //! The nodes of a plan: what each of them does, and which nodes it reads.
-ghost use Rattle.std.specs.Prelude.{◌≡◌, slice_get};
+ghost use Rattle.std.specs.Prelude.{◌≡◌, ◌↔◌, slice_get, IsTrue};
 ghost use Rattle.plan.specs.Nodes.{sources, arranged_by};
 ghost use Rattle.plan.specs.Rules.{is_output};
 ghost use Rattle.plan.specs.Ancestors.{is_input};
+ghost use Rattle.plan.specs.NodeEquality.{same_node};
 
 use crate::items::Items;
 use row::Test;
@@ -54,7 +55,7 @@ pub enum Kind {
 }
 
 /// What a node does, and with which nodes.
-#[derive(Clone, Debug, Drop, PartialEq, Eq)]
+#[derive(Clone, Debug, Drop)]
 pub enum Node {
     /// Rows of `width` columns, from outside.
     Input { width: usize },
@@ -120,5 +121,56 @@ impl Node {
         ensures { result ≡ is_output self.now }
     {
         matches!(self, Node::Output { .. })
+    }
+}
+
+/// Nodes of one sort with the same sources and parameters are equal.
+impl PartialEq for Node {
+    ghost use Rattle.std.specs.Cmp.{partial_equiv_from_equiv};
+    ghost use Rattle.plan.specs.NodeEquality.{same_node, nodes_equivalence};
+
+    ghost eq = { same_node };
+
+    ghost laws = { partial_equiv_from_equiv nodes_equivalence };
+
+    fn eq(&self, other: &Node) -> bool
+        ensures value { result ≡ same_node self.now other.now }
+        ensures same { IsTrue result ↔ (self.now ≡ other.now) }
+    {
+        is_same(self, other)
+    }
+}
+
+impl Eq for Node {
+    ghost use Rattle.plan.specs.NodeEquality.{nodes_equivalence};
+
+    ghost laws = { nodes_equivalence };
+}
+
+// Whether both are of one sort and have the same sources and parameters.
+fn is_same(node: &Node, other: &Node) -> bool
+    ensures { result ≡ same_node node.now other.now }
+{
+    match (node, other) {
+        (Node::Input { width }, Node::Input { width: other }) => width == other,
+        (Node::Map { source, items }, Node::Map { source: other, items: others }) => {
+            source == other && items == others
+        }
+        (Node::Filter { source, test }, Node::Filter { source: other, test: others }) => {
+            source == other && test == others
+        }
+        (Node::Concat { left, right }, Node::Concat { left: other, right: another })
+        | (Node::Join { left, right }, Node::Join { left: other, right: another }) => {
+            left == other && right == another
+        }
+        (Node::Negate { source }, Node::Negate { source: other })
+        | (Node::Output { source }, Node::Output { source: other }) => source == other,
+        (Node::Arrange { source, key }, Node::Arrange { source: other, key: others }) => {
+            source == other && key == others
+        }
+        (Node::Reduce { kind, source }, Node::Reduce { kind: others, source: other }) => {
+            source == other && kind == others
+        }
+        _ => false,
     }
 }

@@ -1,12 +1,12 @@
 //! A finished plan.
-ghost use Rattle.std.specs.Prelude.{◌≡◌, ◌<◌, ◌≤◌, ◌++◌, [], ◌∷◌, None, length, IsTrue, IfOk, IfErr, OnErr};
+ghost use Rattle.std.specs.Prelude.{◌≡◌, ◌<◌, ◌≤◌, ◌↔◌, ◌++◌, [], ◌∷◌, None, length, IsTrue, IfOk, IfErr, OnErr};
 ghost use Rattle.update.specs.declared.refusal.Refusal.TheVariants.{OutOfMemory};
 ghost use Rattle.plan.specs.Nodes.{node_at, key_of, key_width};
 ghost use Rattle.plan.specs.Widths.{width_of};
 ghost use Rattle.plan.specs.Rules.{IsPlan, is_width, is_arranged, refusal_of};
 
 use crate::node::{Node, NodeId};
-use std::alloc::Global;
+use std::alloc::{AllocError, Global};
 use std::marker::Model;
 use update::Refusal;
 
@@ -105,4 +105,62 @@ impl Plan {
         self.stages.push(Stage { node, width })?;
         Ok(id)
     }
+}
+
+/// A copy. Refused only where memory is; that of no nodes never.
+impl Clone for Plan {
+    ghost use Rattle.std.specs.Prelude.{◌≡◌, []};
+
+    ghost is_clone = { λ a b. b ≡ a };
+
+    ghost is_infallible = { λ a. a ≡ [] };
+
+    fn clone(&self) -> Result<Plan, AllocError> {
+        let mut stages = Vec::with_capacity(*self.stages.allocator(), self.stages.len())?;
+        for stage in &self.stages {
+            let node = stage.node.clone()?;
+            let width = stage.width;
+            stages.push(Stage { node, width })?;
+        }
+        Ok(Plan { stages })
+    }
+}
+
+/// Plans of the same nodes are equal.
+impl PartialEq for Plan {
+    ghost use Rattle.std.specs.Cmp.{partial_equiv_from_equiv};
+    ghost use Rattle.plan.specs.NodeEquality.{same_plan, plans_equivalence};
+
+    ghost eq = { same_plan };
+
+    ghost laws = { partial_equiv_from_equiv plans_equivalence };
+
+    fn eq(&self, other: &Plan) -> bool
+        ensures value { result ≡ same_plan self.now other.now }
+        ensures same { IsTrue result ↔ (self.now ≡ other.now) }
+    {
+        are_same(self, other)
+    }
+}
+
+impl Eq for Plan {
+    ghost use Rattle.plan.specs.NodeEquality.{plans_equivalence};
+
+    ghost laws = { plans_equivalence };
+}
+
+// Whether both have the same nodes.
+fn are_same(plan: &Plan, other: &Plan) -> bool
+    ensures { IsTrue result ↔ (plan.now ≡ other.now) }
+{
+    if plan.len() != other.len() {
+        return false;
+    }
+    for n in 0..plan.len() {
+        let id = NodeId::new(n);
+        if plan.node(id) != other.node(id) {
+            return false;
+        }
+    }
+    true
 }

@@ -1,0 +1,152 @@
+-- Equality of nodes and plans, as tests. Nodes are told apart by their parts: a number for the sort of node, the other
+-- numbers that it has, and its items.
+use Rattle.std.specs.Prelude.{◌≡◌, ℕ, zero, suc, Bool, true, false, ◌&&◌, List, [], ◌∷◌, eqb, get_or, pos}
+use Rattle.std.proofs.Common.{ap, refl, sym, ◌∙◌}
+use Rattle.std.proofs.lemmas.Bool.{and_parts, and_from, eqb-true, eq-eqb}
+use Rattle.std.specs.Bool.{Decides}
+use Rattle.std.specs.Cmp.{IsEquivalence, decided}
+use Rattle.std.specs.Cmp.Lexicographic.{pointwise, pointwise_decides}
+use Rattle.row.specs.declared.projection.Item.{Item}
+use Rattle.row.specs.declared.projection.Item.TheVariants.{Constant}
+use Rattle.row.specs.declared.testing.Cmp.{Cmp}
+use Rattle.row.specs.declared.testing.Cmp.TheVariants.{Eq, Ne, Lt, Le, Gt, Ge}
+use Rattle.row.specs.declared.testing.Test.{Test}
+use Rattle.plan.specs.Equality.{same_items, items_decide}
+use Rattle.plan.specs.declared.node.Kind.{Kind}
+use Rattle.plan.specs.declared.node.Kind.TheVariants.{Count, Distinct, Min, Max}
+use Rattle.plan.specs.declared.node.Node.{Node}
+use Rattle.plan.specs.declared.node.Node.TheVariants.{Input, Map, Filter, Concat, Negate, Arrange, Join, Reduce, Output}
+
+abbrev pub cmp_number : Cmp → ℕ
+cmp_number Eq = 0
+cmp_number Ne = 1
+cmp_number Lt = 2
+cmp_number Le = 3
+cmp_number Gt = 4
+cmp_number Ge = 5
+
+abbrev pub kind_number : Kind → ℕ
+kind_number Count = 0
+kind_number Distinct = 1
+kind_number Min = 2
+kind_number Max = 3
+
+-- what a node is made of
+pub record Parts : Type 0 where
+  pub sort : ℕ
+  pub numbers : List ℕ
+  pub items : List Item
+
+abbrev pub parts_of : Node → Parts
+parts_of (Input width) = record { sort = 0; numbers = width ∷ []; items = [] }
+parts_of (Map source items) = record { sort = 1; numbers = source ∷ []; items = items }
+parts_of (Filter source test) = record { sort = 2; numbers = source ∷ cmp_number test.op ∷ []; items = test.left ∷ test.right ∷ [] }
+parts_of (Concat left right) = record { sort = 3; numbers = left ∷ right ∷ []; items = [] }
+parts_of (Negate source) = record { sort = 4; numbers = source ∷ []; items = [] }
+parts_of (Arrange source key) = record { sort = 5; numbers = source ∷ key ∷ []; items = [] }
+parts_of (Join left right) = record { sort = 6; numbers = left ∷ right ∷ []; items = [] }
+parts_of (Reduce kind source) = record { sort = 7; numbers = source ∷ kind_number kind ∷ []; items = [] }
+parts_of (Output source) = record { sort = 8; numbers = source ∷ []; items = [] }
+
+-- the nodes are of one sort and have the same numbers and items
+abbrev pub same_node : Node → Node → Bool
+same_node node other = eqb (parts_of node).sort (parts_of other).sort && (pointwise eqb (parts_of node).numbers (parts_of other).numbers && same_items (parts_of node).items (parts_of other).items)
+
+-- the plans have the same nodes
+abbrev pub same_plan : List Node → List Node → Bool
+same_plan = pointwise same_node
+
+-- a node is found again from its parts, so it is told apart by them
+cmp_from : ℕ → Cmp
+cmp_from zero = Eq
+cmp_from (suc zero) = Ne
+cmp_from (suc (suc zero)) = Lt
+cmp_from (suc (suc (suc zero))) = Le
+cmp_from (suc (suc (suc (suc zero)))) = Gt
+cmp_from (suc (suc (suc (suc (suc sort))))) = Ge
+
+kind_from : ℕ → Kind
+kind_from zero = Count
+kind_from (suc zero) = Distinct
+kind_from (suc (suc zero)) = Min
+kind_from (suc (suc (suc sort))) = Max
+
+test_from : ℕ → List Item → Test
+test_from n (left ∷ right ∷ items) = record { left = left; op = cmp_from n; right = right }
+test_from n (left ∷ []) = record { left = left; op = cmp_from n; right = left }
+test_from n [] = record { left = Constant (pos 0); op = cmp_from n; right = Constant (pos 0) }
+
+node_from : ℕ → ℕ → ℕ → List Item → Node
+node_from zero a b items = Input a
+node_from (suc zero) a b items = Map a items
+node_from (suc (suc zero)) a b items = Filter a (test_from b items)
+node_from (suc (suc (suc zero))) a b items = Concat a b
+node_from (suc (suc (suc (suc zero)))) a b items = Negate a
+node_from (suc (suc (suc (suc (suc zero))))) a b items = Arrange a b
+node_from (suc (suc (suc (suc (suc (suc zero)))))) a b items = Join a b
+node_from (suc (suc (suc (suc (suc (suc (suc zero))))))) a b items = Reduce (kind_from b) a
+node_from (suc (suc (suc (suc (suc (suc (suc (suc sort)))))))) a b items = Output a
+
+from_parts : Parts → Node
+from_parts parts = node_from parts.sort (get_or parts.numbers 0 0) (get_or parts.numbers 1 0) parts.items
+
+same_cmp_from : (cmp : Cmp) → cmp_from (cmp_number cmp) ≡ cmp
+unfolding cmp_from
+same_cmp_from Eq = refl
+same_cmp_from Ne = refl
+same_cmp_from Lt = refl
+same_cmp_from Le = refl
+same_cmp_from Gt = refl
+same_cmp_from Ge = refl
+
+same_kind_from : (kind : Kind) → kind_from (kind_number kind) ≡ kind
+unfolding kind_from
+same_kind_from Count = refl
+same_kind_from Distinct = refl
+same_kind_from Min = refl
+same_kind_from Max = refl
+
+found_again : (node : Node) → from_parts (parts_of node) ≡ node
+unfolding from_parts node_from test_from
+found_again (Input width) = refl
+found_again (Map source items) = refl
+found_again (Filter source test) = ap (λ op. Filter source (record { left = test.left; op = op; right = test.right })) (same_cmp_from test.op)
+found_again (Concat left right) = refl
+found_again (Negate source) = refl
+found_again (Arrange source key) = refl
+found_again (Join left right) = refl
+found_again (Reduce kind source) = ap (λ k. Reduce k source) (same_kind_from kind)
+found_again (Output source) = refl
+
+make_parts : ℕ → List ℕ → List Item → Parts
+make_parts sort numbers items = record { sort = sort; numbers = numbers; items = items }
+
+numbers_decide : (a b : List ℕ) → Decides (pointwise eqb a b) (a ≡ b)
+numbers_decide = pointwise_decides (λ n m. (eqb-true n m, eq-eqb n m))
+
+-- the test decides whether the nodes are equal
+pub nodes_decide : (node other : Node) → Decides (same_node node other) (node ≡ other)
+unfolding make_parts
+nodes_decide node other = (
+  λ h.
+      let first = and_parts _ _ h in
+      let second = and_parts _ _ first.1 in
+      let sorts = eqb-true _ _ first.0 in
+      let numbers = (numbers_decide _ _).0 second.0 in
+      let items = (items_decide _ _).0 second.1 in
+      sym (found_again node) ∙ ap from_parts (λ i. make_parts (sorts i) (numbers i) (items i)) ∙ found_again other,
+  λ e.
+      let parts = ap parts_of e in
+      and_from _ _ (eq-eqb _ _ (ap (λ (p : Parts). p.sort) parts))
+        (and_from _ _ ((numbers_decide _ _).1 (ap (λ (p : Parts). p.numbers) parts)) ((items_decide _ _).1 (ap (λ (p : Parts). p.items) parts))),
+)
+
+pub nodes_equivalence : IsEquivalence same_node
+nodes_equivalence = decided same_node nodes_decide
+
+-- the test decides whether the plans are equal
+pub plans_decide : (p q : List Node) → Decides (same_plan p q) (p ≡ q)
+plans_decide = pointwise_decides nodes_decide
+
+pub plans_equivalence : IsEquivalence same_plan
+plans_equivalence = decided same_plan plans_decide
