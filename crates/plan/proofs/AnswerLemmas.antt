@@ -38,14 +38,14 @@ module _ (beats : List ℤ → List ℤ → Bool) where
   unbeaten_by : (entries : List Entry) (row : List ℤ) → is_unbeaten (present entries) row ≡ true → (other : List ℤ) → IsTrue (is_present entries other) → beats other row ≡ false
   unbeaten_by entries row u other h =
       false_from_ne_true (beats other row) (λ e.
-        true≢false (sym u ∙ ap not (any_at (λ r. beats r row) (present entries) other (counts_present entries other h) e)))
+      true≢false (sym u ∙ ap not (any_at (λ r. beats r row) (present entries) other (counts_present entries other h) e)))
 
   unbeaten_from : (entries : List Entry) (row : List ℤ) → ((other : List ℤ) → IsTrue (is_present entries other) → beats other row ≡ false) → is_unbeaten (present entries) row ≡ true
   unbeaten_from entries row h = ap not (any_none (λ r. beats r row) (present entries) (λ r m. h r (present_counts entries r m)))
 
   -- what is answered is a row that counts and that no row that counts beats
   unbeaten_answered : (entries : List Entry) (row : List ℤ) → (times_answered entries row ≡ pos 1)
-    ↔ (IsTrue (is_present entries row) × ((other : List ℤ) → IsTrue (is_present entries other) → beats other row ≡ false))
+      ↔ (IsTrue (is_present entries row) × ((other : List ℤ) → IsTrue (is_present entries other) → beats other row ≡ false))
   unbeaten_answered entries row = (there, back)
     where
       there : times_answered entries row ≡ pos 1 → IsTrue (is_present entries row) × ((other : List ℤ) → IsTrue (is_present entries other) → beats other row ≡ false)
@@ -57,7 +57,7 @@ module _ (beats : List ℤ → List ℤ → Bool) where
       back h = count_kept is_unbeaten entries row ∙ rw (h.0, unbeaten_from entries row h.1) refl
 
   unbeaten_once : (entries : List Entry) (row : List ℤ)
-    → (times_answered entries row ≡ pos 0) ⊎ (times_answered entries row ≡ pos 1)
+      → (times_answered entries row ≡ pos 0) ⊎ (times_answered entries row ≡ pos 1)
   unbeaten_once entries row = zero_or_one (is_present entries row) (is_unbeaten (present entries) row) (times_answered entries row) (count_kept is_unbeaten entries row)
 
 -- ---- each kind
@@ -66,11 +66,11 @@ pub distinct_answered : (key : List ℤ) (entries : List Entry) (row : List ℤ)
 distinct_answered key entries row = count_present entries row
 
 pub least_answered : (key : List ℤ) (entries : List Entry) (row : List ℤ) → (count_of (reduced Min key entries) row ≡ pos 1)
-  ↔ (IsTrue (is_present entries row) × ((other : List ℤ) → IsTrue (is_present entries other) → is_before other row ≡ false))
+    ↔ (IsTrue (is_present entries row) × ((other : List ℤ) → IsTrue (is_present entries other) → is_before other row ≡ false))
 least_answered key entries row = unbeaten_answered is_before entries row
 
 pub greatest_answered : (key : List ℤ) (entries : List Entry) (row : List ℤ) → (count_of (reduced Max key entries) row ≡ pos 1)
-  ↔ (IsTrue (is_present entries row) × ((other : List ℤ) → IsTrue (is_present entries other) → is_before row other ≡ false))
+    ↔ (IsTrue (is_present entries row) × ((other : List ℤ) → IsTrue (is_present entries other) → is_before row other ≡ false))
 greatest_answered key entries row = unbeaten_answered (λ other row. is_before row other) entries row
 
 counted_once : (key row : List ℤ) (n : ℤ) → (count_of (counted key n) row ≡ pos 0) ⊎ (count_of (counted key n) row ≡ pos 1)

@@ -36,8 +36,8 @@ pub marks_with : (p : List Node) → IsPlan p → (above n : ℕ) (marks : List 
 marks_with p plan above n marks l kept mark e m j =
     ⊎_elim
     (λ d. ap (λ k. get_or (slice_set marks n mark) k false) d ∙ get_or-set_same marks n mark false l ∙ e
-      ∙ ap (λ b. eqb above n || b) (list_any_same (λ source. get_or marks source false) (is_above p above) (sources (node_at p n)) (λ port s found. kept s (source_smaller p plan n port s found)))
-      ∙ sym (above_by_sources p plan above n) ∙ ap (is_above p above) (sym d))
+    ∙ ap (λ b. eqb above n || b) (list_any_same (λ source. get_or marks source false) (is_above p above) (sources (node_at p n)) (λ port s found. kept s (source_smaller p plan n port s found)))
+    ∙ sym (above_by_sources p plan above n) ∙ ap (is_above p above) (sym d))
     (λ k. get_or-set_other marks n m mark false (λ d. absurd (omega arith)) ∙ kept m k)
     (eq-or-lt_of_le (omega arith))
 

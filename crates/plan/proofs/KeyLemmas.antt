@@ -1,16 +1,15 @@
 -- The keys by which a plan's nodes are arranged.
-use Rattle.std.proofs.Common.{◌≡◌, ℕ, zero, suc, ◌<◌, ◌≤◌, Bool, true, false, not, ◌&&◌, eqb, nat_le, is_some, unwrap_or, IsTrue, Option, Some, None, List, [], ◌∷◌, length, slice_get, refl, ap, sym, ◌∙◌, subst, arith}
+use Rattle.std.proofs.Common.{◌≡◌, ℕ, zero, suc, ◌<◌, ◌≤◌, false, not, ◌&&◌, eqb, nat_le, is_some, unwrap_or, IsTrue, Option, Some, None, List, [], ◌∷◌, length, slice_get, refl, ap, sym, ◌∙◌, subst, arith}
 use Rattle.std.proofs.lemmas.Bool.{and_parts, leb-true, eqb-true}
 use Rattle.std.proofs.lemmas.Option.{same_Some}
 use Rattle.update.specs.declared.refusal.Refusal.TheVariants.{NotArranged, KeyMismatch, BadWidth, BadKey}
 use Rattle.plan.specs.Nodes.{node_at, sources, arranged_by, key_of, key_width}
-use Rattle.plan.specs.Widths.{width_of, width_from, reduced_width}
+use Rattle.plan.specs.Widths.{width_of, width_from}
 use Rattle.plan.specs.Rules.{IsPlan, is_width, is_arranged, faults, first_refusal}
 use Rattle.plan.specs.Operators.{is_linear}
-use Rattle.plan.specs.declared.node.Kind.{Kind}
 use Rattle.plan.specs.declared.node.Node.{Node}
 use Rattle.plan.specs.declared.node.Node.TheVariants.{Input, Map, Filter, Concat, Negate, Arrange, Join, Reduce, Output}
-use Rattle.plan.proofs.PlanLemmas.{no_first, no_fault, source_smaller}
+use Rattle.plan.proofs.PlanLemmas.{no_first, no_fault}
 use Rattle.plan.proofs.StepLemmas.{width_by_sources}
 use Rattle.plan.proofs.WidthLemmas.{faultless, width_bounds}
 

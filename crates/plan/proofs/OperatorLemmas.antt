@@ -90,7 +90,7 @@ module _ (k : ℕ) (row : List ℤ) where
   module _ (test : List ℤ → Bool) where
     -- a pair that counts has the row's key on both sides
     pair_keyed : (left : List ℤ) (m : ℤ) (right : List ℤ) (n : ℤ)
-      → cond (test (take k left)) (cond (test (take k right)) (pair_value k row left m right n) (pos 0)) (pos 0) ≡ cond (test (take k row)) (pair_value k row left m right n) (pos 0)
+        → cond (test (take k left)) (cond (test (take k right)) (pair_value k row left m right n) (pos 0)) (pos 0) ≡ cond (test (take k row)) (pair_value k row left m right n) (pos 0)
     pair_keyed left m right n = step (same_row (take k right) (take k left)) refl (same_row (left ++ drop k right) row) refl
       where
         twice : (u : Bool) (v : ℤ) → cond u (cond u v (pos 0)) (pos 0) ≡ cond u v (pos 0)
@@ -101,7 +101,7 @@ module _ (k : ℕ) (row : List ℤ) where
         never u v w = rw (when_zero v, when_zero u, when_zero w) refl
 
         step : (b : Bool) → same_row (take k right) (take k left) ≡ b → (c : Bool) → same_row (left ++ drop k right) row ≡ c
-          → cond (test (take k left)) (cond (test (take k right)) (cond b (cond c (m *ℤ n) (pos 0)) (pos 0)) (pos 0)) (pos 0) ≡ cond (test (take k row)) (cond b (cond c (m *ℤ n) (pos 0)) (pos 0)) (pos 0)
+            → cond (test (take k left)) (cond (test (take k right)) (cond b (cond c (m *ℤ n) (pos 0)) (pos 0)) (pos 0)) (pos 0) ≡ cond (test (take k row)) (cond b (cond c (m *ℤ n) (pos 0)) (pos 0)) (pos 0)
         step false h c i = never (test (take k left)) (test (take k right)) (test (take k row))
         step true h false i = never (test (take k left)) (test (take k right)) (test (take k row))
         step true h true i =
@@ -219,7 +219,7 @@ given_nothing k (Output source) row = refl
 -- what a keyed operator gives of the rows whose keys pass a test
 module _ (k : ℕ) (test : List ℤ → Bool) (bags : ℕ → List Entry) (row : List ℤ) where
   pub given_keyed : (node : Node) → is_linear node ≡ false
-    → count_of (given k node (λ port. filter (λ e. test (take k e.row)) (bags port))) row ≡ cond (test (take k row)) (count_of (given k node bags) row) (pos 0)
+      → count_of (given k node (λ port. filter (λ e. test (take k e.row)) (bags port))) row ≡ cond (test (take k row)) (count_of (given k node bags) row) (pos 0)
   given_keyed (Input width) l = absurd (true≢false l)
   given_keyed (Map source items) l = absurd (true≢false l)
   given_keyed (Filter source t) l = absurd (true≢false l)
@@ -231,7 +231,7 @@ module _ (k : ℕ) (test : List ℤ → Bool) (bags : ℕ → List Entry) (row :
   given_keyed (Output source) l = absurd (true≢false l)
 
 pub given_parts : (k : ℕ) (node : Node) → is_linear node ≡ false → (test : List ℤ → Bool) (bags : ℕ → List Entry)
-  → Alike (given k node (λ port. filter (λ e. test (take k e.row)) (bags port))) (filter (λ e. test (take k e.row)) (given k node bags))
+    → Alike (given k node (λ port. filter (λ e. test (take k e.row)) (bags port))) (filter (λ e. test (take k e.row)) (given k node bags))
 given_parts k node l test bags row = given_keyed k test bags row node l ∙ sym (count_of-filter (λ r. test (take k r)) (given k node bags) row)
 
 -- ---- workers
@@ -257,9 +257,9 @@ module _ (worker : ℕ) (v : ℤ) where
       step false e h = let m : worker < n = omega (arith, l, eqb-false worker n e) in let all = h m in omega (arith, ints)
 
 pub given_workers : (k : ℕ) (node : Node) → is_linear node ≡ false → (workers : ℕ) (route : List ℤ → ℕ) → ((key : List ℤ) → route key < workers) → (bags : ℕ → List Entry)
-  → Alike (flat_map (λ worker. given k node (λ port. filter (λ e. eqb (route (take k e.row)) worker) (bags port))) (numbers_below workers)) (given k node bags)
+    → Alike (flat_map (λ worker. given k node (λ port. filter (λ e. eqb (route (take k e.row)) worker) (bags port))) (numbers_below workers)) (given k node bags)
 given_workers k node l workers route h bags row =
     total_by-flat_map (λ e. cond (same_row e.row row) e.count (pos 0)) (λ worker. given k node (λ port. filter (λ e. eqb (route (take k e.row)) worker) (bags port))) (numbers_below workers)
     ∙ (total_by-same (λ worker. count_of (given k node (λ port. filter (λ e. eqb (route (take k e.row)) worker) (bags port))) row) (λ worker. cond (eqb (route (take k row)) worker) (count_of (given k node bags) row) (pos 0)) (numbers_below workers)
-        (λ worker. given_keyed k (λ key. eqb (route key) worker) bags row node l)
+    (λ worker. given_keyed k (λ key. eqb (route key) worker) bags row node l)
     ∙ below (route (take k row)) (count_of (given k node bags) row) workers (h (take k row)))

@@ -1,5 +1,5 @@
 -- When a list of nodes is a plan, and what each node of a plan has.
-use Rattle.std.proofs.Common.{◌≡◌, ℕ, ◌+◌, ◌<◌, ◌≤◌, Bool, true, false, not, nat_le, IsTrue, ⊎_elim, eq-or-lt_of_le, Some, None, List, [], ◌∷◌, ◌++◌, take, drop, length, slice_get, unwrap_or, refl, ap, ap₂, sym, subst, ◌∙◌, arith}
+use Rattle.std.proofs.Common.{◌≡◌, ℕ, ◌<◌, ◌≤◌, Bool, true, false, not, nat_le, IsTrue, ⊎_elim, eq-or-lt_of_le, Some, None, List, [], ◌∷◌, ◌++◌, take, drop, length, slice_get, unwrap_or, refl, ap, ap₂, sym, subst, ◌∙◌, arith}
 use Rattle.std.specs.List.{list_all}
 use Rattle.std.proofs.lemmas.Bool.{and_parts, cases_lt, ltb-true}
 use Rattle.std.proofs.lemmas.List.{length-append, length-take-le, take-append-le, take-append-drop, get_or_append_left}

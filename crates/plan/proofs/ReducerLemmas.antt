@@ -37,10 +37,10 @@ counted_keyed k key row n l d =
 
 count_reduces : (k : ℕ) → IsReducer k (reduced Count)
 count_reduces k = record {
-    alike = λ key a b h row. ap (λ n. count_of (counted key n) row) (sums_alike a b h);
-    nothing = λ key row. refl;
-    keyed = λ key row entries l d. counted_keyed k key row (sum_of_counts (filter (has_key k key) entries)) l d
-  }
+  alike = λ key a b h row. ap (λ n. count_of (counted key n) row) (sums_alike a b h);
+  nothing = λ key row. refl;
+  keyed = λ key row entries l d. counted_keyed k key row (sum_of_counts (filter (has_key k key) entries)) l d;
+}
 
 -- ---- rows that count more than 0 times
 
@@ -54,8 +54,8 @@ present_among entries row h =
     ⊎_elim
     (λ r. among_same r.0.row row (map (λ e. e.row) entries) (row_same r.0.row row r.2) (among_rows entries r.0 r.1))
     (λ none.
-        let zero : count_of entries row ≡ pos 0 = total_by-zero (λ e. cond (same_row e.row row) e.count (pos 0)) entries (λ e m. ap (λ b. cond b e.count (pos 0)) (none e m)) in
-        absurd (true≢false (sym h ∙ ap (int_lt (pos 0)) zero)))
+    let zero : count_of entries row ≡ pos 0 = total_by-zero (λ e. cond (same_row e.row row) e.count (pos 0)) entries (λ e m. ap (λ b. cond b e.count (pos 0)) (none e m)) in
+    absurd (true≢false (sym h ∙ ap (int_lt (pos 0)) zero)))
     (passes_or_none (λ e. same_row e.row row) entries)
 
 -- of the rows that count, that one is there just where it counts
@@ -67,6 +67,7 @@ found_present entries row =
     there h =
         let r = any_has (λ r. same_row r row) (filter (is_present entries) (map (λ e. e.row) entries)) h in
         ap (is_present entries) (sym (row_same r.0 row r.2)) ∙ (filter_has (is_present entries) (map (λ e. e.row) entries) r.0 r.1).1
+
     back : is_present entries row ≡ true → list_any (λ r. same_row r row) (filter (is_present entries) (map (λ e. e.row) entries)) ≡ true
     back h = any_at (λ r. same_row r row) (filter (is_present entries) (map (λ e. e.row) entries)) row (filter_takes (is_present entries) (map (λ e. e.row) entries) row (present_among entries row h) h) (row_itself row)
 
@@ -102,10 +103,10 @@ count_present entries row =
 
 distinct_reduces : (k : ℕ) → IsReducer k (reduced Distinct)
 distinct_reduces k = record {
-    alike = λ key a b h row. count_present a row ∙ (ap (λ n. cond (int_lt (pos 0) n) (pos 1) (pos 0)) (h row) ∙ sym (count_present b row));
-    nothing = λ key row. refl;
-    keyed = λ key row entries l d. count_present (filter (has_key k key) entries) row ∙ ap (λ b. cond b (pos 1) (pos 0)) (absent_elsewhere k key row entries d)
-  }
+  alike = λ key a b h row. count_present a row ∙ (ap (λ n. cond (int_lt (pos 0) n) (pos 1) (pos 0)) (h row) ∙ sym (count_present b row));
+  nothing = λ key row. refl;
+  keyed = λ key row entries l d. count_present (filter (has_key k key) entries) row ∙ ap (λ b. cond b (pos 1) (pos 0)) (absent_elsewhere k key row entries d);
+}
 
 -- ---- the rows that stand out among them
 
@@ -116,21 +117,21 @@ module _ (keep : List (List ℤ) → List ℤ → Bool) where
       total_by-map (λ e. cond (same_row e.row row) e.count (pos 0)) single (filter (keep (present entries)) (present entries))
       ∙ (total_by-filter (λ r. cond (same_row r row) (pos 1) (pos 0)) (keep (present entries)) (present entries)
       ∙ (total_by-once (λ r. cond (keep (present entries) r) (cond (same_row r row) (pos 1) (pos 0)) (pos 0)) row (filter (is_present entries) (map (λ e. e.row) entries))
-          (λ r m d. ap (λ b. cond (keep (present entries) r) (cond b (pos 1) (pos 0)) (pos 0)) d ∙ when_zero (keep (present entries) r))
+      (λ r m d. ap (λ b. cond (keep (present entries) r) (cond b (pos 1) (pos 0)) (pos 0)) d ∙ when_zero (keep (present entries) r))
       ∙ rw (found_present entries row, row_itself row) refl))
 
   kept_reduces : ((xs ys : List (List ℤ)) → ((row : List ℤ) → Among row xs → Among row ys) → ((row : List ℤ) → Among row ys → Among row xs) → (row : List ℤ) → keep xs row ≡ keep ys row)
-    → (k : ℕ) → IsReducer k (λ key entries. map single (filter (keep (present entries)) (present entries)))
+      → (k : ℕ) → IsReducer k (λ key entries. map single (filter (keep (present entries)) (present entries)))
   kept_reduces same k = record {
-      alike = λ key a b h row.
+    alike = λ key a b h row.
         count_kept a row
         ∙ (rw (h row, same (present a) (present b) (present_alike a b h) (present_alike b a (λ r. sym (h r))) row) refl
         ∙ sym (count_kept b row));
-      nothing = λ key row. refl;
-      keyed = λ key row entries l d.
+    nothing = λ key row. refl;
+    keyed = λ key row entries l d.
         count_kept (filter (has_key k key) entries) row
-        ∙ ap (λ b. cond b (cond (keep (present (filter (has_key k key) entries)) row) (pos 1) (pos 0)) (pos 0)) (absent_elsewhere k key row entries d)
-    }
+        ∙ ap (λ b. cond b (cond (keep (present (filter (has_key k key) entries)) row) (pos 1) (pos 0)) (pos 0)) (absent_elsewhere k key row entries d);
+  }
 
 -- lists with the same elements pass a test alike
 any_same : (test : List ℤ → Bool) (xs ys : List (List ℤ)) → ((row : List ℤ) → Among row xs → Among row ys) → ((row : List ℤ) → Among row ys → Among row xs) → list_any test xs ≡ list_any test ys

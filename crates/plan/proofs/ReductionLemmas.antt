@@ -1,5 +1,5 @@
 -- A reduction by key: of what it answers for all keys, a row counts as in the answer for its own key.
-use Rattle.std.proofs.Common.{◌≡◌, ℕ, ◌<◌, ◌≤◌, Bool, true, false, cond, not, ◌||◌, List, [], ◌∷◌, map, take, take_all, length, refl, ap, sym, ◌∙◌, ◌⊎◌, inl, inr, ⊎_elim, arith}
+use Rattle.std.proofs.Common.{◌≡◌, ℕ, ◌<◌, ◌≤◌, Bool, true, false, cond, not, ◌||◌, List, [], ◌∷◌, map, take, take_all, length, refl, ap, sym, ◌∙◌, inl, inr, ⊎_elim, arith}
 use Rattle.std.specs.Prelude.{ℤ, pos, ◌+ℤ◌, nat_le}
 use Rattle.std.specs.List.{filter, list_any}
 use Rattle.std.proofs.lemmas.Int.{ints}
@@ -65,7 +65,7 @@ total_by-once f key (first ∷ rows) z =
     own_value n row false e = refl
 
     step : (b : Bool) → same_row first key ≡ b → total_by f (each_once rows) ≡ cond (list_any (λ row. same_row row key) rows) (f key) (pos 0)
-      → f first +ℤ total_by (λ row. cond (not (same_row row first)) (f row) (pos 0)) (each_once rows) ≡ cond (b || list_any (λ row. same_row row key) rows) (f key) (pos 0)
+        → f first +ℤ total_by (λ row. cond (not (same_row row first)) (f row) (pos 0)) (each_once rows) ≡ cond (b || list_any (λ row. same_row row key) rows) (f key) (pos 0)
     step true h ih =
         let rest = total_by-zero (λ row. cond (not (same_row row first)) (f row) (pos 0)) (each_once rows) (λ row m. no_value h row m (same_row row first) refl) in
         let own : f first ≡ f key = ap f (row_same first key h) in
@@ -102,15 +102,15 @@ module _ (k : ℕ) where
           omega (arith, s, n)
 
       step : (b : Bool) → nat_le k (length e.row) ≡ b
-        → list_any (λ row. same_row row key) (map (λ e. take k e.row) (cond b (e ∷ filter (λ e. nat_le k (length e.row)) entries) (filter (λ e. nat_le k (length e.row)) entries))) ≡ false
-        → (list_any (λ row. same_row row key) (key_rows k entries) ≡ false → filter (has_key k key) entries ≡ [])
-        → cond (same_row (take k e.row) key) (e ∷ filter (has_key k key) entries) (filter (has_key k key) entries) ≡ []
+          → list_any (λ row. same_row row key) (map (λ e. take k e.row) (cond b (e ∷ filter (λ e. nat_le k (length e.row)) entries) (filter (λ e. nat_le k (length e.row)) entries))) ≡ false
+          → (list_any (λ row. same_row row key) (key_rows k entries) ≡ false → filter (has_key k key) entries ≡ [])
+          → cond (same_row (take k e.row) key) (e ∷ filter (has_key k key) entries) (filter (has_key k key) entries) ≡ []
       step true i g ih = let parts = or_parts (same_row (take k e.row) key) (list_any (λ row. same_row row key) (key_rows k entries)) g in rw (parts.0) (ih parts.1)
       step false i g ih = rw (false_from_ne_true (same_row (take k e.row) key) (too_short (leb-false k (length e.row) i))) (ih g)
 
   -- a row that has no key of k columns is in no answer; another counts as in the answer for its key
   pub by_key_at : (reduce : List ℤ → List Entry → List Entry) → IsReducer k reduce → (entries : List Entry) (row : List ℤ)
-    → count_of (reduced_by_key k reduce entries) row ≡ cond (nat_le k (length row)) (count_of (reduce (take k row) (filter (has_key k (take k row)) entries)) row) (pos 0)
+      → count_of (reduced_by_key k reduce entries) row ≡ cond (nat_le k (length row)) (count_of (reduce (take k row) (filter (has_key k (take k row)) entries)) row) (pos 0)
   by_key_at reduce q entries row =
       total_by-flat_map (λ e. cond (same_row e.row row) e.count (pos 0)) (λ key. reduce key (filter (has_key k key) entries)) (keys k entries)
       ∙ (total_by-once answer (take k row) (key_rows k entries) (λ key m d. q.keyed key row entries (key_length entries key m) (row_differs key (take k row) d))
@@ -135,5 +135,5 @@ module _ (k : ℕ) where
 
 -- where a row has a key of k columns, only the rows of that key matter
 pub by_key : (k : ℕ) (reduce : List ℤ → List Entry → List Entry) → IsReducer k reduce → (entries : List Entry) (row : List ℤ) → k ≤ length row
-  → count_of (reduced_by_key k reduce entries) row ≡ count_of (reduce (take k row) (filter (has_key k (take k row)) entries)) row
+    → count_of (reduced_by_key k reduce entries) row ≡ count_of (reduce (take k row) (filter (has_key k (take k row)) entries)) row
 by_key k reduce q entries row h = by_key_at k reduce q entries row ∙ ap (λ b. cond b (count_of (reduce (take k row) (filter (has_key k (take k row)) entries)) row) (pos 0)) (le-leb k (length row) h)

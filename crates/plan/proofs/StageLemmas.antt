@@ -1,5 +1,5 @@
 -- A plan's nodes with their widths, and one node more.
-use Rattle.std.proofs.Common.{◌≡◌, ℕ, ◌<◌, ◌≤◌, Some, None, List, [], ◌∷◌, ◌++◌, map, length, slice_get, get_or, refl, ap, sym, ◌∙◌, subst, ⊎_elim, arith}
+use Rattle.std.proofs.Common.{◌≡◌, ℕ, Some, None, List, [], ◌∷◌, ◌++◌, length, slice_get, get_or, ap, sym, ◌∙◌, subst, ⊎_elim, arith}
 use Rattle.std.proofs.lemmas.List.{length-map, map-append, length-append, get_or_append_left}
 use Rattle.std.proofs.lemmas.Option.{slice_get_within, slice_get-get_or, get_or_from_slice_get}
 use Rattle.std.proofs.lemmas.Bool.{cases_lt}
@@ -15,9 +15,9 @@ use Rattle.plan.proofs.StepLemmas.{width_with, width_before_more}
 
 pub stages_with : (stages : List Stage) (stage : Stage) → AreStages stages → refusal_of (nodes_of stages) stage.node ≡ None → stage.width ≡ width_from (key_width (nodes_of stages) stage.node) stage.node (width_of (nodes_of stages)) → AreStages (stages ++ stage ∷ [])
 stages_with stages stage kept accepted wide = record {
-    plan = subst IsPlan (sym nodes) (plan_with p stage.node kept.plan accepted);
-    widths = λ n other e. subst (λ q. other.width ≡ width_of q n) (sym nodes) (width_at n other e)
-  }
+  plan = subst IsPlan (sym nodes) (plan_with p stage.node kept.plan accepted);
+  widths = λ n other e. subst (λ q. other.width ≡ width_of q n) (sym nodes) (width_at n other e);
+}
   where
     p : List Node
     p = nodes_of stages
@@ -29,16 +29,16 @@ stages_with stages stage kept accepted wide = record {
     width_at n other e =
         ⊎_elim
         (λ l.
-            ap (λ (s : Stage). s.width) (sym (get_or_from_slice_get (stages ++ stage ∷ []) n other stage e) ∙ get_or_append_left stages (stage ∷ []) stage n l)
-            ∙ kept.widths n (get_or stages n stage) (slice_get-get_or stages n stage l)
-            ∙ sym (width_before_more p (stage.node ∷ []) kept.plan n (let same = length-map stages (λ (s : Stage). s.node) in omega arith)))
+        ap (λ (s : Stage). s.width) (sym (get_or_from_slice_get (stages ++ stage ∷ []) n other stage e) ∙ get_or_append_left stages (stage ∷ []) stage n l)
+        ∙ kept.widths n (get_or stages n stage) (slice_get-get_or stages n stage l)
+        ∙ sym (width_before_more p (stage.node ∷ []) kept.plan n (let same = length-map stages (λ (s : Stage). s.node) in omega arith)))
         (λ l.
-            let inside = slice_get_within (stages ++ stage ∷ []) n other e in
-            let all = length-append stages (stage ∷ []) in
-            let last : n ≡ length stages = omega arith in
-            let here : n ≡ length p = last ∙ sym (length-map stages (λ (s : Stage). s.node)) in
-            ap (λ (s : Stage). s.width) (sym (get_or_from_slice_get (stages ++ stage ∷ []) n other stage e) ∙ ap (λ m. get_or (stages ++ stage ∷ []) m stage) last ∙ get_or-append_seam stages stage [] stage)
-            ∙ wide
-            ∙ sym (width_with p stage.node kept.plan accepted)
-            ∙ ap (width_of (p ++ stage.node ∷ [])) (sym here))
+        let inside = slice_get_within (stages ++ stage ∷ []) n other e in
+        let all = length-append stages (stage ∷ []) in
+        let last : n ≡ length stages = omega arith in
+        let here : n ≡ length p = last ∙ sym (length-map stages (λ (s : Stage). s.node)) in
+        ap (λ (s : Stage). s.width) (sym (get_or_from_slice_get (stages ++ stage ∷ []) n other stage e) ∙ ap (λ m. get_or (stages ++ stage ∷ []) m stage) last ∙ get_or-append_seam stages stage [] stage)
+        ∙ wide
+        ∙ sym (width_with p stage.node kept.plan accepted)
+        ∙ ap (width_of (p ++ stage.node ∷ [])) (sym here))
         (cases_lt n (length stages))

@@ -128,7 +128,7 @@ module _ (value : List ℤ → ℤ → ℤ) (adds : AddsUp value) where
   weigh-row row (e ∷ entries) = step (weigh-row row entries) (same_row e.row row) refl
     where
       step : weigh value (filter (λ e. same_row e.row row) entries) ≡ value row (count_of entries row) → (b : Bool) → same_row e.row row ≡ b
-        → weigh value (cond b (e ∷ filter (λ e. same_row e.row row) entries) (filter (λ e. same_row e.row row) entries)) ≡ value row (cond b e.count (pos 0) +ℤ count_of entries row)
+          → weigh value (cond b (e ∷ filter (λ e. same_row e.row row) entries) (filter (λ e. same_row e.row row) entries)) ≡ value row (cond b e.count (pos 0) +ℤ count_of entries row)
       step h true k = rw (row_same e.row row k, h) (sym (adds row e.count (count_of entries row)))
       step h false k = let z : pos 0 +ℤ count_of entries row ≡ count_of entries row = omega (arith, ints) in h ∙ ap (value row) (sym z)
 
@@ -161,5 +161,6 @@ module _ (value : List ℤ → ℤ → ℤ) (adds : AddsUp value) where
     where
       differ : (x y : ℤ) → x ≡ y → x +ℤ neg_ℤ y ≡ pos 0
       differ x y e = omega (arith, ints)
+
       same : (x y : ℤ) → x +ℤ neg_ℤ y ≡ pos 0 → x ≡ y
       same x y e = omega (arith, ints)

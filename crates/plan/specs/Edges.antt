@@ -2,8 +2,7 @@
 use Rattle.std.specs.Prelude.{ℕ, Bool, false, List, [], ◌∷◌, Option, Some, None, length, eqb, slice_get, get_or}
 use Rattle.std.specs.List.{filter, flat_map}
 use Rattle.plan.specs.Nodes.{node_at, sources}
-use Rattle.plan.specs.Ancestors.{is_input, numbers_below}
-use Rattle.plan.specs.Rules.{is_output}
+use Rattle.plan.specs.Ancestors.{numbers_below}
 use Rattle.plan.specs.declared.edges.Edge.{Edge}
 use Rattle.plan.specs.declared.node.Node.{Node}
 

@@ -1,6 +1,6 @@
 -- Equality of items, as tests.
-use Rattle.std.specs.Prelude.{◌≡◌, Bool, true, false, List, eqb}
-use Rattle.std.proofs.Common.{ap, refl, ◌⊎◌}
+use Rattle.std.specs.Prelude.{◌≡◌, Bool, false, List, eqb}
+use Rattle.std.proofs.Common.{ap}
 use Rattle.std.specs.Bool.{Decides}
 use Rattle.std.specs.Cmp.{IsEquivalence, signed_Decides, decided}
 use Rattle.std.specs.Cmp.Lexicographic.{pointwise, pointwise_decides}

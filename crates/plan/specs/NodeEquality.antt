@@ -1,6 +1,6 @@
 -- Equality of nodes and plans, as tests. Nodes are told apart by their parts: a number for the sort of node, the other
 -- numbers that it has, and its items.
-use Rattle.std.specs.Prelude.{◌≡◌, ℕ, zero, suc, Bool, true, false, ◌&&◌, List, [], ◌∷◌, eqb, get_or, pos}
+use Rattle.std.specs.Prelude.{◌≡◌, ℕ, zero, suc, Bool, ◌&&◌, List, [], ◌∷◌, eqb, get_or, pos}
 use Rattle.std.proofs.Common.{ap, refl, sym, ◌∙◌}
 use Rattle.std.proofs.lemmas.Bool.{and_parts, and_from, eqb-true, eq-eqb}
 use Rattle.std.specs.Bool.{Decides}
@@ -138,7 +138,7 @@ nodes_decide node other = (
   λ e.
       let parts = ap parts_of e in
       and_from _ _ (eq-eqb _ _ (ap (λ (p : Parts). p.sort) parts))
-        (and_from _ _ ((numbers_decide _ _).1 (ap (λ (p : Parts). p.numbers) parts)) ((items_decide _ _).1 (ap (λ (p : Parts). p.items) parts))),
+      (and_from _ _ ((numbers_decide _ _).1 (ap (λ (p : Parts). p.numbers) parts)) ((items_decide _ _).1 (ap (λ (p : Parts). p.items) parts))),
 )
 
 pub nodes_equivalence : IsEquivalence same_node

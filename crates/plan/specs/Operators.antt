@@ -1,5 +1,5 @@
 -- The operator table: what each node gives, from one bag a port, in which neither time nor difference occurs.
-use Rattle.std.specs.Prelude.{ℕ, Bool, true, false, List, [], ◌++◌, map, take, drop, length, nat_le, ◌*ℤ◌, neg_ℤ, ℤ}
+use Rattle.std.specs.Prelude.{ℕ, Bool, true, false, List, ◌++◌, map, take, drop, length, nat_le, ◌*ℤ◌, neg_ℤ, ℤ}
 use Rattle.std.specs.List.{filter, flat_map}
 use Rattle.row.specs.Projection.{projected}
 use Rattle.row.specs.Testing.{passes}

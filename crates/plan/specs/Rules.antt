@@ -1,6 +1,6 @@
 -- Which nodes a plan may have: the rules of plans, and what refuses a node.
-use Rattle.std.specs.Prelude.{◌≡◌, ℕ, ◌<◌, Bool, true, false, not, ◌&&◌, ◌||◌, List, [], ◌∷◌, Option, Some, None, length, nat_lt, nat_le, eqb, is_some, take, if◌then◌else◌}
-use Rattle.std.specs.List.{list_any, list_all}
+use Rattle.std.specs.Prelude.{◌≡◌, ℕ, ◌<◌, Bool, true, false, not, ◌&&◌, List, [], ◌∷◌, Option, Some, None, length, nat_lt, nat_le, eqb, is_some, take, if◌then◌else◌}
+use Rattle.std.specs.List.{list_all}
 use Rattle.row.specs.Projection.{is_within}
 use Rattle.row.specs.declared.testing.Test.{Test}
 use Rattle.update.specs.declared.refusal.Refusal.{Refusal}
@@ -37,7 +37,8 @@ is_width width = nat_le 1 width && nat_le width 8
 abbrev pub is_test_within : Test → ℕ → Bool
 is_test_within test width = is_within test.left width && is_within test.right width
 
--- what refuses a node whose sources there are, each fault with what it is refused by, in the order of testing
+-- what refuses a node whose sources there are, each fault with what it is refused by, in the order of testing; of the
+-- reductions only a count can be too wide
 abbrev pub faults : List Node → Node → List (Bool × Refusal)
 faults p (Input width) = (not (is_width width), BadWidth) ∷ []
 faults p (Map source items) = (not (is_width (length items)), BadWidth) ∷ (not (list_all (λ item. is_within item (width_of p source)) items), BadColumn) ∷ []

@@ -1,4 +1,6 @@
-//! The nodes of a plan: what each of them does, and which nodes it reads.
+//! The nodes of a plan: what each of them does, and which nodes it reads. A node names its sources by their numbers and
+//! nothing else of the plan, so it can be made, compared and printed without one; whether a plan takes it is for the rules
+//! to say.
 ghost use Rattle.std.specs.Prelude.{◌≡◌, ◌↔◌, slice_get, IsTrue};
 ghost use Rattle.plan.specs.Nodes.{sources, arranged_by};
 ghost use Rattle.plan.specs.Rules.{is_output};
@@ -54,26 +56,28 @@ pub enum Kind {
     Max,
 }
 
-/// What a node does, and with which nodes.
+/// What a node does, and which nodes it reads: `source`, or `left` and `right`. Any numbers may stand here: what a plan
+/// accepts is said at [`PlanBuilder::add`](crate::PlanBuilder::add).
 #[derive(Clone, Debug, Drop)]
 pub enum Node {
-    /// Rows of `width` columns, from outside.
+    /// Rows of `width` columns, which come from outside.
     Input { width: usize },
-    /// A row of these items for each row.
+    /// For each row the row of these items.
     Map { source: NodeId, items: Items },
     /// The rows that pass the test.
     Filter { source: NodeId, test: Test },
-    /// The rows of both.
+    /// The rows of both sources.
     Concat { left: NodeId, right: NodeId },
     /// Each row as often as before, with the other sign.
     Negate { source: NodeId },
-    /// The same rows, by their first `key` columns.
+    /// The same rows, sent to workers by their first `key` columns and kept in order of them, for joins and reductions.
     Arrange { source: NodeId, key: usize },
-    /// The pairs of rows of one key.
+    /// For two rows of equal key: the key, the rest of the left row and the rest of the right row, as often as the product
+    /// of both.
     Join { left: NodeId, right: NodeId },
-    /// A reduction, key by key.
+    /// What the reduction answers for each key.
     Reduce { kind: Kind, source: NodeId },
-    /// A view.
+    /// A view: the same rows, to be read from outside and by no other node.
     Output { source: NodeId },
 }
 
@@ -153,24 +157,50 @@ fn is_same(node: &Node, other: &Node) -> bool
 {
     match (node, other) {
         (Node::Input { width }, Node::Input { width: other }) => width == other,
-        (Node::Map { source, items }, Node::Map { source: other, items: others }) => {
-            source == other && items == others
-        }
-        (Node::Filter { source, test }, Node::Filter { source: other, test: others }) => {
-            source == other && test == others
-        }
-        (Node::Concat { left, right }, Node::Concat { left: other, right: another })
-        | (Node::Join { left, right }, Node::Join { left: other, right: another }) => {
-            left == other && right == another
-        }
+        (
+            Node::Map { source, items },
+            Node::Map {
+                source: other,
+                items: others,
+            },
+        ) => { source == other && items == others }
+        (
+            Node::Filter { source, test },
+            Node::Filter {
+                source: other,
+                test: others,
+            },
+        ) => { source == other && test == others }
+        (
+            Node::Concat { left, right },
+            Node::Concat {
+                left: other,
+                right: another,
+            },
+        )
+        | (
+            Node::Join { left, right },
+            Node::Join {
+                left: other,
+                right: another,
+            },
+        ) => { left == other && right == another }
         (Node::Negate { source }, Node::Negate { source: other })
         | (Node::Output { source }, Node::Output { source: other }) => source == other,
-        (Node::Arrange { source, key }, Node::Arrange { source: other, key: others }) => {
-            source == other && key == others
-        }
-        (Node::Reduce { kind, source }, Node::Reduce { kind: others, source: other }) => {
-            source == other && kind == others
-        }
+        (
+            Node::Arrange { source, key },
+            Node::Arrange {
+                source: other,
+                key: others,
+            },
+        ) => { source == other && key == others }
+        (
+            Node::Reduce { kind, source },
+            Node::Reduce {
+                kind: others,
+                source: other,
+            },
+        ) => { source == other && kind == others }
         _ => false,
     }
 }

@@ -1,4 +1,9 @@
-//! A finished plan.
+//! Plans: query graphs whose nodes read nodes with smaller numbers.
+//!
+//! A plan is the list of its nodes, and its one invariant is that the rules accept each of them after those before it. So
+//! it has no cycle, and every node's width, and the key of every join and reduction, is found from the nodes before it and
+//! never tested again. Beside each node stands its width, which would else be found anew from its sources, and theirs, at
+//! each question.
 ghost use Rattle.std.specs.Prelude.{◌≡◌, ◌<◌, ◌≤◌, ◌↔◌, ◌++◌, [], ◌∷◌, None, length, IsTrue, IfOk, IfErr, OnErr};
 ghost use Rattle.update.specs.declared.refusal.Refusal.TheVariants.{OutOfMemory};
 ghost use Rattle.plan.specs.Nodes.{node_at, key_of, key_width};
@@ -56,6 +61,13 @@ impl Plan {
         self.stages.len()
     }
 
+    /// Whether there are none. Takes no memory.
+    pub fn is_empty(&self) -> bool
+        ensures { IsTrue result ↔ (self.now ≡ []) }
+    {
+        self.len() == 0
+    }
+
     /// The node of a number. Takes no memory, and constant time.
     pub fn node(&self, id: NodeId) -> &Node
         requires { id < length self.now }
@@ -91,6 +103,19 @@ impl Plan {
     {
         let _ = &self.stages;
         self.node(id).arranged_by().unwrap_or(0)
+    }
+
+    /// How many columns the key has by which the sources of the node are arranged: a join's and a reduction's, 1 to 8; 0
+    /// where its first source is no arrange node. Takes no memory, and constant time.
+    pub fn key_width(&self, id: NodeId) -> usize
+        requires { id < length self.now }
+        ensures { result ≡ key_width self.now (node_at self.now id) }
+    {
+        let _count = self.len();
+        match self.node(id).source(0) {
+            Some(source) => self.key(source),
+            None => 0,
+        }
     }
 
     /// Adds a node that the rules accept; refused only for want of memory.

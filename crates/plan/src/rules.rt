@@ -86,8 +86,10 @@ impl Plan {
         }
         let key = self.key(left);
         let width = joined_width(key, self.width(left), self.width(right));
-        refused(key != self.key(right), Refusal::KeyMismatch)
-            .or(refused(!is_width(width), Refusal::BadWidth))
+        refused(key != self.key(right), Refusal::KeyMismatch).or(refused(
+            !is_width(width),
+            Refusal::BadWidth,
+        ))
     }
 
     // What refuses a reduction of a node that is there.
@@ -165,8 +167,10 @@ fn items_fault(items: &[Item], width: usize) -> Option<Refusal>
     ensures { result ≡ first_refusal ((not (is_width (length items.now)), BadWidth)
         ∷ (not (list_all (λ item. is_within item width) items.now), BadColumn) ∷ []) }
 {
-    refused(!is_width(items.len()), Refusal::BadWidth)
-        .or(refused(!are_within(items, width), Refusal::BadColumn))
+    refused(!is_width(items.len()), Refusal::BadWidth).or(refused(
+        !are_within(items, width),
+        Refusal::BadColumn,
+    ))
 }
 
 // Whether rows of that width have the columns that the items name.

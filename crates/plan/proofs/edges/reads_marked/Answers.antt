@@ -1,4 +1,4 @@
-use Rattle.std.proofs.Common.{◌≡◌, true, ◌||◌, slice_get, ap, ap₂, sym, ◌∙◌}
+use Rattle.std.proofs.Common.{◌||◌, slice_get, ap, sym, ◌∙◌}
 use Rattle.plan.specs.Nodes.{sources}
 use Rattle.plan.specs.Edges.{is_marked}
 use Rattle.plan.proofs.EdgeLemmas.{marked_at_ports}

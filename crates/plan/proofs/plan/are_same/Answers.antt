@@ -1,4 +1,4 @@
-use Rattle.std.proofs.Common.{◌≡◌, ◌<◌, Bool, true, false, not, IsTrue, ⊎_elim, eq-or-lt_of_le, length, refl, ap, sym, ◌∙◌, arith}
+use Rattle.std.proofs.Common.{◌≡◌, Bool, true, false, not, ⊎_elim, eq-or-lt_of_le, refl, ap, sym, ◌∙◌, arith}
 use Rattle.std.proofs.lemmas.Bool.{true≢false}
 use Rattle.plan.specs.Nodes.{node_at}
 use Rattle.plan.specs.NodeEquality.{same_node, nodes_decide}
@@ -12,11 +12,12 @@ not_false false e = sym e
 pub returns-then-ne : goal.returns-then-ne
 returns-then-ne c =
     let ours = c.node.ensures ∙ ap (node_at c.args.plan.now) c.new-id.ensures in
-    let theirs = c.node-in-loop-n.ensures ∙ ap (node_at c.args.other.now) c.new-id.ensures in
-    ((λ h. absurd (true≢false (sym h))),
-     (λ e.
-        let same = (nodes_decide c.node.result.now c.node-in-loop-n.result.now).1 (ours ∙ ap (λ p. node_at p c.loop-n.n) e ∙ sym theirs) in
-        sym (ap not same) ∙ sym c.ne.ensures ∙ c.if-ne.true))
+    let theirs = c.node-in-loop-n.ensures ∙ ap (node_at c.args.other.now) c.new-id.ensures in (
+      (λ h. absurd (true≢false (sym h))),
+      (λ e.
+          let same = (nodes_decide c.node.result.now c.node-in-loop-n.result.now).1 (ours ∙ ap (λ p. node_at p c.loop-n.n) e ∙ sym theirs) in
+          sym (ap not same) ∙ sym c.ne.ensures ∙ c.if-ne.true),
+    )
 
 pub loop-n-preserved : goal.loop-n-preserved
 loop-n-preserved c m l =

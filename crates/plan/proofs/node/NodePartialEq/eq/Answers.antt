@@ -1,4 +1,4 @@
-use Rattle.std.proofs.Common.{◌≡◌, sym, ◌∙◌}
+use Rattle.std.proofs.Common.{sym, ◌∙◌}
 use Rattle.plan.specs.NodeEquality.{nodes_decide}
 use Rattle.plan.proofs.node.NodePartialEq.eq.Goals as goal
 

@@ -1,4 +1,4 @@
-use Rattle.std.proofs.Common.{◌≡◌, ◌∙◌}
+use Rattle.std.proofs.Common.{◌∙◌}
 use Rattle.plan.proofs.EdgeLemmas.{edges_with}
 use Rattle.plan.proofs.plan.Plan.edges_from.Goals as goal
 

@@ -1,4 +1,4 @@
-use Rattle.std.proofs.Common.{◌≡◌, not, [], ◌∷◌, ap, ap₂, sym, ◌∙◌, length}
+use Rattle.std.proofs.Common.{not, [], ◌∷◌, ap, ap₂, sym, ◌∙◌, length}
 use Rattle.std.specs.List.{list_all}
 use Rattle.row.specs.Projection.{is_within}
 use Rattle.update.specs.declared.refusal.Refusal.TheVariants.{BadWidth, BadColumn}

@@ -1,4 +1,4 @@
-use Rattle.std.proofs.Common.{◌≡◌, ◌<◌, length, get_or, IsTrue, subst, sym, ap, ap₂, ◌∙◌, arith}
+use Rattle.std.proofs.Common.{◌<◌, length, get_or, IsTrue, subst, sym, ap, ap₂, ◌∙◌, arith}
 use Rattle.std.proofs.lemmas.List.{length-map}
 use Rattle.std.proofs.lemmas.Option.{slice_get-get_or}
 use Rattle.plan.specs.declared.plan.Stage.{Stage}
@@ -10,11 +10,11 @@ use Rattle.plan.proofs.plan.Plan.width.Goals as goal
 pub returns-clause-width : goal.returns-clause-width
 returns-clause-width c =
     let within : c.number.result < length c.self.inside.stages.items =
-      (let l = c.requires in
-       let all = length-map c.self.inside.stages.items (λ (s : Stage). s.node) in
-       let same = ap length c.self.view_is in
-       let number = c.number.ensures in
-       omega arith) in
+    (let l = c.requires in
+    let all = length-map c.self.inside.stages.items (λ (s : Stage). s.node) in
+    let same = ap length c.self.view_is in
+    let number = c.number.ensures in
+    omega arith) in
     ap (λ (s : Stage). s.width) c.index.ensures
     ∙ c.self.invariant.widths c.number.result (get_or c.self.inside.stages.items c.number.result c.index.result.now) (slice_get-get_or c.self.inside.stages.items c.number.result c.index.result.now within)
     ∙ ap₂ width_of c.self.view_is c.number.ensures
