@@ -1,0 +1,72 @@
+-- What a passed frontier says of a node and its ancestors.
+use Rattle.std.proofs.Common.{◌≡◌, ℕ, zero, suc, ◌+◌, ◌<◌, ◌≤◌, Bool, true, false, cond, not, ◌&&◌, ◌||◌, List, [], ◌∷◌, ◌++◌, map, length, sym, refl, ap, ◌∙◌, subst, Option, Some, None, eqb, arith}
+use Rattle.std.specs.List.{flat_map, filter, slice_get, list_any}
+use Rattle.std.proofs.lemmas.Bool.{cases_Bool, eqb-false, false≢true, ne_eqb, and_parts, or_parts, or_from, or_left, or_right, eqb-true, eq-eqb}
+use Rattle.std.proofs.lemmas.List.Folds.{list_any-append}
+use Rattle.lattice.specs.Order.{PartialOrderLaws}
+use Rattle.lattice.specs.Frontiers.{is_beyond}
+use Rattle.antichain.specs.Antichains.{least}
+use Rattle.update.specs.Updates.{as_of}
+use Rattle.machine.specs.declared.event.Bundle.{Bundle}
+use Rattle.machine.specs.declared.event.Held.{Held}
+use Rattle.machine.specs.Worlds.{World, place, same_place, times, updates_at, held_at}
+use Rattle.machine.specs.Outstanding.{stamps, held_where, open_where, counted}
+use Rattle.machine.proofs.FlowLemmas.{as_of-append, passed-least}
+use Rattle.machine.proofs.KeptLemmas.{as_of-passed}
+
+-- nothing that came to a node and counts at t is still in flight
+pub record IsArrived {T : Type 0} (leq : T → T → Bool) (w : World T) (t : T) (n : ℕ) : Type 0 where
+  pub flight : (port k : ℕ) → as_of leq t (updates_at (place n port k) w.in_flight) ≡ []
+
+pub record IsClear {T : Type 0} (leq : T → T → Bool) (w : World T) (t : T) (n : ℕ) : Type 0 where
+  pub arrived : IsArrived leq w t n
+  pub held : (k : ℕ) → is_beyond leq (held_at n k w.held) t ≡ false
+
+module _ {T : Type 0} (leq : T → T → Bool) (o : PartialOrderLaws leq) (t : T) (test : ℕ → Bool) (m : ℕ) (there : test m ≡ true) where
+  pub clear_flight : (qs : List (Bundle T)) → is_beyond leq (flat_map (λ q. cond (test q.place.node) (least leq (times q.updates)) []) qs) t ≡ false → (port k : ℕ) → as_of leq t (updates_at (place m port k) qs) ≡ []
+  clear_flight [] h port k = refl
+  clear_flight (q ∷ qs) h port k =
+      let b = or_parts (is_beyond leq (cond (test q.place.node) (least leq (times q.updates)) []) t) (is_beyond leq (flat_map (λ q. cond (test q.place.node) (least leq (times q.updates)) []) qs) t)
+        (sym (list_any-append (λ f. leq f t) (cond (test q.place.node) (least leq (times q.updates)) []) (flat_map (λ q. cond (test q.place.node) (least leq (times q.updates)) []) qs)) ∙ h) in
+      as_of-append leq t (cond (same_place q.place (place m port k)) q.updates []) (updates_at (place m port k) qs)
+      ∙ rw (clear_flight qs b.1 port k, head (same_place q.place (place m port k)) refl b.0) refl
+    where
+      head : (c : Bool) → same_place q.place (place m port k) ≡ c → is_beyond leq (cond (test q.place.node) (least leq (times q.updates)) []) t ≡ false → as_of leq t (cond c q.updates []) ≡ []
+      head false e g = refl
+      head true e g =
+          let n = eqb-true q.place.node m (and_parts (eqb q.place.node m) (eqb q.place.port port && eqb q.place.worker k) e).0 in
+          let passes : test q.place.node ≡ true = ap test n ∙ there in
+          as_of-passed leq t q.updates (passed-least leq o (times q.updates) t (subst (λ b. is_beyond leq (cond b (least leq (times q.updates)) []) t ≡ false) passes g))
+
+  pub clear_held : (ms : List (Held T)) → is_beyond leq (flat_map (λ x. cond (test x.node) (x.time ∷ []) []) ms) t ≡ false → (k : ℕ) → is_beyond leq (held_at m k ms) t ≡ false
+  clear_held [] h k = refl
+  clear_held (x ∷ ms) h k =
+      let b = or_parts (is_beyond leq (cond (test x.node) (x.time ∷ []) []) t) (is_beyond leq (flat_map (λ x. cond (test x.node) (x.time ∷ []) []) ms) t)
+        (sym (list_any-append (λ f. leq f t) (cond (test x.node) (x.time ∷ []) []) (flat_map (λ x. cond (test x.node) (x.time ∷ []) []) ms)) ∙ h) in
+      list_any-append (λ f. leq f t) (cond (eqb x.node m && eqb x.worker k) (x.time ∷ []) []) (held_at m k ms)
+      ∙ or_from (is_beyond leq (cond (eqb x.node m && eqb x.worker k) (x.time ∷ []) []) t) (is_beyond leq (held_at m k ms) t) (head (eqb x.node m && eqb x.worker k) refl b.0) (clear_held ms b.1 k)
+    where
+      head : (c : Bool) → (eqb x.node m && eqb x.worker k) ≡ c → is_beyond leq (cond (test x.node) (x.time ∷ []) []) t ≡ false → is_beyond leq (cond c (x.time ∷ []) []) t ≡ false
+      head false e g = refl
+      head true e g =
+          let n = eqb-true x.node m (and_parts (eqb x.node m) (eqb x.worker k) e).0 in
+          let passes : test x.node ≡ true = ap test n ∙ there in
+          subst (λ b. is_beyond leq (cond b (x.time ∷ []) []) t ≡ false) passes g
+
+module _ {T : Type 0} (leq : T → T → Bool) (o : PartialOrderLaws leq) (t : T) (there holding : ℕ → Bool) (w : World T) where
+  -- what is counted, in its three parts
+  pub counted_parts : is_beyond leq (counted leq w there holding) t ≡ false
+    → (is_beyond leq (stamps leq (λ site. there site.node) w.in_flight) t ≡ false) × (is_beyond leq (held_where holding w.held) t ≡ false) × (is_beyond leq (open_where there w.openings) t ≡ false)
+  counted_parts h =
+      let a = stamps leq (λ site. there site.node) w.in_flight in
+      let b = held_where holding w.held in
+      let c = open_where there w.openings in
+      let f = or_parts (is_beyond leq a t) (is_beyond leq (b ++ c) t) (sym (list_any-append (λ f. leq f t) a (b ++ c)) ∙ h) in
+      let g = or_parts (is_beyond leq b t) (is_beyond leq c t) (sym (list_any-append (λ f. leq f t) b c) ∙ f.1) in
+      (f.0, g.0, g.1)
+
+  pub arrived_passed : is_beyond leq (counted leq w there holding) t ≡ false → (m : ℕ) → there m ≡ true → IsArrived leq w t m
+  arrived_passed h m e = record { flight = clear_flight leq o t there m e w.in_flight (counted_parts h).0 }
+
+  pub clear_passed : is_beyond leq (counted leq w there holding) t ≡ false → (m : ℕ) → there m ≡ true → holding m ≡ true → IsClear leq w t m
+  clear_passed h m e f = record { arrived = arrived_passed h m e; held = clear_held leq o t holding m f w.held (counted_parts h).1 }

@@ -1,0 +1,112 @@
+-- What one event changes: sums at a time, of what is at a site, and of what was to come there.
+use Rattle.std.proofs.Common.{◌≡◌, ℕ, zero, suc, ◌+◌, ◌<◌, ◌≤◌, Bool, true, false, cond, not, ◌&&◌, ◌||◌, List, [], ◌∷◌, ◌++◌, map, length, sym, refl, ap, ◌∙◌, subst, Option, Some, None, eqb, arith, append_assoc}
+use Rattle.std.specs.List.{flat_map, filter, slice_get, list_any}
+use Rattle.std.proofs.lemmas.Int.{ints}
+use Rattle.std.proofs.lemmas.Bool.{and_parts, or_parts, or_from, or_right, eqb-true, cases_Bool, false_from_ne_true, false≢true}
+use Rattle.std.proofs.lemmas.Option.{same_Some}
+use Rattle.std.proofs.lemmas.List.Concat.{flat_map-append}
+use Rattle.std.proofs.lemmas.List.Folds.{list_any-append}
+use Rattle.std.proofs.Math.IntN.{ℤ, pos, ◌+ℤ◌, +ℤ_idl, +ℤ_idr}
+use Rattle.lattice.specs.Order.{PartialOrderLaws}
+use Rattle.lattice.specs.Frontiers.{is_beyond}
+use Rattle.antichain.specs.Antichains.{least}
+use Rattle.update.specs.Bags.{count_of, same_row, total_by}
+use Rattle.update.specs.Updates.{as_of, entry}
+use Rattle.update.specs.declared.change.Update.{Update}
+use Rattle.machine.specs.declared.event.Place.{Place}
+use Rattle.machine.specs.declared.event.Bundle.{Bundle}
+use Rattle.machine.specs.Dataflows.{above}
+use Rattle.machine.specs.Worlds.{same_place, updates_at, queue}
+use Rattle.machine.specs.Histories.{without}
+use Rattle.update.proofs.SumLemmas.{total_by-append}
+use Rattle.plan.proofs.WeighLemmas.{count_of-append}
+use Rattle.antichain.proofs.InsertionLemmas.{least_beyond}
+
+-- places that test the same are the same
+pub place_same : (a b : Place) → same_place a b ≡ true → a ≡ b
+place_same a b h =
+    let p = and_parts (eqb a.node b.node) (eqb a.port b.port && eqb a.worker b.worker) h in
+    let q = and_parts (eqb a.port b.port) (eqb a.worker b.worker) p.1 in
+    made (eqb-true a.node b.node p.0) (eqb-true a.port b.port q.0) (eqb-true a.worker b.worker q.1)
+  where
+    made : a.node ≡ b.node → a.port ≡ b.port → a.worker ≡ b.worker → a ≡ b
+    made x y z = λ i. record { node = x i; port = y i; worker = z i }
+
+module _ {T : Type 0} (leq : T → T → Bool) (t : T) where
+  -- how often a row is in the sum at t
+  abbrev pub sum_at : List (Update T) → List ℤ → ℤ
+  sum_at us r = count_of (as_of leq t us) r
+
+  abbrev counts : Update T → Bool
+  counts u = leq u.time t
+
+  pub as_of-append : (xs ys : List (Update T)) → as_of leq t (xs ++ ys) ≡ as_of leq t xs ++ as_of leq t ys
+  as_of-append [] ys = refl
+  as_of-append (u ∷ xs) ys = step (leq u.time t) (as_of-append xs ys)
+    where
+      step : (b : Bool) → as_of leq t (xs ++ ys) ≡ as_of leq t xs ++ as_of leq t ys → map entry (cond b (u ∷ filter counts (xs ++ ys)) (filter counts (xs ++ ys))) ≡ map entry (cond b (u ∷ filter counts xs) (filter counts xs)) ++ as_of leq t ys
+      step true h = ap (λ z. entry u ∷ z) h
+      step false h = h
+
+  pub sum_at-append : (xs ys : List (Update T)) (r : List ℤ) → sum_at (xs ++ ys) r ≡ sum_at xs r +ℤ sum_at ys r
+  sum_at-append xs ys r = rw (as_of-append xs ys) (count_of-append (as_of leq t xs) (as_of leq t ys) r)
+
+-- what an update is, of a row
+abbrev pub value : {T : Type 0} → List ℤ → Update T → ℤ
+value r u = cond (same_row u.row r) u.diff (pos 0)
+
+pub through_is : {T : Type 0} (leq : T → T → Bool) (r : List ℤ) (t : T) (us : List (Update T)) → count_of (as_of leq t us) r ≡ total_by (λ u. cond (leq u.time t) (value r u) (pos 0)) us
+through_is leq r t [] = refl
+through_is {T} leq r t (u ∷ us) = step (leq u.time t) (through_is leq r t us)
+  where
+    step : (b : Bool) → count_of (as_of leq t us) r ≡ total_by (λ u. cond (leq u.time t) (value r u) (pos 0)) us → count_of (map entry (cond b (u ∷ filter (λ (u : Update T). leq u.time t) us) (filter (λ (u : Update T). leq u.time t) us))) r ≡ cond b (value r u) (pos 0) +ℤ total_by (λ u. cond (leq u.time t) (value r u) (pos 0)) us
+    step true h = ap (λ z. value r u +ℤ z) h
+    step false h = h ∙ sym (+ℤ_idl (total_by (λ u. cond (leq u.time t) (value r u) (pos 0)) us))
+
+module _ {T : Type 0} (f : Update T → ℤ) where
+  pub measure_place-append : (site : Place) (xs ys : List (Bundle T))  → total_by f (updates_at site (xs ++ ys)) ≡ total_by f (updates_at site xs) +ℤ total_by f (updates_at site ys)
+  measure_place-append site xs ys = rw (flat_map-append (λ (q : Bundle T). cond (same_place q.place site) q.updates []) xs ys) (total_by-append f (updates_at site xs) (updates_at site ys))
+
+  past : (x a c : List (Update T)) (b : ℤ)  → total_by f a ≡ b +ℤ total_by f c → total_by f (x ++ a) ≡ b +ℤ total_by f (x ++ c)
+  past x a c b h = rw (total_by-append f x a, total_by-append f x c, h) (swap_first (total_by f x) b (total_by f c))
+    where
+      swap_first : (x y z : ℤ) → x +ℤ (y +ℤ z) ≡ y +ℤ (x +ℤ z)
+      swap_first x y z = omega (arith, ints)
+
+  -- what is taken from a site is no longer there, and each other site is as it was
+  pub taken : (site : Place) (qs : List (Bundle T)) (j : ℕ) (us : List (Update T)) → slice_get (queue site qs) j ≡ Some us → (other : Place)  → total_by f (updates_at other qs) ≡ total_by f (cond (same_place site other) us []) +ℤ total_by f (updates_at other (without site qs j))
+  taken site [] j us h other = cc
+  taken site (q ∷ qs) zero us h other = step (same_place q.place site) refl h (taken site qs zero us)
+    where
+      step : (b : Bool) → same_place q.place site ≡ b → slice_get (cond b (q.updates ∷ []) [] ++ queue site qs) zero ≡ Some us
+        → (slice_get (queue site qs) zero ≡ Some us → (other : Place)  → total_by f (updates_at other qs) ≡ total_by f (cond (same_place site other) us []) +ℤ total_by f (updates_at other (without site qs zero)))
+        → total_by f (updates_at other (q ∷ qs)) ≡ total_by f (cond (same_place site other) us []) +ℤ total_by f (updates_at other (cond b qs (q ∷ without site qs zero)))
+      step true s e ih = rw (place_same q.place site s, same_Some q.updates us e) (total_by-append f (cond (same_place site other) us []) (updates_at other qs))
+      step false s e ih = past (cond (same_place q.place other) q.updates []) (updates_at other qs) (updates_at other (without site qs zero)) (total_by f (cond (same_place site other) us [])) (ih e other)
+  taken site (q ∷ qs) (suc j) us h other = step (same_place q.place site) h (taken site qs j us) (taken site qs (suc j) us)
+    where
+      step : (b : Bool) → slice_get (cond b (q.updates ∷ []) [] ++ queue site qs) (suc j) ≡ Some us
+        → (slice_get (queue site qs) j ≡ Some us → (other : Place)  → total_by f (updates_at other qs) ≡ total_by f (cond (same_place site other) us []) +ℤ total_by f (updates_at other (without site qs j)))
+        → (slice_get (queue site qs) (suc j) ≡ Some us → (other : Place)  → total_by f (updates_at other qs) ≡ total_by f (cond (same_place site other) us []) +ℤ total_by f (updates_at other (without site qs (suc j))))
+        → total_by f (updates_at other (q ∷ qs)) ≡ total_by f (cond (same_place site other) us []) +ℤ total_by f (updates_at other (q ∷ cond b (without site qs j) (without site qs (suc j))))
+      step true e ih jh = past (cond (same_place q.place other) q.updates []) (updates_at other qs) (updates_at other (without site qs j)) (total_by f (cond (same_place site other) us [])) (ih e other)
+      step false e ih jh = past (cond (same_place q.place other) q.updates []) (updates_at other qs) (updates_at other (without site qs (suc j))) (total_by f (cond (same_place site other) us [])) (jh e other)
+
+
+-- What the least elements have passed, all have
+
+module _ {T : Type 0} (leq : T → T → Bool) (o : PartialOrderLaws leq) where
+  pub beyond-least : (S : List T) (t : T) → is_beyond leq S t ≡ true → is_beyond leq (least leq S) t ≡ true
+  beyond-least S t h = least_beyond o S t ∙ h
+
+  pub passed-least : (S : List T) (t : T) → is_beyond leq (least leq S) t ≡ false → is_beyond leq S t ≡ false
+  passed-least S t h = sym (least_beyond o S t) ∙ h
+
+-- A frontier has passed a time where nothing of it is at or before the time
+
+pub is_passed : (b : Bool) → b ≡ false → not b ≡ true
+is_passed b h = ap not h
+
+pub not_beyond : (b : Bool) → not b ≡ true → b ≡ false
+not_beyond true h = absurd (false≢true h)
+not_beyond false h = refl

@@ -1,0 +1,168 @@
+-- Histories: lists of events, the newest first. What each event leaves, and when it is allowed.
+use Rattle.std.specs.Prelude.{◌≡◌, ℕ, zero, suc, ◌<◌, ◌≤◌, ◌≢◌, Bool, not, ◌&&◌, eqb, if◌then◌else◌, List, [], ◌∷◌, ◌++◌, map, length, Option, Some, None, IsTrue, Contains, ⊤, pos, unsigned_abs, slice_get}
+use Rattle.std.specs.List.{filter, list_all, flat_map}
+use Rattle.lattice.specs.Frontiers.{is_beyond, all_beyond}
+use Rattle.update.specs.declared.change.Update.{Update}
+use Rattle.plan.specs.Ancestors.{is_input, numbers_below}
+use Rattle.plan.specs.Changes.{has_passed}
+use Rattle.plan.specs.Edges.{numbers_where}
+use Rattle.plan.specs.Nodes.{arranged_by}
+use Rattle.plan.specs.Rules.{is_output}
+use Rattle.plan.specs.Widths.{width_of}
+use Rattle.machine.specs.declared.event.Place.{Place}
+use Rattle.machine.specs.declared.event.Bundle.{Bundle}
+use Rattle.machine.specs.declared.event.Fed.{Fed}
+use Rattle.machine.specs.declared.event.Emission.{Emission}
+use Rattle.machine.specs.declared.event.Held.{Held}
+use Rattle.machine.specs.declared.event.Open.{Open}
+use Rattle.machine.specs.declared.event.Event.{Event}
+use Rattle.machine.specs.declared.event.Event.TheVariants.{Feed, Advance, Allow, Look, Take, TakeHeld, Give}
+use Rattle.machine.specs.Dataflows.{Dataflow, node_of}
+use Rattle.machine.specs.Worlds.{World, times, place, same_place, updates_at, queue, emitted_by, fed_to, held_at, open_at}
+use Rattle.machine.specs.Shares.{home, share}
+use Rattle.machine.specs.Outstanding.{stamp, input_frontier}
+use Rattle.machine.specs.NodeLaws.{NodeLaw, LoadRule}
+
+-- the function, with another value at one place
+abbrev pub with_at : {A : Type 0} → (ℕ → A) → ℕ → A → ℕ → A
+with_at f i value j = if eqb j i then value else f j
+
+module _ {T : Type 0} where
+  -- the bundles without the one of this number, from 0, among those of a place
+  abbrev pub without : Place → List (Bundle T) → ℕ → List (Bundle T)
+  without site [] number = []
+  without site (b ∷ bundles) zero = if same_place b.place site then bundles else b ∷ without site bundles zero
+  without site (b ∷ bundles) (suc number) = b ∷ (if same_place b.place site then without site bundles number else without site bundles (suc number))
+
+  abbrev pub is_held_by : ℕ → ℕ → Held T → Bool
+  is_held_by n k m = eqb m.node n && eqb m.worker k
+
+  -- the times, each as held by a worker at a node
+  abbrev pub holding : ℕ → ℕ → List T → List (Held T)
+  holding n k ts = map (λ t. record { node = n; worker = k; time = t }) ts
+
+  -- the times, each as an element of an input's frontier
+  abbrev pub opening : ℕ → List T → List (Open T)
+  opening i ts = map (λ t. record { input = i; time = t }) ts
+
+module _ {T : Type 0} (below : T → T → Bool) (p : Dataflow) where
+  -- a worker has a node's piece in hand, and the input frontier that it found there is noted
+  abbrev pub turned_to : World T → ℕ → ℕ → World T
+  turned_to w n k = record w {
+    hand = with_at w.hand k (Some n);
+    left = record { node = n; worker = k; frontier = input_frontier below p w n } ∷ w.left
+  }
+
+  -- a bundle is received: it is in flight no more, and from then on its stamp is held
+  abbrev pub took : World T → Place → ℕ → List (Update T) → World T
+  took w site number us = record w {
+    in_flight = without site w.in_flight number;
+    received = record { place = site; updates = us } ∷ w.received;
+    held = holding site.node site.worker (stamp below us) ++ w.held
+  }
+
+  -- what a worker computed is given: it holds these times there from then on, and no other, and what is sent is in flight
+  abbrev pub gave : World T → Emission T → List T → List (Bundle T) → World T
+  gave w g ts sent = record w {
+    in_flight = w.in_flight ++ sent;
+    emitted = g ∷ w.emitted;
+    held = holding g.node g.worker ts ++ filter (λ m. not (is_held_by g.node g.worker m)) w.held;
+    hand = with_at w.hand g.worker None
+  }
+
+  -- what an event leaves
+  abbrev pub after : World T → Event T → World T
+  after w (Feed client f) = record w { fed = f ∷ w.fed; in_flight = w.in_flight ++ record { place = home p f; updates = f.update ∷ [] } ∷ [] }
+  after w (Advance client i ts) = record w { openings = opening i ts ++ filter (λ o. not (eqb o.input i)) w.openings }
+  after w (Allow client v ts) = record w { since = with_at w.since v ts }
+  after w (Look actor) = w
+  after w (Take site number us) = turned_to (took w site number us) site.node site.worker
+  after w (TakeHeld k n) = turned_to w n k
+  after w (Give g ts sent) = gave w g ts sent
+
+  -- an input of the plan
+  abbrev pub IsInput : ℕ → Type 0
+  IsInput n = (n < length p.nodes) × IsTrue (is_input (node_of p n))
+
+  -- a change may be fed: the row has the input's width, the diff is some number of at most 31 bits, the time is open, and
+  -- the input has room for it
+  pub record IsFeed (w : World T) (f : Fed T) : Type 0 where
+    pub input : IsInput f.input
+    pub width : length f.update.row ≡ width_of p.nodes f.input
+    pub some : f.update.diff ≢ pos 0
+    pub small : unsigned_abs f.update.diff ≤ 2147483647
+    pub not_passed : IsTrue (is_beyond below (open_at f.input w.openings) f.update.time)
+    pub room : length (fed_to f.input w.fed) < 1048576
+
+  -- an input's frontier may only move on
+  pub record IsAdvance (w : World T) (i : ℕ) (ts : List T) : Type 0 where
+    pub input : IsInput i
+    pub onward : IsTrue (all_beyond below (open_at i w.openings) ts)
+
+  -- so may the frontier beyond which a view is read
+  pub record IsAllow (w : World T) (v : ℕ) (ts : List T) : Type 0 where
+    pub within : v < length p.nodes
+    pub view : IsTrue (is_output (node_of p v))
+    pub onward : IsTrue (all_beyond below (w.since v) ts)
+
+  -- a worker with nothing in hand takes a bundle that waits: the first one of its place, but into an arrange node any
+  pub record IsTake (w : World T) (site : Place) (number : ℕ) (us : List (Update T)) : Type 0 where
+    pub worker : site.worker < p.workers
+    pub free : w.hand site.worker ≡ None
+    pub waits : slice_get (queue site w.in_flight) number ≡ Some us
+    pub turn : arranged_by (node_of p site.node) ≡ None → number ≡ 0
+
+  -- or it turns to times that it holds, where the node's input frontier has passed one
+  pub record IsTakeHeld (w : World T) (k n : ℕ) : Type 0 where
+    pub worker : k < p.workers
+    pub within : n < length p.nodes
+    pub free : w.hand k ≡ None
+    pub held : T
+    pub holds : Contains (held_at n k w.held) held
+    pub passed : IsTrue (has_passed below (input_frontier below p w n) held)
+
+  -- a worker gives at the node of its piece in hand: nothing before the times that it held, and such that it then keeps the
+  -- node law and the load rule, and each place is sent exactly its share, in bundles none of which is empty
+  pub record IsGive (w : World T) (g : Emission T) (ts : List T) (sent : List (Bundle T)) : Type 0 where
+    pub worker : g.worker < p.workers
+    pub in_hand : w.hand g.worker ≡ Some g.node
+    pub onward : IsTrue (all_beyond below (held_at g.node g.worker w.held) (times g.updates ++ ts))
+    pub law : NodeLaw below p (gave w g ts sent) g.node g.worker
+    pub load : LoadRule below p (gave w g ts sent) g.node g.worker
+    pub whole : (site : Place) → updates_at site sent ≡ share p site g
+    pub filled : IsTrue (list_all (λ b. not (eqb (length b.updates) 0)) sent)
+
+  -- the event may happen
+  abbrev pub IsAllowed : World T → Event T → Type 0
+  IsAllowed w (Feed client f) = IsFeed w f
+  IsAllowed w (Advance client i ts) = IsAdvance w i ts
+  IsAllowed w (Allow client v ts) = IsAllow w v ts
+  IsAllowed w (Look actor) = ⊤
+  IsAllowed w (Take site number us) = IsTake w site number us
+  IsAllowed w (TakeHeld k n) = IsTakeHeld w k n
+  IsAllowed w (Give g ts sent) = IsGive w g ts sent
+
+-- the dataflow after a history that began with this one: so far it stays as it was
+abbrev pub dataflow_after : {T : Type 0} → Dataflow → List (Event T) → Dataflow
+dataflow_after opened h = opened
+
+module _ {T : Type 0} (below : T → T → Bool) (minimum : T) (opened : Dataflow) where
+  -- before the first event nothing has come, and each input and view stands at the least time
+  abbrev pub first_world : World T
+  first_world = record {
+    fed = []; in_flight = []; received = []; emitted = []; held = [];
+    openings = flat_map (λ i. opening i (minimum ∷ [])) (numbers_where is_input opened.nodes);
+    hand = λ _. None;
+    since = λ _. minimum ∷ [];
+    left = []
+  }
+
+  -- what a history leaves
+  abbrev pub world : List (Event T) → World T
+  world [] = first_world
+  world (e ∷ h) = after below (dataflow_after opened h) (world h) e
+
+  -- each event was allowed where it stands
+  abbrev pub IsLegal : List (Event T) → Type 0
+  IsLegal [] = ⊤
+  IsLegal (e ∷ h) = IsAllowed below (dataflow_after opened h) (world h) e × IsLegal h

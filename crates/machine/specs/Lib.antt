@@ -1,0 +1,11 @@
+pub use Rattle.lattice.specs.Order
+pub use Rattle.lattice.specs.Frontiers
+pub use Rattle.update.specs.Bags
+pub use Rattle.update.specs.Updates
+pub mod Dataflows
+pub mod Worlds
+pub mod Shares
+pub mod Outstanding
+pub mod NodeLaws
+pub mod Histories
+pub mod Promises

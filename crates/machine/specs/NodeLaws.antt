@@ -1,0 +1,60 @@
+-- What a worker owes at a node. The node law: at every time before those that it still holds there, what it gave is what
+-- the node makes of what it received. The load rule: it gives no more than that can take.
+use Rattle.std.specs.Prelude.{◌≡◌, ℕ, ◌≤◌, Bool, true, false, not, ◌&&◌, eqb, List, [], ◌∷◌, IsTrue, ⊤}
+use Rattle.std.specs.List.{list_any, list_all}
+use Rattle.update.specs.Bags.{Alike, same_row}
+use Rattle.update.specs.Updates.{as_of, size}
+use Rattle.update.specs.declared.change.Update.{Update}
+use Rattle.plan.specs.Changes.{has_passed}
+use Rattle.plan.specs.Weights.{load}
+use Rattle.plan.specs.declared.node.Node.{Node}
+use Rattle.plan.specs.declared.node.Node.TheVariants.{Input, Map, Filter, Concat, Negate, Arrange, Join, Reduce, Output}
+use Rattle.machine.specs.Dataflows.{Dataflow, node_of, given_at}
+use Rattle.machine.specs.Worlds.{World, Passage, place, updates_at, emitted_by, held_at}
+
+-- what a worker received at a port of a node
+abbrev pub received_at : {T : Type 0} → World T → ℕ → ℕ → ℕ → List (Update T)
+received_at w n k port = updates_at (place n port k) w.received
+
+module _ {T : Type 0} (below : T → T → Bool) where
+  abbrev pub NodeLaw : Dataflow → World T → ℕ → ℕ → Type 0
+  NodeLaw p w n k = (t : T) → IsTrue (has_passed below (held_at n k w.held) t)
+    → Alike (as_of below t (emitted_by n k w.emitted)) (given_at p n (λ port. as_of below t (received_at w n k port)))
+
+  -- the updates are of one row and one time
+  abbrev pub is_doubled : Update T → Update T → Bool
+  is_doubled u v = (below u.time v.time && below v.time u.time) && same_row u.row v.row
+
+  -- no two of the updates have one row and one time
+  abbrev pub AreApart : List (Update T) → Type 0
+  AreApart [] = ⊤
+  AreApart (u ∷ us) = (list_any (is_doubled u) us ≡ false) × AreApart us
+
+  -- some take at the node left an input frontier that had passed the time
+  abbrev pub was_passed : ℕ → ℕ → List (Passage T) → T → Bool
+  was_passed n k left t = list_any (λ l. (eqb l.node n && eqb l.worker k) && has_passed below l.frontier t) left
+
+  -- what a worker gave at a reduction is final: each row once a time, at times that it holds no more, and that a take left
+  -- with nothing to come
+  pub record IsSettled (w : World T) (n k : ℕ) : Type 0 where
+    pub apart : AreApart (emitted_by n k w.emitted)
+    pub held : IsTrue (list_all (λ u. has_passed below (held_at n k w.held) u.time) (emitted_by n k w.emitted))
+    pub left : IsTrue (list_all (λ u. was_passed n k w.left u.time) (emitted_by n k w.emitted))
+
+  -- the diffs given add to no more than those received; at a join to no more than the product of those at both ports
+  abbrev pub IsWithinLoad : Dataflow → World T → ℕ → ℕ → Type 0
+  IsWithinLoad p w n k = size (emitted_by n k w.emitted) ≤ load (node_of p n) 0 (λ port. size (received_at w n k port))
+
+  abbrev pub LoadRuleOf : Dataflow → World T → ℕ → ℕ → Node → Type 0
+  LoadRuleOf p w n k (Reduce kind source) = IsSettled w n k
+  LoadRuleOf p w n k (Input width) = IsWithinLoad p w n k
+  LoadRuleOf p w n k (Map source items) = IsWithinLoad p w n k
+  LoadRuleOf p w n k (Filter source test) = IsWithinLoad p w n k
+  LoadRuleOf p w n k (Concat left right) = IsWithinLoad p w n k
+  LoadRuleOf p w n k (Negate source) = IsWithinLoad p w n k
+  LoadRuleOf p w n k (Arrange source key) = IsWithinLoad p w n k
+  LoadRuleOf p w n k (Join left right) = IsWithinLoad p w n k
+  LoadRuleOf p w n k (Output source) = IsWithinLoad p w n k
+
+  abbrev pub LoadRule : Dataflow → World T → ℕ → ℕ → Type 0
+  LoadRule p w n k = LoadRuleOf p w n k (node_of p n)

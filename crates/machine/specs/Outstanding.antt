@@ -1,0 +1,59 @@
+-- Frontiers: from which times on a node may still give. Counted are the bundles in flight, by the least of their times,
+-- the times that are held, and the elements of the inputs' frontiers, at the node and above it, on every worker
+-- (Murray et al., Naiad, SOSP 2013, section 2.3).
+use Rattle.std.specs.Prelude.{ℕ, Bool, not, ◌&&◌, eqb, if◌then◌else◌, List, [], ◌∷◌, ◌++◌, Option, Some, None}
+use Rattle.std.specs.List.{flat_map}
+use Rattle.antichain.specs.Antichains.{least}
+use Rattle.update.specs.declared.change.Update.{Update}
+use Rattle.machine.specs.declared.event.Place.{Place}
+use Rattle.machine.specs.declared.event.Bundle.{Bundle}
+use Rattle.machine.specs.declared.event.Held.{Held}
+use Rattle.machine.specs.declared.event.Open.{Open}
+use Rattle.machine.specs.Dataflows.{Dataflow, source_of, above}
+use Rattle.machine.specs.Worlds.{World, times, open_at}
+
+module _ {T : Type 0} (below : T → T → Bool) where
+  -- a bundle's stamp: the least of its times
+  abbrev pub stamp : List (Update T) → List T
+  stamp us = least below (times us)
+
+  -- the stamps of the bundles at the places that pass a test
+  abbrev pub stamps : (Place → Bool) → List (Bundle T) → List T
+  stamps test bundles = flat_map (λ b. if test b.place then stamp b.updates else []) bundles
+
+-- the times held at the nodes that pass a test
+abbrev pub held_where : {T : Type 0} → (ℕ → Bool) → List (Held T) → List T
+held_where test held = flat_map (λ m. if test m.node then m.time ∷ [] else []) held
+
+-- the frontiers of the inputs that pass a test
+abbrev pub open_where : {T : Type 0} → (ℕ → Bool) → List (Open T) → List T
+open_where test openings = flat_map (λ o. if test o.input then o.time ∷ [] else []) openings
+
+module _ {T : Type 0} (below : T → T → Bool) where
+  -- what is outstanding where bundles and inputs are counted at some nodes, and held times at some
+  abbrev pub counted : World T → (ℕ → Bool) → (ℕ → Bool) → List T
+  counted w there holding = stamps below (λ site. there site.node) w.in_flight ++ (held_where holding w.held ++ open_where there w.openings)
+
+  -- what is outstanding at a node or above it
+  abbrev pub outstanding : Dataflow → World T → ℕ → List T
+  outstanding p w n = counted w (above p n) (above p n)
+
+  abbrev pub frontier : Dataflow → World T → ℕ → List T
+  frontier p w n = least below (outstanding p w n)
+
+  -- a node strictly above
+  abbrev pub strictly_above : Dataflow → ℕ → ℕ → Bool
+  strictly_above p n m = above p n m && not (eqb m n)
+
+  -- without what is held at the node itself: from which times on it may still be sent something
+  abbrev pub input_frontier : Dataflow → World T → ℕ → List T
+  input_frontier p w n = least below (counted w (above p n) (strictly_above p n))
+
+  -- what is outstanding at the source of a port; at an input it is its own frontier
+  abbrev pub outstanding_from : Dataflow → World T → ℕ → Option ℕ → List T
+  outstanding_from p w n None = open_at n w.openings
+  outstanding_from p w n (Some source) = outstanding p w source
+
+  -- the same for one port: what is in flight there, and what is outstanding at its source
+  abbrev pub port_frontier : Dataflow → World T → ℕ → ℕ → List T
+  port_frontier p w n port = least below (stamps below (λ site. eqb site.node n && eqb site.port port) w.in_flight ++ outstanding_from p w n (source_of p n port))

@@ -1,0 +1,82 @@
+-- What is promised of every legal history, each in a few lines. They are stated of what a history leaves, at one node.
+use Rattle.std.specs.Prelude.{◌≡◌, ℕ, ◌<◌, ◌≤◌, Bool, true, false, not, ◌&&◌, eqb, List, [], ◌∷◌, ◌++◌, IsTrue, ⊤, if◌then◌else◌, take, length, ℤ, ◌||◌, Contains}
+use Rattle.std.specs.List.{filter, list_all}
+use Rattle.std.specs.declared.cmp.Ordering.{Ordering}
+use Rattle.lattice.specs.Frontiers.{is_beyond}
+use Rattle.antichain.specs.Antichains.{SameElements, least}
+use Rattle.update.specs.Bags.{Entry, Alike, count_of}
+use Rattle.update.specs.Updates.{as_of, size, total_at, IsConsolidated}
+use Rattle.update.specs.declared.change.Update.{Update}
+use Rattle.plan.specs.Ancestors.{feeders}
+use Rattle.plan.specs.Changes.{has_passed, query_at, open_for, AreDifferences}
+use Rattle.plan.specs.Nodes.{key_width}
+use Rattle.plan.specs.Operators.{is_linear}
+use Rattle.plan.specs.Weights.{IsWeight}
+use Rattle.plan.specs.declared.node.Kind.{Kind}
+use Rattle.plan.specs.declared.node.Node.{Node}
+use Rattle.plan.specs.declared.node.Node.TheVariants.{Reduce}
+use Rattle.machine.specs.declared.event.Bundle.{Bundle}
+use Rattle.machine.specs.declared.event.Held.{Held}
+use Rattle.machine.specs.declared.event.Open.{Open}
+use Rattle.machine.specs.declared.event.Event.{Event}
+use Rattle.machine.specs.Dataflows.{Dataflow, node_of, given_at, above, route}
+use Rattle.machine.specs.Worlds.{World, times, emitted_at, emitted_by, fed_to, held_at, open_at}
+use Rattle.machine.specs.Outstanding.{frontier, input_frontier, port_frontier, outstanding, counted}
+use Rattle.machine.specs.NodeLaws.{received_at, AreApart}
+use Rattle.machine.specs.Histories.{world}
+
+-- the changes that were fed, by input
+abbrev pub changes_in : {T : Type 0} → World T → ℕ → List (Update T)
+changes_in w i = fed_to i w.fed
+
+module _ {T : Type 0} (below : T → T → Bool) (p : Dataflow) (w : World T) (n : ℕ) where
+  -- the headline: what a node gave on all workers, summed to a time that its frontier has passed, is the query on the
+  -- changes fed, summed to that time
+  abbrev pub MeetsQuery : Type 0
+  MeetsQuery = (t : T) → IsTrue (has_passed below (frontier below p w n) t)
+    → Alike (as_of below t (emitted_at n w.emitted)) (query_at below p.nodes (changes_in w) n t)
+
+  -- where a consolidated list has, of every row and passed time, what the node gave in total, it is the one list of
+  -- differences; and of such a list the node gave just that
+  pub record MeetsDifferences (cmp : T → T → Ordering) : Type 0 where
+    pub into : (us : List (Update T)) → IsConsolidated cmp us → IsTrue (list_all (λ u. has_passed below (frontier below p w n) u.time) us)
+      → ((t : T) → IsTrue (has_passed below (frontier below p w n) t) → (row : List ℤ) → total_at below row t us ≡ total_at below row t (emitted_at n w.emitted))
+      → AreDifferences below cmp p.nodes (changes_in w) (frontier below p w n) n us
+    pub back : (us : List (Update T)) → AreDifferences below cmp p.nodes (changes_in w) (frontier below p w n) n us
+      → (t : T) → IsTrue (has_passed below (frontier below p w n) t) → (row : List ℤ) → total_at below row t us ≡ total_at below row t (emitted_at n w.emitted)
+
+  -- at a join or reduction, what one worker gave is the part of the query whose keys are its own, wherever the input
+  -- frontier and the times that the worker itself holds have passed
+  abbrev pub MeetsPart : ℕ → Type 0
+  MeetsPart k = is_linear (node_of p n) ≡ false → (t : T) → IsTrue (has_passed below (input_frontier below p w n) t) → IsTrue (has_passed below (held_at n k w.held) t)
+    → Alike (as_of below t (emitted_by n k w.emitted)) (filter (λ e. eqb (route p (take (key_width p.nodes (node_of p n)) e.row)) k) (query_at below p.nodes (changes_in w) n t))
+
+  -- nothing is outstanding at a passed time or before it, at the node or above it: no update in flight, no held time and no
+  -- element of an input's frontier
+  pub record IsClearAt (t : T) : Type 0 where
+    pub in_flight : IsTrue (list_all (λ b. not (above p n b.place.node) || list_all (λ u. not (below u.time t)) b.updates) w.in_flight)
+    pub held : IsTrue (list_all (λ m. not (above p n m.node && below m.time t)) w.held)
+    pub inputs : IsTrue (list_all (λ o. not (above p n o.input && below o.time t)) w.openings)
+
+  abbrev pub NothingLurks : Type 0
+  NothingLurks = (t : T) → IsTrue (has_passed below (frontier below p w n) t) → IsClearAt t
+
+  -- what the node gave, on all workers, is within its weight
+  abbrev pub KeepsWeight : (T → T → Ordering) → Type 0
+  KeepsWeight cmp = (weight : ℕ) → IsWeight below cmp p.nodes (changes_in w) n weight → size (emitted_at n w.emitted) ≤ weight
+
+  -- a reduction's updates up to some step of a computation, each at a time that the input frontier has passed: at or before
+  -- each of their times they sum to what the worker owes
+  pub record AreOwed (k : ℕ) (us : List (Update T)) : Type 0 where
+    pub apart : AreApart below us
+    pub passed : IsTrue (list_all (λ u. has_passed below (input_frontier below p w n) u.time) us)
+    pub sums : (u : Update T) → Contains us u → (t : T) → IsTrue (below t u.time) → Alike (as_of below t us) (given_at p n (λ port. as_of below t (received_at w n k port)))
+
+  -- so where a reduction is about to answer that a number is too large, its weight is
+  abbrev pub OwesWithinWeight : (T → T → Ordering) → Type 0
+  OwesWithinWeight cmp = (source : ℕ) (kind : Kind) → node_of p n ≡ Reduce kind source → (k : ℕ) (us : List (Update T)) → AreOwed k us
+    → (weight : ℕ) → IsWeight below cmp p.nodes (changes_in w) n weight → size us ≤ weight
+
+-- what a frontier has passed it has passed after any later events
+abbrev pub GoesOn : {T : Type 0} → (T → T → Bool) → List T → List T → Type 0
+GoesOn {T} below earlier later = (t : T) → IsTrue (has_passed below earlier t) → IsTrue (has_passed below later t)

@@ -1,0 +1,98 @@
+//! What may happen on a board, and the entries of the logs that it leaves. Each event names who did it and all that it
+//! did, so that a history is a list of events and nothing else.
+use crate::lists::{Times, Updates};
+use update::Update;
+
+/// A place where bundles wait: a port of a node, on a worker.
+#[derive(Debug, Clone, Copy)]
+pub struct Place {
+    /// The node, by its number in the plan.
+    pub node: usize,
+    /// Which of the node's sources the updates come from; 0 at an input.
+    pub port: usize,
+    /// The worker, by its number.
+    pub worker: usize,
+}
+
+/// Updates on their way to a place, taken all at once.
+#[derive(Debug, Drop)]
+pub struct Bundle<T> {
+    /// Where they wait.
+    pub place: Place,
+    /// What they are.
+    pub updates: Updates<T>,
+}
+
+/// A change of an input's table.
+#[derive(Debug, Drop)]
+pub struct Fed<T> {
+    /// The input, by its number in the plan.
+    pub input: usize,
+    /// The change.
+    pub update: Update<T>,
+}
+
+/// What a worker gave at a node, at one time.
+#[derive(Debug, Drop)]
+pub struct Emission<T> {
+    /// The node, by its number in the plan.
+    pub node: usize,
+    /// The worker, by its number.
+    pub worker: usize,
+    /// What it gave.
+    pub updates: Updates<T>,
+}
+
+/// A time that a worker holds at a node: it may still give updates from it on.
+#[derive(Debug, Clone, Copy)]
+pub struct Held<T> {
+    /// The node, by its number in the plan.
+    pub node: usize,
+    /// The worker, by its number.
+    pub worker: usize,
+    /// The time.
+    pub time: T,
+}
+
+/// An element of an input's frontier: changes may still be fed from it on.
+#[derive(Debug, Clone, Copy)]
+pub struct Open<T> {
+    /// The input, by its number in the plan.
+    pub input: usize,
+    /// The time.
+    pub time: T,
+}
+
+/// Bundles that were sent together. A contract sees the list of them.
+#[derive(Debug, Drop)]
+pub struct Bundles<T> {
+    pub(crate) items: Vec<Bundle<T>>,
+}
+
+impl<T> std::marker::Model for Bundles<T> {
+    ghost use Rattle.std.specs.Prelude.{List};
+    ghost use Rattle.machine.specs.declared.event.Bundle.{Bundle};
+
+    ghost Value = { List (Bundle T) };
+
+    ghost view = { λ u. u.items.items };
+}
+
+/// What happens on a board, one at a time.
+#[derive(Debug, Drop)]
+pub enum Event<T> {
+    /// A client changes an input's table.
+    Feed { client: usize, fed: Fed<T> },
+    /// A client gives up the times before a frontier at an input: with no time the input is closed.
+    Advance { client: usize, input: usize, times: Times<T> },
+    /// A client gives up reading a view at times that are not beyond a frontier.
+    Allow { client: usize, view: usize, times: Times<T> },
+    /// A client or worker looks at the board, and leaves it as it is.
+    Look { actor: usize },
+    /// A worker takes the bundle of this number, from 0, among those that wait at a place.
+    Take { place: Place, number: usize, updates: Updates<T> },
+    /// A worker turns to the times that it holds at a node.
+    TakeHeld { worker: usize, node: usize },
+    /// A worker gives what it computed at a node, says which times it holds there from now on, and sends the updates on.
+    Give { given: Emission<T>, held: Times<T>, sent: Bundles<T> },
+}

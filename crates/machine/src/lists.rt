@@ -1,0 +1,90 @@
+//! The lists that events and bundles are made of, each in a type of its own, so that a contract sees a plain list and
+//! histories can be compared with what lies on a board.
+ghost use Rattle.std.specs.Prelude.{◌≡◌, length};
+
+use std::marker::Model;
+use update::Update;
+
+/// Updates that travel together. A contract sees the list of them.
+#[derive(Debug, Drop)]
+pub struct Updates<T> {
+    items: Vec<Update<T>>,
+}
+
+impl<T> Model for Updates<T> {
+    ghost use Rattle.std.specs.Prelude.{List};
+    ghost use Rattle.update.specs.declared.change.Update.{Update};
+
+    ghost Value = { List (Update T) };
+
+    ghost view = { λ u. u.items.items };
+}
+
+impl<T> Updates<T> {
+    /// The updates, in the order in which they were put. Takes no memory.
+    pub fn as_slice(&self) -> &[Update<T>]
+        ensures { result.now ≡ self.now }
+    {
+        self.items.as_slice()
+    }
+
+    /// How many there are. Takes no memory.
+    pub fn len(&self) -> usize
+        ensures { result ≡ length self.now }
+    {
+        self.items.len()
+    }
+
+    /// The vector that they were made from. Takes no memory.
+    pub fn into_vec(self) -> Vec<Update<T>>
+        ensures { result.items ≡ self }
+    {
+        let Updates { items } = self;
+        items
+    }
+}
+
+/// Takes no memory.
+impl<T> From<Vec<Update<T>>> for Updates<T> {
+    ghost use Rattle.std.specs.Prelude.{◌≡◌};
+
+    ghost from_gives = { λ v r. r ≡ v.items };
+
+    fn from(items: Vec<Update<T>>) -> Updates<T> {
+        Updates { items }
+    }
+}
+
+/// Times, as the elements of a frontier. A contract sees the list of them.
+#[derive(Debug, Drop)]
+pub struct Times<T> {
+    items: Vec<T>,
+}
+
+impl<T> Model for Times<T> {
+    ghost use Rattle.std.specs.Prelude.{List};
+
+    ghost Value = { List T };
+
+    ghost view = { λ u. u.items.items };
+}
+
+impl<T> Times<T> {
+    /// The times, in the order in which they were put. Takes no memory.
+    pub fn as_slice(&self) -> &[T]
+        ensures { result.now ≡ self.now }
+    {
+        self.items.as_slice()
+    }
+}
+
+/// Takes no memory.
+impl<T> From<Vec<T>> for Times<T> {
+    ghost use Rattle.std.specs.Prelude.{◌≡◌};
+
+    ghost from_gives = { λ v r. r ≡ v.items };
+
+    fn from(items: Vec<T>) -> Times<T> {
+        Times { items }
+    }
+}
