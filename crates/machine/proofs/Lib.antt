@@ -4,3 +4,4 @@ pub mod WorkerLemmas
 pub mod ClearLemmas
 pub mod ClaimLemmas
 pub mod HeadlineLemmas
+pub mod OnwardLemmas

@@ -21,6 +21,10 @@ module _ {T : Type 0} (below : T → T → Bool) where
   abbrev pub stamps : (Place → Bool) → List (Bundle T) → List T
   stamps test bundles = flat_map (λ b. if test b.place then stamp b.updates else []) bundles
 
+-- m is an ancestor of n
+abbrev pub strictly_above : Dataflow → ℕ → ℕ → Bool
+strictly_above p n m = above p n m && not (eqb m n)
+
 -- the times held at the nodes that pass a test
 abbrev pub held_where : {T : Type 0} → (ℕ → Bool) → List (Held T) → List T
 held_where test held = flat_map (λ m. if test m.node then m.time ∷ [] else []) held
@@ -40,10 +44,6 @@ module _ {T : Type 0} (below : T → T → Bool) where
 
   abbrev pub frontier : Dataflow → World T → ℕ → List T
   frontier p w n = least below (outstanding p w n)
-
-  -- a node strictly above
-  abbrev pub strictly_above : Dataflow → ℕ → ℕ → Bool
-  strictly_above p n m = above p n m && not (eqb m n)
 
   -- without what is held at the node itself: from which times on it may still be sent something
   abbrev pub input_frontier : Dataflow → World T → ℕ → List T

@@ -1,0 +1,382 @@
+-- No frontier goes back.
+use Rattle.std.proofs.Common.{◌≡◌, ℕ, zero, suc, ◌+◌, ◌<◌, ◌≤◌, Bool, true, false, cond, not, ◌&&◌, ◌||◌, List, [], ◌∷◌, ◌++◌, map, take, length, sym, refl, ap, ◌∙◌, subst, Option, Some, None, eqb, arith}
+use Rattle.std.specs.List.{flat_map, filter, slice_get, list_any}
+use Rattle.std.proofs.lemmas.Bool.{and_parts, and_from, or_parts, or_from, or_left, or_right, eqb-true, eq-eqb, ne_eqb, false_from_ne_true, false≢true}
+use Rattle.std.proofs.lemmas.Option.{same_Some}
+use Rattle.std.proofs.lemmas.List.Concat.{flat_map-append}
+use Rattle.std.proofs.lemmas.List.Folds.{list_any-append}
+use Rattle.lattice.specs.Order.{PartialOrderLaws}
+use Rattle.lattice.specs.Frontiers.{is_beyond, all_beyond}
+use Rattle.antichain.specs.Antichains.{least}
+use Rattle.update.specs.declared.change.Update.{Update}
+use Rattle.plan.specs.Nodes.{arranged_by}
+use Rattle.plan.specs.Ancestors.{is_input}
+use Rattle.machine.specs.declared.event.Place.{Place}
+use Rattle.machine.specs.declared.event.Bundle.{Bundle}
+use Rattle.machine.specs.declared.event.Fed.{Fed}
+use Rattle.machine.specs.declared.event.Emission.{Emission}
+use Rattle.machine.specs.declared.event.Held.{Held}
+use Rattle.machine.specs.declared.event.Open.{Open}
+use Rattle.machine.specs.declared.event.Event.{Event}
+use Rattle.machine.specs.declared.event.Event.TheVariants.{Feed, Advance, Allow, Look, Take, TakeHeld, Give}
+use Rattle.machine.specs.Dataflows.{Dataflow, IsDataflow, node_of, source_of, above, route}
+use Rattle.machine.specs.Worlds.{World, place, same_place, times, updates_at, queue, held_at, open_at}
+use Rattle.machine.specs.Shares.{home, part, share_from, share}
+use Rattle.machine.specs.Outstanding.{stamp, stamps, held_where, open_where, counted, frontier, strictly_above, input_frontier, port_frontier, outstanding_from}
+use Rattle.machine.specs.Histories.{without, is_held_by, holding, opening, took, gave, after, IsFeed, IsGive, IsAllowed}
+use Rattle.machine.proofs.ClaimLemmas.{no_source}
+use Rattle.lattice.proofs.FrontierLemmas.{beyond_up}
+use Rattle.machine.proofs.FlowLemmas.{passed-least, place_same, is_passed, not_beyond}
+use Rattle.antichain.proofs.InsertionLemmas.{least_beyond}
+use Rattle.plan.proofs.PlanLemmas.{source_smaller}
+use Rattle.plan.proofs.StandLemmas.{above_itself, above_from_source, above_earlier, above_transitive}
+
+module _ {T : Type 0} (leq : T → T → Bool) (o : PartialOrderLaws leq) (t : T) where
+  abbrev IsPassed : List T → Type 0
+  IsPassed F = is_beyond leq F t ≡ false
+
+  passed_parts : (F G : List T) → IsPassed (F ++ G) → IsPassed F × IsPassed G
+  passed_parts F G h = or_parts (is_beyond leq F t) (is_beyond leq G t) (sym (list_any-append (λ f. leq f t) F G) ∙ h)
+
+  passed_both : (F G : List T) → IsPassed F → IsPassed G → IsPassed (F ++ G)
+  passed_both F G f g = list_any-append (λ x. leq x t) F G ∙ or_from (is_beyond leq F t) (is_beyond leq G t) f g
+
+  passed_onward : (F G : List T) → all_beyond leq F G ≡ true → IsPassed F → IsPassed G
+  passed_onward F [] a f = refl
+  passed_onward F (g ∷ G) a f =
+      let h = and_parts (is_beyond leq F g) (all_beyond leq F G) a in
+      or_from (leq g t) (is_beyond leq G t) (false_from_ne_true (leq g t) (λ l. false≢true (sym f ∙ beyond_up o F g t h.0 l))) (passed_onward F G h.1 f)
+
+  -- a list made of parts: each part's
+  passed_some : {X : Type 0} (part : X → List T) (keep : X → Bool) (xs : List X) → IsPassed (flat_map part xs) → IsPassed (flat_map part (filter keep xs))
+  passed_some part keep [] h = h
+  passed_some {X} part keep (x ∷ xs) h = let g = passed_parts (part x) (flat_map part xs) h in step (keep x) g.0 (passed_some part keep xs g.1)
+    where
+      step : (b : Bool) → IsPassed (part x) → IsPassed (flat_map part (filter keep xs)) → IsPassed (flat_map part (cond b (x ∷ filter keep xs) (filter keep xs)))
+      step true f g = passed_both (part x) (flat_map part (filter keep xs)) f g
+      step false f g = g
+
+  passed_least : (F : List T) → IsPassed F → IsPassed (least leq F)
+  passed_least F h = least_beyond o F t ∙ h
+
+  passed_updates : (keep : Update T → Bool) (us : List (Update T)) → IsPassed (times us) → IsPassed (times (filter keep us))
+  passed_updates keep [] h = h
+  passed_updates keep (u ∷ us) h = let g = or_parts (leq u.time t) (is_beyond leq (times us) t) h in step (keep u) g.0 (passed_updates keep us g.1)
+    where
+      step : (b : Bool) → leq u.time t ≡ false → IsPassed (times (filter keep us)) → IsPassed (times (cond b (u ∷ filter keep us) (filter keep us)))
+      step true k i = or_from (leq u.time t) (is_beyond leq (times (filter keep us)) t) k i
+      step false k i = i
+
+  times-append : (xs ys : List (Update T)) → times (xs ++ ys) ≡ times xs ++ times ys
+  times-append [] ys = refl
+  times-append (x ∷ xs) ys = ap (λ z. x.time ∷ z) (times-append xs ys)
+
+  passed_times : (xs ys : List (Update T)) → IsPassed (times (xs ++ ys)) → IsPassed (times xs) × IsPassed (times ys)
+  passed_times xs ys h = passed_parts (times xs) (times ys) (subst IsPassed (times-append xs ys) h)
+
+  module _ (test : ℕ → Bool) where
+    -- what is held, or an edge, at a node that passes
+    passed_edge : (i : ℕ) → test i ≡ true → (es : List (Open T)) → IsPassed (open_where test es) → IsPassed (open_at i es)
+    passed_edge i a [] h = h
+    passed_edge i a (e ∷ es) h =
+        let g = passed_parts (cond (test e.input) (e.time ∷ []) []) (open_where test es) h in
+        passed_both (cond (eqb e.input i) (e.time ∷ []) []) (open_at i es) (head (eqb e.input i) refl g.0) (passed_edge i a es g.1)
+      where
+        head : (c : Bool) → eqb e.input i ≡ c → IsPassed (cond (test e.input) (e.time ∷ []) []) → IsPassed (cond c (e.time ∷ []) [])
+        head false k x = refl
+        head true k x = subst (λ b. IsPassed (cond b (e.time ∷ []) [])) (ap test (eqb-true e.input i k) ∙ a) x
+
+    passed_held : (n k : ℕ) → test n ≡ true → (ms : List (Held T)) → IsPassed (held_where test ms) → IsPassed (held_at n k ms)
+    passed_held n k a [] h = h
+    passed_held n k a (m ∷ ms) h =
+        let g = passed_parts (cond (test m.node) (m.time ∷ []) []) (held_where test ms) h in
+        passed_both (cond (eqb m.node n && eqb m.worker k) (m.time ∷ []) []) (held_at n k ms) (head (eqb m.node n && eqb m.worker k) refl g.0) (passed_held n k a ms g.1)
+      where
+        head : (c : Bool) → (eqb m.node n && eqb m.worker k) ≡ c → IsPassed (cond (test m.node) (m.time ∷ []) []) → IsPassed (cond c (m.time ∷ []) [])
+        head false f x = refl
+        head true f x = subst (λ b. IsPassed (cond b (m.time ∷ []) [])) (ap test (eqb-true m.node n (and_parts (eqb m.node n) (eqb m.worker k) f).0) ∙ a) x
+
+    passed_marked : (n k : ℕ) (ts : List T) → (test n ≡ true → IsPassed ts) → IsPassed (held_where test (holding n k ts))
+    passed_marked n k ts h = step (test n) refl
+      where
+        on : (us : List T) → test n ≡ true → held_where test (holding n k us) ≡ us
+        on [] e = refl
+        on (u ∷ us) e = rw e (ap (λ z. u ∷ z) (on us e))
+        off : (us : List T) → test n ≡ false → held_where test (holding n k us) ≡ []
+        off [] e = refl
+        off (u ∷ us) e = rw e (off us e)
+        step : (b : Bool) → test n ≡ b → IsPassed (held_where test (holding n k ts))
+        step true e = subst IsPassed (sym (on ts e)) (h e)
+        step false e = subst IsPassed (sym (off ts e)) refl
+
+    passed_edged : (n : ℕ) (ts : List T) → (test n ≡ true → IsPassed ts) → IsPassed (open_where test (opening n ts))
+    passed_edged n ts h = step (test n) refl
+      where
+        on : (us : List T) → test n ≡ true → open_where test (opening n us) ≡ us
+        on [] e = refl
+        on (u ∷ us) e = rw e (ap (λ z. u ∷ z) (on us e))
+        off : (us : List T) → test n ≡ false → open_where test (opening n us) ≡ []
+        off [] e = refl
+        off (u ∷ us) e = rw e (off us e)
+        step : (b : Bool) → test n ≡ b → IsPassed (open_where test (opening n ts))
+        step true e = subst IsPassed (sym (on ts e)) (h e)
+        step false e = subst IsPassed (sym (off ts e)) refl
+
+  module _ (test : Place → Bool) where
+    -- what is taken, and what is left
+    passed_taken : (site : Place) (qs : List (Bundle T)) (j : ℕ) (us : List (Update T)) → slice_get (queue site qs) j ≡ Some us → test site ≡ true → IsPassed (stamps leq test qs) → IsPassed (least leq (times us))
+    passed_taken site [] j us e a h = cc
+    passed_taken site (q ∷ qs) zero us e a h =
+        let g = passed_parts (cond (test q.place) (least leq (times q.updates)) []) (stamps leq test qs) h in
+        step (same_place q.place site) refl e g.0 (λ f. passed_taken site qs zero us f a g.1)
+      where
+        step : (b : Bool) → same_place q.place site ≡ b → slice_get (cond b (q.updates ∷ []) [] ++ queue site qs) zero ≡ Some us → IsPassed (cond (test q.place) (least leq (times q.updates)) []) → (slice_get (queue site qs) zero ≡ Some us → IsPassed (least leq (times us))) → IsPassed (least leq (times us))
+        step true s f x ih =
+            let here : test q.place ≡ true = ap (λ (z : Place). test z) (place_same q.place site s) ∙ a in
+            subst (λ z. IsPassed (least leq (times z))) (same_Some q.updates us f) (subst (λ b. IsPassed (cond b (least leq (times q.updates)) [])) here x)
+        step false s f x ih = ih f
+    passed_taken site (q ∷ qs) (suc j) us e a h =
+        let g = passed_parts (cond (test q.place) (least leq (times q.updates)) []) (stamps leq test qs) h in
+        step (same_place q.place site) e (λ f. passed_taken site qs j us f a g.1) (λ f. passed_taken site qs (suc j) us f a g.1)
+      where
+        step : (b : Bool) → slice_get (cond b (q.updates ∷ []) [] ++ queue site qs) (suc j) ≡ Some us → (slice_get (queue site qs) j ≡ Some us → IsPassed (least leq (times us))) → (slice_get (queue site qs) (suc j) ≡ Some us → IsPassed (least leq (times us))) → IsPassed (least leq (times us))
+        step true f ih jh = ih f
+        step false f ih jh = jh f
+
+    passed_without : (site : Place) (qs : List (Bundle T)) (j : ℕ) → IsPassed (stamps leq test qs) → IsPassed (stamps leq test (without site qs j))
+    passed_without site [] j h = h
+    passed_without site (q ∷ qs) zero h =
+        let g = passed_parts (cond (test q.place) (least leq (times q.updates)) []) (stamps leq test qs) h in
+        step (same_place q.place site) g.0 g.1 (passed_without site qs zero g.1)
+      where
+        step : (b : Bool) → IsPassed (cond (test q.place) (least leq (times q.updates)) []) → IsPassed (stamps leq test qs) → IsPassed (stamps leq test (without site qs zero)) → IsPassed (stamps leq test (cond b qs (q ∷ without site qs zero)))
+        step true x y z = y
+        step false x y z = passed_both (cond (test q.place) (least leq (times q.updates)) []) (stamps leq test (without site qs zero)) x z
+    passed_without site (q ∷ qs) (suc j) h =
+        let g = passed_parts (cond (test q.place) (least leq (times q.updates)) []) (stamps leq test qs) h in
+        passed_both (cond (test q.place) (least leq (times q.updates)) []) (stamps leq test (cond (same_place q.place site) (without site qs j) (without site qs (suc j)))) g.0 (step (same_place q.place site) (passed_without site qs j g.1) (passed_without site qs (suc j) g.1))
+      where
+        step : (b : Bool) → IsPassed (stamps leq test (without site qs j)) → IsPassed (stamps leq test (without site qs (suc j))) → IsPassed (stamps leq test (cond b (without site qs j) (without site qs (suc j))))
+        step true x y = x
+        step false x y = y
+
+    -- from each place, each bundle
+    passed_places : (qs : List (Bundle T)) → ((site : Place) → test site ≡ true → IsPassed (times (updates_at site qs))) → IsPassed (stamps leq test qs)
+    passed_places [] h = refl
+    passed_places (q ∷ qs) h =
+        passed_both (cond (test q.place) (least leq (times q.updates)) []) (stamps leq test qs)
+          (head (test q.place) refl)
+          (passed_places qs (λ site e. (passed_times (cond (same_place q.place site) q.updates []) (updates_at site qs) (h site e)).1))
+      where
+        self : same_place q.place q.place ≡ true
+        self = and_from (eqb q.place.node q.place.node) (eqb q.place.port q.place.port && eqb q.place.worker q.place.worker) (eq-eqb q.place.node q.place.node refl) (and_from (eqb q.place.port q.place.port) (eqb q.place.worker q.place.worker) (eq-eqb q.place.port q.place.port refl) (eq-eqb q.place.worker q.place.worker refl))
+        head : (b : Bool) → test q.place ≡ b → IsPassed (cond b (least leq (times q.updates)) [])
+        head false e = refl
+        head true e = passed_least (times q.updates) (passed_times q.updates (updates_at q.place qs) (subst (λ b. IsPassed (times (cond b q.updates [] ++ updates_at q.place qs))) self (h q.place e))).0
+
+  module _ (test : ℕ → Bool) where
+    passed_share : (p : Dataflow) (site : Place) (g : Emission T) → ((s : ℕ) → source_of p site.node site.port ≡ Some s → test s ≡ true) → (test g.node ≡ true → IsPassed (times g.updates)) → IsPassed (times (share p site g))
+    passed_share p site g a h = step (source_of p site.node site.port) refl (arranged_by (node_of p site.node))
+      where
+        parted : (c : Option ℕ) → IsPassed (times g.updates) → IsPassed (times (part p c g.worker site.worker g.updates))
+        parted None k = one (eqb g.worker site.worker)
+          where
+            one : (b : Bool) → IsPassed (times (cond b g.updates []))
+            one true = k
+            one false = refl
+        parted (Some c) k = passed_updates (λ u. eqb (route p (take c u.row)) site.worker) g.updates k
+        step : (x : Option ℕ) → source_of p site.node site.port ≡ x → (c : Option ℕ) → IsPassed (times (share_from p x c site.worker g))
+        step None e c = refl
+        step (Some s) e c = one (eqb g.node s) refl
+          where
+            one : (b : Bool) → eqb g.node s ≡ b → IsPassed (times (cond b (part p c g.worker site.worker g.updates) []))
+            one false f = refl
+            one true f = parted c (h (ap test (eqb-true g.node s f) ∙ a s e))
+
+
+  -- What is counted: bundles at some places, times held at some nodes, frontiers of some inputs. It may be any such choice
+  -- with the source of each place, with the input of each fed place, and with the places of each node that it counts at.
+  module _ (p : Dataflow) (there : Place → Bool) (holds opens : ℕ → Bool)
+    (of_sources : (site : Place) → there site ≡ true → (s : ℕ) → source_of p site.node site.port ≡ Some s → holds s ≡ true)
+    (of_inputs : (i k : ℕ) → is_input (node_of p i) ≡ true → there (place i 0 k) ≡ true → opens i ≡ true)
+    (of_places : (site : Place) → holds site.node ≡ true → there site ≡ true) where
+
+    abbrev pub IsCountPassed : World T → Type 0
+    IsCountPassed w = IsPassed (stamps leq there w.in_flight) × IsPassed (held_where holds w.held) × IsPassed (open_where opens w.openings)
+
+    onward_feed : (w : World T) (f : Fed T) → IsFeed leq p w f → IsCountPassed w → IsPassed (stamps leq there (record { place = home p f; updates = f.update ∷ [] } ∷ []))
+    onward_feed w f a h = passed_both (cond (there (home p f)) (least leq (f.update.time ∷ [])) []) [] (step (there (home p f)) refl) refl
+      where
+        step : (b : Bool) → there (home p f) ≡ b → IsPassed (cond b (least leq (f.update.time ∷ [])) [])
+        step false e = refl
+        step true e = passed_least (f.update.time ∷ []) (passed_onward (open_at f.input w.openings) (f.update.time ∷ []) (and_from (is_beyond leq (open_at f.input w.openings) f.update.time) true a.not_passed refl) (passed_edge opens f.input (of_inputs f.input (route p f.update.row) a.input.1 e) w.openings h.2))
+
+    onward_took : (w : World T) (site : Place) (j : ℕ) (us : List (Update T)) → slice_get (queue site w.in_flight) j ≡ Some us → IsCountPassed w → IsCountPassed (took leq p w site j us)
+    onward_took w site j us e h =
+        (passed_without there site w.in_flight j h.0,
+         subst IsPassed (sym (flat_map-append (λ (m : Held T). cond (holds m.node) (m.time ∷ []) []) (holding site.node site.worker (least leq (times us))) w.held))
+           (passed_both (held_where holds (holding site.node site.worker (least leq (times us)))) (held_where holds w.held) (passed_marked holds site.node site.worker (least leq (times us)) (λ a. passed_taken there site w.in_flight j us e (of_places site a) h.0)) h.1),
+         h.2)
+
+    onward_gave : (w : World T) (g : Emission T) (held : List T) (sent : List (Bundle T)) → IsGive leq p w g held sent → IsCountPassed w → IsCountPassed (gave leq p w g held sent)
+    onward_gave w g held sent a h =
+        (subst IsPassed (sym (flat_map-append (λ (q : Bundle T). cond (there q.place) (least leq (times q.updates)) []) w.in_flight sent))
+           (passed_both (stamps leq there w.in_flight) (stamps leq there sent) h.0 (passed_places there sent (λ site e. subst (λ us. IsPassed (times us)) (sym (a.whole site)) (passed_share holds p site g (of_sources site e) (λ f. (later f).0))))),
+         subst IsPassed (sym (flat_map-append (λ (m : Held T). cond (holds m.node) (m.time ∷ []) []) (holding g.node g.worker held) (filter (λ m. not (is_held_by g.node g.worker m)) w.held)))
+           (passed_both (held_where holds (holding g.node g.worker held)) (held_where holds (filter (λ m. not (is_held_by g.node g.worker m)) w.held)) (passed_marked holds g.node g.worker held (λ f. (later f).1)) (passed_some (λ (m : Held T). cond (holds m.node) (m.time ∷ []) []) (λ m. not (is_held_by g.node g.worker m)) w.held h.1)),
+         h.2)
+      where
+        later : holds g.node ≡ true → IsPassed (times g.updates) × IsPassed held
+        later f = passed_parts (times g.updates) held (passed_onward (held_at g.node g.worker w.held) (times g.updates ++ held) a.onward (passed_held holds g.node g.worker f w.held h.1))
+
+    pub onward : (w : World T) (e : Event T) → IsAllowed leq p w e → IsCountPassed w → IsCountPassed (after leq p w e)
+    onward w (Feed c f) a h =
+        (subst IsPassed (sym (flat_map-append (λ (q : Bundle T). cond (there q.place) (least leq (times q.updates)) []) w.in_flight (record { place = home p f; updates = f.update ∷ [] } ∷ [])))
+           (passed_both (stamps leq there w.in_flight) (stamps leq there (record { place = home p f; updates = f.update ∷ [] } ∷ [])) h.0 (onward_feed w f a h)),
+         h.1, h.2)
+    onward w (Advance c i ts) a h =
+        (h.0, h.1,
+         subst IsPassed (sym (flat_map-append (λ (e : Open T). cond (opens e.input) (e.time ∷ []) []) (opening i ts) (filter (λ e. not (eqb e.input i)) w.openings)))
+           (passed_both (open_where opens (opening i ts)) (open_where opens (filter (λ e. not (eqb e.input i)) w.openings)) (passed_edged opens i ts (λ f. passed_onward (open_at i w.openings) ts a.onward (passed_edge opens i f w.openings h.2))) (passed_some (λ (e : Open T). cond (opens e.input) (e.time ∷ []) []) (λ e. not (eqb e.input i)) w.openings h.2)))
+    onward w (Allow c v ts) a h = h
+    onward w (Look c) a h = h
+    onward w (Take site j us) a h = onward_took w site j us a.waits h
+    onward w (TakeHeld m k) a h = h
+    onward w (Give g held sent) a h = onward_gave w g held sent a h
+
+  -- what is counted, in its three parts, and back
+  pub passed_counts : (there holds : ℕ → Bool) (w : World T) → IsPassed (counted leq w there holds) → IsPassed (stamps leq (λ site. there site.node) w.in_flight) × IsPassed (held_where holds w.held) × IsPassed (open_where there w.openings)
+  passed_counts there holds w h =
+      let a = passed_parts (stamps leq (λ site. there site.node) w.in_flight) (held_where holds w.held ++ open_where there w.openings) h in
+      let b = passed_parts (held_where holds w.held) (open_where there w.openings) a.1 in
+      (a.0, b.0, b.1)
+
+  pub counts_passed : (there holds : ℕ → Bool) (w : World T) → IsPassed (stamps leq (λ site. there site.node) w.in_flight) × IsPassed (held_where holds w.held) × IsPassed (open_where there w.openings) → IsPassed (counted leq w there holds)
+  counts_passed there holds w h = passed_both (stamps leq (λ site. there site.node) w.in_flight) (held_where holds w.held ++ open_where there w.openings) h.0 (passed_both (held_where holds w.held) (open_where there w.openings) h.1 h.2)
+
+  module _ (p : Dataflow) (q : IsDataflow p) (n : ℕ) where
+    -- a source of what is above is above
+    upward : (site : Place) → above p n site.node ≡ true → (s : ℕ) → source_of p site.node site.port ≡ Some s → above p n s ≡ true
+    upward site a s e = above_transitive p.nodes q.plan s site.node n (above_from_source p.nodes q.plan s site.node site.port s e (above_itself p.nodes q.plan s)) a
+
+    source_strict : (site : Place) → above p n site.node ≡ true → (s : ℕ) → source_of p site.node site.port ≡ Some s → strictly_above p n s ≡ true
+    source_strict site e s f =
+        let less = source_smaller p.nodes q.plan site.node site.port s f in
+        let le = above_earlier p.nodes q.plan site.node n e in
+        and_from (above p n s) (not (eqb s n)) (upward site e s f) (ap not (ne_eqb s n (λ x. absurd (omega arith))))
+
+    abbrev site_above : Place → Bool
+    site_above site = above p n site.node
+
+    -- what a frontier has passed it has passed after each event
+    pub frontier_onward : (w : World T) (e : Event T) → IsAllowed leq p w e → IsPassed (frontier leq p w n) → IsPassed (frontier leq p (after leq p w e) n)
+    frontier_onward w e a h =
+        passed_least (counted leq (after leq p w e) (above p n) (above p n))
+          (counts_passed (above p n) (above p n) (after leq p w e)
+            (onward p site_above (above p n) (above p n) upward (λ i k b x. x) (λ site x. x) w e a
+              (passed_counts (above p n) (above p n) w (passed-least leq o (counted leq w (above p n) (above p n)) t h))))
+
+    pub in_passed : (w : World T) → IsPassed (input_frontier leq p w n) → IsPassed (stamps leq site_above w.in_flight) × IsPassed (held_where (strictly_above p n) w.held) × IsPassed (open_where (above p n) w.openings)
+    in_passed w h = passed_counts (above p n) (strictly_above p n) w (passed-least leq o (counted leq w (above p n) (strictly_above p n)) t h)
+
+    -- what an input frontier has passed it has passed after each event
+    pub input_onward : (w : World T) (e : Event T) → IsAllowed leq p w e → IsPassed (input_frontier leq p w n) → IsPassed (input_frontier leq p (after leq p w e) n)
+    input_onward w e a h =
+        passed_least (counted leq (after leq p w e) (above p n) (strictly_above p n))
+          (counts_passed (above p n) (strictly_above p n) (after leq p w e)
+            (onward p site_above (strictly_above p n) (above p n) source_strict (λ i k b x. x) (λ site x. (and_parts (above p n site.node) (not (eqb site.node n)) x).0) w e a (in_passed w h)))
+
+    -- what waits at a node is beyond its input frontier
+    pub taken_later : (w : World T) (site : Place) (j : ℕ) (us : List (Update T)) → slice_get (queue site w.in_flight) j ≡ Some us → site.node ≡ n → IsPassed (input_frontier leq p w n) → IsPassed (least leq (times us))
+    taken_later w site j us e i h = passed_taken site_above site w.in_flight j us e (ap (above p n) i ∙ above_itself p.nodes q.plan n) (in_passed w h).0
+
+  -- bundles at the places that pass one of two tests
+  passed_either : (f g : Place → Bool) (qs : List (Bundle T)) → IsPassed (stamps leq f qs) → IsPassed (stamps leq g qs) → IsPassed (stamps leq (λ site. f site || g site) qs)
+  passed_either f g [] h k = refl
+  passed_either f g (x ∷ qs) h k =
+      let a = passed_parts (cond (f x.place) (stamp leq x.updates) []) (stamps leq f qs) h in
+      let b = passed_parts (cond (g x.place) (stamp leq x.updates) []) (stamps leq g qs) k in
+      passed_both (cond (f x.place || g x.place) (stamp leq x.updates) []) (stamps leq (λ site. f site || g site) qs) (one (f x.place) a.0 b.0) (passed_either f g qs a.1 b.1)
+    where
+      one : (b : Bool) → IsPassed (cond b (stamp leq x.updates) []) → IsPassed (cond (g x.place) (stamp leq x.updates) []) → IsPassed (cond (b || g x.place) (stamp leq x.updates) [])
+      one true y z = y
+      one false y z = z
+
+  passed_each : (f g : Place → Bool) (qs : List (Bundle T)) → IsPassed (stamps leq (λ site. f site || g site) qs) → IsPassed (stamps leq f qs) × IsPassed (stamps leq g qs)
+  passed_each f g [] h = (refl, refl)
+  passed_each f g (x ∷ qs) h =
+      let a = passed_parts (cond (f x.place || g x.place) (stamp leq x.updates) []) (stamps leq (λ site. f site || g site) qs) h in
+      let b = one (f x.place) (g x.place) a.0 in
+      let r = passed_each f g qs a.1 in
+      (passed_both (cond (f x.place) (stamp leq x.updates) []) (stamps leq f qs) b.0 r.0, passed_both (cond (g x.place) (stamp leq x.updates) []) (stamps leq g qs) b.1 r.1)
+    where
+      one : (b c : Bool) → IsPassed (cond (b || c) (stamp leq x.updates) []) → IsPassed (cond b (stamp leq x.updates) []) × IsPassed (cond c (stamp leq x.updates) [])
+      one true true y = (y, y)
+      one true false y = (y, refl)
+      one false true y = (refl, y)
+      one false false y = (refl, refl)
+
+  module _ (p : Dataflow) (q : IsDataflow p) (n port : ℕ) where
+    abbrev at_port : Place → Bool
+    at_port site = eqb site.node n && eqb site.port port
+
+    abbrev or_above : ℕ → Place → Bool
+    or_above s site = at_port site || above p s site.node
+
+    -- at an input a port has nothing above it but the input's own frontier
+    input_port : (w : World T) (e : Event T) → IsAllowed leq p w e → source_of p n port ≡ None
+      → IsPassed (stamps leq at_port w.in_flight) → IsPassed (open_at n w.openings)
+      → IsPassed (stamps leq at_port (after leq p w e).in_flight) × IsPassed (open_at n (after leq p w e).openings)
+    input_port w e a none h k =
+        let r = onward p at_port (λ m. false) (λ i. eqb i n) sources (λ i k b x. (and_parts (eqb i n) (eqb 0 port) x).0) (λ site x. absurd (false≢true x)) w e a (h, no_held w.held, k) in
+        (r.0, r.2)
+      where
+        no_held : (ms : List (Held T)) → IsPassed (held_where (λ m. false) ms)
+        no_held [] = refl
+        no_held (m ∷ ms) = no_held ms
+        sources : (site : Place) → at_port site ≡ true → (s : ℕ) → source_of p site.node site.port ≡ Some s → false ≡ true
+        sources site x s f =
+            let y = and_parts (eqb site.node n) (eqb site.port port) x in
+            absurd (clash (subst (λ b. source_of p n b ≡ Some s) (eqb-true site.port port y.1) (subst (λ a. source_of p a site.port ≡ Some s) (eqb-true site.node n y.0) f)))
+          where
+            clash : source_of p n port ≡ Some s → ⊥
+            clash g = cc (none, g)
+
+    source_port : (s : ℕ) (w : World T) (e : Event T) → IsAllowed leq p w e → source_of p n port ≡ Some s
+      → IsPassed (stamps leq at_port w.in_flight) → IsPassed (counted leq w (above p s) (above p s))
+      → IsPassed (stamps leq at_port (after leq p w e).in_flight) × IsPassed (counted leq (after leq p w e) (above p s) (above p s))
+    source_port s w e a some h k =
+        let c = passed_counts (above p s) (above p s) w k in
+        let r = onward p (or_above s) (above p s) (above p s) sources inputs (λ site x. or_right (at_port site) (above p s site.node) x) w e a (passed_either at_port (λ site. above p s site.node) w.in_flight h c.0, c.1, c.2) in
+        let y = passed_each at_port (λ site. above p s site.node) (after leq p w e).in_flight r.0 in
+        (y.0, counts_passed (above p s) (above p s) (after leq p w e) (y.1, r.1, r.2))
+      where
+        sources : (site : Place) → or_above s site ≡ true → (m : ℕ) → source_of p site.node site.port ≡ Some m → above p s m ≡ true
+        sources site x m f = step (at_port site) refl x
+          where
+            step : (b : Bool) → at_port site ≡ b → (b || above p s site.node) ≡ true → above p s m ≡ true
+            step true y z =
+                let v = and_parts (eqb site.node n) (eqb site.port port) y in
+                let g : source_of p n port ≡ Some m = subst (λ b. source_of p n b ≡ Some m) (eqb-true site.port port v.1) (subst (λ a. source_of p a site.port ≡ Some m) (eqb-true site.node n v.0) f) in
+                subst (λ i. above p s i ≡ true) (same_Some s m (sym some ∙ g)) (above_itself p.nodes q.plan s)
+            step false y z = upward p q s site z m f
+        inputs : (i k : ℕ) → is_input (node_of p i) ≡ true → or_above s (place i 0 k) ≡ true → above p s i ≡ true
+        inputs i k b x = step (eqb i n && eqb 0 port) refl x
+          where
+            step : (c : Bool) → (eqb i n && eqb 0 port) ≡ c → (c || above p s i) ≡ true → above p s i ≡ true
+            step true y z = absurd (no_source (node_of p n) port s some (subst (λ m. is_input (node_of p m) ≡ true) (eqb-true i n (and_parts (eqb i n) (eqb 0 port) y).0) b))
+            step false y z = z
+
+    -- what the frontier of a port has passed it has passed after each event
+    pub port_onward : (w : World T) (e : Event T) → IsAllowed leq p w e → IsPassed (port_frontier leq p w n port) → IsPassed (port_frontier leq p (after leq p w e) n port)
+    port_onward w e a h = step (source_of p n port) refl (passed_parts (stamps leq at_port w.in_flight) (outstanding_from leq p w n (source_of p n port)) (passed-least leq o (stamps leq at_port w.in_flight ++ outstanding_from leq p w n (source_of p n port)) t h))
+      where
+        z : World T
+        z = after leq p w e
+        step : (s : Option ℕ) → source_of p n port ≡ s → IsPassed (stamps leq at_port w.in_flight) × IsPassed (outstanding_from leq p w n (source_of p n port)) → IsPassed (port_frontier leq p z n port)
+        step None f x =
+            let r = input_port w e a f x.0 (subst (λ s. IsPassed (outstanding_from leq p w n s)) f x.1) in
+            passed_least (stamps leq at_port z.in_flight ++ outstanding_from leq p z n (source_of p n port)) (passed_both (stamps leq at_port z.in_flight) (outstanding_from leq p z n (source_of p n port)) r.0 (subst (λ s. IsPassed (outstanding_from leq p z n s)) (sym f) r.1))
+        step (Some s) f x =
+            let r = source_port s w e a f x.0 (subst (λ s. IsPassed (outstanding_from leq p w n s)) f x.1) in
+            passed_least (stamps leq at_port z.in_flight ++ outstanding_from leq p z n (source_of p n port)) (passed_both (stamps leq at_port z.in_flight) (outstanding_from leq p z n (source_of p n port)) r.0 (subst (λ s. IsPassed (outstanding_from leq p z n s)) (sym f) r.1))
