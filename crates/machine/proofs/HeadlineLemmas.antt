@@ -1,18 +1,82 @@
 -- The headline and what follows from it, from the lemmas of claims.
-use Rattle.std.proofs.Common.{◌≡◌, ℕ, Bool, true, false, List, refl, sym, ◌∙◌, IsTrue}
+use Rattle.std.proofs.Common.{◌≡◌, ℕ, ◌+◌, ◌<◌, ◌≤◌, Bool, true, false, cond, not, ◌&&◌, List, [], ◌∷◌, ◌++◌, take, refl, sym, ap, ◌∙◌, eqb, arith, IsTrue}
+use Rattle.std.proofs.Math.IntN.{ℤ, pos}
+use Rattle.std.proofs.lemmas.Bool.{and_from, ne_eqb}
+use Rattle.std.specs.List.{list_all}
+use Rattle.std.specs.declared.cmp.Ordering.{Ordering}
 use Rattle.lattice.specs.Order.{PartialOrderLaws}
+use Rattle.lattice.specs.Frontiers.{is_beyond}
+use Rattle.update.specs.Bags.{count_of}
+use Rattle.update.specs.Updates.{as_of, total_at, IsConsolidated}
+use Rattle.update.specs.declared.change.Update.{Update}
+use Rattle.update.proofs.UniqueLemmas.{same_totals}
+use Rattle.plan.specs.Changes.{has_passed, query_at, AreDifferences}
+use Rattle.plan.specs.Nodes.{key_width}
+use Rattle.plan.specs.Operators.{is_linear}
+use Rattle.plan.proofs.StandLemmas.{above_itself, above_earlier}
+use Rattle.plan.proofs.WeighLemmas.{count_of-filter}
 use Rattle.machine.specs.declared.event.Event.{Event}
-use Rattle.machine.specs.Dataflows.{Dataflow, IsDataflow, above}
-use Rattle.machine.specs.Worlds.{World}
-use Rattle.machine.specs.Outstanding.{outstanding}
+use Rattle.machine.specs.Dataflows.{Dataflow, IsDataflow, node_of, given_at, above, route}
+use Rattle.machine.specs.Worlds.{World, emitted_at, held_at}
+use Rattle.machine.specs.NodeLaws.{received_at}
+use Rattle.machine.specs.Outstanding.{outstanding, counted, frontier, strictly_above, input_frontier, port_frontier}
 use Rattle.machine.specs.Histories.{IsLegal, world}
-use Rattle.machine.specs.Promises.{MeetsQuery}
-use Rattle.machine.proofs.ClaimLemmas.{claim}
-use Rattle.machine.proofs.ClearLemmas.{clear_passed}
-use Rattle.machine.proofs.FlowLemmas.{passed-least, not_beyond}
+use Rattle.machine.specs.Promises.{changes_in, MeetsQuery, MeetsDifferences, MeetsPart, GoesOn}
+use Rattle.machine.proofs.ClaimLemmas.{claim, part_claim, due_claim}
+use Rattle.machine.proofs.ClearLemmas.{IsClear, IsArrived, arrived_passed, clear_passed}
+use Rattle.machine.proofs.FlowLemmas.{passed-least, is_passed, not_beyond}
 use Rattle.machine.proofs.KeptLemmas.{kept_world}
+use Rattle.machine.proofs.OnwardLemmas.{frontier_onward, input_onward, port_onward}
+use Rattle.machine.proofs.PassedLemmas.{passed_down}
 
-pub headline_lem : {T : Type 0} (leq : T → T → Bool) (minimum : T) → PartialOrderLaws leq → (p : Dataflow) → IsDataflow p → (h : List (Event T)) → IsLegal leq minimum p h → (n : ℕ) → MeetsQuery leq p (world leq minimum p h) n
-headline_lem leq minimum o p q h l n t e r =
-    let w = world leq minimum p h in
-    (claim leq p q w (kept_world leq o p minimum h l) t n (λ m a. clear_passed leq o t (above p n) (above p n) w (passed-least leq o (outstanding leq p w n) t (not_beyond _ e)) m a a)).all r
+module _ {T : Type 0} (leq : T → T → Bool) (minimum : T) (o : PartialOrderLaws leq) (p : Dataflow) (q : IsDataflow p) where
+  module _ (h : List (Event T)) (l : IsLegal leq minimum p h) (n : ℕ) where
+    abbrev w : World T
+    w = world leq minimum p h
+
+    pub headline_lem : MeetsQuery leq p w n
+    headline_lem t e r =
+        (claim leq p q w (kept_world leq o p minimum h l) t n (λ m a. clear_passed leq o t (above p n) (above p n) w (passed-least leq o (outstanding leq p w n) t (not_beyond _ e)) m a a)).all r
+
+    pub differences_lem : (cmp : T → T → Ordering) → MeetsDifferences leq p w n cmp
+    differences_lem cmp = record {
+        into = λ us c a f. record { consolidated = c; passed = a; sums = λ t e row. f t e row ∙ headline_lem t e row };
+        back = λ us d. same_totals o (λ s. has_passed leq (frontier leq p w n) s) us (emitted_at n w.emitted) (λ s u k a. is_passed _ (passed_down leq o (frontier leq p w n) s u k (not_beyond _ a))) (λ s f r. d.sums s f r ∙ sym (headline_lem s f r))
+      }
+
+    arrived : (t : T) → is_beyond leq (input_frontier leq p w n) t ≡ false → IsArrived leq w t n
+    arrived t f = arrived_passed leq o t (above p n) (strictly_above p n) w (passed-least leq o (counted leq w (above p n) (strictly_above p n)) t f) n (above_itself p.nodes q.plan n)
+
+    others : (t : T) → is_beyond leq (input_frontier leq p w n) t ≡ false → (m : ℕ) → above p n m ≡ true → m < n → IsClear leq w t m
+    others t f m a b = clear_passed leq o t (above p n) (strictly_above p n) w (passed-least leq o (counted leq w (above p n) (strictly_above p n)) t f) m a (and_from (above p n m) (not (eqb m n)) a (ap not (ne_eqb m n (λ x. absurd (omega arith)))))
+
+    pub part_lem : (k : ℕ) → MeetsPart leq p w n k
+    part_lem k e t f g r =
+        part_claim leq p q w (kept_world leq o p minimum h l) t n (arrived t (not_beyond _ f)) (others t (not_beyond _ f)) e k (not_beyond _ g) r
+        ∙ sym (count_of-filter (λ x. eqb (route p (take (key_width p.nodes (node_of p n)) x)) k) (query_at leq p.nodes (changes_in w) n t) r)
+
+    pub due_lem : is_linear (node_of p n) ≡ false → (k : ℕ) (t : T) → is_beyond leq (input_frontier leq p w n) t ≡ false → (r : List ℤ)
+      → count_of (given_at p n (λ port. as_of leq t (received_at w n k port))) r ≡ cond (eqb (route p (take (key_width p.nodes (node_of p n)) r)) k) (count_of (query_at leq p.nodes (changes_in w) n t) r) (pos 0)
+    due_lem e k t f r = due_claim leq p q w (kept_world leq o p minimum h l) t n (arrived t f) (others t f) e k r
+
+  module _ (h later : List (Event T)) where
+    pub frontiers_lem : IsLegal leq minimum p (later ++ h) → (n : ℕ) → GoesOn leq (frontier leq p (world leq minimum p h) n) (frontier leq p (world leq minimum p (later ++ h)) n)
+    frontiers_lem = on later
+      where
+        on : (es : List (Event T)) → IsLegal leq minimum p (es ++ h) → (n : ℕ) → GoesOn leq (frontier leq p (world leq minimum p h) n) (frontier leq p (world leq minimum p (es ++ h)) n)
+        on [] l n t k = k
+        on (e ∷ es) l n t k = is_passed _ (frontier_onward leq o t p q n (world leq minimum p (es ++ h)) e l.0 (not_beyond _ (on es l.1 n t k)))
+
+    pub inputs_lem : IsLegal leq minimum p (later ++ h) → (n : ℕ) → GoesOn leq (input_frontier leq p (world leq minimum p h) n) (input_frontier leq p (world leq minimum p (later ++ h)) n)
+    inputs_lem = on later
+      where
+        on : (es : List (Event T)) → IsLegal leq minimum p (es ++ h) → (n : ℕ) → GoesOn leq (input_frontier leq p (world leq minimum p h) n) (input_frontier leq p (world leq minimum p (es ++ h)) n)
+        on [] l n t k = k
+        on (e ∷ es) l n t k = is_passed _ (input_onward leq o t p q n (world leq minimum p (es ++ h)) e l.0 (not_beyond _ (on es l.1 n t k)))
+
+    pub ports_lem : IsLegal leq minimum p (later ++ h) → (n port : ℕ) → GoesOn leq (port_frontier leq p (world leq minimum p h) n port) (port_frontier leq p (world leq minimum p (later ++ h)) n port)
+    ports_lem = on later
+      where
+        on : (es : List (Event T)) → IsLegal leq minimum p (es ++ h) → (n port : ℕ) → GoesOn leq (port_frontier leq p (world leq minimum p h) n port) (port_frontier leq p (world leq minimum p (es ++ h)) n port)
+        on [] l n port t k = k
+        on (e ∷ es) l n port t k = is_passed _ (port_onward leq o t p q n port (world leq minimum p (es ++ h)) e l.0 (not_beyond _ (on es l.1 n port t k)))

@@ -5,3 +5,8 @@ pub mod ClearLemmas
 pub mod ClaimLemmas
 pub mod HeadlineLemmas
 pub mod OnwardLemmas
+pub mod PassedLemmas
+pub mod SizeLemmas
+pub mod FewestLemmas
+pub mod SettledLemmas
+pub mod WeighingLemmas

@@ -12,6 +12,17 @@ use Rattle.plan.specs.declared.node.Node.TheVariants.{Input, Map, Filter, Concat
 use Rattle.machine.specs.Dataflows.{Dataflow, node_of, given_at}
 use Rattle.machine.specs.Worlds.{World, Passage, place, updates_at, emitted_by, held_at}
 
+abbrev pub is_reduction : Node → Bool
+is_reduction (Reduce kind source) = true
+is_reduction (Input width) = false
+is_reduction (Map source items) = false
+is_reduction (Filter source test) = false
+is_reduction (Concat left right) = false
+is_reduction (Negate source) = false
+is_reduction (Arrange source key) = false
+is_reduction (Join left right) = false
+is_reduction (Output source) = false
+
 -- what a worker received at a port of a node
 abbrev pub received_at : {T : Type 0} → World T → ℕ → ℕ → ℕ → List (Update T)
 received_at w n k port = updates_at (place n port k) w.received
@@ -45,16 +56,6 @@ module _ {T : Type 0} (below : T → T → Bool) where
   abbrev pub IsWithinLoad : Dataflow → World T → ℕ → ℕ → Type 0
   IsWithinLoad p w n k = size (emitted_by n k w.emitted) ≤ load (node_of p n) 0 (λ port. size (received_at w n k port))
 
-  abbrev pub LoadRuleOf : Dataflow → World T → ℕ → ℕ → Node → Type 0
-  LoadRuleOf p w n k (Reduce kind source) = IsSettled w n k
-  LoadRuleOf p w n k (Input width) = IsWithinLoad p w n k
-  LoadRuleOf p w n k (Map source items) = IsWithinLoad p w n k
-  LoadRuleOf p w n k (Filter source test) = IsWithinLoad p w n k
-  LoadRuleOf p w n k (Concat left right) = IsWithinLoad p w n k
-  LoadRuleOf p w n k (Negate source) = IsWithinLoad p w n k
-  LoadRuleOf p w n k (Arrange source key) = IsWithinLoad p w n k
-  LoadRuleOf p w n k (Join left right) = IsWithinLoad p w n k
-  LoadRuleOf p w n k (Output source) = IsWithinLoad p w n k
-
-  abbrev pub LoadRule : Dataflow → World T → ℕ → ℕ → Type 0
-  LoadRule p w n k = LoadRuleOf p w n k (node_of p n)
+  pub record LoadRule (p : Dataflow) (w : World T) (n k : ℕ) : Type 0 where
+    pub within : is_reduction (node_of p n) ≡ false → IsWithinLoad p w n k
+    pub settled : is_reduction (node_of p n) ≡ true → IsSettled w n k

@@ -36,14 +36,14 @@ module _ {T : Type 0} (below : T → T → Bool) (p : Dataflow) (w : World T) (n
   MeetsQuery = (t : T) → IsTrue (has_passed below (frontier below p w n) t)
     → Alike (as_of below t (emitted_at n w.emitted)) (query_at below p.nodes (changes_in w) n t)
 
-  -- where a consolidated list has, of every row and passed time, what the node gave in total, it is the one list of
-  -- differences; and of such a list the node gave just that
+  -- a consolidated list at passed times that sums there to what the node gave is the one list of differences; and of each
+  -- row at each passed time the node gave in total what that list has
   pub record MeetsDifferences (cmp : T → T → Ordering) : Type 0 where
     pub into : (us : List (Update T)) → IsConsolidated cmp us → IsTrue (list_all (λ u. has_passed below (frontier below p w n) u.time) us)
-      → ((t : T) → IsTrue (has_passed below (frontier below p w n) t) → (row : List ℤ) → total_at below row t us ≡ total_at below row t (emitted_at n w.emitted))
+      → ((t : T) → IsTrue (has_passed below (frontier below p w n) t) → Alike (as_of below t us) (as_of below t (emitted_at n w.emitted)))
       → AreDifferences below cmp p.nodes (changes_in w) (frontier below p w n) n us
     pub back : (us : List (Update T)) → AreDifferences below cmp p.nodes (changes_in w) (frontier below p w n) n us
-      → (t : T) → IsTrue (has_passed below (frontier below p w n) t) → (row : List ℤ) → total_at below row t us ≡ total_at below row t (emitted_at n w.emitted)
+      → (row : List ℤ) (t : T) → IsTrue (has_passed below (frontier below p w n) t) → total_at below row t us ≡ total_at below row t (emitted_at n w.emitted)
 
   -- at a join or reduction, what one worker gave is the part of the query whose keys are its own, wherever the input
   -- frontier and the times that the worker itself holds have passed

@@ -1,0 +1,168 @@
+-- The load rule holds at each worker and node after each event; what a take's input frontier had passed stays passed.
+use Rattle.update.proofs.ConsolidatedLemmas.{weight, weight_is}
+use Rattle.std.proofs.Common.{◌≡◌, ℕ, zero, suc, ◌+◌, ◌*◌, ◌<◌, ◌≤◌, Bool, true, false, cond, not, ◌&&◌, ◌||◌, List, [], ◌∷◌, ◌++◌, map, length, sym, refl, ap, ◌∙◌, subst, Option, Some, None, eqb, arith, mul-le-mul, ◌⊎◌, inl, inr}
+use Rattle.std.specs.List.{flat_map, filter, slice_get, list_any}
+use Rattle.std.proofs.lemmas.Bool.{and_parts, and_from, or_parts, or_from, or_right, eqb-true, eq-eqb, false_from_ne_true, false≢true}
+use Rattle.std.proofs.lemmas.List.Concat.{flat_map-append}
+use Rattle.std.proofs.lemmas.List.Folds.{list_any-append}
+use Rattle.lattice.specs.Order.{PartialOrderLaws}
+use Rattle.lattice.specs.Frontiers.{is_beyond}
+use Rattle.antichain.specs.Antichains.{least}
+use Rattle.update.specs.declared.change.Update.{Update}
+use Rattle.plan.specs.Nodes.{sources}
+use Rattle.plan.specs.Weights.{load}
+use Rattle.plan.specs.declared.node.Node.{Node}
+use Rattle.plan.specs.declared.node.Node.TheVariants.{Input, Map, Filter, Concat, Negate, Arrange, Join, Reduce, Output}
+use Rattle.update.specs.Updates.{size}
+use mathlib.Core.Path.{fun_ext}
+use Rattle.machine.specs.declared.event.Place.{Place}
+use Rattle.machine.specs.declared.event.Bundle.{Bundle}
+use Rattle.machine.specs.declared.event.Emission.{Emission}
+use Rattle.machine.specs.declared.event.Held.{Held}
+use Rattle.machine.specs.declared.event.Event.{Event}
+use Rattle.machine.specs.declared.event.Event.TheVariants.{Feed, Advance, Allow, Look, Take, TakeHeld, Give}
+use Rattle.machine.specs.Dataflows.{Dataflow, IsDataflow, node_of}
+use Rattle.machine.specs.Worlds.{World, Passage, place, same_place, times, updates_at, queue, emitted_by, held_at}
+use Rattle.machine.specs.Outstanding.{frontier, input_frontier}
+use Rattle.machine.specs.NodeLaws.{received_at, is_reduction, AreApart, was_passed, IsSettled, IsWithinLoad, LoadRule}
+use Rattle.machine.specs.Histories.{with_at, is_held_by, holding, first_world, turned_to, took, gave, after, IsGive, IsAllowed, world, IsLegal}
+use Rattle.machine.proofs.KeptLemmas.{held_marked, held_unmarked, held_kept}
+use Rattle.machine.proofs.OnwardLemmas.{input_onward, taken_later}
+use Rattle.machine.proofs.SizeLemmas.{size-append}
+
+use Rattle.machine.proofs.PassedLemmas.{AllPassed, AllWere, each_passed, passed_each, each_was, was_each}
+
+pub load-le : (node : Node) (own : ℕ) (b c : ℕ → ℕ) → ((port : ℕ) → (port ≡ 0) ⊎ (port < length (sources node)) → b port ≤ c port) → load node own b ≤ load node own c
+load-le (Input width) own b c h = h 0 (inl refl)
+load-le (Map source items) own b c h = h 0 (inl refl)
+load-le (Filter source test) own b c h = h 0 (inl refl)
+load-le (Negate source) own b c h = h 0 (inl refl)
+load-le (Concat left right) own b c h = let x = h 0 (inl refl) in let y = h 1 (inr (omega arith)) in omega arith
+load-le (Arrange source key) own b c h = h 0 (inl refl)
+load-le (Join left right) own b c h = mul-le-mul (h 0 (inl refl)) (h 1 (inr (omega arith)))
+load-le (Reduce kind source) own b c h = omega arith
+load-le (Output source) own b c h = h 0 (inl refl)
+
+-- the load rule, with the recursion of sizes
+pub to_weight : {T : Type 0} (leq : T → T → Bool) (p : Dataflow) (w : World T) (n k : ℕ) → IsWithinLoad leq p w n k → weight (emitted_by n k w.emitted) ≤ load (node_of p n) 0 (λ port. weight (received_at w n k port))
+to_weight leq p w n k h =
+    let e = weight_is (emitted_by n k w.emitted) in
+    let f : load (node_of p n) 0 (λ port. weight (received_at w n k port)) ≡ load (node_of p n) 0 (λ port. size (received_at w n k port)) = ap (load (node_of p n) 0) (fun_ext (λ port. weight_is (received_at w n k port))) in
+    omega arith
+
+pub from_weight : {T : Type 0} (leq : T → T → Bool) (p : Dataflow) (w : World T) (n k : ℕ) → weight (emitted_by n k w.emitted) ≤ load (node_of p n) 0 (λ port. weight (received_at w n k port)) → IsWithinLoad leq p w n k
+from_weight leq p w n k h =
+    let e = weight_is (emitted_by n k w.emitted) in
+    let f : load (node_of p n) 0 (λ port. weight (received_at w n k port)) ≡ load (node_of p n) 0 (λ port. size (received_at w n k port)) = ap (load (node_of p n) 0) (fun_ext (λ port. weight_is (received_at w n k port))) in
+    omega arith
+
+module _ {T : Type 0} (leq : T → T → Bool) (o : PartialOrderLaws leq) (p : Dataflow) (q : IsDataflow p) where
+  pub record IsLoaded (w : World T) : Type 0 where
+    pub rule : (n k : ℕ) → LoadRule leq p w n k
+    pub left : (n k : ℕ) (t : T) → was_passed leq n k w.left t ≡ true → is_beyond leq (input_frontier leq p w n) t ≡ false
+
+  passed_still : (n k : ℕ) (F G : List T) (ls : List (Passage T)) → ((t : T) → was_passed leq n k ls t ≡ true → is_beyond leq F t ≡ false → is_beyond leq G t ≡ false) → (us : List (Update T)) → AllPassed leq F us → AllWere leq n k ls us → AllPassed leq G us
+  passed_still n k F G ls h [] a b = tt
+  passed_still n k F G ls h (u ∷ us) a b = (h u.time b.0 a.0, passed_still n k F G ls h us a.1 b.1)
+
+  were_still : (n k : ℕ) (ls ms : List (Passage T)) → ((t : T) → was_passed leq n k ls t ≡ true → was_passed leq n k ms t ≡ true) → (us : List (Update T)) → AllWere leq n k ls us → AllWere leq n k ms us
+  were_still n k ls ms h [] b = tt
+  were_still n k ls ms h (u ∷ us) b = (h u.time b.0, were_still n k ls ms h us b.1)
+
+  -- what an event keeps site a worker and node that it gives nothing site
+  record IsCarried (w v : World T) (n k : ℕ) : Type 0 where
+    emitted : emitted_by n k w.emitted ≡ emitted_by n k v.emitted
+    received : (port : ℕ) → weight (updates_at (place n port k) w.received) ≤ weight (updates_at (place n port k) v.received)
+    held : (t : T) → was_passed leq n k w.left t ≡ true → is_beyond leq (held_at n k w.held) t ≡ false → is_beyond leq (held_at n k v.held) t ≡ false
+    left : (t : T) → was_passed leq n k w.left t ≡ true → was_passed leq n k v.left t ≡ true
+
+  carried : (w v : World T) (n k : ℕ) → IsCarried w v n k → LoadRule leq p w n k → LoadRule leq p v n k
+  carried w v n k c r = record { within = λ e. more (r.within e); settled = λ e. final (r.settled e) }
+    where
+      more : IsWithinLoad leq p w n k → IsWithinLoad leq p v n k
+      more h =
+          let a = to_weight leq p w n k h in
+          let e = ap weight c.emitted in
+          let l = load-le (node_of p n) 0 (λ port. weight (received_at w n k port)) (λ port. weight (received_at v n k port)) (λ port m. c.received port) in
+          from_weight leq p v n k (omega arith)
+      final : IsSettled leq w n k → IsSettled leq v n k
+      final h =
+          let held = each_passed leq (held_at n k w.held) (emitted_by n k w.emitted) h.held in
+          let left = each_was leq n k w.left (emitted_by n k w.emitted) h.left in
+          record {
+            apart = subst (AreApart leq) c.emitted h.apart;
+            held = passed_each leq (held_at n k v.held) (emitted_by n k v.emitted) (subst (AllPassed leq (held_at n k v.held)) c.emitted (passed_still n k (held_at n k w.held) (held_at n k v.held) w.left c.held (emitted_by n k w.emitted) held left));
+            left = was_each leq n k v.left (emitted_by n k v.emitted) (subst (AllWere leq n k v.left) c.emitted (were_still n k w.left v.left c.left (emitted_by n k w.emitted) left))
+          }
+
+  -- a take's own frontier, or an earlier one
+  left_now : (v : World T) (n k : ℕ) → ((m j : ℕ) (t : T) → was_passed leq m j v.left t ≡ true → is_beyond leq (input_frontier leq p v m) t ≡ false)
+    → (m j : ℕ) (t : T) → was_passed leq m j (turned_to leq p v n k).left t ≡ true → is_beyond leq (input_frontier leq p v m) t ≡ false
+  left_now v n k old m j t h = step (eqb n m) refl (is_beyond leq (input_frontier leq p v n) t) refl (eqb k j) h
+    where
+      step : (a : Bool) → eqb n m ≡ a → (b : Bool) → is_beyond leq (input_frontier leq p v n) t ≡ b → (c : Bool) → (((a && c) && not b) || was_passed leq m j v.left t) ≡ true → is_beyond leq (input_frontier leq p v m) t ≡ false
+      step true e false f true g = subst (λ x. is_beyond leq (input_frontier leq p v x) t ≡ false) (eqb-true n m e) f
+      step true e false f false g = old m j t g
+      step true e true f true g = old m j t g
+      step true e true f false g = old m j t g
+      step false e b f c g = old m j t g
+
+  loaded_first : (minimum : T) → IsLoaded (first_world leq minimum p)
+  loaded_first minimum = record { rule = λ n k. record { within = λ e. omega arith; settled = λ e. record { apart = tt; held = refl; left = refl } }; left = λ n k t h. cc }
+
+  same_still : (w v : World T) → v.emitted ≡ w.emitted → v.received ≡ w.received → v.held ≡ w.held → ((n k : ℕ) (t : T) → was_passed leq n k w.left t ≡ true → was_passed leq n k v.left t ≡ true) → ((n k : ℕ) → LoadRule leq p w n k) → (n k : ℕ) → LoadRule leq p v n k
+  same_still w v a b c d h n k =
+      carried w v n k (record { emitted = ap (emitted_by n k) (sym a); received = λ port. (let e = ap (λ z. weight (updates_at (place n port k) z)) b in omega arith); held = λ t x y. ap (λ z. is_beyond leq (held_at n k z) t) c ∙ y; left = d n k }) (h n k)
+
+  taken_still : (w : World T) (site : Place) (j : ℕ) (us : List (Update T)) → slice_get (queue site w.in_flight) j ≡ Some us → IsLoaded w → (n k : ℕ) → LoadRule leq p (turned_to leq p (took leq p w site j us) site.node site.worker) n k
+  taken_still w site j us waits l n k =
+      carried w v n k (record { emitted = refl; received = received; held = held; left = λ t h. or_right ((eqb site.node n && eqb site.worker k) && not (is_beyond leq (input_frontier leq p (took leq p w site j us) site.node) t)) (was_passed leq n k w.left t) h }) (l.rule n k)
+    where
+      v : World T
+      v = turned_to leq p (took leq p w site j us) site.node site.worker
+      received : (port : ℕ) → weight (updates_at (place n port k) w.received) ≤ weight (updates_at (place n port k) v.received)
+      received port = let e = size-append (cond (same_place site (place n port k)) us []) (updates_at (place n port k) w.received) in omega arith
+      held : (t : T) → was_passed leq n k w.left t ≡ true → is_beyond leq (held_at n k w.held) t ≡ false → is_beyond leq (held_at n k v.held) t ≡ false
+      held t h f =
+          ap (λ z. is_beyond leq z t) (flat_map-append (λ (m : Held T). cond (eqb m.node n && eqb m.worker k) (m.time ∷ []) []) (holding site.node site.worker (least leq (times us))) w.held)
+          ∙ (list_any-append (λ x. leq x t) (held_at n k (holding site.node site.worker (least leq (times us)))) (held_at n k w.held)
+          ∙ or_from (is_beyond leq (held_at n k (holding site.node site.worker (least leq (times us)))) t) (is_beyond leq (held_at n k w.held) t) (new (eqb site.node n && eqb site.worker k) refl) f)
+        where
+          new : (b : Bool) → (eqb site.node n && eqb site.worker k) ≡ b → is_beyond leq (held_at n k (holding site.node site.worker (least leq (times us)))) t ≡ false
+          new true e = ap (λ z. is_beyond leq z t) (held_marked n k site.node site.worker (least leq (times us)) e) ∙ taken_later leq o t p q n w site j us waits (eqb-true site.node n (and_parts (eqb site.node n) (eqb site.worker k) e).0) (l.left n k t h)
+          new false e = ap (λ z. is_beyond leq z t) (held_unmarked n k site.node site.worker (least leq (times us)) e)
+
+  given_still : (w : World T) (g : Emission T) (held : List T) (sent : List (Bundle T)) → IsGive leq p w g held sent → IsLoaded w → (n k : ℕ) → LoadRule leq p (gave leq p w g held sent) n k
+  given_still w g held sent a l n k = step (eqb g.node n && eqb g.worker k) refl
+    where
+      v : World T
+      v = gave leq p w g held sent
+      step : (b : Bool) → (eqb g.node n && eqb g.worker k) ≡ b → LoadRule leq p v n k
+      step true e =
+          let x = and_parts (eqb g.node n) (eqb g.worker k) e in
+          subst (λ m. LoadRule leq p v m k) (eqb-true g.node n x.0) (subst (λ j. LoadRule leq p v g.node j) (eqb-true g.worker k x.1) a.load)
+      step false e =
+          carried w v n k (record { emitted = sym (ap (λ b. cond b g.updates [] ++ emitted_by n k w.emitted) e); received = λ port. omega arith; held = kept; left = λ t h. h }) (l.rule n k)
+        where
+          kept : (t : T) → was_passed leq n k w.left t ≡ true → is_beyond leq (held_at n k w.held) t ≡ false → is_beyond leq (held_at n k v.held) t ≡ false
+          kept t h f =
+              ap (λ z. is_beyond leq z t) (flat_map-append (λ (m : Held T). cond (eqb m.node n && eqb m.worker k) (m.time ∷ []) []) (holding g.node g.worker held) (filter (λ m. not (eqb m.node g.node && eqb m.worker g.worker)) w.held))
+              ∙ rw (held_unmarked n k g.node g.worker held e, held_kept n k g.node g.worker w.held e) f
+
+  loaded_after : (w : World T) (e : Event T) → IsAllowed leq p w e → IsLoaded w → IsLoaded (after leq p w e)
+  loaded_after w (Feed c f) a l = record { rule = same_still w (after leq p w (Feed c f)) refl refl refl (λ n k t h. h) l.rule; left = λ n k t h. input_onward leq o t p q n w (Feed c f) a (l.left n k t h) }
+  loaded_after w (Advance c i ts) a l = record { rule = same_still w (after leq p w (Advance c i ts)) refl refl refl (λ n k t h. h) l.rule; left = λ n k t h. input_onward leq o t p q n w (Advance c i ts) a (l.left n k t h) }
+  loaded_after w (Allow c v ts) a l = record { rule = same_still w (after leq p w (Allow c v ts)) refl refl refl (λ n k t h. h) l.rule; left = λ n k t h. input_onward leq o t p q n w (Allow c v ts) a (l.left n k t h) }
+  loaded_after w (Look c) a l = l
+  loaded_after w (Take site j us) a l = record { rule = taken_still w site j us a.waits l; left = left_now (took leq p w site j us) site.node site.worker (λ m i t h. input_onward leq o t p q m w (Take site j us) a (l.left m i t h)) }
+  loaded_after w (TakeHeld k n) a l =
+      let v : World T = record w { hand = with_at w.hand k (Some n) } in
+      record {
+        rule = same_still w (after leq p w (TakeHeld k n)) refl refl refl (λ m j t h. or_right ((eqb n m && eqb k j) && not (is_beyond leq (input_frontier leq p v n) t)) (was_passed leq m j w.left t) h) l.rule;
+        left = left_now v n k l.left
+      }
+  loaded_after w (Give g held sent) a l = record { rule = given_still w g held sent a l; left = λ n k t h. input_onward leq o t p q n w (Give g held sent) a (l.left n k t h) }
+
+  pub loaded_world : (minimum : T) (h : List (Event T)) → IsLegal leq minimum p h → IsLoaded (world leq minimum p h)
+  loaded_world minimum [] l = loaded_first minimum
+  loaded_world minimum (e ∷ h) l = loaded_after (world leq minimum p h) e l.0 (loaded_world minimum h l.1)
