@@ -10,8 +10,13 @@ use Rattle.update.specs.Updates.{as_of}
 use Rattle.machine.specs.declared.event.Bundle.{Bundle}
 use Rattle.machine.specs.declared.event.Held.{Held}
 use Rattle.machine.specs.Worlds.{World, place, same_place, times, updates_at, held_at}
-use Rattle.machine.specs.Outstanding.{stamps, held_where, open_where, counted}
-use Rattle.machine.proofs.FlowLemmas.{as_of-append, passed-least}
+use Rattle.machine.specs.Outstanding.{stamp, stamps, held_where, open_where, counted}
+use Rattle.std.specs.List.{list_all}
+use Rattle.std.proofs.lemmas.Bool.{and_from}
+use Rattle.update.specs.declared.change.Update.{Update}
+use Rattle.machine.specs.Dataflows.{Dataflow, above}
+use Rattle.machine.specs.Promises.{NothingLurks}
+use Rattle.machine.proofs.FlowLemmas.{as_of-append, passed-least, not_beyond}
 use Rattle.machine.proofs.KeptLemmas.{as_of-passed}
 
 -- nothing that came to a node and counts at t is still in flight
@@ -70,3 +75,44 @@ module _ {T : Type 0} (leq : T → T → Bool) (o : PartialOrderLaws leq) (t : T
 
   pub clear_passed : is_beyond leq (counted leq w there holding) t ≡ false → (m : ℕ) → there m ≡ true → holding m ≡ true → IsClear leq w t m
   clear_passed h m e f = record { arrived = arrived_passed h m e; held = clear_held leq o t holding m f w.held (counted_parts h).1 }
+
+-- Nothing is outstanding at or before a passed time
+
+module _ {T : Type 0} (leq : T → T → Bool) (o : PartialOrderLaws leq) (t : T) where
+  none_before : (us : List (Update T)) → is_beyond leq (times us) t ≡ false → list_all (λ u. not (leq u.time t)) us ≡ true
+  none_before [] h = refl
+  none_before (u ∷ us) h =
+      let g = or_parts (leq u.time t) (is_beyond leq (times us) t) h in
+      and_from (not (leq u.time t)) (list_all (λ u. not (leq u.time t)) us) (ap not g.0) (none_before us g.1)
+
+  no_bundle : (there : ℕ → Bool) (qs : List (Bundle T)) → is_beyond leq (stamps leq (λ site. there site.node) qs) t ≡ false → list_all (λ b. not (there b.place.node) || list_all (λ u. not (leq u.time t)) b.updates) qs ≡ true
+  no_bundle there [] h = refl
+  no_bundle there (b ∷ qs) h =
+      let g = or_parts (is_beyond leq (cond (there b.place.node) (stamp leq b.updates) []) t) (is_beyond leq (stamps leq (λ site. there site.node) qs) t)
+        (sym (list_any-append (λ f. leq f t) (cond (there b.place.node) (stamp leq b.updates) []) (stamps leq (λ site. there site.node) qs)) ∙ h) in
+      and_from (not (there b.place.node) || list_all (λ u. not (leq u.time t)) b.updates) (list_all (λ b. not (there b.place.node) || list_all (λ u. not (leq u.time t)) b.updates) qs) (one (there b.place.node) g.0) (no_bundle there qs g.1)
+    where
+      one : (c : Bool) → is_beyond leq (cond c (stamp leq b.updates) []) t ≡ false → (not c || list_all (λ u. not (leq u.time t)) b.updates) ≡ true
+      one true k = none_before b.updates (passed-least leq o (times b.updates) t k)
+      one false k = refl
+
+  -- so it is of held times, and of the elements of frontiers
+  none_of : {X : Type 0} (there : X → Bool) (time : X → T) (xs : List X) → is_beyond leq (flat_map (λ x. cond (there x) (time x ∷ []) []) xs) t ≡ false → list_all (λ x. not (there x && leq (time x) t)) xs ≡ true
+  none_of there time [] h = refl
+  none_of {X} there time (x ∷ xs) h =
+      let g = or_parts (is_beyond leq (cond (there x) (time x ∷ []) []) t) (is_beyond leq (flat_map (λ x. cond (there x) (time x ∷ []) []) xs) t)
+        (sym (list_any-append (λ f. leq f t) (cond (there x) (time x ∷ []) []) (flat_map (λ x. cond (there x) (time x ∷ []) []) xs)) ∙ h) in
+      and_from (not (there x && leq (time x) t)) (list_all (λ x. not (there x && leq (time x) t)) xs) (one (there x) g.0) (none_of there time xs g.1)
+    where
+      one : (c : Bool) → is_beyond leq (cond c (time x ∷ []) []) t ≡ false → not (c && leq (time x) t) ≡ true
+      one true k = ap not (or_parts (leq (time x) t) false k).0
+      one false k = refl
+
+pub lurks_lem : {T : Type 0} (leq : T → T → Bool) → PartialOrderLaws leq → (p : Dataflow) (w : World T) (n : ℕ) → NothingLurks leq p w n
+lurks_lem leq o p w n t h =
+    let c = counted_parts leq o t (above p n) (above p n) w (passed-least leq o (counted leq w (above p n) (above p n)) t (not_beyond _ h)) in
+    record {
+      in_flight = no_bundle leq o t (above p n) w.in_flight c.0;
+      held = none_of leq o t (λ m. above p n m.node) (λ m. m.time) w.held c.1;
+      inputs = none_of leq o t (λ e. above p n e.input) (λ e. e.time) w.openings c.2;
+    }

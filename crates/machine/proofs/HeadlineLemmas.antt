@@ -6,7 +6,8 @@ use Rattle.std.specs.List.{list_all}
 use Rattle.std.specs.declared.cmp.Ordering.{Ordering}
 use Rattle.lattice.specs.Order.{PartialOrderLaws}
 use Rattle.lattice.specs.Frontiers.{is_beyond}
-use Rattle.update.specs.Bags.{count_of}
+use Rattle.update.specs.Bags.{count_of, Alike}
+use Rattle.plan.proofs.QueryLemmas.{query_alike}
 use Rattle.update.specs.Updates.{as_of, total_at, IsConsolidated}
 use Rattle.update.specs.declared.change.Update.{Update}
 use Rattle.update.proofs.UniqueLemmas.{same_totals}
@@ -80,3 +81,15 @@ module _ {T : Type 0} (leq : T → T → Bool) (minimum : T) (o : PartialOrderLa
         on : (es : List (Event T)) → IsLegal leq minimum p (es ++ h) → (n port : ℕ) → GoesOn leq (port_frontier leq p (world leq minimum p h) n port) (port_frontier leq p (world leq minimum p (es ++ h)) n port)
         on [] l n port t k = k
         on (e ∷ es) l n port t k = is_passed _ (port_onward leq o t p q n port (world leq minimum p (es ++ h)) e l.0 (not_beyond _ (on es l.1 n port t k)))
+
+-- two histories of one plan with alike changes agree at what both have passed
+pub agree_lem : {T : Type 0} (leq : T → T → Bool) (minimum : T) → PartialOrderLaws leq → (p q : Dataflow) → IsDataflow p → IsDataflow q → q.nodes ≡ p.nodes
+  → (h k : List (Event T)) → IsLegal leq minimum p h → IsLegal leq minimum q k
+  → ((input : ℕ) (t : T) → Alike (as_of leq t (changes_in (world leq minimum p h) input)) (as_of leq t (changes_in (world leq minimum q k) input)))
+  → (n : ℕ) (t : T) → IsTrue (has_passed leq (frontier leq p (world leq minimum p h) n) t) → IsTrue (has_passed leq (frontier leq q (world leq minimum q k) n) t)
+  → Alike (as_of leq t (emitted_at n (world leq minimum p h).emitted)) (as_of leq t (emitted_at n (world leq minimum q k).emitted))
+agree_lem leq minimum o p q a b same h k l m alike n t f g r =
+    headline_lem leq minimum o p a h l n t f r
+    ∙ (query_alike p.nodes (λ i. as_of leq t (changes_in (world leq minimum p h) i)) (λ i. as_of leq t (changes_in (world leq minimum q k) i)) (λ i. alike i t) n r
+    ∙ (ap (λ nodes. count_of (query_at leq nodes (changes_in (world leq minimum q k)) n t) r) (sym same)
+    ∙ sym (headline_lem leq minimum o q b k m n t g r)))

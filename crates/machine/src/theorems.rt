@@ -1,14 +1,69 @@
-//! What holds of every legal history.
-ghost use Rattle.std.specs.Prelude.{ℕ, ◌<◌, List, length};
+//! What holds of every legal history, at every lattice: the theorems of this crate. The functions do nothing. Who holds a
+//! board calls [`crate::Board::meets`]; the theorems are stated here of histories alone, so that they can be read without
+//! any code.
+ghost use Rattle.std.specs.Prelude.{ℕ, ◌<◌, ◌++◌, List, length, IsTrue, ◌≡◌};
+ghost use Rattle.update.specs.Bags.{Alike};
+ghost use Rattle.update.specs.Updates.{as_of};
+ghost use Rattle.plan.specs.Changes.{has_passed};
 ghost use Rattle.machine.specs.Dataflows.{Dataflow, IsDataflow};
 ghost use Rattle.machine.specs.declared.event.Event.{Event};
+ghost use Rattle.machine.specs.Worlds.{emitted_at};
+ghost use Rattle.machine.specs.Outstanding.{frontier, input_frontier, port_frontier};
 ghost use Rattle.machine.specs.Histories.{IsLegal, world};
-ghost use Rattle.machine.specs.Promises.{MeetsQuery};
+ghost use Rattle.machine.specs.Promises.{changes_in, MeetsQuery, MeetsDifferences, MeetsPart, NothingLurks, KeepsWeight, OwesWithinWeight, GoesOn};
 
 use lattice::Minimum;
 
-/// The headline.
+/// The headline. In every legal history, of any number of workers, with bundles cut, sent and taken in any order: what a
+/// node gave on all workers, and so what a view captured, summed to any time that its frontier has passed, is the query
+/// from scratch on the changes fed, summed to that time.
 pub fn headline<T: Minimum>()
     ensures { (p : Dataflow) → IsDataflow p → (h : List (Event T)) → IsLegal T.below T.least p h
-        → (n : ℕ) → n < length p.nodes → MeetsQuery T.below p (world T.below T.least p h) n }
+        → (n : ℕ) → MeetsQuery T.below p (world T.below T.least p h) n }
+{}
+
+/// Consolidated at passed times, what a node gave is the one list of differences of its query, in which no worker occurs.
+/// So two legal histories of one plan with alike changes agree at what both have passed, whatever their workers.
+pub fn one_list<T: Minimum>()
+    ensures differences { (p : Dataflow) → IsDataflow p → (h : List (Event T)) → IsLegal T.below T.least p h
+        → (n : ℕ) → MeetsDifferences T.below p (world T.below T.least p h) n T.cmp }
+    ensures agree { (p q : Dataflow) → IsDataflow p → IsDataflow q → q.nodes ≡ p.nodes
+        → (h k : List (Event T)) → IsLegal T.below T.least p h → IsLegal T.below T.least q k
+        → ((input : ℕ) (t : T) → Alike (as_of T.below t (changes_in (world T.below T.least p h) input)) (as_of T.below t (changes_in (world T.below T.least q k) input)))
+        → (n : ℕ) (t : T) → IsTrue (has_passed T.below (frontier T.below p (world T.below T.least p h) n) t)
+        → IsTrue (has_passed T.below (frontier T.below q (world T.below T.least q k) n) t)
+        → Alike (as_of T.below t (emitted_at n (world T.below T.least p h).emitted)) (as_of T.below t (emitted_at n (world T.below T.least q k).emitted)) }
+{}
+
+/// What one worker gave at a join or reduction is the part of the query whose keys are its own, wherever the input
+/// frontier and the times that it still holds there have passed.
+pub fn parts_of_workers<T: Minimum>()
+    ensures { (p : Dataflow) → IsDataflow p → (h : List (Event T)) → IsLegal T.below T.least p h
+        → (n k : ℕ) → MeetsPart T.below p (world T.below T.least p h) n k }
+{}
+
+/// No frontier goes back: what it has passed it has passed in every legal continuation. So it is of the frontier of a node,
+/// of its input frontier, and of that of each of its ports.
+pub fn frontiers_do_not_go_back<T: Minimum>()
+    ensures frontiers { (p : Dataflow) → IsDataflow p → (h later : List (Event T)) → IsLegal T.below T.least p (later ++ h)
+        → (n : ℕ) → GoesOn T.below (frontier T.below p (world T.below T.least p h) n) (frontier T.below p (world T.below T.least p (later ++ h)) n) }
+    ensures inputs { (p : Dataflow) → IsDataflow p → (h later : List (Event T)) → IsLegal T.below T.least p (later ++ h)
+        → (n : ℕ) → GoesOn T.below (input_frontier T.below p (world T.below T.least p h) n) (input_frontier T.below p (world T.below T.least p (later ++ h)) n) }
+    ensures ports { (p : Dataflow) → IsDataflow p → (h later : List (Event T)) → IsLegal T.below T.least p (later ++ h)
+        → (n port : ℕ) → GoesOn T.below (port_frontier T.below p (world T.below T.least p h) n port) (port_frontier T.below p (world T.below T.least p (later ++ h)) n port) }
+{}
+
+/// No time that a node's frontier has passed has anything outstanding at it or before it, at the node or above it.
+pub fn nothing_lurks<T: Minimum>()
+    ensures { (p : Dataflow) → (h : List (Event T)) → (n : ℕ) → NothingLurks T.below p (world T.below T.least p h) n }
+{}
+
+/// What a node gave on all workers is within its weight, which is found from the plan and the changes fed alone; and so is
+/// what a reduction has computed so far and not yet given, so that it may answer that a number is too large only where the
+/// weight is.
+pub fn weights_are_kept<T: Minimum>()
+    ensures emitted { (p : Dataflow) → IsDataflow p → (h : List (Event T)) → IsLegal T.below T.least p h
+        → (n : ℕ) → KeepsWeight T.below p (world T.below T.least p h) n T.cmp }
+    ensures owed { (p : Dataflow) → IsDataflow p → (h : List (Event T)) → IsLegal T.below T.least p h
+        → (n : ℕ) → OwesWithinWeight T.below p (world T.below T.least p h) n T.cmp }
 {}

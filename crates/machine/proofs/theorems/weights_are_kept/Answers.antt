@@ -1,0 +1,10 @@
+use Rattle.machine.proofs.WeighingLemmas.{weight_lem, owed_lem}
+use Rattle.machine.proofs.theorems.weights_are_kept.Goals as goal
+
+pub returns : goal.returns
+returns g c =
+    let order = g.met.T.PartialOrder.order in
+    record {
+      emitted = λ p q h l n. weight_lem _ _ order p q _ h l n;
+      owed = λ p q h l n. owed_lem _ _ order p q _ h l n;
+    }
