@@ -10,3 +10,4 @@ pub mod SizeLemmas
 pub mod FewestLemmas
 pub mod SettledLemmas
 pub mod WeighingLemmas
+pub mod QuietLemmas

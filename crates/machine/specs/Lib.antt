@@ -9,3 +9,4 @@ pub mod Outstanding
 pub mod NodeLaws
 pub mod Histories
 pub mod Promises
+pub mod Readings
