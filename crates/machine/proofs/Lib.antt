@@ -11,3 +11,4 @@ pub mod FewestLemmas
 pub mod SettledLemmas
 pub mod WeighingLemmas
 pub mod QuietLemmas
+pub mod PlaceLemmas

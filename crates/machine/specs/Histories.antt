@@ -45,6 +45,10 @@ module _ {T : Type 0} where
   abbrev pub opening : ℕ → List T → List (Open T)
   opening i ts = map (λ t. record { input = i; time = t }) ts
 
+-- an input of the plan
+abbrev pub IsInput : Dataflow → ℕ → Type 0
+IsInput p n = (n < length p.nodes) × IsTrue (is_input (node_of p n))
+
 module _ {T : Type 0} (below : T → T → Bool) (p : Dataflow) where
   -- a worker has a node's piece in hand, and the input frontier that it found there is noted
   abbrev pub turned_to : World T → ℕ → ℕ → World T
@@ -80,14 +84,10 @@ module _ {T : Type 0} (below : T → T → Bool) (p : Dataflow) where
   after w (TakeHeld k n) = turned_to w n k
   after w (Give g ts sent) = gave w g ts sent
 
-  -- an input of the plan
-  abbrev pub IsInput : ℕ → Type 0
-  IsInput n = (n < length p.nodes) × IsTrue (is_input (node_of p n))
-
   -- a change may be fed: the row has the input's width, the diff is some number of at most 31 bits, the time is open, and
   -- the input has room for it
   pub record IsFeed (w : World T) (f : Fed T) : Type 0 where
-    pub input : IsInput f.input
+    pub input : IsInput p f.input
     pub width : length f.update.row ≡ width_of p.nodes f.input
     pub some : f.update.diff ≢ pos 0
     pub small : unsigned_abs f.update.diff ≤ 2147483647
@@ -96,7 +96,7 @@ module _ {T : Type 0} (below : T → T → Bool) (p : Dataflow) where
 
   -- an input's frontier may only move on
   pub record IsAdvance (w : World T) (i : ℕ) (ts : List T) : Type 0 where
-    pub input : IsInput i
+    pub input : IsInput p i
     pub onward : IsTrue (all_beyond below (open_at i w.openings) ts)
 
   -- so may the frontier beyond which a view is read

@@ -1,5 +1,5 @@
 -- What is promised of every legal history, each in a few lines. They are stated of what a history leaves, at one node.
-use Rattle.std.specs.Prelude.{◌≡◌, ℕ, ◌<◌, ◌≤◌, Bool, true, false, not, ◌&&◌, eqb, List, [], ◌∷◌, ◌++◌, IsTrue, ⊤, if◌then◌else◌, take, length, ℤ, ◌||◌, Contains}
+use Rattle.std.specs.Prelude.{◌≡◌, ℕ, ◌<◌, ◌≤◌, Bool, true, false, not, ◌&&◌, eqb, List, [], ◌∷◌, ◌++◌, IsTrue, ⊤, if◌then◌else◌, take, length, ℤ, ◌||◌, ◌⊎◌, ◌≢◌, Contains, Some}
 use Rattle.std.specs.List.{filter, list_all}
 use Rattle.std.specs.declared.cmp.Ordering.{Ordering}
 use Rattle.lattice.specs.Frontiers.{is_beyond}
@@ -9,7 +9,7 @@ use Rattle.update.specs.Updates.{as_of, size, total_at, IsConsolidated}
 use Rattle.update.specs.declared.change.Update.{Update}
 use Rattle.plan.specs.Ancestors.{feeders}
 use Rattle.plan.specs.Changes.{has_passed, query_at, open_for, AreDifferences}
-use Rattle.plan.specs.Nodes.{key_width}
+use Rattle.plan.specs.Nodes.{key_width, sources}
 use Rattle.plan.specs.Operators.{is_linear}
 use Rattle.plan.specs.Weights.{IsWeight}
 use Rattle.plan.specs.declared.node.Kind.{Kind}
@@ -23,7 +23,8 @@ use Rattle.machine.specs.Dataflows.{Dataflow, node_of, given_at, above, route}
 use Rattle.machine.specs.Worlds.{World, times, emitted_at, emitted_by, fed_to, held_at, open_at}
 use Rattle.machine.specs.Outstanding.{frontier, input_frontier, port_frontier, outstanding, counted}
 use Rattle.machine.specs.NodeLaws.{received_at, AreApart}
-use Rattle.machine.specs.Histories.{world}
+use Rattle.machine.specs.Histories.{IsInput}
+use Rattle.machine.specs.declared.event.Place.{Place}
 
 -- the changes that were fed, by input
 abbrev pub changes_in : {T : Type 0} → World T → ℕ → List (Update T)
@@ -80,3 +81,16 @@ module _ {T : Type 0} (below : T → T → Bool) (p : Dataflow) (w : World T) (n
 -- what a frontier has passed it has passed after any later events
 abbrev pub GoesOn : {T : Type 0} → (T → T → Bool) → List T → List T → Type 0
 GoesOn {T} below earlier later = (t : T) → IsTrue (has_passed below earlier t) → IsTrue (has_passed below later t)
+
+-- a place that there is: a node, one of its ports (an input has the port 0), and a worker
+pub record IsPlace (p : Dataflow) (site : Place) : Type 0 where
+  pub node : site.node < length p.nodes
+  pub port : (site.port ≡ 0) ⊎ (site.port < length (sources (node_of p site.node)))
+  pub worker : site.worker < p.workers
+
+-- whatever waits, waits at a place that there is: bundles, none of which is empty, held times and open inputs
+pub record IsInPlace {T : Type 0} (p : Dataflow) (w : World T) : Type 0 where
+  pub bundles : (b : Bundle T) → Contains w.in_flight b → IsPlace p b.place × (b.updates ≢ [])
+  pub held : (m : Held T) → Contains w.held m → (m.node < length p.nodes) × (m.worker < p.workers)
+  pub inputs : (o : Open T) → Contains w.openings o → IsInput p o.input
+  pub hand : (k n : ℕ) → w.hand k ≡ Some n → (n < length p.nodes) × (k < p.workers)
