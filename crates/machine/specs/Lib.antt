@@ -10,3 +10,4 @@ pub mod NodeLaws
 pub mod Histories
 pub mod Promises
 pub mod Readings
+pub mod Boards

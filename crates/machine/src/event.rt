@@ -1,13 +1,14 @@
 //! What may happen on a board, and the entries of the logs that it leaves. Each event names who did it and all that it
 //! did, so that a history is a list of events and nothing else.
 use crate::lists::{Times, Updates};
+use plan::NodeId;
 use update::Update;
 
 /// A place where bundles wait: a port of a node, on a worker.
 #[derive(Debug, Clone, Copy)]
 pub struct Place {
-    /// The node, by its number in the plan.
-    pub node: usize,
+    /// The node.
+    pub node: NodeId,
     /// Which of the node's sources the updates come from; 0 at an input.
     pub port: usize,
     /// The worker, by its number.
@@ -26,8 +27,8 @@ pub struct Bundle<T> {
 /// A change of an input's table.
 #[derive(Debug, Drop)]
 pub struct Fed<T> {
-    /// The input, by its number in the plan.
-    pub input: usize,
+    /// The input.
+    pub input: NodeId,
     /// The change.
     pub update: Update<T>,
 }
@@ -35,8 +36,8 @@ pub struct Fed<T> {
 /// What a worker gave at a node, at one time.
 #[derive(Debug, Drop)]
 pub struct Emission<T> {
-    /// The node, by its number in the plan.
-    pub node: usize,
+    /// The node.
+    pub node: NodeId,
     /// The worker, by its number.
     pub worker: usize,
     /// What it gave.
@@ -46,8 +47,8 @@ pub struct Emission<T> {
 /// A time that a worker holds at a node: it may still give updates from it on.
 #[derive(Debug, Clone, Copy)]
 pub struct Held<T> {
-    /// The node, by its number in the plan.
-    pub node: usize,
+    /// The node.
+    pub node: NodeId,
     /// The worker, by its number.
     pub worker: usize,
     /// The time.
@@ -57,8 +58,8 @@ pub struct Held<T> {
 /// An element of an input's frontier: changes may still be fed from it on.
 #[derive(Debug, Clone, Copy)]
 pub struct Open<T> {
-    /// The input, by its number in the plan.
-    pub input: usize,
+    /// The input.
+    pub input: NodeId,
     /// The time.
     pub time: T,
 }
@@ -84,15 +85,15 @@ pub enum Event<T> {
     /// A client changes an input's table.
     Feed { client: usize, fed: Fed<T> },
     /// A client gives up the times before a frontier at an input: with no time the input is closed.
-    Advance { client: usize, input: usize, times: Times<T> },
+    Advance { client: usize, input: NodeId, times: Times<T> },
     /// A client gives up reading a view at times that are not beyond a frontier.
-    Allow { client: usize, view: usize, times: Times<T> },
+    Allow { client: usize, view: NodeId, times: Times<T> },
     /// A client or worker looks at the board, and leaves it as it is.
     Look { actor: usize },
     /// A worker takes the bundle of this number, from 0, among those that wait at a place.
     Take { place: Place, number: usize, updates: Updates<T> },
     /// A worker turns to the times that it holds at a node.
-    TakeHeld { worker: usize, node: usize },
+    TakeHeld { worker: usize, node: NodeId },
     /// A worker gives what it computed at a node, says which times it holds there from now on, and sends the updates on.
     Give { given: Emission<T>, held: Times<T>, sent: Bundles<T> },
 }

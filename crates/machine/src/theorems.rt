@@ -10,7 +10,8 @@ ghost use Rattle.machine.specs.declared.event.Event.{Event};
 ghost use Rattle.machine.specs.Worlds.{emitted_at};
 ghost use Rattle.machine.specs.Outstanding.{frontier, input_frontier, port_frontier};
 ghost use Rattle.machine.specs.Histories.{IsLegal, world};
-ghost use Rattle.machine.specs.Promises.{changes_in, MeetsQuery, MeetsDifferences, MeetsPart, NothingLurks, KeepsWeight, OwesWithinWeight, GoesOn};
+ghost use Rattle.machine.specs.Readings.{IsQuiet, IsCaughtUp};
+ghost use Rattle.machine.specs.Promises.{IsInPlace, changes_in, MeetsQuery, MeetsDifferences, MeetsPart, NothingLurks, KeepsWeight, OwesWithinWeight, GoesOn};
 
 use lattice::Minimum;
 
@@ -66,4 +67,16 @@ pub fn weights_are_kept<T: Minimum>()
         → (n : ℕ) → KeepsWeight T.below p (world T.below T.least p h) n T.cmp }
     ensures owed { (p : Dataflow) → IsDataflow p → (h : List (Event T)) → IsLegal T.below T.least p h
         → (n : ℕ) → OwesWithinWeight T.below p (world T.below T.least p h) n T.cmp }
+{}
+
+/// Where a board is quiet it has caught up: each node's frontier, and so each view's, is the least of the frontiers of the
+/// inputs that feed it.
+pub fn quiet_is_caught_up<T: Minimum>()
+    ensures { (p : Dataflow) → IsDataflow p → (h : List (Event T)) → IsLegal T.below T.least p h
+        → IsQuiet T.below p (world T.below T.least p h) → (n : ℕ) → IsCaughtUp T.below p (world T.below T.least p h) n }
+{}
+
+/// Whatever waits, waits at a place that there is: so a worker that goes through its places finds it.
+pub fn what_waits_has_its_place<T: Minimum>()
+    ensures { (p : Dataflow) → IsDataflow p → (h : List (Event T)) → IsLegal T.below T.least p h → IsInPlace p (world T.below T.least p h) }
 {}
