@@ -12,3 +12,4 @@ pub mod SettledLemmas
 pub mod WeighingLemmas
 pub mod QuietLemmas
 pub mod PlaceLemmas
+pub mod BoardLemmas

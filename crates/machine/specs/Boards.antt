@@ -84,6 +84,10 @@ module _ {T : Type 0} (below : T → T → Bool) where
   abbrev pub feed_refusal : Shown T → Fed T → Option Refusal
   feed_refusal b f = first_refusal (feed_faults b f)
 
+  -- what refuses an input's frontier
+  abbrev pub advance_refusal : Shown T → ℕ → List T → Option Refusal
+  advance_refusal b i ts = first_refusal ((not (all_beyond below (open_at i b.openings) ts), NotForward) ∷ [])
+
 module _ {T : Type 0} (below : T → T → Bool) (minimum : T) where
   -- the event was the last one
   abbrev pub IsLast : Shown T → List (Event T) → Type 0

@@ -2,12 +2,14 @@
 #![tactic(auto)]
 
 mod board;
+mod clients;
 mod event;
 mod lists;
 mod theorems;
 mod view;
 
 pub use board::Board;
+pub use clients::{MAX_CHANGES, MAX_DIFFERENCE};
 pub use event::{Bundle, Bundles, Emission, Event, Fed, Held, Open, Place};
 pub use lists::{Times, Updates};
 pub use theorems::{

@@ -1,0 +1,226 @@
+//! The events of clients: changes of the inputs' tables, and the inputs' frontiers. A change that may not be fed, or a
+//! frontier that would go back, is refused, and then the event is a look: whoever reads the history later sees that the
+//! client was there, and that it did nothing.
+ghost use Rattle.std.specs.Prelude.{◌≡◌, ◌<◌, ◌++◌, List, [], ◌∷◌, None, not, IfErr, IfOk, OnErr, OnOk, eqb, length};
+ghost use Rattle.std.specs.List.{filter};
+ghost use Rattle.lattice.specs.Frontiers.{is_beyond, all_beyond};
+ghost use Rattle.update.specs.declared.refusal.Refusal.TheVariants.{OutOfMemory};
+ghost use Rattle.plan.specs.Rules.{IsRefusalBy};
+ghost use Rattle.machine.specs.declared.event.Event.{Event};
+ghost use Rattle.machine.specs.Worlds.{open_at, place};
+ghost use Rattle.machine.specs.Shares.{home};
+ghost use Rattle.machine.specs.Histories.{IsInput, opening};
+ghost use Rattle.machine.specs.Boards.{Shown, IsBoard, Stands, looked, fed, advanced, feed_refusal, advance_refusal};
+
+use crate::board::Board;
+use crate::event::{Bundle, Event, Fed, Open, Place};
+use crate::lists::Times;
+use lattice::Minimum;
+use plan::NodeId;
+use std::alloc::Global;
+use update::{Refusal, Update};
+
+/// The most changes that an input takes.
+pub const MAX_CHANGES: usize = 1_048_576;
+
+/// The greatest difference of a change, either way.
+pub const MAX_DIFFERENCE: u64 = 2_147_483_647;
+
+/// Whether a time is beyond an input's frontier.
+pub(crate) fn is_open<T: Minimum>(openings: &[Open<T>], input: NodeId, t: &T) -> bool
+    ensures { result ≡ is_beyond T.below (open_at input openings.now) t.now }
+{
+    for open in openings {
+        if open.input == input && open.time.less_equal(t) {
+            return true;
+        }
+    }
+    false
+}
+
+impl<T: Minimum> Board<T> {
+    /// A client changes an input's table. The change comes to the input on the worker of its whole row.
+    ///
+    /// The refusals, in the order in which they are tested; after one the event is a look, and nothing else changed:
+    ///
+    /// | Refusal | Where |
+    /// |---|---|
+    /// | `WrongWidth` | the row has not the input's width |
+    /// | `ZeroWeight` | the difference is 0 |
+    /// | `WeightTooLarge` | the difference is above [`MAX_DIFFERENCE`], or below its negative |
+    /// | `TimePassed` | the time is not beyond the input's frontier |
+    /// | `InputFull` | the input has taken [`MAX_CHANGES`] changes |
+    /// | `OutOfMemory` | an allocation was refused |
+    ///
+    /// Cost: linear in the elements of the inputs' frontiers.
+    pub fn feed(&mut self, client: usize, input: NodeId, update: Update<T>) -> Result<(), Refusal>
+        requires { IsInput self.old.dataflow input }
+        ensures fed { OnOk result (self.new ≡ fed client (record { input = input; update = update }) self.old) }
+        ensures accepted { OnOk result (feed_refusal T.below self.old (record { input = input; update = update }) ≡ None) }
+        ensures refused { IfErr result (λ refusal. IsRefusalBy (feed_refusal T.below self.old (record { input = input; update = update })) refusal) }
+        ensures unchanged { OnErr result (self.new ≡ looked client self.old) }
+        ensures stands { (h : List (Event T)) → Stands T.below T.least self.old h → Stands T.below T.least self.new (self.new.last ∷ h) }
+    {
+        self.try_feed(client, input, update)
+    }
+
+    // The same, without the histories.
+    fn try_feed(&mut self, client: usize, input: NodeId, update: Update<T>) -> Result<(), Refusal>
+        requires { IsInput self.old.dataflow input }
+        ensures fed { OnOk result (self.new ≡ fed client (record { input = input; update = update }) self.old) }
+        ensures accepted { OnOk result (feed_refusal T.below self.old (record { input = input; update = update }) ≡ None) }
+        ensures refused { IfErr result (λ refusal. IsRefusalBy (feed_refusal T.below self.old (record { input = input; update = update })) refusal) }
+        ensures board { OnOk result (IsBoard self.old) }
+        ensures unchanged { OnErr result (self.new ≡ looked client self.old) }
+    {
+        if let Some(refusal) = self.feed_refusal(input, &update) {
+            self.look(client);
+            return Err(refusal);
+        }
+        match self.send_change(input, &update) {
+            Ok(()) => {
+                self.accepted[input.number()] += 1;
+                self.last = Event::Feed {
+                    client,
+                    fed: Fed { input, update },
+                };
+                Ok(())
+            }
+            Err(refusal) => {
+                self.look(client);
+                Err(refusal)
+            }
+        }
+    }
+
+    // What refuses a change, in the order of testing.
+    fn feed_refusal(&self, input: NodeId, update: &Update<T>) -> Option<Refusal>
+        requires { input < length self.now.dataflow.nodes }
+        ensures { result ≡ feed_refusal T.below self.now (record { input = input; update = update.now }) }
+    {
+        if update.row.width() != self.plan.width(input) {
+            Some(Refusal::WrongWidth)
+        } else if update.diff == 0 {
+            Some(Refusal::ZeroWeight)
+        } else if update.diff.unsigned_abs() > MAX_DIFFERENCE {
+            Some(Refusal::WeightTooLarge)
+        } else if !is_open(&self.openings, input, &update.time) {
+            Some(Refusal::TimePassed)
+        } else if self.accepted[input.number()] >= MAX_CHANGES {
+            Some(Refusal::InputFull)
+        } else {
+            None
+        }
+    }
+
+    // A bundle of the one change is in flight at its input.
+    fn send_change(&mut self, input: NodeId, update: &Update<T>) -> Result<(), Refusal>
+        ensures sent { OnOk result (self.new ≡ record self.old { in_flight = self.old.in_flight ++ record { place = home self.old.dataflow (record { input = input; update = update.now }); updates = update.now ∷ [] } ∷ [] }) }
+        ensures refused { IfErr result (λ refusal. refusal ≡ OutOfMemory) }
+        ensures unchanged { OnErr result (self.new ≡ self.old) }
+    {
+        let worker = row::route(update.row.columns(), self.workers);
+        let mut updates = Vec::new(*self.in_flight.allocator());
+        updates.push(update.copy())?;
+        let place = Place {
+            node: input,
+            port: 0,
+            worker,
+        };
+        self.in_flight.push(Bundle {
+            place,
+            updates: updates.into(),
+        })?;
+        Ok(())
+    }
+
+    /// A client gives up the times of an input that are not beyond a frontier: no change may be fed there any more. With no
+    /// time the input is closed.
+    ///
+    /// Refused with `NotForward` where the frontier is not beyond the old one, and with `OutOfMemory` where an allocation is;
+    /// then the event is a look, and nothing else changed.
+    ///
+    /// Cost: the product of the elements of this frontier and of all inputs'.
+    pub fn advance(&mut self, client: usize, input: NodeId, times: Times<T>) -> Result<(), Refusal>
+        requires { IsInput self.old.dataflow input }
+        ensures advanced { OnOk result (self.new ≡ advanced client input times self.old) }
+        ensures accepted { OnOk result (advance_refusal T.below self.old input times ≡ None) }
+        ensures refused { IfErr result (λ refusal. IsRefusalBy (advance_refusal T.below self.old input times) refusal) }
+        ensures unchanged { OnErr result (self.new ≡ looked client self.old) }
+        ensures stands { (h : List (Event T)) → Stands T.below T.least self.old h → Stands T.below T.least self.new (self.new.last ∷ h) }
+    {
+        self.try_advance(client, input, times)
+    }
+
+    // The same, without the histories.
+    fn try_advance(&mut self, client: usize, input: NodeId, times: Times<T>) -> Result<(), Refusal>
+        requires { IsInput self.old.dataflow input }
+        ensures advanced { OnOk result (self.new ≡ advanced client input times self.old) }
+        ensures accepted { OnOk result (advance_refusal T.below self.old input times ≡ None) }
+        ensures refused { IfErr result (λ refusal. IsRefusalBy (advance_refusal T.below self.old input times) refusal) }
+        ensures unchanged { OnErr result (self.new ≡ looked client self.old) }
+    {
+        if !is_onward(&self.openings, input, times.as_slice()) {
+            self.look(client);
+            return Err(Refusal::NotForward);
+        }
+        match self.openings_with(input, times.as_slice()) {
+            Ok(openings) => {
+                self.openings = openings;
+                self.last = Event::Advance { client, input, times };
+                Ok(())
+            }
+            Err(refusal) => {
+                self.look(client);
+                Err(refusal)
+            }
+        }
+    }
+
+    // The elements of all frontiers, where an input has these.
+    fn openings_with(&self, input: NodeId, times: &[T]) -> Result<Vec<Open<T>>, Refusal>
+        ensures with { IfOk result (λ openings. openings.items ≡ opening input times.now ++ filter (λ o. not (eqb o.input input)) self.now.openings) }
+        ensures refused { IfErr result (λ refusal. refusal ≡ OutOfMemory) }
+    {
+        let mut openings = opened(*self.openings.allocator(), input, times)?;
+        push_others(&mut openings, &self.openings, input)?;
+        Ok(openings)
+    }
+}
+
+// Whether each of the times is beyond an input's frontier.
+fn is_onward<T: Minimum>(openings: &[Open<T>], input: NodeId, times: &[T]) -> bool
+    ensures { result ≡ all_beyond T.below (open_at input openings.now) times.now }
+{
+    for t in times {
+        if !is_open(openings, input, t) {
+            return false;
+        }
+    }
+    true
+}
+
+// The times, as the elements of an input's frontier.
+fn opened<T: Minimum>(alloc: Global, input: NodeId, times: &[T]) -> Result<Vec<Open<T>>, Refusal>
+    ensures opened { IfOk result (λ openings. openings.items ≡ opening input times.now) }
+    ensures refused { IfErr result (λ refusal. refusal ≡ OutOfMemory) }
+{
+    let mut openings = Vec::new(alloc);
+    for time in times {
+        openings.push(Open { input, time: *time })?;
+    }
+    Ok(openings)
+}
+
+// The elements of the other inputs' frontiers, behind.
+fn push_others<T: Minimum>(openings: &mut Vec<Open<T>>, all: &[Open<T>], input: NodeId) -> Result<(), Refusal>
+    ensures others { OnOk result (openings.new.items ≡ openings.old.items ++ filter (λ o. not (eqb o.input input)) all.now) }
+    ensures refused { IfErr result (λ refusal. refusal ≡ OutOfMemory) }
+{
+    for open in all {
+        if open.input != input {
+            openings.push(*open)?;
+        }
+    }
+    Ok(())
+}
