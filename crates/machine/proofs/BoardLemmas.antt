@@ -19,9 +19,13 @@ use Rattle.machine.specs.declared.event.Event.{Event}
 use Rattle.machine.specs.declared.event.Event.TheVariants.{Feed, Advance}
 use Rattle.machine.specs.Worlds.{World, fed_to, open_at}
 use Rattle.machine.specs.Histories.{IsInput, IsFeed, IsAdvance, world}
-use Rattle.std.specs.Result.{OnOk, OnErr}
+use Rattle.std.specs.Result.{IfOk, OnOk, OnErr}
 use Rattle.std.specs.Prelude.{Result, Ok, Err}
-use Rattle.machine.specs.Boards.{Shown, IsBoard, Stands, looked, fed, advanced, feed_refusal, advance_refusal}
+use Rattle.std.specs.Prelude.{replicate}
+use Rattle.update.specs.Bags.{count_of}
+use Rattle.update.specs.Updates.{as_of}
+use Rattle.machine.specs.Dataflows.{Dataflow}
+use Rattle.machine.specs.Boards.{no_view, first_board, Shown, IsBoard, Stands, looked, fed, advanced, feed_refusal, advance_refusal}
 
 -- an input's frontier, tested element by element
 pub open_any : {T : Type 0} (below : T → T → Bool) (i : ℕ) (t : T) (os : List (Open T)) → is_beyond below (open_at i os) t ≡ list_any (λ o. eqb o.input i && below o.time t) os
@@ -112,3 +116,23 @@ module _ {T : Type 0} (below : T → T → Bool) (minimum : T) where
   stands_looked b c h actor e s = subst (λ z. Stands below minimum z (z.last ∷ h)) (sym e) (record {
       legal = (tt, s.legal); in_flight = s.in_flight; held = s.held; openings = s.openings; hand = s.hand; accepted = s.accepted; since = s.since; captured = s.captured; last = refl;
     })
+
+-- what is the same at each place
+repeated : {A : Type 0} (n k : ℕ) (x d : A) → k < n → get_or (replicate n x) k d ≡ x
+repeated zero k x d l = absurd (omega arith)
+repeated (suc n) zero x d l = refl
+repeated (suc n) (suc k) x d l = repeated n k x d (omega arith)
+
+pub stands_first : {T : Type 0} (below : T → T → Bool) (minimum : T) (p : Dataflow) → Stands below minimum (first_board minimum p) []
+stands_first below minimum p = record {
+    legal = tt; in_flight = refl; held = refl; openings = refl;
+    hand = λ k l. repeated p.workers k None None l;
+    accepted = λ i l. repeated (length p.nodes) i 0 0 l;
+    since = λ v l. ap (λ z. z.since) (repeated (length p.nodes) v (record { since = minimum ∷ []; captured = [] }) no_view l);
+    captured = λ v l o t r. ap (λ z. count_of (as_of below t z.captured) r) (repeated (length p.nodes) v (record { since = minimum ∷ []; captured = [] }) no_view l);
+    last = tt;
+  }
+
+pub stands_opened : {T : Type 0} (below : T → T → Bool) (minimum : T) (p : Dataflow) (r : Result (Shown T) Refusal) → IfOk r (λ b. b ≡ first_board minimum p) → IfOk r (λ b. Stands below minimum b [])
+stands_opened below minimum p (Ok b) e = subst (λ z. Stands below minimum z []) (sym e) (stands_first below minimum p)
+stands_opened below minimum p (Err r) e = e

@@ -54,6 +54,17 @@ module _ {T : Type 0} where
     pub accepted : length b.accepted ≡ length b.dataflow.nodes
     pub views : length b.views ≡ length b.dataflow.nodes
 
+  -- a board on which nothing has happened: each input and each view stands at the least time
+  abbrev pub first_board : T → Dataflow → Shown T
+  first_board minimum p = record {
+    dataflow = p; in_flight = []; held = [];
+    openings = flat_map (λ i. opening i (minimum ∷ [])) (numbers_where is_input p.nodes);
+    hand = replicate p.workers None;
+    accepted = replicate (length p.nodes) 0;
+    views = replicate (length p.nodes) (record { since = minimum ∷ []; captured = [] });
+    last = Look 0
+  }
+
   -- the board after a look, and after a change, a frontier and a since of clients
   abbrev pub looked : ℕ → Shown T → Shown T
   looked actor b = record b { last = Look actor }

@@ -4,17 +4,23 @@
 //! that workers hold, the frontiers of the inputs, each worker's piece in hand, what views captured, and how many changes
 //! each input accepted. There is no list of the changes. Which histories it may stand for is said by `Stands`; every call
 //! says what it makes of them: whatever history the board stood for, it then stands for one event more.
-ghost use Rattle.std.specs.Prelude.{◌≡◌, ◌≤◌, List, [], ◌∷◌, IfOk, length};
+ghost use Rattle.std.specs.Prelude.{◌≡◌, ◌≤◌, List, [], ◌∷◌, None, IfErr, IfOk, length, replicate};
+ghost use Rattle.std.specs.List.{flat_map};
+ghost use Rattle.update.specs.declared.refusal.Refusal.TheVariants.{OutOfMemory};
+ghost use Rattle.plan.specs.Ancestors.{is_input};
+ghost use Rattle.plan.specs.Edges.{numbers_where};
+ghost use Rattle.machine.specs.Histories.{opening};
 ghost use Rattle.machine.specs.Dataflows.{Dataflow};
 ghost use Rattle.machine.specs.declared.event.Event.{Event};
-ghost use Rattle.machine.specs.Boards.{Shown, Stands, looked};
+ghost use Rattle.machine.specs.Boards.{Shown, Stands, first_board, looked};
 
 use crate::event::{Bundle, Event, Held, Open};
 use crate::view::View;
 use lattice::Minimum;
 use plan::{NodeId, Plan};
-use std::alloc::{AllocError, Global};
+use std::alloc::Global;
 use std::marker::Model;
+use update::Refusal;
 
 /// What lies between clients and workers. A contract sees what lies on it.
 #[derive(Debug, Drop)]
@@ -59,6 +65,43 @@ impl<T> Model for Board<T> {
 }
 
 impl<T: Minimum> Board<T> {
+    /// A board of a plan, on which nothing has happened yet: each input's frontier, and each view's since, is the least
+    /// time. Refused only with `OutOfMemory`.
+    ///
+    /// Cost: linear in the nodes and the workers.
+    pub fn open(alloc: Global, plan: Plan, workers: usize) -> Result<Board<T>, Refusal>
+        requires { 1 ≤ workers }
+        ensures first { IfOk result (λ board. board ≡ first_board T.least (record { nodes = plan; workers = workers })) }
+        ensures stands { IfOk result (λ board. Stands T.below T.least board []) }
+        ensures refused { IfErr result (λ refusal. refusal ≡ OutOfMemory) }
+    {
+        Board::first(alloc, plan, workers)
+    }
+
+    // The same, without the histories.
+    fn first(alloc: Global, plan: Plan, workers: usize) -> Result<Board<T>, Refusal>
+        requires { 1 ≤ workers }
+        ensures first { IfOk result (λ board. board ≡ first_board T.least (record { nodes = plan; workers = workers })) }
+        ensures refused { IfErr result (λ refusal. refusal ≡ OutOfMemory) }
+    {
+        let inputs = plan.inputs(alloc)?;
+        let openings = first_openings(alloc, &inputs)?;
+        let hand = empty_hands(alloc, workers)?;
+        let accepted = no_changes(alloc, plan.len())?;
+        let views = first_views(alloc, plan.len())?;
+        Ok(Board {
+            plan,
+            workers,
+            in_flight: Vec::new(alloc),
+            held: Vec::new(alloc),
+            openings,
+            hand,
+            accepted,
+            views,
+            last: Event::Look { actor: 0 },
+        })
+    }
+
     /// The number of workers, at least 1.
     pub fn workers(&self) -> usize
         ensures value { result ≡ self.now.dataflow.workers }
@@ -81,4 +124,61 @@ impl<T: Minimum> Board<T> {
     {
         self.last = Event::Look { actor };
     }
+}
+
+// Each input's frontier is the least time.
+fn first_openings<T: Minimum>(alloc: Global, inputs: &[NodeId]) -> Result<Vec<Open<T>>, Refusal>
+    ensures first { IfOk result (λ openings. openings.items ≡ flat_map (λ i. opening i (T.least ∷ [])) inputs.now) }
+    ensures refused { IfErr result (λ refusal. refusal ≡ OutOfMemory) }
+{
+    let mut openings = Vec::new(alloc);
+    for input in inputs {
+        openings.push(Open {
+            input: *input,
+            time: T::minimum(),
+        })?;
+    }
+    Ok(openings)
+}
+
+// No worker has a piece in hand.
+fn empty_hands(alloc: Global, workers: usize) -> Result<Vec<Option<NodeId>>, Refusal>
+    ensures empty { IfOk result (λ hand. hand.items ≡ replicate workers None) }
+    ensures refused { IfErr result (λ refusal. refusal ≡ OutOfMemory) }
+{
+    let mut hand = Vec::new(alloc);
+    for _worker in 0..workers {
+        hand.push(None)?;
+    }
+    Ok(hand)
+}
+
+// No input has accepted a change.
+fn no_changes(alloc: Global, nodes: usize) -> Result<Vec<usize>, Refusal>
+    ensures none { IfOk result (λ accepted. accepted.items ≡ replicate nodes 0) }
+    ensures refused { IfErr result (λ refusal. refusal ≡ OutOfMemory) }
+{
+    let mut accepted = Vec::new(alloc);
+    for _node in 0..nodes {
+        accepted.push(0)?;
+    }
+    Ok(accepted)
+}
+
+// No view has captured anything, and each may be read at all times.
+fn first_views<T: Minimum>(alloc: Global, nodes: usize) -> Result<Vec<View<T>>, Refusal>
+    ensures first { IfOk result (λ views. views.items ≡ replicate nodes (record { since = T.least ∷ []; captured = [] })) }
+    ensures refused { IfErr result (λ refusal. refusal ≡ OutOfMemory) }
+{
+    let mut views = Vec::new(alloc);
+    for _node in 0..nodes {
+        let mut since = Vec::new(alloc);
+        since.push(T::minimum())?;
+        let captured = Vec::new(alloc);
+        views.push(View {
+            since: since.into(),
+            captured: captured.into(),
+        })?;
+    }
+    Ok(views)
 }
