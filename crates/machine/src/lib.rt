@@ -5,6 +5,10 @@ mod board;
 mod clients;
 mod event;
 mod lists;
+#[cfg(test)]
+mod memory_tests;
+#[cfg(test)]
+mod tests;
 mod theorems;
 mod view;
 

@@ -1,0 +1,37 @@
+//! The calls that take memory, where an allocation is refused. Run with each allocation refused in turn, these see the
+//! refusal, and that the same call succeeds once there is memory.
+use crate::Board;
+use crate::tests::{change, plan, times};
+use lattice::Bitime;
+use plan::NodeId;
+use std::alloc::Global;
+use std::test::Fail;
+use update::Refusal;
+
+fn opened(alloc: Global) -> Result<Board<Bitime>, Refusal> {
+    Board::open(alloc, plan(alloc)?, 2)
+}
+
+#[test]
+fn boards_take_memory(rt: HostRuntime) -> Result<(), Fail> {
+    let alloc = rt.alloc();
+    let mut board = match opened(alloc) {
+        Err(Refusal::OutOfMemory) => opened(alloc)?,
+        done => done?,
+    };
+    let input = NodeId::new(0);
+    match board.feed(0, input, change(alloc, (0, 0), &[7], 1)?) {
+        Err(Refusal::OutOfMemory) => board.feed(0, input, change(alloc, (0, 0), &[7], 1)?)?,
+        done => done?,
+    }
+    let first = match times(alloc, &[(0, 1), (1, 0)]) {
+        Err(_refused) => times(alloc, &[(0, 1), (1, 0)])?,
+        done => done?,
+    };
+    match board.advance(0, input, first) {
+        Err(Refusal::OutOfMemory) => board.advance(0, input, times(alloc, &[(0, 1), (1, 0)])?)?,
+        done => done?,
+    }
+    assert_eq!(rt; board.feed(0, input, change(alloc, (0, 0), &[7], 1)?), Err(Refusal::TimePassed));
+    Ok(())
+}
