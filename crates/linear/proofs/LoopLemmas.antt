@@ -1,5 +1,5 @@
 -- Steps of the loops that write updates anew where they stand.
-use Rattle.std.proofs.Common.{◌≡◌, ℕ, suc, ◌+◌, ◌<◌, ◌≤◌, Bool, true, ◌&&◌, List, [], ◌∷◌, ◌++◌, map, take, drop, length, get_or, IsTrue, refl, ap, sym, subst, ◌∙◌, arith, w64, FitsSigned, drop-cons}
+use Rattle.std.proofs.Common.{◌≡◌, ℕ, suc, ◌<◌, ◌≤◌, Bool, List, ◌∷◌, ◌++◌, map, take, drop, length, get_or, IsTrue, ap, sym, subst, ◌∙◌, arith, w64, FitsSigned, drop-cons}
 use Rattle.std.specs.Prelude.{neg_ℤ, nat_le}
 use Rattle.std.specs.List.{list_all, All}
 use Rattle.std.proofs.lemmas.Bool.{and_parts, leb-true}

@@ -1,7 +1,7 @@
 -- What a linear node makes of updates is no larger than they are.
-use Rattle.std.proofs.Common.{◌≡◌, ℕ, suc, ◌+◌, ◌≤◌, ◌<◌, ◌^◌, Bool, true, false, cond, List, [], ◌∷◌, map, length, get_or, IsTrue, ⊎_elim, refl, ap, sym, subst, ◌∙◌, arith, w64, FitsSigned}
-use Rattle.std.specs.Prelude.{ℤ, neg_ℤ, unsigned_abs, ◌&&◌}
-use Rattle.std.specs.List.{filter, list_all, All, Any, AllByRecursion}
+use Rattle.std.proofs.Common.{◌≡◌, ℕ, ◌+◌, ◌≤◌, ◌<◌, ◌^◌, Bool, true, false, cond, List, [], ◌∷◌, map, IsTrue, ⊎_elim, refl, ap, subst, ◌∙◌, arith, w64, FitsSigned}
+use Rattle.std.specs.Prelude.{ℤ, neg_ℤ, unsigned_abs}
+use Rattle.std.specs.List.{filter, list_all, AllByRecursion}
 use Rattle.std.proofs.lemmas.Bool.{cases_lt, and_parts, and_from}
 use Rattle.std.proofs.lemmas.Int.{ints, fits_signed_from_abs}
 use Rattle.std.proofs.lemmas.List.Elements.{All-from_recursion}

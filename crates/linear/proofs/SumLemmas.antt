@@ -1,6 +1,6 @@
 -- What a linear node makes of updates sums, at every time, to its operator on what they sum to.
-use Rattle.std.proofs.Common.{◌≡◌, ℕ, zero, suc, Bool, true, false, cond, ◌||◌, ◌&&◌, eqb, nat_lt, List, [], ◌∷◌, ◌++◌, map, length, IsTrue, refl, ap, sym, ◌∙◌, arith}
-use Rattle.std.specs.Prelude.{pos, ◌+ℤ◌}
+use Rattle.std.proofs.Common.{◌≡◌, ℕ, zero, suc, Bool, true, false, cond, ◌||◌, ◌&&◌, eqb, nat_lt, List, [], ◌∷◌, ◌++◌, map, IsTrue, refl, ap, sym, ◌∙◌, arith}
+use Rattle.std.specs.Prelude.{◌+ℤ◌}
 use Rattle.std.specs.List.{filter}
 use Rattle.std.proofs.Math.Bool.{and_comm}
 use Rattle.std.proofs.lemmas.Bool.{true≢false}
@@ -13,11 +13,10 @@ use Rattle.row.specs.declared.testing.Test.{Test}
 use Rattle.update.specs.Bags.{Entry, Alike, count_of}
 use Rattle.update.specs.Updates.{entry, as_of}
 use Rattle.update.specs.declared.change.Update.{Update}
-use Rattle.plan.specs.Nodes.{sources}
 use Rattle.plan.specs.Operators.{mapped, negated, given, is_linear}
 use Rattle.plan.specs.declared.node.Node.{Node}
 use Rattle.plan.specs.declared.node.Node.TheVariants.{Input, Map, Filter, Concat, Negate, Arrange, Join, Reduce, Output}
-use Rattle.plan.proofs.OperatorLemmas.{given_alike, given_sum}
+use Rattle.plan.proofs.OperatorLemmas.{given_sum}
 use Rattle.plan.proofs.WeighLemmas.{count_of-append}
 use Rattle.linear.specs.Applied.{mapped_update, negated_update, applied}
 use Rattle.linear.specs.Ports.{is_port, at_port, more_at}

@@ -1,6 +1,6 @@
 -- Linear nodes of a plan take the rows of their sources, and give rows of their own width.
-use Rattle.std.proofs.Common.{◌≡◌, ℕ, zero, suc, ◌<◌, Bool, true, false, cond, not, ◌&&◌, eqb, List, [], ◌∷◌, map, length, Option, Some, None, slice_get, IsTrue, refl, ap, sym, subst, ◌∙◌, arith}
-use Rattle.std.specs.List.{filter, list_all}
+use Rattle.std.proofs.Common.{◌≡◌, ℕ, zero, suc, true, not, eqb, List, [], ◌∷◌, map, length, Some, None, slice_get, IsTrue, refl, ap, sym, subst, ◌∙◌}
+use Rattle.std.specs.List.{list_all}
 use Rattle.std.proofs.lemmas.Bool.{and_parts, and_from, eqb-true, eq-eqb, true≢false}
 use Rattle.std.proofs.lemmas.List.{length-map}
 use Rattle.std.proofs.lemmas.Option.{none-some, same_Some}

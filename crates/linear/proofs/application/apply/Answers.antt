@@ -29,13 +29,16 @@ returns-clause-size g c =
     subst (λ us. size us ≤ size c.args.updates.items) (sym out) (size_applied c.args.node.now c.args.updates.items)
 
 pub returns-clause-overflow : goal.returns-clause-overflow
-returns-clause-overflow g c = ((λ e. cc), (λ large. elim c.match-node.branch [
-  | goal.in-Map w ↦ absurd (subst (λ node. Overflows node c.args.updates.items) w.in-Map.is large)
-  | goal.in-Filter w ↦ absurd (subst (λ node. Overflows node c.args.updates.items) w.in-Filter.is large)
-  | goal.in-Negate+in_ok-negate_diffs-in-Negate w ↦
-      let negated = subst (λ node. Overflows node c.args.updates.items) w.in-Negate.is large in
-      w.in_ok-negate_diffs-in-Negate.ensures.large.1 (subst (λ us. HasLargeDiff (map negated_update us)) (sym w.deref_mut-in-Negate.ensures.value) negated)
-  | goal.in_default w ↦
-      let negation = only_negation c.args.node.now c.args.updates.items large in
-      absurd (w.in_default.not-Negate negation.0 negation.1)
-]))
+returns-clause-overflow g c = (
+  (λ e. cc),
+  (λ large. elim c.match-node.branch [
+    | goal.in-Map w ↦ absurd (subst (λ node. Overflows node c.args.updates.items) w.in-Map.is large)
+    | goal.in-Filter w ↦ absurd (subst (λ node. Overflows node c.args.updates.items) w.in-Filter.is large)
+    | goal.in-Negate+in_ok-negate_diffs-in-Negate w ↦
+        let negated = subst (λ node. Overflows node c.args.updates.items) w.in-Negate.is large in
+        w.in_ok-negate_diffs-in-Negate.ensures.large.1 (subst (λ us. HasLargeDiff (map negated_update us)) (sym w.deref_mut-in-Negate.ensures.value) negated)
+    | goal.in_default w ↦
+        let negation = only_negation c.args.node.now c.args.updates.items large in
+        absurd (w.in_default.not-Negate negation.0 negation.1)
+  ]),
+)

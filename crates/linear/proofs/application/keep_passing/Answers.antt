@@ -1,4 +1,4 @@
-use Rattle.std.proofs.Common.{◌≡◌, ◌<◌, length, IsTrue, ◌∙◌, sym, arith}
+use Rattle.std.proofs.Common.{length, ◌∙◌, sym, arith}
 use Rattle.std.proofs.lemmas.Bool.{and_parts}
 use Rattle.std.proofs.lemmas.List.Filters.{FiltersInPlace-more_swap, FiltersInPlace-more_no}
 use Rattle.row.specs.Projection.{is_within}

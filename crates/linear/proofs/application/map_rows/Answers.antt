@@ -1,4 +1,4 @@
-use Rattle.std.proofs.Common.{◌≡◌, ◌∙◌, length, slice_index_or, slice_set, IsTrue, subst}
+use Rattle.std.proofs.Common.{◌∙◌, length, slice_index_or, slice_set}
 use Rattle.std.proofs.lemmas.List.Edits.{map_over_more}
 use Rattle.linear.specs.Applied.{mapped_update}
 use Rattle.linear.specs.Widths.{takes_items}
