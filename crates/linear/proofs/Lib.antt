@@ -1,0 +1,4 @@
+pub mod SumLemmas
+pub mod SizeLemmas
+pub mod WidthLemmas
+pub mod LoopLemmas

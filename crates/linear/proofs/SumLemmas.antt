@@ -1,0 +1,135 @@
+-- What a linear node makes of updates sums, at every time, to its operator on what they sum to.
+use Rattle.std.proofs.Common.{◌≡◌, ℕ, zero, suc, Bool, true, false, cond, ◌||◌, ◌&&◌, eqb, nat_lt, List, [], ◌∷◌, ◌++◌, map, IsTrue, refl, ap, sym, ◌∙◌, arith}
+use Rattle.std.specs.Prelude.{◌+ℤ◌}
+use Rattle.std.specs.List.{filter}
+use Rattle.std.proofs.Math.Bool.{and_comm}
+use Rattle.std.proofs.lemmas.Bool.{true≢false}
+use Rattle.std.proofs.lemmas.Bool.Decides.{nat_tests}
+use Rattle.std.proofs.lemmas.List.{map-append, append-nil}
+use Rattle.std.proofs.lemmas.List.Elements.{filter-append}
+use Rattle.row.specs.Testing.{passes}
+use Rattle.row.specs.declared.projection.Item.{Item}
+use Rattle.row.specs.declared.testing.Test.{Test}
+use Rattle.update.specs.Bags.{Entry, Alike, count_of}
+use Rattle.update.specs.Updates.{entry, as_of}
+use Rattle.update.specs.declared.change.Update.{Update}
+use Rattle.plan.specs.Operators.{mapped, negated, given, is_linear}
+use Rattle.plan.specs.declared.node.Node.{Node}
+use Rattle.plan.specs.declared.node.Node.TheVariants.{Input, Map, Filter, Concat, Negate, Arrange, Join, Reduce, Output}
+use Rattle.plan.proofs.OperatorLemmas.{given_sum}
+use Rattle.plan.proofs.WeighLemmas.{count_of-append}
+use Rattle.linear.specs.Applied.{mapped_update, negated_update, applied}
+use Rattle.linear.specs.Ports.{is_port, at_port, more_at}
+
+module _ {X : Type 0} where
+  filter-filter : (p q : X → Bool) (xs : List X) → filter p (filter q xs) ≡ filter (λ x. q x && p x) xs
+  filter-filter p q [] = refl
+  filter-filter p q (x ∷ xs) =
+      let h = filter-filter p q xs in
+      elim (q x) as (λ b. filter p (cond b (x ∷ filter q xs) (filter q xs)) ≡ cond (b && p x) (x ∷ filter (λ y. q y && p y) xs) (filter (λ y. q y && p y) xs)) [
+        | true ↦ ap (λ l. cond (p x) (x ∷ l) l) h
+        | false ↦ h
+      ]
+
+  filter_swap : (p q : X → Bool) (xs : List X) → filter p (filter q xs) ≡ filter q (filter p xs)
+  filter_swap p q xs =
+      filter-filter p q xs
+      ∙ (λ i. filter (λ x. and_comm (q x) (p x) i) xs)
+      ∙ sym (filter-filter q p xs)
+
+  map-filter : {Y : Type 0} (f : X → Y) (p : Y → Bool) (xs : List X) → map f (filter (λ x. p (f x)) xs) ≡ filter p (map f xs)
+  map-filter f p [] = refl
+  map-filter f p (x ∷ xs) =
+      let h = map-filter f p xs in
+      elim (p (f x)) as (λ b. map f (cond b (x ∷ filter (λ y. p (f y)) xs) (filter (λ y. p (f y)) xs)) ≡ cond b (f x ∷ filter p (map f xs)) (filter p (map f xs))) [
+        | true ↦ ap (λ l. f x ∷ l) h
+        | false ↦ h
+      ]
+
+-- what the node makes of two pieces
+pub applied-append : {T : Type 0} (node : Node) (us vs : List (Update T)) → applied node (us ++ vs) ≡ applied node us ++ applied node vs
+applied-append (Input width) us vs = refl
+applied-append (Map source items) us vs = map-append (mapped_update items) us vs
+applied-append (Filter source test) us vs = filter-append (λ u. passes test u.row) us vs
+applied-append (Concat left right) us vs = refl
+applied-append (Negate source) us vs = map-append negated_update us vs
+applied-append (Arrange source key) us vs = refl
+applied-append (Join left right) us vs = refl
+applied-append (Reduce kind source) us vs = refl
+applied-append (Output source) us vs = refl
+
+-- a node that reads one source, or none, has one port
+one_port : (port : ℕ) → IsTrue (eqb port 0 || nat_lt port 1) → port ≡ 0
+one_port port h = grind (arith, nat_tests)
+
+no_port : (port : ℕ) → IsTrue (eqb port 0 || nat_lt port 0) → port ≡ 0
+no_port port h = grind (arith, nat_tests)
+
+-- both together are what is at the one port
+both_ports : (port : ℕ) → IsTrue (eqb port 0 || nat_lt port 2) → (es : List Entry) → Alike es (at_port port es 0 ++ at_port port es 1)
+both_ports zero h es row = ap (λ l. count_of l row) (sym (append-nil es))
+both_ports (suc zero) h es row = refl
+both_ports (suc (suc port)) h es row = absurd (grind (arith, nat_tests))
+
+module _ {T : Type 0} (below : T → T → Bool) (t : T) where
+  pub as_of-append : (us vs : List (Update T)) → as_of below t (us ++ vs) ≡ as_of below t us ++ as_of below t vs
+  as_of-append us vs =
+      ap (λ l. map entry l) (filter-append (λ u. below u.time t) us vs)
+      ∙ map-append entry (filter (λ u. below u.time t) us) (filter (λ u. below u.time t) vs)
+
+  as_of-mapped : (items : List Item) (us : List (Update T)) → as_of below t (map (mapped_update items) us) ≡ map (mapped items) (as_of below t us)
+  as_of-mapped items [] = refl
+  as_of-mapped items (u ∷ us) =
+      let h = as_of-mapped items us in
+      elim (below u.time t) as (λ b. map entry (cond b (mapped_update items u ∷ filter (λ v. below v.time t) (map (mapped_update items) us)) (filter (λ v. below v.time t) (map (mapped_update items) us)))
+      ≡ map (mapped items) (map entry (cond b (u ∷ filter (λ v. below v.time t) us) (filter (λ v. below v.time t) us)))) [
+        | true ↦ ap (λ l. mapped items (entry u) ∷ l) h
+        | false ↦ h
+      ]
+
+  as_of-negated : (us : List (Update T)) → as_of below t (map negated_update us) ≡ map negated (as_of below t us)
+  as_of-negated [] = refl
+  as_of-negated (u ∷ us) =
+      let h = as_of-negated us in
+      elim (below u.time t) as (λ b. map entry (cond b (negated_update u ∷ filter (λ v. below v.time t) (map negated_update us)) (filter (λ v. below v.time t) (map negated_update us)))
+      ≡ map negated (map entry (cond b (u ∷ filter (λ v. below v.time t) us) (filter (λ v. below v.time t) us)))) [
+        | true ↦ ap (λ l. negated (entry u) ∷ l) h
+        | false ↦ h
+      ]
+
+  as_of-passing : (test : Test) (us : List (Update T)) → as_of below t (filter (λ u. passes test u.row) us) ≡ filter (λ e. passes test e.row) (as_of below t us)
+  as_of-passing test us =
+      ap (λ l. map entry l) (filter_swap (λ u. below u.time t) (λ u. passes test u.row) us)
+      ∙ map-filter entry (λ e. passes test e.row) (filter (λ u. below u.time t) us)
+
+  -- what comes out of one piece
+  pub applied_sums : (k : ℕ) (node : Node) → IsTrue (is_linear node) → (port : ℕ) → IsTrue (is_port node port) → (us : List (Update T)) → Alike (as_of below t (applied node us)) (given k node (at_port port (as_of below t us)))
+  applied_sums k (Input width) l port h us row = rw (no_port port h) refl
+  applied_sums k (Map source items) l port h us row = rw (one_port port h) (ap (λ es. count_of es row) (as_of-mapped items us))
+  applied_sums k (Filter source test) l port h us row = rw (one_port port h) (ap (λ es. count_of es row) (as_of-passing test us))
+  applied_sums k (Concat left right) l port h us row = both_ports port h (as_of below t us) row
+  applied_sums k (Negate source) l port h us row = rw (one_port port h) (ap (λ es. count_of es row) (as_of-negated us))
+  applied_sums k (Arrange source key) l port h us row = rw (one_port port h) refl
+  applied_sums k (Join left right) l port h us row = absurd (true≢false (sym l))
+  applied_sums k (Reduce kind source) l port h us row = absurd (true≢false (sym l))
+  applied_sums k (Output source) l port h us row = rw (one_port port h) refl
+
+  -- one more piece at a port, in the sums of all that came
+  as_of-more : (port : ℕ) (us : List (Update T)) (received : ℕ → List (Update T)) (p : ℕ) → as_of below t (more_at port us received p) ≡ at_port port (as_of below t us) p ++ as_of below t (received p)
+  as_of-more port us received p =
+      elim (eqb p port) as (λ b. as_of below t (cond b (us ++ received p) (received p)) ≡ cond b (as_of below t us) [] ++ as_of below t (received p)) [
+        | true ↦ as_of-append us (received p)
+        | false ↦ refl
+      ]
+
+  pub applied_goes_on : (k : ℕ) (node : Node) → IsTrue (is_linear node) → (port : ℕ) → IsTrue (is_port node port)
+      → (received : ℕ → List (Update T)) (emitted us : List (Update T))
+      → Alike (as_of below t emitted) (given k node (λ p. as_of below t (received p)))
+      → Alike (as_of below t (applied node us ++ emitted)) (given k node (λ p. as_of below t (more_at port us received p)))
+  applied_goes_on k node l port h received emitted us before row =
+      ap (λ es. count_of es row) (as_of-append (applied node us) emitted)
+      ∙ (count_of-append (as_of below t (applied node us)) (as_of below t emitted) row
+      ∙ ((λ i. applied_sums k node l port h us row i +ℤ before row i)
+      ∙ (sym (count_of-append (given k node (at_port port (as_of below t us))) (given k node (λ p. as_of below t (received p))) row)
+      ∙ (sym (given_sum k node l (at_port port (as_of below t us)) (λ p. as_of below t (received p)) row)
+      ∙ ap (λ bags. count_of (given k node bags) row) (sym (λ i p. as_of-more port us received p i))))))
