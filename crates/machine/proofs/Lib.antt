@@ -13,3 +13,4 @@ pub mod WeighingLemmas
 pub mod QuietLemmas
 pub mod PlaceLemmas
 pub mod BoardLemmas
+pub mod MeetsLemmas

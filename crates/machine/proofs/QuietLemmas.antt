@@ -218,3 +218,10 @@ module _ {T : Type 0} (leq : T → T → Bool) (o : PartialOrderLaws leq) (p : D
             ∙ or_right (is_beyond leq (Rattle.machine.specs.Outstanding.stamps leq (λ site. above p n site.node) w.in_flight) t) (is_beyond leq (held_where (above p n) w.held ++ open_where (above p n) w.openings) t)
                 (list_any-append (λ f. leq f t) (held_where (above p n) w.held) (open_where (above p n) w.openings)
                 ∙ or_right (is_beyond leq (held_where (above p n) w.held) t) (is_beyond leq (open_where (above p n) w.openings) t) k)
+
+-- the same elements have the same times beyond them
+pub beyond_elements : {T : Type 0} (below : T → T → Bool) (F G : List T) → SameElements F G → (t : T) → is_beyond below F t ≡ is_beyond below G t
+beyond_elements below F G same t =
+    same_test (is_beyond below F t) (is_beyond below G t)
+      (λ h. let r = beyond_has below F t h in has_beyond below G r.0 t (among_contains r.0 G (same.into r.0 (contains_among r.0 F r.1))) r.2)
+      (λ h. let r = beyond_has below G t h in has_beyond below F r.0 t (among_contains r.0 F (same.back r.0 (contains_among r.0 G r.1))) r.2)

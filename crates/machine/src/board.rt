@@ -10,7 +10,7 @@ ghost use Rattle.update.specs.declared.refusal.Refusal.TheVariants.{OutOfMemory}
 ghost use Rattle.plan.specs.Ancestors.{is_input};
 ghost use Rattle.plan.specs.Edges.{numbers_where};
 ghost use Rattle.machine.specs.Histories.{opening};
-ghost use Rattle.machine.specs.Dataflows.{Dataflow};
+ghost use Rattle.machine.specs.Dataflows.{IsDataflow};
 ghost use Rattle.machine.specs.declared.event.Event.{Event};
 ghost use Rattle.machine.specs.Boards.{Shown, Stands, first_board, looked};
 
@@ -106,6 +106,7 @@ impl<T: Minimum> Board<T> {
     pub fn workers(&self) -> usize
         ensures value { result ≡ self.now.dataflow.workers }
         ensures some { 1 ≤ result }
+        ensures dataflow { IsDataflow self.now.dataflow }
     {
         self.workers
     }

@@ -1,10 +1,28 @@
-//! The machine.
+//! The machine: what may happen between clients and workers, what each event leaves, and what then holds whatever
+//! happened.
+//!
+//! A dataflow runs a plan on some workers. Clients feed changes and move the inputs' frontiers; workers take bundles of
+//! updates, compute without looking at anybody, and give what came out; each of these is one event. A history is any list
+//! of them, each of which was allowed where it stood. What a history leaves is a record of logs, and frontiers are found
+//! from it: from what is in flight, what workers hold and what inputs leave open. The theorems, functions with empty bodies
+//! ([`headline`] and those beside it), say of every legal history that what a view captured is right wherever its frontier
+//! has passed. They know neither threads nor batches: whoever runs a dataflow in some way or other has to show only that
+//! what it does are these events.
+//!
+//! The [`Board`] is what lies between clients and workers, in memory. Each of its calls is one event, and says so in one
+//! way: whatever history the board stood for, it then stands for that history with the board's last event on top. So far
+//! it has the events of clients.
+//!
+//! A worker that gives has two duties. The node law: at every time before those that it still holds, what it gave is what
+//! the node makes of what it received. The load rule: it gives no more than that can take, and a reduction gives only what
+//! is final. From the first follows that views are right, from the second that no number is too large unless a weight is.
 #![tactic(auto)]
 
 mod board;
 mod clients;
 mod event;
 mod lists;
+mod standing;
 #[cfg(test)]
 mod memory_tests;
 #[cfg(test)]
@@ -16,6 +34,7 @@ pub use board::Board;
 pub use clients::{MAX_CHANGES, MAX_DIFFERENCE};
 pub use event::{Bundle, Bundles, Emission, Event, Fed, Held, Open, Place};
 pub use lists::{Times, Updates};
+pub use standing::meets;
 pub use theorems::{
     frontiers_do_not_go_back, headline, nothing_lurks, one_list, parts_of_workers, quiet_is_caught_up,
     weights_are_kept, what_waits_has_its_place,

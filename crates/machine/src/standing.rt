@@ -1,0 +1,21 @@
+//! What holds of a board. A crate above calls this, and has the theorems of whatever history the board stands for.
+ghost use Rattle.std.specs.Prelude.{ℕ, List};
+ghost use Rattle.machine.specs.declared.event.Event.{Event};
+ghost use Rattle.machine.specs.Histories.{world};
+ghost use Rattle.machine.specs.Promises.{MeetsQuery};
+ghost use Rattle.machine.specs.Readings.{ReadsQuery};
+ghost use Rattle.machine.specs.Boards.{Stands};
+
+use crate::board::Board;
+use lattice::Minimum;
+
+/// Whatever history a board stands for, the headline holds of it: what a node gave is the query wherever its frontier has
+/// passed; and so is any reading of a view, at the times that are passed and that its readers still hold. Costs nothing.
+pub fn meets<T: Minimum>(board: &Board<T>)
+    ensures headline { (h : List (Event T)) → Stands T.below T.least board.now h
+        → (n : ℕ) → MeetsQuery T.below board.now.dataflow (world T.below T.least board.now.dataflow h) n }
+    ensures reading { (h : List (Event T)) → Stands T.below T.least board.now h
+        → ReadsQuery T.below board.now.dataflow (world T.below T.least board.now.dataflow h) }
+{
+    let _count = board.workers();
+}
