@@ -1,0 +1,5 @@
+pub use Rattle.lattice.specs.Order
+pub use Rattle.lattice.specs.Frontiers
+pub mod Batches
+pub mod Descriptions
+pub mod Intervals

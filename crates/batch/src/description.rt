@@ -1,0 +1,77 @@
+//! What a batch says of itself: whose updates it has, the interval in which they happened, and as of which frontier
+//! their times may have been moved. A spine fits batches together by descriptions alone.
+//!
+//! The frontiers are antichains, kept as plain lists, whose size is known whatever the times are. That they are
+//! antichains, in order, and that the upper one is beyond the lower one is the invariant: no batch goes backwards.
+ghost use Rattle.std.specs.Prelude.{◌≡◌, Err, IfOk, IfErr, OnOk, IsTrue, ◌↔◌, false};
+ghost use Rattle.lattice.specs.Frontiers.{all_beyond};
+ghost use Rattle.antichain.specs.Antichains.{IsFrontier};
+ghost use Rattle.update.specs.declared.refusal.Refusal.{Refusal};
+
+use antichain::{Antichain, all_beyond};
+use lattice::Lattice;
+use std::alloc::Global;
+use std::marker::Model;
+use update::Refusal;
+
+/// Whose updates a batch has, and between which frontiers. A contract sees the names and the frontiers, each as the list
+/// of its elements in `Ord` order.
+#[derive(Debug, Drop)]
+pub struct Description<T: Lattice> {
+    worker: usize,
+    node: usize,
+    lower: Vec<T>,
+    upper: Vec<T>,
+    since: Vec<T>,
+}
+
+impl<T: Lattice> Model for Description<T> {
+    ghost use Rattle.batch.specs.Descriptions.{Described, IsInterval};
+
+    ghost Value = { Described T };
+
+    ghost view = { λ d. record { worker = d.worker; node = d.node; lower = d.lower.items; upper = d.upper.items; since = d.since.items } };
+
+    ghost invariant = { λ d. IsInterval T.below T.cmp d.lower.items d.upper.items d.since.items };
+}
+
+impl<T: Lattice> Description<T> {
+    /// The worker whose updates these are. Takes no memory.
+    pub fn worker(&self) -> usize
+        ensures { result ≡ self.now.worker }
+    {
+        self.worker
+    }
+
+    /// The node whose updates these are. Takes no memory.
+    pub fn node(&self) -> usize
+        ensures { result ≡ self.now.node }
+    {
+        self.node
+    }
+
+    /// The frontier from which on the updates happened. Takes no memory.
+    pub fn lower(&self) -> &[T]
+        ensures value { result.now ≡ self.now.lower }
+        ensures frontier { IsFrontier T.below T.cmp self.now.lower }
+    {
+        self.lower.as_slice()
+    }
+
+    /// The frontier up to which the updates happened; it is beyond the lower one. Takes no memory.
+    pub fn upper(&self) -> &[T]
+        ensures value { result.now ≡ self.now.upper }
+        ensures frontier { IsFrontier T.below T.cmp self.now.upper }
+        ensures forward { IsTrue (all_beyond T.below self.now.lower self.now.upper) }
+    {
+        self.upper.as_slice()
+    }
+
+    /// The frontier as of which times may have been moved: reads beyond it are exact. Takes no memory.
+    pub fn since(&self) -> &[T]
+        ensures value { result.now ≡ self.now.since }
+        ensures frontier { IsFrontier T.below T.cmp self.now.since }
+    {
+        self.since.as_slice()
+    }
+}
