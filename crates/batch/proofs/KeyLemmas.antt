@@ -35,23 +35,23 @@ module _ {X : Type 0} where
   run_is_filter p (x ∷ xs) (suc i) n low mid high =
       let first : p x ≡ false = low 0 x (omega arith) (omega arith) in
       let rest = run_is_filter p xs i n
-          (λ k d l m. low (suc k) d (omega (arith, l)) (omega (arith, m)))
-          (λ k d g l m. mid (suc k) d (omega (arith, g)) (omega (arith, l)) (omega (arith, m)))
-          (λ k d g m. high (suc k) d (omega (arith, g)) (omega (arith, m))) in
+      (λ k d l m. low (suc k) d (omega (arith, l)) (omega (arith, m)))
+      (λ k d g l m. mid (suc k) d (omega (arith, g)) (omega (arith, l)) (omega (arith, m)))
+      (λ k d g m. high (suc k) d (omega (arith, g)) (omega (arith, m))) in
       rest ∙ ap (λ b. cond b (x ∷ filter p xs) (filter p xs)) (sym first)
   run_is_filter p (x ∷ xs) zero (suc n) low mid high =
       let first : p x ≡ true = mid 0 x (omega arith) (omega arith) (omega arith) in
       let rest = run_is_filter p xs zero n
-          (λ k d l m. absurd (omega (arith, l)))
-          (λ k d g l m. mid (suc k) d (omega arith) (omega (arith, l)) (omega (arith, m)))
-          (λ k d g m. high (suc k) d (omega (arith, g)) (omega (arith, m))) in
+      (λ k d l m. absurd (omega (arith, l)))
+      (λ k d g l m. mid (suc k) d (omega arith) (omega (arith, l)) (omega (arith, m)))
+      (λ k d g m. high (suc k) d (omega (arith, g)) (omega (arith, m))) in
       ap (λ ys. x ∷ ys) rest ∙ ap (λ b. cond b (x ∷ filter p xs) (filter p xs)) (sym first)
   run_is_filter p (x ∷ xs) zero zero low mid high =
       let first : p x ≡ false = high 0 x (omega arith) (omega arith) in
       let rest = run_is_filter p xs zero zero
-          (λ k d l m. absurd (omega (arith, l)))
-          (λ k d g l m. absurd (omega (arith, l)))
-          (λ k d g m. high (suc k) d (omega arith) (omega (arith, m))) in
+      (λ k d l m. absurd (omega (arith, l)))
+      (λ k d g l m. absurd (omega (arith, l)))
+      (λ k d g m. high (suc k) d (omega arith) (omega (arith, m))) in
       rest ∙ ap (λ b. cond b (x ∷ filter p xs) (filter p xs)) (sym first)
 
 less_not_equal : (o : Ordering) → is_lt o ≡ true → is_eq o ≡ false

@@ -5,6 +5,7 @@ mod batch;
 mod description;
 mod keys;
 mod reader;
+mod sealing;
 
 pub use batch::Batch;
 pub use description::Description;
