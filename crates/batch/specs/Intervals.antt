@@ -12,3 +12,7 @@ module _ {T : Type 0} (below : T → T → Bool) where
   -- each update's time is between the frontiers
   abbrev pub all_between : List T → List T → List (Update T) → Bool
   all_between lower upper us = list_all (λ u. is_between lower upper u.time) us
+
+  -- the upper frontier is beyond the lower one, and each update's time is between them
+  abbrev pub is_interval_of : List T → List T → List (Update T) → Bool
+  is_interval_of lower upper us = all_beyond below lower upper && all_between lower upper us

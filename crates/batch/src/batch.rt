@@ -1,11 +1,13 @@
 //! The batch itself: a description and sealed updates, of which nothing changes any more. The updates stand in one list
 //! in the order in which they are read.
 ghost use Rattle.std.specs.Prelude.{◌≡◌};
+ghost use Rattle.batch.specs.Batches.{IsSealed};
 
 use crate::keys::range_of;
 use crate::{BatchReader, Description};
 use lattice::Lattice;
 use row::Row;
+use std::alloc::Global;
 use std::marker::Model;
 use std::ops::Range;
 use update::Update;
@@ -28,6 +30,32 @@ impl<T: Lattice> Model for Batch<T> {
     ghost view = { λ b. record { description = b.description; updates = b.updates.items } };
 
     ghost invariant = { λ b. IsSealed T.cmp b.updates.items };
+}
+
+impl<T: Lattice> Batch<T> {
+    // A batch of sealed updates. Takes no memory.
+    pub(crate) fn of(description: Description<T>, updates: Vec<Update<T>>) -> Batch<T>
+        requires { IsSealed T.cmp updates.items }
+        ensures { result ≡ record { description = description; updates = updates.items } }
+    {
+        Batch {
+            description,
+            updates,
+        }
+    }
+
+    // The updates, in order. Takes no memory.
+    pub(crate) fn updates(&self) -> &[Update<T>]
+        ensures value { result.now ≡ self.now.updates }
+        ensures sealed { IsSealed T.cmp self.now.updates }
+    {
+        self.updates.as_slice()
+    }
+
+    // The allocator that the batch is kept by. Takes no memory.
+    pub(crate) fn allocator(&self) -> Global {
+        *self.updates.allocator()
+    }
 }
 
 impl<T: Lattice> BatchReader for Batch<T> {

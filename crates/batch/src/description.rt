@@ -3,12 +3,12 @@
 //!
 //! The frontiers are antichains, kept as plain lists, whose size is known whatever the times are. That they are
 //! antichains, in order, and that the upper one is beyond the lower one is the invariant: no batch goes backwards.
-ghost use Rattle.std.specs.Prelude.{◌≡◌, Err, IfOk, IfErr, OnOk, IsTrue, ◌↔◌, false};
+ghost use Rattle.std.specs.Prelude.{◌≡◌, IfOk, IfErr, IsTrue};
 ghost use Rattle.lattice.specs.Frontiers.{all_beyond};
 ghost use Rattle.antichain.specs.Antichains.{IsFrontier};
+ghost use Rattle.batch.specs.Descriptions.{IsInterval};
 ghost use Rattle.update.specs.declared.refusal.Refusal.{Refusal};
 
-use antichain::{Antichain, all_beyond};
 use lattice::Lattice;
 use std::alloc::Global;
 use std::marker::Model;
@@ -36,6 +36,29 @@ impl<T: Lattice> Model for Description<T> {
 }
 
 impl<T: Lattice> Description<T> {
+    // A description with copies of these frontiers. Refused only where memory for them is.
+    pub(crate) fn new(
+        alloc: Global,
+        worker: usize,
+        node: usize,
+        lower: &[T],
+        upper: &[T],
+        since: &[T],
+    ) -> Result<Description<T>, Refusal>
+        requires { IsInterval T.below T.cmp lower.now upper.now since.now }
+        ensures made { IfOk result (λ made. made
+            ≡ record { worker = worker; node = node; lower = lower.now; upper = upper.now; since = since.now }) }
+        ensures only { IfErr result (λ refused. refused ≡ Refusal.OutOfMemory) }
+    {
+        Ok(Description {
+            worker,
+            node,
+            lower: Vec::from_slice(alloc, lower)?,
+            upper: Vec::from_slice(alloc, upper)?,
+            since: Vec::from_slice(alloc, since)?,
+        })
+    }
+
     /// The worker whose updates these are. Takes no memory.
     pub fn worker(&self) -> usize
         ensures { result ≡ self.now.worker }

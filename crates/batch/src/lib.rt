@@ -2,11 +2,13 @@
 #![tactic(auto)]
 
 mod batch;
+mod builder;
 mod description;
 mod keys;
 mod reader;
 mod sealing;
 
 pub use batch::Batch;
+pub use builder::Builder;
 pub use description::Description;
 pub use reader::BatchReader;
