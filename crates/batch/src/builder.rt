@@ -97,22 +97,54 @@ impl<T: Minimum> Builder<T> {
             node,
             updates,
         } = self;
-        if !upper.is_beyond(lower) || !are_between(&updates, lower.elements(), upper.elements()) {
+        if !is_interval(&updates, lower, upper) {
             return Err(Refusal::Stray);
         }
         let alloc = *updates.allocator();
         let sealed = sealed_list(updates)?;
-        let since = Antichain::from_elem(alloc, T::minimum());
-        let description = Description::new(
-            alloc,
-            worker,
-            node,
-            lower.elements(),
-            upper.elements(),
-            since.elements(),
-        )?;
+        let description = unmoved(alloc, worker, node, lower, upper)?;
         Ok(Batch::of(description, sealed))
     }
+}
+
+// A description of updates whose times have not been moved: any time is beyond its since.
+fn unmoved<T: Minimum>(
+    alloc: Global,
+    worker: usize,
+    node: usize,
+    lower: &Antichain<T>,
+    upper: &Antichain<T>,
+) -> Result<Description<T>, Refusal>
+    requires { IsTrue (all_beyond T.below lower.now upper.now) }
+    ensures made { IfOk result (λ made. made ≡ record {
+      worker = worker;
+      node = node;
+      lower = lower.now;
+      upper = upper.now;
+      since = T.least ∷ [];
+    }) }
+    ensures only { IfErr result (λ refused. refused ≡ Refusal.OutOfMemory) }
+{
+    let since = Antichain::from_elem(alloc, T::minimum());
+    Description::new(
+        alloc,
+        worker,
+        node,
+        lower.elements(),
+        upper.elements(),
+        since.elements(),
+    )
+}
+
+// Whether the upper frontier is beyond the lower one, and each update's time between them.
+fn is_interval<T: Lattice>(
+    updates: &[Update<T>],
+    lower: &Antichain<T>,
+    upper: &Antichain<T>,
+) -> bool
+    ensures { result ≡ is_interval_of T.below lower.now upper.now updates.now }
+{
+    upper.is_beyond(lower) && are_between(updates, lower.elements(), upper.elements())
 }
 
 // Whether each update's time is beyond the lower frontier, and passed by the upper one.
