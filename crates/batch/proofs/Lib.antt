@@ -1,3 +1,4 @@
 pub mod KeyLemmas
 pub mod SealLemmas
 pub mod SumsLemmas
+pub mod MergeLemmas

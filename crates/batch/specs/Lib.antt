@@ -3,3 +3,4 @@ pub use Rattle.lattice.specs.Frontiers
 pub mod Batches
 pub mod Descriptions
 pub mod Intervals
+pub mod Merging

@@ -5,6 +5,7 @@ mod batch;
 mod builder;
 mod description;
 mod keys;
+mod merging;
 mod reader;
 mod sealing;
 
