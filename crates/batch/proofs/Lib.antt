@@ -2,3 +2,4 @@ pub mod KeyLemmas
 pub mod SealLemmas
 pub mod SumsLemmas
 pub mod MergeLemmas
+pub mod IntervalLemmas

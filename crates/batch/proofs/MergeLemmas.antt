@@ -1,5 +1,5 @@
 -- One step of a merge, its beginning and its end.
-use Rattle.std.proofs.Common.{◌≡◌, ◌≢◌, ℕ, ◌<◌, ◌≤◌, ◌+◌, Bool, true, false, cond, ◌&&◌, List, [], ◌∷◌, ◌++◌, length, get_or, take, drop, IsTrue, ℤ, pos, ◌+ℤ◌, refl, sym, ap, ◌∙◌, subst, append_assoc, arith, w64}
+use Rattle.std.proofs.Common.{◌≡◌, ◌≢◌, ℕ, ◌<◌, ◌≤◌, ◌+◌, ◌-◌, Bool, true, false, cond, ◌&&◌, List, [], ◌∷◌, ◌++◌, length, get_or, take, drop, IsTrue, ℤ, pos, ◌+ℤ◌, refl, sym, ap, ◌∙◌, subst, append_assoc, length-drop, arith, w64}
 use Rattle.std.specs.Prelude.{FitsSigned, unsigned_abs}
 use Rattle.std.specs.List.{AllByRecursion, list_all}
 use Rattle.std.specs.List.Sorted.{IsStrictlySortedBy}
@@ -13,7 +13,7 @@ use Rattle.std.proofs.Math.IntN.{+ℤ_idl, +ℤ_idr}
 use Rattle.std.proofs.lemmas.Bool.{and_parts, and_from, false_from_ne_true, true≢false}
 use Rattle.std.proofs.lemmas.Cmp.{tied_itself}
 use Rattle.std.proofs.lemmas.Int.{ints}
-use Rattle.std.proofs.lemmas.List.{append-nil, drop_more, take_more, take_all}
+use Rattle.std.proofs.lemmas.List.{append-nil, drop_more, take_more, take_rest}
 use Rattle.std.proofs.lemmas.List.Elements.{recursion_from_All, All-from_recursion}
 use Rattle.std.proofs.lemmas.List.Sums.{sum_by-cons, sum_by-append, AllPass-from_list_all, list_all-from_AllPass}
 use Rattle.std.proofs.lemmas.Map.Keys.{sorted_head, sorted_tail}
@@ -304,6 +304,18 @@ module _ {T : Type 0} {cmp : T → T → Ordering} (total : IsTotalOrder cmp) wh
   take_right {us} {vs} {out} {new} i j u v h k e d l f w m =
       let less : order v u ≡ Less = (by_row_total total).antisymm v u ∙ ap ordering_reverse l in
       turned new (drop (j + 1) vs) (drop i us) (take_left j i v u k h d e less f w (turned out (drop i us) (drop j vs) m))
+
+  pub whole : {us vs out mid new : List (Update T)} (i j : ℕ) → (i < length us → j < length vs → ⊥) → IsMerging cmp us vs out (drop i us) (drop j vs) → mid ≡ out ++ take (length us - i) (drop i us) → new ≡ mid ++ take (length vs - j) (drop j vs) → AllByRecursion (λ u. FitsSigned w64 u.diff) (take (length us - i) (drop i us)) → AllByRecursion (λ u. FitsSigned w64 u.diff) (take (length vs - j) (drop j vs)) → IsMerging cmp us vs new [] []
+  whole {us} {vs} {out} {mid} {new} i j n m e d f g =
+      let left = length-drop i us in
+      let right = length-drop j vs in
+      let ended : 0 < length (drop i us) → 0 < length (drop j vs) → ⊥ = λ h k. n (omega (arith, h, left)) (omega (arith, k, right)) in
+      let first : mid ≡ out ++ drop i us = e ∙ ap (λ zs. out ++ zs) (take_rest us i) in
+      let second : new ≡ mid ++ drop j vs = d ∙ ap (λ zs. mid ++ zs) (take_rest vs j) in
+      subst (λ zs. IsMerging cmp us vs zs [] []) (sym (second ∙ ap (λ zs. zs ++ drop j vs) first))
+      (rests out (drop i us) (drop j vs) ended
+      (subst (AllByRecursion (λ u. FitsSigned w64 u.diff)) (take_rest us i) f)
+      (subst (AllByRecursion (λ u. FitsSigned w64 u.diff)) (take_rest vs j) g) m)
 
   then_tied : (a b : Ordering) → ordering_then a b ≡ Equal → (a ≡ Equal) × (b ≡ Equal)
   then_tied Less b e = cc

@@ -1,5 +1,5 @@
 -- What a batch says of itself, and what contracts see of it, of a batch and of a builder.
-use Rattle.std.specs.Prelude.{ℕ, Bool, List, IsTrue}
+use Rattle.std.specs.Prelude.{◌≡◌, ℕ, Bool, List, IsTrue}
 use Rattle.std.specs.declared.cmp.Ordering.{Ordering}
 use Rattle.lattice.specs.Frontiers.{all_beyond}
 use Rattle.antichain.specs.Antichains.{IsFrontier}
@@ -30,3 +30,7 @@ pub record IsInterval {T : Type 0} (below : T → T → Bool) (cmp : T → T →
   pub upper_frontier : IsFrontier below cmp upper
   pub since_frontier : IsFrontier below cmp since
   pub forward : IsTrue (all_beyond below lower upper)
+
+-- b goes on where a ends, and is of the same worker and node
+abbrev pub Follows : {T : Type 0} → Described T → Described T → Type 0
+Follows a b = (a.worker ≡ b.worker) × (a.node ≡ b.node) × (a.upper ≡ b.lower)

@@ -3,12 +3,13 @@
 //!
 //! The frontiers are antichains, kept as plain lists, whose size is known whatever the times are. That they are
 //! antichains, in order, and that the upper one is beyond the lower one is the invariant: no batch goes backwards.
-ghost use Rattle.std.specs.Prelude.{◌≡◌, IfOk, IfErr, IsTrue};
+ghost use Rattle.std.specs.Prelude.{◌≡◌, ◌↔◌, ◌⊎◌, Err, IfOk, IfErr, OnOk, IsTrue};
 ghost use Rattle.lattice.specs.Frontiers.{all_beyond};
 ghost use Rattle.antichain.specs.Antichains.{IsFrontier};
-ghost use Rattle.batch.specs.Descriptions.{IsInterval};
+ghost use Rattle.batch.specs.Descriptions.{IsInterval, Follows};
 ghost use Rattle.update.specs.declared.refusal.Refusal.{Refusal};
 
+use antichain::Antichain;
 use lattice::Lattice;
 use std::alloc::Global;
 use std::marker::Model;
@@ -59,6 +60,47 @@ impl<T: Lattice> Description<T> {
         })
     }
 
+    // The description of this interval and the next one together. `Stray` where that one does not go on where this one
+    // ends, or the names differ; else refused only where memory is.
+    pub(crate) fn followed_by(
+        &self,
+        alloc: Global,
+        next: &Description<T>,
+        since: &Antichain<T>,
+    ) -> Result<Description<T>, Refusal>
+        ensures made { IfOk result (λ made. made ≡ record {
+          worker = self.now.worker;
+          node = self.now.node;
+          lower = self.now.lower;
+          upper = next.now.upper;
+          since = since.now;
+        }) }
+        ensures forward { OnOk result (IsTrue (all_beyond T.below self.now.lower self.now.upper)) }
+        ensures next_forward { OnOk result (IsTrue (all_beyond T.below next.now.lower next.now.upper)) }
+        ensures follows { OnOk result (Follows self.now next.now) }
+        ensures stray { (result ≡ Err Refusal.Stray) ↔ (Follows self.now next.now → ⊥) }
+        ensures only { IfErr result (λ refused. (refused ≡ Refusal.OutOfMemory) ⊎ (refused ≡ Refusal.Stray)) }
+    {
+        if !self.is_followed_by(next) {
+            return Err(Refusal::Stray);
+        }
+        Description::new(
+            alloc,
+            self.worker,
+            self.node,
+            self.lower(),
+            next.upper(),
+            since.elements(),
+        )
+    }
+
+    // Whether the next interval begins where this one ends, and the names are the same.
+    fn is_followed_by(&self, next: &Description<T>) -> bool
+        ensures { IsTrue result ↔ Follows self.now next.now }
+    {
+        self.worker == next.worker && self.node == next.node && are_same(self.upper(), next.lower())
+    }
+
     /// The worker whose updates these are. Takes no memory.
     pub fn worker(&self) -> usize
         ensures { result ≡ self.now.worker }
@@ -97,4 +139,11 @@ impl<T: Lattice> Description<T> {
     {
         self.since.as_slice()
     }
+}
+
+// Whether two frontiers are the same, element by element.
+fn are_same<T: Lattice>(f: &[T], g: &[T]) -> bool
+    ensures { IsTrue result ↔ (f.now ≡ g.now) }
+{
+    f == g
 }

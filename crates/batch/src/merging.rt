@@ -3,13 +3,13 @@
 //!
 //! The lists that are read stay as they are, since readers may hold them; so the merged one is a new list. Times stay as
 //! they are too: the new since is named, and nothing is moved to it.
-ghost use Rattle.std.specs.Prelude.{◌≡◌, ◌≤◌, ◌<◌, ◌+◌, ◌⊎◌, ◌∷◌, ◌++◌, [], List, drop, length, ℤ, ◌+ℤ◌, Bool, FitsSigned, IfOk, IfErr, OnOk};
+ghost use Rattle.std.specs.Prelude.{◌≡◌, ◌≤◌, ◌<◌, ◌+◌, ◌⊎◌, ◌∷◌, ◌++◌, [], List, drop, length, ℤ, ◌+ℤ◌, Bool, FitsSigned, IfOk, IfErr, OnOk, IsTrue};
 ghost use Rattle.std.specs.Int.{w64};
-ghost use Rattle.std.specs.List.{AllByRecursion};
+ghost use Rattle.std.specs.List.{AllByRecursion, list_all};
 ghost use Rattle.update.specs.Gathering.{settled};
-ghost use Rattle.update.specs.Updates.{HasLargeTotal};
+ghost use Rattle.update.specs.Updates.{HasLargeTotal, total_where, size};
 ghost use Rattle.update.specs.declared.refusal.Refusal.{Refusal};
-ghost use Rattle.batch.specs.Batches.{by_row_then_time};
+ghost use Rattle.batch.specs.Batches.{by_row_then_time, IsSealed};
 ghost use Rattle.batch.specs.Merging.{IsMerging};
 
 use lattice::Lattice;
@@ -127,4 +127,52 @@ fn copy_all<T: Lattice>(out: &mut Vec<Update<T>>, rest: &[Update<T>]) -> Result<
         push_copy(out, update)?;
     }
     Ok(())
+}
+
+// Goes through both lists until one of them ends, and says how far that is.
+fn take_from_both<T: Lattice>(
+    out: &mut Vec<Update<T>>,
+    us: &[Update<T>],
+    vs: &[Update<T>],
+) -> Result<Fingers, Refusal>
+    requires { IsMerging T.cmp us.now vs.now out.old.items us.now vs.now }
+    ensures left { IfOk result (λ at. at.left ≤ length us.now) }
+    ensures right { IfOk result (λ at. at.right ≤ length vs.now) }
+    ensures ended { IfOk result (λ at. at.left < length us.now → at.right < length vs.now → ⊥) }
+    ensures merging { IfOk result (λ at.
+        IsMerging T.cmp us.now vs.now out.new.items (drop at.left us.now) (drop at.right vs.now)) }
+    ensures refused { IfErr result (λ refused. (refused ≡ Refusal.OutOfMemory)
+        ⊎ ((refused ≡ Refusal.Overflow) × HasLargeTotal T.below (us.now ++ vs.now))) }
+{
+    let mut at = Fingers { left: 0, right: 0 };
+    while at.left < us.len() && at.right < vs.len() {
+        at = take_next(out, us, vs, at)?;
+    }
+    Ok(at)
+}
+
+// The one sealed list with the totals of both. `Overflow` only where some total of both is no 64-bit number.
+pub(crate) fn merged_list<T: Lattice>(
+    alloc: Global,
+    us: &[Update<T>],
+    vs: &[Update<T>],
+) -> Result<Vec<Update<T>>, Refusal>
+    requires left { IsSealed T.cmp us.now }
+    requires right { IsSealed T.cmp vs.now }
+    ensures sealed { IfOk result (λ out. IsSealed T.cmp out.items) }
+    ensures totals { IfOk result (λ out. (p : List ℤ → T → Bool)
+        → total_where p out.items ≡ total_where p (us.now ++ vs.now)) }
+    ensures among { IfOk result (λ out. (p : List ℤ → T → Bool)
+        → IsTrue (list_all (λ u. p u.row u.time) us.now) → IsTrue (list_all (λ u. p u.row u.time) vs.now)
+        → IsTrue (list_all (λ u. p u.row u.time) out.items)) }
+    ensures size { IfOk result (λ out. size out.items ≤ size us.now + size vs.now) }
+    ensures fits { OnOk result (HasLargeTotal T.below (us.now ++ vs.now) → ⊥) }
+    ensures refused { IfErr result (λ refused. (refused ≡ Refusal.OutOfMemory)
+        ⊎ ((refused ≡ Refusal.Overflow) × HasLargeTotal T.below (us.now ++ vs.now))) }
+{
+    let mut out = Vec::with_capacity(alloc, us.len().saturating_add(vs.len()))?;
+    let at = take_from_both(&mut out, us, vs)?;
+    copy_all(&mut out, &us[at.left..])?;
+    copy_all(&mut out, &vs[at.right..])?;
+    Ok(out)
 }

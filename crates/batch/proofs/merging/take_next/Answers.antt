@@ -8,8 +8,10 @@ returns-in_err-push_sum-in-Equal-clause-refused g c =
     let p = err_from_is_err_and c.from_residual-in_err-push_sum-in-Equal.result c.from_residual-in_err-push_sum-in-Equal.ensures.1 in
     rw (p.1, p.2)
     (⊎_elim (λ memory. inl memory)
-    (λ large. inr (large.0,
-    large_at g.met.T.PartialOrder.order g.met.T.Ord.total c.args.at.left c.args.at.right c.index-us-at.result c.index-vs-at.result c.requires.left c.requires.right c.index-us-at.is c.index-vs-at.is g.met.T.Lattice.extends.exact (sym c.in-Equal.ensures) large.1))
+    (λ large. inr (
+      large.0,
+      large_at g.met.T.PartialOrder.order g.met.T.Ord.total c.args.at.left c.args.at.right c.index-us-at.result c.index-vs-at.result c.requires.left c.requires.right c.index-us-at.is c.index-vs-at.is g.met.T.Lattice.extends.exact (sym c.in-Equal.ensures) large.1,
+    ))
     c.in_err-push_sum-in-Equal.ensures.refused)
 
 pub returns-in_ok-push_copy-in-Less-clause-merging : goal.returns-in_ok-push_copy-in-Less-clause-merging
