@@ -5,7 +5,7 @@ use Rattle.std.specs.declared.cmp.Ordering.{Ordering}
 use Rattle.std.proofs.lemmas.Bool.{and_parts, and_from}
 use Rattle.lattice.specs.Order.{PartialOrderLaws}
 use Rattle.lattice.specs.Frontiers.{is_beyond, all_beyond}
-use Rattle.lattice.proofs.FrontierLemmas.{all_more, beyond_later, all_beyond_later}
+use Rattle.lattice.proofs.FrontierLemmas.{all_more, beyond_later, beyond_itself, all_beyond_later}
 use Rattle.antichain.specs.Antichains.{IsFrontier}
 use Rattle.antichain.proofs.AntichainLemmas.{not_true, not_from}
 use Rattle.update.specs.declared.change.Update.{Update}
@@ -32,3 +32,10 @@ module _ {T : Type 0} {below : T → T → Bool} (o : PartialOrderLaws below) wh
   pub all_wider : (A B C D : List T) → IsTrue (all_beyond below A C) → IsTrue (all_beyond below B D) → (us : List (Update T)) → IsTrue (all_between below C B us) → IsTrue (all_between below A D us)
   all_wider A B C D f g us h =
       all_more (λ (u : Update T). is_between below C B u.time) (λ u. is_between below A D u.time) (λ u k. wider A B C D u.time f g k) us h
+
+  -- what is between the frontiers of one of two neighbours is between those of both
+  pub joined_between : (A B C D : List T) → IsTrue (all_beyond below A B) → IsTrue (all_beyond below C D) → B ≡ C → (us vs : List (Update T)) → IsTrue (all_between below A B us) → IsTrue (all_between below C D vs) → IsTrue (all_between below A D us) × IsTrue (all_between below A D vs)
+  joined_between A B C D f g e us vs h k = (
+    all_wider A B A D (beyond_itself o A) (subst (λ E. IsTrue (all_beyond below E D)) (sym e) g) us h,
+    all_wider A D C D (subst (λ E. IsTrue (all_beyond below A E)) e f) (beyond_itself o D) vs k,
+  )

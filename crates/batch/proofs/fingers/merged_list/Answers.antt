@@ -1,8 +1,8 @@
 use Rattle.std.proofs.Common.{[]}
 use Rattle.batch.specs.Merging.{IsMerging}
 use Rattle.batch.proofs.MergeLemmas.{whole, ends_total, ends_among, ends_fit}
-use Rattle.batch.proofs.merging.merged_list.Given.{Over}
-use Rattle.batch.proofs.merging.merged_list.Goals as goal
+use Rattle.batch.proofs.fingers.merged_list.Given.{Over}
+use Rattle.batch.proofs.fingers.merged_list.Goals as goal
 
 -- nothing is left to come
 merged : (g : Over) (c : goal.In_ok-copy_all-2 g) → IsMerging g.T.Ord.cmp c.args.us.now c.args.vs.now c.copy_all-2.new.out.items [] []

@@ -1,7 +1,7 @@
 use Rattle.std.proofs.Common.{sym, inl, inr, ⊎_elim}
 use Rattle.std.proofs.lemmas.Result.{err_from_is_err_and}
 use Rattle.batch.proofs.MergeLemmas.{take_left, take_right, take_both, large_at}
-use Rattle.batch.proofs.merging.take_next.Goals as goal
+use Rattle.batch.proofs.fingers.take_next.Goals as goal
 
 pub returns-in_err-push_sum-in-Equal-clause-refused : goal.returns-in_err-push_sum-in-Equal-clause-refused
 returns-in_err-push_sum-in-Equal-clause-refused g c =

@@ -1,6 +1,6 @@
 use Rattle.std.proofs.Common.{◌≡◌, ◌++◌, take, FitsSigned, w64}
 use Rattle.std.specs.List.{AllByRecursion}
-use Rattle.batch.proofs.merging.copy_all.Given as goal
+use Rattle.batch.proofs.fingers.copy_all.Given as goal
 
 -- the updates so far are copied
 abbrev pub invariant-loop-update : goal.invariant-loop-update

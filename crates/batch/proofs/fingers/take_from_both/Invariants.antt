@@ -1,6 +1,6 @@
 use Rattle.std.proofs.Common.{◌≤◌, ◌+◌, ◌-◌, length, drop}
 use Rattle.batch.specs.Merging.{IsMerging}
-use Rattle.batch.proofs.merging.take_from_both.Given as goal
+use Rattle.batch.proofs.fingers.take_from_both.Given as goal
 
 abbrev pub invariant-loop-at : goal.invariant-loop-at
 invariant-loop-at g l = record {

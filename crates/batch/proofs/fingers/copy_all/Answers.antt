@@ -1,6 +1,6 @@
 use Rattle.std.proofs.Common.{FitsSigned, w64}
 use Rattle.batch.proofs.MergeLemmas.{one_more, one_more_written}
-use Rattle.batch.proofs.merging.copy_all.Goals as goal
+use Rattle.batch.proofs.fingers.copy_all.Goals as goal
 
 pub loop-update-preserved : goal.loop-update-preserved
 loop-update-preserved g c =
