@@ -1,6 +1,5 @@
 -- Two intervals, of which the second begins where the first ends, make one.
-use Rattle.std.proofs.Common.{◌≡◌, Bool, not, ◌&&◌, List, IsTrue, ap, sym, ◌∙◌, subst}
-use Rattle.std.specs.List.{list_all}
+use Rattle.std.proofs.Common.{◌≡◌, Bool, not, List, IsTrue, sym, subst}
 use Rattle.std.specs.declared.cmp.Ordering.{Ordering}
 use Rattle.std.proofs.lemmas.Bool.{and_parts, and_from}
 use Rattle.lattice.specs.Order.{PartialOrderLaws}

@@ -1,6 +1,5 @@
 use Rattle.std.proofs.Common.{rules}
 use Rattle.std.specs.Ordering.{is_lt, is_le}
-use Rattle.std.specs.List.Sorted.{IsPartitionPoint}
 use Rattle.std.proofs.lemmas.List.Sorted.{IsPartitionPoint-from_clause}
 use Rattle.batch.specs.Batches.{by_row_then_time}
 use Rattle.batch.proofs.KeyLemmas.{parted, at_key, keeps_before, keeps_upto, ends_in_order, range_is_filter}
