@@ -3,3 +3,4 @@ pub mod SealLemmas
 pub mod SumsLemmas
 pub mod MergeLemmas
 pub mod IntervalLemmas
+pub mod DeterminedLemmas

@@ -337,14 +337,14 @@ module _ {T : Type 0} {cmp : T → T → Ordering} (total : IsTotalOrder cmp) wh
       (step_both out (drop (i + 1) us) (drop (j + 1) vs) u v (u.diff +ℤ v.diff) one.0 one.1 refl f here)
 
 module _ {T : Type 0} {below : T → T → Bool} {cmp : T → T → Ordering} (o : PartialOrderLaws below) (total : IsTotalOrder cmp) where
-  no_tie : (x z : Update T) → z.row ≡ x.row → z.time ≡ x.time → (by_row_then_time cmp x z ≡ Less → ⊥) × (by_row_then_time cmp z x ≡ Less → ⊥)
+  pub no_tie : (x z : Update T) → z.row ≡ x.row → z.time ≡ x.time → (by_row_then_time cmp x z ≡ Less → ⊥) × (by_row_then_time cmp z x ≡ Less → ⊥)
   no_tie x z e d =
       let itself = tied_itself (by_row_total total) x in
       let one : by_row_then_time cmp x z ≡ by_row_then_time cmp x x = λ i. ordering_then (slice_cmp int_cmp x.row (e i)) (cmp x.time (d i)) in
       let other : by_row_then_time cmp z x ≡ by_row_then_time cmp x x = λ i. ordering_then (slice_cmp int_cmp (e i) x.row) (cmp (d i) x.time) in
       ((λ h. true≢false (sym (ap is_lt h) ∙ ap is_lt (one ∙ itself))), (λ h. true≢false (sym (ap is_lt h) ∙ ap is_lt (other ∙ itself))))
 
-  none_after : (x : Update T) (zs : List (Update T)) → AllByRecursion (λ z. by_row_then_time cmp x z ≡ Less) zs → total_at below x.row x.time zs ≡ pos 0
+  pub none_after : (x : Update T) (zs : List (Update T)) → AllByRecursion (λ z. by_row_then_time cmp x z ≡ Less) zs → total_at below x.row x.time zs ≡ pos 0
   none_after x zs a =
       sum_where-none (λ (u : Update T). u.diff) (meets below x) zs
       (λ z m. false_from_ne_true (meets below x z) (λ k. (no_tie x z (meets_row o x z k) (meets_time o x z k)).0 (at_each (λ y. by_row_then_time cmp x y ≡ Less) zs z a m)))
@@ -354,7 +354,7 @@ module _ {T : Type 0} {below : T → T → Bool} {cmp : T → T → Ordering} (o
       sum_where-none (λ (u : Update T). u.diff) (meets below x) zs
       (λ z m. false_from_ne_true (meets below x z) (λ k. (no_tie x z (meets_row o x z k) (meets_time o x z k)).1 (at_each (λ y. by_row_then_time cmp y x ≡ Less) zs z a m)))
 
-  own_first : (x : Update T) (xs : List (Update T)) → IsStrictlySortedBy (by_row_then_time cmp) (x ∷ xs) → total_at below x.row x.time (x ∷ xs) ≡ x.diff
+  pub own_first : (x : Update T) (xs : List (Update T)) → IsStrictlySortedBy (by_row_then_time cmp) (x ∷ xs) → total_at below x.row x.time (x ∷ xs) ≡ x.diff
   own_first x xs s =
       let here : meets below x x ≡ true = and_from (same_row x.row x.row) (below x.time x.time && below x.time x.time) ((signed_items x.row x.row).1 refl) (and_from (below x.time x.time) (below x.time x.time) (o.reflexive x.time) (o.reflexive x.time)) in
       let later = none_after x xs (sorted_head (by_row_then_time cmp) x xs s) in

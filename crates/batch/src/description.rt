@@ -84,10 +84,11 @@ impl<T: Lattice> Description<T> {
         if !self.is_followed_by(next) {
             return Err(Refusal::Stray);
         }
+        let (worker, node) = self.names();
         Description::new(
             alloc,
-            self.worker,
-            self.node,
+            worker,
+            node,
             self.lower(),
             next.upper(),
             since.elements(),
@@ -98,7 +99,15 @@ impl<T: Lattice> Description<T> {
     fn is_followed_by(&self, next: &Description<T>) -> bool
         ensures { IsTrue result ↔ Follows self.now next.now }
     {
-        self.worker == next.worker && self.node == next.node && are_same(self.upper(), next.lower())
+        self.names() == next.names() && are_same(self.upper(), next.lower())
+    }
+
+    // The worker and the node.
+    fn names(&self) -> (usize, usize)
+        ensures worker { result.0 ≡ self.now.worker }
+        ensures node { result.1 ≡ self.now.node }
+    {
+        (self.worker, self.node)
     }
 
     /// The worker whose updates these are. Takes no memory.
@@ -119,6 +128,7 @@ impl<T: Lattice> Description<T> {
     pub fn lower(&self) -> &[T]
         ensures value { result.now ≡ self.now.lower }
         ensures frontier { IsFrontier T.below T.cmp self.now.lower }
+        ensures forward { IsTrue (all_beyond T.below self.now.lower self.now.upper) }
     {
         self.lower.as_slice()
     }

@@ -1,6 +1,5 @@
-use Rattle.std.proofs.Common.{IsTrue, subst, rules}
-use Rattle.lattice.specs.Frontiers.{all_beyond}
-use Rattle.batch.specs.Descriptions.{Described, Follows}
+use Rattle.std.proofs.Common.{rules}
+use Rattle.batch.specs.Descriptions.{Follows}
 use Rattle.batch.proofs.IntervalLemmas.{whole_interval}
 use Rattle.batch.proofs.description.Description.followed_by.Goals as goal
 
@@ -9,6 +8,5 @@ new-requires g c =
     let a = c.args.self.now in
     let b = c.args.next.now in
     let follows : Follows a b = search rules in
-    let forward = subst (λ (d : Described g.row.T.Denot). IsTrue (all_beyond g.T.PartialOrder.below d.lower d.upper)) c.self.view_is c.self.invariant.forward in
     rw (c.lower.ensures.value, c.upper.ensures.value, c.elements.ensures.value)
-    (whole_interval g.met.T.PartialOrder.order a.lower a.upper b.lower b.upper c.args.since.now c.lower.ensures.frontier c.upper.ensures.frontier c.elements.ensures.frontier forward c.upper.ensures.forward follows.2)
+    (whole_interval g.met.T.PartialOrder.order a.lower a.upper b.lower b.upper c.args.since.now c.lower.ensures.frontier c.upper.ensures.frontier c.elements.ensures.frontier c.lower.ensures.forward c.upper.ensures.forward follows.2)
