@@ -20,3 +20,7 @@ pub record IsSealed {T : Type 0} (cmp : T → T → Ordering) (us : List (Update
 -- the update's row begins with the columns of the key
 abbrev pub has_key : {T : Type 0} → List ℤ → Update T → Bool
 has_key key u = same_row (take (length key) u.row) key
+
+-- how the beginning of the update's row, cut to the length of the key, compares with it
+abbrev pub at_key : {T : Type 0} → List ℤ → Update T → Ordering
+at_key key u = slice_cmp int_cmp (take (length key) u.row) key
