@@ -1,5 +1,5 @@
 -- Sealed lists with the same totals are one list.
-use Rattle.std.proofs.Common.{◌≡◌, ◌≢◌, Bool, true, false, cond, List, [], ◌∷◌, IsTrue, ℤ, pos, ◌+ℤ◌, refl, sym, ◌∙◌, subst, ⊎_elim}
+use Rattle.std.proofs.Common.{◌≡◌, ◌≢◌, Bool, true, cond, List, [], ◌∷◌, IsTrue, ℤ, pos, ◌+ℤ◌, refl, sym, ◌∙◌, subst, ⊎_elim}
 use Rattle.std.specs.List.Sorted.{IsStrictlySortedBy}
 use Rattle.std.specs.Cmp.{IsTotalOrder}
 use Rattle.std.specs.declared.cmp.Ordering.{Ordering}
