@@ -1,0 +1,61 @@
+-- Sealed lists with the same totals are one list.
+use Rattle.std.proofs.Common.{◌≡◌, ◌≢◌, Bool, true, cond, List, [], ◌∷◌, IsTrue, ℤ, pos, ◌+ℤ◌, refl, sym, ◌∙◌, subst, ⊎_elim}
+use Rattle.std.specs.List.Sorted.{IsStrictlySortedBy}
+use Rattle.std.specs.Cmp.{IsTotalOrder}
+use Rattle.std.specs.declared.cmp.Ordering.{Ordering}
+use Rattle.std.specs.declared.cmp.Ordering.TheVariants.{Less}
+use Rattle.std.proofs.Math.IntN.{+ℤ_idl}
+use Rattle.std.proofs.lemmas.Bool.{false_from_ne_true}
+use Rattle.std.proofs.lemmas.Map.Keys.{sorted_head, sorted_tail}
+use Rattle.lattice.specs.Order.{PartialOrderLaws}
+use Rattle.antichain.proofs.Lists.{Among}
+use Rattle.antichain.proofs.AntichainLemmas.{among_same, sorted_same}
+use Rattle.update.specs.declared.change.Update.{Update}
+use Rattle.update.specs.Bags.{Alike}
+use Rattle.update.specs.Updates.{as_of, total_at}
+use Rattle.update.proofs.SumLemmas.{sum_where-none}
+use Rattle.update.proofs.UniqueLemmas.{passes_or_none, same_totals, at_each, meets, meets_row, meets_time}
+use Rattle.batch.specs.Batches.{by_row_then_time, IsSealed}
+use Rattle.batch.proofs.SealLemmas.{by_row_total}
+use Rattle.batch.proofs.MergeLemmas.{no_tie, own_first}
+
+module _ {T : Type 0} {below : T → T → Bool} {cmp : T → T → Ordering} (o : PartialOrderLaws below) (total : IsTotalOrder cmp) where
+  -- a list in order has at each update's row and time just that update
+  own_total : (us : List (Update T)) → IsStrictlySortedBy (by_row_then_time cmp) us → (u : Update T) → Among u us → total_at below u.row u.time us ≡ u.diff
+  own_total [] s u m = absurd m
+  own_total (x ∷ us) s u m =
+      let order = by_row_then_time cmp in
+      ⊎_elim
+      (λ e. subst (λ (w : Update T). total_at below w.row w.time (x ∷ us) ≡ w.diff) e (own_first o total x us s))
+      (λ k.
+      let apart = false_from_ne_true (meets below u x) (λ h. (no_tie o total u x (meets_row o u x h) (meets_time o u x h)).1 (at_each (λ y. order x y ≡ Less) us u (sorted_head order x us s) k)) in
+      let rest = own_total us (sorted_tail order x us s) u k in
+      (λ i. cond (apart i) x.diff (pos 0) +ℤ rest i) ∙ +ℤ_idl u.diff)
+      m
+
+  update_of : (us vs : List (Update T)) → ((row : List ℤ) (t : T) → total_at below row t us ≡ total_at below row t vs) → IsSealed cmp us → IsSealed cmp vs → (u : Update T) → Among u us → Among u vs
+  update_of us vs same a b u m =
+      ⊎_elim
+      (λ r. among_same r.0 u vs (one r.0 r.1 r.2) r.1)
+      (λ none. absurd (at_each (λ w. w.diff ≢ pos 0) us u a.nonzero m (sym there ∙ sum_where-none (λ (w : Update T). w.diff) (meets below u) vs none)))
+      (passes_or_none (meets below u) vs)
+    where
+      there : total_at below u.row u.time vs ≡ u.diff
+      there = sym (same u.row u.time) ∙ own_total us a.ascending u m
+
+      one : (v : Update T) → Among v vs → IsTrue (meets below u v) → v ≡ u
+      one v k h =
+          let row = meets_row o u v h in
+          let time = meets_time o u v h in
+          let diff : v.diff ≡ u.diff = sym (own_total vs b.ascending v k) ∙ (λ i. total_at below (row i) (time i) vs) ∙ there in
+          λ i. record { time = time i; row = row i; diff = diff i }
+
+  pub same_sealed : (us vs : List (Update T)) → IsSealed cmp us → IsSealed cmp vs → ((row : List ℤ) (t : T) → total_at below row t us ≡ total_at below row t vs) → us ≡ vs
+  same_sealed us vs a b same =
+      sorted_same (by_row_total total) us vs a.ascending b.ascending
+      (update_of us vs same a b)
+      (update_of vs us (λ row t. sym (same row t)) b a)
+
+  pub same_by_sums : (us vs : List (Update T)) → IsSealed cmp us → IsSealed cmp vs → ((t : T) → Alike (as_of below t us) (as_of below t vs)) → us ≡ vs
+  same_by_sums us vs a b same =
+      same_sealed us vs a b (λ row t. same_totals o (λ _. true) us vs (λ s u h k. refl) (λ u h. same u) row t refl)

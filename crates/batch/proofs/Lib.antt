@@ -1,0 +1,6 @@
+pub mod KeyLemmas
+pub mod SealLemmas
+pub mod SumsLemmas
+pub mod MergeLemmas
+pub mod IntervalLemmas
+pub mod DeterminedLemmas

@@ -1,0 +1,34 @@
+use Rattle.std.proofs.Common.{rules, ◌≡◌, IsTrue, refl, sym}
+use Rattle.std.proofs.lemmas.Result.{err_from_is_err_and}
+use Rattle.std.proofs.lemmas.Bool.{and_parts, true≢false}
+use Rattle.update.specs.declared.refusal.Refusal.TheVariants.{OutOfMemory}
+use Rattle.batch.specs.Intervals.{is_between, is_interval_of}
+use Rattle.batch.proofs.SumsLemmas.{sums_from_totals}
+use Rattle.batch.proofs.builder.Builder.seal.Goals as goal
+
+pub returns-in_err-sealed-clause-overflow : goal.returns-in_err-sealed-clause-overflow
+returns-in_err-sealed-clause-overflow g c =
+    rw (← c.self.view_is) ((λ _. (search rules, c.in_err-sealed.ensures.overflow.0 refl)), (λ _. search rules))
+
+pub returns-in_err-description-clause-overflow : goal.returns-in_err-description-clause-overflow
+returns-in_err-description-clause-overflow g c =
+    let p = err_from_is_err_and c.from_residual-in_err-description.result c.from_residual-in_err-description.ensures.1 in
+    let only : c.in_err-description.field-0.0 ≡ OutOfMemory = c.in_err-description.ensures.only in
+    rw (p.1, ← c.self.view_is) ((λ e. absurd (cc (p.2, only, e))), (λ h. absurd (true≢false (sym (c.in_ok-sealed.ensures.overflow.1 h.1)))))
+
+pub returns-clause-between : goal.returns-clause-between
+returns-clause-between g c =
+    let below = g.T.PartialOrder.below in
+    let lower = c.args.lower.now in
+    let upper = c.args.upper.now in
+    let whole : IsTrue (is_interval_of below lower upper c.self.inside.updates.items) = search rules in
+    rw c.of.ensures (c.in_ok-sealed.ensures.among (λ _ t. is_between below lower upper t) (and_parts _ _ whole).1)
+
+pub returns-clause-totals : goal.returns-clause-totals
+returns-clause-totals g c p = rw (c.of.ensures, ← c.self.view_is) (c.in_ok-sealed.ensures.totals p)
+
+pub returns-clause-sums : goal.returns-clause-sums
+returns-clause-sums g c = sums_from_totals _ _ _ (returns-clause-totals g c)
+
+pub returns-clause-overflow : goal.returns-clause-overflow
+returns-clause-overflow g c = rw (← c.self.view_is) ((λ e. cc), (λ h. absurd (true≢false (sym (c.in_ok-sealed.ensures.overflow.1 h.1)))))

@@ -1,0 +1,19 @@
+use Rattle.std.proofs.Common.{[]}
+use Rattle.batch.specs.Merging.{IsMerging}
+use Rattle.batch.proofs.MergeLemmas.{whole, ends_total, ends_among, ends_fit}
+use Rattle.batch.proofs.fingers.merged_list.Given.{Over}
+use Rattle.batch.proofs.fingers.merged_list.Goals as goal
+
+-- nothing is left to come
+merged : (g : Over) (c : goal.In_ok-copy_all-2 g) → IsMerging g.T.Ord.cmp c.args.us.now c.args.vs.now c.copy_all-2.new.out.items [] []
+merged g c =
+    whole g.met.T.Ord.total c.in_ok-at.at.left c.in_ok-at.at.right c.in_ok-at.ensures.ended c.in_ok-at.ensures.merging c.in_ok-copy_all.ensures.written c.in_ok-copy_all-2.ensures.written c.in_ok-copy_all.ensures.fit c.in_ok-copy_all-2.ensures.fit
+
+pub returns-clause-totals : goal.returns-clause-totals
+returns-clause-totals g c = ends_total g.met.T.PartialOrder.order g.met.T.Ord.total (merged g c)
+
+pub returns-clause-among : goal.returns-clause-among
+returns-clause-among g c = ends_among g.met.T.PartialOrder.order g.met.T.Ord.total (merged g c)
+
+pub returns-clause-fits : goal.returns-clause-fits
+returns-clause-fits g c = ends_fit g.met.T.PartialOrder.order g.met.T.Ord.total (merged g c)

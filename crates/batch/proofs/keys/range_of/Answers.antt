@@ -1,0 +1,10 @@
+use Rattle.batch.proofs.KeyLemmas.{ends_in_order, range_is_filter}
+use Rattle.batch.proofs.keys.range_of.Goals as goal
+
+pub returns-clause-ordered : goal.returns-clause-ordered
+returns-clause-ordered g c =
+    ends_in_order g.T.Ord.cmp c.args.key.now c.args.updates.now _ _ c.first_not_before.ensures.within c.first_not_before.ensures.parted c.first_after.ensures.parted
+
+pub returns-clause-exact : goal.returns-clause-exact
+returns-clause-exact g c =
+    range_is_filter g.T.Ord.cmp c.args.key.now c.args.updates.now _ _ (returns-clause-ordered g c) c.first_not_before.ensures.parted c.first_after.ensures.parted

@@ -1,0 +1,38 @@
+use Rattle.std.proofs.Common.{IsTrue}
+use Rattle.lattice.specs.Frontiers.{all_beyond}
+use Rattle.batch.specs.Descriptions.{Follows}
+use Rattle.batch.specs.Intervals.{is_between}
+use Rattle.batch.proofs.IntervalLemmas.{joined_between}
+use Rattle.batch.proofs.SumsLemmas.{sums_from_totals}
+use Rattle.batch.proofs.merging.merge.Given.{Over}
+use Rattle.batch.proofs.merging.merge.Goals as goal
+
+follows : (g : Over) (c : goal.After-of g) → Follows c.args.a.now.description c.args.b.now.description
+follows g c = rw (← c.description.ensures, ← c.description-2.ensures) c.in_ok-description.ensures.follows
+
+pub returns-clause-totals : goal.returns-clause-totals
+returns-clause-totals g c p =
+    rw (c.of.ensures, ← c.updates.ensures.value, ← c.updates-2.ensures.value) (c.in_ok-updates.ensures.totals p)
+
+pub returns-clause-sums : goal.returns-clause-sums
+returns-clause-sums g c = sums_from_totals _ _ _ (returns-clause-totals g c)
+
+pub returns-clause-among : goal.returns-clause-among
+returns-clause-among g c p =
+    rw (c.of.ensures, ← c.updates.ensures.value, ← c.updates-2.ensures.value) (c.in_ok-updates.ensures.among p)
+
+pub returns-clause-between : goal.returns-clause-between
+returns-clause-between g c h k =
+    let a = c.args.a.now in
+    let b = c.args.b.now in
+    let below = g.T.PartialOrder.below in
+    let forward : IsTrue (all_beyond below a.description.lower a.description.upper) = rw (← c.description.ensures) c.in_ok-description.ensures.forward in
+    let next_forward : IsTrue (all_beyond below b.description.lower b.description.upper) = rw (← c.description-2.ensures) c.in_ok-description.ensures.next_forward in
+    let parts = joined_between g.met.T.PartialOrder.order a.description.lower a.description.upper b.description.lower b.description.upper forward next_forward (follows g c).2 a.updates b.updates h k in
+    returns-clause-among g c (λ _ t. is_between below a.description.lower b.description.upper t) parts.0 parts.1
+
+pub returns-clause-fits : goal.returns-clause-fits
+returns-clause-fits g c = rw (← c.updates.ensures.value, ← c.updates-2.ensures.value) c.in_ok-updates.ensures.fits
+
+pub returns-clause-stray : goal.returns-clause-stray
+returns-clause-stray g c = ((λ e. cc), (λ n. absurd (n (follows g c))))

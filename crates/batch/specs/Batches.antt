@@ -1,0 +1,26 @@
+-- Batches: updates in an order that brings the rows of a key together (McSherry et al., Shared Arrangements, VLDB 2020).
+use Rattle.std.specs.Prelude.{◌≢◌, Bool, List, ℤ, pos, length, take}
+use Rattle.std.specs.List.{AllByRecursion}
+use Rattle.std.specs.List.Sorted.{IsStrictlySortedBy}
+use Rattle.std.specs.Cmp.Lexicographic.{slice_cmp}
+use Rattle.std.specs.Ordering.{int_cmp, ordering_then}
+use Rattle.std.specs.declared.cmp.Ordering.{Ordering}
+use Rattle.update.specs.declared.change.Update.{Update}
+use Rattle.update.specs.Bags.{same_row}
+
+-- the order inside a batch: by row, then by time
+abbrev pub by_row_then_time : {T : Type 0} → (T → T → Ordering) → Update T → Update T → Ordering
+by_row_then_time cmp u v = ordering_then (slice_cmp int_cmp u.row v.row) (cmp u.time v.time)
+
+-- one update for each row and time, in order of row, then time, and none of nothing
+pub record IsSealed {T : Type 0} (cmp : T → T → Ordering) (us : List (Update T)) : Type 0 where
+  pub ascending : IsStrictlySortedBy (by_row_then_time cmp) us
+  pub nonzero : AllByRecursion (λ u. u.diff ≢ pos 0) us
+
+-- the update's row begins with the columns of the key
+abbrev pub has_key : {T : Type 0} → List ℤ → Update T → Bool
+has_key key u = same_row (take (length key) u.row) key
+
+-- how the beginning of the update's row, cut to the length of the key, compares with it
+abbrev pub at_key : {T : Type 0} → List ℤ → Update T → Ordering
+at_key key u = slice_cmp int_cmp (take (length key) u.row) key

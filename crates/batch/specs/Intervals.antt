@@ -1,0 +1,18 @@
+-- The interval of times between two frontiers (Murray et al., Naiad, SOSP 2013).
+use Rattle.std.specs.Prelude.{Bool, not, ◌&&◌, List}
+use Rattle.std.specs.List.{list_all}
+use Rattle.lattice.specs.Frontiers.{is_beyond, all_beyond}
+use Rattle.update.specs.declared.change.Update.{Update}
+
+module _ {T : Type 0} (below : T → T → Bool) where
+  -- t is beyond the lower frontier, and the upper one has passed it
+  abbrev pub is_between : List T → List T → T → Bool
+  is_between lower upper t = is_beyond below lower t && not (is_beyond below upper t)
+
+  -- each update's time is between the frontiers
+  abbrev pub all_between : List T → List T → List (Update T) → Bool
+  all_between lower upper us = list_all (λ u. is_between lower upper u.time) us
+
+  -- the upper frontier is beyond the lower one, and each update's time is between them
+  abbrev pub is_interval_of : List T → List T → List (Update T) → Bool
+  is_interval_of lower upper us = all_beyond below lower upper && all_between lower upper us

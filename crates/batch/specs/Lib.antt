@@ -1,0 +1,6 @@
+pub use Rattle.lattice.specs.Order
+pub use Rattle.lattice.specs.Frontiers
+pub mod Batches
+pub mod Descriptions
+pub mod Intervals
+pub mod Merging

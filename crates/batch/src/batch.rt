@@ -1,0 +1,91 @@
+//! The batch itself: a description and sealed updates, of which nothing changes any more. The updates stand in one list
+//! in the order in which they are read.
+ghost use Rattle.std.specs.Prelude.{◌≡◌};
+ghost use Rattle.batch.specs.Batches.{IsSealed};
+
+use crate::keys::range_of;
+use crate::{BatchReader, Description};
+use lattice::Lattice;
+use row::Row;
+use std::alloc::Global;
+use std::marker::Model;
+use std::ops::Range;
+use update::Update;
+
+/// A sealed list of updates, with its description. It never changes. A contract sees the description and the list.
+///
+/// Cost: each update is read by its index; a key's range is found by two binary searches.
+#[derive(Debug, Drop)]
+pub struct Batch<T: Lattice> {
+    description: Description<T>,
+    updates: Vec<Update<T>>,
+}
+
+impl<T: Lattice> Model for Batch<T> {
+    ghost use Rattle.batch.specs.Batches.{IsSealed};
+    ghost use Rattle.batch.specs.Descriptions.{Sealed};
+
+    ghost Value = { Sealed T };
+
+    ghost view = { λ b. record { description = b.description; updates = b.updates.items } };
+
+    ghost invariant = { λ b. IsSealed T.cmp b.updates.items };
+}
+
+impl<T: Lattice> Batch<T> {
+    // A batch of sealed updates. Takes no memory.
+    pub(crate) fn of(description: Description<T>, updates: Vec<Update<T>>) -> Batch<T>
+        requires { IsSealed T.cmp updates.items }
+        ensures { result ≡ record { description = description; updates = updates.items } }
+    {
+        Batch {
+            description,
+            updates,
+        }
+    }
+
+    // The updates, in order. Takes no memory.
+    pub(crate) fn updates(&self) -> &[Update<T>]
+        ensures value { result.now ≡ self.now.updates }
+        ensures sealed { IsSealed T.cmp self.now.updates }
+    {
+        self.updates.as_slice()
+    }
+
+    // The allocator that the batch is kept by. Takes no memory.
+    pub(crate) fn allocator(&self) -> Global {
+        *self.updates.allocator()
+    }
+}
+
+impl<T: Lattice> BatchReader for Batch<T> {
+    type Time = T;
+
+    ghost content = { λ b. b.updates };
+
+    ghost described = { λ b. b.description };
+
+    fn description(&self) -> &Description<T> {
+        &self.description
+    }
+
+    fn len(&self) -> usize {
+        self.updates.len()
+    }
+
+    fn row(&self, i: usize) -> Row {
+        self.updates[i].row.copy()
+    }
+
+    fn time(&self, i: usize) -> T {
+        self.updates[i].time
+    }
+
+    fn diff(&self, i: usize) -> i64 {
+        self.updates[i].diff
+    }
+
+    fn key_range(&self, key: &[i64]) -> Range<usize> {
+        range_of(self.updates.as_slice(), key)
+    }
+}

@@ -1,0 +1,159 @@
+//! What a batch says of itself: whose updates it has, the interval in which they happened, and as of which frontier
+//! their times may have been moved. A spine fits batches together by descriptions alone.
+//!
+//! The frontiers are antichains, kept as plain lists, whose size is known whatever the times are. That they are
+//! antichains, in order, and that the upper one is beyond the lower one is the invariant: no batch goes backwards.
+ghost use Rattle.std.specs.Prelude.{◌≡◌, ◌↔◌, ◌⊎◌, Err, IfOk, IfErr, OnOk, IsTrue};
+ghost use Rattle.lattice.specs.Frontiers.{all_beyond};
+ghost use Rattle.antichain.specs.Antichains.{IsFrontier};
+ghost use Rattle.batch.specs.Descriptions.{IsInterval, Follows};
+ghost use Rattle.update.specs.declared.refusal.Refusal.{Refusal};
+
+use antichain::Antichain;
+use lattice::Lattice;
+use std::alloc::Global;
+use std::marker::Model;
+use update::Refusal;
+
+/// Whose updates a batch has, and between which frontiers. A contract sees the names and the frontiers, each as the list
+/// of its elements in `Ord` order.
+#[derive(Debug, Drop)]
+pub struct Description<T: Lattice> {
+    worker: usize,
+    node: usize,
+    lower: Vec<T>,
+    upper: Vec<T>,
+    since: Vec<T>,
+}
+
+impl<T: Lattice> Model for Description<T> {
+    ghost use Rattle.batch.specs.Descriptions.{Described, IsInterval};
+
+    ghost Value = { Described T };
+
+    ghost view = { λ d. record { worker = d.worker; node = d.node; lower = d.lower.items; upper = d.upper.items; since = d.since.items } };
+
+    ghost invariant = { λ d. IsInterval T.below T.cmp d.lower.items d.upper.items d.since.items };
+}
+
+impl<T: Lattice> Description<T> {
+    // A description with copies of these frontiers. Refused only where memory for them is.
+    pub(crate) fn new(
+        alloc: Global,
+        worker: usize,
+        node: usize,
+        lower: &[T],
+        upper: &[T],
+        since: &[T],
+    ) -> Result<Description<T>, Refusal>
+        requires { IsInterval T.below T.cmp lower.now upper.now since.now }
+        ensures made { IfOk result (λ made. made
+            ≡ record { worker = worker; node = node; lower = lower.now; upper = upper.now; since = since.now }) }
+        ensures only { IfErr result (λ refused. refused ≡ Refusal.OutOfMemory) }
+    {
+        Ok(Description {
+            worker,
+            node,
+            lower: Vec::from_slice(alloc, lower)?,
+            upper: Vec::from_slice(alloc, upper)?,
+            since: Vec::from_slice(alloc, since)?,
+        })
+    }
+
+    // The description of this interval and the next one together. `Stray` where that one does not go on where this one
+    // ends, or the names differ; else refused only where memory is.
+    pub(crate) fn followed_by(
+        &self,
+        alloc: Global,
+        next: &Description<T>,
+        since: &Antichain<T>,
+    ) -> Result<Description<T>, Refusal>
+        ensures made { IfOk result (λ made. made ≡ record {
+          worker = self.now.worker;
+          node = self.now.node;
+          lower = self.now.lower;
+          upper = next.now.upper;
+          since = since.now;
+        }) }
+        ensures forward { OnOk result (IsTrue (all_beyond T.below self.now.lower self.now.upper)) }
+        ensures next_forward { OnOk result (IsTrue (all_beyond T.below next.now.lower next.now.upper)) }
+        ensures follows { OnOk result (Follows self.now next.now) }
+        ensures stray { (result ≡ Err Refusal.Stray) ↔ (Follows self.now next.now → ⊥) }
+        ensures only { IfErr result (λ refused. (refused ≡ Refusal.OutOfMemory) ⊎ (refused ≡ Refusal.Stray)) }
+    {
+        if !self.is_followed_by(next) {
+            return Err(Refusal::Stray);
+        }
+        let (worker, node) = self.names();
+        Description::new(
+            alloc,
+            worker,
+            node,
+            self.lower(),
+            next.upper(),
+            since.elements(),
+        )
+    }
+
+    // Whether the next interval begins where this one ends, and the names are the same.
+    fn is_followed_by(&self, next: &Description<T>) -> bool
+        ensures { IsTrue result ↔ Follows self.now next.now }
+    {
+        self.names() == next.names() && are_same(self.upper(), next.lower())
+    }
+
+    // The worker and the node.
+    fn names(&self) -> (usize, usize)
+        ensures worker { result.0 ≡ self.now.worker }
+        ensures node { result.1 ≡ self.now.node }
+    {
+        (self.worker, self.node)
+    }
+
+    /// The worker whose updates these are. Takes no memory.
+    pub fn worker(&self) -> usize
+        ensures { result ≡ self.now.worker }
+    {
+        self.worker
+    }
+
+    /// The node whose updates these are. Takes no memory.
+    pub fn node(&self) -> usize
+        ensures { result ≡ self.now.node }
+    {
+        self.node
+    }
+
+    /// The frontier from which on the updates happened. Takes no memory.
+    pub fn lower(&self) -> &[T]
+        ensures value { result.now ≡ self.now.lower }
+        ensures frontier { IsFrontier T.below T.cmp self.now.lower }
+        ensures forward { IsTrue (all_beyond T.below self.now.lower self.now.upper) }
+    {
+        self.lower.as_slice()
+    }
+
+    /// The frontier up to which the updates happened; it is beyond the lower one. Takes no memory.
+    pub fn upper(&self) -> &[T]
+        ensures value { result.now ≡ self.now.upper }
+        ensures frontier { IsFrontier T.below T.cmp self.now.upper }
+        ensures forward { IsTrue (all_beyond T.below self.now.lower self.now.upper) }
+    {
+        self.upper.as_slice()
+    }
+
+    /// The frontier as of which times may have been moved: reads beyond it are exact. Takes no memory.
+    pub fn since(&self) -> &[T]
+        ensures value { result.now ≡ self.now.since }
+        ensures frontier { IsFrontier T.below T.cmp self.now.since }
+    {
+        self.since.as_slice()
+    }
+}
+
+// Whether two frontiers are the same, element by element.
+fn are_same<T: Lattice>(f: &[T], g: &[T]) -> bool
+    ensures { IsTrue result ↔ (f.now ≡ g.now) }
+{
+    f == g
+}

@@ -1,0 +1,52 @@
+//! Where the rows of a key stand. In a list in order of rows, the rows that begin with the columns of a key follow one
+//! another: those before them begin with less, those behind them with more. So two binary searches find both ends.
+ghost use Rattle.std.specs.Prelude.{◌≡◌, ◌≤◌, true, false, length, take, slice_range};
+ghost use Rattle.std.specs.List.{filter};
+ghost use Rattle.std.specs.List.Sorted.{IsStrictlySortedBy, IsPartitionPoint};
+ghost use Rattle.std.specs.Cmp.Lexicographic.{slice_cmp};
+ghost use Rattle.std.specs.Ordering.{int_cmp, is_lt, is_le};
+ghost use Rattle.batch.specs.Batches.{by_row_then_time, has_key, at_key};
+
+use lattice::Lattice;
+use row::Row;
+use std::cmp::Ordering;
+use std::ops::Range;
+use update::Update;
+
+// How the row's first columns, as many as the key has, compare with the key. A row that is shorter counts whole.
+fn compare_key(row: &Row, key: &[i64]) -> Ordering
+    ensures { result ≡ slice_cmp int_cmp (take (length key.now) row.now) key.now }
+{
+    let columns = row.columns();
+    columns[..columns.len().min(key.len())].cmp(key)
+}
+
+// Where the updates begin whose rows do not begin with less than the key.
+fn first_not_before<T: Lattice>(updates: &[Update<T>], key: &[i64]) -> usize
+    requires { IsStrictlySortedBy (by_row_then_time T.cmp) updates.now }
+    ensures within { result ≤ length updates.now }
+    ensures parted { IsPartitionPoint (λ u. is_lt (at_key key.now u) ≡ true)
+        (λ u. is_lt (at_key key.now u) ≡ false) updates.now result }
+{
+    updates.partition_point(|u| compare_key(&u.row, key).is_lt())
+}
+
+// Where the updates begin whose rows begin with more than the key.
+fn first_after<T: Lattice>(updates: &[Update<T>], key: &[i64]) -> usize
+    requires { IsStrictlySortedBy (by_row_then_time T.cmp) updates.now }
+    ensures within { result ≤ length updates.now }
+    ensures parted { IsPartitionPoint (λ u. is_le (at_key key.now u) ≡ true)
+        (λ u. is_le (at_key key.now u) ≡ false) updates.now result }
+{
+    updates.partition_point(|u| compare_key(&u.row, key).is_le())
+}
+
+// The range of the updates whose rows begin with the columns of the key.
+pub(crate) fn range_of<T: Lattice>(updates: &[Update<T>], key: &[i64]) -> Range<usize>
+    requires { IsStrictlySortedBy (by_row_then_time T.cmp) updates.now }
+    ensures ordered { result.start ≤ result.end }
+    ensures within { result.end ≤ length updates.now }
+    ensures exact { slice_range updates.now result.start result.end ≡ filter (has_key key.now) updates.now }
+{
+    first_not_before(updates, key)..first_after(updates, key)
+}

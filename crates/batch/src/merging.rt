@@ -1,0 +1,64 @@
+//! The public side of merging: which two batches make one, and what that one is.
+ghost use Rattle.std.specs.Prelude.{◌≡◌, ◌≤◌, ◌+◌, ◌↔◌, ◌⊎◌, ◌++◌, List, ℤ, Bool, Err, IfOk, IfErr, OnOk, IsTrue};
+ghost use Rattle.std.specs.List.{list_all};
+ghost use Rattle.update.specs.Bags.{Alike};
+ghost use Rattle.update.specs.Updates.{as_of, total_where, HasLargeTotal, size};
+ghost use Rattle.update.specs.declared.refusal.Refusal.{Refusal};
+ghost use Rattle.batch.specs.Batches.{IsSealed};
+ghost use Rattle.batch.specs.Descriptions.{Follows};
+ghost use Rattle.batch.specs.Intervals.{all_between};
+
+use crate::fingers::merged_list;
+use crate::{Batch, BatchReader};
+use antichain::Antichain;
+use lattice::Lattice;
+use update::Refusal;
+
+/// The batch of two neighbouring ones: it reaches from the lower frontier of `a` to the upper one of `b`, and has the
+/// one list in order whose total of each row at each time is that of both together. So it sums to what both sum to at
+/// every time. Times stay as they are: `since` is named, and no more. Both batches stay as they are too.
+///
+/// - [`Refusal::Stray`] exactly where `b` does not begin at the frontier at which `a` ends, or their workers or nodes
+///   differ.
+/// - [`Refusal::Overflow`] only where the total of both of some row at some time is no 64-bit number, and no batch is
+///   given there.
+/// - [`Refusal::OutOfMemory`] only where memory for the new batch was refused.
+///
+/// Cost: linear in the updates of both, in one pass: each is compared and copied at most once. Memory for both is taken
+/// at once.
+pub fn merge<T: Lattice>(
+    a: &Batch<T>,
+    b: &Batch<T>,
+    since: &Antichain<T>,
+) -> Result<Batch<T>, Refusal>
+    ensures described { IfOk result (λ both. both.description ≡ record {
+      worker = a.now.description.worker;
+      node = a.now.description.node;
+      lower = a.now.description.lower;
+      upper = b.now.description.upper;
+      since = since.now;
+    }) }
+    ensures sealed { IfOk result (λ both. IsSealed T.cmp both.updates) }
+    ensures between { IfOk result (λ both.
+        IsTrue (all_between T.below a.now.description.lower a.now.description.upper a.now.updates)
+        → IsTrue (all_between T.below b.now.description.lower b.now.description.upper b.now.updates)
+        → IsTrue (all_between T.below a.now.description.lower b.now.description.upper both.updates)) }
+    ensures totals { IfOk result (λ both. (p : List ℤ → T → Bool)
+        → total_where p both.updates ≡ total_where p (a.now.updates ++ b.now.updates)) }
+    ensures sums { IfOk result (λ both. (t : T)
+        → Alike (as_of T.below t both.updates) (as_of T.below t (a.now.updates ++ b.now.updates))) }
+    ensures among { IfOk result (λ both. (p : List ℤ → T → Bool)
+        → IsTrue (list_all (λ u. p u.row u.time) a.now.updates)
+        → IsTrue (list_all (λ u. p u.row u.time) b.now.updates)
+        → IsTrue (list_all (λ u. p u.row u.time) both.updates)) }
+    ensures size { IfOk result (λ both. size both.updates ≤ size a.now.updates + size b.now.updates) }
+    ensures fits { OnOk result (HasLargeTotal T.below (a.now.updates ++ b.now.updates) → ⊥) }
+    ensures stray { (result ≡ Err Refusal.Stray) ↔ (Follows a.now.description b.now.description → ⊥) }
+    ensures refused { IfErr result (λ refused. (refused ≡ Refusal.OutOfMemory) ⊎ ((refused ≡ Refusal.Stray)
+        ⊎ ((refused ≡ Refusal.Overflow) × HasLargeTotal T.below (a.now.updates ++ b.now.updates)))) }
+{
+    let alloc = a.allocator();
+    let description = a.description().followed_by(alloc, b.description(), since)?;
+    let updates = merged_list(alloc, a.updates(), b.updates())?;
+    Ok(Batch::of(description, updates))
+}
