@@ -1,5 +1,5 @@
 -- A number is read from the text that is printed of it, and from no other.
-use Rattle.std.proofs.Common.{◌≡◌, ℕ, zero, suc, ◌≤◌, ℤ, pos, negsuc, neg_ℤ, drop, ap₂, w64, le-ltb, Bool, ltb-false, eqb-true, ◌^◌, ◌<◌, true, false, not, ◌&&◌, cond, eqb, ltb, List, [], ◌∷◌, length, get_or, Option, Some, None, refl, sym, ap, ◌∙◌, inl, inr, arith, ltb-true, lt-ltb, ne_eqb, eq-eqb}
+use Rattle.std.proofs.Common.{◌≡◌, ℕ, zero, suc, ◌≤◌, ℤ, pos, negsuc, neg_ℤ, drop, ap₂, w64, le-ltb, Bool, ltb-false, eqb-true, ◌^◌, ◌<◌, true, false, not, ◌&&◌, cond, eqb, ltb, List, [], ◌∷◌, length, get_or, Some, None, refl, sym, ap, ◌∙◌, inl, inr, arith, ltb-true, lt-ltb, ne_eqb, eq-eqb}
 use Rattle.std.specs.Char.{is_ascii_digit}
 use Rattle.std.specs.Fmt.{decimal, signed_decimal}
 use Rattle.std.specs.List.{list_all}
@@ -67,7 +67,7 @@ opened (x ∷ w) e = ap (λ (y : ℕ). y ∷ w) e
 
 signed_by : (w : List ℕ) (z : ℤ) (minus : Bool) → has_minus w ≡ minus
     → cond (cond minus (is_numeral (drop 1 w) && not (eqb (get_or (drop 1 w) 0 0) 0x30)) (is_numeral w) && cond minus (not (ltb (2 ^ 63) (digits_value 10 (drop 1 w)))) (ltb (digits_value 10 w) (2 ^ 63)))
-        (Some (cond minus (neg_ℤ (pos (digits_value 10 (drop 1 w)))) (pos (digits_value 10 w)))) None ≡ Some z
+    (Some (cond minus (neg_ℤ (pos (digits_value 10 (drop 1 w)))) (pos (digits_value 10 w)))) None ≡ Some z
     → w ≡ signed_decimal z
 signed_by w z true m e =
     let ds = drop 1 w in
@@ -108,7 +108,7 @@ signed_is : (w : List ℕ) (z : ℤ) (minus : Bool) → has_minus w ≡ minus
     → signed_of w ≡ Some z
 signed_is w z minus m form fits value =
     ap (λ b. cond (cond b (is_numeral (drop 1 w) && not (eqb (get_or (drop 1 w) 0 0) 0x30)) (is_numeral w) && cond b (not (ltb (2 ^ 63) (digits_value 10 (drop 1 w)))) (ltb (digits_value 10 w) (2 ^ 63)))
-        (Some (cond b (neg_ℤ (pos (digits_value 10 (drop 1 w)))) (pos (digits_value 10 w)))) None) m
+    (Some (cond b (neg_ℤ (pos (digits_value 10 (drop 1 w)))) (pos (digits_value 10 w)))) None) m
     ∙ ap₂ (λ a b. cond (a && b) (Some (cond minus (neg_ℤ (pos (digits_value 10 (drop 1 w)))) (pos (digits_value 10 w)))) None) form fits
     ∙ ap Some value
 

@@ -1,5 +1,5 @@
 -- The fault is the first one, and what is told of a script is what its lines have said.
-use Rattle.std.proofs.Common.{◌≡◌, ℕ, ◌+◌, ◌<◌, ◌≤◌, Bool, true, false, cond, ◌⊎◌, inl, inr, List, [], ◌∷◌, ◌++◌, length, Result, Ok, Err, refl, sym, ap, subst, ◌∙◌, arith}
+use Rattle.std.proofs.Common.{◌≡◌, ℕ, ◌+◌, ◌<◌, ◌≤◌, Bool, true, false, cond, ◌⊎◌, inl, inr, List, [], ◌∷◌, ◌++◌, length, Result, Ok, Err, refl, sym, ap, ◌∙◌, arith}
 use Rattle.std.proofs.lemmas.List.{append-nil}
 use Rattle.update.specs.declared.refusal.Refusal.{Refusal}
 use Rattle.update.specs.declared.refusal.Refusal.TheVariants.{BadOrder}
@@ -118,7 +118,7 @@ fault_again lines n refusal (inr h) =
 
 -- a fault does not stand before the lines that were gone over
 no_earlier : (n : ℕ) (refusal : Refusal) (m : ℕ) (k : Known) (lines : List (List ℕ)) → lines_from m k lines ≡ made n refusal → m ≤ n
-no_earlier n refusal m k lines h = elim (fault_from m k lines n refusal h) [ | inl f ↦ omega (arith, f.5) | inr f ↦ omega (arith, f.1) ]
+no_earlier n refusal m k lines h = elim (fault_from m k lines n refusal h) [ inl f ↦ omega (arith, f.5) | inr f ↦ omega (arith, f.1) ]
 
 later : (more other : List (List ℕ)) (n : ℕ) (refusal : Refusal) (m : ℕ) (k : Known) (before : List (List ℕ)) → n < m + length before → lines_from m k (before ++ more) ≡ made n refusal → lines_from m k (before ++ other) ≡ made n refusal
 later more other n refusal m k [] l h = absurd (let le = no_earlier n refusal m k more h in omega arith)

@@ -2,7 +2,6 @@ pub mod TextLemmas
 pub mod NumberLemmas
 pub mod DecimalLemmas
 pub mod StepLemmas
-
 pub mod WordLemmas
 pub mod SayingLemmas
 pub mod EachLemmas

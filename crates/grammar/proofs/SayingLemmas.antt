@@ -1,31 +1,26 @@
 -- What a line says that was accepted: each kind of line, and then any.
-use Rattle.std.proofs.Common.{◌≡◌, ℕ, suc, ◌+◌, ◌*◌, ◌%◌, ◌<◌, ℤ, Bool, true, false, not, ◌&&◌, cond, eqb, ltb, eqb-true, IsTrue, List, [], ◌∷◌, ◌++◌, length, map, Option, Some, None, Result, Ok, Err, inl, inr, ◌⊎◌, refl, sym, ap, ap₂, subst, ◌∙◌, arith, codes}
-use Rattle.std.specs.Fmt.{decimal, signed_decimal}
-use Rattle.std.specs.List.{flat_map}
-use Rattle.std.specs.Option.{option_map, option_and_then}
+use Rattle.std.proofs.Common.{◌≡◌, ℕ, ◌%◌, Bool, true, false, not, ◌&&◌, cond, eqb, ltb, eqb-true, List, [], ◌∷◌, ◌++◌, length, Result, Ok, Err, inl, inr, refl, sym, ap, subst, ◌∙◌, codes}
+use Rattle.std.specs.Fmt.{decimal}
 use Rattle.std.specs.Str.{is_utf8}
 use Rattle.std.proofs.lemmas.List.{length-map}
 use Rattle.lattice.specs.Pairs.{make_pair}
 use Rattle.update.specs.declared.refusal.Refusal.{Refusal}
-use Rattle.update.specs.declared.refusal.Refusal.TheVariants.{BadNumber, WrongWordCount, BadOrder, UnknownCommand, LineTooLong, NotUtf8}
-use Rattle.plan.specs.declared.node.Node.{Node}
+use Rattle.update.specs.declared.refusal.Refusal.TheVariants.{WrongWordCount, LineTooLong, NotUtf8}
 use Rattle.plan.specs.declared.node.Node.TheVariants.{Input, Output}
 use Rattle.grammar.specs.declared.command.Command.{Command}
 use Rattle.grammar.specs.declared.command.Command.TheVariants.{Change, Advance, Close, Read}
 use Rattle.grammar.specs.declared.keyword.Keyword.{Keyword}
 use Rattle.grammar.specs.declared.keyword.Keyword.TheVariants as keyword
 use Rattle.grammar.specs.Commands.{IsAbout}
-use Rattle.grammar.specs.Outcomes.{◌>>=◌, or_refused}
-use Rattle.grammar.specs.Numbers.{whole_of, signed_of}
+use Rattle.grammar.specs.Outcomes.{◌>>=◌}
 use Rattle.grammar.specs.Known.{Known, source, input, view, new_name}
-use Rattle.grammar.specs.Words.{each, number, whole, signed, wholes, columns, pairs_of}
-use Rattle.grammar.specs.Text.{words_of, opens_comment, is_skipped}
-use Rattle.grammar.specs.Told.{name_at}
+use Rattle.grammar.specs.Words.{whole, signed, wholes, columns, pairs_of}
+use Rattle.grammar.specs.Text.{words_of, opens_comment}
 use Rattle.grammar.specs.Lines.{with_node, input_line, view_line, start_line, change_line, advance_line, close_line, read_line, is_early, opening, with_command, keyword_line, words_line, text_of, line_of}
-use Rattle.grammar.specs.Spelling.{time_words, node_words, command_words, Skips, Declares, Starts, Asks, Says}
+use Rattle.grammar.specs.Spelling.{command_words, Declares, Starts, Asks, Says}
 use Rattle.grammar.proofs.WordLemmas.{whole_ok, signed_ok, wholes_ok, columns_ok, pairs_text}
-use Rattle.grammar.proofs.NumberLemmas.{and-left, and-right}
-use Rattle.grammar.proofs.StepLemmas.{accepted, same_ok, bind_ok, or_refused_ok, guard_ok, guard_not_ok, source_ok, input_ok, view_ok, new_name_ok, with_node_ok, keyword_text, opening_ok}
+use Rattle.grammar.proofs.NumberLemmas.{and-right}
+use Rattle.grammar.proofs.StepLemmas.{accepted, same_ok, bind_ok, guard_ok, guard_not_ok, source_ok, input_ok, view_ok, new_name_ok, with_node_ok, keyword_text, opening_ok}
 
 is_input_line : (n : ℕ) (k next : Known) (words : List (List ℕ)) → k.started ≡ false → input_line k words ≡ Ok next → Declares k (codes "input" ∷ words) next
 unfolding input_line

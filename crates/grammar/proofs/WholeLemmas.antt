@@ -1,11 +1,10 @@
 -- What holds of every script that was read: each node has a name, each command is about a node of its sort, and its words
 -- are those of its lines.
-use Rattle.std.proofs.Common.{◌≡◌, ℕ, ◌+◌, ◌<◌, Bool, true, false, not, ◌&&◌, cond, ltb, ltb-true, lt-ltb, IsTrue, List, [], ◌∷◌, ◌++◌, length, map, Result, Ok, Err, inl, inr, ◌⊎◌, refl, sym, ap, ap₂, subst, ◌∙◌, arith, codes, append_assoc, length-append}
+use Rattle.std.proofs.Common.{◌≡◌, ℕ, ◌+◌, ◌<◌, Bool, true, false, not, ◌&&◌, cond, ltb, ltb-true, lt-ltb, IsTrue, List, [], ◌∷◌, ◌++◌, length, map, Ok, inl, inr, refl, sym, ap, ap₂, subst, ◌∙◌, arith, codes, append_assoc, length-append}
 use Rattle.std.specs.List.{All, filter}
 use Rattle.std.proofs.lemmas.Bool.{and_parts, and_from}
 use Rattle.std.proofs.lemmas.List.{append-nil, map-append}
 use Rattle.std.proofs.lemmas.List.Elements.{All-nil, All-push, All-weaker}
-use Rattle.update.specs.declared.refusal.Refusal.{Refusal}
 use Rattle.update.specs.declared.refusal.Refusal.TheVariants.{BadOrder}
 use Rattle.plan.specs.Nodes.{node_at}
 use Rattle.plan.specs.Ancestors.{is_input}
@@ -15,14 +14,13 @@ use Rattle.plan.proofs.PlanLemmas.{node_before_more}
 use Rattle.grammar.specs.declared.command.Command.{Command}
 use Rattle.grammar.specs.declared.command.Command.TheVariants.{Change, Advance, Close, Read}
 use Rattle.grammar.specs.declared.command.CommandLine.{CommandLine}
-use Rattle.grammar.specs.Commands.{is_input_of, is_view_of, IsAbout}
-use Rattle.grammar.specs.Outcomes.{◌>>=◌}
+use Rattle.grammar.specs.Commands.{IsAbout}
 use Rattle.grammar.specs.Text.{lines_of, words_of, is_skipped}
 use Rattle.grammar.specs.Told.{Told, IsWhole}
 use Rattle.grammar.specs.Known.{Known}
 use Rattle.grammar.specs.Lines.{line_of}
-use Rattle.grammar.specs.Scripts.{told, on_line, lines_from, script_of, nothing_known}
-use Rattle.grammar.specs.Spelling.{node_words, command_words, plan_words, script_words, kept_words, Skips, Declares, Starts, Asks, Says}
+use Rattle.grammar.specs.Scripts.{told, lines_from, script_of, nothing_known}
+use Rattle.grammar.specs.Spelling.{node_words, command_words, plan_words, script_words, kept_words, Declares, Starts, Asks, Says}
 use Rattle.grammar.proofs.FaultLemmas.{made, found, outcome, taken, stopped, ended}
 use Rattle.grammar.proofs.SayingLemmas.{line_says}
 
@@ -147,6 +145,7 @@ at_end n k t s e = by k.started refl e
   where
     same : found (told k) ≡ found t → told k ≡ t
     same h = cc
+
     by : (b : Bool) → k.started ≡ b → cond b (found (told k)) (made n BadOrder) ≡ found t → Read_from k [] t
     by true started h = record {
       whole = subst IsWhole (same h) (record { named = s.named; about = s.about });

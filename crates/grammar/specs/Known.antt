@@ -5,7 +5,6 @@ use Rattle.update.specs.declared.refusal.Refusal.{Refusal}
 use Rattle.update.specs.declared.refusal.Refusal.TheVariants.{UnknownName, DuplicateName, BadName}
 use Rattle.plan.specs.declared.node.Node.{Node}
 use Rattle.plan.specs.Rules.{is_readable, refusal_of}
-use Rattle.grammar.specs.declared.command.Command.{Command}
 use Rattle.grammar.specs.declared.command.CommandLine.{CommandLine}
 use Rattle.grammar.specs.declared.draft.Draft.{Draft}
 use Rattle.grammar.specs.Outcomes.{or_refused, unless}

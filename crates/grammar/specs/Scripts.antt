@@ -1,10 +1,8 @@
 -- The script that bytes are, or the first line that is at fault.
-use Rattle.std.specs.Prelude.{◌≡◌, ℕ, ◌+◌, ◌⊎◌, Bool, true, false, List, [], ◌∷◌, ◌++◌, length, Result, Ok, Err, if◌then◌else◌}
+use Rattle.std.specs.Prelude.{◌≡◌, ℕ, ◌+◌, ◌⊎◌, true, false, List, [], ◌∷◌, ◌++◌, length, Result, Ok, Err, if◌then◌else◌}
 use Rattle.update.specs.Refusals.{code_of}
 use Rattle.update.specs.declared.refusal.Refusal.{Refusal}
 use Rattle.update.specs.declared.refusal.Refusal.TheVariants.{BadOrder}
-use Rattle.plan.specs.declared.node.Node.{Node}
-use Rattle.grammar.specs.declared.command.CommandLine.{CommandLine}
 use Rattle.grammar.specs.declared.fault.Fault.{Fault}
 use Rattle.grammar.specs.Outcomes.{◌>>=◌}
 use Rattle.grammar.specs.Text.{lines_of}

@@ -1,5 +1,5 @@
 -- The words in which a script is printed. Numbers are printed as decimals and nodes by their names.
-use Rattle.std.specs.Prelude.{◌≡◌, ℕ, Bool, true, false, ◌⊎◌, not, List, [], ◌∷◌, ◌++◌, map, filter, Option, None, codes, decimal, IsTrue}
+use Rattle.std.specs.Prelude.{◌≡◌, ℕ, true, false, ◌⊎◌, not, List, [], ◌∷◌, ◌++◌, map, filter, None, codes, decimal, IsTrue}
 use Rattle.std.specs.Fmt.{signed_decimal}
 use Rattle.std.specs.List.{flat_map}
 use Rattle.lattice.specs.declared.product.Pair.{Pair}
@@ -8,7 +8,6 @@ use Rattle.plan.specs.declared.node.Node.{Node}
 use Rattle.plan.specs.declared.node.Node.TheVariants.{Input, Map, Filter, Concat, Negate, Arrange, Join, Reduce, Output}
 use Rattle.grammar.specs.declared.command.Command.{Command}
 use Rattle.grammar.specs.declared.command.Command.TheVariants.{Change, Advance, Close, Read}
-use Rattle.grammar.specs.declared.command.CommandLine.{CommandLine}
 use Rattle.grammar.specs.Commands.{IsAbout}
 use Rattle.grammar.specs.Known.{Known, place_of}
 use Rattle.grammar.specs.Names.{is_name}

@@ -53,11 +53,19 @@ pub enum Command {
         row: Row,
     },
     /// From now on the input changes at or after one of these times alone. There is one at least.
-    Advance { input: NodeId, times: Times },
+    Advance {
+        input: NodeId,
+        times: Times,
+    },
     /// The input changes no more.
-    Close { input: NodeId },
+    Close {
+        input: NodeId,
+    },
     /// Asks for the view's rows at the time.
-    Read { view: NodeId, time: Bitime },
+    Read {
+        view: NodeId,
+        time: Bitime,
+    },
 }
 
 /// A command, and the line on which it stands, counted from 1, skipped lines too.

@@ -55,7 +55,10 @@ fn skipped_lines_are_counted(rt: HostRuntime) -> Result<(), AllocError> {
     assert_eq!(rt; fault_of(rt.alloc(), b""), Some((1, 34)));
     assert_eq!(rt; fault_of(rt.alloc(), b"\n"), Some((2, 34)));
     assert_eq!(rt; fault_of(rt.alloc(), b"input a 1"), Some((2, 34)));
-    assert_eq!(rt; fault_of(rt.alloc(), b"input a 1\n# start\n\n"), Some((4, 34)));
+    assert_eq!(rt;
+        fault_of(rt.alloc(), b"input a 1\n# start\n\n"),
+        Some((4, 34))
+    );
     have_faults(
         &rt,
         rt.alloc(),
@@ -138,9 +141,21 @@ fn numbers_have_one_form(rt: HostRuntime) -> Result<(), AllocError> {
             ("input a 1\nstart\nchange a 0 0 +1 7", 3, 33),
             ("input a 1\nstart\nchange a 0 0 1 -", 3, 33),
             ("input a 1\nstart\nchange a 0 0 1 -07", 3, 33),
-            ("input a 1\nstart\nchange a 0 0 9223372036854775808 7", 3, 33),
-            ("input a 1\nstart\nchange a 0 0 -9223372036854775809 7", 3, 33),
-            ("input a 1\nstart\nchange a 0 0 1 9223372036854775808", 3, 33),
+            (
+                "input a 1\nstart\nchange a 0 0 9223372036854775808 7",
+                3,
+                33,
+            ),
+            (
+                "input a 1\nstart\nchange a 0 0 -9223372036854775809 7",
+                3,
+                33,
+            ),
+            (
+                "input a 1\nstart\nchange a 0 0 1 9223372036854775808",
+                3,
+                33,
+            ),
         ],
     )
 }

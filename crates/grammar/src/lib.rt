@@ -14,14 +14,20 @@ mod command;
 mod declarations;
 mod draft;
 mod fault;
+#[cfg(test)]
+mod faults_tests;
 mod keyword;
 mod laws;
 mod lines;
+#[cfg(test)]
+mod memory_tests;
 mod names;
 mod numbers;
 mod parsing;
 mod requests;
 mod script;
+#[cfg(test)]
+mod tests;
 mod text;
 mod words;
 
@@ -32,8 +38,3 @@ pub use laws::{
 };
 pub use parsing::parse;
 pub use script::Script;
-
-#[cfg(test)]
-mod faults_tests;
-#[cfg(test)]
-mod tests;

@@ -12,7 +12,11 @@ use crate::words::{row, signed, time, times, whole, wholes};
 use std::alloc::Global;
 
 #[tactic(auto, unfolding(crate::specs::Lines::change_line))]
-pub(crate) fn change_line(alloc: Global, draft: &Draft, words: &[&str]) -> Result<Command, LineError>
+pub(crate) fn change_line(
+    alloc: Global,
+    draft: &Draft,
+    words: &[&str],
+) -> Result<Command, LineError>
     ensures { Gives (λ command. command) result (change_line (known draft.now) (map (λ w. w.now) words.now)) }
 {
     match words {
@@ -37,7 +41,11 @@ pub(crate) fn change_line(alloc: Global, draft: &Draft, words: &[&str]) -> Resul
 }
 
 #[tactic(auto, unfolding(crate::specs::Lines::advance_line))]
-pub(crate) fn advance_line(alloc: Global, draft: &Draft, words: &[&str]) -> Result<Command, LineError>
+pub(crate) fn advance_line(
+    alloc: Global,
+    draft: &Draft,
+    words: &[&str],
+) -> Result<Command, LineError>
     ensures { Gives (λ command. command) result (advance_line (known draft.now) (map (λ w. w.now) words.now)) }
 {
     match words {

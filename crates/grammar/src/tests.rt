@@ -3,13 +3,21 @@ use crate::{Command, CommandLine, Fault, Script, parse};
 use lattice::{Bitime, Pair};
 use plan::{Node, NodeId};
 
-const LEDGER: &str = "# A ledger\ninput postings 2\ninput rates 1\n\nview all postings\n  view fees   rates  \nstart\n# day 10\nchange postings 10 1 -1 7 -500\nadvance postings 0 2 4 0\n\nchange rates 18446744073709551615 0 9223372036854775807 -9223372036854775808\nclose rates\nread fees 5 0\nread all 10 1";
+const LEDGER: &str =
+    "# A ledger\ninput postings 2\ninput rates 1\n\nview all postings\n  view fees   rates  \nstart\n# day 10\nchange postings 10 1 -1 7 -500\nadvance postings 0 2 4 0\n\nchange rates 18446744073709551615 0 9223372036854775807 -9223372036854775808\nclose rates\nread fees 5 0\nread all 10 1";
 
 fn at(first: u64, second: u64) -> Bitime {
     Pair { first, second }
 }
 
-fn is_change(line: &CommandLine, at_line: u64, input: usize, at: Bitime, by: i64, columns: &[i64]) -> bool {
+fn is_change(
+    line: &CommandLine,
+    at_line: u64,
+    input: usize,
+    at: Bitime,
+    by: i64,
+    columns: &[i64],
+) -> bool {
     match &line.command {
         Command::Change {
             input: id,
@@ -29,7 +37,9 @@ fn is_change(line: &CommandLine, at_line: u64, input: usize, at: Bitime, by: i64
 
 fn is_read(line: &CommandLine, at_line: u64, view: usize, at: Bitime) -> bool {
     match &line.command {
-        Command::Read { view: id, time } => line.line == at_line && id.number() == view && *time == at,
+        Command::Read { view: id, time } => line.line == at_line
+            && id.number() == view
+            && *time == at,
         _ => false,
     }
 }
@@ -61,7 +71,16 @@ fn script_is_what_its_lines_say(rt: HostRuntime) -> Result<(), Fault> {
     assert!(rt; is_change(&lines[0], 9, 0, at(10, 1), -1, &[7, -500]));
     assert!(rt; is_advance(&lines[1], 10, 0, &[at(0, 2), at(4, 0)]));
     let late = at(18446744073709551615, 0);
-    assert!(rt; is_change(&lines[2], 12, 1, late, 9223372036854775807, &[-9223372036854775808]));
+    assert!(rt;
+        is_change(
+            &lines[2],
+            12,
+            1,
+            late,
+            9223372036854775807,
+            &[-9223372036854775808]
+        )
+    );
     assert!(rt; is_close(&lines[3], 13, 1));
     assert!(rt; is_read(&lines[4], 14, 3, at(5, 0)));
     assert!(rt; is_read(&lines[5], 15, 2, at(10, 1)));
@@ -76,8 +95,18 @@ fn nodes_have_names(rt: HostRuntime) -> Result<(), Fault> {
     let nodes = [
         ("postings", Node::Input { width: 2 }),
         ("rates", Node::Input { width: 1 }),
-        ("all", Node::Output { source: NodeId::new(0) }),
-        ("fees", Node::Output { source: NodeId::new(1) }),
+        (
+            "all",
+            Node::Output {
+                source: NodeId::new(0),
+            },
+        ),
+        (
+            "fees",
+            Node::Output {
+                source: NodeId::new(1),
+            },
+        ),
     ];
     for n in 0usize..4 {
         let id = NodeId::new(n);

@@ -1,4 +1,4 @@
-use Rattle.std.proofs.Common.{◌≡◌, ◌++◌, [], ◌∷◌, rules}
+use Rattle.std.proofs.Common.{◌++◌, [], ◌∷◌, rules}
 use Rattle.plan.specs.Rules.{refusal_of, IsRefusalBy}
 use Rattle.grammar.proofs.PlaceLemmas.{node_refused}
 use Rattle.grammar.proofs.draft.push_node.Goals as goal

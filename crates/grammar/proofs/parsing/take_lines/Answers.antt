@@ -1,4 +1,4 @@
-use Rattle.std.proofs.Common.{rules, ◌≡◌, length, arith, true, false, ap, sym, ◌∙◌}
+use Rattle.std.proofs.Common.{rules, ◌≡◌, length, arith, true, false, ap}
 use Rattle.grammar.specs.Text.{lines_of}
 use Rattle.grammar.specs.Known.{known}
 use Rattle.grammar.specs.Scripts.{lines_from, script_of}
