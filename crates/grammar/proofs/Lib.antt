@@ -9,3 +9,4 @@ pub mod PlaceLemmas
 pub mod RunLemmas
 pub mod FaultLemmas
 pub mod WholeLemmas
+pub mod AgainLemmas

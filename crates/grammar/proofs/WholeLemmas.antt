@@ -38,12 +38,12 @@ about_more p more (Close input) h = within_more is_input p more input h
 about_more p more (Read view time) h = within_more is_output p more view h
 
 -- what holds behind each line
-record Stands (k : Known) : Type 0 where
-  named : length k.names ≡ length k.plan
-  about : All (λ line. IsAbout k.plan line.command) k.commands
-  asked_late : k.started ≡ false → k.commands ≡ []
+pub record Stands (k : Known) : Type 0 where
+  pub named : length k.names ≡ length k.plan
+  pub about : All (λ line. IsAbout k.plan line.command) k.commands
+  pub asked_late : k.started ≡ false → k.commands ≡ []
 
-nothing_stands : Stands nothing_known
+pub nothing_stands : Stands nothing_known
 nothing_stands = record { named = refl; about = All-nil (λ (line : CommandLine). IsAbout [] line.command); asked_late = λ e. refl }
 
 declared_stands : (k next : Known) (words : List (List ℕ)) → Stands k → Declares k words next → Stands next
@@ -60,7 +60,7 @@ asked_stands n k next words s a = subst Stands (sym a.next_is) (record {
   asked_late = λ e. (let no : true ≡ false = sym a.is_late ∙ e in absurd cc);
 })
 
-says_stands : (n : ℕ) (k next : Known) (words : List (List ℕ)) → Stands k → Says n k words next → Stands next
+pub says_stands : (n : ℕ) (k next : Known) (words : List (List ℕ)) → Stands k → Says n k words next → Stands next
 says_stands n k next words s (inl h) = subst Stands (sym h.next_is) s
 says_stands n k next words s (inr (inl h)) = declared_stands k next words s h
 says_stands n k next words s (inr (inr (inl h))) = subst Stands (sym h.next_is) (record { named = s.named; about = s.about; asked_late = λ e. absurd (no e) })
@@ -77,7 +77,7 @@ late_words true names commands = (codes "start" ∷ []) ∷ map (λ (line : Comm
 abbrev known_words : Known → List (List (List ℕ))
 known_words k = plan_words [] k.names k.plan ++ late_words k.started k.names k.commands
 
-plan_words-push : (before names : List (List ℕ)) (nodes : List Node) (name : List ℕ) (node : Node) → length names ≡ length nodes
+pub plan_words-push : (before names : List (List ℕ)) (nodes : List Node) (name : List ℕ) (node : Node) → length names ≡ length nodes
     → plan_words before (names ++ name ∷ []) (nodes ++ node ∷ []) ≡ plan_words before names nodes ++ node_words (before ++ names) name node ∷ []
 plan_words-push before [] [] name node e = ap (λ (names : List (List ℕ)). node_words names name node ∷ []) (sym (append-nil before))
 plan_words-push before [] (other ∷ nodes) name node e = absurd (omega (arith, e))

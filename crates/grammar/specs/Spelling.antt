@@ -1,5 +1,5 @@
 -- The words in which a script is printed. Numbers are printed as decimals and nodes by their names.
-use Rattle.std.specs.Prelude.{◌≡◌, ℕ, true, false, ◌⊎◌, not, List, [], ◌∷◌, ◌++◌, map, filter, None, codes, decimal, IsTrue}
+use Rattle.std.specs.Prelude.{◌≡◌, ℕ, true, false, ◌⊎◌, not, List, [], ◌∷◌, ◌++◌, map, filter, None, Result, Ok, codes, decimal, IsTrue}
 use Rattle.std.specs.Fmt.{signed_decimal}
 use Rattle.std.specs.List.{flat_map}
 use Rattle.lattice.specs.declared.product.Pair.{Pair}
@@ -10,6 +10,10 @@ use Rattle.grammar.specs.declared.command.Command.{Command}
 use Rattle.grammar.specs.declared.command.Command.TheVariants.{Change, Advance, Close, Read}
 use Rattle.grammar.specs.Commands.{IsAbout}
 use Rattle.grammar.specs.Known.{Known, place_of}
+use Rattle.grammar.specs.Lines.{words_line}
+use Rattle.grammar.specs.Outcomes.{◌>>=◌}
+use Rattle.grammar.specs.Scripts.{told, nothing_known}
+use Rattle.update.specs.declared.refusal.Refusal.{Refusal}
 use Rattle.grammar.specs.Names.{is_name}
 use Rattle.grammar.specs.Text.{words_of, is_skipped}
 use Rattle.grammar.specs.Told.{Told, name_at}
@@ -85,3 +89,18 @@ script_words t = plan_words [] t.names t.plan ++ (codes "start" ∷ []) ∷ map 
 -- the words of the lines that are not skipped
 abbrev pub kept_words : List (List ℕ) → List (List (List ℕ))
 kept_words lines = filter (λ words. not (is_skipped words)) (map words_of lines)
+
+-- the lines of a script as it is printed, each with its number: those of its nodes and of `start`, whose numbers a script
+-- does not keep, and those of its commands, which have their own
+abbrev pub script_lines : ℕ → Told → List (ℕ × List (List ℕ))
+script_lines any t = map (λ words. (any, words)) (plan_words [] t.names t.plan)
+    ++ (any, codes "start" ∷ []) ∷ map (λ line. (line.line, command_words t.names line.command)) t.commands
+
+-- what is known behind lines of these words, each with its number
+abbrev pub read_lines : Known → List (ℕ × List (List ℕ)) → Result Known Refusal
+read_lines k [] = Ok k
+read_lines k (line ∷ lines) = words_line line.0 k line.1 >>= λ k. read_lines k lines
+
+-- the lines of a script as it is printed are read as that script
+abbrev pub IsReadAgain : ℕ → Told → Type 0
+IsReadAgain any t = (k : Known) × (read_lines nothing_known (script_lines any t) ≡ Ok k) × (k.started ≡ true) × (told k ≡ t)

@@ -11,7 +11,7 @@ ghost use Rattle.grammar.specs.Told.{Told, IsWhole};
 ghost use Rattle.grammar.specs.Known.{Known};
 ghost use Rattle.grammar.specs.Lines.{line_of};
 ghost use Rattle.grammar.specs.Scripts.{script_of, lines_from, nothing_known, IsScript, IsFirstFault};
-ghost use Rattle.grammar.specs.Spelling.{Says, kept_words, script_words};
+ghost use Rattle.grammar.specs.Spelling.{Says, IsReadAgain, kept_words, script_words};
 
 /// A word is a number exactly where it is what is printed of that number.
 pub fn numbers_have_one_form()
@@ -36,8 +36,10 @@ pub fn lines_are_spelled()
 {}
 
 /// The lines of a script that are not skipped have the words that are printed of it, and no others: its nodes, `start`, its
-/// commands, in this order. Each of its nodes has a name, and each of its commands is about a node of the sort that it needs.
+/// commands, in this order; and lines of these words are read as that script again, whatever the numbers of the lines of
+/// its nodes are. Each of its nodes has a name, and each of its commands is about a node of the sort that it needs.
 pub fn scripts_are_spelled()
     ensures words { (bytes : List ℕ) (t : Told) → script_of bytes ≡ Ok t → kept_words (lines_of bytes) ≡ script_words t }
+    ensures again { (bytes : List ℕ) (t : Told) (any : ℕ) → script_of bytes ≡ Ok t → IsReadAgain any t }
     ensures whole { (bytes : List ℕ) (t : Told) → script_of bytes ≡ Ok t → IsWhole t }
 {}
