@@ -10,3 +10,4 @@ pub mod RunLemmas
 pub mod FaultLemmas
 pub mod WholeLemmas
 pub mod AgainLemmas
+pub mod CutLemmas

@@ -10,3 +10,4 @@ pub mod Words
 pub mod Lines
 pub mod Scripts
 pub mod Spelling
+pub mod Joining

@@ -7,6 +7,7 @@ ghost use Rattle.std.specs.Int.RustNames.{FitsSigned};
 ghost use Rattle.update.specs.declared.refusal.Refusal.{Refusal};
 ghost use Rattle.grammar.specs.Numbers.{whole_of, signed_of};
 ghost use Rattle.grammar.specs.Text.{lines_of, words_of};
+ghost use Rattle.grammar.specs.Joining.{joined, spaced, AreWords, AreLines};
 ghost use Rattle.grammar.specs.Told.{Told, IsWhole};
 ghost use Rattle.grammar.specs.Known.{Known};
 ghost use Rattle.grammar.specs.Lines.{line_of};
@@ -42,4 +43,11 @@ pub fn scripts_are_spelled()
     ensures words { (bytes : List ℕ) (t : Told) → script_of bytes ≡ Ok t → kept_words (lines_of bytes) ≡ script_words t }
     ensures again { (bytes : List ℕ) (t : Told) (any : ℕ) → script_of bytes ≡ Ok t → IsReadAgain any t }
     ensures whole { (bytes : List ℕ) (t : Told) → script_of bytes ≡ Ok t → IsWhole t }
+{}
+
+/// Lines that are joined to bytes are those lines again, and words that are joined to a line are those words again.
+pub fn joined_texts_are_cut_again()
+    ensures lines { (lines : List (List ℕ)) → AreLines lines → lines_of (joined lines) ≡ lines }
+    ensures words { (words : List (List ℕ)) → AreWords words → words_of (spaced words) ≡ words }
+    ensures own { (line : List ℕ) → AreWords (words_of line) }
 {}

@@ -34,7 +34,8 @@ mod words;
 pub use command::{Command, CommandLine, Times};
 pub use fault::Fault;
 pub use laws::{
-    first_faults_decide, lines_are_spelled, numbers_have_one_form, scripts_are_spelled,
+    first_faults_decide, joined_texts_are_cut_again, lines_are_spelled, numbers_have_one_form,
+    scripts_are_spelled,
 };
 pub use parsing::parse;
 pub use script::Script;

@@ -10,7 +10,7 @@ use std::alloc::{AllocError, Global};
 use update::Refusal;
 
 /// How many bytes a line has at most, without its newline.
-pub const MAX_LINE: usize = 4096;
+const MAX_LINE: usize = 4096;
 
 // Where the first newline stands.
 fn newline(bytes: &[u8]) -> Option<usize>
