@@ -1,5 +1,5 @@
 -- What is known behind lines is read again from the lines that are printed of it.
-use Rattle.std.proofs.Common.{◌≡◌, ℕ, ◌+◌, Bool, true, false, not, cond, List, [], ◌∷◌, ◌++◌, length, map, Result, Ok, Err, inl, inr, ◌⊎◌, refl, sym, ap, ap₂, subst, ◌∙◌, codes, append_assoc}
+use Rattle.std.proofs.Common.{◌≡◌, ℕ, ◌+◌, Bool, true, false, not, cond, List, [], ◌∷◌, ◌++◌, map, Result, Ok, inl, inr, refl, sym, ap, ap₂, subst, ◌∙◌, codes, append_assoc}
 use Rattle.std.proofs.lemmas.List.{append-nil, map-append}
 use Rattle.update.specs.declared.refusal.Refusal.{Refusal}
 use Rattle.update.specs.declared.refusal.Refusal.TheVariants.{BadOrder}
@@ -12,7 +12,7 @@ use Rattle.grammar.specs.Told.{Told}
 use Rattle.grammar.specs.Known.{Known}
 use Rattle.grammar.specs.Lines.{is_early, opening, keyword_line, words_line, line_of}
 use Rattle.grammar.specs.Scripts.{told, lines_from, script_of, nothing_known}
-use Rattle.grammar.specs.Spelling.{node_words, command_words, plan_words, Skips, Declares, Starts, Asks, Says, script_lines, read_lines, IsReadAgain}
+use Rattle.grammar.specs.Spelling.{node_words, command_words, plan_words, Declares, Starts, Asks, Says, script_lines, read_lines, IsReadAgain}
 use Rattle.grammar.proofs.StepLemmas.{same_ok, bind_ok, opening_ok}
 use Rattle.grammar.proofs.FaultLemmas.{made, found, outcome, taken, stopped, ended}
 use Rattle.grammar.proofs.SayingLemmas.{line_ok, words_say}

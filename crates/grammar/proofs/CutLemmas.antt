@@ -1,11 +1,11 @@
 -- Lines and words that are joined are cut again where they were.
-use Rattle.std.proofs.Common.{◌≡◌, ℕ, ◌<◌, Bool, true, false, not, cond, eqb, eq-eqb, ne_eqb, List, [], ◌∷◌, ◌++◌, length, filter, refl, sym, ap, ◌∙◌, append_assoc, arith}
+use Rattle.std.proofs.Common.{◌≡◌, ℕ, ◌<◌, Bool, true, false, not, cond, eqb, eq-eqb, ne_eqb, List, [], ◌∷◌, length, filter, refl, sym, ap, ◌∙◌, append_assoc, arith}
 use Rattle.std.specs.Prelude.{◌≢◌}
 use Rattle.std.specs.List.{slice_split, onto_first, All}
 use Rattle.std.proofs.lemmas.List.Elements.{All-nil, All-cons, All-weaker}
 use Rattle.std.proofs.lemmas.List.Splits.{slice_split_at, slice_split_none, length-slice_split}
 use Rattle.grammar.specs.Text.{without_empty_end, lines_of, words_of}
-use Rattle.grammar.specs.Joining.{joined, spaced, IsWord, AreWords, AreLines}
+use Rattle.grammar.specs.Joining.{joined, spaced, AreWords, AreLines}
 use Rattle.grammar.proofs.TextLemmas.{at_newline, without_empty_end-cons}
 
 abbrev at_space : ℕ → Bool
