@@ -1,0 +1,5 @@
+use Rattle.grammar.proofs.SayingLemmas.{line_says}
+use Rattle.grammar.proofs.laws.lines_are_spelled.Goals as goal
+
+pub returns : goal.returns
+returns c = line_says

@@ -1,0 +1,13 @@
+pub mod Text
+pub mod Names
+pub mod Numbers
+pub mod Faults
+pub mod Outcomes
+pub mod Commands
+pub mod Told
+pub mod Known
+pub mod Words
+pub mod Lines
+pub mod Scripts
+pub mod Spelling
+pub mod Joining

@@ -1,0 +1,132 @@
+-- What each line says, or what it is refused for: the first test that fails. The order of the steps is the order of the
+-- tests, and a line of another number of words than those that stand here has too few or too many.
+use Rattle.std.specs.Prelude.{ℕ, ◌%◌, Bool, true, false, not, ◌&&◌, List, [], ◌∷◌, ◌++◌, length, Option, Some, None, Result, Ok, Err, nat_lt, ◌==◌, codes, if◌then◌else◌}
+use Rattle.std.specs.Str.{bytes_eq, is_utf8}
+use Rattle.update.specs.declared.refusal.Refusal.{Refusal}
+use Rattle.update.specs.declared.refusal.Refusal.TheVariants.{UnknownCommand, WrongWordCount, BadOrder, LineTooLong, NotUtf8}
+use Rattle.lattice.specs.Pairs.{make_pair}
+use Rattle.plan.specs.declared.node.Node.{Node}
+use Rattle.plan.specs.declared.node.Node.TheVariants.{Input, Output}
+use Rattle.grammar.specs.declared.command.Command.{Command}
+use Rattle.grammar.specs.declared.command.Command.TheVariants.{Change, Advance, Close, Read}
+use Rattle.grammar.specs.declared.keyword.Keyword.{Keyword}
+use Rattle.grammar.specs.declared.keyword.Keyword.TheVariants as keyword
+use Rattle.grammar.specs.Outcomes.{◌>>=◌, or_refused}
+use Rattle.grammar.specs.Text.{words_of, opens_comment}
+use Rattle.grammar.specs.Known.{Known, source, input, view, new_name, plan_with}
+use Rattle.grammar.specs.Words.{whole, signed, wholes, columns, pairs_of}
+
+-- the node is added under the name, unless the plan refuses it
+unfoldable pub with_node : Known → List ℕ → Node → Result Known Refusal
+with_node k name node = plan_with k.plan node >>= λ plan. Ok (record k { names = k.names ++ name ∷ []; plan = plan })
+
+-- input NAME W
+unfoldable pub input_line : Known → List (List ℕ) → Result Known Refusal
+input_line k (name ∷ width ∷ []) = do
+  name ← new_name k name
+  width ← whole width
+  with_node k name (Input width)
+input_line k _ = Err WrongWordCount
+
+-- view NAME SRC
+unfoldable pub view_line : Known → List (List ℕ) → Result Known Refusal
+view_line k (name ∷ from ∷ []) = do
+  name ← new_name k name
+  from ← source k from
+  with_node k name (Output from)
+view_line k _ = Err WrongWordCount
+
+-- start
+unfoldable pub start_line : Known → List (List ℕ) → Result Known Refusal
+start_line k [] = Ok (record k { started = true })
+start_line k _ = Err WrongWordCount
+
+-- change INPUT V S DIFF C .., with 1 to 8 columns
+unfoldable pub change_line : Known → List (List ℕ) → Result Command Refusal
+change_line k (name ∷ v ∷ s ∷ diff ∷ row) = if nat_lt 0 (length row) && nat_lt (length row) 9 then (do
+  name ← input k name
+  v ← whole v
+  s ← whole s
+  diff ← signed diff
+  row ← columns row
+  Ok (Change name (make_pair v s) diff row)) else Err WrongWordCount
+change_line k _ = Err WrongWordCount
+
+-- advance INPUT V S .., with one pair or more
+unfoldable pub advance_line : Known → List (List ℕ) → Result Command Refusal
+advance_line k (name ∷ times) = if nat_lt 0 (length times) && (length times % 2 == 0) then (do
+  name ← input k name
+  times ← wholes times
+  Ok (Advance name (pairs_of times))) else Err WrongWordCount
+advance_line k _ = Err WrongWordCount
+
+-- close INPUT
+unfoldable pub close_line : Known → List (List ℕ) → Result Command Refusal
+close_line k (name ∷ []) = do
+  name ← input k name
+  Ok (Close name)
+close_line k _ = Err WrongWordCount
+
+-- read VIEW V S
+unfoldable pub read_line : Known → List (List ℕ) → Result Command Refusal
+read_line k (name ∷ v ∷ s ∷ []) = do
+  name ← view k name
+  v ← whole v
+  s ← whole s
+  Ok (Read name (make_pair v s))
+read_line k _ = Err WrongWordCount
+
+abbrev pub keyword_of : List ℕ → Option Keyword
+keyword_of word = if bytes_eq word (codes "input") then Some keyword.Input
+    else if bytes_eq word (codes "view") then Some keyword.View
+    else if bytes_eq word (codes "start") then Some keyword.Start
+    else if bytes_eq word (codes "change") then Some keyword.Change
+    else if bytes_eq word (codes "advance") then Some keyword.Advance
+    else if bytes_eq word (codes "close") then Some keyword.Close
+    else if bytes_eq word (codes "read") then Some keyword.Read else None
+
+-- the line stands before `start`, or is `start`
+abbrev pub is_early : Keyword → Bool
+is_early keyword.Input = true
+is_early keyword.View = true
+is_early keyword.Start = true
+is_early keyword.Change = false
+is_early keyword.Advance = false
+is_early keyword.Close = false
+is_early keyword.Read = false
+
+-- the keyword of a line whose first word this is, if it may stand here
+unfoldable pub opening : Known → List ℕ → Result Keyword Refusal
+opening k word = or_refused UnknownCommand (keyword_of word)
+    >>= λ keyword. if (if is_early keyword then k.started else not k.started) then Err BadOrder else Ok keyword
+
+-- the command is added, with the number of its line
+abbrev pub with_command : ℕ → Known → Result Command Refusal → Result Known Refusal
+with_command n k outcome = outcome >>= λ command. Ok (record k { commands = k.commands ++ record { line = n; command = command } ∷ [] })
+
+-- what is known behind line n, with these words behind its keyword
+abbrev pub keyword_line : ℕ → Known → Keyword → List (List ℕ) → Result Known Refusal
+keyword_line n k keyword.Input words = input_line k words
+keyword_line n k keyword.View words = view_line k words
+keyword_line n k keyword.Start words = start_line k words
+keyword_line n k keyword.Change words = with_command n k (change_line k words)
+keyword_line n k keyword.Advance words = with_command n k (advance_line k words)
+keyword_line n k keyword.Close words = with_command n k (close_line k words)
+keyword_line n k keyword.Read words = with_command n k (read_line k words)
+
+-- a line without words is skipped, and so is one whose first word begins with #
+unfoldable pub words_line : ℕ → Known → List (List ℕ) → Result Known Refusal
+words_line n k [] = Ok k
+words_line n k (first ∷ words) = if opens_comment first then Ok k else (do
+  keyword ← opening k first
+  keyword_line n k keyword words)
+
+-- the bytes of a line that is text, and not too long
+unfoldable pub text_of : List ℕ → Result (List ℕ) Refusal
+text_of line = if nat_lt 4096 (length line) then Err LineTooLong else if is_utf8 line then Ok line else Err NotUtf8
+
+-- what is known behind line n
+unfoldable pub line_of : ℕ → Known → List ℕ → Result Known Refusal
+line_of n k line = do
+  text ← text_of line
+  words_line n k (words_of text)

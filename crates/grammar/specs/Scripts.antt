@@ -1,0 +1,59 @@
+-- The script that bytes are, or the first line that is at fault.
+use Rattle.std.specs.Prelude.{◌≡◌, ℕ, ◌+◌, ◌⊎◌, true, false, List, [], ◌∷◌, ◌++◌, length, Result, Ok, Err, if◌then◌else◌}
+use Rattle.update.specs.Refusals.{code_of}
+use Rattle.update.specs.declared.refusal.Refusal.{Refusal}
+use Rattle.update.specs.declared.refusal.Refusal.TheVariants.{BadOrder}
+use Rattle.grammar.specs.declared.fault.Fault.{Fault}
+use Rattle.grammar.specs.Outcomes.{◌>>=◌}
+use Rattle.grammar.specs.Text.{lines_of}
+use Rattle.grammar.specs.Known.{Known}
+use Rattle.grammar.specs.Lines.{line_of}
+use Rattle.grammar.specs.Told.{Told}
+
+abbrev pub told : Known → Told
+told k = record { names = k.names; plan = k.plan; commands = k.commands }
+
+abbrev pub nothing_known : Known
+nothing_known = record { names = []; plan = []; started = false; commands = [] }
+
+-- a fault on line n ends it
+abbrev pub on_line : {A : Type 0} → ℕ → Result Known Refusal → (Known → Result A (ℕ × Refusal)) → Result A (ℕ × Refusal)
+on_line n (Ok k) more = more k
+on_line n (Err refusal) more = Err (n, refusal)
+
+-- the lines from number n on, where so much is known before; at the end `start` must have come
+unfoldable pub lines_from : ℕ → Known → List (List ℕ) → Result Told (ℕ × Refusal)
+lines_from n k [] = if k.started then Ok (told k) else Err (n, BadOrder)
+lines_from n k (line ∷ lines) = on_line n (line_of n k line) (λ k. lines_from (n + 1) k lines)
+
+-- the script, or the line of the one fault and what it is refused for
+abbrev pub script_of : List ℕ → Result Told (ℕ × Refusal)
+script_of bytes = lines_from 1 nothing_known (lines_of bytes)
+
+-- what is known behind lines, the first of which is number n, of which none is at fault
+abbrev pub after : ℕ → Known → List (List ℕ) → Result Known Refusal
+after n k [] = Ok k
+after n k (line ∷ lines) = line_of n k line >>= λ k. after (n + 1) k lines
+
+-- all lines are in order, and `start` is among them
+abbrev pub IsScript : List (List ℕ) → Told → Type 0
+IsScript lines t = (k : Known) × (after 1 nothing_known lines ≡ Ok k) × (k.started ≡ true) × (told k ≡ t)
+
+-- the lines before number n are in order
+abbrev pub IsReached : List (List ℕ) → ℕ → Type 0
+IsReached lines n = (before : List (List ℕ)) × (rest : List (List ℕ)) × (k : Known) × (lines ≡ before ++ rest) × (n ≡ length before + 1) × (after 1 nothing_known before ≡ Ok k)
+
+-- the lines before number n are in order, and that line is not; or all are, none is `start`, and n is one past the last
+abbrev pub IsFirstFault : List (List ℕ) → ℕ → Refusal → Type 0
+IsFirstFault lines n refusal =
+    ((before : List (List ℕ)) × (line : List ℕ) × (rest : List (List ℕ)) × (k : Known) × (lines ≡ before ++ line ∷ rest) × (n ≡ length before + 1) × (after 1 nothing_known before ≡ Ok k) × (line_of n k line ≡ Err refusal))
+    ⊎ ((k : Known) × (n ≡ length lines + 1) × (after 1 nothing_known lines ≡ Ok k) × (k.started ≡ false) × (refusal ≡ BadOrder))
+
+-- the outcome is this fault, told by its number; 1 is want of memory
+abbrev pub IsFault : {Y : Type 0} → ℕ → ℕ → Result Y (ℕ × Refusal) → Type 0
+IsFault line code outcome = (code ≡ 1) ⊎ ((refusal : Refusal) × (code ≡ code_of refusal) × (outcome ≡ Err (line, refusal)))
+
+-- what a function returned, seen by view, is this outcome
+abbrev pub Answers : {X Y : Type 0} → (X → Y) → Result X Fault → Result Y (ℕ × Refusal) → Type 0
+Answers view (Ok x) outcome = outcome ≡ Ok (view x)
+Answers view (Err fault) outcome = IsFault fault.line fault.code outcome

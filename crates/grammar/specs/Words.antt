@@ -1,0 +1,35 @@
+-- What words say that are numbers.
+use Rattle.std.specs.Prelude.{ℕ, ℤ, List, [], ◌∷◌, Option, Some, Result}
+use Rattle.std.specs.Option.{option_map, option_and_then}
+use Rattle.update.specs.declared.refusal.Refusal.{Refusal}
+use Rattle.update.specs.declared.refusal.Refusal.TheVariants.{BadNumber}
+use Rattle.lattice.specs.Pairs.{make_pair}
+use Rattle.lattice.specs.declared.product.Pair.{Pair}
+use Rattle.grammar.specs.Outcomes.{or_refused}
+use Rattle.grammar.specs.Numbers.{whole_of, signed_of}
+
+-- what each word is, where each is something
+abbrev pub each : {A : Type 0} → (List ℕ → Option A) → List (List ℕ) → Option (List A)
+each read [] = Some []
+each read (word ∷ words) = option_and_then (λ x. option_map (λ xs. x ∷ xs) (each read words)) (read word)
+
+abbrev pub number : {A : Type 0} → Option A → Result A Refusal
+number o = or_refused BadNumber o
+
+unfoldable pub whole : List ℕ → Result ℕ Refusal
+whole word = number (whole_of word)
+
+unfoldable pub signed : List ℕ → Result ℤ Refusal
+signed word = number (signed_of word)
+
+unfoldable pub wholes : List (List ℕ) → Result (List ℕ) Refusal
+wholes words = number (each whole_of words)
+
+unfoldable pub columns : List (List ℕ) → Result (List ℤ) Refusal
+columns words = number (each signed_of words)
+
+-- two by two
+abbrev pub pairs_of : List ℕ → List (Pair ℕ ℕ)
+pairs_of [] = []
+pairs_of (v ∷ []) = []
+pairs_of (v ∷ s ∷ more) = make_pair v s ∷ pairs_of more

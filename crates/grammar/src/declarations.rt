@@ -1,0 +1,61 @@
+//! The lines before `start`, and `start` itself.
+ghost use Rattle.std.specs.Prelude.{◌≡◌, map};
+ghost use Rattle.update.specs.declared.refusal.Refusal.TheVariants.{WrongWordCount};
+ghost use Rattle.grammar.specs.Known.{known};
+ghost use Rattle.grammar.specs.Lines.{input_line, view_line, start_line};
+ghost use Rattle.grammar.specs.Outcomes.{Gives};
+
+use crate::draft::Draft;
+use crate::fault::LineError;
+use crate::words::whole;
+use plan::Node;
+use std::alloc::Global;
+use update::Refusal;
+
+// Too few words, or too many.
+pub(crate) fn wrong_count() -> LineError
+    ensures { result ≡ LineError.Refused WrongWordCount }
+{
+    LineError::Refused(Refusal::WrongWordCount)
+}
+
+#[tactic(auto, unfolding(crate::specs::Lines::input_line))]
+pub(crate) fn input_line(alloc: Global, draft: &mut Draft, words: &[&str]) -> Result<(), LineError>
+    ensures { Gives (λ _. known draft.new) result (input_line (known draft.old) (map (λ w. w.now) words.now)) }
+{
+    match words {
+        [name, width] => {
+            let name = draft.new_name(alloc, name)?;
+            let width = whole(width)? as usize;
+            draft.add(alloc, name, Node::Input { width })
+        }
+        _ => Err(wrong_count()),
+    }
+}
+
+#[tactic(auto, unfolding(crate::specs::Lines::view_line))]
+pub(crate) fn view_line(alloc: Global, draft: &mut Draft, words: &[&str]) -> Result<(), LineError>
+    ensures { Gives (λ _. known draft.new) result (view_line (known draft.old) (map (λ w. w.now) words.now)) }
+{
+    match words {
+        [name, source] => {
+            let name = draft.new_name(alloc, name)?;
+            let source = draft.source(source)?;
+            draft.add(alloc, name, Node::Output { source })
+        }
+        _ => Err(wrong_count()),
+    }
+}
+
+#[tactic(auto, unfolding(crate::specs::Lines::start_line))]
+pub(crate) fn start_line(draft: &mut Draft, words: &[&str]) -> Result<(), LineError>
+    ensures { Gives (λ _. known draft.new) result (start_line (known draft.old) (map (λ w. w.now) words.now)) }
+{
+    match words {
+        [] => {
+            draft.started = true;
+            Ok(())
+        }
+        _ => Err(wrong_count()),
+    }
+}

@@ -1,0 +1,138 @@
+//! A script in the making: what the lines so far have said. Each node has one name, and both are kept in the order of the
+//! lines, so that a name's place among the names is the number of its node.
+ghost use Rattle.std.specs.Prelude.{◌≡◌, [], None, IfOk, string_bytes, false};
+ghost use Rattle.plan.specs.Rules.{is_readable};
+ghost use Rattle.update.specs.declared.refusal.Refusal.TheVariants.{UnknownName};
+ghost use Rattle.grammar.specs.Commands.{is_input_of, is_view_of};
+ghost use Rattle.grammar.specs.Known.{known, place_of, used_name, source, input, view, new_name, plan_with};
+ghost use Rattle.grammar.specs.Lines.{with_node, with_command};
+ghost use Rattle.grammar.specs.Outcomes.{Gives};
+
+use crate::command::{Command, CommandLine};
+use crate::fault::LineError;
+use crate::names::is_name;
+use indexmap::IndexSet;
+use plan::{Node, NodeId, Plan, PlanBuilder};
+use std::alloc::Global;
+use std::mem;
+use update::Refusal;
+
+#[derive(Drop)]
+pub(crate) struct Draft {
+    pub(crate) names: IndexSet<String>,
+    pub(crate) plan: Plan,
+    pub(crate) started: bool,
+    pub(crate) commands: Vec<CommandLine>,
+}
+
+// A name that is not there, or names a node of another sort.
+fn unknown() -> LineError
+    ensures { result ≡ LineError.Refused UnknownName }
+{
+    LineError::Refused(Refusal::UnknownName)
+}
+
+impl Draft {
+    pub(crate) fn new(alloc: Global) -> Draft
+        ensures { known result ≡ record { names = []; plan = []; started = false; commands = [] } }
+    {
+        Draft {
+            names: IndexSet::new(alloc),
+            plan: PlanBuilder::new(alloc).finish(),
+            started: false,
+            commands: Vec::new(alloc),
+        }
+    }
+
+    // The number of the node that has the name.
+    fn place(&self, word: &str) -> Option<usize>
+        ensures { result ≡ place_of (known self.now) word.now }
+    {
+        self.names.get_index_of(word)
+    }
+
+    fn is_input(&self, id: NodeId) -> bool
+        ensures { result ≡ is_input_of self.now.plan id }
+    {
+        id.number() < self.plan.len() && self.plan.node(id).is_input()
+    }
+
+    fn is_view(&self, id: NodeId) -> bool
+        ensures { result ≡ is_view_of self.now.plan id }
+    {
+        id.number() < self.plan.len() && self.plan.node(id).is_output()
+    }
+
+    // The named node, which others may read.
+    #[tactic(auto, unfolding(crate::specs::Known::source))]
+    pub(crate) fn source(&self, word: &str) -> Result<NodeId, LineError>
+        ensures { Gives (λ id. id) result (source (known self.now) word.now) }
+    {
+        match self.place(word).map(NodeId::new) {
+            Some(id) if self.plan.is_readable(id) => Ok(id),
+            _ => Err(unknown()),
+        }
+    }
+
+    // The named input.
+    #[tactic(auto, unfolding(crate::specs::Known::input))]
+    pub(crate) fn input(&self, word: &str) -> Result<NodeId, LineError>
+        ensures { Gives (λ id. id) result (input (known self.now) word.now) }
+    {
+        match self.place(word).map(NodeId::new) {
+            Some(id) if self.is_input(id) => Ok(id),
+            _ => Err(unknown()),
+        }
+    }
+
+    // The named view.
+    #[tactic(auto, unfolding(crate::specs::Known::view))]
+    pub(crate) fn view(&self, word: &str) -> Result<NodeId, LineError>
+        ensures { Gives (λ id. id) result (view (known self.now) word.now) }
+    {
+        match self.place(word).map(NodeId::new) {
+            Some(id) if self.is_view(id) => Ok(id),
+            _ => Err(unknown()),
+        }
+    }
+
+    // The word as a name that is free.
+    #[tactic(auto, unfolding(crate::specs::Known::new_name))]
+    pub(crate) fn new_name(&self, alloc: Global, word: &str) -> Result<String, LineError>
+        ensures name { Gives (λ name. string_bytes name) result (new_name (known self.now) word.now) }
+        ensures free { IfOk result (λ name. place_of (known self.now) (string_bytes name) ≡ None) }
+    {
+        if !is_name(word) {
+            return Err(LineError::Refused(Refusal::BadName));
+        }
+        if self.place(word).is_some() {
+            return Err(LineError::Refused(Refusal::DuplicateName));
+        }
+        Ok(String::from_str(alloc, word)?)
+    }
+
+    // Adds the node under a name that is free.
+    #[tactic(auto, unfolding(crate::specs::Lines::with_node))]
+    pub(crate) fn add(&mut self, alloc: Global, name: String, node: Node) -> Result<(), LineError>
+        requires { place_of (known self.old) (string_bytes name) ≡ None }
+        ensures { Gives (λ _. known self.new) result (with_node (known self.old) (string_bytes name) node) }
+    {
+        push_node(alloc, &mut self.plan, node)?;
+        self.names.insert(name)?;
+        Ok(())
+    }
+}
+
+// Adds the node to the plan, which goes on for that: a finished plan costs nothing to open again.
+fn push_node(alloc: Global, plan: &mut Plan, node: Node) -> Result<(), LineError>
+    ensures { Gives (λ _. plan.new) result (plan_with plan.old node) }
+{
+    let nodes = mem::replace(plan, PlanBuilder::new(alloc).finish());
+    let mut builder = PlanBuilder::from(nodes);
+    let added = builder.add(node);
+    *plan = builder.finish();
+    match added {
+        Ok(_) => Ok(()),
+        Err(refusal) => Err(LineError::of(refusal)),
+    }
+}

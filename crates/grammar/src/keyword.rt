@@ -1,0 +1,50 @@
+//! The first words of lines, and on which side of `start` each line stands.
+ghost use Rattle.std.specs.Prelude.{◌≡◌};
+ghost use Rattle.grammar.specs.Lines.{keyword_of, is_early};
+
+/// The first word of a line that is not skipped.
+#[derive(Clone, Copy, Debug, PartialEq, Eq)]
+pub(crate) enum Keyword {
+    Input,
+    View,
+    Start,
+    Change,
+    Advance,
+    Close,
+    Read,
+}
+
+impl Keyword {
+    // The keyword that the word is, if it is one.
+    pub(crate) fn of(word: &str) -> Option<Keyword>
+        ensures { result ≡ keyword_of word.now }
+    {
+        if word == "input" {
+            Some(Keyword::Input)
+        } else if word == "view" {
+            Some(Keyword::View)
+        } else if word == "start" {
+            Some(Keyword::Start)
+        } else if word == "change" {
+            Some(Keyword::Change)
+        } else if word == "advance" {
+            Some(Keyword::Advance)
+        } else if word == "close" {
+            Some(Keyword::Close)
+        } else if word == "read" {
+            Some(Keyword::Read)
+        } else {
+            None
+        }
+    }
+
+    // Whether such a line stands before `start`, or is `start`.
+    pub(crate) fn is_early(self) -> bool
+        ensures { result ≡ is_early self }
+    {
+        match self {
+            Keyword::Input | Keyword::View | Keyword::Start => true,
+            Keyword::Change | Keyword::Advance | Keyword::Close | Keyword::Read => false,
+        }
+    }
+}

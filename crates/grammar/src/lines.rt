@@ -1,0 +1,118 @@
+//! One line: its bytes, its first word, and whether it may stand where it stands, in the order of the tests.
+ghost use Rattle.std.specs.Prelude.{◌≡◌, map};
+ghost use Rattle.grammar.specs.Known.{known};
+ghost use Rattle.grammar.specs.Lines.{opening, keyword_line, words_line, line_of, with_command};
+ghost use Rattle.grammar.specs.Outcomes.{Gives};
+
+use crate::command::{Command, CommandLine};
+use crate::declarations::{input_line, start_line, view_line};
+use crate::draft::Draft;
+use crate::fault::LineError;
+use crate::keyword::Keyword;
+use crate::requests::{advance_line, change_line, close_line, read_line};
+use crate::text::{opens_comment, text, words};
+use std::alloc::Global;
+use update::Refusal;
+
+// The keyword of a line that begins so, if there is one and it may stand here.
+#[tactic(auto, unfolding(crate::specs::Lines::opening))]
+fn opening(draft: &Draft, word: &str) -> Result<Keyword, LineError>
+    ensures { Gives (λ keyword. keyword) result (opening (known draft.now) word.now) }
+{
+    match Keyword::of(word) {
+        None => Err(LineError::Refused(Refusal::UnknownCommand)),
+        Some(keyword) => {
+            let misplaced = if keyword.is_early() {
+                draft.started
+            } else {
+                !draft.started
+            };
+            if misplaced {
+                Err(LineError::Refused(Refusal::BadOrder))
+            } else {
+                Ok(keyword)
+            }
+        }
+    }
+}
+
+// Adds the command of line `number`.
+fn push_command(draft: &mut Draft, number: u64, command: Command) -> Result<(), LineError>
+    ensures { Gives (λ _. known draft.new) result (with_command number (known draft.old) (Ok command)) }
+{
+    draft.commands.push(CommandLine {
+        line: number,
+        command,
+    })?;
+    Ok(())
+}
+
+// The words behind the keyword.
+fn keyword_line(
+    alloc: Global,
+    draft: &mut Draft,
+    number: u64,
+    keyword: Keyword,
+    words: &[&str],
+) -> Result<(), LineError>
+    ensures { Gives (λ _. known draft.new) result (keyword_line number (known draft.old) keyword (map (λ w. w.now) words.now)) }
+{
+    match keyword {
+        Keyword::Input => input_line(alloc, draft, words),
+        Keyword::View => view_line(alloc, draft, words),
+        Keyword::Start => start_line(draft, words),
+        Keyword::Change => {
+            let command = change_line(alloc, draft, words)?;
+            push_command(draft, number, command)
+        }
+        Keyword::Advance => {
+            let command = advance_line(alloc, draft, words)?;
+            push_command(draft, number, command)
+        }
+        Keyword::Close => {
+            let command = close_line(draft, words)?;
+            push_command(draft, number, command)
+        }
+        Keyword::Read => {
+            let command = read_line(draft, words)?;
+            push_command(draft, number, command)
+        }
+    }
+}
+
+// The words of a line that is text.
+#[tactic(auto, unfolding(crate::specs::Lines::words_line))]
+fn words_line(
+    alloc: Global,
+    draft: &mut Draft,
+    number: u64,
+    words: &[&str],
+) -> Result<(), LineError>
+    ensures { Gives (λ _. known draft.new) result (words_line number (known draft.old) (map (λ w. w.now) words.now)) }
+{
+    match words {
+        [] => Ok(()),
+        [first, rest @ ..] => {
+            if opens_comment(first) {
+                return Ok(());
+            }
+            let keyword = opening(draft, first)?;
+            keyword_line(alloc, draft, number, keyword, rest)
+        }
+    }
+}
+
+// Takes the line of that number.
+#[tactic(auto, unfolding(crate::specs::Lines::line_of))]
+pub(crate) fn take_line(
+    alloc: Global,
+    draft: &mut Draft,
+    number: u64,
+    line: &[u8],
+) -> Result<(), LineError>
+    ensures { Gives (λ _. known draft.new) result (line_of number (known draft.old) line.now) }
+{
+    let text = text(line)?;
+    let words = words(alloc, text)?;
+    words_line(alloc, draft, number, &words)
+}

@@ -1,0 +1,28 @@
+//! The form of names.
+ghost use Rattle.std.specs.Prelude.{◌≡◌};
+ghost use Rattle.std.specs.List.{list_all};
+ghost use Rattle.grammar.specs.Names.{is_name, is_name_byte};
+
+// A letter, a digit or an underscore.
+fn is_name_byte(byte: u8) -> bool
+    ensures { result ≡ is_name_byte byte }
+{
+    byte.is_ascii_alphanumeric() || byte == b'_'
+}
+
+fn are_name_bytes(word: &[u8]) -> bool
+    ensures { result ≡ list_all is_name_byte word.now }
+{
+    word.iter().all(|byte| is_name_byte(*byte))
+}
+
+// Whether a new name may have this form.
+pub(crate) fn is_name(word: &str) -> bool
+    ensures { result ≡ is_name word.now }
+{
+    let word = word.as_bytes();
+    match word {
+        [] => false,
+        [first, ..] => word.len() <= 32 && first.is_ascii_alphabetic() && are_name_bytes(word),
+    }
+}

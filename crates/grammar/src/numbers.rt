@@ -1,0 +1,55 @@
+//! Numbers in words. A word is a number only in the one form in which that number is printed, so no two words are the same
+//! number: no sign before a whole number, no zero in front, no other digits.
+ghost use Rattle.std.specs.Prelude.{◌≡◌, ℕ, ◌<◌, ◌^◌, IfSome};
+ghost use Rattle.std.specs.Fmt.{decimal};
+ghost use Rattle.std.specs.List.{list_all};
+ghost use Rattle.std.specs.Char.{is_ascii_digit};
+ghost use Rattle.grammar.specs.Numbers.{is_numeral, is_signed_numeral, whole_of, signed_of};
+
+fn are_digits(digits: &[u8]) -> bool
+    ensures { result ≡ list_all is_ascii_digit digits.now }
+{
+    digits.iter().all(|digit| digit.is_ascii_digit())
+}
+
+fn is_numeral(digits: &[u8]) -> bool
+    ensures { result ≡ is_numeral digits.now }
+{
+    match digits {
+        [] => false,
+        [only] => only.is_ascii_digit(),
+        [first, ..] => *first != b'0' && are_digits(digits),
+    }
+}
+
+// The whole number that the word is, if it is one.
+pub(crate) fn whole_number(word: &str) -> Option<u64>
+    ensures { result ≡ whole_of word.now }
+{
+    if is_numeral(word.as_bytes()) {
+        word.parse::<u64>().ok()
+    } else {
+        None
+    }
+}
+
+// What stands behind a minus sign is not 0.
+fn is_signed_numeral(word: &[u8]) -> bool
+    ensures { result ≡ is_signed_numeral word.now }
+{
+    match word {
+        [b'-', digits @ ..] => is_numeral(digits) && digits[0] != b'0',
+        _ => is_numeral(word),
+    }
+}
+
+// The signed number that the word is, if it is one.
+pub(crate) fn signed_number(word: &str) -> Option<i64>
+    ensures { result ≡ signed_of word.now }
+{
+    if is_signed_numeral(word.as_bytes()) {
+        word.parse::<i64>().ok()
+    } else {
+        None
+    }
+}

@@ -1,0 +1,94 @@
+//! The lines after `start`: each is one command. They look names up and change nothing.
+ghost use Rattle.std.specs.Prelude.{◌≡◌, map};
+ghost use Rattle.grammar.specs.Known.{known};
+ghost use Rattle.grammar.specs.Lines.{change_line, advance_line, close_line, read_line};
+ghost use Rattle.grammar.specs.Outcomes.{Gives};
+
+use crate::command::Command;
+use crate::declarations::wrong_count;
+use crate::draft::Draft;
+use crate::fault::LineError;
+use crate::words::{row, signed, time, times, whole, wholes};
+use std::alloc::Global;
+
+#[tactic(auto, unfolding(crate::specs::Lines::change_line))]
+pub(crate) fn change_line(
+    alloc: Global,
+    draft: &Draft,
+    words: &[&str],
+) -> Result<Command, LineError>
+    ensures { Gives (λ command. command) result (change_line (known draft.now) (map (λ w. w.now) words.now)) }
+{
+    match words {
+        [name, valid, system, diff, rest @ ..] => {
+            if rest.is_empty() || rest.len() > 8 {
+                return Err(wrong_count());
+            }
+            let input = draft.input(name)?;
+            let valid = whole(valid)?;
+            let system = whole(system)?;
+            let diff = signed(diff)?;
+            let row = row(alloc, rest)?;
+            Ok(Command::Change {
+                input,
+                time: time(valid, system),
+                diff,
+                row,
+            })
+        }
+        _ => Err(wrong_count()),
+    }
+}
+
+#[tactic(auto, unfolding(crate::specs::Lines::advance_line))]
+pub(crate) fn advance_line(
+    alloc: Global,
+    draft: &Draft,
+    words: &[&str],
+) -> Result<Command, LineError>
+    ensures { Gives (λ command. command) result (advance_line (known draft.now) (map (λ w. w.now) words.now)) }
+{
+    match words {
+        [name, pairs @ ..] => {
+            if pairs.is_empty() || pairs.len() % 2 != 0 {
+                return Err(wrong_count());
+            }
+            let input = draft.input(name)?;
+            let numbers = wholes(alloc, pairs)?;
+            let times = times(alloc, &numbers)?;
+            Ok(Command::Advance { input, times })
+        }
+        _ => Err(wrong_count()),
+    }
+}
+
+#[tactic(auto, unfolding(crate::specs::Lines::close_line))]
+pub(crate) fn close_line(draft: &Draft, words: &[&str]) -> Result<Command, LineError>
+    ensures { Gives (λ command. command) result (close_line (known draft.now) (map (λ w. w.now) words.now)) }
+{
+    match words {
+        [name] => {
+            let input = draft.input(name)?;
+            Ok(Command::Close { input })
+        }
+        _ => Err(wrong_count()),
+    }
+}
+
+#[tactic(auto, unfolding(crate::specs::Lines::read_line))]
+pub(crate) fn read_line(draft: &Draft, words: &[&str]) -> Result<Command, LineError>
+    ensures { Gives (λ command. command) result (read_line (known draft.now) (map (λ w. w.now) words.now)) }
+{
+    match words {
+        [name, valid, system] => {
+            let view = draft.view(name)?;
+            let valid = whole(valid)?;
+            let system = whole(system)?;
+            Ok(Command::Read {
+                view,
+                time: time(valid, system),
+            })
+        }
+        _ => Err(wrong_count()),
+    }
+}

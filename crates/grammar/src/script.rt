@@ -1,0 +1,91 @@
+//! A script that was read: a plan, a name for each of its nodes, and the commands in the order of their lines. What a
+//! reader of commands would else have to test is an invariant: each command names an input of the plan, or a view.
+ghost use Rattle.std.specs.Prelude.{◌≡◌, ◌<◌, length};
+ghost use Rattle.std.specs.List.{All};
+ghost use Rattle.grammar.specs.Commands.{IsAbout};
+ghost use Rattle.grammar.specs.Known.{known};
+ghost use Rattle.grammar.specs.Scripts.{told};
+ghost use Rattle.grammar.specs.Told.{IsWhole, name_at};
+
+use crate::command::CommandLine;
+use crate::draft::Draft;
+use indexmap::IndexSet;
+use plan::{NodeId, Plan};
+use std::marker::Model;
+
+/// A script. A contract sees what it tells: the names, the plan and the commands.
+#[derive(Drop)]
+pub struct Script {
+    names: IndexSet<String>,
+    plan: Plan,
+    commands: Vec<CommandLine>,
+}
+
+impl Model for Script {
+    ghost use Rattle.std.specs.Prelude.{map, string_bytes};
+    ghost use Rattle.grammar.specs.Told.{Told, IsWhole};
+
+    ghost Value = { Told };
+
+    ghost view = { λ s. record { names = map string_bytes s.names.keys; plan = s.plan; commands = s.commands.items } };
+
+    ghost invariant = { λ s. IsWhole (record { names = map string_bytes s.names.keys; plan = s.plan; commands = s.commands.items }) };
+}
+
+impl Script {
+    // What the lines have said, as a script.
+    pub(crate) fn of(draft: Draft) -> Script
+        requires { IsWhole (told (known draft)) }
+        ensures { result ≡ told (known draft) }
+    {
+        let Draft {
+            names,
+            plan,
+            started: _,
+            commands,
+        } = draft;
+        Script {
+            names,
+            plan,
+            commands,
+        }
+    }
+
+    /// How many inputs, nodes and views there are. Takes no memory.
+    pub fn nodes(&self) -> u64
+        ensures { result ≡ length self.now.plan }
+    {
+        self.plan.len() as u64
+    }
+
+    /// How many commands there are: lines after `start` that are not skipped. Takes no memory.
+    pub fn commands(&self) -> u64
+        ensures { result ≡ length self.now.commands }
+    {
+        self.commands.len() as u64
+    }
+
+    /// The plan, with the nodes in the order of their lines. Takes no memory.
+    pub fn plan(&self) -> &Plan
+        ensures { result.now ≡ self.now.plan }
+    {
+        &self.plan
+    }
+
+    /// The name of a node. Takes no memory.
+    pub fn name(&self, id: NodeId) -> &str
+        requires { id < length self.now.plan }
+        ensures { result.now ≡ name_at self.now.names id }
+    {
+        self.names.get_index(id.number()).unwrap().as_str()
+    }
+
+    /// The commands in the order of their lines. Each is about an input of the plan, or a view where it reads one. Takes no
+    /// memory.
+    pub fn command_lines(&self) -> &[CommandLine]
+        ensures lines { result.now ≡ self.now.commands }
+        ensures about { All (λ line. IsAbout self.now.plan line.command) self.now.commands }
+    {
+        self.commands.as_slice()
+    }
+}

@@ -1,0 +1,140 @@
+//! Scripts that are in order, and what is left of them.
+use crate::{Command, CommandLine, Fault, Script, parse};
+use lattice::{Bitime, Pair};
+use plan::{Node, NodeId};
+
+const LEDGER: &str =
+    "# A ledger\ninput postings 2\ninput rates 1\n\nview all postings\n  view fees   rates  \nstart\n# day 10\nchange postings 10 1 -1 7 -500\nadvance postings 0 2 4 0\n\nchange rates 18446744073709551615 0 9223372036854775807 -9223372036854775808\nclose rates\nread fees 5 0\nread all 10 1";
+
+fn at(first: u64, second: u64) -> Bitime {
+    Pair { first, second }
+}
+
+fn is_change(
+    line: &CommandLine,
+    at_line: u64,
+    input: usize,
+    at: Bitime,
+    by: i64,
+    columns: &[i64],
+) -> bool {
+    match &line.command {
+        Command::Change {
+            input: id,
+            time,
+            diff,
+            row,
+        } => {
+            line.line == at_line
+                && id.number() == input
+                && *time == at
+                && *diff == by
+                && row.columns() == columns
+        }
+        _ => false,
+    }
+}
+
+fn is_read(line: &CommandLine, at_line: u64, view: usize, at: Bitime) -> bool {
+    match &line.command {
+        Command::Read { view: id, time } => line.line == at_line
+            && id.number() == view
+            && *time == at,
+        _ => false,
+    }
+}
+
+fn is_close(line: &CommandLine, at_line: u64, input: usize) -> bool {
+    match &line.command {
+        Command::Close { input: id } => line.line == at_line && id.number() == input,
+        _ => false,
+    }
+}
+
+fn is_advance(line: &CommandLine, at_line: u64, input: usize, to: &[Bitime]) -> bool {
+    match &line.command {
+        Command::Advance { input: id, times } => {
+            line.line == at_line && id.number() == input && times.as_slice() == to
+        }
+        _ => false,
+    }
+}
+
+// Spaces, comments and empty lines part things and leave nothing behind but the lines' numbers; the last line needs no
+// newline.
+#[test]
+fn script_is_what_its_lines_say(rt: HostRuntime) -> Result<(), Fault> {
+    let script = parse(rt.alloc(), LEDGER.as_bytes())?;
+    assert_eq!(rt; (script.nodes(), script.commands()), (4, 6));
+    let lines = script.command_lines();
+    assert_eq!(rt; lines.len(), 6);
+    assert!(rt; is_change(&lines[0], 9, 0, at(10, 1), -1, &[7, -500]));
+    assert!(rt; is_advance(&lines[1], 10, 0, &[at(0, 2), at(4, 0)]));
+    let late = at(18446744073709551615, 0);
+    assert!(rt;
+        is_change(
+            &lines[2],
+            12,
+            1,
+            late,
+            9223372036854775807,
+            &[-9223372036854775808]
+        )
+    );
+    assert!(rt; is_close(&lines[3], 13, 1));
+    assert!(rt; is_read(&lines[4], 14, 3, at(5, 0)));
+    assert!(rt; is_read(&lines[5], 15, 2, at(10, 1)));
+    Ok(())
+}
+
+#[test]
+fn nodes_have_names(rt: HostRuntime) -> Result<(), Fault> {
+    let script = parse(rt.alloc(), LEDGER.as_bytes())?;
+    let plan = script.plan();
+    assert_eq!(rt; plan.len(), 4);
+    let nodes = [
+        ("postings", Node::Input { width: 2 }),
+        ("rates", Node::Input { width: 1 }),
+        (
+            "all",
+            Node::Output {
+                source: NodeId::new(0),
+            },
+        ),
+        (
+            "fees",
+            Node::Output {
+                source: NodeId::new(1),
+            },
+        ),
+    ];
+    for n in 0usize..4 {
+        let id = NodeId::new(n);
+        assert_eq!(rt; script.name(id), nodes[n].0);
+        assert_eq!(rt; *plan.node(id), nodes[n].1, "node {n}");
+    }
+    Ok(())
+}
+
+// The least that is a script: no rule asks for an input, a view or a command.
+#[test]
+fn start_alone_is_a_script(rt: HostRuntime) -> Result<(), Fault> {
+    for text in ["start", "start\n", "\n# nothing\n start \n#"] {
+        let script = parse(rt.alloc(), text.as_bytes())?;
+        assert_eq!(rt; (script.nodes(), script.commands()), (0, 0), "{text}");
+    }
+    let script = parse(rt.alloc(), b"input a 1\nview v a\nstart\n")?;
+    assert_eq!(rt; (script.nodes(), script.commands()), (2, 0));
+    Ok(())
+}
+
+// A change whose row has another width than its input is in order: it is for the run to refuse it.
+#[test]
+fn widths_of_rows_are_not_tested(rt: HostRuntime) -> Result<(), Fault> {
+    let text = b"input a 1\nstart\nchange a 0 0 0 1 2 3 4 5 6 7 8\n";
+    let script = parse(rt.alloc(), text)?;
+    let lines = script.command_lines();
+    assert_eq!(rt; lines.len(), 1);
+    assert!(rt; is_change(&lines[0], 3, 0, at(0, 0), 0, &[1, 2, 3, 4, 5, 6, 7, 8]));
+    Ok(())
+}

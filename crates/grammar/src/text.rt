@@ -1,0 +1,72 @@
+//! Lines and words of a file, as pieces of its own bytes: nothing is copied.
+ghost use Rattle.std.specs.Prelude.{◌≡◌, ◌<◌, ◌∷◌, ◌==◌, IfOk, length, map, position};
+ghost use Rattle.std.specs.List.{slice_split};
+ghost use Rattle.grammar.specs.Text.{lines_of, words_of, opens_comment};
+ghost use Rattle.grammar.specs.Lines.{text_of};
+ghost use Rattle.grammar.specs.Outcomes.{Gives};
+
+use crate::fault::LineError;
+use std::alloc::{AllocError, Global};
+use update::Refusal;
+
+/// How many bytes a line has at most, without its newline.
+const MAX_LINE: usize = 4096;
+
+// Where the first newline stands.
+fn newline(bytes: &[u8]) -> Option<usize>
+    ensures { result ≡ position (λ b. b == 10) bytes.now }
+{
+    bytes.iter().position(|b| *b == b'\n')
+}
+
+// The first line without its newline, and what stands behind it.
+pub(crate) fn first_line(bytes: &[u8]) -> (&[u8], &[u8])
+    requires { 0 < length bytes.now }
+    ensures line { lines_of bytes.now ≡ result.0.now ∷ lines_of result.1.now }
+    ensures shorter { length result.1.now < length bytes.now }
+{
+    match newline(bytes) {
+        Some(end) => (bytes.split_at(end).0, bytes.split_at(end + 1).1),
+        None => (bytes, &[]),
+    }
+}
+
+// The line as text: refused first for its length, then for what is not UTF-8.
+#[tactic(auto, unfolding(crate::specs::Lines::text_of))]
+pub(crate) fn text(line: &[u8]) -> Result<&str, LineError>
+    ensures { Gives (λ text. text.now) result (text_of line.now) }
+{
+    if line.len() > MAX_LINE {
+        return Err(LineError::Refused(Refusal::LineTooLong));
+    }
+    match str::from_utf8(line) {
+        Ok(text) => Ok(text),
+        Err(_) => Err(LineError::Refused(Refusal::NotUtf8)),
+    }
+}
+
+// What stands between the spaces.
+fn pieces(alloc: Global, line: &str) -> Result<Vec<&str>, AllocError>
+    ensures { IfOk result (λ v. map (λ w. w.now) v.items ≡ slice_split (λ b. b == 32) line.now) }
+{
+    line.split(' ').collect(alloc)
+}
+
+// The words of a line.
+pub(crate) fn words(alloc: Global, line: &str) -> Result<Vec<&str>, AllocError>
+    ensures { IfOk result (λ v. map (λ w. w.now) v.items ≡ words_of line.now) }
+{
+    let mut words = pieces(alloc, line)?;
+    words.retain(|word| !word.is_empty());
+    Ok(words)
+}
+
+// Whether a line with this first word is a comment.
+pub(crate) fn opens_comment(word: &str) -> bool
+    ensures { result ≡ opens_comment word.now }
+{
+    match word.as_bytes() {
+        [] => false,
+        [first, ..] => *first == b'#',
+    }
+}
