@@ -1,18 +1,17 @@
 -- What each event makes of the histories that a board may stand for: the events of clients.
-use Rattle.std.proofs.Common.{◌≡◌, ◌≢◌, ℕ, zero, suc, ◌+◌, ◌<◌, ◌≤◌, Bool, true, false, cond, not, ◌&&◌, ◌||◌, List, [], ◌∷◌, ◌++◌, map, take, length, set, get_or, sym, refl, ap, ◌∙◌, subst, Option, Some, None, eqb, arith, IsTrue, unsigned_abs, nat_lt, nat_le}
-use Rattle.std.specs.List.{flat_map, filter, list_any}
+use Rattle.std.proofs.Common.{◌≡◌, ℕ, zero, suc, ◌<◌, ◌≤◌, Bool, true, false, cond, not, ◌&&◌, ◌||◌, List, [], ◌∷◌, ◌++◌, length, set, get_or, sym, refl, ap, ◌∙◌, subst, None, eqb, arith, unsigned_abs, nat_lt, nat_le}
+use Rattle.std.specs.List.{filter, list_any}
 use Rattle.std.specs.Ordering.{int_eq}
-use Rattle.std.proofs.lemmas.Bool.{eqb-true, eq-eqb, ne_eqb, false≢true, true≢false}
+use Rattle.std.proofs.lemmas.Bool.{eqb-true, eq-eqb, false≢true, true≢false}
 use Rattle.std.proofs.lemmas.Bool.Decides.{Decides-int_eq, nat_tests}
 use Rattle.std.proofs.Common.{get_or-set_same, get_or-set_other}
-use Rattle.std.proofs.Math.IntN.{ℤ, pos}
+use Rattle.std.proofs.Math.IntN.{pos}
 use Rattle.lattice.specs.Frontiers.{is_beyond, all_beyond}
-use Rattle.update.specs.declared.change.Update.{Update}
 use Rattle.update.specs.declared.refusal.Refusal.{Refusal}
 use Rattle.update.specs.declared.refusal.Refusal.TheVariants.{WrongWidth, ZeroWeight, WeightTooLarge, TimePassed, NotForward, InputFull}
 use Rattle.plan.specs.Rules.{first_refusal}
 use Rattle.plan.specs.Widths.{width_of}
-use Rattle.plan.proofs.PlanLemmas.{no_first, no_fault}
+use Rattle.plan.proofs.PlanLemmas.{no_first}
 use Rattle.machine.specs.declared.event.Fed.{Fed}
 use Rattle.machine.specs.declared.event.Open.{Open}
 use Rattle.machine.specs.declared.event.Event.{Event}
@@ -33,7 +32,7 @@ open_any below i t [] = refl
 open_any below i t (o ∷ os) = step (eqb o.input i) (open_any below i t os)
   where
     step : (b : Bool) → is_beyond below (open_at i os) t ≡ list_any (λ o. eqb o.input i && below o.time t) os
-      → is_beyond below (cond b (o.time ∷ []) [] ++ open_at i os) t ≡ ((b && below o.time t) || list_any (λ o. eqb o.input i && below o.time t) os)
+        → is_beyond below (cond b (o.time ∷ []) [] ++ open_at i os) t ≡ ((b && below o.time t) || list_any (λ o. eqb o.input i && below o.time t) os)
     step true h = ap (λ z. below o.time t || z) h
     step false h = h
 
@@ -43,7 +42,7 @@ unfaulted true h = refl
 unfaulted false h = absurd (true≢false h)
 
 none_of_five : (a b c d e : Bool) (r s t u v : Refusal) → first_refusal ((a, r) ∷ (b, s) ∷ (c, t) ∷ (d, u) ∷ (e, v) ∷ []) ≡ None
-  → (a ≡ false) × (b ≡ false) × (c ≡ false) × (d ≡ false) × (e ≡ false)
+    → (a ≡ false) × (b ≡ false) × (c ≡ false) × (d ≡ false) × (e ≡ false)
 none_of_five a b c d e r s t u v h =
     let i = no_first a r ((b, s) ∷ (c, t) ∷ (d, u) ∷ (e, v) ∷ []) h in
     let j = no_first b s ((c, t) ∷ (d, u) ∷ (e, v) ∷ []) i.1 in
@@ -68,44 +67,46 @@ module _ {T : Type 0} (below : T → T → Bool) (minimum : T) where
     where
       small : (n : ℕ) → nat_le n 2147483647 ≡ true → n ≤ 2147483647
       small n h = grind (arith, nat_tests)
+
       room : (n : ℕ) → nat_lt n 1048576 ≡ true → n < 1048576
       room n h = grind (arith, nat_tests)
 
   pub stands_fed : (b : Shown T) → IsBoard b → (h : List (Event T)) (client : ℕ) (f : Fed T) → feed_refusal below b f ≡ None → IsInput b.dataflow f.input → Stands below minimum b h → Stands below minimum (fed client f b) (Feed client f ∷ h)
   stands_fed b board h client f e i s = record {
-      legal = (allowed_feed b h f e i s, s.legal);
-      in_flight = ap (λ z. z ++ record { place = Rattle.machine.specs.Shares.home b.dataflow f; updates = f.update ∷ [] } ∷ []) s.in_flight;
-      held = s.held;
-      openings = s.openings;
-      hand = s.hand;
-      accepted = λ j l. counted j l (eqb f.input j) refl;
-      since = s.since;
-      captured = s.captured;
-      last = refl;
-    }
+    legal = (allowed_feed b h f e i s, s.legal);
+    in_flight = ap (λ z. z ++ record { place = Rattle.machine.specs.Shares.home b.dataflow f; updates = f.update ∷ [] } ∷ []) s.in_flight;
+    held = s.held;
+    openings = s.openings;
+    hand = s.hand;
+    accepted = λ j l. counted j l (eqb f.input j) refl;
+    since = s.since;
+    captured = s.captured;
+    last = refl;
+  }
     where
       w : World T
       w = world below minimum b.dataflow h
+
       counted : (j : ℕ) → j < length b.dataflow.nodes → (c : Bool) → eqb f.input j ≡ c → get_or (set b.accepted f.input (suc (get_or b.accepted f.input 0))) j 0 ≡ length (cond c (f.update ∷ []) [] ++ fed_to j w.fed)
       counted j l true g =
           let m = eqb-true f.input j g in
           let n : f.input < length b.accepted = subst (λ z. f.input < z) (sym board.accepted) i.0 in
           subst (λ z. get_or (set b.accepted f.input (suc (get_or b.accepted f.input 0))) z 0 ≡ suc (length (fed_to z w.fed))) m
-            (get_or-set_same b.accepted f.input (suc (get_or b.accepted f.input 0)) 0 n ∙ ap suc (s.accepted f.input i.0))
+          (get_or-set_same b.accepted f.input (suc (get_or b.accepted f.input 0)) 0 n ∙ ap suc (s.accepted f.input i.0))
       counted j l false g = get_or-set_other b.accepted f.input j (suc (get_or b.accepted f.input 0)) 0 (λ m. false≢true (sym g ∙ eq-eqb f.input j (sym m))) ∙ s.accepted j l
 
   pub stands_advanced : (b : Shown T) (h : List (Event T)) (client i : ℕ) (ts : List T) → advance_refusal below b i ts ≡ None → IsInput b.dataflow i → Stands below minimum b h → Stands below minimum (advanced client i ts b) (Advance client i ts ∷ h)
   stands_advanced b h client i ts e n s = record {
-      legal = (record { input = n; onward = subst (λ os. all_beyond below (open_at i os) ts ≡ true) s.openings (unfaulted _ (no_first (not (all_beyond below (open_at i b.openings) ts)) NotForward [] e).0) }, s.legal);
-      in_flight = s.in_flight;
-      held = s.held;
-      openings = ap (λ z. Rattle.machine.specs.Histories.opening i ts ++ filter (λ o. not (eqb o.input i)) z) s.openings;
-      hand = s.hand;
-      accepted = s.accepted;
-      since = s.since;
-      captured = s.captured;
-      last = refl;
-    }
+    legal = (record { input = n; onward = subst (λ os. all_beyond below (open_at i os) ts ≡ true) s.openings (unfaulted _ (no_first (not (all_beyond below (open_at i b.openings) ts)) NotForward [] e).0) }, s.legal);
+    in_flight = s.in_flight;
+    held = s.held;
+    openings = ap (λ z. Rattle.machine.specs.Histories.opening i ts ++ filter (λ o. not (eqb o.input i)) z) s.openings;
+    hand = s.hand;
+    accepted = s.accepted;
+    since = s.since;
+    captured = s.captured;
+    last = refl;
+  }
 
   -- after a call that either did its event or looked
   pub on_both : {A E R : Type 0} (r : Result A E) (P Q : Type 0) → OnOk r P → OnErr r Q → (P → R) → (Q → R) → R
@@ -114,8 +115,16 @@ module _ {T : Type 0} (below : T → T → Bool) (minimum : T) where
 
   pub stands_looked : (b c : Shown T) (h : List (Event T)) (actor : ℕ) → c ≡ looked actor b → Stands below minimum b h → Stands below minimum c (c.last ∷ h)
   stands_looked b c h actor e s = subst (λ z. Stands below minimum z (z.last ∷ h)) (sym e) (record {
-      legal = (tt, s.legal); in_flight = s.in_flight; held = s.held; openings = s.openings; hand = s.hand; accepted = s.accepted; since = s.since; captured = s.captured; last = refl;
-    })
+    legal = (tt, s.legal);
+    in_flight = s.in_flight;
+    held = s.held;
+    openings = s.openings;
+    hand = s.hand;
+    accepted = s.accepted;
+    since = s.since;
+    captured = s.captured;
+    last = refl;
+  })
 
 -- what is the same at each place
 repeated : {A : Type 0} (n k : ℕ) (x d : A) → k < n → get_or (replicate n x) k d ≡ x
@@ -125,13 +134,16 @@ repeated (suc n) (suc k) x d l = repeated n k x d (omega arith)
 
 pub stands_first : {T : Type 0} (below : T → T → Bool) (minimum : T) (p : Dataflow) → Stands below minimum (first_board minimum p) []
 stands_first below minimum p = record {
-    legal = tt; in_flight = refl; held = refl; openings = refl;
-    hand = λ k l. repeated p.workers k None None l;
-    accepted = λ i l. repeated (length p.nodes) i 0 0 l;
-    since = λ v l. ap (λ z. z.since) (repeated (length p.nodes) v (record { since = minimum ∷ []; captured = [] }) no_view l);
-    captured = λ v l o t r. ap (λ z. count_of (as_of below t z.captured) r) (repeated (length p.nodes) v (record { since = minimum ∷ []; captured = [] }) no_view l);
-    last = tt;
-  }
+  legal = tt;
+  in_flight = refl;
+  held = refl;
+  openings = refl;
+  hand = λ k l. repeated p.workers k None None l;
+  accepted = λ i l. repeated (length p.nodes) i 0 0 l;
+  since = λ v l. ap (λ z. z.since) (repeated (length p.nodes) v (record { since = minimum ∷ []; captured = [] }) no_view l);
+  captured = λ v l o t r. ap (λ z. count_of (as_of below t z.captured) r) (repeated (length p.nodes) v (record { since = minimum ∷ []; captured = [] }) no_view l);
+  last = tt;
+}
 
 pub stands_opened : {T : Type 0} (below : T → T → Bool) (minimum : T) (p : Dataflow) (r : Result (Shown T) Refusal) → IfOk r (λ b. b ≡ first_board minimum p) → IfOk r (λ b. Stands below minimum b [])
 stands_opened below minimum p (Ok b) e = subst (λ z. Stands below minimum z []) (sym e) (stands_first below minimum p)

@@ -1,12 +1,11 @@
 -- The headline, by going down the plan: where nothing is in flight or held at a node and above it, what the node gave is
 -- the query.
-use Rattle.std.proofs.Common.{◌≡◌, ℕ, zero, suc, ◌+◌, ◌<◌, ◌≤◌, Bool, true, false, cond, not, ◌&&◌, ◌||◌, List, [], ◌∷◌, ◌++◌, map, take, length, sym, refl, ap, ◌∙◌, subst, Option, Some, None, eqb, arith, IsTrue, ◌⊎◌, inl, inr}
+use Rattle.std.proofs.Common.{◌≡◌, ℕ, zero, suc, ◌<◌, ◌≤◌, Bool, true, false, cond, List, [], ◌∷◌, ◌++◌, take, length, sym, refl, ap, ◌∙◌, subst, Option, Some, None, eqb, arith, IsTrue, ◌⊎◌, inl, inr}
 use Rattle.std.specs.List.{flat_map, filter, slice_get}
 use Rattle.std.proofs.lemmas.Bool.{true≢false, false≢true}
 use Rattle.std.proofs.lemmas.Int.{ints}
 use Rattle.std.proofs.lemmas.Option.{same_Some}
-use Rattle.std.proofs.Math.IntN.{ℤ, pos, ◌+ℤ◌, +ℤ_idl, +ℤ_idr}
-use Rattle.lattice.specs.Order.{PartialOrderLaws}
+use Rattle.std.proofs.Math.IntN.{ℤ, pos, ◌+ℤ◌, +ℤ_idr}
 use Rattle.lattice.specs.Frontiers.{is_beyond}
 use Rattle.row.specs.Routing.{column_sum}
 use Rattle.std.specs.Int.{int_rem_euclid}
@@ -145,7 +144,7 @@ module _ {T : Type 0} (leq : T → T → Bool) (p : Dataflow) (q : IsDataflow p)
   came_fed : (n k : ℕ) (r : List ℤ) → IsArrived leq w t n → source_of p n 0 ≡ None → count_of (recv n k 0) r ≡ sum_at leq t (flat_map (share_fed p (place n 0 k)) w.fed) r
   came_fed n k r c e =
       came n 0 k r c ∙ ap (λ z. sum_at leq t (z ++ flat_map (share_fed p (place n 0 k)) w.fed) r)
-        (ap (λ z. flat_map (share_from p z (arranged_by (node_of p n)) k) w.emitted) e ∙ shared_none leq t p (arranged_by (node_of p n)) k w.emitted)
+      (ap (λ z. flat_map (share_from p z (arranged_by (node_of p n)) k) w.emitted) e ∙ shared_none leq t p (arranged_by (node_of p n)) k w.emitted)
 
   module _ (n : ℕ) (arrived : IsArrived leq w t n) (below : (port s : ℕ) → source_of p n port ≡ Some s → IsClaim leq p w t (bag s) s) where
     abbrev key : ℕ
@@ -169,6 +168,7 @@ module _ {T : Type 0} (leq : T → T → Bool) (p : Dataflow) (q : IsDataflow p)
         none : (port : ℕ) → (port ≡ 0) ⊎ (port < length (sources (node_of p n))) → source_of p n port ≡ None → ⊥
         none port (inl z) h = true≢false (sym (first_source (node_of p n) (subst (λ i. source_of p n i ≡ None) z h)) ∙ e)
         none port (inr l) h = some_within (sources (node_of p n)) port l h
+
         port_alike : (port : ℕ) → (port ≡ 0) ⊎ (port < length (sources (node_of p n))) → (x : Option ℕ) → source_of p n port ≡ x → Alike (recv n k port) (filter (λ y. eqb (route p (take key y.row)) k) (handed (ins n) bag x))
         port_alike port l None h = absurd (none port l h)
         port_alike port l (Some s) h = λ r.
@@ -178,7 +178,7 @@ module _ {T : Type 0} (leq : T → T → Bool) (p : Dataflow) (q : IsDataflow p)
 
     -- and what it gave, where it holds no more, whatever the other workers hold there
     pub each_keyed : is_linear (node_of p n) ≡ false → (k : ℕ) → is_beyond leq (held_at n k w.held) t ≡ false → (r : List ℤ)
-      → sum_at leq t (emitted_by n k w.emitted) r ≡ cond (eqb (route p (take key r)) k) (count_of (bag n) r) (pos 0)
+        → sum_at leq t (emitted_by n k w.emitted) r ≡ cond (eqb (route p (take key r)) k) (count_of (bag n) r) (pos 0)
     each_keyed e k held r = kept.law n k t (is_passed _ held) r ∙ due e k r
 
     -- from what each worker gave, what all did
@@ -200,28 +200,33 @@ module _ {T : Type 0} (leq : T → T → Bool) (p : Dataflow) (q : IsDataflow p)
         where
           found : (s : ℕ) × (node_of p n ≡ Arrange s c)
           found = arranges (node_of p n) c e
+
           source : source_of p n 0 ≡ Some found.0
           source = ap (λ z. slice_get (sources z) 0) found.1
+
           identity : (b : ℕ → List Entry) → given_at p n b ≡ b 0
           identity b = ap (λ z. given key z b) found.1
+
           each : (k : ℕ) (r : List ℤ) → sum_at leq t (emitted_by n k w.emitted) r ≡ cond (eqb (route p (take c r)) k) (count_of (bag n) r) (pos 0)
           each k r =
               kept.law n k t (is_passed _ (held k)) r
               ∙ (ap (λ z. count_of z r) (identity (recv n k))
               ∙ (came_by_key n 0 found.0 k c r arrived source e
               ∙ ap (λ z. cond (eqb (route p (take c r)) k) z (pos 0))
-                  ((below 0 found.0 source).all r ∙ sym (ap (λ z. count_of z r) (bag_is ∙ (identity ports ∙ ap (handed (ins n) bag) source))))))
+              ((below 0 found.0 source).all r ∙ sym (ap (λ z. count_of z r) (bag_is ∙ (identity ports ∙ ap (handed (ins n) bag) source))))))
 
       along : is_linear (node_of p n) ≡ true → arranged_by (node_of p n) ≡ None → IsClaim leq p w t (bag n) n
       along e f = record { all = all; parts = λ c k s. absurd (two s) }
         where
           two : {x : ℕ} → arranged_by (node_of p n) ≡ Some x → ⊥
           two s = cc
+
           from_outside : source_of p n 0 ≡ None → (r : List ℤ) → count_of (gather p.workers (λ k. recv n k 0)) r ≡ count_of (ins n) r
           from_outside h r =
               total-gather p.workers (λ k. recv n k 0) r
               ∙ (over-same p.workers (λ k. count_of (recv n k 0) r) (λ k. sum_at leq t (flat_map (share_fed p (place n 0 k)) w.fed) r) (λ k l. came_fed n k r arrived h)
               ∙ over-fed leq t p (routed p q) n w.fed r)
+
           port_alike : (port : ℕ) → (port ≡ 0) ⊎ (port < length (sources (node_of p n))) → (x : Option ℕ) → source_of p n port ≡ x → Alike (gather p.workers (λ k. recv n k port)) (handed (ins n) bag x)
           port_alike port (inl z) None h = λ r. subst (λ x. source_of p n x ≡ None → count_of (gather p.workers (λ k. recv n k x)) r ≡ count_of (ins n) r) (sym z) (λ g. from_outside g r) h
           port_alike port (inr l) None h = absurd (some_within (sources (node_of p n)) port l h)
@@ -230,6 +235,7 @@ module _ {T : Type 0} (leq : T → T → Bool) (p : Dataflow) (q : IsDataflow p)
               ∙ (over-same p.workers (λ k. count_of (recv n k port) r) (λ k. sum_at leq t (emitted_by s k w.emitted) r) (λ k m. came_along n port s k r arrived h f)
               ∙ (over-emitted leq t s p.workers w.emitted r kept.workers
               ∙ (below port s h).all r))
+
           all : (r : List ℤ) → sum_at leq t (emitted_at n w.emitted) r ≡ count_of (bag n) r
           all r =
               sym (over-emitted leq t n p.workers w.emitted r kept.workers)
@@ -248,7 +254,7 @@ module _ {T : Type 0} (leq : T → T → Bool) (p : Dataflow) (q : IsDataflow p)
   claim = by_smaller (λ n. ((m : ℕ) → above p n m ≡ true → IsClear leq w t m) → IsClaim leq p w t (bag n) n) (λ n rest c.
       let here = c n (above_itself p.nodes q.plan n) in
       claim_step n here.arrived (λ port s e. rest s (source_smaller p.nodes q.plan n port s e) (λ m a. c m (above_from_source p.nodes q.plan m n port s e a)))
-        here.held (is_linear (node_of p n)) (arranged_by (node_of p n)) refl refl)
+      here.held (is_linear (node_of p n)) (arranged_by (node_of p n)) refl refl)
 
   module _ (n : ℕ) (arrived : IsArrived leq w t n) (others : (m : ℕ) → above p n m ≡ true → m < n → IsClear leq w t m) where
     sources_claim : (port s : ℕ) → source_of p n port ≡ Some s → IsClaim leq p w t (bag s) s

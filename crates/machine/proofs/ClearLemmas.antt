@@ -1,7 +1,7 @@
 -- What a passed frontier says of a node and its ancestors.
-use Rattle.std.proofs.Common.{◌≡◌, ℕ, zero, suc, ◌+◌, ◌<◌, ◌≤◌, Bool, true, false, cond, not, ◌&&◌, ◌||◌, List, [], ◌∷◌, ◌++◌, map, length, sym, refl, ap, ◌∙◌, subst, Option, Some, None, eqb, arith}
-use Rattle.std.specs.List.{flat_map, filter, slice_get, list_any}
-use Rattle.std.proofs.lemmas.Bool.{cases_Bool, eqb-false, false≢true, ne_eqb, and_parts, or_parts, or_from, or_left, or_right, eqb-true, eq-eqb}
+use Rattle.std.proofs.Common.{◌≡◌, ℕ, Bool, true, false, cond, not, ◌&&◌, ◌||◌, List, [], ◌∷◌, ◌++◌, sym, refl, ap, ◌∙◌, subst, eqb}
+use Rattle.std.specs.List.{flat_map}
+use Rattle.std.proofs.lemmas.Bool.{and_parts, or_parts, or_from, eqb-true}
 use Rattle.std.proofs.lemmas.List.Folds.{list_any-append}
 use Rattle.lattice.specs.Order.{PartialOrderLaws}
 use Rattle.lattice.specs.Frontiers.{is_beyond}
@@ -32,7 +32,7 @@ module _ {T : Type 0} (leq : T → T → Bool) (o : PartialOrderLaws leq) (t : T
   clear_flight [] h port k = refl
   clear_flight (q ∷ qs) h port k =
       let b = or_parts (is_beyond leq (cond (test q.place.node) (least leq (times q.updates)) []) t) (is_beyond leq (flat_map (λ q. cond (test q.place.node) (least leq (times q.updates)) []) qs) t)
-        (sym (list_any-append (λ f. leq f t) (cond (test q.place.node) (least leq (times q.updates)) []) (flat_map (λ q. cond (test q.place.node) (least leq (times q.updates)) []) qs)) ∙ h) in
+      (sym (list_any-append (λ f. leq f t) (cond (test q.place.node) (least leq (times q.updates)) []) (flat_map (λ q. cond (test q.place.node) (least leq (times q.updates)) []) qs)) ∙ h) in
       as_of-append leq t (cond (same_place q.place (place m port k)) q.updates []) (updates_at (place m port k) qs)
       ∙ rw (clear_flight qs b.1 port k, head (same_place q.place (place m port k)) refl b.0) refl
     where
@@ -47,7 +47,7 @@ module _ {T : Type 0} (leq : T → T → Bool) (o : PartialOrderLaws leq) (t : T
   clear_held [] h k = refl
   clear_held (x ∷ ms) h k =
       let b = or_parts (is_beyond leq (cond (test x.node) (x.time ∷ []) []) t) (is_beyond leq (flat_map (λ x. cond (test x.node) (x.time ∷ []) []) ms) t)
-        (sym (list_any-append (λ f. leq f t) (cond (test x.node) (x.time ∷ []) []) (flat_map (λ x. cond (test x.node) (x.time ∷ []) []) ms)) ∙ h) in
+      (sym (list_any-append (λ f. leq f t) (cond (test x.node) (x.time ∷ []) []) (flat_map (λ x. cond (test x.node) (x.time ∷ []) []) ms)) ∙ h) in
       list_any-append (λ f. leq f t) (cond (eqb x.node m && eqb x.worker k) (x.time ∷ []) []) (held_at m k ms)
       ∙ or_from (is_beyond leq (cond (eqb x.node m && eqb x.worker k) (x.time ∷ []) []) t) (is_beyond leq (held_at m k ms) t) (head (eqb x.node m && eqb x.worker k) refl b.0) (clear_held ms b.1 k)
     where
@@ -61,7 +61,7 @@ module _ {T : Type 0} (leq : T → T → Bool) (o : PartialOrderLaws leq) (t : T
 module _ {T : Type 0} (leq : T → T → Bool) (o : PartialOrderLaws leq) (t : T) (there holding : ℕ → Bool) (w : World T) where
   -- what is counted, in its three parts
   pub counted_parts : is_beyond leq (counted leq w there holding) t ≡ false
-    → (is_beyond leq (stamps leq (λ site. there site.node) w.in_flight) t ≡ false) × (is_beyond leq (held_where holding w.held) t ≡ false) × (is_beyond leq (open_where there w.openings) t ≡ false)
+      → (is_beyond leq (stamps leq (λ site. there site.node) w.in_flight) t ≡ false) × (is_beyond leq (held_where holding w.held) t ≡ false) × (is_beyond leq (open_where there w.openings) t ≡ false)
   counted_parts h =
       let a = stamps leq (λ site. there site.node) w.in_flight in
       let b = held_where holding w.held in
@@ -89,7 +89,7 @@ module _ {T : Type 0} (leq : T → T → Bool) (o : PartialOrderLaws leq) (t : T
   no_bundle there [] h = refl
   no_bundle there (b ∷ qs) h =
       let g = or_parts (is_beyond leq (cond (there b.place.node) (stamp leq b.updates) []) t) (is_beyond leq (stamps leq (λ site. there site.node) qs) t)
-        (sym (list_any-append (λ f. leq f t) (cond (there b.place.node) (stamp leq b.updates) []) (stamps leq (λ site. there site.node) qs)) ∙ h) in
+      (sym (list_any-append (λ f. leq f t) (cond (there b.place.node) (stamp leq b.updates) []) (stamps leq (λ site. there site.node) qs)) ∙ h) in
       and_from (not (there b.place.node) || list_all (λ u. not (leq u.time t)) b.updates) (list_all (λ b. not (there b.place.node) || list_all (λ u. not (leq u.time t)) b.updates) qs) (one (there b.place.node) g.0) (no_bundle there qs g.1)
     where
       one : (c : Bool) → is_beyond leq (cond c (stamp leq b.updates) []) t ≡ false → (not c || list_all (λ u. not (leq u.time t)) b.updates) ≡ true
@@ -101,7 +101,7 @@ module _ {T : Type 0} (leq : T → T → Bool) (o : PartialOrderLaws leq) (t : T
   none_of there time [] h = refl
   none_of {X} there time (x ∷ xs) h =
       let g = or_parts (is_beyond leq (cond (there x) (time x ∷ []) []) t) (is_beyond leq (flat_map (λ x. cond (there x) (time x ∷ []) []) xs) t)
-        (sym (list_any-append (λ f. leq f t) (cond (there x) (time x ∷ []) []) (flat_map (λ x. cond (there x) (time x ∷ []) []) xs)) ∙ h) in
+      (sym (list_any-append (λ f. leq f t) (cond (there x) (time x ∷ []) []) (flat_map (λ x. cond (there x) (time x ∷ []) []) xs)) ∙ h) in
       and_from (not (there x && leq (time x) t)) (list_all (λ x. not (there x && leq (time x) t)) xs) (one (there x) g.0) (none_of there time xs g.1)
     where
       one : (c : Bool) → is_beyond leq (cond c (time x ∷ []) []) t ≡ false → not (c && leq (time x) t) ≡ true

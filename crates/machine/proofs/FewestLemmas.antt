@@ -1,10 +1,10 @@
 -- A list with one update for each row and time has the least absolute diffs of all lists with its sums.
-use Rattle.update.proofs.ConsolidatedLemmas.{weight, weight_is}
-use Rattle.std.proofs.Common.{◌≡◌, ℕ, zero, suc, ◌+◌, ◌<◌, ◌≤◌, Bool, true, false, cond, not, ◌&&◌, ◌||◌, List, [], ◌∷◌, ◌++◌, map, length, sym, refl, ap, ◌∙◌, subst, arith, unsigned_abs}
-use Rattle.std.specs.List.{filter, list_any}
+use Rattle.update.proofs.ConsolidatedLemmas.{weight}
+use Rattle.std.proofs.Common.{◌≡◌, ℕ, ◌+◌, ◌≤◌, Bool, true, false, cond, ◌&&◌, ◌||◌, List, [], ◌∷◌, sym, refl, ◌∙◌, subst, arith, unsigned_abs}
+use Rattle.std.specs.List.{list_any}
 use Rattle.std.proofs.lemmas.Int.{ints}
 use Rattle.std.proofs.lemmas.Bool.{and_parts, and_from, or_parts, false≢true}
-use Rattle.std.proofs.Math.IntN.{ℤ, pos, negsuc, ◌+ℤ◌, +ℤ_idl, +ℤ_idr}
+use Rattle.std.proofs.Math.IntN.{ℤ, pos, ◌+ℤ◌, +ℤ_idl, +ℤ_idr}
 use Rattle.lattice.specs.Order.{PartialOrderLaws}
 use Rattle.lattice.specs.Frontiers.{is_beyond}
 use Rattle.update.specs.Bags.{count_of, same_row}
@@ -110,6 +110,7 @@ module _ {T : Type 0} (leq : T → T → Bool) (o : PartialOrderLaws leq) where
       absolute_of : (b : Bool) → unsigned_abs (cond b v.diff (pos 0)) ≡ cond b (unsigned_abs v.diff) 0
       absolute_of true = refl
       absolute_of false = refl
+
       each : (u : Update T) → counted (v ∷ vs) u ≤ cond (meets v u) (unsigned_abs v.diff) 0 + counted vs u
       each u =
           let c = total_at leq u.row u.time vs in
@@ -136,8 +137,10 @@ module _ {T : Type 0} (leq : T → T → Bool) (o : PartialOrderLaws leq) where
     where
       self : meets u u ≡ true
       self = and_from (leq u.time u.time && leq u.time u.time) (same_row u.row u.row) (and_from (leq u.time u.time) (leq u.time u.time) (o.reflexive u.time) (o.reflexive u.time)) (row_itself u.row)
+
       first : counted (u ∷ us) u ≡ unsigned_abs u.diff
       first = rw (shown u u, self, count_none u us a.0, +ℤ_idr u.diff) refl
+
       rest : (xs : List (Update T)) → list_any (meets u) xs ≡ false → sum_of (counted (u ∷ us)) xs ≡ sum_of (counted us) xs
       rest [] k = refl
       rest (x ∷ xs) k =

@@ -1,12 +1,11 @@
 -- What one event changes: sums at a time, of what is at a site, and of what was to come there.
-use Rattle.std.proofs.Common.{◌≡◌, ℕ, zero, suc, ◌+◌, ◌<◌, ◌≤◌, Bool, true, false, cond, not, ◌&&◌, ◌||◌, List, [], ◌∷◌, ◌++◌, map, length, sym, refl, ap, ◌∙◌, subst, Option, Some, None, eqb, arith, append_assoc}
-use Rattle.std.specs.List.{flat_map, filter, slice_get, list_any}
+use Rattle.std.proofs.Common.{◌≡◌, ℕ, zero, suc, Bool, true, false, cond, not, ◌&&◌, List, [], ◌∷◌, ◌++◌, map, sym, refl, ap, ◌∙◌, Some, eqb, arith}
+use Rattle.std.specs.List.{filter, slice_get}
 use Rattle.std.proofs.lemmas.Int.{ints}
-use Rattle.std.proofs.lemmas.Bool.{and_parts, or_parts, or_from, or_right, eqb-true, cases_Bool, false_from_ne_true, false≢true}
+use Rattle.std.proofs.lemmas.Bool.{and_parts, eqb-true, false≢true}
 use Rattle.std.proofs.lemmas.Option.{same_Some}
 use Rattle.std.proofs.lemmas.List.Concat.{flat_map-append}
-use Rattle.std.proofs.lemmas.List.Folds.{list_any-append}
-use Rattle.std.proofs.Math.IntN.{ℤ, pos, ◌+ℤ◌, +ℤ_idl, +ℤ_idr}
+use Rattle.std.proofs.Math.IntN.{ℤ, pos, ◌+ℤ◌, +ℤ_idl}
 use Rattle.lattice.specs.Order.{PartialOrderLaws}
 use Rattle.lattice.specs.Frontiers.{is_beyond}
 use Rattle.antichain.specs.Antichains.{least}
@@ -15,7 +14,6 @@ use Rattle.update.specs.Updates.{as_of, entry}
 use Rattle.update.specs.declared.change.Update.{Update}
 use Rattle.machine.specs.declared.event.Place.{Place}
 use Rattle.machine.specs.declared.event.Bundle.{Bundle}
-use Rattle.machine.specs.Dataflows.{above}
 use Rattle.machine.specs.Worlds.{same_place, updates_at, queue}
 use Rattle.machine.specs.Histories.{without}
 use Rattle.update.proofs.SumLemmas.{total_by-append}
@@ -64,34 +62,33 @@ through_is {T} leq r t (u ∷ us) = step (leq u.time t) (through_is leq r t us)
     step false h = h ∙ sym (+ℤ_idl (total_by (λ u. cond (leq u.time t) (value r u) (pos 0)) us))
 
 module _ {T : Type 0} (f : Update T → ℤ) where
-  pub measure_place-append : (site : Place) (xs ys : List (Bundle T))  → total_by f (updates_at site (xs ++ ys)) ≡ total_by f (updates_at site xs) +ℤ total_by f (updates_at site ys)
+  pub measure_place-append : (site : Place) (xs ys : List (Bundle T)) → total_by f (updates_at site (xs ++ ys)) ≡ total_by f (updates_at site xs) +ℤ total_by f (updates_at site ys)
   measure_place-append site xs ys = rw (flat_map-append (λ (q : Bundle T). cond (same_place q.place site) q.updates []) xs ys) (total_by-append f (updates_at site xs) (updates_at site ys))
 
-  past : (x a c : List (Update T)) (b : ℤ)  → total_by f a ≡ b +ℤ total_by f c → total_by f (x ++ a) ≡ b +ℤ total_by f (x ++ c)
+  past : (x a c : List (Update T)) (b : ℤ) → total_by f a ≡ b +ℤ total_by f c → total_by f (x ++ a) ≡ b +ℤ total_by f (x ++ c)
   past x a c b h = rw (total_by-append f x a, total_by-append f x c, h) (swap_first (total_by f x) b (total_by f c))
     where
       swap_first : (x y z : ℤ) → x +ℤ (y +ℤ z) ≡ y +ℤ (x +ℤ z)
       swap_first x y z = omega (arith, ints)
 
   -- what is taken from a site is no longer there, and each other site is as it was
-  pub taken : (site : Place) (qs : List (Bundle T)) (j : ℕ) (us : List (Update T)) → slice_get (queue site qs) j ≡ Some us → (other : Place)  → total_by f (updates_at other qs) ≡ total_by f (cond (same_place site other) us []) +ℤ total_by f (updates_at other (without site qs j))
+  pub taken : (site : Place) (qs : List (Bundle T)) (j : ℕ) (us : List (Update T)) → slice_get (queue site qs) j ≡ Some us → (other : Place) → total_by f (updates_at other qs) ≡ total_by f (cond (same_place site other) us []) +ℤ total_by f (updates_at other (without site qs j))
   taken site [] j us h other = cc
   taken site (q ∷ qs) zero us h other = step (same_place q.place site) refl h (taken site qs zero us)
     where
       step : (b : Bool) → same_place q.place site ≡ b → slice_get (cond b (q.updates ∷ []) [] ++ queue site qs) zero ≡ Some us
-        → (slice_get (queue site qs) zero ≡ Some us → (other : Place)  → total_by f (updates_at other qs) ≡ total_by f (cond (same_place site other) us []) +ℤ total_by f (updates_at other (without site qs zero)))
-        → total_by f (updates_at other (q ∷ qs)) ≡ total_by f (cond (same_place site other) us []) +ℤ total_by f (updates_at other (cond b qs (q ∷ without site qs zero)))
+          → (slice_get (queue site qs) zero ≡ Some us → (other : Place) → total_by f (updates_at other qs) ≡ total_by f (cond (same_place site other) us []) +ℤ total_by f (updates_at other (without site qs zero)))
+          → total_by f (updates_at other (q ∷ qs)) ≡ total_by f (cond (same_place site other) us []) +ℤ total_by f (updates_at other (cond b qs (q ∷ without site qs zero)))
       step true s e ih = rw (place_same q.place site s, same_Some q.updates us e) (total_by-append f (cond (same_place site other) us []) (updates_at other qs))
       step false s e ih = past (cond (same_place q.place other) q.updates []) (updates_at other qs) (updates_at other (without site qs zero)) (total_by f (cond (same_place site other) us [])) (ih e other)
   taken site (q ∷ qs) (suc j) us h other = step (same_place q.place site) h (taken site qs j us) (taken site qs (suc j) us)
     where
       step : (b : Bool) → slice_get (cond b (q.updates ∷ []) [] ++ queue site qs) (suc j) ≡ Some us
-        → (slice_get (queue site qs) j ≡ Some us → (other : Place)  → total_by f (updates_at other qs) ≡ total_by f (cond (same_place site other) us []) +ℤ total_by f (updates_at other (without site qs j)))
-        → (slice_get (queue site qs) (suc j) ≡ Some us → (other : Place)  → total_by f (updates_at other qs) ≡ total_by f (cond (same_place site other) us []) +ℤ total_by f (updates_at other (without site qs (suc j))))
-        → total_by f (updates_at other (q ∷ qs)) ≡ total_by f (cond (same_place site other) us []) +ℤ total_by f (updates_at other (q ∷ cond b (without site qs j) (without site qs (suc j))))
+          → (slice_get (queue site qs) j ≡ Some us → (other : Place) → total_by f (updates_at other qs) ≡ total_by f (cond (same_place site other) us []) +ℤ total_by f (updates_at other (without site qs j)))
+          → (slice_get (queue site qs) (suc j) ≡ Some us → (other : Place) → total_by f (updates_at other qs) ≡ total_by f (cond (same_place site other) us []) +ℤ total_by f (updates_at other (without site qs (suc j))))
+          → total_by f (updates_at other (q ∷ qs)) ≡ total_by f (cond (same_place site other) us []) +ℤ total_by f (updates_at other (q ∷ cond b (without site qs j) (without site qs (suc j))))
       step true e ih jh = past (cond (same_place q.place other) q.updates []) (updates_at other qs) (updates_at other (without site qs j)) (total_by f (cond (same_place site other) us [])) (ih e other)
       step false e ih jh = past (cond (same_place q.place other) q.updates []) (updates_at other qs) (updates_at other (without site qs (suc j))) (total_by f (cond (same_place site other) us [])) (jh e other)
-
 
 -- What the least elements have passed, all have
 

@@ -1,24 +1,22 @@
 -- The headline and what follows from it, from the lemmas of claims.
-use Rattle.std.proofs.Common.{◌≡◌, ℕ, ◌+◌, ◌<◌, ◌≤◌, Bool, true, false, cond, not, ◌&&◌, List, [], ◌∷◌, ◌++◌, take, refl, sym, ap, ◌∙◌, eqb, arith, IsTrue}
+use Rattle.std.proofs.Common.{◌≡◌, ℕ, ◌<◌, Bool, true, false, cond, not, List, [], ◌∷◌, ◌++◌, take, sym, ap, ◌∙◌, eqb, arith, IsTrue}
 use Rattle.std.proofs.Math.IntN.{ℤ, pos}
 use Rattle.std.proofs.lemmas.Bool.{and_from, ne_eqb}
-use Rattle.std.specs.List.{list_all}
 use Rattle.std.specs.declared.cmp.Ordering.{Ordering}
 use Rattle.lattice.specs.Order.{PartialOrderLaws}
 use Rattle.lattice.specs.Frontiers.{is_beyond}
 use Rattle.update.specs.Bags.{count_of, Alike}
 use Rattle.plan.proofs.QueryLemmas.{query_alike}
-use Rattle.update.specs.Updates.{as_of, total_at, IsConsolidated}
-use Rattle.update.specs.declared.change.Update.{Update}
+use Rattle.update.specs.Updates.{as_of}
 use Rattle.update.proofs.UniqueLemmas.{same_totals}
-use Rattle.plan.specs.Changes.{has_passed, query_at, AreDifferences}
+use Rattle.plan.specs.Changes.{has_passed, query_at}
 use Rattle.plan.specs.Nodes.{key_width}
 use Rattle.plan.specs.Operators.{is_linear}
-use Rattle.plan.proofs.StandLemmas.{above_itself, above_earlier}
+use Rattle.plan.proofs.StandLemmas.{above_itself}
 use Rattle.plan.proofs.WeighLemmas.{count_of-filter}
 use Rattle.machine.specs.declared.event.Event.{Event}
 use Rattle.machine.specs.Dataflows.{Dataflow, IsDataflow, node_of, given_at, above, route}
-use Rattle.machine.specs.Worlds.{World, emitted_at, held_at}
+use Rattle.machine.specs.Worlds.{World, emitted_at}
 use Rattle.machine.specs.NodeLaws.{received_at}
 use Rattle.machine.specs.Outstanding.{outstanding, counted, frontier, strictly_above, input_frontier, port_frontier}
 use Rattle.machine.specs.Histories.{IsLegal, world}
@@ -41,9 +39,9 @@ module _ {T : Type 0} (leq : T → T → Bool) (minimum : T) (o : PartialOrderLa
 
     pub differences_lem : (cmp : T → T → Ordering) → MeetsDifferences leq p w n cmp
     differences_lem cmp = record {
-        into = λ us c a f. record { consolidated = c; passed = a; sums = λ t e row. f t e row ∙ headline_lem t e row };
-        back = λ us d. same_totals o (λ s. has_passed leq (frontier leq p w n) s) us (emitted_at n w.emitted) (λ s u k a. is_passed _ (passed_down leq o (frontier leq p w n) s u k (not_beyond _ a))) (λ s f r. d.sums s f r ∙ sym (headline_lem s f r))
-      }
+      into = λ us c a f. record { consolidated = c; passed = a; sums = λ t e row. f t e row ∙ headline_lem t e row };
+      back = λ us d. same_totals o (λ s. has_passed leq (frontier leq p w n) s) us (emitted_at n w.emitted) (λ s u k a. is_passed _ (passed_down leq o (frontier leq p w n) s u k (not_beyond _ a))) (λ s f r. d.sums s f r ∙ sym (headline_lem s f r));
+    }
 
     arrived : (t : T) → is_beyond leq (input_frontier leq p w n) t ≡ false → IsArrived leq w t n
     arrived t f = arrived_passed leq o t (above p n) (strictly_above p n) w (passed-least leq o (counted leq w (above p n) (strictly_above p n)) t f) n (above_itself p.nodes q.plan n)
@@ -57,7 +55,7 @@ module _ {T : Type 0} (leq : T → T → Bool) (minimum : T) (o : PartialOrderLa
         ∙ sym (count_of-filter (λ x. eqb (route p (take (key_width p.nodes (node_of p n)) x)) k) (query_at leq p.nodes (changes_in w) n t) r)
 
     pub due_lem : is_linear (node_of p n) ≡ false → (k : ℕ) (t : T) → is_beyond leq (input_frontier leq p w n) t ≡ false → (r : List ℤ)
-      → count_of (given_at p n (λ port. as_of leq t (received_at w n k port))) r ≡ cond (eqb (route p (take (key_width p.nodes (node_of p n)) r)) k) (count_of (query_at leq p.nodes (changes_in w) n t) r) (pos 0)
+        → count_of (given_at p n (λ port. as_of leq t (received_at w n k port))) r ≡ cond (eqb (route p (take (key_width p.nodes (node_of p n)) r)) k) (count_of (query_at leq p.nodes (changes_in w) n t) r) (pos 0)
     due_lem e k t f r = due_claim leq p q w (kept_world leq o p minimum h l) t n (arrived t f) (others t f) e k r
 
   module _ (h later : List (Event T)) where
@@ -84,10 +82,10 @@ module _ {T : Type 0} (leq : T → T → Bool) (minimum : T) (o : PartialOrderLa
 
 -- two histories of one plan with alike changes agree at what both have passed
 pub agree_lem : {T : Type 0} (leq : T → T → Bool) (minimum : T) → PartialOrderLaws leq → (p q : Dataflow) → IsDataflow p → IsDataflow q → q.nodes ≡ p.nodes
-  → (h k : List (Event T)) → IsLegal leq minimum p h → IsLegal leq minimum q k
-  → ((input : ℕ) (t : T) → Alike (as_of leq t (changes_in (world leq minimum p h) input)) (as_of leq t (changes_in (world leq minimum q k) input)))
-  → (n : ℕ) (t : T) → IsTrue (has_passed leq (frontier leq p (world leq minimum p h) n) t) → IsTrue (has_passed leq (frontier leq q (world leq minimum q k) n) t)
-  → Alike (as_of leq t (emitted_at n (world leq minimum p h).emitted)) (as_of leq t (emitted_at n (world leq minimum q k).emitted))
+    → (h k : List (Event T)) → IsLegal leq minimum p h → IsLegal leq minimum q k
+    → ((input : ℕ) (t : T) → Alike (as_of leq t (changes_in (world leq minimum p h) input)) (as_of leq t (changes_in (world leq minimum q k) input)))
+    → (n : ℕ) (t : T) → IsTrue (has_passed leq (frontier leq p (world leq minimum p h) n) t) → IsTrue (has_passed leq (frontier leq q (world leq minimum q k) n) t)
+    → Alike (as_of leq t (emitted_at n (world leq minimum p h).emitted)) (as_of leq t (emitted_at n (world leq minimum q k).emitted))
 agree_lem leq minimum o p q a b same h k l m alike n t f g r =
     headline_lem leq minimum o p a h l n t f r
     ∙ (query_alike p.nodes (λ i. as_of leq t (changes_in (world leq minimum p h) i)) (λ i. as_of leq t (changes_in (world leq minimum q k) i)) (λ i. alike i t) n r

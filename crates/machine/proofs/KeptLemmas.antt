@@ -1,11 +1,11 @@
 -- What each event keeps: what came to a site is there or was received; each node meets its law.
-use Rattle.std.proofs.Common.{◌≡◌, ℕ, zero, suc, ◌+◌, ◌<◌, ◌≤◌, Bool, true, false, cond, not, ◌&&◌, ◌||◌, List, [], ◌∷◌, ◌++◌, map, length, sym, refl, ap, ◌∙◌, subst, Option, Some, None, eqb, arith, append_assoc, IsTrue}
-use Rattle.std.specs.List.{flat_map, filter, slice_get, list_any}
+use Rattle.std.proofs.Common.{◌≡◌, ℕ, ◌<◌, Bool, true, false, cond, not, ◌&&◌, List, [], ◌∷◌, ◌++◌, sym, refl, ap, ◌∙◌, subst, Some, eqb, arith, IsTrue}
+use Rattle.std.specs.List.{flat_map, filter, slice_get}
 use Rattle.std.proofs.lemmas.Int.{ints}
-use Rattle.std.proofs.lemmas.Bool.{and_parts, and_from, and_cases, or_parts, or_from, or_right, eqb-true, eq-eqb, cases_Bool, false_from_ne_true, false≢true}
+use Rattle.std.proofs.lemmas.Bool.{and_parts, and_from, or_parts, eqb-true}
 use Rattle.std.proofs.lemmas.List.Concat.{flat_map-append}
 use Rattle.std.proofs.lemmas.List.Folds.{list_any-append}
-use Rattle.std.proofs.Math.IntN.{ℤ, pos, ◌+ℤ◌, +ℤ_idl, +ℤ_idr}
+use Rattle.std.proofs.Math.IntN.{ℤ, pos, ◌+ℤ◌}
 use mathlib.Core.Path.{fun_ext}
 use Rattle.lattice.specs.Order.{PartialOrderLaws}
 use Rattle.lattice.specs.Frontiers.{is_beyond}
@@ -23,11 +23,10 @@ use Rattle.machine.specs.declared.event.Event.TheVariants.{Feed, Advance, Allow,
 use Rattle.machine.specs.Dataflows.{Dataflow, node_of, given_at}
 use Rattle.machine.specs.Worlds.{World, place, same_place, times, updates_at, queue, emitted_by, held_at}
 use Rattle.machine.specs.Shares.{home, share, share_fed}
-use Rattle.machine.specs.Outstanding.{stamp}
 use Rattle.machine.specs.NodeLaws.{NodeLaw}
 use Rattle.machine.specs.Histories.{without, holding, first_world, took, gave, after, IsGive, IsAllowed, world, IsLegal}
 use Rattle.update.proofs.SumLemmas.{total_by-append}
-use Rattle.machine.proofs.FlowLemmas.{sum_at, as_of-append, sum_at-append, measure_place-append, taken, place_same, passed-least, is_passed, not_beyond}
+use Rattle.machine.proofs.FlowLemmas.{as_of-append, measure_place-append, taken, passed-least, is_passed, not_beyond}
 use Rattle.plan.proofs.OperatorLemmas.{given_nothing}
 use Rattle.plan.specs.Ancestors.{is_input}
 use Rattle.plan.specs.Nodes.{key_width}
@@ -70,7 +69,7 @@ held_kept n k a b [] h = refl
 held_kept {T} n k a b (m ∷ ms) h = step (eqb m.node a && eqb m.worker b) refl (held_kept n k a b ms h)
   where
     step : (c : Bool) → (eqb m.node a && eqb m.worker b) ≡ c → held_at n k (filter (λ m. not (eqb m.node a && eqb m.worker b)) ms) ≡ held_at n k ms
-      → held_at n k (cond (not c) (m ∷ filter (λ m. not (eqb m.node a && eqb m.worker b)) ms) (filter (λ m. not (eqb m.node a && eqb m.worker b)) ms)) ≡ held_at n k (m ∷ ms)
+        → held_at n k (cond (not c) (m ∷ filter (λ m. not (eqb m.node a && eqb m.worker b)) ms) (filter (λ m. not (eqb m.node a && eqb m.worker b)) ms)) ≡ held_at n k (m ∷ ms)
     step true e ih =
         let q = and_parts (eqb m.node a) (eqb m.worker b) e in
         rw (eqb-true m.node a q.0, eqb-true m.worker b q.1, h) ih
@@ -89,7 +88,7 @@ module _ {T : Type 0} (leq : T → T → Bool) (o : PartialOrderLaws leq) (p : D
   held_parts : (n k : ℕ) (xs ys : List (Held T)) (t : T) → is_beyond leq (held_at n k (xs ++ ys)) t ≡ false → (is_beyond leq (held_at n k xs) t ≡ false) × (is_beyond leq (held_at n k ys) t ≡ false)
   held_parts n k xs ys t h =
       or_parts (is_beyond leq (held_at n k xs) t) (is_beyond leq (held_at n k ys) t)
-        (sym (list_any-append (λ f. leq f t) (held_at n k xs) (held_at n k ys)) ∙ (ap (λ z. is_beyond leq z t) (sym (flat_map-append (λ (m : Held T). cond (eqb m.node n && eqb m.worker k) (m.time ∷ []) []) xs ys)) ∙ h))
+      (sym (list_any-append (λ f. leq f t) (held_at n k xs) (held_at n k ys)) ∙ (ap (λ z. is_beyond leq z t) (sym (flat_map-append (λ (m : Held T). cond (eqb m.node n && eqb m.worker k) (m.time ∷ []) []) xs ys)) ∙ h))
 
   -- at a time that the stamp has passed, a bundle is nothing at any site
   not_there : (site : Place) (us : List (Update T)) (n m port : ℕ) (t : T) → is_beyond leq (held_at n m (holding site.node site.worker (least leq (times us)))) t ≡ false → as_of leq t (cond (same_place site (place n port m)) us []) ≡ []
@@ -112,27 +111,31 @@ module _ {T : Type 0} (leq : T → T → Bool) (o : PartialOrderLaws leq) (p : D
           let es = flat_map (share p site) w.emitted in
           let fs = flat_map (share_fed p site) w.fed in
           let before = k.conserved site v ∙ total_by-append v es fs in
-          rw (measure_place-append v site w.in_flight (parcel ∷ []),
-              total_by-append v (share_fed p site f) [],
-              total_by-append v es (share_fed p site f ++ fs),
-              total_by-append v (share_fed p site f) fs)
-            (feed_sum (total_by v (updates_at site w.received)) (total_by v (updates_at site w.in_flight)) (total_by v (share_fed p site f)) (total_by v es) (total_by v fs) before)
+          rw (
+            measure_place-append v site w.in_flight (parcel ∷ []),
+            total_by-append v (share_fed p site f) [],
+            total_by-append v es (share_fed p site f ++ fs),
+            total_by-append v (share_fed p site f) fs,
+          )
+          (feed_sum (total_by v (updates_at site w.received)) (total_by v (updates_at site w.in_flight)) (total_by v (share_fed p site f)) (total_by v es) (total_by v fs) before)
 
   kept_took : (w : World T) (site : Place) (j : ℕ) (us : List (Update T)) → slice_get (queue site w.in_flight) j ≡ Some us → IsKept leq p w → IsKept leq p (took leq p w site j us)
   kept_took w site j us e k = record { conserved = conserved; law = law; workers = k.workers; inputs = k.inputs }
     where
       parcel : Bundle T
       parcel = record { place = site; updates = us }
+
       conserved : (other : Place) (v : Update T → ℤ) → total_by v (updates_at other (record { place = site; updates = us } ∷ w.received)) +ℤ total_by v (updates_at other (without site w.in_flight j)) ≡ total_by v (coming p other w.emitted w.fed)
       conserved other v =
           rw (total_by-append v (cond (same_place site other) us []) (updates_at other w.received))
-            (take_sum (total_by v (updates_at other w.received)) (total_by v (updates_at other w.in_flight)) (total_by v (cond (same_place site other) us [])) (total_by v (updates_at other (without site w.in_flight j))) (total_by v (coming p other w.emitted w.fed))
-              (k.conserved other v) (taken v site w.in_flight j us e other))
+          (take_sum (total_by v (updates_at other w.received)) (total_by v (updates_at other w.in_flight)) (total_by v (cond (same_place site other) us [])) (total_by v (updates_at other (without site w.in_flight j))) (total_by v (coming p other w.emitted w.fed))
+          (k.conserved other v) (taken v site w.in_flight j us e other))
+
       law : (n m : ℕ) → NodeLaw leq p (took leq p w site j us) n m
       law n m t h r =
           let hp = held_parts n m (holding site.node site.worker (least leq (times us))) w.held t (not_beyond _ h) in
           let same : (port : ℕ) → as_of leq t (updates_at (place n port m) w.received) ≡ as_of leq t (updates_at (place n port m) (record { place = site; updates = us } ∷ w.received)) =
-            λ port. sym (as_of-append leq t (cond (same_place site (place n port m)) us []) (updates_at (place n port m) w.received) ∙ ap (λ z. z ++ as_of leq t (updates_at (place n port m) w.received)) (not_there site us n m port t hp.0)) in
+          λ port. sym (as_of-append leq t (cond (same_place site (place n port m)) us []) (updates_at (place n port m) w.received) ∙ ap (λ z. z ++ as_of leq t (updates_at (place n port m) w.received)) (not_there site us n m port t hp.0)) in
           k.law n m t (is_passed _ hp.1) r ∙ ap (λ z. count_of (given_at p n z) r) (fun_ext same)
 
   kept_gave : (w : World T) (g : Emission T) (held : List T) (sent : List (Bundle T)) → IsGive leq p w g held sent → IsKept leq p w → IsKept leq p (gave leq p w g held sent)
@@ -143,11 +146,14 @@ module _ {T : Type 0} (leq : T → T → Bool) (o : PartialOrderLaws leq) (p : D
           let es = flat_map (share p site) w.emitted in
           let fs = flat_map (share_fed p site) w.fed in
           let before = k.conserved site v ∙ total_by-append v es fs in
-          rw (measure_place-append v site w.in_flight sent,
-              a.whole site,
-              total_by-append v (share p site g ++ es) fs,
-              total_by-append v (share p site g) es)
-            (give_sum (total_by v (updates_at site w.received)) (total_by v (updates_at site w.in_flight)) (total_by v (share p site g)) (total_by v es) (total_by v fs) before)
+          rw (
+            measure_place-append v site w.in_flight sent,
+            a.whole site,
+            total_by-append v (share p site g ++ es) fs,
+            total_by-append v (share p site g) es,
+          )
+          (give_sum (total_by v (updates_at site w.received)) (total_by v (updates_at site w.in_flight)) (total_by v (share p site g)) (total_by v es) (total_by v fs) before)
+
       law : (n m : ℕ) → NodeLaw leq p (gave leq p w g held sent) n m
       law n m = step (eqb g.node n && eqb g.worker m) refl
         where

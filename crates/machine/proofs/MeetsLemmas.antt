@@ -1,7 +1,6 @@
 -- What holds of a board, from what holds of the histories that it may stand for.
-use Rattle.std.proofs.Common.{◌≡◌, ℕ, Bool, not, List, ap, sym, ◌∙◌, IsTrue}
+use Rattle.std.proofs.Common.{Bool, not, List, ap, sym, ◌∙◌}
 use Rattle.lattice.specs.Order.{PartialOrderLaws}
-use Rattle.lattice.specs.Frontiers.{is_beyond}
 use Rattle.machine.specs.declared.event.Event.{Event}
 use Rattle.machine.specs.Dataflows.{Dataflow, IsDataflow}
 use Rattle.machine.specs.Outstanding.{frontier}

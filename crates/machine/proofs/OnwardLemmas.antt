@@ -1,7 +1,7 @@
 -- No frontier goes back.
-use Rattle.std.proofs.Common.{◌≡◌, ℕ, zero, suc, ◌+◌, ◌<◌, ◌≤◌, Bool, true, false, cond, not, ◌&&◌, ◌||◌, List, [], ◌∷◌, ◌++◌, map, take, length, sym, refl, ap, ◌∙◌, subst, Option, Some, None, eqb, arith}
-use Rattle.std.specs.List.{flat_map, filter, slice_get, list_any}
-use Rattle.std.proofs.lemmas.Bool.{and_parts, and_from, or_parts, or_from, or_left, or_right, eqb-true, eq-eqb, ne_eqb, false_from_ne_true, false≢true}
+use Rattle.std.proofs.Common.{◌≡◌, ℕ, zero, suc, Bool, true, false, cond, not, ◌&&◌, ◌||◌, List, [], ◌∷◌, ◌++◌, take, sym, refl, ap, ◌∙◌, subst, Option, Some, None, eqb, arith}
+use Rattle.std.specs.List.{flat_map, filter, slice_get}
+use Rattle.std.proofs.lemmas.Bool.{and_parts, and_from, or_parts, or_from, or_right, eqb-true, eq-eqb, ne_eqb, false_from_ne_true, false≢true}
 use Rattle.std.proofs.lemmas.Option.{same_Some}
 use Rattle.std.proofs.lemmas.List.Concat.{flat_map-append}
 use Rattle.std.proofs.lemmas.List.Folds.{list_any-append}
@@ -26,7 +26,7 @@ use Rattle.machine.specs.Outstanding.{stamp, stamps, held_where, open_where, cou
 use Rattle.machine.specs.Histories.{without, is_held_by, holding, opening, took, gave, after, IsFeed, IsGive, IsAllowed}
 use Rattle.machine.proofs.ClaimLemmas.{no_source}
 use Rattle.lattice.proofs.FrontierLemmas.{beyond_up}
-use Rattle.machine.proofs.FlowLemmas.{passed-least, place_same, is_passed, not_beyond}
+use Rattle.machine.proofs.FlowLemmas.{passed-least, place_same}
 use Rattle.antichain.proofs.InsertionLemmas.{least_beyond}
 use Rattle.plan.proofs.PlanLemmas.{source_smaller}
 use Rattle.plan.proofs.StandLemmas.{above_itself, above_from_source, above_earlier, above_transitive}
@@ -102,9 +102,11 @@ module _ {T : Type 0} (leq : T → T → Bool) (o : PartialOrderLaws leq) (t : T
         on : (us : List T) → test n ≡ true → held_where test (holding n k us) ≡ us
         on [] e = refl
         on (u ∷ us) e = rw e (ap (λ z. u ∷ z) (on us e))
+
         off : (us : List T) → test n ≡ false → held_where test (holding n k us) ≡ []
         off [] e = refl
         off (u ∷ us) e = rw e (off us e)
+
         step : (b : Bool) → test n ≡ b → IsPassed (held_where test (holding n k ts))
         step true e = subst IsPassed (sym (on ts e)) (h e)
         step false e = subst IsPassed (sym (off ts e)) refl
@@ -115,9 +117,11 @@ module _ {T : Type 0} (leq : T → T → Bool) (o : PartialOrderLaws leq) (t : T
         on : (us : List T) → test n ≡ true → open_where test (opening n us) ≡ us
         on [] e = refl
         on (u ∷ us) e = rw e (ap (λ z. u ∷ z) (on us e))
+
         off : (us : List T) → test n ≡ false → open_where test (opening n us) ≡ []
         off [] e = refl
         off (u ∷ us) e = rw e (off us e)
+
         step : (b : Bool) → test n ≡ b → IsPassed (open_where test (opening n ts))
         step true e = subst IsPassed (sym (on ts e)) (h e)
         step false e = subst IsPassed (sym (off ts e)) refl
@@ -165,11 +169,12 @@ module _ {T : Type 0} (leq : T → T → Bool) (o : PartialOrderLaws leq) (t : T
     passed_places [] h = refl
     passed_places (q ∷ qs) h =
         passed_both (cond (test q.place) (least leq (times q.updates)) []) (stamps leq test qs)
-          (head (test q.place) refl)
-          (passed_places qs (λ site e. (passed_times (cond (same_place q.place site) q.updates []) (updates_at site qs) (h site e)).1))
+        (head (test q.place) refl)
+        (passed_places qs (λ site e. (passed_times (cond (same_place q.place site) q.updates []) (updates_at site qs) (h site e)).1))
       where
         self : same_place q.place q.place ≡ true
         self = and_from (eqb q.place.node q.place.node) (eqb q.place.port q.place.port && eqb q.place.worker q.place.worker) (eq-eqb q.place.node q.place.node refl) (and_from (eqb q.place.port q.place.port) (eqb q.place.worker q.place.worker) (eq-eqb q.place.port q.place.port refl) (eq-eqb q.place.worker q.place.worker refl))
+
         head : (b : Bool) → test q.place ≡ b → IsPassed (cond b (least leq (times q.updates)) [])
         head false e = refl
         head true e = passed_least (times q.updates) (passed_times q.updates (updates_at q.place qs) (subst (λ b. IsPassed (times (cond b q.updates [] ++ updates_at q.place qs))) self (h q.place e))).0
@@ -185,6 +190,7 @@ module _ {T : Type 0} (leq : T → T → Bool) (o : PartialOrderLaws leq) (t : T
             one true = k
             one false = refl
         parted (Some c) k = passed_updates (λ u. eqb (route p (take c u.row)) site.worker) g.updates k
+
         step : (x : Option ℕ) → source_of p site.node site.port ≡ x → (c : Option ℕ) → IsPassed (times (share_from p x c site.worker g))
         step None e c = refl
         step (Some s) e c = one (eqb g.node s) refl
@@ -193,14 +199,12 @@ module _ {T : Type 0} (leq : T → T → Bool) (o : PartialOrderLaws leq) (t : T
             one false f = refl
             one true f = parted c (h (ap test (eqb-true g.node s f) ∙ a s e))
 
-
   -- What is counted: bundles at some places, times held at some nodes, frontiers of some inputs. It may be any such choice
   -- with the source of each place, with the input of each fed place, and with the places of each node that it counts at.
   module _ (p : Dataflow) (there : Place → Bool) (holds opens : ℕ → Bool)
-    (of_sources : (site : Place) → there site ≡ true → (s : ℕ) → source_of p site.node site.port ≡ Some s → holds s ≡ true)
-    (of_inputs : (i k : ℕ) → is_input (node_of p i) ≡ true → there (place i 0 k) ≡ true → opens i ≡ true)
-    (of_places : (site : Place) → holds site.node ≡ true → there site ≡ true) where
-
+      (of_sources : (site : Place) → there site ≡ true → (s : ℕ) → source_of p site.node site.port ≡ Some s → holds s ≡ true)
+      (of_inputs : (i k : ℕ) → is_input (node_of p i) ≡ true → there (place i 0 k) ≡ true → opens i ≡ true)
+      (of_places : (site : Place) → holds site.node ≡ true → there site ≡ true) where
     abbrev pub IsCountPassed : World T → Type 0
     IsCountPassed w = IsPassed (stamps leq there w.in_flight) × IsPassed (held_where holds w.held) × IsPassed (open_where opens w.openings)
 
@@ -212,32 +216,38 @@ module _ {T : Type 0} (leq : T → T → Bool) (o : PartialOrderLaws leq) (t : T
         step true e = passed_least (f.update.time ∷ []) (passed_onward (open_at f.input w.openings) (f.update.time ∷ []) (and_from (is_beyond leq (open_at f.input w.openings) f.update.time) true a.not_passed refl) (passed_edge opens f.input (of_inputs f.input (route p f.update.row) a.input.1 e) w.openings h.2))
 
     onward_took : (w : World T) (site : Place) (j : ℕ) (us : List (Update T)) → slice_get (queue site w.in_flight) j ≡ Some us → IsCountPassed w → IsCountPassed (took leq p w site j us)
-    onward_took w site j us e h =
-        (passed_without there site w.in_flight j h.0,
-         subst IsPassed (sym (flat_map-append (λ (m : Held T). cond (holds m.node) (m.time ∷ []) []) (holding site.node site.worker (least leq (times us))) w.held))
-           (passed_both (held_where holds (holding site.node site.worker (least leq (times us)))) (held_where holds w.held) (passed_marked holds site.node site.worker (least leq (times us)) (λ a. passed_taken there site w.in_flight j us e (of_places site a) h.0)) h.1),
-         h.2)
+    onward_took w site j us e h = (
+      passed_without there site w.in_flight j h.0,
+      subst IsPassed (sym (flat_map-append (λ (m : Held T). cond (holds m.node) (m.time ∷ []) []) (holding site.node site.worker (least leq (times us))) w.held))
+          (passed_both (held_where holds (holding site.node site.worker (least leq (times us)))) (held_where holds w.held) (passed_marked holds site.node site.worker (least leq (times us)) (λ a. passed_taken there site w.in_flight j us e (of_places site a) h.0)) h.1),
+      h.2,
+    )
 
     onward_gave : (w : World T) (g : Emission T) (held : List T) (sent : List (Bundle T)) → IsGive leq p w g held sent → IsCountPassed w → IsCountPassed (gave leq p w g held sent)
-    onward_gave w g held sent a h =
-        (subst IsPassed (sym (flat_map-append (λ (q : Bundle T). cond (there q.place) (least leq (times q.updates)) []) w.in_flight sent))
-           (passed_both (stamps leq there w.in_flight) (stamps leq there sent) h.0 (passed_places there sent (λ site e. subst (λ us. IsPassed (times us)) (sym (a.whole site)) (passed_share holds p site g (of_sources site e) (λ f. (later f).0))))),
-         subst IsPassed (sym (flat_map-append (λ (m : Held T). cond (holds m.node) (m.time ∷ []) []) (holding g.node g.worker held) (filter (λ m. not (is_held_by g.node g.worker m)) w.held)))
-           (passed_both (held_where holds (holding g.node g.worker held)) (held_where holds (filter (λ m. not (is_held_by g.node g.worker m)) w.held)) (passed_marked holds g.node g.worker held (λ f. (later f).1)) (passed_some (λ (m : Held T). cond (holds m.node) (m.time ∷ []) []) (λ m. not (is_held_by g.node g.worker m)) w.held h.1)),
-         h.2)
+    onward_gave w g held sent a h = (
+      subst IsPassed (sym (flat_map-append (λ (q : Bundle T). cond (there q.place) (least leq (times q.updates)) []) w.in_flight sent))
+          (passed_both (stamps leq there w.in_flight) (stamps leq there sent) h.0 (passed_places there sent (λ site e. subst (λ us. IsPassed (times us)) (sym (a.whole site)) (passed_share holds p site g (of_sources site e) (λ f. (later f).0))))),
+      subst IsPassed (sym (flat_map-append (λ (m : Held T). cond (holds m.node) (m.time ∷ []) []) (holding g.node g.worker held) (filter (λ m. not (is_held_by g.node g.worker m)) w.held)))
+          (passed_both (held_where holds (holding g.node g.worker held)) (held_where holds (filter (λ m. not (is_held_by g.node g.worker m)) w.held)) (passed_marked holds g.node g.worker held (λ f. (later f).1)) (passed_some (λ (m : Held T). cond (holds m.node) (m.time ∷ []) []) (λ m. not (is_held_by g.node g.worker m)) w.held h.1)),
+      h.2,
+    )
       where
         later : holds g.node ≡ true → IsPassed (times g.updates) × IsPassed held
         later f = passed_parts (times g.updates) held (passed_onward (held_at g.node g.worker w.held) (times g.updates ++ held) a.onward (passed_held holds g.node g.worker f w.held h.1))
 
     pub onward : (w : World T) (e : Event T) → IsAllowed leq p w e → IsCountPassed w → IsCountPassed (after leq p w e)
-    onward w (Feed c f) a h =
-        (subst IsPassed (sym (flat_map-append (λ (q : Bundle T). cond (there q.place) (least leq (times q.updates)) []) w.in_flight (record { place = home p f; updates = f.update ∷ [] } ∷ [])))
-           (passed_both (stamps leq there w.in_flight) (stamps leq there (record { place = home p f; updates = f.update ∷ [] } ∷ [])) h.0 (onward_feed w f a h)),
-         h.1, h.2)
-    onward w (Advance c i ts) a h =
-        (h.0, h.1,
-         subst IsPassed (sym (flat_map-append (λ (e : Open T). cond (opens e.input) (e.time ∷ []) []) (opening i ts) (filter (λ e. not (eqb e.input i)) w.openings)))
-           (passed_both (open_where opens (opening i ts)) (open_where opens (filter (λ e. not (eqb e.input i)) w.openings)) (passed_edged opens i ts (λ f. passed_onward (open_at i w.openings) ts a.onward (passed_edge opens i f w.openings h.2))) (passed_some (λ (e : Open T). cond (opens e.input) (e.time ∷ []) []) (λ e. not (eqb e.input i)) w.openings h.2)))
+    onward w (Feed c f) a h = (
+      subst IsPassed (sym (flat_map-append (λ (q : Bundle T). cond (there q.place) (least leq (times q.updates)) []) w.in_flight (record { place = home p f; updates = f.update ∷ [] } ∷ [])))
+          (passed_both (stamps leq there w.in_flight) (stamps leq there (record { place = home p f; updates = f.update ∷ [] } ∷ [])) h.0 (onward_feed w f a h)),
+      h.1,
+      h.2,
+    )
+    onward w (Advance c i ts) a h = (
+      h.0,
+      h.1,
+      subst IsPassed (sym (flat_map-append (λ (e : Open T). cond (opens e.input) (e.time ∷ []) []) (opening i ts) (filter (λ e. not (eqb e.input i)) w.openings)))
+          (passed_both (open_where opens (opening i ts)) (open_where opens (filter (λ e. not (eqb e.input i)) w.openings)) (passed_edged opens i ts (λ f. passed_onward (open_at i w.openings) ts a.onward (passed_edge opens i f w.openings h.2))) (passed_some (λ (e : Open T). cond (opens e.input) (e.time ∷ []) []) (λ e. not (eqb e.input i)) w.openings h.2)),
+    )
     onward w (Allow c v ts) a h = h
     onward w (Look c) a h = h
     onward w (Take site j us) a h = onward_took w site j us a.waits h
@@ -272,9 +282,9 @@ module _ {T : Type 0} (leq : T → T → Bool) (o : PartialOrderLaws leq) (t : T
     pub frontier_onward : (w : World T) (e : Event T) → IsAllowed leq p w e → IsPassed (frontier leq p w n) → IsPassed (frontier leq p (after leq p w e) n)
     frontier_onward w e a h =
         passed_least (counted leq (after leq p w e) (above p n) (above p n))
-          (counts_passed (above p n) (above p n) (after leq p w e)
-            (onward p site_above (above p n) (above p n) upward (λ i k b x. x) (λ site x. x) w e a
-              (passed_counts (above p n) (above p n) w (passed-least leq o (counted leq w (above p n) (above p n)) t h))))
+        (counts_passed (above p n) (above p n) (after leq p w e)
+        (onward p site_above (above p n) (above p n) upward (λ i k b x. x) (λ site x. x) w e a
+        (passed_counts (above p n) (above p n) w (passed-least leq o (counted leq w (above p n) (above p n)) t h))))
 
     pub in_passed : (w : World T) → IsPassed (input_frontier leq p w n) → IsPassed (stamps leq site_above w.in_flight) × IsPassed (held_where (strictly_above p n) w.held) × IsPassed (open_where (above p n) w.openings)
     in_passed w h = passed_counts (above p n) (strictly_above p n) w (passed-least leq o (counted leq w (above p n) (strictly_above p n)) t h)
@@ -283,8 +293,8 @@ module _ {T : Type 0} (leq : T → T → Bool) (o : PartialOrderLaws leq) (t : T
     pub input_onward : (w : World T) (e : Event T) → IsAllowed leq p w e → IsPassed (input_frontier leq p w n) → IsPassed (input_frontier leq p (after leq p w e) n)
     input_onward w e a h =
         passed_least (counted leq (after leq p w e) (above p n) (strictly_above p n))
-          (counts_passed (above p n) (strictly_above p n) (after leq p w e)
-            (onward p site_above (strictly_above p n) (above p n) source_strict (λ i k b x. x) (λ site x. (and_parts (above p n site.node) (not (eqb site.node n)) x).0) w e a (in_passed w h)))
+        (counts_passed (above p n) (strictly_above p n) (after leq p w e)
+        (onward p site_above (strictly_above p n) (above p n) source_strict (λ i k b x. x) (λ site x. (and_parts (above p n site.node) (not (eqb site.node n)) x).0) w e a (in_passed w h)))
 
     -- what waits at a node is beyond its input frontier
     pub taken_later : (w : World T) (site : Place) (j : ℕ) (us : List (Update T)) → slice_get (queue site w.in_flight) j ≡ Some us → site.node ≡ n → IsPassed (input_frontier leq p w n) → IsPassed (least leq (times us))
@@ -325,8 +335,8 @@ module _ {T : Type 0} (leq : T → T → Bool) (o : PartialOrderLaws leq) (t : T
 
     -- at an input a port has nothing above it but the input's own frontier
     input_port : (w : World T) (e : Event T) → IsAllowed leq p w e → source_of p n port ≡ None
-      → IsPassed (stamps leq at_port w.in_flight) → IsPassed (open_at n w.openings)
-      → IsPassed (stamps leq at_port (after leq p w e).in_flight) × IsPassed (open_at n (after leq p w e).openings)
+        → IsPassed (stamps leq at_port w.in_flight) → IsPassed (open_at n w.openings)
+        → IsPassed (stamps leq at_port (after leq p w e).in_flight) × IsPassed (open_at n (after leq p w e).openings)
     input_port w e a none h k =
         let r = onward p at_port (λ m. false) (λ i. eqb i n) sources (λ i k b x. (and_parts (eqb i n) (eqb 0 port) x).0) (λ site x. absurd (false≢true x)) w e a (h, no_held w.held, k) in
         (r.0, r.2)
@@ -334,6 +344,7 @@ module _ {T : Type 0} (leq : T → T → Bool) (o : PartialOrderLaws leq) (t : T
         no_held : (ms : List (Held T)) → IsPassed (held_where (λ m. false) ms)
         no_held [] = refl
         no_held (m ∷ ms) = no_held ms
+
         sources : (site : Place) → at_port site ≡ true → (s : ℕ) → source_of p site.node site.port ≡ Some s → false ≡ true
         sources site x s f =
             let y = and_parts (eqb site.node n) (eqb site.port port) x in
@@ -343,8 +354,8 @@ module _ {T : Type 0} (leq : T → T → Bool) (o : PartialOrderLaws leq) (t : T
             clash g = cc (none, g)
 
     source_port : (s : ℕ) (w : World T) (e : Event T) → IsAllowed leq p w e → source_of p n port ≡ Some s
-      → IsPassed (stamps leq at_port w.in_flight) → IsPassed (counted leq w (above p s) (above p s))
-      → IsPassed (stamps leq at_port (after leq p w e).in_flight) × IsPassed (counted leq (after leq p w e) (above p s) (above p s))
+        → IsPassed (stamps leq at_port w.in_flight) → IsPassed (counted leq w (above p s) (above p s))
+        → IsPassed (stamps leq at_port (after leq p w e).in_flight) × IsPassed (counted leq (after leq p w e) (above p s) (above p s))
     source_port s w e a some h k =
         let c = passed_counts (above p s) (above p s) w k in
         let r = onward p (or_above s) (above p s) (above p s) sources inputs (λ site x. or_right (at_port site) (above p s site.node) x) w e a (passed_either at_port (λ site. above p s site.node) w.in_flight h c.0, c.1, c.2) in
@@ -360,6 +371,7 @@ module _ {T : Type 0} (leq : T → T → Bool) (o : PartialOrderLaws leq) (t : T
                 let g : source_of p n port ≡ Some m = subst (λ b. source_of p n b ≡ Some m) (eqb-true site.port port v.1) (subst (λ a. source_of p a site.port ≡ Some m) (eqb-true site.node n v.0) f) in
                 subst (λ i. above p s i ≡ true) (same_Some s m (sym some ∙ g)) (above_itself p.nodes q.plan s)
             step false y z = upward p q s site z m f
+
         inputs : (i k : ℕ) → is_input (node_of p i) ≡ true → or_above s (place i 0 k) ≡ true → above p s i ≡ true
         inputs i k b x = step (eqb i n && eqb 0 port) refl x
           where
@@ -373,6 +385,7 @@ module _ {T : Type 0} (leq : T → T → Bool) (o : PartialOrderLaws leq) (t : T
       where
         z : World T
         z = after leq p w e
+
         step : (s : Option ℕ) → source_of p n port ≡ s → IsPassed (stamps leq at_port w.in_flight) × IsPassed (outstanding_from leq p w n (source_of p n port)) → IsPassed (port_frontier leq p z n port)
         step None f x =
             let r = input_port w e a f x.0 (subst (λ s. IsPassed (outstanding_from leq p w n s)) f x.1) in

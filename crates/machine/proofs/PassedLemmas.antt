@@ -1,13 +1,13 @@
 -- Lists of updates at times that a frontier has passed, and at times that takes left with nothing to come.
-use Rattle.std.proofs.Common.{◌≡◌, ℕ, ◌+◌, Bool, true, false, not, ◌&&◌, ◌||◌, List, [], ◌∷◌, ◌++◌, map, sym, ◌∙◌, refl, eqb, IsTrue}
-use Rattle.std.specs.List.{list_any, list_all}
-use Rattle.std.proofs.lemmas.Bool.{and_parts, and_from, or_from, false_from_ne_true, false≢true}
+use Rattle.std.proofs.Common.{◌≡◌, ℕ, Bool, true, false, List, [], ◌∷◌, sym, ◌∙◌, refl, IsTrue}
+use Rattle.std.specs.List.{list_all}
+use Rattle.std.proofs.lemmas.Bool.{and_parts, and_from, false_from_ne_true, false≢true}
 use Rattle.lattice.specs.Order.{PartialOrderLaws}
-use Rattle.lattice.specs.Frontiers.{is_beyond, all_beyond}
+use Rattle.lattice.specs.Frontiers.{is_beyond}
 use Rattle.lattice.proofs.FrontierLemmas.{beyond_up}
 use Rattle.update.specs.declared.change.Update.{Update}
 use Rattle.plan.specs.Changes.{has_passed}
-use Rattle.machine.specs.Worlds.{Passage, times}
+use Rattle.machine.specs.Worlds.{Passage}
 use Rattle.machine.specs.NodeLaws.{was_passed}
 use Rattle.machine.proofs.FlowLemmas.{is_passed, not_beyond}
 

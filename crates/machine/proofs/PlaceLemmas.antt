@@ -1,11 +1,9 @@
 -- Whatever waits, waits at a place that there is.
-use Rattle.std.proofs.Common.{◌≡◌, ◌≢◌, ℕ, zero, suc, ◌+◌, ◌<◌, ◌≤◌, Bool, true, false, cond, not, ◌&&◌, ◌||◌, List, [], ◌∷◌, ◌++◌, map, take, length, sym, refl, ap, ◌∙◌, subst, Option, Some, None, eqb, arith, IsTrue, ◌⊎◌, inl, inr, ⊎_elim}
-use Rattle.std.specs.List.{flat_map, filter, slice_get, list_all, Contains}
-use Rattle.std.proofs.lemmas.Bool.{and_parts, and_from, eqb-true, eq-eqb, false≢true, true≢false}
+use Rattle.std.proofs.Common.{◌≡◌, ◌≢◌, ℕ, zero, suc, ◌<◌, Bool, true, false, cond, not, ◌&&◌, List, [], ◌∷◌, ◌++◌, map, take, length, sym, refl, ◌∙◌, subst, Option, Some, None, eqb, arith, IsTrue, inl, inr, ⊎_elim}
+use Rattle.std.specs.List.{flat_map, filter, slice_get, list_all}
+use Rattle.std.proofs.lemmas.Bool.{and_parts, and_from, eqb-true, eq-eqb, false≢true}
 use Rattle.std.proofs.lemmas.Option.{same_Some}
-use Rattle.std.proofs.Math.IntN.{ℤ}
-use Rattle.antichain.specs.Antichains.{least}
-use Rattle.antichain.proofs.Lists.{Among, among_contains, contains_among, filter_has}
+use Rattle.antichain.proofs.Lists.{Among, among_contains, filter_has}
 use Rattle.update.specs.declared.change.Update.{Update}
 use Rattle.plan.specs.Ancestors.{is_input, numbers_below}
 use Rattle.plan.specs.Edges.{numbers_where}
@@ -13,17 +11,16 @@ use Rattle.plan.specs.Nodes.{sources, arranged_by, node_at}
 use Rattle.plan.proofs.PlanLemmas.{has_source}
 use Rattle.machine.specs.declared.event.Place.{Place}
 use Rattle.machine.specs.declared.event.Bundle.{Bundle}
-use Rattle.machine.specs.declared.event.Fed.{Fed}
 use Rattle.machine.specs.declared.event.Emission.{Emission}
 use Rattle.machine.specs.declared.event.Held.{Held}
 use Rattle.machine.specs.declared.event.Open.{Open}
 use Rattle.machine.specs.declared.event.Event.{Event}
 use Rattle.machine.specs.declared.event.Event.TheVariants.{Feed, Advance, Allow, Look, Take, TakeHeld, Give}
 use Rattle.machine.specs.Dataflows.{Dataflow, IsDataflow, node_of, source_of, route}
-use Rattle.machine.specs.Worlds.{World, place, same_place, times, updates_at, queue}
+use Rattle.machine.specs.Worlds.{World, same_place, updates_at, queue}
 use Rattle.machine.specs.Shares.{home, part, share_from, share}
 use Rattle.machine.specs.Outstanding.{stamp}
-use Rattle.machine.specs.Histories.{with_at, without, is_held_by, holding, opening, turned_to, took, gave, after, IsInput, IsFeed, IsTake, IsTakeHeld, IsGive, IsAllowed, first_world, world, IsLegal}
+use Rattle.machine.specs.Histories.{with_at, without, is_held_by, holding, opening, gave, after, IsInput, IsGive, IsAllowed, first_world, world, IsLegal}
 use Rattle.machine.specs.Promises.{IsPlace, IsInPlace}
 use Rattle.machine.proofs.ClaimLemmas.{routed}
 use Rattle.machine.proofs.FlowLemmas.{place_same}
@@ -71,6 +68,7 @@ module _ {T : Type 0} where
     where
       more : (b : Bundle T) × Among b qs × (b.place ≡ site) × (b.updates ≡ us) → (b : Bundle T) × Among b (q ∷ qs) × (b.place ≡ site) × (b.updates ≡ us)
       more r = (r.0, inr r.1, r.2, r.3)
+
       step : (c : Bool) → same_place q.place site ≡ c → slice_get (cond c (q.updates ∷ []) [] ++ queue site qs) zero ≡ Some us → (slice_get (queue site qs) zero ≡ Some us → (b : Bundle T) × Among b qs × (b.place ≡ site) × (b.updates ≡ us)) → (b : Bundle T) × Among b (q ∷ qs) × (b.place ≡ site) × (b.updates ≡ us)
       step true s f ih = (q, inl refl, place_same q.place site s, same_Some q.updates us f)
       step false s f ih = more (ih f)
@@ -78,6 +76,7 @@ module _ {T : Type 0} where
     where
       more : (b : Bundle T) × Among b qs × (b.place ≡ site) × (b.updates ≡ us) → (b : Bundle T) × Among b (q ∷ qs) × (b.place ≡ site) × (b.updates ≡ us)
       more r = (r.0, inr r.1, r.2, r.3)
+
       step : (c : Bool) → slice_get (cond c (q.updates ∷ []) [] ++ queue site qs) (suc j) ≡ Some us → (slice_get (queue site qs) j ≡ Some us → (b : Bundle T) × Among b qs × (b.place ≡ site) × (b.updates ≡ us)) → (slice_get (queue site qs) (suc j) ≡ Some us → (b : Bundle T) × Among b qs × (b.place ≡ site) × (b.updates ≡ us)) → (b : Bundle T) × Among b (q ∷ qs) × (b.place ≡ site) × (b.updates ≡ us)
       step true f ih jh = more (ih f)
       step false f ih jh = more (jh f)
@@ -87,18 +86,21 @@ module _ {T : Type 0} where
   there_some [] b m h e = absurd m
   there_some (q ∷ qs) b m h e =
       ⊎_elim
-        (λ f. first (subst (λ z. cond (same_place z.place b.place) z.updates [] ++ updates_at b.place qs ≡ []) f e))
-        (λ n. there_some qs b n h (no_second (cond (same_place q.place b.place) q.updates []) (updates_at b.place qs) e))
-        m
+      (λ f. first (subst (λ z. cond (same_place z.place b.place) z.updates [] ++ updates_at b.place qs ≡ []) f e))
+      (λ n. there_some qs b n h (no_second (cond (same_place q.place b.place) q.updates []) (updates_at b.place qs) e))
+      m
     where
       self : same_place b.place b.place ≡ true
       self = and_from (eqb b.place.node b.place.node) (eqb b.place.port b.place.port && eqb b.place.worker b.place.worker) (eq-eqb b.place.node b.place.node refl) (and_from (eqb b.place.port b.place.port) (eqb b.place.worker b.place.worker) (eq-eqb b.place.port b.place.port refl) (eq-eqb b.place.worker b.place.worker refl))
+
       no_first : (xs ys : List (Update T)) → xs ++ ys ≡ [] → xs ≡ []
       no_first [] ys f = refl
       no_first (x ∷ xs) ys f = cc
+
       no_second : (xs ys : List (Update T)) → xs ++ ys ≡ [] → ys ≡ []
       no_second [] ys f = f
       no_second (x ∷ xs) ys f = cc
+
       first : cond (same_place b.place b.place) b.updates [] ++ updates_at b.place qs ≡ [] → ⊥
       first f = h (no_first b.updates (updates_at b.place qs) (subst (λ c. cond c b.updates [] ++ updates_at b.place qs ≡ []) self f))
 
@@ -124,6 +126,7 @@ module _ {T : Type 0} (p : Dataflow) (q : IsDataflow p) where
       within [] i s e = cc
       within (x ∷ xs) zero s e = omega arith
       within (x ∷ xs) (suc i) s e = let r = within xs i s e in omega arith
+
       to_worker : (c : Option ℕ) (us : List (Update T)) → part p c g.worker site.worker us ≢ [] → site.worker < p.workers
       to_worker None us k = one (eqb g.worker site.worker) refl k
         where
@@ -136,6 +139,7 @@ module _ {T : Type 0} (p : Dataflow) (q : IsDataflow p) where
           one : (b : Bool) → eqb (route p (take c u.row)) site.worker ≡ b → cond b (u ∷ part p (Some c) g.worker site.worker us) (part p (Some c) g.worker site.worker us) ≢ [] → (part p (Some c) g.worker site.worker us ≢ [] → site.worker < p.workers) → site.worker < p.workers
           one true e k ih = subst (λ z. z < p.workers) (eqb-true (route p (take c u.row)) site.worker e) (routed p q (take c u.row))
           one false e k ih = ih k
+
       step : (x : Option ℕ) → source_of p site.node site.port ≡ x → (c : Option ℕ) → share_from p x c site.worker g ≢ [] → IsPlace p site
       step None e c k = absurd (k refl)
       step (Some s) e c k = one (eqb g.node s) k
@@ -174,14 +178,18 @@ module _ {T : Type 0} (p : Dataflow) (q : IsDataflow p) where
 
     sited_after : (w : World T) (e : Event T) → IsAllowed leq p w e → IsSited w → IsSited (after leq p w e)
     sited_after w (Feed c f) a s = record {
-        bundles = each_both IsBundle w.in_flight (record { place = home p f; updates = f.update ∷ [] } ∷ []) s.bundles
+      bundles = each_both IsBundle w.in_flight (record { place = home p f; updates = f.update ∷ [] } ∷ []) s.bundles
           (each_one IsBundle (record { place = home p f; updates = f.update ∷ [] }) (record { node = a.input.0; port = inl refl; worker = routed p q f.update.row }, λ e. cc));
-        held = s.held; inputs = s.inputs; hand = s.hand
-      }
+      held = s.held;
+      inputs = s.inputs;
+      hand = s.hand;
+    }
     sited_after w (Advance c i ts) a s = record {
-        bundles = s.bundles; held = s.held; hand = s.hand;
-        inputs = each_both IsOpen (opening i ts) (filter (λ o. not (eqb o.input i)) w.openings) (each_map IsOpen (λ t. record { input = i; time = t }) ts (λ t. a.input)) (each_filter IsOpen (λ o. not (eqb o.input i)) w.openings s.inputs)
-      }
+      bundles = s.bundles;
+      held = s.held;
+      hand = s.hand;
+      inputs = each_both IsOpen (opening i ts) (filter (λ o. not (eqb o.input i)) w.openings) (each_map IsOpen (λ t. record { input = i; time = t }) ts (λ t. a.input)) (each_filter IsOpen (λ o. not (eqb o.input i)) w.openings s.inputs);
+    }
     sited_after w (Allow c v ts) a s = record { bundles = s.bundles; held = s.held; inputs = s.inputs; hand = s.hand }
     sited_after w (Look c) a s = s
     sited_after w (Take site j us) a s =
@@ -199,11 +207,11 @@ module _ {T : Type 0} (p : Dataflow) (q : IsDataflow p) where
 
     sited_first : (minimum : T) → IsSited (first_world leq minimum p)
     sited_first minimum = record {
-        bundles = λ b m. absurd m;
-        held = λ x m. absurd m;
-        inputs = each_flat IsOpen (λ i. opening i (minimum ∷ [])) (numbers_where is_input p.nodes) (λ i m. each_one IsOpen (record { input = i; time = minimum }) (let r = filter_has (λ n. is_input (node_at p.nodes n)) (numbers_below (length p.nodes)) i m in (below (length p.nodes) i r.0, r.1)));
-        hand = λ k n e. cc;
-      }
+      bundles = λ b m. absurd m;
+      held = λ x m. absurd m;
+      inputs = each_flat IsOpen (λ i. opening i (minimum ∷ [])) (numbers_where is_input p.nodes) (λ i m. each_one IsOpen (record { input = i; time = minimum }) (let r = filter_has (λ n. is_input (node_at p.nodes n)) (numbers_below (length p.nodes)) i m in (below (length p.nodes) i r.0, r.1)));
+      hand = λ k n e. cc;
+    }
       where
         below : (n i : ℕ) → Among i (numbers_below n) → i < n
         below zero i m = absurd m

@@ -1,8 +1,7 @@
 -- A quiet board has caught up: each node's frontier is the least of the frontiers of the inputs that feed it.
-use Rattle.std.proofs.Common.{◌≡◌, ℕ, zero, suc, ◌+◌, ◌<◌, ◌≤◌, Bool, true, false, cond, not, ◌&&◌, ◌||◌, List, [], ◌∷◌, ◌++◌, map, length, sym, refl, ap, ◌∙◌, subst, eqb, arith, IsTrue, ◌⊎◌, inl, inr, ⊎_elim}
-use Rattle.std.specs.List.{flat_map, filter, list_any, list_all}
-use Rattle.std.proofs.lemmas.Bool.{and_parts, and_from, or_left, or_right, eqb-true, eq-eqb, false≢true, true≢false, false_from_ne_true}
-use Rattle.std.proofs.lemmas.List.Concat.{flat_map-append}
+use Rattle.std.proofs.Common.{◌≡◌, ℕ, zero, suc, ◌<◌, Bool, true, false, cond, not, ◌||◌, List, [], ◌∷◌, ◌++◌, length, sym, refl, ap, ◌∙◌, subst, eqb, arith, IsTrue, ◌⊎◌, inl, inr, ⊎_elim}
+use Rattle.std.specs.List.{flat_map}
+use Rattle.std.proofs.lemmas.Bool.{and_parts, and_from, or_left, or_right, eqb-true, eq-eqb, false≢true, true≢false}
 use Rattle.std.proofs.lemmas.List.Folds.{list_any-append}
 use Rattle.lattice.specs.Order.{PartialOrderLaws}
 use Rattle.lattice.specs.Frontiers.{is_beyond}
@@ -35,23 +34,24 @@ module _ {T : Type 0} (below : T → T → Bool) (o : PartialOrderLaws below) wh
       let up = implied (below s.0 t) (below t s.0) (all_at (λ s. not (below s t) || below t s) S s.0 k.1 s.1) (o.transitive s.0 r.0 t s.2 r.2) in
       let e : r.0 ≡ t = o.antisymmetric r.0 t r.2 (o.transitive t s.0 r.0 up s.2) in
       filter_takes (is_least below R) R t (among_same r.0 t R e r.1)
-        (all_from (λ s. not (below s t) || below t s) R (λ x n. implies (below x t) (below t x) (λ h.
-          let y = beyond_has below S x (same x ∙ has_beyond below R x x n (o.reflexive x)) in
-          let up = implied (below y.0 t) (below t y.0) (all_at (λ s. not (below s t) || below t s) S y.0 k.1 y.1) (o.transitive y.0 x t y.2 h) in
-          o.transitive t y.0 x up y.2)))
+      (all_from (λ s. not (below s t) || below t s) R (λ x n. implies (below x t) (below t x) (λ h.
+      let y = beyond_has below S x (same x ∙ has_beyond below R x x n (o.reflexive x)) in
+      let up = implied (below y.0 t) (below t y.0) (all_at (λ s. not (below s t) || below t s) S y.0 k.1 y.1) (o.transitive y.0 x t y.2 h) in
+      o.transitive t y.0 x up y.2)))
     where
       implied : (b c : Bool) → (not b || c) ≡ true → b ≡ true → c ≡ true
       implied true c h e = h
       implied false c h e = absurd (false≢true e)
+
       implies : (b c : Bool) → (b ≡ true → c ≡ true) → (not b || c) ≡ true
       implies true c h = h refl
       implies false c h = refl
 
   pub least_same : (S R : List T) → ((t : T) → is_beyond below S t ≡ is_beyond below R t) → SameElements (least below S) (least below R)
   least_same S R same = record {
-      into = λ t c. contains_among t (least below R) (least_into S R same t (among_contains t (least below S) c));
-      back = λ t c. contains_among t (least below S) (least_into R S (λ s. sym (same s)) t (among_contains t (least below R) c));
-    }
+    into = λ t c. contains_among t (least below R) (least_into S R same t (among_contains t (least below S) c));
+    back = λ t c. contains_among t (least below S) (least_into R S (λ s. sym (same s)) t (among_contains t (least below R) c));
+  }
 
 -- the numbers below n
 numbered : (n i : ℕ) → i < n → Among i (numbers_below n)
@@ -61,9 +61,11 @@ numbered (suc n) i l = step (eqb i n) refl (numbered n i)
     last : (xs : List ℕ) → Among n (xs ++ n ∷ [])
     last [] = inl refl
     last (x ∷ xs) = inr (last xs)
+
     more : (xs : List ℕ) → Among i xs → Among i (xs ++ n ∷ [])
     more [] a = absurd a
     more (x ∷ xs) a = ⊎_elim (λ e. inl e) (λ b. inr (more xs b)) a
+
     step : (b : Bool) → eqb i n ≡ b → (i < n → Among i (numbers_below n)) → Among i (numbers_below n ++ n ∷ [])
     step true e ih = subst (λ z. Among z (numbers_below n ++ n ∷ [])) (sym (eqb-true i n e)) (last (numbers_below n))
     step false e ih = more (numbers_below n) (ih (other (λ f. false≢true (sym e ∙ eq-eqb i n f))))
@@ -72,7 +74,7 @@ numbered (suc n) i l = step (eqb i n) refl (numbered n i)
         other d = omega arith
 
 module _ {T : Type 0} (leq : T → T → Bool) (o : PartialOrderLaws leq) (p : Dataflow) (q : IsDataflow p) (w : World T) (n : ℕ)
-  (at_inputs : (x : Open T) → Among x w.openings → (x.input < length p.nodes) × IsTrue (is_input (node_of p x.input))) where
+    (at_inputs : (x : Open T) → Among x w.openings → (x.input < length p.nodes) × IsTrue (is_input (node_of p x.input))) where
   -- what is open for a node
   abbrev fronts : List T
   fronts = open_for leq p.nodes (λ i. open_at i w.openings) n
@@ -83,18 +85,18 @@ module _ {T : Type 0} (leq : T → T → Bool) (o : PartialOrderLaws leq) (p : D
   found_in t x h (y ∷ os) a =
       list_any-append (λ f. leq f t) (cond (eqb y.input x.input) (y.time ∷ []) []) (open_at x.input os)
       ∙ ⊎_elim
-        (λ e. or_left (is_beyond leq (cond (eqb y.input x.input) (y.time ∷ []) []) t) (is_beyond leq (open_at x.input os) t) (subst (λ z. is_beyond leq (cond (eqb z.input x.input) (z.time ∷ []) []) t ≡ true) (sym e) (rw (eq-eqb x.input x.input refl) (or_left (leq x.time t) false h))))
-        (λ b. or_right (is_beyond leq (cond (eqb y.input x.input) (y.time ∷ []) []) t) (is_beyond leq (open_at x.input os) t) (found_in t x h os b))
-        a
+      (λ e. or_left (is_beyond leq (cond (eqb y.input x.input) (y.time ∷ []) []) t) (is_beyond leq (open_at x.input os) t) (subst (λ z. is_beyond leq (cond (eqb z.input x.input) (z.time ∷ []) []) t ≡ true) (sym e) (rw (eq-eqb x.input x.input refl) (or_left (leq x.time t) false h))))
+      (λ b. or_right (is_beyond leq (cond (eqb y.input x.input) (y.time ∷ []) []) t) (is_beyond leq (open_at x.input os) t) (found_in t x h os b))
+      a
 
   in_parts : (t : T) (i : ℕ) → is_beyond leq (open_at i w.openings) t ≡ true → (is : List ℕ) → Among i is → is_beyond leq (flat_map (λ j. open_at j w.openings) is) t ≡ true
   in_parts t i h [] a = absurd a
   in_parts t i h (j ∷ is) a =
       list_any-append (λ f. leq f t) (open_at j w.openings) (flat_map (λ j. open_at j w.openings) is)
       ∙ ⊎_elim
-        (λ e. or_left (is_beyond leq (open_at j w.openings) t) (is_beyond leq (flat_map (λ j. open_at j w.openings) is) t) (subst (λ z. is_beyond leq (open_at z w.openings) t ≡ true) (sym e) h))
-        (λ b. or_right (is_beyond leq (open_at j w.openings) t) (is_beyond leq (flat_map (λ j. open_at j w.openings) is) t) (in_parts t i h is b))
-        a
+      (λ e. or_left (is_beyond leq (open_at j w.openings) t) (is_beyond leq (flat_map (λ j. open_at j w.openings) is) t) (subst (λ z. is_beyond leq (open_at z w.openings) t ≡ true) (sym e) h))
+      (λ b. or_right (is_beyond leq (open_at j w.openings) t) (is_beyond leq (flat_map (λ j. open_at j w.openings) is) t) (in_parts t i h is b))
+      a
 
   -- a time beyond what is open at or above the node is beyond what is open for it
   open_into : (t : T) (os : List (Open T)) → ((x : Open T) → Among x os → Among x w.openings) → is_beyond leq (open_where (above p n) os) t ≡ true → is_beyond leq fronts t ≡ true
@@ -106,10 +108,12 @@ module _ {T : Type 0} (leq : T → T → Bool) (o : PartialOrderLaws leq) (p : D
           let m = among x (inl refl) in
           let i = at_inputs x m in
           in_parts t x.input (found_in t x l w.openings m) (feeders p.nodes n)
-            (filter_takes (λ j. feeds p.nodes j n) (numbers_below (length p.nodes)) x.input (numbered (length p.nodes) x.input i.0) (and_from (is_input (node_of p x.input)) (above p n x.input) i.1 a))
+          (filter_takes (λ j. feeds p.nodes j n) (numbers_below (length p.nodes)) x.input (numbered (length p.nodes) x.input i.0) (and_from (is_input (node_of p x.input)) (above p n x.input) i.1 a))
+
       skip : (b : Bool) → b ≡ false → (b || is_beyond leq (open_where (above p n) os) t) ≡ true → is_beyond leq (open_where (above p n) os) t ≡ true
       skip true g k = absurd (true≢false g)
       skip false g k = k
+
       step : (b : Bool) → above p n x.input ≡ b → (c : Bool) → leq x.time t ≡ c → is_beyond leq (cond b (x.time ∷ []) [] ++ open_where (above p n) os) t ≡ true → (is_beyond leq (open_where (above p n) os) t ≡ true → is_beyond leq fronts t ≡ true) → is_beyond leq fronts t ≡ true
       step true e true f k rest = here e f
       step true e false f k rest = rest (skip (leq x.time t) f k)
@@ -149,10 +153,12 @@ module _ {T : Type 0} (leq : T → T → Bool) (o : PartialOrderLaws leq) (p : D
         skip : (b : Bool) → b ≡ false → (b || is_beyond leq (held_where holds ms) t) ≡ true → is_beyond leq (held_where holds ms) t ≡ true
         skip true g k = absurd (true≢false g)
         skip false g k = k
+
         more : (x : Held T) × Among x ms × (holds x.node ≡ true) × (leq x.time t ≡ true) → (x : Held T) × Among x (m ∷ ms) × (holds x.node ≡ true) × (leq x.time t ≡ true)
         more r = (r.0, inr r.1, r.2, r.3)
+
         step : (b : Bool) → holds m.node ≡ b → (c : Bool) → leq m.time t ≡ c → is_beyond leq (cond b (m.time ∷ []) [] ++ held_where holds ms) t ≡ true
-          → (is_beyond leq (held_where holds ms) t ≡ true → (x : Held T) × Among x ms × (holds x.node ≡ true) × (leq x.time t ≡ true)) → (x : Held T) × Among x (m ∷ ms) × (holds x.node ≡ true) × (leq x.time t ≡ true)
+            → (is_beyond leq (held_where holds ms) t ≡ true → (x : Held T) × Among x ms × (holds x.node ≡ true) × (leq x.time t ≡ true)) → (x : Held T) × Among x (m ∷ ms) × (holds x.node ≡ true) × (leq x.time t ≡ true)
         step true e true f k rest = (m, inl refl, e, f)
         step true e false f k rest = more (rest (skip (leq m.time t) f k))
         step false e c f k rest = more (rest k)
@@ -186,15 +192,15 @@ module _ {T : Type 0} (leq : T → T → Bool) (o : PartialOrderLaws leq) (p : D
         let x = all_at (λ m. is_beyond leq (input_frontier leq p w m.node) m.time) w.held m quiet.held i in
         let y = subst (λ z. is_beyond leq (counted leq w (above p z) (strictly_above p z)) m.time ≡ true) f (sym (least_beyond o (counted leq w (above p m.node) (strictly_above p m.node)) m.time) ∙ x) in
         ⊎_elim
-          (λ h.
-              let r = held_of (strictly_above p a) m.time w.held h in
-              let g = and_parts (above p a r.0.node) (not (eqb r.0.node a)) r.2 in
-              let le = above_earlier p.nodes q.plan r.0.node a g.0 in
-              let ne = differs r.0.node a g.1 in
-              let k = rest r.0.node (omega arith) (above_transitive p.nodes q.plan r.0.node a n g.0 e) r.0 r.1 refl in
-              beyond_up o (open_where (above p n) w.openings) r.0.time m.time k r.3)
-          (λ h. open_more a e m.time w.openings h)
-          (split (above p a) (strictly_above p a) m.time y))
+        (λ h.
+        let r = held_of (strictly_above p a) m.time w.held h in
+        let g = and_parts (above p a r.0.node) (not (eqb r.0.node a)) r.2 in
+        let le = above_earlier p.nodes q.plan r.0.node a g.0 in
+        let ne = differs r.0.node a g.1 in
+        let k = rest r.0.node (omega arith) (above_transitive p.nodes q.plan r.0.node a n g.0 e) r.0 r.1 refl in
+        beyond_up o (open_where (above p n) w.openings) r.0.time m.time k r.3)
+        (λ h. open_more a e m.time w.openings h)
+        (split (above p a) (strictly_above p a) m.time y))
       where
         differs : (i j : ℕ) → not (eqb i j) ≡ true → i ≡ j → ⊥
         differs i j h e = false≢true (sym (ap not (eq-eqb i j e)) ∙ h)
@@ -205,23 +211,24 @@ module _ {T : Type 0} (leq : T → T → Bool) (o : PartialOrderLaws leq) (p : D
         into : (t : T) → is_beyond leq (outstanding leq p w n) t ≡ true → is_beyond leq fronts t ≡ true
         into t h =
             ⊎_elim
-              (λ k.
-                  let r = held_of (above p n) t w.held k in
-                  let b = held_open r.0.node r.2 r.0 r.1 refl in
-                  open_into t w.openings (λ x a. a) (beyond_up o (open_where (above p n) w.openings) r.0.time t b r.3))
-              (λ k. open_into t w.openings (λ x a. a) k)
-              (split (above p n) (above p n) t h)
+            (λ k.
+            let r = held_of (above p n) t w.held k in
+            let b = held_open r.0.node r.2 r.0 r.1 refl in
+            open_into t w.openings (λ x a. a) (beyond_up o (open_where (above p n) w.openings) r.0.time t b r.3))
+            (λ k. open_into t w.openings (λ x a. a) k)
+            (split (above p n) (above p n) t h)
+
         back : (t : T) → is_beyond leq fronts t ≡ true → is_beyond leq (outstanding leq p w n) t ≡ true
         back t h =
             let k = open_back t (feeders p.nodes n) (λ i a. (and_parts (is_input (node_of p i)) (above p n i) (filter_has (λ j. feeds p.nodes j n) (numbers_below (length p.nodes)) i a).1).1) h in
             list_any-append (λ f. leq f t) (Rattle.machine.specs.Outstanding.stamps leq (λ site. above p n site.node) w.in_flight) (held_where (above p n) w.held ++ open_where (above p n) w.openings)
             ∙ or_right (is_beyond leq (Rattle.machine.specs.Outstanding.stamps leq (λ site. above p n site.node) w.in_flight) t) (is_beyond leq (held_where (above p n) w.held ++ open_where (above p n) w.openings) t)
-                (list_any-append (λ f. leq f t) (held_where (above p n) w.held) (open_where (above p n) w.openings)
-                ∙ or_right (is_beyond leq (held_where (above p n) w.held) t) (is_beyond leq (open_where (above p n) w.openings) t) k)
+            (list_any-append (λ f. leq f t) (held_where (above p n) w.held) (open_where (above p n) w.openings)
+            ∙ or_right (is_beyond leq (held_where (above p n) w.held) t) (is_beyond leq (open_where (above p n) w.openings) t) k)
 
 -- the same elements have the same times beyond them
 pub beyond_elements : {T : Type 0} (below : T → T → Bool) (F G : List T) → SameElements F G → (t : T) → is_beyond below F t ≡ is_beyond below G t
 beyond_elements below F G same t =
     same_test (is_beyond below F t) (is_beyond below G t)
-      (λ h. let r = beyond_has below F t h in has_beyond below G r.0 t (among_contains r.0 G (same.into r.0 (contains_among r.0 F r.1))) r.2)
-      (λ h. let r = beyond_has below G t h in has_beyond below F r.0 t (among_contains r.0 F (same.back r.0 (contains_among r.0 G r.1))) r.2)
+    (λ h. let r = beyond_has below F t h in has_beyond below G r.0 t (among_contains r.0 G (same.into r.0 (contains_among r.0 F r.1))) r.2)
+    (λ h. let r = beyond_has below G t h in has_beyond below F r.0 t (among_contains r.0 F (same.back r.0 (contains_among r.0 G r.1))) r.2)

@@ -1,8 +1,8 @@
 -- The load rule holds at each worker and node after each event; what a take's input frontier had passed stays passed.
 use Rattle.update.proofs.ConsolidatedLemmas.{weight, weight_is}
-use Rattle.std.proofs.Common.{◌≡◌, ℕ, zero, suc, ◌+◌, ◌*◌, ◌<◌, ◌≤◌, Bool, true, false, cond, not, ◌&&◌, ◌||◌, List, [], ◌∷◌, ◌++◌, map, length, sym, refl, ap, ◌∙◌, subst, Option, Some, None, eqb, arith, mul-le-mul, ◌⊎◌, inl, inr}
-use Rattle.std.specs.List.{flat_map, filter, slice_get, list_any}
-use Rattle.std.proofs.lemmas.Bool.{and_parts, and_from, or_parts, or_from, or_right, eqb-true, eq-eqb, false_from_ne_true, false≢true}
+use Rattle.std.proofs.Common.{◌≡◌, ℕ, ◌<◌, ◌≤◌, Bool, true, false, cond, not, ◌&&◌, ◌||◌, List, [], ◌∷◌, ◌++◌, length, sym, refl, ap, ◌∙◌, subst, Some, eqb, arith, mul-le-mul, ◌⊎◌, inl, inr}
+use Rattle.std.specs.List.{filter, slice_get}
+use Rattle.std.proofs.lemmas.Bool.{and_parts, or_from, or_right, eqb-true}
 use Rattle.std.proofs.lemmas.List.Concat.{flat_map-append}
 use Rattle.std.proofs.lemmas.List.Folds.{list_any-append}
 use Rattle.lattice.specs.Order.{PartialOrderLaws}
@@ -23,13 +23,12 @@ use Rattle.machine.specs.declared.event.Event.{Event}
 use Rattle.machine.specs.declared.event.Event.TheVariants.{Feed, Advance, Allow, Look, Take, TakeHeld, Give}
 use Rattle.machine.specs.Dataflows.{Dataflow, IsDataflow, node_of}
 use Rattle.machine.specs.Worlds.{World, Passage, place, same_place, times, updates_at, queue, emitted_by, held_at}
-use Rattle.machine.specs.Outstanding.{frontier, input_frontier}
-use Rattle.machine.specs.NodeLaws.{received_at, is_reduction, AreApart, was_passed, IsSettled, IsWithinLoad, LoadRule}
-use Rattle.machine.specs.Histories.{with_at, is_held_by, holding, first_world, turned_to, took, gave, after, IsGive, IsAllowed, world, IsLegal}
+use Rattle.machine.specs.Outstanding.{input_frontier}
+use Rattle.machine.specs.NodeLaws.{received_at, AreApart, was_passed, IsSettled, IsWithinLoad, LoadRule}
+use Rattle.machine.specs.Histories.{with_at, holding, first_world, turned_to, took, gave, after, IsGive, IsAllowed, world, IsLegal}
 use Rattle.machine.proofs.KeptLemmas.{held_marked, held_unmarked, held_kept}
 use Rattle.machine.proofs.OnwardLemmas.{input_onward, taken_later}
 use Rattle.machine.proofs.SizeLemmas.{size-append}
-
 use Rattle.machine.proofs.PassedLemmas.{AllPassed, AllWere, each_passed, passed_each, each_was, was_each}
 
 pub load-le : (node : Node) (own : ℕ) (b c : ℕ → ℕ) → ((port : ℕ) → (port ≡ 0) ⊎ (port < length (sources node)) → b port ≤ c port) → load node own b ≤ load node own c
@@ -85,6 +84,7 @@ module _ {T : Type 0} (leq : T → T → Bool) (o : PartialOrderLaws leq) (p : D
           let e = ap weight c.emitted in
           let l = load-le (node_of p n) 0 (λ port. weight (received_at w n k port)) (λ port. weight (received_at v n k port)) (λ port m. c.received port) in
           from_weight leq p v n k (omega arith)
+
       final : IsSettled leq w n k → IsSettled leq v n k
       final h =
           let held = each_passed leq (held_at n k w.held) (emitted_by n k w.emitted) h.held in
@@ -92,12 +92,12 @@ module _ {T : Type 0} (leq : T → T → Bool) (o : PartialOrderLaws leq) (p : D
           record {
             apart = subst (AreApart leq) c.emitted h.apart;
             held = passed_each leq (held_at n k v.held) (emitted_by n k v.emitted) (subst (AllPassed leq (held_at n k v.held)) c.emitted (passed_still n k (held_at n k w.held) (held_at n k v.held) w.left c.held (emitted_by n k w.emitted) held left));
-            left = was_each leq n k v.left (emitted_by n k v.emitted) (subst (AllWere leq n k v.left) c.emitted (were_still n k w.left v.left c.left (emitted_by n k w.emitted) left))
+            left = was_each leq n k v.left (emitted_by n k v.emitted) (subst (AllWere leq n k v.left) c.emitted (were_still n k w.left v.left c.left (emitted_by n k w.emitted) left));
           }
 
   -- a take's own frontier, or an earlier one
   left_now : (v : World T) (n k : ℕ) → ((m j : ℕ) (t : T) → was_passed leq m j v.left t ≡ true → is_beyond leq (input_frontier leq p v m) t ≡ false)
-    → (m j : ℕ) (t : T) → was_passed leq m j (turned_to leq p v n k).left t ≡ true → is_beyond leq (input_frontier leq p v m) t ≡ false
+      → (m j : ℕ) (t : T) → was_passed leq m j (turned_to leq p v n k).left t ≡ true → is_beyond leq (input_frontier leq p v m) t ≡ false
   left_now v n k old m j t h = step (eqb n m) refl (is_beyond leq (input_frontier leq p v n) t) refl (eqb k j) h
     where
       step : (a : Bool) → eqb n m ≡ a → (b : Bool) → is_beyond leq (input_frontier leq p v n) t ≡ b → (c : Bool) → (((a && c) && not b) || was_passed leq m j v.left t) ≡ true → is_beyond leq (input_frontier leq p v m) t ≡ false
@@ -120,8 +120,10 @@ module _ {T : Type 0} (leq : T → T → Bool) (o : PartialOrderLaws leq) (p : D
     where
       v : World T
       v = turned_to leq p (took leq p w site j us) site.node site.worker
+
       received : (port : ℕ) → weight (updates_at (place n port k) w.received) ≤ weight (updates_at (place n port k) v.received)
       received port = let e = size-append (cond (same_place site (place n port k)) us []) (updates_at (place n port k) w.received) in omega arith
+
       held : (t : T) → was_passed leq n k w.left t ≡ true → is_beyond leq (held_at n k w.held) t ≡ false → is_beyond leq (held_at n k v.held) t ≡ false
       held t h f =
           ap (λ z. is_beyond leq z t) (flat_map-append (λ (m : Held T). cond (eqb m.node n && eqb m.worker k) (m.time ∷ []) []) (holding site.node site.worker (least leq (times us))) w.held)
@@ -137,6 +139,7 @@ module _ {T : Type 0} (leq : T → T → Bool) (o : PartialOrderLaws leq) (p : D
     where
       v : World T
       v = gave leq p w g held sent
+
       step : (b : Bool) → (eqb g.node n && eqb g.worker k) ≡ b → LoadRule leq p v n k
       step true e =
           let x = and_parts (eqb g.node n) (eqb g.worker k) e in
@@ -159,7 +162,7 @@ module _ {T : Type 0} (leq : T → T → Bool) (o : PartialOrderLaws leq) (p : D
       let v : World T = record w { hand = with_at w.hand k (Some n) } in
       record {
         rule = same_still w (after leq p w (TakeHeld k n)) refl refl refl (λ m j t h. or_right ((eqb n m && eqb k j) && not (is_beyond leq (input_frontier leq p v n) t)) (was_passed leq m j w.left t) h) l.rule;
-        left = left_now v n k l.left
+        left = left_now v n k l.left;
       }
   loaded_after w (Give g held sent) a l = record { rule = given_still w g held sent a l; left = λ n k t h. input_onward leq o t p q n w (Give g held sent) a (l.left n k t h) }
 

@@ -1,10 +1,9 @@
 -- Absolute diffs, added up; over the workers.
-use Rattle.update.proofs.ConsolidatedLemmas.{weight, weight_is}
-use Rattle.std.proofs.Common.{◌≡◌, ℕ, zero, suc, ◌+◌, ◌*◌, ◌<◌, ◌≤◌, Bool, true, false, cond, not, ◌&&◌, List, [], ◌∷◌, ◌++◌, map, take, length, sym, refl, ap, ◌∙◌, subst, Option, Some, None, eqb, arith, unsigned_abs, mul-le-mul}
-use Rattle.std.specs.List.{flat_map, filter, slice_get}
-use Rattle.std.proofs.lemmas.Int.{ints}
-use Rattle.std.proofs.lemmas.Bool.{eqb-true, eqb-false, eq-eqb, ne_eqb, and_parts}
-use Rattle.std.proofs.Math.IntN.{ℤ, pos, ◌+ℤ◌}
+use Rattle.update.proofs.ConsolidatedLemmas.{weight}
+use Rattle.std.proofs.Common.{◌≡◌, ℕ, zero, suc, ◌+◌, ◌*◌, ◌<◌, ◌≤◌, Bool, true, false, cond, ◌&&◌, List, [], ◌∷◌, ◌++◌, take, sym, refl, ◌∙◌, Option, Some, None, eqb, arith, unsigned_abs}
+use Rattle.std.specs.List.{flat_map, filter}
+use Rattle.std.proofs.lemmas.Bool.{eqb-true, eqb-false, ne_eqb}
+use Rattle.std.proofs.Math.IntN.{ℤ, pos}
 use Rattle.update.specs.Bags.{total_by}
 use Rattle.update.specs.declared.change.Update.{Update}
 use Rattle.machine.specs.declared.event.Fed.{Fed}
@@ -92,7 +91,7 @@ module _ {T : Type 0} where
   all-emitted n k [] a = all-zero k
   all-emitted n k (g ∷ gs) a =
       all-same k (λ j. weight (emitted_by n j (g ∷ gs))) (λ j. weight (cond (eqb g.node n && eqb g.worker j) g.updates []) + weight (emitted_by n j gs))
-        (λ j. size-append (cond (eqb g.node n && eqb g.worker j) g.updates []) (emitted_by n j gs))
+      (λ j. size-append (cond (eqb g.node n && eqb g.worker j) g.updates []) (emitted_by n j gs))
       ∙ (all-sum k (λ j. weight (cond (eqb g.node n && eqb g.worker j) g.updates [])) (λ j. weight (emitted_by n j gs))
       ∙ (rw (all-emitted n k gs a.1, all-chosen (eqb g.node n) k g.worker g.updates a.0) (sym (size-append (cond (eqb g.node n) g.updates []) (emitted_at n gs)))))
 
@@ -134,7 +133,7 @@ module _ {T : Type 0} where
   all-fed p n j [] = let z = all-zero j in omega arith
   all-fed p n j (f ∷ fs) =
       let a = all-same j (λ k. weight (flat_map (share_fed p (place n 0 k)) (f ∷ fs))) (λ k. weight (cond (eqb f.input n && eqb (route p f.update.row) k) (f.update ∷ []) []) + weight (flat_map (share_fed p (place n 0 k)) fs))
-            (λ k. size-append (cond (eqb f.input n && eqb (route p f.update.row) k) (f.update ∷ []) []) (flat_map (share_fed p (place n 0 k)) fs)) in
+      (λ k. size-append (cond (eqb f.input n && eqb (route p f.update.row) k) (f.update ∷ []) []) (flat_map (share_fed p (place n 0 k)) fs)) in
       let b = all-sum j (λ k. weight (cond (eqb f.input n && eqb (route p f.update.row) k) (f.update ∷ []) [])) (λ k. weight (flat_map (share_fed p (place n 0 k)) fs)) in
       let d = all-fed p n j fs in
       let e = size-append (cond (eqb f.input n) (f.update ∷ []) []) (fed_to n fs) in

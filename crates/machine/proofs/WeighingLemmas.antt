@@ -1,23 +1,23 @@
 -- What a node gave on all workers is within its weight.
 use Rattle.update.proofs.ConsolidatedLemmas.{weight, weight_is}
-use Rattle.std.proofs.Common.{◌≡◌, ℕ, zero, suc, ◌+◌, ◌*◌, ◌<◌, ◌≤◌, Bool, true, false, cond, not, ◌&&◌, ◌||◌, List, [], ◌∷◌, ◌++◌, map, take, length, sym, refl, ap, ◌∙◌, subst, Option, Some, None, eqb, arith, IsTrue, ◌⊎◌, inl, inr, ⊎_elim}
-use Rattle.std.specs.List.{flat_map, filter, slice_get, list_any, list_all, Contains}
+use Rattle.std.proofs.Common.{◌≡◌, ℕ, ◌+◌, ◌<◌, ◌≤◌, Bool, true, false, cond, ◌&&◌, List, [], ◌∷◌, ◌++◌, take, length, sym, refl, ap, ◌∙◌, subst, Option, Some, None, eqb, arith, IsTrue, ◌⊎◌, inl, inr}
+use Rattle.std.specs.List.{flat_map, filter}
 use Rattle.std.specs.declared.cmp.Ordering.{Ordering}
-use Rattle.std.proofs.lemmas.Bool.{or_from, or_parts, and_parts, eqb-true, eqb-false, false_from_ne_true, false≢true, true≢false}
+use Rattle.std.proofs.lemmas.Bool.{or_from, or_parts, and_parts, eqb-true, false≢true, true≢false}
 use Rattle.std.proofs.lemmas.Int.{ints}
 use Rattle.std.proofs.lemmas.List.Folds.{list_any-append}
 use Rattle.std.proofs.Math.IntN.{ℤ, pos, ◌+ℤ◌}
 use Rattle.lattice.specs.Order.{PartialOrderLaws}
 use Rattle.lattice.specs.Frontiers.{is_beyond}
 use Rattle.antichain.proofs.Lists.{Among, contains_among}
-use Rattle.update.specs.Bags.{Entry, count_of, total_by}
+use Rattle.update.specs.Bags.{count_of, total_by}
 use Rattle.update.specs.Updates.{as_of, size}
 use Rattle.update.specs.declared.change.Update.{Update}
 use Rattle.plan.specs.Changes.{query_at, AreDifferences}
 use Rattle.plan.specs.Nodes.{sources, arranged_by, key_width}
 use Rattle.plan.specs.Operators.{is_linear}
 use Rattle.plan.specs.Queries.{handed}
-use Rattle.plan.specs.Weights.{load, weight_by, AreOwn, IsWeight}
+use Rattle.plan.specs.Weights.{load, weight_by, AreOwn}
 use Rattle.plan.specs.declared.node.Kind.{Kind}
 use Rattle.plan.specs.declared.node.Node.{Node}
 use Rattle.plan.specs.declared.node.Node.TheVariants.{Input, Map, Filter, Concat, Negate, Arrange, Join, Reduce, Output}
@@ -30,7 +30,7 @@ use Rattle.machine.specs.Dataflows.{Dataflow, IsDataflow, node_of, source_of, gi
 use Rattle.machine.specs.Worlds.{World, place, same_place, updates_at, emitted_by, emitted_at, fed_to, held_at}
 use Rattle.machine.specs.Shares.{home, share_from, share, share_fed}
 use Rattle.machine.specs.Outstanding.{input_frontier}
-use Rattle.machine.specs.NodeLaws.{received_at, is_reduction, AreApart, IsSettled}
+use Rattle.machine.specs.NodeLaws.{received_at, is_reduction}
 use Rattle.machine.specs.Histories.{world, IsLegal}
 use Rattle.machine.specs.Promises.{changes_in, AreOwed, KeepsWeight, OwesWithinWeight}
 use Rattle.machine.proofs.ClaimLemmas.{no_source, some_within}
@@ -45,7 +45,7 @@ use Rattle.machine.proofs.SettledLemmas.{IsLoaded, load-le, loaded_world, to_wei
 use Rattle.machine.proofs.FewestLemmas.{fewest, fewest_below, AgreeBelow}
 use Rattle.machine.proofs.PassedLemmas.{AllPassed, AllWere, each_passed, each_was, passed_down}
 use Rattle.machine.proofs.HeadlineLemmas.{part_lem, due_lem}
-use Rattle.machine.proofs.FlowLemmas.{is_passed, not_beyond}
+use Rattle.machine.proofs.FlowLemmas.{is_passed}
 
 -- a reduction is not linear
 linear_not : (node : Node) → is_reduction node ≡ true → is_linear node ≡ false
@@ -103,9 +103,9 @@ module _ {T : Type 0} (leq : T → T → Bool) (o : PartialOrderLaws leq) (p : D
   received_le : (site : Place) → weight (updates_at site w.received) ≤ weight (flat_map (share p site) w.emitted) + weight (flat_map (share_fed p site) w.fed)
   received_le site =
       le (weight (updates_at site w.received)) (weight (updates_at site w.in_flight)) (weight (coming p site w.emitted w.fed)) (weight (flat_map (share p site) w.emitted)) (weight (flat_map (share_fed p site) w.fed))
-        (total_by absolute (updates_at site w.received)) (total_by absolute (updates_at site w.in_flight)) (total_by absolute (coming p site w.emitted w.fed))
-        (size_is (updates_at site w.received)) (size_is (updates_at site w.in_flight)) (size_is (coming p site w.emitted w.fed)) (kept.conserved site absolute)
-        (size-append (flat_map (share p site) w.emitted) (flat_map (share_fed p site) w.fed))
+      (total_by absolute (updates_at site w.received)) (total_by absolute (updates_at site w.in_flight)) (total_by absolute (coming p site w.emitted w.fed))
+      (size_is (updates_at site w.received)) (size_is (updates_at site w.in_flight)) (size_is (coming p site w.emitted w.fed)) (kept.conserved site absolute)
+      (size-append (flat_map (share p site) w.emitted) (flat_map (share_fed p site) w.fed))
     where
       le : (a b c x y : ℕ) (i j k : ℤ) → i ≡ pos a → j ≡ pos b → k ≡ pos c → i +ℤ j ≡ k → c ≡ x + y → a ≤ x + y
       le a b c x y i j k d e f g h = omega (arith, ints)
@@ -153,9 +153,10 @@ module _ {T : Type 0} (leq : T → T → Bool) (o : PartialOrderLaws leq) (p : D
         → count_of (as_of leq t (emitted_by n k w.emitted)) r ≡ cond (eqb (route p (take (key_width p.nodes (node_of p n)) r)) k) (count_of (query_at leq p.nodes (changes_in w) n t) r) (pos 0)) where
       passed_both : (k : ℕ) (us : List (Update T)) → AllPassed leq (held_at n k w.held) us → AllWere leq n k w.left us → AllPassed leq (input_frontier leq p w n ++ held_at n k w.held) us
       passed_both k [] a b = tt
-      passed_both k (u ∷ us) a b =
-          (list_any-append (λ f. leq f u.time) (input_frontier leq p w n) (held_at n k w.held) ∙ or_from (is_beyond leq (input_frontier leq p w n) u.time) (is_beyond leq (held_at n k w.held) u.time) (loaded.left n k u.time b.0) a.0,
-           passed_both k us a.1 b.1)
+      passed_both k (u ∷ us) a b = (
+        list_any-append (λ f. leq f u.time) (input_frontier leq p w n) (held_at n k w.held) ∙ or_from (is_beyond leq (input_frontier leq p w n) u.time) (is_beyond leq (held_at n k w.held) u.time) (loaded.left n k u.time b.0) a.0,
+        passed_both k us a.1 b.1,
+      )
 
       each_passed_by : (k : ℕ) (t : T) → is_beyond leq (input_frontier leq p w n ++ held_at n k w.held) t ≡ false → (is_beyond leq (input_frontier leq p w n) t ≡ false) × (is_beyond leq (held_at n k w.held) t ≡ false)
       each_passed_by k t h = or_parts (is_beyond leq (input_frontier leq p w n) t) (is_beyond leq (held_at n k w.held) t) (sym (list_any-append (λ f. leq f t) (input_frontier leq p w n) (held_at n k w.held)) ∙ h)
@@ -173,11 +174,11 @@ module _ {T : Type 0} (leq : T → T → Bool) (o : PartialOrderLaws leq) (p : D
           one k us d =
               let s = (loaded.rule n k).settled (ap is_reduction e) in
               fewest leq o (input_frontier leq p w n ++ held_at n k w.held) (emitted_by n k w.emitted) (filter (by n k) us)
-                s.apart (passed_both k (emitted_by n k w.emitted) (each_passed leq (held_at n k w.held) (emitted_by n k w.emitted) s.held) (each_was leq n k w.left (emitted_by n k w.emitted) s.left))
-                (λ t h r. let f = each_passed_by k t h in
-                  parts k t f.0 f.1 r
-                  ∙ (ap (λ z. cond (eqb (route p (take (key_width p.nodes (node_of p n)) r)) k) z (pos 0)) (sym (d.sums t refl r))
-                  ∙ sym (sum_at-filter leq t (λ x. eqb (route p (take (key_width p.nodes (node_of p n)) x)) k) us r)))
+              s.apart (passed_both k (emitted_by n k w.emitted) (each_passed leq (held_at n k w.held) (emitted_by n k w.emitted) s.held) (each_was leq n k w.left (emitted_by n k w.emitted) s.left))
+              (λ t h r. let f = each_passed_by k t h in
+              parts k t f.0 f.1 r
+              ∙ (ap (λ z. cond (eqb (route p (take (key_width p.nodes (node_of p n)) r)) k) z (pos 0)) (sym (d.sums t refl r))
+              ∙ sym (sum_at-filter leq t (λ x. eqb (route p (take (key_width p.nodes (node_of p n)) x)) k) us r)))
 
     abbrev ins : ℕ → ℕ
     ins i = size (changes_in w i)
@@ -195,11 +196,14 @@ module _ {T : Type 0} (leq : T → T → Bool) (o : PartialOrderLaws leq) (p : D
         where
           above : ℕ → ℕ
           above port = handed (ins n) limit (source_of p n port)
+
           handed_le : (port : ℕ) (x : Option ℕ) → source_of p n port ≡ x → handed (came_in n) gave_at x ≤ handed (ins n) limit x
           handed_le port None e = let z = weight_is (fed_to n w.fed) in omega arith
           handed_le port (Some s) e = below s (source_smaller p.nodes q.plan n port s e)
+
           port_le : (port : ℕ) → (port ≡ 0) ⊎ (port < length (sources (node_of p n))) → all p.workers (got n port) ≤ above port
           port_le port m = let a = received n port m (source_of p n port) refl in let b = handed_le port (source_of p n port) refl in omega arith
+
           step : (b : Bool) → is_reduction (node_of p n) ≡ b → all p.workers (λ k. weight (emitted_by n k w.emitted)) ≤ load (node_of p n) (own n) above
           step true e =
               let found = reduces (node_of p n) e in
@@ -217,8 +221,8 @@ module _ {T : Type 0} (leq : T → T → Bool) (o : PartialOrderLaws leq) (p : D
 
     -- a reduction's outputs so far
     partly : (n : ℕ) (kind : Kind) (source : ℕ) → node_of p n ≡ Reduce kind source → (k : ℕ)
-      → ((t : T) → is_beyond leq (input_frontier leq p w n) t ≡ false → (r : List ℤ) → count_of (given_at p n (λ port. as_of leq t (received_at w n k port))) r ≡ cond (eqb (route p (take (key_width p.nodes (node_of p n)) r)) k) (count_of (query_at leq p.nodes (changes_in w) n t) r) (pos 0))
-      → (us : List (Update T)) → AreOwed leq p w n k us → weight us ≤ own n
+        → ((t : T) → is_beyond leq (input_frontier leq p w n) t ≡ false → (r : List ℤ) → count_of (given_at p n (λ port. as_of leq t (received_at w n k port))) r ≡ cond (eqb (route p (take (key_width p.nodes (node_of p n)) r)) k) (count_of (query_at leq p.nodes (changes_in w) n t) r) (pos 0))
+        → (us : List (Update T)) → AreOwed leq p w n k us → weight us ≤ own n
     partly n kind source e k due us a =
         let d = differences n source kind e in
         let f = d.2 in
@@ -234,11 +238,13 @@ module _ {T : Type 0} (leq : T → T → Bool) (o : PartialOrderLaws leq) (p : D
             step : (b : Bool) → weight (filter test vs) ≤ weight vs → weight (cond b (v ∷ filter test vs) (filter test vs)) ≤ weight (v ∷ vs)
             step true h = omega arith
             step false h = omega arith
+
         agree : (ds : List (Update T)) → AreDifferences leq cmp p.nodes (changes_in w) [] n ds → (xs : List (Update T)) → AllPassed leq (input_frontier leq p w n) xs → ((u : Update T) → Among u xs → Among u us) → AgreeBelow leq o us (filter (by n k) ds) xs
         agree ds d [] b m = tt
-        agree ds d (x ∷ xs) b m =
-            ((λ s l r. a.sums x (contains_among x us (m x (inl refl))) s l r ∙ (due s (passed_down leq o (input_frontier leq p w n) s x.time l b.0) r ∙ (ap (λ z. cond (eqb (route p (take (key_width p.nodes (node_of p n)) r)) k) z (pos 0)) (sym (d.sums s refl r)) ∙ sym (sum_at-filter leq s (λ y. eqb (route p (take (key_width p.nodes (node_of p n)) y)) k) ds r)))),
-             agree ds d xs b.1 (λ u i. m u (inr i)))
+        agree ds d (x ∷ xs) b m = (
+          (λ s l r. a.sums x (contains_among x us (m x (inl refl))) s l r ∙ (due s (passed_down leq o (input_frontier leq p w n) s x.time l b.0) r ∙ (ap (λ z. cond (eqb (route p (take (key_width p.nodes (node_of p n)) r)) k) z (pos 0)) (sym (d.sums s refl r)) ∙ sym (sum_at-filter leq s (λ y. eqb (route p (take (key_width p.nodes (node_of p n)) y)) k) ds r)))),
+          agree ds d xs b.1 (λ u i. m u (inr i)),
+        )
 
 module _ {T : Type 0} (leq : T → T → Bool) (minimum : T) (o : PartialOrderLaws leq) (p : Dataflow) (q : IsDataflow p) (cmp : T → T → Ordering) (h : List (Event T)) (l : IsLegal leq minimum p h) (n : ℕ) where
   abbrev w : World T
@@ -256,9 +262,9 @@ module _ {T : Type 0} (leq : T → T → Bool) (minimum : T) (o : PartialOrderLa
       reduced_at : (kept : IsKept leq p w) (loaded : IsLoaded leq o p q w) (own : ℕ → ℕ) (d : AreOwn leq cmp p.nodes (changes_in w) own) (m : ℕ) (kind : Kind) (source : ℕ) → node_of p m ≡ Reduce kind source → all p.workers (λ k. weight (emitted_by m k w.emitted)) ≤ own m
       reduced_at kept loaded own d m kind source e =
           reduced leq o p q w kept loaded cmp own d m
-            (λ k t f g r. part_lem leq minimum o p q h l m k (linear_not (node_of p m) (ap is_reduction e)) t (is_passed _ f) (is_passed _ g) r
-              ∙ count_of-filter (λ x. eqb (route p (take (key_width p.nodes (node_of p m)) x)) k) (query_at leq p.nodes (changes_in w) m t) r)
-            kind source e
+          (λ k t f g r. part_lem leq minimum o p q h l m k (linear_not (node_of p m) (ap is_reduction e)) t (is_passed _ f) (is_passed _ g) r
+          ∙ count_of-filter (λ x. eqb (route p (take (key_width p.nodes (node_of p m)) x)) k) (query_at leq p.nodes (changes_in w) m t) r)
+          kind source e
 
   pub owed_lem : OwesWithinWeight leq p w n cmp
   owed_lem source kind e k us a limit is =

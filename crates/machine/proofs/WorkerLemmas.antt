@@ -1,11 +1,11 @@
 -- Sums over the workers.
-use Rattle.std.proofs.Common.{◌≡◌, ℕ, zero, suc, ◌+◌, ◌<◌, ◌≤◌, Bool, true, false, cond, not, ◌&&◌, ◌||◌, List, [], ◌∷◌, ◌++◌, map, take, length, sym, refl, ap, ◌∙◌, subst, Option, Some, None, eqb, arith, IsTrue}
-use Rattle.std.specs.List.{flat_map, filter, slice_get}
+use Rattle.std.proofs.Common.{◌≡◌, ℕ, zero, suc, ◌<◌, ◌≤◌, Bool, true, false, cond, ◌&&◌, List, [], ◌∷◌, ◌++◌, map, take, sym, refl, ap, ◌∙◌, Option, Some, None, eqb, arith, IsTrue}
+use Rattle.std.specs.List.{flat_map, filter}
 use Rattle.std.proofs.lemmas.Int.{ints}
-use Rattle.std.proofs.lemmas.Bool.{eqb-true, eqb-false, eq-eqb, ne_eqb, and_parts}
+use Rattle.std.proofs.lemmas.Bool.{eqb-true, eqb-false, ne_eqb, and_parts}
 use Rattle.std.proofs.Math.IntN.{ℤ, pos, ◌+ℤ◌, +ℤ_idl, +ℤ_idr}
 use Rattle.update.specs.Bags.{Entry, count_of, same_row}
-use Rattle.update.specs.Updates.{as_of, entry}
+use Rattle.update.specs.Updates.{entry}
 use Rattle.update.specs.declared.change.Update.{Update}
 use Rattle.machine.specs.declared.event.Place.{Place}
 use Rattle.machine.specs.declared.event.Fed.{Fed}
@@ -76,7 +76,7 @@ module _ {T : Type 0} (leq : T → T → Bool) (t : T) where
   over-emitted n k [] r a = over-zero k
   over-emitted n k (g ∷ gs) r a =
       over-same k (λ j. sum_at leq t (emitted_by n j (g ∷ gs)) r) (λ j. sum_at leq t (cond (eqb g.node n && eqb g.worker j) g.updates []) r +ℤ sum_at leq t (emitted_by n j gs) r)
-        (λ j l. sum_at-append leq t (cond (eqb g.node n && eqb g.worker j) g.updates []) (emitted_by n j gs) r)
+      (λ j l. sum_at-append leq t (cond (eqb g.node n && eqb g.worker j) g.updates []) (emitted_by n j gs) r)
       ∙ (over-sum k (λ j. sum_at leq t (cond (eqb g.node n && eqb g.worker j) g.updates []) r) (λ j. sum_at leq t (emitted_by n j gs) r)
       ∙ (rw (over-emitted n k gs r a.1, over-chosen (eqb g.node n) k g.worker g.updates r a.0) (sym (sum_at-append leq t (cond (eqb g.node n) g.updates []) (emitted_at n gs) r))))
 
@@ -100,9 +100,11 @@ module _ {T : Type 0} (leq : T → T → Bool) (t : T) where
       apart : (b : Bool) (xs : List (Update T)) → cond b (u ∷ xs) xs ≡ cond b (u ∷ []) [] ++ xs
       apart true xs = refl
       apart false xs = refl
+
       alone : (b : Bool) → same_row u.row r ≡ false → count_of (map entry (cond b (u ∷ []) [])) r ≡ pos 0
       alone true h = rw h refl
       alone false h = refl
+
       single : sum_at leq t (cond (test u.row) (u ∷ []) []) r ≡ cond (test r) (sum_at leq t (u ∷ []) r) (pos 0)
       single = step (same_row u.row r) refl
         where
@@ -143,7 +145,7 @@ module _ {T : Type 0} (leq : T → T → Bool) (t : T) where
   over-fed p b n (f ∷ fs) r =
       let u = f.update in
       over-same p.workers (λ k. sum_at leq t (flat_map (share_fed p (place n 0 k)) (f ∷ fs)) r) (λ k. sum_at leq t (cond (eqb f.input n && eqb (route p u.row) k) (u ∷ []) []) r +ℤ sum_at leq t (flat_map (share_fed p (place n 0 k)) fs) r)
-        (λ k l. sum_at-append leq t (cond (eqb f.input n && eqb (route p u.row) k) (u ∷ []) []) (flat_map (share_fed p (place n 0 k)) fs) r)
+      (λ k l. sum_at-append leq t (cond (eqb f.input n && eqb (route p u.row) k) (u ∷ []) []) (flat_map (share_fed p (place n 0 k)) fs) r)
       ∙ (over-sum p.workers (λ k. sum_at leq t (cond (eqb f.input n && eqb (route p u.row) k) (u ∷ []) []) r) (λ k. sum_at leq t (flat_map (share_fed p (place n 0 k)) fs) r)
       ∙ (rw (over-fed p b n fs r, over-chosen (eqb f.input n) p.workers (route p u.row) (u ∷ []) r (b u.row)) (sym (sum_at-append leq t (cond (eqb f.input n) (u ∷ []) []) (fed_to n fs) r))))
 

@@ -1,32 +1,27 @@
 -- What a contract sees of a board, what each event makes of it, and which histories it may stand for.
-use Rattle.std.specs.Prelude.{◌≡◌, ℕ, suc, ◌+◌, ◌<◌, ◌≤◌, Bool, not, ◌&&◌, eqb, if◌then◌else◌, List, [], ◌∷◌, ◌++◌, map, length, set, get_or, replicate, Option, Some, None, IsTrue, ⊤, nat_lt, nat_le, pos, unsigned_abs}
-use Rattle.std.specs.List.{filter, flat_map, list_all}
+use Rattle.std.specs.Prelude.{◌≡◌, ℕ, suc, ◌<◌, Bool, not, eqb, List, [], ◌∷◌, ◌++◌, length, set, get_or, replicate, Option, None, IsTrue, ⊤, nat_lt, nat_le, pos, unsigned_abs}
+use Rattle.std.specs.List.{filter, flat_map}
 use Rattle.std.specs.Ordering.{int_eq}
 use Rattle.lattice.specs.Frontiers.{is_beyond, all_beyond}
 use Rattle.update.specs.Bags.{Alike}
 use Rattle.update.specs.Updates.{as_of}
-use Rattle.update.specs.declared.change.Update.{Update}
 use Rattle.update.specs.declared.refusal.Refusal.{Refusal}
-use Rattle.update.specs.declared.refusal.Refusal.TheVariants.{OutOfMemory, WrongWidth, ZeroWeight, WeightTooLarge, TimePassed, NotForward, InputFull}
+use Rattle.update.specs.declared.refusal.Refusal.TheVariants.{WrongWidth, ZeroWeight, WeightTooLarge, TimePassed, NotForward, InputFull}
 use Rattle.plan.specs.Ancestors.{is_input}
 use Rattle.plan.specs.Edges.{numbers_where}
 use Rattle.plan.specs.Rules.{is_output, first_refusal}
 use Rattle.plan.specs.Widths.{width_of}
-use Rattle.plan.specs.declared.node.Node.{Node}
-use Rattle.machine.specs.declared.event.Place.{Place}
 use Rattle.machine.specs.declared.event.Bundle.{Bundle}
 use Rattle.machine.specs.declared.event.Fed.{Fed}
-use Rattle.machine.specs.declared.event.Emission.{Emission}
 use Rattle.machine.specs.declared.event.Held.{Held}
 use Rattle.machine.specs.declared.event.Open.{Open}
 use Rattle.machine.specs.declared.event.Event.{Event}
-use Rattle.machine.specs.declared.event.Event.TheVariants.{Feed, Advance, Allow, Look, Take, TakeHeld, Give}
+use Rattle.machine.specs.declared.event.Event.TheVariants.{Feed, Advance, Look}
 use Rattle.machine.specs.declared.view.View.{View}
 use Rattle.machine.specs.Dataflows.{Dataflow, node_of}
 use Rattle.machine.specs.Worlds.{emitted_at, fed_to, open_at}
 use Rattle.machine.specs.Shares.{home}
-use Rattle.machine.specs.Outstanding.{stamp}
-use Rattle.machine.specs.Histories.{without, is_held_by, holding, opening, world, IsLegal}
+use Rattle.machine.specs.Histories.{opening, world, IsLegal}
 
 -- what lies on a board
 pub record Shown (T : Type 0) : Type 0 where
@@ -57,12 +52,14 @@ module _ {T : Type 0} where
   -- a board on which nothing has happened: each input and each view stands at the least time
   abbrev pub first_board : T → Dataflow → Shown T
   first_board minimum p = record {
-    dataflow = p; in_flight = []; held = [];
+    dataflow = p;
+    in_flight = [];
+    held = [];
     openings = flat_map (λ i. opening i (minimum ∷ [])) (numbers_where is_input p.nodes);
     hand = replicate p.workers None;
     accepted = replicate (length p.nodes) 0;
     views = replicate (length p.nodes) (record { since = minimum ∷ []; captured = [] });
-    last = Look 0
+    last = Look 0;
   }
 
   -- the board after a look, and after a change, a frontier and a since of clients
@@ -73,24 +70,24 @@ module _ {T : Type 0} where
   fed client f b = record b {
     in_flight = b.in_flight ++ record { place = home b.dataflow f; updates = f.update ∷ [] } ∷ [];
     accepted = set b.accepted f.input (suc (get_or b.accepted f.input 0));
-    last = Feed client f
+    last = Feed client f;
   }
 
   abbrev pub advanced : ℕ → ℕ → List T → Shown T → Shown T
   advanced client i ts b = record b {
     openings = opening i ts ++ filter (λ o. not (eqb o.input i)) b.openings;
-    last = Advance client i ts
+    last = Advance client i ts;
   }
 
 module _ {T : Type 0} (below : T → T → Bool) where
   -- what refuses a change, in the order of testing
   abbrev pub feed_faults : Shown T → Fed T → List (Bool × Refusal)
   feed_faults b f = (not (eqb (length f.update.row) (width_of b.dataflow.nodes f.input)), WrongWidth)
-    ∷ (int_eq f.update.diff (pos 0), ZeroWeight)
-    ∷ (not (nat_le (unsigned_abs f.update.diff) 2147483647), WeightTooLarge)
-    ∷ (not (is_beyond below (open_at f.input b.openings) f.update.time), TimePassed)
-    ∷ (not (nat_lt (get_or b.accepted f.input 0) 1048576), InputFull)
-    ∷ []
+      ∷ (int_eq f.update.diff (pos 0), ZeroWeight)
+      ∷ (not (nat_le (unsigned_abs f.update.diff) 2147483647), WeightTooLarge)
+      ∷ (not (is_beyond below (open_at f.input b.openings) f.update.time), TimePassed)
+      ∷ (not (nat_lt (get_or b.accepted f.input 0) 1048576), InputFull)
+      ∷ []
 
   abbrev pub feed_refusal : Shown T → Fed T → Option Refusal
   feed_refusal b f = first_refusal (feed_faults b f)
@@ -115,5 +112,5 @@ module _ {T : Type 0} (below : T → T → Bool) (minimum : T) where
     pub accepted : (i : ℕ) → i < length b.dataflow.nodes → get_or b.accepted i 0 ≡ length (fed_to i (world below minimum b.dataflow h).fed)
     pub since : (v : ℕ) → v < length b.dataflow.nodes → (get_or b.views v no_view).since ≡ (world below minimum b.dataflow h).since v
     pub captured : (v : ℕ) → v < length b.dataflow.nodes → IsTrue (is_output (node_of b.dataflow v))
-      → (t : T) → Alike (as_of below t (get_or b.views v no_view).captured) (as_of below t (emitted_at v (world below minimum b.dataflow h).emitted))
+        → (t : T) → Alike (as_of below t (get_or b.views v no_view).captured) (as_of below t (emitted_at v (world below minimum b.dataflow h).emitted))
     pub last : IsLast b h

@@ -1,9 +1,9 @@
 -- Histories: lists of events, the newest first. What each event leaves, and when it is allowed.
-use Rattle.std.specs.Prelude.{◌≡◌, ℕ, zero, suc, ◌<◌, ◌≤◌, ◌≢◌, Bool, not, ◌&&◌, eqb, if◌then◌else◌, List, [], ◌∷◌, ◌++◌, map, length, Option, Some, None, IsTrue, Contains, ⊤, pos, unsigned_abs, slice_get}
+use Rattle.std.specs.Prelude.{◌≡◌, ℕ, zero, suc, ◌<◌, ◌≤◌, ◌≢◌, Bool, not, ◌&&◌, eqb, if◌then◌else◌, List, [], ◌∷◌, ◌++◌, map, length, Some, None, IsTrue, Contains, ⊤, pos, unsigned_abs, slice_get}
 use Rattle.std.specs.List.{filter, list_all, flat_map}
 use Rattle.lattice.specs.Frontiers.{is_beyond, all_beyond}
 use Rattle.update.specs.declared.change.Update.{Update}
-use Rattle.plan.specs.Ancestors.{is_input, numbers_below}
+use Rattle.plan.specs.Ancestors.{is_input}
 use Rattle.plan.specs.Changes.{has_passed}
 use Rattle.plan.specs.Edges.{numbers_where}
 use Rattle.plan.specs.Nodes.{arranged_by}
@@ -18,7 +18,7 @@ use Rattle.machine.specs.declared.event.Open.{Open}
 use Rattle.machine.specs.declared.event.Event.{Event}
 use Rattle.machine.specs.declared.event.Event.TheVariants.{Feed, Advance, Allow, Look, Take, TakeHeld, Give}
 use Rattle.machine.specs.Dataflows.{Dataflow, node_of}
-use Rattle.machine.specs.Worlds.{World, times, place, same_place, updates_at, queue, emitted_by, fed_to, held_at, open_at}
+use Rattle.machine.specs.Worlds.{World, times, same_place, updates_at, queue, fed_to, held_at, open_at}
 use Rattle.machine.specs.Shares.{home, share}
 use Rattle.machine.specs.Outstanding.{stamp, input_frontier}
 use Rattle.machine.specs.NodeLaws.{NodeLaw, LoadRule}
@@ -54,7 +54,7 @@ module _ {T : Type 0} (below : T → T → Bool) (p : Dataflow) where
   abbrev pub turned_to : World T → ℕ → ℕ → World T
   turned_to w n k = record w {
     hand = with_at w.hand k (Some n);
-    left = record { node = n; worker = k; frontier = input_frontier below p w n } ∷ w.left
+    left = record { node = n; worker = k; frontier = input_frontier below p w n } ∷ w.left;
   }
 
   -- a bundle is received: it is in flight no more, and from then on its stamp is held
@@ -62,7 +62,7 @@ module _ {T : Type 0} (below : T → T → Bool) (p : Dataflow) where
   took w site number us = record w {
     in_flight = without site w.in_flight number;
     received = record { place = site; updates = us } ∷ w.received;
-    held = holding site.node site.worker (stamp below us) ++ w.held
+    held = holding site.node site.worker (stamp below us) ++ w.held;
   }
 
   -- what a worker computed is given: it holds these times there from then on, and no other, and what is sent is in flight
@@ -71,7 +71,7 @@ module _ {T : Type 0} (below : T → T → Bool) (p : Dataflow) where
     in_flight = w.in_flight ++ sent;
     emitted = g ∷ w.emitted;
     held = holding g.node g.worker ts ++ filter (λ m. not (is_held_by g.node g.worker m)) w.held;
-    hand = with_at w.hand g.worker None
+    hand = with_at w.hand g.worker None;
   }
 
   -- what an event leaves
@@ -150,11 +150,15 @@ module _ {T : Type 0} (below : T → T → Bool) (minimum : T) (opened : Dataflo
   -- before the first event nothing has come, and each input and view stands at the least time
   abbrev pub first_world : World T
   first_world = record {
-    fed = []; in_flight = []; received = []; emitted = []; held = [];
+    fed = [];
+    in_flight = [];
+    received = [];
+    emitted = [];
+    held = [];
     openings = flat_map (λ i. opening i (minimum ∷ [])) (numbers_where is_input opened.nodes);
     hand = λ _. None;
     since = λ _. minimum ∷ [];
-    left = []
+    left = [];
   }
 
   -- what a history leaves

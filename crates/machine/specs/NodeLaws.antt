@@ -1,6 +1,6 @@
 -- What a worker owes at a node. The node law: at every time before those that it still holds there, what it gave is what
 -- the node makes of what it received. The load rule: it gives no more than that can take.
-use Rattle.std.specs.Prelude.{◌≡◌, ℕ, ◌≤◌, Bool, true, false, not, ◌&&◌, eqb, List, [], ◌∷◌, IsTrue, ⊤}
+use Rattle.std.specs.Prelude.{◌≡◌, ℕ, ◌≤◌, Bool, true, false, ◌&&◌, eqb, List, [], ◌∷◌, IsTrue, ⊤}
 use Rattle.std.specs.List.{list_any, list_all}
 use Rattle.update.specs.Bags.{Alike, same_row}
 use Rattle.update.specs.Updates.{as_of, size}
@@ -30,7 +30,7 @@ received_at w n k port = updates_at (place n port k) w.received
 module _ {T : Type 0} (below : T → T → Bool) where
   abbrev pub NodeLaw : Dataflow → World T → ℕ → ℕ → Type 0
   NodeLaw p w n k = (t : T) → IsTrue (has_passed below (held_at n k w.held) t)
-    → Alike (as_of below t (emitted_by n k w.emitted)) (given_at p n (λ port. as_of below t (received_at w n k port)))
+      → Alike (as_of below t (emitted_by n k w.emitted)) (given_at p n (λ port. as_of below t (received_at w n k port)))
 
   -- the updates are of one row and one time
   abbrev pub is_doubled : Update T → Update T → Bool

@@ -1,27 +1,22 @@
 -- What is promised of every legal history, each in a few lines. They are stated of what a history leaves, at one node.
-use Rattle.std.specs.Prelude.{◌≡◌, ℕ, ◌<◌, ◌≤◌, Bool, true, false, not, ◌&&◌, eqb, List, [], ◌∷◌, ◌++◌, IsTrue, ⊤, if◌then◌else◌, take, length, ℤ, ◌||◌, ◌⊎◌, ◌≢◌, Contains, Some}
+use Rattle.std.specs.Prelude.{◌≡◌, ℕ, ◌<◌, ◌≤◌, Bool, false, not, ◌&&◌, eqb, List, [], IsTrue, take, length, ℤ, ◌||◌, ◌⊎◌, ◌≢◌, Contains, Some}
 use Rattle.std.specs.List.{filter, list_all}
 use Rattle.std.specs.declared.cmp.Ordering.{Ordering}
-use Rattle.lattice.specs.Frontiers.{is_beyond}
-use Rattle.antichain.specs.Antichains.{SameElements, least}
-use Rattle.update.specs.Bags.{Entry, Alike, count_of}
+use Rattle.update.specs.Bags.{Alike}
 use Rattle.update.specs.Updates.{as_of, size, total_at, IsConsolidated}
 use Rattle.update.specs.declared.change.Update.{Update}
-use Rattle.plan.specs.Ancestors.{feeders}
-use Rattle.plan.specs.Changes.{has_passed, query_at, open_for, AreDifferences}
+use Rattle.plan.specs.Changes.{has_passed, query_at, AreDifferences}
 use Rattle.plan.specs.Nodes.{key_width, sources}
 use Rattle.plan.specs.Operators.{is_linear}
 use Rattle.plan.specs.Weights.{IsWeight}
 use Rattle.plan.specs.declared.node.Kind.{Kind}
-use Rattle.plan.specs.declared.node.Node.{Node}
 use Rattle.plan.specs.declared.node.Node.TheVariants.{Reduce}
 use Rattle.machine.specs.declared.event.Bundle.{Bundle}
 use Rattle.machine.specs.declared.event.Held.{Held}
 use Rattle.machine.specs.declared.event.Open.{Open}
-use Rattle.machine.specs.declared.event.Event.{Event}
 use Rattle.machine.specs.Dataflows.{Dataflow, node_of, given_at, above, route}
-use Rattle.machine.specs.Worlds.{World, times, emitted_at, emitted_by, fed_to, held_at, open_at}
-use Rattle.machine.specs.Outstanding.{frontier, input_frontier, port_frontier, outstanding, counted}
+use Rattle.machine.specs.Worlds.{World, emitted_at, emitted_by, fed_to, held_at}
+use Rattle.machine.specs.Outstanding.{frontier, input_frontier}
 use Rattle.machine.specs.NodeLaws.{received_at, AreApart}
 use Rattle.machine.specs.Histories.{IsInput}
 use Rattle.machine.specs.declared.event.Place.{Place}
@@ -35,22 +30,22 @@ module _ {T : Type 0} (below : T → T → Bool) (p : Dataflow) (w : World T) (n
   -- changes fed, summed to that time
   abbrev pub MeetsQuery : Type 0
   MeetsQuery = (t : T) → IsTrue (has_passed below (frontier below p w n) t)
-    → Alike (as_of below t (emitted_at n w.emitted)) (query_at below p.nodes (changes_in w) n t)
+      → Alike (as_of below t (emitted_at n w.emitted)) (query_at below p.nodes (changes_in w) n t)
 
   -- a consolidated list at passed times that sums there to what the node gave is the one list of differences; and of each
   -- row at each passed time the node gave in total what that list has
   pub record MeetsDifferences (cmp : T → T → Ordering) : Type 0 where
     pub into : (us : List (Update T)) → IsConsolidated cmp us → IsTrue (list_all (λ u. has_passed below (frontier below p w n) u.time) us)
-      → ((t : T) → IsTrue (has_passed below (frontier below p w n) t) → Alike (as_of below t us) (as_of below t (emitted_at n w.emitted)))
-      → AreDifferences below cmp p.nodes (changes_in w) (frontier below p w n) n us
+        → ((t : T) → IsTrue (has_passed below (frontier below p w n) t) → Alike (as_of below t us) (as_of below t (emitted_at n w.emitted)))
+        → AreDifferences below cmp p.nodes (changes_in w) (frontier below p w n) n us
     pub back : (us : List (Update T)) → AreDifferences below cmp p.nodes (changes_in w) (frontier below p w n) n us
-      → (row : List ℤ) (t : T) → IsTrue (has_passed below (frontier below p w n) t) → total_at below row t us ≡ total_at below row t (emitted_at n w.emitted)
+        → (row : List ℤ) (t : T) → IsTrue (has_passed below (frontier below p w n) t) → total_at below row t us ≡ total_at below row t (emitted_at n w.emitted)
 
   -- at a join or reduction, what one worker gave is the part of the query whose keys are its own, wherever the input
   -- frontier and the times that the worker itself holds have passed
   abbrev pub MeetsPart : ℕ → Type 0
   MeetsPart k = is_linear (node_of p n) ≡ false → (t : T) → IsTrue (has_passed below (input_frontier below p w n) t) → IsTrue (has_passed below (held_at n k w.held) t)
-    → Alike (as_of below t (emitted_by n k w.emitted)) (filter (λ e. eqb (route p (take (key_width p.nodes (node_of p n)) e.row)) k) (query_at below p.nodes (changes_in w) n t))
+      → Alike (as_of below t (emitted_by n k w.emitted)) (filter (λ e. eqb (route p (take (key_width p.nodes (node_of p n)) e.row)) k) (query_at below p.nodes (changes_in w) n t))
 
   -- nothing is outstanding at a passed time or before it, at the node or above it: no update in flight, no held time and no
   -- element of an input's frontier
@@ -76,7 +71,7 @@ module _ {T : Type 0} (below : T → T → Bool) (p : Dataflow) (w : World T) (n
   -- so where a reduction is about to answer that a number is too large, its weight is
   abbrev pub OwesWithinWeight : (T → T → Ordering) → Type 0
   OwesWithinWeight cmp = (source : ℕ) (kind : Kind) → node_of p n ≡ Reduce kind source → (k : ℕ) (us : List (Update T)) → AreOwed k us
-    → (weight : ℕ) → IsWeight below cmp p.nodes (changes_in w) n weight → size us ≤ weight
+      → (weight : ℕ) → IsWeight below cmp p.nodes (changes_in w) n weight → size us ≤ weight
 
 -- what a frontier has passed it has passed after any later events
 abbrev pub GoesOn : {T : Type 0} → (T → T → Bool) → List T → List T → Type 0

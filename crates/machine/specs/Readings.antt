@@ -1,5 +1,5 @@
 -- What is read of a view, and when a board is quiet.
-use Rattle.std.specs.Prelude.{◌≡◌, ℕ, ◌<◌, Bool, List, [], IsTrue, Option, None}
+use Rattle.std.specs.Prelude.{◌≡◌, ℕ, ◌<◌, Bool, List, [], IsTrue, None}
 use Rattle.std.specs.List.{list_all}
 use Rattle.lattice.specs.Frontiers.{is_beyond}
 use Rattle.antichain.specs.Antichains.{SameElements, least}
@@ -22,7 +22,7 @@ module _ {T : Type 0} (below : T → T → Bool) (p : Dataflow) (w : World T) wh
   -- so at a time that is passed and still held the reading sums to the query
   abbrev pub ReadsQuery : Type 0
   ReadsQuery = (view : ℕ) (us : List (Update T)) (front since : List T) → IsReading view us front since
-    → (t : T) → IsTrue (has_passed below front t) → IsTrue (is_beyond below since t) → Alike (as_of below t us) (query_at below p.nodes (changes_in w) view t)
+      → (t : T) → IsTrue (has_passed below front t) → IsTrue (is_beyond below since t) → Alike (as_of below t us) (query_at below p.nodes (changes_in w) view t)
 
   -- nothing is in flight or in hand, and whatever is held, something may still come to its node at or before it
   pub record IsQuiet : Type 0 where

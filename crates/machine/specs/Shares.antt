@@ -1,6 +1,6 @@
 -- Which updates go where. Into an arrange node an update goes to the worker of its key; along every other edge it stays
 -- on its worker; and a change comes to its input on the worker of its whole row.
-use Rattle.std.specs.Prelude.{ℕ, Bool, eqb, if◌then◌else◌, List, [], ◌∷◌, take, Option, Some, None}
+use Rattle.std.specs.Prelude.{ℕ, eqb, if◌then◌else◌, List, [], ◌∷◌, take, Option, Some, None}
 use Rattle.std.specs.List.{filter}
 use Rattle.update.specs.declared.change.Update.{Update}
 use Rattle.plan.specs.Nodes.{arranged_by}

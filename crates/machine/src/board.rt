@@ -42,25 +42,25 @@ impl<T> Model for Board<T> {
     ghost Value = { Shown T };
 
     ghost view = { λ b. record {
-        dataflow = record { nodes = b.plan; workers = b.workers };
-        in_flight = b.in_flight.items;
-        held = b.held.items;
-        openings = b.openings.items;
-        hand = b.hand.items;
-        accepted = b.accepted.items;
-        views = b.views.items;
-        last = b.last
+      dataflow = record { nodes = b.plan; workers = b.workers };
+      in_flight = b.in_flight.items;
+      held = b.held.items;
+      openings = b.openings.items;
+      hand = b.hand.items;
+      accepted = b.accepted.items;
+      views = b.views.items;
+      last = b.last;
     } };
 
     ghost invariant = { λ b. IsBoard (record {
-        dataflow = record { nodes = b.plan; workers = b.workers };
-        in_flight = b.in_flight.items;
-        held = b.held.items;
-        openings = b.openings.items;
-        hand = b.hand.items;
-        accepted = b.accepted.items;
-        views = b.views.items;
-        last = b.last
+      dataflow = record { nodes = b.plan; workers = b.workers };
+      in_flight = b.in_flight.items;
+      held = b.held.items;
+      openings = b.openings.items;
+      hand = b.hand.items;
+      accepted = b.accepted.items;
+      views = b.views.items;
+      last = b.last;
     }) };
 }
 

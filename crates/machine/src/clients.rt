@@ -167,7 +167,11 @@ impl<T: Minimum> Board<T> {
         match self.openings_with(input, times.as_slice()) {
             Ok(openings) => {
                 self.openings = openings;
-                self.last = Event::Advance { client, input, times };
+                self.last = Event::Advance {
+                    client,
+                    input,
+                    times,
+                };
                 Ok(())
             }
             Err(refusal) => {
@@ -213,7 +217,11 @@ fn opened<T: Minimum>(alloc: Global, input: NodeId, times: &[T]) -> Result<Vec<O
 }
 
 // The elements of the other inputs' frontiers, behind.
-fn push_others<T: Minimum>(openings: &mut Vec<Open<T>>, all: &[Open<T>], input: NodeId) -> Result<(), Refusal>
+fn push_others<T: Minimum>(
+    openings: &mut Vec<Open<T>>,
+    all: &[Open<T>],
+    input: NodeId,
+) -> Result<(), Refusal>
     ensures others { OnOk result (openings.new.items ≡ openings.old.items ++ filter (λ o. not (eqb o.input input)) all.now) }
     ensures refused { IfErr result (λ refusal. refusal ≡ OutOfMemory) }
 {

@@ -83,17 +83,41 @@ impl<T> std::marker::Model for Bundles<T> {
 #[derive(Debug, Drop)]
 pub enum Event<T> {
     /// A client changes an input's table.
-    Feed { client: usize, fed: Fed<T> },
+    Feed {
+        client: usize,
+        fed: Fed<T>,
+    },
     /// A client gives up the times before a frontier at an input: with no time the input is closed.
-    Advance { client: usize, input: NodeId, times: Times<T> },
+    Advance {
+        client: usize,
+        input: NodeId,
+        times: Times<T>,
+    },
     /// A client gives up reading a view at times that are not beyond a frontier.
-    Allow { client: usize, view: NodeId, times: Times<T> },
+    Allow {
+        client: usize,
+        view: NodeId,
+        times: Times<T>,
+    },
     /// A client or worker looks at the board, and leaves it as it is.
-    Look { actor: usize },
+    Look {
+        actor: usize,
+    },
     /// A worker takes the bundle of this number, from 0, among those that wait at a place.
-    Take { place: Place, number: usize, updates: Updates<T> },
+    Take {
+        place: Place,
+        number: usize,
+        updates: Updates<T>,
+    },
     /// A worker turns to the times that it holds at a node.
-    TakeHeld { worker: usize, node: NodeId },
+    TakeHeld {
+        worker: usize,
+        node: NodeId,
+    },
     /// A worker gives what it computed at a node, says which times it holds there from now on, and sends the updates on.
-    Give { given: Emission<T>, held: Times<T>, sent: Bundles<T> },
+    Give {
+        given: Emission<T>,
+        held: Times<T>,
+        sent: Bundles<T>,
+    },
 }

@@ -22,9 +22,9 @@ mod board;
 mod clients;
 mod event;
 mod lists;
-mod standing;
 #[cfg(test)]
 mod memory_tests;
+mod standing;
 #[cfg(test)]
 mod tests;
 mod theorems;
@@ -36,7 +36,7 @@ pub use event::{Bundle, Bundles, Emission, Event, Fed, Held, Open, Place};
 pub use lists::{Times, Updates};
 pub use standing::meets;
 pub use theorems::{
-    frontiers_do_not_go_back, headline, nothing_lurks, one_list, parts_of_workers, quiet_is_caught_up,
-    weights_are_kept, what_waits_has_its_place,
+    frontiers_do_not_go_back, headline, nothing_lurks, one_list, parts_of_workers,
+    quiet_is_caught_up, weights_are_kept, what_waits_has_its_place,
 };
 pub use view::View;

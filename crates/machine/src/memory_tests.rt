@@ -32,6 +32,9 @@ fn boards_take_memory(rt: HostRuntime) -> Result<(), Fail> {
         Err(Refusal::OutOfMemory) => board.advance(0, input, times(alloc, &[(0, 1), (1, 0)])?)?,
         done => done?,
     }
-    assert_eq!(rt; board.feed(0, input, change(alloc, (0, 0), &[7], 1)?), Err(Refusal::TimePassed));
+    assert_eq!(rt;
+        board.feed(0, input, change(alloc, (0, 0), &[7], 1)?),
+        Err(Refusal::TimePassed)
+    );
     Ok(())
 }

@@ -1,5 +1,4 @@
 use Rattle.antichain.proofs.Lists.{contains_among}
-use Rattle.machine.specs.Histories.{world}
 use Rattle.machine.proofs.PlaceLemmas.{in_place_lem}
 use Rattle.machine.proofs.QuietLemmas.{caught_up_lem}
 use Rattle.machine.proofs.theorems.quiet_is_caught_up.Goals as goal

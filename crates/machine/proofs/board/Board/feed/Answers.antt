@@ -10,9 +10,9 @@ returns-clause-stands g c h s =
     let r = c.try_feed in
     let looked = λ (e : _). stands_looked below least c.args.self.now r.new.self h c.args.client e s in
     on_both below least r.result _ _ r.ensures.fed r.ensures.unchanged
-      (λ e. on_both below least r.result _ _ r.ensures.accepted r.ensures.unchanged
-        (λ a. on_both below least r.result _ _ r.ensures.board r.ensures.unchanged
-          (λ b. subst (λ z. Stands below least z (z.last ∷ h)) (sym e) (stands_fed below least c.args.self.now b h c.args.client _ a c.requires s))
-          looked)
-        looked)
-      looked
+    (λ e. on_both below least r.result _ _ r.ensures.accepted r.ensures.unchanged
+    (λ a. on_both below least r.result _ _ r.ensures.board r.ensures.unchanged
+    (λ b. subst (λ z. Stands below least z (z.last ∷ h)) (sym e) (stands_fed below least c.args.self.now b h c.args.client _ a c.requires s))
+    looked)
+    looked)
+    looked
