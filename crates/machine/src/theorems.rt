@@ -1,6 +1,6 @@
 //! What holds of every legal history, at every lattice: the theorems of this crate. The functions do nothing. Who holds a
-//! board calls [`crate::Board::meets`]; the theorems are stated here of histories alone, so that they can be read without
-//! any code.
+//! board calls [`crate::meets`]; the theorems are stated here of histories alone, so that they can be read without any
+//! code.
 ghost use Rattle.std.specs.Prelude.{◌≡◌, ℕ, ◌++◌, ◌∷◌, List, IsTrue};
 ghost use Rattle.update.specs.Bags.{Alike};
 ghost use Rattle.update.specs.Updates.{as_of};
