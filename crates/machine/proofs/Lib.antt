@@ -14,3 +14,4 @@ pub mod QuietLemmas
 pub mod PlaceLemmas
 pub mod BoardLemmas
 pub mod MeetsLemmas
+pub mod TakingLemmas

@@ -1,27 +1,30 @@
 -- What a contract sees of a board, what each event makes of it, and which histories it may stand for.
-use Rattle.std.specs.Prelude.{◌≡◌, ℕ, suc, ◌<◌, Bool, not, eqb, List, [], ◌∷◌, ◌++◌, length, set, get_or, replicate, Option, None, IsTrue, ⊤, nat_lt, nat_le, pos, unsigned_abs}
+use Rattle.std.specs.Prelude.{◌≡◌, ℕ, zero, suc, ◌<◌, Bool, not, eqb, if◌then◌else◌, List, [], ◌∷◌, ◌++◌, length, set, get_or, replicate, Option, Some, None, IsTrue, ⊤, nat_lt, nat_le, pos, unsigned_abs}
 use Rattle.std.specs.List.{filter, flat_map}
 use Rattle.std.specs.Ordering.{int_eq}
 use Rattle.lattice.specs.Frontiers.{is_beyond, all_beyond}
 use Rattle.update.specs.Bags.{Alike}
 use Rattle.update.specs.Updates.{as_of}
+use Rattle.update.specs.declared.change.Update.{Update}
 use Rattle.update.specs.declared.refusal.Refusal.{Refusal}
 use Rattle.update.specs.declared.refusal.Refusal.TheVariants.{WrongWidth, ZeroWeight, WeightTooLarge, TimePassed, NotForward, InputFull}
 use Rattle.plan.specs.Ancestors.{is_input}
 use Rattle.plan.specs.Edges.{numbers_where}
 use Rattle.plan.specs.Rules.{is_output, first_refusal}
 use Rattle.plan.specs.Widths.{width_of}
+use Rattle.machine.specs.declared.event.Place.{Place}
 use Rattle.machine.specs.declared.event.Bundle.{Bundle}
 use Rattle.machine.specs.declared.event.Fed.{Fed}
 use Rattle.machine.specs.declared.event.Held.{Held}
 use Rattle.machine.specs.declared.event.Open.{Open}
 use Rattle.machine.specs.declared.event.Event.{Event}
-use Rattle.machine.specs.declared.event.Event.TheVariants.{Feed, Advance, Look}
+use Rattle.machine.specs.declared.event.Event.TheVariants.{Feed, Advance, Look, Take, TakeHeld}
 use Rattle.machine.specs.declared.view.View.{View}
 use Rattle.machine.specs.Dataflows.{Dataflow, node_of}
-use Rattle.machine.specs.Worlds.{emitted_at, fed_to, open_at}
+use Rattle.machine.specs.Worlds.{same_place, emitted_at, fed_to, open_at}
 use Rattle.machine.specs.Shares.{home}
-use Rattle.machine.specs.Histories.{opening, world, IsLegal}
+use Rattle.machine.specs.Histories.{without, holding, opening, world, IsLegal}
+use Rattle.machine.specs.Outstanding.{stamp}
 
 -- what lies on a board
 pub record Shown (T : Type 0) : Type 0 where
@@ -62,6 +65,12 @@ module _ {T : Type 0} where
     last = Look 0;
   }
 
+  -- where the bundle of a number, from 0, among those of a place stands among all
+  abbrev pub position_in : Place → List (Bundle T) → ℕ → ℕ
+  position_in site [] number = 0
+  position_in site (b ∷ bundles) zero = if same_place b.place site then 0 else suc (position_in site bundles zero)
+  position_in site (b ∷ bundles) (suc number) = suc (if same_place b.place site then position_in site bundles number else position_in site bundles (suc number))
+
   -- the board after a look, and after a change, a frontier and a since of clients
   abbrev pub looked : ℕ → Shown T → Shown T
   looked actor b = record b { last = Look actor }
@@ -79,7 +88,20 @@ module _ {T : Type 0} where
     last = Advance client i ts;
   }
 
+  -- the board after a worker turned to the times that it holds at a node
+  abbrev pub turned : ℕ → ℕ → Shown T → Shown T
+  turned worker n b = record b { hand = set b.hand worker (Some n); last = TakeHeld worker n }
+
 module _ {T : Type 0} (below : T → T → Bool) where
+  -- the board after a worker took a bundle
+  abbrev pub taken : Place → ℕ → List (Update T) → Shown T → Shown T
+  taken site number us b = record b {
+    in_flight = without site b.in_flight number;
+    held = holding site.node site.worker (stamp below us) ++ b.held;
+    hand = set b.hand site.worker (Some site.node);
+    last = Take site number us
+  }
+
   -- what refuses a change, in the order of testing
   abbrev pub feed_faults : Shown T → Fed T → List (Bool × Refusal)
   feed_faults b f = (not (eqb (length f.update.row) (width_of b.dataflow.nodes f.input)), WrongWidth)

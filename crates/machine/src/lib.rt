@@ -29,6 +29,7 @@ mod standing;
 mod tests;
 mod theorems;
 mod view;
+mod workers;
 
 pub use board::Board;
 pub use clients::{MAX_CHANGES, MAX_DIFFERENCE};

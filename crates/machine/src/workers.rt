@@ -1,0 +1,190 @@
+//! The events of workers: a worker with nothing in hand takes a bundle that waits for it, or turns to times that it holds.
+ghost use Rattle.std.specs.Prelude.{◌≡◌, ◌<◌, ◌≤◌, ◌++◌, List, [], ◌∷◌, Some, None, IfErr, IfOk, OnErr, OnOk, IsTrue, length, get_or, slice_get, set, map, not, ◌||◌};
+ghost use Rattle.std.specs.List.{filter, list_all, remove};
+ghost use Rattle.antichain.specs.Antichains.{is_least, least};
+ghost use Rattle.update.specs.declared.refusal.Refusal.TheVariants.{OutOfMemory};
+ghost use Rattle.plan.specs.Nodes.{arranged_by};
+ghost use Rattle.machine.specs.declared.event.Bundle.{Bundle};
+ghost use Rattle.machine.specs.declared.event.Event.{Event};
+ghost use Rattle.machine.specs.declared.event.Event.TheVariants.{Take};
+ghost use Rattle.machine.specs.Dataflows.{node_of};
+ghost use Rattle.machine.specs.Worlds.{queue, times, same_place};
+ghost use Rattle.machine.specs.Outstanding.{stamp};
+ghost use Rattle.machine.specs.Histories.{holding, without};
+ghost use Rattle.machine.specs.Boards.{Shown, IsBoard, Stands, looked, taken, position_in};
+
+use crate::board::Board;
+use crate::event::{Bundle, Event, Held, Place};
+use crate::lists::Updates;
+use lattice::Minimum;
+use std::alloc::Global;
+use update::{Refusal, Update};
+
+impl Place {
+    /// Whether the places are the same.
+    pub(crate) fn is(&self, other: &Place) -> bool
+        ensures { result ≡ same_place self.now other.now }
+    {
+        self.node == other.node && self.port == other.port && self.worker == other.worker
+    }
+}
+
+// Where the bundle of a number, from 0, among those of a place stands among all.
+fn position<T: Minimum>(bundles: &[Bundle<T>], place: &Place, number: usize) -> usize
+    requires { number < length (queue place.now bundles.now) }
+    ensures value { result ≡ position_in place.now bundles.now number }
+    ensures within { result < length bundles.now }
+{
+    let mut left = number;
+    for (index, bundle) in bundles.iter().enumerate() {
+        if bundle.place.is(place) {
+            if left == 0 {
+                return index;
+            }
+            left -= 1;
+        }
+    }
+    0
+}
+
+// Whether none of the times is before this one: whichever is at or before it is it.
+fn is_least<T: Minimum>(updates: &[Update<T>], t: &T) -> bool
+    ensures { result ≡ is_least T.below (times updates.now) t.now }
+{
+    for update in updates {
+        if update.time.less_equal(t) && !t.less_equal(&update.time) {
+            return false;
+        }
+    }
+    true
+}
+
+// A copy of the updates.
+fn copied<T: Minimum>(alloc: Global, updates: &[Update<T>]) -> Result<Vec<Update<T>>, Refusal>
+    ensures copied { IfOk result (λ copy. copy.items ≡ updates.now) }
+    ensures refused { IfErr result (λ refusal. refusal ≡ OutOfMemory) }
+{
+    let mut copy = Vec::with_capacity(alloc, updates.len())?;
+    for update in updates {
+        copy.push(update.copy())?;
+    }
+    Ok(copy)
+}
+
+// The least times of a bundle, each as held at its place.
+#[tactic(auto, unfolding(antichain::specs::Antichains::least))]
+fn stamped<T: Minimum>(alloc: Global, place: &Place, updates: &[Update<T>]) -> Result<Vec<Held<T>>, Refusal>
+    ensures stamped { IfOk result (λ held. held.items ≡ holding place.now.node place.now.worker (stamp T.below updates.now)) }
+    ensures refused { IfErr result (λ refusal. refusal ≡ OutOfMemory) }
+{
+    let mut held = Vec::new(alloc);
+    for update in updates {
+        if is_least(updates, &update.time) {
+            held.push(Held {
+                node: place.node,
+                worker: place.worker,
+                time: update.time,
+            })?;
+        }
+    }
+    Ok(held)
+}
+
+// What was held before, behind.
+fn push_held<T: Minimum>(held: &mut Vec<Held<T>>, more: &[Held<T>]) -> Result<(), Refusal>
+    ensures more { OnOk result (held.new.items ≡ held.old.items ++ more.now) }
+    ensures refused { IfErr result (λ refusal. refusal ≡ OutOfMemory) }
+{
+    for time in more {
+        held.push(*time)?;
+    }
+    Ok(())
+}
+
+impl<T: Minimum> Board<T> {
+    /// A worker with nothing in hand takes a bundle that waits for it: of those of a place the one of this number, counted
+    /// from 0 in the order in which they were sent. Into an arrange node bundles are taken in any order, elsewhere in their
+    /// own. The worker then has the node in hand, and holds the least of the bundle's times there, so that no frontier
+    /// passes what it has still to give.
+    ///
+    /// Refused only with `OutOfMemory`; then the event is a look, and nothing else changed.
+    ///
+    /// Cost: linear in the bundles in flight and in the times held, quadratic in the updates of the bundle.
+    pub fn take(&mut self, place: Place, number: usize) -> Result<Updates<T>, Refusal>
+        requires worker { place.worker < self.old.dataflow.workers }
+        requires free { get_or self.old.hand place.worker None ≡ None }
+        requires waits { number < length (queue place self.old.in_flight) }
+        requires turn { arranged_by (node_of self.old.dataflow place.node) ≡ None → number ≡ 0 }
+        ensures waited { IfOk result (λ us. slice_get (queue place self.old.in_flight) number ≡ Some us) }
+        ensures taken { IfOk result (λ us. self.new ≡ taken T.below place number us self.old) }
+        ensures refused { IfErr result (λ refusal. refusal ≡ OutOfMemory) }
+        ensures unchanged { OnErr result (self.new ≡ looked place.worker self.old) }
+        ensures stands { (h : List (Event T)) → Stands T.below T.least self.old h → Stands T.below T.least self.new (self.new.last ∷ h) }
+    {
+        self.try_take(place, number)
+    }
+
+    // The same, without the histories.
+    fn try_take(&mut self, place: Place, number: usize) -> Result<Updates<T>, Refusal>
+        requires worker { place.worker < self.old.dataflow.workers }
+        requires waits { number < length (queue place self.old.in_flight) }
+        ensures waited { IfOk result (λ us. slice_get (queue place self.old.in_flight) number ≡ Some us) }
+        ensures taken { IfOk result (λ us. self.new ≡ taken T.below place number us self.old) }
+        ensures refused { IfErr result (λ refusal. refusal ≡ OutOfMemory) }
+        ensures unchanged { OnErr result (self.new ≡ looked place.worker self.old) }
+        ensures board { OnOk result (IsBoard self.old) }
+    {
+        let position = position(&self.in_flight, &place, number);
+        match self.stamp_with(&place, self.in_flight[position].updates.as_slice()) {
+            Ok((copy, held)) => Ok(self.hand_over(place, number, position, copy, held)),
+            Err(refusal) => {
+                self.look(place.worker);
+                Err(refusal)
+            }
+        }
+    }
+
+    // The bundle at a position leaves the board, and is in the worker's hand.
+    fn hand_over(
+        &mut self,
+        place: Place,
+        number: usize,
+        position: usize,
+        copy: Vec<Update<T>>,
+        held: Vec<Held<T>>,
+    ) -> Updates<T>
+        requires within { position < length self.old.in_flight }
+        requires worker { place.worker < self.old.dataflow.workers }
+        ensures updates { (d : Bundle T) → result ≡ (get_or self.old.in_flight position d).updates }
+        ensures after { self.new ≡ record self.old {
+            in_flight = remove self.old.in_flight position;
+            held = held.items;
+            hand = set self.old.hand place.worker (Some place.node);
+            last = Take place number copy.items
+        } }
+    {
+        let bundle = self.in_flight.remove(position);
+        self.held = held;
+        self.hand[place.worker] = Some(place.node);
+        self.last = Event::Take {
+            place,
+            number,
+            updates: copy.into(),
+        };
+        let Bundle { place: _, updates } = bundle;
+        updates
+    }
+
+    // A copy of a bundle's updates, and what is held once they are taken.
+    fn stamp_with(&self, place: &Place, updates: &[Update<T>]) -> Result<(Vec<Update<T>>, Vec<Held<T>>), Refusal>
+        ensures copy { IfOk result (λ r. r.0.items ≡ updates.now) }
+        ensures held { IfOk result (λ r. r.1.items ≡ holding place.now.node place.now.worker (stamp T.below updates.now) ++ self.now.held) }
+        ensures refused { IfErr result (λ refusal. refusal ≡ OutOfMemory) }
+    {
+        let alloc = *self.held.allocator();
+        let copy = copied(alloc, updates)?;
+        let mut held = stamped(alloc, place, updates)?;
+        push_held(&mut held, &self.held)?;
+        Ok((copy, held))
+    }
+}
