@@ -165,7 +165,7 @@ stands_opened below minimum p (Err r) e = e
 module _ {T : Type 0} (below : T → T → Bool) (minimum : T) where
   -- a hand with another node in it
   hand_set : (hand : List (Option ℕ)) (f : ℕ → Option ℕ) (workers worker : ℕ) (node : Option ℕ) → length hand ≡ workers → worker < workers
-    → ((k : ℕ) → k < workers → get_or hand k None ≡ f k) → (k : ℕ) → k < workers → get_or (set hand worker node) k None ≡ with_at f worker node k
+      → ((k : ℕ) → k < workers → get_or hand k None ≡ f k) → (k : ℕ) → k < workers → get_or (set hand worker node) k None ≡ with_at f worker node k
   hand_set hand f workers worker node e l h k m = step (eqb k worker) refl
     where
       step : (b : Bool) → eqb k worker ≡ b → get_or (set hand worker node) k None ≡ cond b node (f k)
@@ -175,23 +175,23 @@ module _ {T : Type 0} (below : T → T → Bool) (minimum : T) where
       step false g = get_or-set_other hand worker k node None (λ z. false≢true (sym g ∙ eq-eqb k worker z)) ∙ h k m
 
   pub stands_taken : (b : Shown T) → IsBoard b → (h : List (Event T)) (site : Place) (number : ℕ) (us : List (Update T)) → site.worker < b.dataflow.workers → get_or b.hand site.worker None ≡ None
-    → slice_get (queue site b.in_flight) number ≡ Some us → (arranged_by (node_of b.dataflow site.node) ≡ None → number ≡ 0)
-    → Stands below minimum b h → Stands below minimum (taken below site number us b) (Take site number us ∷ h)
+      → slice_get (queue site b.in_flight) number ≡ Some us → (arranged_by (node_of b.dataflow site.node) ≡ None → number ≡ 0)
+      → Stands below minimum b h → Stands below minimum (taken below site number us b) (Take site number us ∷ h)
   stands_taken b board h site number us l free waits turn s = record {
-      legal = (record { worker = l; free = sym (s.hand site.worker l) ∙ free; waits = subst (λ q. slice_get (queue site q) number ≡ Some us) s.in_flight waits; turn = turn }, s.legal);
-      in_flight = ap (λ q. without site q number) s.in_flight;
-      held = ap (λ z. holding site.node site.worker (stamp below us) ++ z) s.held;
-      openings = s.openings;
-      hand = hand_set b.hand (world below minimum b.dataflow h).hand b.dataflow.workers site.worker (Some site.node) board.hand l s.hand;
-      accepted = s.accepted;
-      since = s.since;
-      captured = s.captured;
-      last = refl;
-    }
+    legal = (record { worker = l; free = sym (s.hand site.worker l) ∙ free; waits = subst (λ q. slice_get (queue site q) number ≡ Some us) s.in_flight waits; turn = turn }, s.legal);
+    in_flight = ap (λ q. without site q number) s.in_flight;
+    held = ap (λ z. holding site.node site.worker (stamp below us) ++ z) s.held;
+    openings = s.openings;
+    hand = hand_set b.hand (world below minimum b.dataflow h).hand b.dataflow.workers site.worker (Some site.node) board.hand l s.hand;
+    accepted = s.accepted;
+    since = s.since;
+    captured = s.captured;
+    last = refl;
+  }
 
   pub stands_after_take : (r : Result (List (Update T)) Refusal) (b c : Shown T) (h : List (Event T)) (site : Place) (number : ℕ) → OnOk r (IsBoard b) → site.worker < b.dataflow.workers → get_or b.hand site.worker None ≡ None
-    → (arranged_by (node_of b.dataflow site.node) ≡ None → number ≡ 0)
-    → IfOk r (λ us. slice_get (queue site b.in_flight) number ≡ Some us) → IfOk r (λ us. c ≡ taken below site number us b) → OnErr r (c ≡ looked site.worker b)
-    → Stands below minimum b h → Stands below minimum c (c.last ∷ h)
+      → (arranged_by (node_of b.dataflow site.node) ≡ None → number ≡ 0)
+      → IfOk r (λ us. slice_get (queue site b.in_flight) number ≡ Some us) → IfOk r (λ us. c ≡ taken below site number us b) → OnErr r (c ≡ looked site.worker b)
+      → Stands below minimum b h → Stands below minimum c (c.last ∷ h)
   stands_after_take (Ok us) b c h site number board l free turn waits e err s = subst (λ z. Stands below minimum z (z.last ∷ h)) (sym e) (stands_taken b board h site number us l free waits turn s)
   stands_after_take (Err r) b c h site number board l free turn waits e err s = stands_looked below minimum b c h site.worker err s

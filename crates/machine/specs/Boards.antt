@@ -15,15 +15,16 @@ use Rattle.plan.specs.Widths.{width_of}
 use Rattle.machine.specs.declared.event.Place.{Place}
 use Rattle.machine.specs.declared.event.Bundle.{Bundle}
 use Rattle.machine.specs.declared.event.Fed.{Fed}
+use Rattle.machine.specs.declared.event.Emission.{Emission}
 use Rattle.machine.specs.declared.event.Held.{Held}
 use Rattle.machine.specs.declared.event.Open.{Open}
 use Rattle.machine.specs.declared.event.Event.{Event}
-use Rattle.machine.specs.declared.event.Event.TheVariants.{Feed, Advance, Look, Take, TakeHeld}
+use Rattle.machine.specs.declared.event.Event.TheVariants.{Feed, Advance, Look, Take, TakeHeld, Give}
 use Rattle.machine.specs.declared.view.View.{View}
 use Rattle.machine.specs.Dataflows.{Dataflow, node_of}
 use Rattle.machine.specs.Worlds.{same_place, emitted_at, fed_to, open_at}
 use Rattle.machine.specs.Shares.{home}
-use Rattle.machine.specs.Histories.{without, holding, opening, world, IsLegal}
+use Rattle.machine.specs.Histories.{without, is_held_by, holding, opening, world, IsLegal}
 use Rattle.machine.specs.Outstanding.{stamp}
 
 -- what lies on a board
@@ -88,6 +89,24 @@ module _ {T : Type 0} where
     last = Advance client i ts;
   }
 
+  -- what a view captured, and this
+  abbrev pub capturing : View T → List (Update T) → View T
+  capturing view us = record view { captured = view.captured ++ us }
+
+  -- the views, where a node gave this: only a view captures it
+  abbrev pub captured_at : Dataflow → ℕ → List (Update T) → List (View T) → List (View T)
+  captured_at p n us views = if is_output (node_of p n) then set views n (capturing (get_or views n no_view) us) else views
+
+  -- the board after a worker gave
+  abbrev pub given : Emission T → List T → List (Bundle T) → Shown T → Shown T
+  given g ts sent b = record b {
+    in_flight = b.in_flight ++ sent;
+    held = holding g.node g.worker ts ++ filter (λ m. not (is_held_by g.node g.worker m)) b.held;
+    hand = set b.hand g.worker None;
+    views = captured_at b.dataflow g.node g.updates b.views;
+    last = Give g ts sent;
+  }
+
   -- the board after a worker turned to the times that it holds at a node
   abbrev pub turned : ℕ → ℕ → Shown T → Shown T
   turned worker n b = record b { hand = set b.hand worker (Some n); last = TakeHeld worker n }
@@ -99,7 +118,7 @@ module _ {T : Type 0} (below : T → T → Bool) where
     in_flight = without site b.in_flight number;
     held = holding site.node site.worker (stamp below us) ++ b.held;
     hand = set b.hand site.worker (Some site.node);
-    last = Take site number us
+    last = Take site number us;
   }
 
   -- what refuses a change, in the order of testing

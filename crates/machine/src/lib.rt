@@ -21,6 +21,7 @@
 mod board;
 mod clients;
 mod event;
+mod giving;
 mod lists;
 #[cfg(test)]
 mod memory_tests;
@@ -34,6 +35,7 @@ mod workers;
 pub use board::Board;
 pub use clients::{MAX_CHANGES, MAX_DIFFERENCE};
 pub use event::{Bundle, Bundles, Emission, Event, Fed, Held, Open, Place};
+pub use giving::Ungiven;
 pub use lists::{Times, Updates};
 pub use standing::meets;
 pub use theorems::{

@@ -1,9 +1,11 @@
 //! The lists that events and bundles are made of, each in a type of its own, so that a contract sees a plain list and
 //! histories can be compared with what lies on a board.
-ghost use Rattle.std.specs.Prelude.{◌≡◌, length};
+ghost use Rattle.std.specs.Prelude.{◌≡◌, ◌++◌, IfErr, OnErr, OnOk, length, take};
+ghost use Rattle.update.specs.declared.refusal.Refusal.TheVariants.{OutOfMemory};
 
+use lattice::Lattice;
 use std::marker::Model;
-use update::Update;
+use update::{Refusal, Update};
 
 /// Updates that travel together. A contract sees the list of them.
 #[derive(Debug, Drop)]
@@ -42,6 +44,36 @@ impl<T> Updates<T> {
         let Updates { items } = self;
         items
     }
+}
+
+impl<T: Lattice> Updates<T> {
+    /// Copies of these updates, behind. Refused only with `OutOfMemory`, and then nothing changed.
+    pub(crate) fn extend(&mut self, more: &[Update<T>]) -> Result<(), Refusal>
+        ensures more { OnOk result (self.new ≡ self.old ++ more.now) }
+        ensures refused { IfErr result (λ refusal. refusal ≡ OutOfMemory) }
+        ensures unchanged { OnErr result (self.new ≡ self.old) }
+    {
+        let before = self.items.len();
+        match push_copies(&mut self.items, more) {
+            Ok(()) => Ok(()),
+            Err(refusal) => {
+                self.items.truncate(before);
+                Err(refusal)
+            }
+        }
+    }
+}
+
+// Copies of these updates, behind; where memory is refused some of them.
+fn push_copies<T: Lattice>(updates: &mut Vec<Update<T>>, more: &[Update<T>]) -> Result<(), Refusal>
+    ensures more { OnOk result (updates.new.items ≡ updates.old.items ++ more.now) }
+    ensures refused { IfErr result (λ refusal. refusal ≡ OutOfMemory) }
+    ensures first { take (length updates.old.items) updates.new.items ≡ updates.old.items }
+{
+    for update in more {
+        updates.push(update.copy())?;
+    }
+    Ok(())
 }
 
 /// Takes no memory.

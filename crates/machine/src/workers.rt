@@ -73,7 +73,11 @@ fn copied<T: Minimum>(alloc: Global, updates: &[Update<T>]) -> Result<Vec<Update
 
 // The least times of a bundle, each as held at its place.
 #[tactic(auto, unfolding(antichain::specs::Antichains::least))]
-fn stamped<T: Minimum>(alloc: Global, place: &Place, updates: &[Update<T>]) -> Result<Vec<Held<T>>, Refusal>
+fn stamped<T: Minimum>(
+    alloc: Global,
+    place: &Place,
+    updates: &[Update<T>],
+) -> Result<Vec<Held<T>>, Refusal>
     ensures stamped { IfOk result (λ held. held.items ≡ holding place.now.node place.now.worker (stamp T.below updates.now)) }
     ensures refused { IfErr result (λ refusal. refusal ≡ OutOfMemory) }
 {
@@ -157,10 +161,10 @@ impl<T: Minimum> Board<T> {
         requires worker { place.worker < self.old.dataflow.workers }
         ensures updates { (d : Bundle T) → result ≡ (get_or self.old.in_flight position d).updates }
         ensures after { self.new ≡ record self.old {
-            in_flight = remove self.old.in_flight position;
-            held = held.items;
-            hand = set self.old.hand place.worker (Some place.node);
-            last = Take place number copy.items
+          in_flight = remove self.old.in_flight position;
+          held = held.items;
+          hand = set self.old.hand place.worker (Some place.node);
+          last = Take place number copy.items;
         } }
     {
         let bundle = self.in_flight.remove(position);
@@ -176,7 +180,11 @@ impl<T: Minimum> Board<T> {
     }
 
     // A copy of a bundle's updates, and what is held once they are taken.
-    fn stamp_with(&self, place: &Place, updates: &[Update<T>]) -> Result<(Vec<Update<T>>, Vec<Held<T>>), Refusal>
+    fn stamp_with(
+        &self,
+        place: &Place,
+        updates: &[Update<T>],
+    ) -> Result<(Vec<Update<T>>, Vec<Held<T>>), Refusal>
         ensures copy { IfOk result (λ r. r.0.items ≡ updates.now) }
         ensures held { IfOk result (λ r. r.1.items ≡ holding place.now.node place.now.worker (stamp T.below updates.now) ++ self.now.held) }
         ensures refused { IfErr result (λ refusal. refusal ≡ OutOfMemory) }
