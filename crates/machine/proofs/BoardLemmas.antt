@@ -25,7 +25,7 @@ use Rattle.update.specs.Bags.{count_of}
 use Rattle.update.specs.Updates.{as_of}
 use Rattle.machine.specs.Dataflows.{Dataflow}
 use Rattle.std.specs.List.{slice_get}
-use Rattle.std.specs.Prelude.{Option, Some}
+use Rattle.std.specs.Prelude.{IsTrue, Option, Some}
 use Rattle.update.specs.declared.change.Update.{Update}
 use Rattle.plan.specs.Nodes.{arranged_by}
 use Rattle.machine.specs.declared.event.Place.{Place}
@@ -34,6 +34,17 @@ use Rattle.machine.specs.Dataflows.{node_of}
 use Rattle.machine.specs.Worlds.{queue}
 use Rattle.machine.specs.Outstanding.{stamp}
 use Rattle.machine.specs.Histories.{with_at, without, holding}
+use Rattle.std.proofs.Math.IntN.{ℤ, ◌+ℤ◌}
+use Rattle.std.proofs.lemmas.Int.{ints}
+use Rattle.plan.specs.Rules.{is_output}
+use Rattle.machine.specs.declared.event.Bundle.{Bundle}
+use Rattle.machine.specs.declared.event.Emission.{Emission}
+use Rattle.machine.specs.declared.event.Event.TheVariants.{Give}
+use Rattle.machine.specs.declared.view.View.{View}
+use Rattle.machine.specs.Worlds.{emitted_at}
+use Rattle.machine.specs.Histories.{is_held_by, IsGive}
+use Rattle.machine.specs.Boards.{capturing, given}
+use Rattle.machine.proofs.FlowLemmas.{sum_at-append}
 use Rattle.machine.specs.Boards.{taken}
 use Rattle.machine.specs.Boards.{no_view, first_board, Shown, IsBoard, Stands, looked, fed, advanced, feed_refusal, advance_refusal}
 
@@ -195,3 +206,58 @@ module _ {T : Type 0} (below : T → T → Bool) (minimum : T) where
       → Stands below minimum b h → Stands below minimum c (c.last ∷ h)
   stands_after_take (Ok us) b c h site number board l free turn waits e err s = subst (λ z. Stands below minimum z (z.last ∷ h)) (sym e) (stands_taken b board h site number us l free waits turn s)
   stands_after_take (Err r) b c h site number board l free turn waits e err s = stands_looked below minimum b c h site.worker err s
+
+module _ {T : Type 0} (below : T → T → Bool) (minimum : T) where
+  pub stands_given : (b : Shown T) → IsBoard b → (h : List (Event T)) (g : Emission T) (ts : List T) (sent : List (Bundle T)) → g.worker < b.dataflow.workers → g.node < length b.dataflow.nodes
+      → IsGive below b.dataflow (world below minimum b.dataflow h) g ts sent → Stands below minimum b h → Stands below minimum (given g ts sent b) (Give g ts sent ∷ h)
+  stands_given b board h g ts sent l within legal s = record {
+    legal = (legal, s.legal);
+    in_flight = ap (λ z. z ++ sent) s.in_flight;
+    held = ap (λ z. holding g.node g.worker ts ++ filter (λ m. not (is_held_by g.node g.worker m)) z) s.held;
+    openings = s.openings;
+    hand = hand_set below minimum b.hand w.hand b.dataflow.workers g.worker None board.hand l s.hand;
+    accepted = s.accepted;
+    since = λ v m. since v m (is_output (node_of b.dataflow g.node));
+    captured = λ v m o t r. captured v m o t r (is_output (node_of b.dataflow g.node)) refl (eqb g.node v) refl;
+    last = refl;
+  }
+    where
+      w : World T
+      w = world below minimum b.dataflow h
+
+      viewed : View T
+      viewed = capturing (get_or b.views g.node no_view) g.updates
+
+      long : g.node < length b.views
+      long = subst (λ z. g.node < z) (sym board.views) within
+
+      since : (v : ℕ) → v < length b.dataflow.nodes → (c : Bool) → (get_or (cond c (set b.views g.node viewed) b.views) v no_view).since ≡ w.since v
+      since v m false = s.since v m
+      since v m true = one (eqb g.node v) refl
+        where
+          one : (d : Bool) → eqb g.node v ≡ d → (get_or (set b.views g.node viewed) v no_view).since ≡ w.since v
+          one true e = subst (λ n. (get_or (set b.views g.node viewed) n no_view).since ≡ w.since n) (eqb-true g.node v e) (ap (λ z. z.since) (get_or-set_same b.views g.node viewed no_view long) ∙ s.since g.node within)
+          one false e = ap (λ z. z.since) (get_or-set_other b.views g.node v viewed no_view (λ z. false≢true (sym e ∙ eq-eqb g.node v (sym z)))) ∙ s.since v m
+
+      swapped : (x y : ℤ) → x +ℤ y ≡ y +ℤ x
+      swapped x y = omega (arith, ints)
+
+      captured : (v : ℕ) → v < length b.dataflow.nodes → IsTrue (is_output (node_of b.dataflow v)) → (t : T) (r : List ℤ) → (c : Bool) → is_output (node_of b.dataflow g.node) ≡ c → (d : Bool) → eqb g.node v ≡ d
+          → count_of (as_of below t (get_or (cond c (set b.views g.node viewed) b.views) v no_view).captured) r ≡ count_of (as_of below t (cond d g.updates [] ++ emitted_at v w.emitted)) r
+      captured v m o t r true f true e =
+          let here = ap (λ z. count_of (as_of below t z.captured) r) (ap (λ n. get_or (set b.views g.node viewed) n no_view) (sym (eqb-true g.node v e)) ∙ get_or-set_same b.views g.node viewed no_view long) in
+          let old = get_or b.views g.node no_view in
+          here
+          ∙ (sum_at-append below t old.captured g.updates r
+          ∙ (swapped (count_of (as_of below t old.captured) r) (count_of (as_of below t g.updates) r)
+          ∙ (ap (λ z. count_of (as_of below t g.updates) r +ℤ z) (s.captured g.node within f t r ∙ ap (λ n. count_of (as_of below t (emitted_at n w.emitted)) r) (eqb-true g.node v e))
+          ∙ sym (sum_at-append below t g.updates (emitted_at v w.emitted) r))))
+      captured v m o t r true f false e = ap (λ z. count_of (as_of below t z.captured) r) (get_or-set_other b.views g.node v viewed no_view (λ z. false≢true (sym e ∙ eq-eqb g.node v (sym z)))) ∙ s.captured v m o t r
+      captured v m o t r false f true e = absurd (false≢true (sym f ∙ ap (λ n. is_output (node_of b.dataflow n)) (eqb-true g.node v e) ∙ o))
+      captured v m o t r false f false e = s.captured v m o t r
+
+  pub stands_after_give : {A E : Type 0} (r : Result A E) (b c : Shown T) (h : List (Event T)) (g : Emission T) (ts : List T) (sent : List (Bundle T)) → OnOk r (IsBoard b) → g.worker < b.dataflow.workers → g.node < length b.dataflow.nodes
+      → OnOk r (c ≡ given g ts sent b) → OnErr r (c ≡ looked g.worker b)
+      → Stands below minimum b h → IsGive below b.dataflow (world below minimum b.dataflow h) g ts sent → Stands below minimum c (c.last ∷ h)
+  stands_after_give (Ok x) b c h g ts sent board l within e err s legal = subst (λ z. Stands below minimum z (z.last ∷ h)) (sym e) (stands_given b board h g ts sent l within legal s)
+  stands_after_give (Err x) b c h g ts sent board l within e err s legal = stands_looked below minimum b c h g.worker err s

@@ -131,6 +131,26 @@ impl<T: Minimum> Board<T> {
         ensures given { OnOk result (self.new ≡ given emission held sent self.old) }
         ensures returned { IfErr result (λ r. r ≡ record { emission = emission; held = held; sent = sent }) }
         ensures unchanged { OnErr result (self.new ≡ looked emission.worker self.old) }
+        ensures stands { (h : List (Event T)) → Stands T.below T.least self.old h
+            → IsGive T.below self.old.dataflow (world T.below T.least self.old.dataflow h) emission held sent
+            → Stands T.below T.least self.new (self.new.last ∷ h) }
+    {
+        self.give_or_look(emission, held, sent)
+    }
+
+    // The same, without the histories.
+    fn give_or_look(
+        &mut self,
+        emission: Emission<T>,
+        held: Times<T>,
+        sent: Bundles<T>,
+    ) -> Result<(), Ungiven<T>>
+        requires worker { emission.worker < self.old.dataflow.workers }
+        requires within { emission.node < length self.old.dataflow.nodes }
+        ensures given { OnOk result (self.new ≡ given emission held sent self.old) }
+        ensures returned { IfErr result (λ r. r ≡ record { emission = emission; held = held; sent = sent }) }
+        ensures unchanged { OnErr result (self.new ≡ looked emission.worker self.old) }
+        ensures board { OnOk result (IsBoard self.old) }
     {
         match self.try_give(&emission, held.as_slice(), &sent) {
             Ok(()) => {
