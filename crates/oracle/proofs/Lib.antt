@@ -1,1 +1,3 @@
 pub mod PutLemmas
+pub mod KeyLemmas
+pub mod PairLemmas

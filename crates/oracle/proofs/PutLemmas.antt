@@ -1,8 +1,8 @@
 -- Steps of the loops that go over a bag and write entries.
 use Rattle.std.proofs.Common.{◌≡◌, ℕ, ◌+◌, ◌<◌, Bool, true, false, cond, List, [], ◌∷◌, ◌++◌, map, take, length, get_or, IsTrue, refl, ap, sym, subst, ◌∙◌, append_assoc, arith, w64, FitsSigned}
 use Rattle.std.specs.Prelude.{ℤ, pos, neg_ℤ}
-use Rattle.std.specs.List.{filter, list_all, Any}
-use Rattle.std.proofs.lemmas.List.{take_more, map_more, append-nil, get_or_default}
+use Rattle.std.specs.List.{filter, flat_map, list_all, Any}
+use Rattle.std.proofs.lemmas.List.{take_more, map_more, append-nil, get_or_default, flat_map_more}
 use Rattle.std.proofs.lemmas.List.Elements.{filter_more}
 use Rattle.std.proofs.lemmas.List.Sums.{AllPass-from_list_all}
 use Rattle.update.specs.Bags.{Entry}
@@ -40,3 +40,8 @@ module _ {X : Type 0} where
 -- the count that has no opposite stands there
 pub large_at : (es : List Entry) (i : ℕ) → i < length es → (FitsSigned w64 (neg_ℤ (get_or es i no_entry).count) → ⊥) → Any (λ e. FitsSigned w64 (neg_ℤ e.count) → ⊥) es
 large_at es i l large = (i, get_or es i no_entry, l, get_or_default es i (get_or es i no_entry) no_entry l, large)
+
+-- one more element, as a list
+pub put_flat : {X Y : Type 0} (f : X → List Y) (old mid new : List Y) (xs : List X) (i : ℕ) (d : X) → i < length xs → mid ≡ old ++ flat_map f (take i xs) → new ≡ mid ++ f (get_or xs i d) → new ≡ old ++ flat_map f (take (i + 1) xs)
+put_flat f old mid new xs i d l m n =
+    n ∙ (ap (λ ys. ys ++ f (get_or xs i d)) m ∙ (flat_map_more f old (take i xs) (get_or xs i d) ∙ ap (λ ys. old ++ flat_map f ys) (sym (take_more xs i d l))))

@@ -4,4 +4,6 @@
 #![tactic(auto)]
 
 mod entries;
+mod join;
+mod keys;
 mod linear;

@@ -24,11 +24,7 @@ pub(crate) fn put_all(entries: &mut Entries, bag: &Bag) -> Result<(), Refusal>
 }
 
 /// Adds for each row of the bag the row of these items.
-pub(crate) fn put_images(
-    entries: &mut Entries,
-    bag: &Bag,
-    items: &[Item],
-) -> Result<(), Refusal>
+pub(crate) fn put_images(entries: &mut Entries, bag: &Bag, items: &[Item]) -> Result<(), Refusal>
     requires some { 1 ≤ length items.now }
     requires few { length items.now ≤ 8 }
     requires within { IsTrue (list_all (λ e. list_all (λ item. is_within item (length e.row)) items.now) bag.now) }
@@ -43,11 +39,7 @@ pub(crate) fn put_images(
 }
 
 /// Adds the entries whose rows pass.
-pub(crate) fn put_passing(
-    entries: &mut Entries,
-    bag: &Bag,
-    test: &Test,
-) -> Result<(), Refusal>
+pub(crate) fn put_passing(entries: &mut Entries, bag: &Bag, test: &Test) -> Result<(), Refusal>
     requires within { IsTrue (list_all (λ e. is_test_within test.now (length e.row)) bag.now) }
     ensures passing { OnOk result (entries_of entries.new.items ≡ entries_of entries.old.items ++ filter (λ e. passes test.now e.row) bag.now) }
     ensures refused { IfErr result (λ refused. refused ≡ Refusal.OutOfMemory) }
