@@ -1,6 +1,6 @@
 -- Steps of the loops that go over a bag and write entries.
-use Rattle.std.proofs.Common.{◌≡◌, ℕ, ◌+◌, ◌<◌, Bool, true, false, cond, List, [], ◌∷◌, ◌++◌, map, take, length, get_or, IsTrue, refl, ap, sym, subst, ◌∙◌, append_assoc, arith, w64, FitsSigned}
-use Rattle.std.specs.Prelude.{ℤ, pos, neg_ℤ}
+use Rattle.std.proofs.Common.{◌≡◌, ℕ, ◌+◌, ◌<◌, Bool, true, false, cond, List, [], ◌∷◌, ◌++◌, map, take, length, get_or, IsTrue, ap, sym, ◌∙◌, append_assoc, w64, FitsSigned}
+use Rattle.std.specs.Prelude.{pos, neg_ℤ}
 use Rattle.std.specs.List.{filter, flat_map, list_all, Any}
 use Rattle.std.proofs.lemmas.List.{take_more, map_more, append-nil, get_or_default, flat_map_more}
 use Rattle.std.proofs.lemmas.List.Elements.{filter_more}

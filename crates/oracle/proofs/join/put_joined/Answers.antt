@@ -1,4 +1,4 @@
-use Rattle.std.proofs.Common.{◌≡◌, ◌<◌, ◌≤◌, ◌+◌, ◌-◌, ◌∙◌, ◌++◌, List, ℤ, map, take, length, slice_index_or, IsTrue, sym, subst, to_z, of_z, w64, FitsSigned, rules, arith}
+use Rattle.std.proofs.Common.{◌≡◌, ◌<◌, ◌+◌, ◌-◌, ◌∙◌, ◌++◌, List, ℤ, map, take, length, slice_index_or, IsTrue, sym, subst, to_z, of_z, w64, FitsSigned, rules, arith}
 use Rattle.std.specs.Prelude.{nat_le}
 use Rattle.std.specs.List.{filter, list_all}
 use Rattle.std.proofs.lemmas.Bool.{leb-true}

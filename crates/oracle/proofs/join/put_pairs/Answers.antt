@@ -1,4 +1,4 @@
-use Rattle.std.proofs.Common.{◌≡◌, ◌<◌, ◌≤◌, ◌+◌, ◌-◌, ◌∙◌, ◌∷◌, ◌++◌, [], List, ℤ, map, take, drop, length, slice_index_or, IsTrue, ap, sym, subst, inr, refl, to_z, of_z, w64, FitsSigned, rules, arith, length-drop}
+use Rattle.std.proofs.Common.{◌≡◌, ◌<◌, ◌+◌, ◌-◌, ◌∙◌, ◌∷◌, ◌++◌, [], List, ℤ, map, take, drop, length, slice_index_or, IsTrue, ap, sym, subst, inr, refl, to_z, of_z, w64, FitsSigned, rules, arith, length-drop}
 use Rattle.std.specs.Prelude.{nat_le, ◌*ℤ◌}
 use Rattle.std.specs.List.{filter}
 use Rattle.std.proofs.lemmas.Bool.{leb-true}

@@ -1,4 +1,4 @@
-use Rattle.std.proofs.Common.{◌≡◌, ◌+◌, ◌<◌, length, sym, ◌∙◌, arith}
+use Rattle.std.proofs.Common.{sym, ◌∙◌, arith}
 use Rattle.oracle.proofs.KeyLemmas.{before_up_to, behind_from}
 use Rattle.oracle.proofs.keys.before_key.Goals as goal
 

@@ -1,7 +1,4 @@
-use Rattle.std.proofs.Common.{◌≡◌, ◌++◌, map, take}
-use Rattle.std.specs.List.{filter}
-use Rattle.row.specs.Testing.{passes}
-use Rattle.plan.specs.Operators.{mapped, negated}
+use Rattle.std.proofs.Common.{◌≡◌, ◌++◌, take}
 use Rattle.oracle.specs.Entries.{entries_of}
 use Rattle.oracle.proofs.linear.put_all.Given as goal
 
