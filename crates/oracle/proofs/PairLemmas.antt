@@ -6,7 +6,7 @@ use Rattle.std.specs.Ordering.{int_cmp, is_eq}
 use Rattle.std.specs.declared.cmp.Ordering.{Ordering}
 use Rattle.std.specs.declared.cmp.Ordering.TheVariants.{Less, Equal, Greater}
 use Rattle.std.proofs.lemmas.Bool.{cases_lt, true≢false}
-use Rattle.std.proofs.lemmas.List.{map-append, get_or_default}
+use Rattle.std.proofs.lemmas.List.{append-nil, map-append, get_or_default}
 use Rattle.std.proofs.lemmas.List.Elements.{filter_more}
 use Rattle.update.specs.Bags.{Entry, same_row}
 use Rattle.update.specs.declared.refusal.Refusal.{Refusal}
@@ -66,6 +66,12 @@ module _ {X : Type 0} (p : X → Bool) where
       n ∙ (ap (λ ys. ys ++ f (get_or xs i d) ∷ []) m
       ∙ (append_assoc old (map f (filter p (take i xs))) (f (get_or xs i d) ∷ [])
       ∙ ap (λ ys. old ++ ys) (sym (ap (map f) more ∙ map-append f (filter p (take i xs)) (get_or xs i d ∷ [])))))
+
+  -- and one that does not
+  pub put_left_as : {Y : Type 0} (f : X → Y) (old mid : List Y) (xs : List X) (i : ℕ) (d : X) → i < length xs → p (get_or xs i d) ≡ false → mid ≡ old ++ map f (filter p (take i xs)) → mid ≡ old ++ map f (filter p (take (i + 1) xs))
+  put_left_as f old mid xs i d l h m =
+      let same : filter p (take (i + 1) xs) ≡ filter p (take i xs) = filter_more p xs i d l ∙ (ap (λ b. filter p (take i xs) ++ cond b (get_or xs i d ∷ []) []) h ∙ append-nil (filter p (take i xs))) in
+      m ∙ ap (λ ys. old ++ map f ys) (sym same)
 
 -- the bounds of a key in a bag
 module _ (key : List ℤ) (es : List Entry) (from to : ℕ) where

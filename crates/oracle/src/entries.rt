@@ -1,11 +1,12 @@
 //! Lists of entries: rows with counts, of which a row may stand there more than once. Operators write such lists, and a
 //! bag is what one adds up to. An entry is an update at the time 0, so that entries are added up where updates are.
-ghost use Rattle.std.specs.Prelude.{◌≡◌, ◌<◌, ◌++◌, ◌∷◌, [], length, slice_index_or, IfOk, IfErr, OnOk, OnErr};
-ghost use Rattle.update.specs.Bags.{Entry};
-ghost use Rattle.oracle.specs.Entries.{entries_of, entry_of};
+ghost use Rattle.std.specs.Prelude.{◌≡◌, ◌<◌, ◌++◌, ◌∷◌, [], length, slice_index_or, pos, int_lt, IfOk, IfErr, OnOk};
+ghost use Rattle.update.specs.Bags.{Entry, Alike, IsBag, HasLargeCount};
+ghost use Rattle.oracle.specs.Entries.{entries_of, entry_of, IsRefusal};
 
 use row::Row;
-use update::{Bag, Refusal, Update};
+use std::alloc::Global;
+use update::{Bag, Refusal, Update, sum_at};
 
 /// Rows with counts, in the order in which they were written.
 pub(crate) type Entries = Vec<Update<u64>>;
@@ -46,4 +47,23 @@ pub(crate) fn count_at(bag: &Bag, i: usize) -> i64
     ensures { (d : Entry) → result ≡ (slice_index_or bag.now i d).count }
 {
     bag.count(i)
+}
+
+/// Whether an entry of the bag counts more than 0 times.
+pub(crate) fn is_positive(bag: &Bag, i: usize) -> bool
+    requires { i < length bag.now }
+    ensures { (d : Entry) → result ≡ int_lt (pos 0) (slice_index_or bag.now i d).count }
+{
+    count_at(bag, i) > 0
+}
+
+/// The bag that entries add up to. [`Refusal::Overflow`] only where a row counts more often than a 64-bit number can say.
+///
+/// Cost: one sort.
+pub(crate) fn added_up(alloc: Global, entries: &[Update<u64>]) -> Result<Bag, Refusal>
+    ensures sum { IfOk result (λ bag. Alike bag (entries_of entries.now)) }
+    ensures bag { IfOk result IsBag }
+    ensures refused { IfErr result (IsRefusal (HasLargeCount (entries_of entries.now))) }
+{
+    sum_at(alloc, entries, 0)
 }

@@ -7,3 +7,4 @@ mod entries;
 mod join;
 mod keys;
 mod linear;
+mod reductions;
