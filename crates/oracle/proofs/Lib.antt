@@ -1,0 +1,4 @@
+pub mod PutLemmas
+pub mod KeyLemmas
+pub mod PairLemmas
+pub mod DistinctLemmas

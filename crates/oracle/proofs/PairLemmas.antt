@@ -1,0 +1,133 @@
+-- The rows of a key stand between two bounds, and are paired there.
+use Rattle.std.proofs.Common.{◌≡◌, ℕ, zero, suc, ◌+◌, ◌<◌, ◌≤◌, Bool, true, false, cond, List, [], ◌∷◌, ◌++◌, ℤ, map, take, length, get_or, ⊎_elim, inl, inr, refl, ap, sym, subst, ◌∙◌, append_assoc, arith}
+use Rattle.std.specs.Cmp.Lexicographic.{slice_cmp, lists_ties}
+use Rattle.std.specs.List.{filter, AllWithin}
+use Rattle.std.specs.Ordering.{int_cmp, is_eq}
+use Rattle.std.specs.declared.cmp.Ordering.{Ordering}
+use Rattle.std.specs.declared.cmp.Ordering.TheVariants.{Less, Equal, Greater}
+use Rattle.std.proofs.lemmas.Bool.{cases_lt, true≢false}
+use Rattle.std.proofs.lemmas.List.{append-nil, map-append, get_or_default}
+use Rattle.std.proofs.lemmas.List.Elements.{filter_more}
+use Rattle.update.specs.Bags.{Entry, same_row}
+use Rattle.update.specs.declared.refusal.Refusal.{Refusal}
+use Rattle.oracle.specs.Entries.{IsRefusal}
+use Rattle.oracle.specs.Products.{HasLargeProduct, HasLargePair}
+use Rattle.oracle.specs.Keys.{precedes, is_before_key, IsKeyRange}
+use Rattle.oracle.proofs.PutLemmas.{no_entry}
+
+same_row_is : (r s : List ℤ) → same_row r s ≡ is_eq (slice_cmp int_cmp r s)
+same_row_is r s = lists_ties int_cmp (λ x y. refl) r s
+
+before_differs : (o : Ordering) → precedes false o ≡ true → is_eq o ≡ false
+before_differs Less h = refl
+before_differs Equal h = absurd (true≢false (sym h))
+before_differs Greater h = refl
+
+behind_differs : (o : Ordering) → precedes true o ≡ false → is_eq o ≡ false
+behind_differs Less h = refl
+behind_differs Equal h = absurd (true≢false h)
+behind_differs Greater h = refl
+
+between_equal : (o : Ordering) → precedes false o ≡ false → precedes true o ≡ true → is_eq o ≡ true
+between_equal Less h i = absurd (true≢false h)
+between_equal Equal h i = refl
+between_equal Greater h i = absurd (true≢false (sym i))
+
+both_before : (o : Ordering) → precedes false o ≡ true → precedes true o ≡ true
+both_before Less h = refl
+both_before Equal h = refl
+both_before Greater h = h
+
+module _ {X : Type 0} (p : X → Bool) where
+  none_front : (xs : List X) (n : ℕ) → n ≤ length xs → AllWithin (λ x. p x ≡ false) xs 0 n → filter p (take n xs) ≡ []
+  none_front xs zero l h = refl
+  none_front [] (suc n) l h = refl
+  none_front (x ∷ xs) (suc n) l h =
+      let first : p x ≡ false = h 0 x (omega arith) (omega arith) in
+      ap (λ b. cond b (x ∷ filter p (take n xs)) (filter p (take n xs))) first
+      ∙ none_front xs n (omega (arith, l)) (λ k d a b. h (suc k) d (omega arith) (omega (arith, b)))
+
+  none_at_all : (xs : List X) → AllWithin (λ x. p x ≡ false) xs 0 (length xs) → filter p xs ≡ []
+  none_at_all [] h = refl
+  none_at_all (x ∷ xs) h =
+      let first : p x ≡ false = h 0 x (omega arith) (omega arith) in
+      ap (λ b. cond b (x ∷ filter p xs) (filter p xs)) first
+      ∙ none_at_all xs (λ k d a b. h (suc k) d (omega arith) (omega (arith, b)))
+
+  none_behind : (xs : List X) (n : ℕ) → AllWithin (λ x. p x ≡ false) xs n (length xs) → filter p (take n xs) ≡ filter p xs
+  none_behind xs zero h = sym (none_at_all xs h)
+  none_behind [] (suc n) h = refl
+  none_behind (x ∷ xs) (suc n) h = ap (λ l. cond (p x) (x ∷ l) l) (none_behind xs n (λ k d a b. h (suc k) d (omega (arith, a)) (omega (arith, b))))
+
+  -- one more element that passes, as something else
+  pub put_kept_as : {Y : Type 0} (f : X → Y) (old mid new : List Y) (xs : List X) (i : ℕ) (d : X) → i < length xs → p (get_or xs i d) ≡ true → mid ≡ old ++ map f (filter p (take i xs)) → new ≡ mid ++ f (get_or xs i d) ∷ [] → new ≡ old ++ map f (filter p (take (i + 1) xs))
+  put_kept_as f old mid new xs i d l h m n =
+      let more : filter p (take (i + 1) xs) ≡ filter p (take i xs) ++ get_or xs i d ∷ [] = filter_more p xs i d l ∙ ap (λ b. filter p (take i xs) ++ cond b (get_or xs i d ∷ []) []) h in
+      n ∙ (ap (λ ys. ys ++ f (get_or xs i d) ∷ []) m
+      ∙ (append_assoc old (map f (filter p (take i xs))) (f (get_or xs i d) ∷ [])
+      ∙ ap (λ ys. old ++ ys) (sym (ap (map f) more ∙ map-append f (filter p (take i xs)) (get_or xs i d ∷ [])))))
+
+  -- and one that does not
+  pub put_left_as : {Y : Type 0} (f : X → Y) (old mid : List Y) (xs : List X) (i : ℕ) (d : X) → i < length xs → p (get_or xs i d) ≡ false → mid ≡ old ++ map f (filter p (take i xs)) → mid ≡ old ++ map f (filter p (take (i + 1) xs))
+  put_left_as f old mid xs i d l h m =
+      let same : filter p (take (i + 1) xs) ≡ filter p (take i xs) = filter_more p xs i d l ∙ (ap (λ b. filter p (take i xs) ++ cond b (get_or xs i d ∷ []) []) h ∙ append-nil (filter p (take i xs))) in
+      m ∙ ap (λ ys. old ++ map f ys) (sym same)
+
+-- the bounds of a key in a bag
+module _ (key : List ℤ) (es : List Entry) (from to : ℕ) where
+  abbrev has : Entry → Bool
+  has e = same_row (take (length key) e.row) key
+
+  has_is : (e : Entry) → has e ≡ is_eq (slice_cmp int_cmp (take (length key) e.row) key)
+  has_is e = same_row_is (take (length key) e.row) key
+
+  from_to : from ≤ length es → AllWithin (λ e. is_before_key false key e ≡ true) es 0 from → AllWithin (λ e. is_before_key true key e ≡ false) es to (length es) → from ≤ to
+  from_to l before behind =
+      ⊎_elim
+      (λ m.
+      let first = both_before (slice_cmp int_cmp (take (length key) (get_or es to no_entry).row) key) (before to no_entry (omega arith) m) in
+      absurd (true≢false (sym first ∙ behind to no_entry (omega arith) (omega (arith, l, m)))))
+      (λ m. m)
+      (cases_lt to from)
+
+  -- none of the first entries has the key
+  none_before : from ≤ length es → AllWithin (λ e. is_before_key false key e ≡ true) es 0 from → filter has (take from es) ≡ []
+  none_before l before = none_front has es from l (λ i d a b. has_is (get_or es i d) ∙ before_differs (slice_cmp int_cmp (take (length key) (get_or es i d).row) key) (before i d a b))
+
+  -- none of the last ones does
+  none_after : AllWithin (λ e. is_before_key true key e ≡ false) es to (length es) → filter has (take to es) ≡ filter has es
+  none_after behind = none_behind has es to (λ i d a b. has_is (get_or es i d) ∙ behind_differs (slice_cmp int_cmp (take (length key) (get_or es i d).row) key) (behind i d a b))
+
+  -- and those between them do
+  has_between : (i : ℕ) (d : Entry) → from ≤ i → i < to → to ≤ length es → AllWithin (λ e. is_before_key false key e ≡ false) es from (length es) → AllWithin (λ e. is_before_key true key e ≡ true) es 0 to → has (get_or es i d) ≡ true
+  has_between i d l m n behind before =
+      has_is (get_or es i d)
+      ∙ between_equal (slice_cmp int_cmp (take (length key) (get_or es i d).row) key) (behind i d l (omega (arith, m, n))) (before i d (omega arith) m)
+
+  range_at : to ≤ length es → from ≤ length es
+      → AllWithin (λ e. is_before_key false key e ≡ true) es 0 from → AllWithin (λ e. is_before_key false key e ≡ false) es from (length es)
+      → AllWithin (λ e. is_before_key true key e ≡ true) es 0 to → AllWithin (λ e. is_before_key true key e ≡ false) es to (length es)
+      → IsKeyRange (length key) key es from to
+  range_at n l a b c d = record {
+    order = from_to l a d;
+    inside = n;
+    before = none_before l a;
+    within = λ i e m o. has_between i e m o n b c;
+    behind = none_after d;
+  }
+
+pub key_range_is : (k : ℕ) (key own : List ℤ) (es : List Entry) (from to : ℕ) → key ≡ own → length own ≡ k → to ≤ length es → from ≤ length es
+    → AllWithin (λ e. is_before_key false key e ≡ true) es 0 from → AllWithin (λ e. is_before_key false key e ≡ false) es from (length es)
+    → AllWithin (λ e. is_before_key true key e ≡ true) es 0 to → AllWithin (λ e. is_before_key true key e ≡ false) es to (length es)
+    → IsKeyRange k own es from to
+key_range_is k key own es from to e long n l a b c d =
+    subst (λ (m : ℕ). IsKeyRange m own es from to) long
+    (subst (λ (key : List ℤ). IsKeyRange (length key) key es from to) e (range_at key es from to n l a b c d))
+
+-- a row on the left with a product that is no 64-bit number
+pub large_pair : (k : ℕ) (left right : List Entry) (i : ℕ) (x : Entry) → i < length left → x ≡ get_or left i no_entry → (r : Refusal) → IsRefusal (HasLargeProduct k x right) r → IsRefusal (HasLargePair k left right) r
+large_pair k left right i x l e r refused =
+    ⊎_elim
+    (λ memory. inl memory)
+    (λ large. inr (large.0, (i, x, l, get_or_default left i x no_entry l ∙ sym e, large.1)))
+    refused

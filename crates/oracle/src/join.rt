@@ -1,0 +1,62 @@
+//! The join of two bags. For each row of the left one the rows of its key are found in the right one by its order, so that
+//! no two rows of different keys are ever met.
+ghost use Rattle.std.specs.Prelude.{◌≡◌, ◌≤◌, ◌+◌, ◌-◌, ◌++◌, ◌*ℤ◌, map, take, length, nat_le, IfErr, OnOk, IsTrue, FitsSigned};
+ghost use Rattle.std.specs.Int.{w64};
+ghost use Rattle.std.specs.List.{filter, list_all};
+ghost use Rattle.plan.specs.Operators.{paired, joined};
+ghost use Rattle.plan.specs.Reductions.{has_key};
+ghost use Rattle.oracle.specs.Entries.{entries_of, entry_of, IsRefusal};
+ghost use Rattle.oracle.specs.Keys.{have_keys};
+ghost use Rattle.oracle.specs.Products.{HasLargeProduct, HasLargePair};
+
+use crate::entries::{Entries, count_at, put, row_at};
+use crate::keys::key_range;
+use row::Row;
+use update::{Bag, Refusal, Weight};
+
+// Adds the pairs of one row with the rows of its key.
+fn put_pairs(
+    entries: &mut Entries,
+    row: &Row,
+    count: i64,
+    right: &Bag,
+    k: usize,
+) -> Result<(), Refusal>
+    requires key { k ≤ length row.now }
+    requires keys { IsTrue (have_keys k right.now) }
+    requires room { IsTrue (list_all (λ y. nat_le (length row.now + (length y.row - k)) 8) right.now) }
+    ensures pairs { OnOk result (entries_of entries.new.items ≡ entries_of entries.old.items
+        ++ map (paired k (entry_of row.now count)) (filter (has_key k (take k row.now)) right.now)) }
+    ensures refused { IfErr result (IsRefusal (HasLargeProduct k (entry_of row.now count) right.now)) }
+{
+    let (from, to) = key_range(right, row, k);
+    for j in from..to {
+        let Some(product) = count.times(count_at(right, j)) else {
+            return Err(Refusal::Overflow);
+        };
+        put(entries, row.followed_by(row_at(right, j).rest(k)), product)?;
+    }
+    Ok(())
+}
+
+/// Adds the pairs of the rows of two bags that have equal keys, of `k` columns. [`Refusal::Overflow`] only where the product
+/// of two such rows' counts is no 64-bit number.
+///
+/// Cost: for each row of the left bag two binary searches in the right one, and one step for each pair.
+pub(crate) fn put_joined(
+    entries: &mut Entries,
+    left: &Bag,
+    right: &Bag,
+    k: usize,
+) -> Result<(), Refusal>
+    requires left { IsTrue (have_keys k left.now) }
+    requires right { IsTrue (have_keys k right.now) }
+    requires room { IsTrue (list_all (λ x. list_all (λ y. nat_le (length x.row + (length y.row - k)) 8) right.now) left.now) }
+    ensures joined { OnOk result (entries_of entries.new.items ≡ entries_of entries.old.items ++ joined k left.now right.now) }
+    ensures refused { IfErr result (IsRefusal (HasLargePair k left.now right.now)) }
+{
+    for i in 0..left.len() {
+        put_pairs(entries, row_at(left, i), count_at(left, i), right, k)?;
+    }
+    Ok(())
+}

@@ -1,0 +1,59 @@
+//! Where the rows of a key stand in a bag. The entries of a bag are in the order of their rows, and so of their keys: the
+//! rows of a key are neighbours, and two binary searches find the first of them and the first behind them.
+ghost use Rattle.std.specs.Prelude.{◌≡◌, ◌≤◌, ◌<◌, true, false, take, length, slice_index_or, IsTrue};
+ghost use Rattle.std.specs.List.{AllWithin};
+ghost use Rattle.update.specs.Bags.{Entry};
+ghost use Rattle.oracle.specs.Keys.{is_before_key, have_keys, IsKeyRange};
+
+use crate::entries::row_at;
+use row::Row;
+use std::cmp::Ordering;
+use update::Bag;
+
+// Whether the key of an entry comes before the key, or is it where that is asked.
+fn is_before_key(bag: &Bag, i: usize, key: &[i64], equal: bool) -> bool
+    requires inside { i < length bag.now }
+    requires keys { IsTrue (have_keys (length key.now) bag.now) }
+    ensures { (d : Entry) → result ≡ is_before_key equal key.now (slice_index_or bag.now i d) }
+{
+    match row_at(bag, i).key(key.len()).cmp(key) {
+        Ordering::Less => true,
+        Ordering::Equal => equal,
+        Ordering::Greater => false,
+    }
+}
+
+// How many entries of the bag have a key before the key, those of the key itself among them where that is asked. They are
+// the first ones.
+//
+// Cost: comparisons of keys as many as the logarithm of the number of entries.
+fn before_key(bag: &Bag, key: &[i64], equal: bool) -> usize
+    requires { IsTrue (have_keys (length key.now) bag.now) }
+    ensures inside { result ≤ length bag.now }
+    ensures before { AllWithin (λ e. is_before_key equal key.now e ≡ true) bag.now 0 result }
+    ensures behind { AllWithin (λ e. is_before_key equal key.now e ≡ false) bag.now result (length bag.now) }
+{
+    let mut low = 0;
+    let mut high = bag.len();
+    while low < high {
+        let middle = low + (high - low) / 2;
+        if is_before_key(bag, middle, key, equal) {
+            low = middle + 1;
+        } else {
+            high = middle;
+        }
+    }
+    low
+}
+
+/// Where in the bag the rows stand that have the row's first `k` columns: from the first number up to the second.
+pub(crate) fn key_range(bag: &Bag, row: &Row, k: usize) -> (usize, usize)
+    requires key { k ≤ length row.now }
+    requires keys { IsTrue (have_keys k bag.now) }
+    ensures { IsKeyRange k (take k row.now) bag.now result.0 result.1 }
+{
+    let key = row.key(k);
+    let from = before_key(bag, key, false);
+    let to = before_key(bag, key, true);
+    (from, to)
+}

@@ -1,0 +1,67 @@
+//! The operators that work row by row: map, filter and negate, and those that only hand rows on.
+ghost use Rattle.std.specs.Prelude.{◌≡◌, ◌≤◌, ◌++◌, map, length, IfErr, OnOk, IsTrue, FitsSigned, neg_ℤ};
+ghost use Rattle.std.specs.Int.{w64};
+ghost use Rattle.std.specs.List.{filter, list_all, Any};
+ghost use Rattle.row.specs.Projection.{is_within};
+ghost use Rattle.row.specs.Testing.{passes};
+ghost use Rattle.plan.specs.Operators.{mapped, negated};
+ghost use Rattle.plan.specs.Rules.{is_test_within};
+ghost use Rattle.oracle.specs.Entries.{entries_of, IsRefusal};
+
+use crate::entries::{Entries, count_at, put, put_entry, row_at};
+use row::{Item, Test, holds, project};
+use update::{Bag, Refusal, Weight};
+
+/// Adds the entries of the bag.
+pub(crate) fn put_all(entries: &mut Entries, bag: &Bag) -> Result<(), Refusal>
+    ensures all { OnOk result (entries_of entries.new.items ≡ entries_of entries.old.items ++ bag.now) }
+    ensures refused { IfErr result (λ refused. refused ≡ Refusal.OutOfMemory) }
+{
+    for i in 0..bag.len() {
+        put_entry(entries, bag, i)?;
+    }
+    Ok(())
+}
+
+/// Adds for each row of the bag the row of these items.
+pub(crate) fn put_images(entries: &mut Entries, bag: &Bag, items: &[Item]) -> Result<(), Refusal>
+    requires some { 1 ≤ length items.now }
+    requires few { length items.now ≤ 8 }
+    requires within { IsTrue (list_all (λ e. list_all (λ item. is_within item (length e.row)) items.now) bag.now) }
+    ensures images { OnOk result (entries_of entries.new.items ≡ entries_of entries.old.items ++ map (mapped items.now) bag.now) }
+    ensures refused { IfErr result (λ refused. refused ≡ Refusal.OutOfMemory) }
+{
+    for i in 0..bag.len() {
+        let image = project(row_at(bag, i), items);
+        put(entries, image, count_at(bag, i))?;
+    }
+    Ok(())
+}
+
+/// Adds the entries whose rows pass.
+pub(crate) fn put_passing(entries: &mut Entries, bag: &Bag, test: &Test) -> Result<(), Refusal>
+    requires within { IsTrue (list_all (λ e. is_test_within test.now (length e.row)) bag.now) }
+    ensures passing { OnOk result (entries_of entries.new.items ≡ entries_of entries.old.items ++ filter (λ e. passes test.now e.row) bag.now) }
+    ensures refused { IfErr result (λ refused. refused ≡ Refusal.OutOfMemory) }
+{
+    for i in 0..bag.len() {
+        if holds(row_at(bag, i), test) {
+            put_entry(entries, bag, i)?;
+        }
+    }
+    Ok(())
+}
+
+/// Adds each row with the other sign. [`Refusal::Overflow`] only where some count is the least of 64 bits.
+pub(crate) fn put_opposites(entries: &mut Entries, bag: &Bag) -> Result<(), Refusal>
+    ensures opposites { OnOk result (entries_of entries.new.items ≡ entries_of entries.old.items ++ map negated bag.now) }
+    ensures refused { IfErr result (IsRefusal (Any (λ e. FitsSigned w64 (neg_ℤ e.count) → ⊥) bag.now)) }
+{
+    for i in 0..bag.len() {
+        let Some(count) = count_at(bag, i).negate() else {
+            return Err(Refusal::Overflow);
+        };
+        put(entries, row_at(bag, i).copy(), count)?;
+    }
+    Ok(())
+}
