@@ -100,41 +100,40 @@ fn batches_are_in_order_of_rows(rt: HostRuntime) {
     assert_reads(&rt, &batch, &want);
 }
 
+// What these updates are refused by between these frontiers, if by anything.
+fn assert_refused(
+    rt: &impl Abort,
+    alloc: Global,
+    lower: (u64, u64),
+    upper: (u64, u64),
+    lines: &[Line],
+    want: Option<u8>,
+) {
+    let code = match sealed(rt, alloc, lower, upper, lines) {
+        Ok(_) => None,
+        Err(refused) => Some(refused.code()),
+    };
+    assert_eq!(rt; code, want, "{lower:?} to {upper:?}: {lines:?}");
+}
+
 // The worked intervals: (3, 9) is not at or after (4, 4), so it is inside. A pair that takes itself back is outside as
 // well as one update is, and so is a time before the lower frontier.
 #[test]
 fn times_outside_are_refused(rt: HostRuntime) {
-    let table: [((u64, u64), (u64, u64), &[Line], Option<u8>); 7] = [
-        ((0, 0), (4, 4), &[((3, 9), &[7], 1)], None),
-        ((0, 0), (4, 4), &[((4, 4), &[7], 1)], Some(22)),
-        (
-            (0, 0),
-            (4, 4),
-            &[((5, 4), &[7], 1), ((5, 4), &[7], -1)],
-            Some(22),
-        ),
-        (
-            (2, 2),
-            (4, 4),
-            &[((2, 3), &[7], 1), ((1, 3), &[7], 1)],
-            Some(22),
-        ),
-        ((4, 4), (3, 9), &[], Some(22)),
-        ((4, 4), (4, 4), &[], None),
-        (
-            (0, 0),
-            (4, 4),
-            &[((0, 0), &[7], i64::MAX), ((0, 0), &[7], 1)],
-            Some(10),
-        ),
-    ];
-    for (lower, upper, lines, refused) in table {
-        let code = match sealed(&rt, rt.alloc(), lower, upper, lines) {
-            Ok(_) => None,
-            Err(refused) => Some(refused.code()),
-        };
-        assert_eq!(rt; code, refused, "{lower:?} to {upper:?}: {lines:?}");
-    }
+    let alloc = rt.alloc();
+    let (first, last) = ((0, 0), (4, 4));
+    let apart: [Line; 1] = [((3, 9), &[7], 1)];
+    assert_refused(&rt, alloc, first, last, &apart, None);
+    let at_the_end: [Line; 1] = [((4, 4), &[7], 1)];
+    assert_refused(&rt, alloc, first, last, &at_the_end, Some(22));
+    let taken_back: [Line; 2] = [((5, 4), &[7], 1), ((5, 4), &[7], -1)];
+    assert_refused(&rt, alloc, first, last, &taken_back, Some(22));
+    let too_early: [Line; 2] = [((2, 3), &[7], 1), ((1, 3), &[7], 1)];
+    assert_refused(&rt, alloc, (2, 2), last, &too_early, Some(22));
+    assert_refused(&rt, alloc, last, (3, 9), &[], Some(22));
+    assert_refused(&rt, alloc, last, last, &[], None);
+    let too_large: [Line; 2] = [((0, 0), &[7], i64::MAX), ((0, 0), &[7], 1)];
+    assert_refused(&rt, alloc, first, last, &too_large, Some(10));
 }
 
 // Keys of each width, with no rows before, between and behind, and a key that is longer than some rows.
