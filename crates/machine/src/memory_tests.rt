@@ -1,9 +1,8 @@
 //! The calls that take memory, where an allocation is refused. Run with each allocation refused in turn, these see the
 //! refusal, and that the same call succeeds once there is memory.
 use crate::Board;
-use crate::tests::{change, plan, times};
+use crate::tests::{advanced, change, fed, plan, times};
 use lattice::Bitime;
-use plan::NodeId;
 use std::alloc::Global;
 use std::test::Fail;
 use update::Refusal;
@@ -19,22 +18,21 @@ fn boards_take_memory(rt: HostRuntime) -> Result<(), Fail> {
         Err(Refusal::OutOfMemory) => opened(alloc)?,
         done => done?,
     };
-    let input = NodeId::new(0);
-    match board.feed(0, input, change(alloc, (0, 0), &[7], 1)?) {
-        Err(Refusal::OutOfMemory) => board.feed(0, input, change(alloc, (0, 0), &[7], 1)?)?,
+    match fed(&rt, &mut board, change(alloc, (0, 0), &[7], 1)?) {
+        Err(Refusal::OutOfMemory) => fed(&rt, &mut board, change(alloc, (0, 0), &[7], 1)?)?,
         done => done?,
     }
     let first = match times(alloc, &[(0, 1), (1, 0)]) {
         Err(_refused) => times(alloc, &[(0, 1), (1, 0)])?,
         done => done?,
     };
-    match board.advance(0, input, first) {
-        Err(Refusal::OutOfMemory) => board.advance(0, input, times(alloc, &[(0, 1), (1, 0)])?)?,
+    match advanced(&rt, &mut board, first) {
+        Err(Refusal::OutOfMemory) => {
+            advanced(&rt, &mut board, times(alloc, &[(0, 1), (1, 0)])?)?
+        }
         done => done?,
     }
-    assert_eq!(rt;
-        board.feed(0, input, change(alloc, (0, 0), &[7], 1)?),
-        Err(Refusal::TimePassed)
-    );
+    let answered = fed(&rt, &mut board, change(alloc, (0, 0), &[7], 1)?);
+    assert_eq!(rt; answered, Err(Refusal::TimePassed));
     Ok(())
 }

@@ -5,6 +5,7 @@ use lattice::{Bitime, Pair};
 use plan::{Node, NodeId, Plan, PlanBuilder};
 use row::Row;
 use std::alloc::{AllocError, Global};
+use std::process::Abort;
 use std::test::Fail;
 use update::{Refusal, Update};
 
@@ -45,15 +46,42 @@ pub(crate) fn times(alloc: Global, pairs: &[(u64, u64)]) -> Result<Times<Bitime>
     Ok(times.into())
 }
 
+// Feeds the input of the plan. That it is one is tested first, since `feed` asks for it.
+pub(crate) fn fed(
+    rt: &impl Abort,
+    board: &mut Board<Bitime>,
+    update: Update<Bitime>,
+) -> Result<(), Refusal> {
+    let input = NodeId::new(0);
+    let there = input.number() < board.plan().len();
+    assert!(rt; there);
+    let is_input = board.plan().node(input).is_input();
+    assert!(rt; is_input);
+    board.feed(7, input, update)
+}
+
+// Moves the frontier of the input of the plan.
+pub(crate) fn advanced(
+    rt: &impl Abort,
+    board: &mut Board<Bitime>,
+    times: Times<Bitime>,
+) -> Result<(), Refusal> {
+    let input = NodeId::new(0);
+    let there = input.number() < board.plan().len();
+    assert!(rt; there);
+    let is_input = board.plan().node(input).is_input();
+    assert!(rt; is_input);
+    board.advance(7, input, times)
+}
+
 // Catches faults that are tested in another order, and a change that is taken where its time is passed.
 #[test]
 fn changes_are_refused_in_order(rt: HostRuntime) -> Result<(), Fail> {
     let alloc = rt.alloc();
-    let input = NodeId::new(0);
     let mut board = Board::open(alloc, plan(alloc)?, 3)?;
     assert_eq!(rt; board.workers(), 3);
     assert_eq!(rt; board.plan().len(), 2);
-    board.advance(0, input, times(alloc, &[(0, 2), (3, 0)])?)?;
+    advanced(&rt, &mut board, times(alloc, &[(0, 2), (3, 0)])?)?;
     let table: [((u64, u64), &[i64], i64, Result<(), Refusal>); 9] = [
         ((0, 2), &[7], 1, Ok(())),
         ((3, 0), &[7], -1, Ok(())),
@@ -66,8 +94,8 @@ fn changes_are_refused_in_order(rt: HostRuntime) -> Result<(), Fail> {
         ((2, 1), &[7, 7], 0, Err(Refusal::WrongWidth)),
     ];
     for (pair, columns, diff, answer) in table {
-        let fed = board.feed(0, input, change(alloc, pair, columns, diff)?);
-        assert_eq!(rt; fed, answer);
+        let answered = fed(&rt, &mut board, change(alloc, pair, columns, diff)?);
+        assert_eq!(rt; answered, answer);
     }
     Ok(())
 }
@@ -76,7 +104,6 @@ fn changes_are_refused_in_order(rt: HostRuntime) -> Result<(), Fail> {
 #[test]
 fn frontiers_of_inputs_move_on(rt: HostRuntime) -> Result<(), Fail> {
     let alloc = rt.alloc();
-    let input = NodeId::new(0);
     let mut board = Board::open(alloc, plan(alloc)?, 1)?;
     let table: [(&[(u64, u64)], Result<(), Refusal>); 6] = [
         (&[(0, 2), (3, 0)], Ok(())),
@@ -87,10 +114,11 @@ fn frontiers_of_inputs_move_on(rt: HostRuntime) -> Result<(), Fail> {
         (&[(9, 9)], Err(Refusal::NotForward)),
     ];
     for (pairs, answer) in table {
-        assert_eq!(rt; board.advance(1, input, times(alloc, pairs)?), answer);
+        let answered = advanced(&rt, &mut board, times(alloc, pairs)?);
+        assert_eq!(rt; answered, answer);
     }
     board.look(1);
-    let fed = board.feed(1, input, change(alloc, (9, 9), &[7], 1)?);
-    assert_eq!(rt; fed, Err(Refusal::TimePassed));
+    let answered = fed(&rt, &mut board, change(alloc, (9, 9), &[7], 1)?);
+    assert_eq!(rt; answered, Err(Refusal::TimePassed));
     Ok(())
 }
