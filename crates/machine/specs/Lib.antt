@@ -11,3 +11,4 @@ pub mod Histories
 pub mod Promises
 pub mod Readings
 pub mod Boards
+pub mod Reads

@@ -21,10 +21,12 @@
 mod board;
 mod clients;
 mod event;
+mod fronts;
 mod giving;
 mod lists;
 #[cfg(test)]
 mod memory_tests;
+mod reading;
 mod standing;
 #[cfg(test)]
 mod tests;

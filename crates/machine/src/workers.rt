@@ -11,12 +11,14 @@ ghost use Rattle.machine.specs.Dataflows.{node_of};
 ghost use Rattle.machine.specs.Worlds.{queue, times, same_place};
 ghost use Rattle.machine.specs.Outstanding.{stamp};
 ghost use Rattle.machine.specs.Histories.{holding, without};
-ghost use Rattle.machine.specs.Boards.{Shown, IsBoard, Stands, looked, taken, position_in};
+ghost use Rattle.machine.specs.Boards.{Shown, IsBoard, Stands, looked, taken, turned, position_in};
+ghost use Rattle.machine.specs.Reads.{is_ready};
 
 use crate::board::Board;
 use crate::event::{Bundle, Event, Held, Place};
 use crate::lists::Updates;
 use lattice::Minimum;
+use plan::NodeId;
 use std::alloc::Global;
 use update::{Refusal, Update};
 
@@ -105,7 +107,37 @@ fn push_held<T: Minimum>(held: &mut Vec<Held<T>>, more: &[Held<T>]) -> Result<()
     Ok(())
 }
 
+// How many of the bundles are of a place.
+fn number_at<T: Minimum>(bundles: &[Bundle<T>], place: &Place) -> usize
+    ensures { result ≡ length (queue place.now bundles.now) }
+{
+    let mut number = 0;
+    for bundle in bundles {
+        if bundle.place.is(place) {
+            number += 1;
+        }
+    }
+    number
+}
+
 impl<T: Minimum> Board<T> {
+    /// How many bundles wait at a place. Takes no memory.
+    ///
+    /// Cost: linear in the bundles in flight.
+    pub fn waiting(&self, place: &Place) -> usize
+        ensures { result ≡ length (queue place.now self.now.in_flight) }
+    {
+        number_at(&self.in_flight, place)
+    }
+
+    /// The node of the piece that a worker has in hand. Takes no memory.
+    pub fn in_hand(&self, worker: usize) -> Option<NodeId>
+        requires { worker < self.now.dataflow.workers }
+        ensures { result ≡ get_or self.now.hand worker None }
+    {
+        self.hand[worker]
+    }
+
     /// A worker with nothing in hand takes a bundle that waits for it: of those of a place the one of this number, counted
     /// from 0 in the order in which they were sent. Into an arrange node bundles are taken in any order, elsewhere in their
     /// own. The worker then has the node in hand, and holds the least of the bundle's times there, so that no frontier
@@ -194,5 +226,28 @@ impl<T: Minimum> Board<T> {
         let mut held = stamped(alloc, place, updates)?;
         push_held(&mut held, &self.held)?;
         Ok((copy, held))
+    }
+
+    /// A worker with nothing in hand turns to the times that it holds at a node, where the node's input frontier has passed
+    /// one of them: nothing more comes there at or before it. The worker then has the node in hand. Takes no memory.
+    pub fn take_held(&mut self, worker: usize, node: NodeId)
+        requires worker { worker < self.old.dataflow.workers }
+        requires within { node < length self.old.dataflow.nodes }
+        requires free { get_or self.old.hand worker None ≡ None }
+        requires ready { IsTrue (is_ready T.below self.old worker node) }
+        ensures turned { self.new ≡ turned worker node self.old }
+        ensures stands { (h : List (Event T)) → Stands T.below T.least self.old h → Stands T.below T.least self.new (self.new.last ∷ h) }
+    {
+        self.turn(worker, node);
+    }
+
+    // The same, without the histories.
+    fn turn(&mut self, worker: usize, node: NodeId)
+        requires { worker < self.old.dataflow.workers }
+        ensures turned { self.new ≡ turned worker node self.old }
+        ensures board { IsBoard self.old }
+    {
+        self.hand[worker] = Some(node);
+        self.last = Event::TakeHeld { worker, node };
     }
 }
