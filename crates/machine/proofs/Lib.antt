@@ -15,3 +15,5 @@ pub mod PlaceLemmas
 pub mod BoardLemmas
 pub mod MeetsLemmas
 pub mod TakingLemmas
+pub mod CuttingLemmas
+pub mod WaitingLemmas

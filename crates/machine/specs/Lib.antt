@@ -11,3 +11,5 @@ pub mod Histories
 pub mod Promises
 pub mod Readings
 pub mod Boards
+pub mod Cuts
+pub mod Waiting

@@ -20,6 +20,7 @@
 
 mod board;
 mod clients;
+mod cutting;
 mod event;
 mod giving;
 mod lists;
@@ -30,6 +31,7 @@ mod standing;
 mod tests;
 mod theorems;
 mod view;
+mod waiting;
 mod workers;
 
 pub use board::Board;

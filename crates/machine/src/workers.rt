@@ -60,7 +60,10 @@ fn is_least<T: Minimum>(updates: &[Update<T>], t: &T) -> bool
 }
 
 // A copy of the updates.
-fn copied<T: Minimum>(alloc: Global, updates: &[Update<T>]) -> Result<Vec<Update<T>>, Refusal>
+pub(crate) fn copied<T: Minimum>(
+    alloc: Global,
+    updates: &[Update<T>],
+) -> Result<Vec<Update<T>>, Refusal>
     ensures copied { IfOk result (λ copy. copy.items ≡ updates.now) }
     ensures refused { IfErr result (λ refusal. refusal ≡ OutOfMemory) }
 {
