@@ -17,3 +17,5 @@ pub mod MeetsLemmas
 pub mod TakingLemmas
 pub mod FrontLemmas
 pub mod ReadLemmas
+pub mod CuttingLemmas
+pub mod WaitingLemmas

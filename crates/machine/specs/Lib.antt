@@ -12,3 +12,5 @@ pub mod Promises
 pub mod Readings
 pub mod Boards
 pub mod Reads
+pub mod Cuts
+pub mod Waiting

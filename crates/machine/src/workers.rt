@@ -62,7 +62,10 @@ fn is_least<T: Minimum>(updates: &[Update<T>], t: &T) -> bool
 }
 
 // A copy of the updates.
-fn copied<T: Minimum>(alloc: Global, updates: &[Update<T>]) -> Result<Vec<Update<T>>, Refusal>
+pub(crate) fn copied<T: Minimum>(
+    alloc: Global,
+    updates: &[Update<T>],
+) -> Result<Vec<Update<T>>, Refusal>
     ensures copied { IfOk result (λ copy. copy.items ≡ updates.now) }
     ensures refused { IfErr result (λ refusal. refusal ≡ OutOfMemory) }
 {
@@ -107,37 +110,7 @@ fn push_held<T: Minimum>(held: &mut Vec<Held<T>>, more: &[Held<T>]) -> Result<()
     Ok(())
 }
 
-// How many of the bundles are of a place.
-fn number_at<T: Minimum>(bundles: &[Bundle<T>], place: &Place) -> usize
-    ensures { result ≡ length (queue place.now bundles.now) }
-{
-    let mut number = 0;
-    for bundle in bundles {
-        if bundle.place.is(place) {
-            number += 1;
-        }
-    }
-    number
-}
-
 impl<T: Minimum> Board<T> {
-    /// How many bundles wait at a place. Takes no memory.
-    ///
-    /// Cost: linear in the bundles in flight.
-    pub fn waiting(&self, place: &Place) -> usize
-        ensures { result ≡ length (queue place.now self.now.in_flight) }
-    {
-        number_at(&self.in_flight, place)
-    }
-
-    /// The node of the piece that a worker has in hand. Takes no memory.
-    pub fn in_hand(&self, worker: usize) -> Option<NodeId>
-        requires { worker < self.now.dataflow.workers }
-        ensures { result ≡ get_or self.now.hand worker None }
-    {
-        self.hand[worker]
-    }
-
     /// A worker with nothing in hand takes a bundle that waits for it: of those of a place the one of this number, counted
     /// from 0 in the order in which they were sent. Into an arrange node bundles are taken in any order, elsewhere in their
     /// own. The worker then has the node in hand, and holds the least of the bundle's times there, so that no frontier

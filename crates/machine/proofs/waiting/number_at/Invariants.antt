@@ -1,6 +1,6 @@
 use Rattle.std.proofs.Common.{◌≡◌, ◌+◌, ◌≤◌, drop, length}
 use Rattle.machine.specs.Worlds.{queue}
-use Rattle.machine.proofs.workers.number_at.Given as goal
+use Rattle.machine.proofs.waiting.number_at.Given as goal
 
 -- those that were counted and those that are left are all, and no more were counted than were seen
 abbrev pub invariant-loop-bundle : goal.invariant-loop-bundle
