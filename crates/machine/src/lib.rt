@@ -10,8 +10,8 @@
 //! what it does are these events.
 //!
 //! The [`Board`] is what lies between clients and workers, in memory. Each of its calls is one event, and says so in one
-//! way: whatever history the board stood for, it then stands for that history with the board's last event on top. So far
-//! it has changes and frontiers of clients, and takes and gives of workers.
+//! way: whatever history the board stood for, it then stands for that history with the board's last event on top. What is
+//! asked of a board, a view's rows among it, is answered for whatever history it stands for.
 //!
 //! A worker that gives has two duties. The node law: at every time before those that it still holds, what it gave is what
 //! the node makes of what it received. The load rule: it gives no more than that can take, and a reduction gives only what

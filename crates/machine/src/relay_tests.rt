@@ -1,7 +1,7 @@
 //! Boards driven by hand: bundles are taken, and given on as they are, by one worker or by two. What a view then says is
 //! worked out from the rules.
 use crate::tests::{advanced, change, fed, plan, times};
-use crate::{Board, Emission, Place, Times, Updates};
+use crate::{Board, Bundles, Emission, Place, Times, Ungiven, Updates};
 use lattice::{Bitime, Pair};
 use plan::NodeId;
 use std::alloc::Global;
@@ -10,7 +10,7 @@ use std::test::Fail;
 use update::Refusal;
 
 // A pair of times.
-fn pair(valid: u64, system: u64) -> Bitime {
+pub(crate) fn pair(valid: u64, system: u64) -> Bitime {
     Pair {
         first: valid,
         second: system,
@@ -18,7 +18,7 @@ fn pair(valid: u64, system: u64) -> Bitime {
 }
 
 // Takes the first bundle that waits at a place. That it may is tested first, since `take` asks for it.
-fn taken(
+pub(crate) fn taken(
     rt: &impl Abort,
     board: &mut Board<Bitime>,
     place: Place,
@@ -32,27 +32,56 @@ fn taken(
     board.take(place, 0)
 }
 
-// Gives updates on at a node, as they are, and holds nothing.
-fn given(
+// Gives updates on at a node, as they are, and holds nothing. What is refused for want of memory comes back, and is tried
+// again once.
+pub(crate) fn given(
     rt: &impl Abort,
     alloc: Global,
     board: &mut Board<Bitime>,
     place: Place,
     updates: Updates<Bitime>,
 ) -> Result<(), Refusal> {
-    let there = place.worker < board.workers();
-    assert!(rt; there);
-    let within = place.node.number() < board.plan().len();
-    assert!(rt; within);
     let emission = Emission {
         node: place.node,
         worker: place.worker,
         updates,
     };
-    let sent = board.cut(&emission)?;
-    match board.give(emission, Times::from(Vec::new(alloc)), sent) {
+    let there = emission.worker < board.workers();
+    assert!(rt; there);
+    let sent = match board.cut(&emission) {
+        Err(Refusal::OutOfMemory) => board.cut(&emission)?,
+        done => done?,
+    };
+    match handed(rt, board, emission, Times::from(Vec::new(alloc)), sent) {
         Ok(()) => Ok(()),
-        Err(_ungiven) => Err(Refusal::OutOfMemory),
+        Err(back) => match handed(rt, board, back.emission, back.held, back.sent) {
+            Ok(()) => Ok(()),
+            Err(_back) => Err(Refusal::OutOfMemory),
+        },
+    }
+}
+
+// Gives. That it may is tested first, since `give` asks for it.
+fn handed(
+    rt: &impl Abort,
+    board: &mut Board<Bitime>,
+    emission: Emission<Bitime>,
+    held: Times<Bitime>,
+    sent: Bundles<Bitime>,
+) -> Result<(), Ungiven<Bitime>> {
+    let there = emission.worker < board.workers();
+    assert!(rt; there);
+    let within = emission.node.number() < board.plan().len();
+    assert!(rt; within);
+    board.give(emission, held, sent)
+}
+
+// A place at the only port of a node.
+pub(crate) fn place(node: usize, worker: usize) -> Place {
+    Place {
+        node: NodeId::new(node),
+        port: 0,
+        worker,
     }
 }
 
@@ -64,17 +93,12 @@ fn carried(
     node: usize,
     worker: usize,
 ) -> Result<(), Refusal> {
-    let place = Place {
-        node: NodeId::new(node),
-        port: 0,
-        worker,
-    };
-    let updates = taken(rt, board, place)?;
-    given(rt, alloc, board, place, updates)
+    let updates = taken(rt, board, place(node, worker))?;
+    given(rt, alloc, board, place(node, worker), updates)
 }
 
 // What a read of the view of the plan answers: the number of rows and how often `[7]` counts.
-fn read(
+pub(crate) fn read(
     rt: &impl Abort,
     alloc: Global,
     board: &Board<Bitime>,
@@ -132,21 +156,16 @@ fn a_piece_in_hand_counts(rt: HostRuntime) -> Result<(), Fail> {
     let mut board = Board::open(alloc, plan(alloc)?, 2)?;
     fed(&rt, &mut board, change(alloc, (3, 0), &[7], 1)?)?;
     advanced(&rt, &mut board, times(alloc, &[])?)?;
-    let place = Place {
-        node: NodeId::new(0),
-        port: 0,
-        worker: 1,
-    };
-    assert_eq!(rt; board.waiting(&place), 1);
-    let updates = taken(&rt, &mut board, place)?;
+    assert_eq!(rt; board.waiting(&place(0, 1)), 1);
+    let updates = taken(&rt, &mut board, place(0, 1))?;
     assert!(rt; !board.is_quiet());
-    assert_eq!(rt; board.waiting(&place), 0);
+    assert_eq!(rt; board.waiting(&place(0, 1)), 0);
     assert_eq!(rt;
         read(&rt, alloc, &board, pair(3, 0)),
         Err(Refusal::NotPassed)
     );
     assert_eq!(rt; read(&rt, alloc, &board, pair(2, 9)), Ok((0, 0)));
-    given(&rt, alloc, &mut board, place, updates)?;
+    given(&rt, alloc, &mut board, place(0, 1), updates)?;
     carried(&rt, alloc, &mut board, 1, 1)?;
     assert_eq!(rt; read(&rt, alloc, &board, pair(3, 0)), Ok((1, 1)));
     assert_eq!(rt; read(&rt, alloc, &board, pair(2, 9)), Ok((0, 0)));
