@@ -1,0 +1,2 @@
+pub mod BagLemmas
+pub mod OutLemmas

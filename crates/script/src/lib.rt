@@ -1,0 +1,11 @@
+//! What a run of a command file writes.
+#![tactic(auto)]
+
+mod gathering;
+mod laws;
+mod memory;
+mod out;
+
+pub use laws::the_bag_of_entries;
+pub use memory::MemoryOut;
+pub use out::{Out, OutFault};
