@@ -1,3 +1,4 @@
 pub mod Bags
 pub mod Outs
 pub mod Took
+pub mod Printing

@@ -4,10 +4,15 @@
 //! piece worth putting. Numbers and rows are printed straight into the waiting text, without an allocation each.
 ghost use Rattle.std.specs.Prelude.{◌≡◌, ◌++◌, ℕ, List, [], OnErr, OnOk};
 ghost use Rattle.script.specs.Outs.{IsBeginning};
+ghost use Rattle.script.specs.Printing.{refused_text, read_text};
+ghost use Rattle.update.specs.Text.{entry_text};
 
 use crate::out::{Out, OutFault, put_all};
-use std::alloc::Global;
+use lattice::Bitime;
+use row::Row;
+use std::alloc::{AllocError, Global};
 use std::marker::Model;
+use update::Refusal;
 
 /// Text that waits for an output. A contract sees its bytes.
 #[derive(Debug, Drop)]
@@ -41,5 +46,29 @@ impl Gathered {
         put_all(out, self.text.as_bytes())?;
         self.text.clear();
         Ok(())
+    }
+
+    // That the command of a line was refused.
+    pub(crate) fn print_refused(&mut self, line: u64, refusal: Refusal) -> Result<(), AllocError>
+        ensures { OnOk result (self.new ≡ self.old ++ refused_text line refusal) }
+    {
+        let code = refusal.code();
+        writeln!(self.text, "refused {line} {code}")
+    }
+
+    // What is read, and how many rows there are.
+    pub(crate) fn print_read(&mut self, view: &str, time: Bitime, rows: usize) -> Result<(), AllocError>
+        ensures { OnOk result (self.new ≡ self.old ++ read_text view.now time rows) }
+    {
+        let valid = time.first;
+        let system = time.second;
+        writeln!(self.text, "read {view} {valid} {system} {rows}")
+    }
+
+    // A row, behind how often it counts.
+    pub(crate) fn print_row(&mut self, count: i64, row: &Row) -> Result<(), AllocError>
+        ensures { OnOk result (self.new ≡ self.old ++ entry_text (record { row = row.now; count = count })) }
+    {
+        writeln!(self.text, "{count} {row}")
     }
 }
