@@ -3,7 +3,7 @@
 //! A run writes many short lines, and each call of an output may cost a system call. So text waits here until there is a
 //! piece worth putting. Numbers and rows are printed straight into the waiting text, without an allocation each.
 ghost use Rattle.std.specs.Prelude.{◌≡◌, ◌++◌, ℕ, List, [], OnErr, OnOk};
-ghost use Rattle.script.specs.Outs.{IsBeginning};
+ghost use Rattle.script.specs.Outs.{IsBeginning, Wrote, Broke};
 ghost use Rattle.script.specs.Printing.{refused_text, read_text};
 ghost use Rattle.update.specs.Text.{entry_text};
 
@@ -13,6 +13,9 @@ use row::Row;
 use std::alloc::{AllocError, Global};
 use std::marker::Model;
 use update::Refusal;
+
+// From so many bytes on a piece is put.
+const PIECE: usize = 65_536;
 
 /// Text that waits for an output. A contract sees its bytes.
 #[derive(Debug, Drop)]
@@ -46,6 +49,17 @@ impl Gathered {
         put_all(out, self.text.as_bytes())?;
         self.text.clear();
         Ok(())
+    }
+
+    // Puts what waits, if it is a piece worth a call.
+    pub(crate) fn pass_on<W: Out>(&mut self, out: &mut W) -> Result<(), OutFault>
+        ensures wrote { OnOk result (Wrote W.took out.old self.old [] out.new self.new) }
+        ensures broke { OnErr result (Broke W.took out.old self.old [] 1 out.new) }
+    {
+        if self.text.len() < PIECE {
+            return Ok(());
+        }
+        self.flush(out)
     }
 
     // That the command of a line was refused.

@@ -1,11 +1,13 @@
 //! What a run of a command file writes.
 #![tactic(auto)]
 
+mod engine;
 mod fault;
 mod gathering;
 mod laws;
 mod memory;
 mod out;
+mod printing;
 
 pub use fault::RunFault;
 pub use laws::the_bag_of_entries;
