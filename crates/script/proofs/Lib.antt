@@ -1,2 +1,3 @@
 pub mod BagLemmas
 pub mod OutLemmas
+pub mod PrintingLemmas

@@ -44,3 +44,17 @@ module _ {W : Type 0} (took : W → List ℕ → ℕ → W → Type 0) where
     taken = b.taken;
     beginning = (b.beginning.0 ++ ys, sym (append_assoc b.part b.beginning.0 ys) ∙ ap (λ zs. zs ++ ys) b.beginning.1 ∙ append_assoc waiting xs ys);
   }
+
+  -- the same bytes, found otherwise
+  pub wrote_as : (s t : W) (waiting left xs ys : List ℕ) → xs ≡ ys → Wrote took s waiting xs t left → Wrote took s waiting ys t left
+  wrote_as s t waiting left xs ys e a = subst (λ (bytes : List ℕ). Wrote took s waiting bytes t left) e a
+
+  pub broke_as : (s t : W) (waiting xs ys : List ℕ) (n : ℕ) → xs ≡ ys → Broke took s waiting xs n t → Broke took s waiting ys n t
+  broke_as s t waiting xs ys n e a = subst (λ (bytes : List ℕ). Broke took s waiting bytes n t) e a
+
+  -- one text and then another, which together with what was to come are these bytes
+  pub wrote_more : InTurn → (s t u : W) (waiting xs left ys rest both : List ℕ) → xs ++ ys ≡ both → Wrote took s waiting xs t left → Wrote took t left ys u rest → Wrote took s waiting both u rest
+  wrote_more in_turn s t u waiting xs left ys rest both e a b = wrote_as s u waiting rest (xs ++ ys) both e (wrote_in_turn in_turn s t u waiting xs left ys rest a b)
+
+  pub broke_more : InTurn → (s t u : W) (waiting xs left ys later all : List ℕ) (n : ℕ) → (xs ++ ys) ++ later ≡ all → Wrote took s waiting xs t left → Broke took t left ys n u → Broke took s waiting all n u
+  broke_more in_turn s t u waiting xs left ys later all n e a b = broke_as s u waiting ((xs ++ ys) ++ later) all n e (broke_before s u waiting (xs ++ ys) later n (broke_in_turn in_turn s t u waiting xs left ys n a b))

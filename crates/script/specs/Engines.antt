@@ -1,7 +1,9 @@
 -- What carries out the commands of a session, and how it answers them.
-use Rattle.std.specs.Prelude.{◌≡◌, ◌⊎◌, ℕ, Option, Some, None, Result, Ok, Err}
+use Rattle.std.specs.Prelude.{◌≡◌, ◌⊎◌, ℕ, Bool, true, false, Option, Some, None, Result, Ok, Err}
 use Rattle.update.specs.declared.refusal.Refusal.{Refusal}
 use Rattle.update.specs.declared.refusal.Refusal.TheVariants.{OutOfMemory, Overflow}
+use Rattle.grammar.specs.declared.command.Command.{Command}
+use Rattle.grammar.specs.declared.command.Command.TheVariants.{Change, Advance, Close, Read}
 use Rattle.script.specs.declared.fault.RunFault.{RunFault}
 use Rattle.script.specs.declared.fault.RunFault.TheVariants as fault
 
@@ -19,3 +21,10 @@ IsAnswer refusal Accepted Stays (Err r) = ((refusal ≡ Some r) × Stays) ⊎ En
 abbrev pub failures : RunFault → ℕ
 failures (fault.Refused code) = 0
 failures fault.Write = 1
+
+-- the command asks for rows
+abbrev pub is_reading : Command → Bool
+is_reading (Change input time diff row) = false
+is_reading (Advance input times) = false
+is_reading (Close input) = false
+is_reading (Read view time) = true

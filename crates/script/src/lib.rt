@@ -6,6 +6,7 @@ mod fault;
 mod gathering;
 mod laws;
 mod memory;
+mod obeying;
 mod out;
 mod printing;
 

@@ -1,0 +1,68 @@
+//! One line of a script: its command goes to the engine, and what it answers is printed.
+ghost use Rattle.std.specs.Prelude.{◌≡◌, ◌++◌, IsTrue, false, IfErr, IfOk, OnErr, OnOk, MatchResult, not};
+ghost use Rattle.update.specs.Refusals.{code_of};
+ghost use Rattle.grammar.specs.Commands.{IsAbout};
+ghost use Rattle.script.specs.Engines.{EndsRun, IsAnswer, failures, is_reading};
+ghost use Rattle.script.specs.Outs.{Wrote, Broke};
+ghost use Rattle.script.specs.Printing.{refused_text};
+ghost use Rattle.script.specs.Text.{Sitting, refusal_of, accepting, after, piece};
+ghost use Rattle.script.specs.declared.fault.RunFault.TheVariants.{Refused};
+
+use crate::engine::Engine;
+use crate::fault::RunFault;
+use crate::gathering::Gathered;
+use crate::out::Out;
+use crate::printing::print_rows;
+use grammar::{Command, CommandLine, Script};
+use lattice::Bitime;
+use machine::Times;
+use plan::NodeId;
+use std::alloc::{AllocError, Global};
+use update::{Refusal, Update};
+
+// What a command was refused for, unless that ends the run.
+fn settled(refusal: Refusal) -> Result<Refusal, RunFault>
+    ensures goes_on { IfOk result (λ r. (r ≡ refusal) × (EndsRun refusal → ⊥)) }
+    ensures ends { IfErr result (λ fault. (fault ≡ Refused (code_of refusal)) × EndsRun refusal) }
+{
+    match refusal {
+        Refusal::OutOfMemory | Refusal::Overflow => Err(RunFault::from(refusal)),
+        _ => Ok(refusal),
+    }
+}
+
+// The times, copied.
+fn copied(alloc: Global, times: &[Bitime]) -> Result<Times<Bitime>, AllocError>
+    ensures { IfOk result (λ copy. copy ≡ times.now) }
+{
+    let copy = times.to_vec(alloc)?;
+    Ok(Times::from(copy))
+}
+
+// Hands a command to the engine that writes nothing where it is accepted: any but a read.
+fn hand_over<E: Engine>(alloc: Global, engine: &mut E, command: &Command) -> Result<(), Refusal>
+    requires about { IsAbout (E.plan engine.old) command.now }
+    requires writes_nothing { is_reading command.now ≡ false }
+    ensures plan { E.plan engine.new ≡ E.plan engine.old }
+    ensures answered { (s : Sitting) → E.stands engine.old s
+        → IsAnswer (refusal_of (E.plan engine.old) s command.now) (λ _. E.stands engine.new (accepting (E.plan engine.old) s command.now)) (E.stands engine.new s) result }
+{
+    match command {
+        Command::Change {
+            input,
+            time,
+            diff,
+            row,
+        } => engine.change(
+            *input,
+            Update {
+                time: *time,
+                row: row.copy(),
+                diff: *diff,
+            },
+        ),
+        Command::Advance { input, times } => engine.advance(*input, copied(alloc, times.as_slice())?),
+        Command::Close { input } => engine.advance(*input, Times::from(Vec::new(alloc))),
+        Command::Read { .. } => unreachable!(),
+    }
+}
