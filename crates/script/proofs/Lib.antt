@@ -1,3 +1,4 @@
 pub mod BagLemmas
 pub mod OutLemmas
 pub mod PrintingLemmas
+pub mod TextLemmas

@@ -1,7 +1,8 @@
 //! One line of a script: its command goes to the engine, and what it answers is printed.
-ghost use Rattle.std.specs.Prelude.{◌≡◌, ◌++◌, IsTrue, false, IfErr, IfOk, OnErr, OnOk, MatchResult, not};
+ghost use Rattle.std.specs.Prelude.{◌≡◌, ◌++◌, true, false, IfErr, IfOk, OnOk};
 ghost use Rattle.update.specs.Refusals.{code_of};
 ghost use Rattle.grammar.specs.Commands.{IsAbout};
+ghost use Rattle.grammar.specs.Told.{Told};
 ghost use Rattle.script.specs.Engines.{EndsRun, IsAnswer, failures, is_reading};
 ghost use Rattle.script.specs.Outs.{Wrote, Broke};
 ghost use Rattle.script.specs.Printing.{refused_text};
@@ -64,5 +65,62 @@ fn hand_over<E: Engine>(alloc: Global, engine: &mut E, command: &Command) -> Res
         Command::Advance { input, times } => engine.advance(*input, copied(alloc, times.as_slice())?),
         Command::Close { input } => engine.advance(*input, Times::from(Vec::new(alloc))),
         Command::Read { .. } => unreachable!(),
+    }
+}
+
+// Prints what a command was refused for, unless that ends the run.
+fn print_refusal(gathered: &mut Gathered, line: u64, refusal: Refusal) -> Result<(), RunFault>
+    ensures printed { OnOk result ((gathered.new ≡ gathered.old ++ refused_text line refusal) × (EndsRun refusal → ⊥)) }
+    ensures ends { IfErr result (λ fault. failures fault ≡ 0) }
+{
+    let refusal = settled(refusal)?;
+    gathered.print_refused(line, refusal)?;
+    Ok(())
+}
+
+// A line that writes nothing where its command is accepted.
+fn tell<E: Engine>(
+    alloc: Global,
+    engine: &mut E,
+    line: &CommandLine,
+    gathered: &mut Gathered,
+) -> Result<(), RunFault>
+    requires about { IsAbout (E.plan engine.old) line.now.command }
+    requires writes_nothing { is_reading line.now.command ≡ false }
+    ensures plan { E.plan engine.new ≡ E.plan engine.old }
+    ensures ran { (t : Told) (s : Sitting) → t.plan ≡ E.plan engine.old → E.stands engine.old s
+        → OnOk result (E.stands engine.new (after t.plan s line.now.command) × (gathered.new ≡ gathered.old ++ piece t s line.now)) }
+    ensures ends { IfErr result (λ fault. failures fault ≡ 0) }
+{
+    match hand_over(alloc, engine, &line.command) {
+        Ok(()) => Ok(()),
+        Err(refusal) => print_refusal(gathered, line.line, refusal),
+    }
+}
+
+// A line that asks for the rows of a view at a time.
+fn ask<E: Engine, W: Out>(
+    alloc: Global,
+    engine: &mut E,
+    script: &Script,
+    line: &CommandLine,
+    gathered: &mut Gathered,
+    out: &mut W,
+) -> Result<(), RunFault>
+    requires plan { script.now.plan ≡ E.plan engine.old }
+    requires about { IsAbout (E.plan engine.old) line.now.command }
+    requires reads { is_reading line.now.command ≡ true }
+    ensures plan { E.plan engine.new ≡ E.plan engine.old }
+    ensures ran { (s : Sitting) → E.stands engine.old s
+        → OnOk result (E.stands engine.new (after script.now.plan s line.now.command) × Wrote W.took out.old gathered.old (piece script.now s line.now) out.new gathered.new) }
+    ensures broke { (s : Sitting) → E.stands engine.old s
+        → IfErr result (λ fault. Broke W.took out.old gathered.old (piece script.now s line.now) (failures fault) out.new) }
+{
+    let Command::Read { view, time } = &line.command else {
+        unreachable!()
+    };
+    match engine.read(alloc, *view, *time) {
+        Ok(rows) => print_rows(gathered, out, script.name(*view), *time, &rows),
+        Err(refusal) => print_refusal(gathered, line.line, refusal),
     }
 }
