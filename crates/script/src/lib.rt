@@ -9,6 +9,7 @@ mod memory;
 mod obeying;
 mod out;
 mod printing;
+mod running;
 
 pub use fault::RunFault;
 pub use laws::the_bag_of_entries;

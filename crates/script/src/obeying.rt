@@ -124,3 +124,35 @@ fn ask<E: Engine, W: Out>(
         Err(refusal) => print_refusal(gathered, line.line, refusal),
     }
 }
+
+/// Carries out a line: its command goes to the engine, and what that answers is printed.
+pub(crate) fn obey<E: Engine, W: Out>(
+    alloc: Global,
+    engine: &mut E,
+    script: &Script,
+    line: &CommandLine,
+    gathered: &mut Gathered,
+    out: &mut W,
+) -> Result<(), RunFault>
+    requires plan { script.now.plan ≡ E.plan engine.old }
+    requires about { IsAbout (E.plan engine.old) line.now.command }
+    ensures plan { E.plan engine.new ≡ E.plan engine.old }
+    ensures ran { (s : Sitting) → E.stands engine.old s
+        → OnOk result (E.stands engine.new (after script.now.plan s line.now.command) × Wrote W.took out.old gathered.old (piece script.now s line.now) out.new gathered.new) }
+    ensures broke { (s : Sitting) → E.stands engine.old s
+        → IfErr result (λ fault. Broke W.took out.old gathered.old (piece script.now s line.now) (failures fault) out.new) }
+{
+    if is_reading(&line.command) {
+        return ask(alloc, engine, script, line, gathered, out);
+    }
+    tell(alloc, engine, line, gathered)?;
+    gathered.pass_on(out)?;
+    Ok(())
+}
+
+// Whether the command asks for rows.
+fn is_reading(command: &Command) -> bool
+    ensures { result ≡ is_reading command.now }
+{
+    matches!(command, Command::Read { .. })
+}
