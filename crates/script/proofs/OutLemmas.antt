@@ -58,3 +58,14 @@ module _ {W : Type 0} (took : W → List ℕ → ℕ → W → Type 0) where
 
   pub broke_more : InTurn → (s t u : W) (waiting xs left ys later all : List ℕ) (n : ℕ) → (xs ++ ys) ++ later ≡ all → Wrote took s waiting xs t left → Broke took t left ys n u → Broke took s waiting all n u
   broke_more in_turn s t u waiting xs left ys later all n e a b = broke_as s u waiting ((xs ++ ys) ++ later) all n e (broke_before s u waiting (xs ++ ys) later n (broke_in_turn in_turn s t u waiting xs left ys n a b))
+
+  -- what waits in the end is put
+  pub wrote_all : InTurn → (s t u : W) (bytes left : List ℕ) → Wrote took s [] bytes t left → took t left 0 u → took s bytes 0 u
+  wrote_all in_turn s t u bytes left a b = subst (λ (all : List ℕ). took s all 0 u) (sym a.in_order) (in_turn s t u a.part left 0 0 a.taken b)
+
+  pub broke_last : InTurn → (s t u : W) (bytes left : List ℕ) → Wrote took s [] bytes t left → (part : List ℕ) × IsBeginning part left × took t part 1 u → Broke took s [] bytes 1 u
+  broke_last in_turn s t u bytes left a b = record {
+    part = a.part ++ b.0;
+    taken = in_turn s t u a.part b.0 0 1 a.taken b.2;
+    beginning = (b.1.0, append_assoc a.part b.0 b.1.0 ∙ ap (λ rest. a.part ++ rest) b.1.1 ∙ sym a.in_order);
+  }

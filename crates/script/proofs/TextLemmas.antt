@@ -1,38 +1,43 @@
--- What a line writes and leaves, by whether something refuses its command.
-use Rattle.std.proofs.Common.{◌≡◌, ◌≢◌, ℕ, ◌+◌, ◌<◌, true, false, List, [], ◌∷◌, ◌++◌, take, drop, length, Option, Some, None, Result, Ok, Err, refl, sym, ◌∙◌, ap, subst, append_assoc, arith, inl, inr, ⊎_elim}
-use Rattle.std.specs.Prelude.{IfOk, OnOk, OnErr, IfErr}
-use Rattle.std.proofs.lemmas.List.{append-nil}
-use Rattle.lattice.specs.declared.product.Pair.{Pair}
-use Rattle.update.specs.Bags.{Entry}
-use Rattle.update.specs.declared.refusal.Refusal.{Refusal}
+-- What lines write and leave, one line after another.
+use Rattle.std.proofs.Common.{◌≡◌, ℕ, suc, ◌+◌, ◌<◌, List, [], ◌∷◌, ◌++◌, take, drop, length, get_or, refl, sym, ◌∙◌, ap, append_assoc, add-one, arith, take-append-drop, drop-cons}
+use Rattle.std.proofs.lemmas.List.{append-nil, take_more}
 use Rattle.plan.specs.declared.node.Node.{Node}
-use Rattle.grammar.specs.declared.command.Command.{Command}
-use Rattle.grammar.specs.declared.command.Command.TheVariants.{Change, Advance, Close, Read}
 use Rattle.grammar.specs.declared.command.CommandLine.{CommandLine}
-use Rattle.grammar.specs.Told.{Told, name_at}
-use Rattle.script.specs.Engines.{EndsRun, IsAnswer, failures, is_reading}
-use Rattle.script.specs.Printing.{refused_text, rows_text}
-use Rattle.script.specs.Sessions.{read_refusal, rows_at}
-use Rattle.script.specs.Text.{Sitting, at_or_below, refusal_of, accepting, accepting_unless, after, answer, answer_unless, piece, after_lines, lines_text}
+use Rattle.grammar.specs.Told.{Told}
+use Rattle.script.specs.Text.{Sitting, after, piece, after_lines, lines_text}
 
-module _ (t : Told) (s : Sitting) (line : CommandLine) where
-  pub after_accepted : refusal_of t.plan s line.command ≡ None → accepting t.plan s line.command ≡ after t.plan s line.command
-  after_accepted e = ap (λ (o : Option Refusal). accepting_unless t.plan s o line.command) (sym e)
+module _ (p : List Node) where
+  after_both : (s : Sitting) (xs ys : List CommandLine) → after_lines p s (xs ++ ys) ≡ after_lines p (after_lines p s xs) ys
+  after_both s [] ys = refl
+  after_both s (x ∷ xs) ys = after_both (after p s x.command) xs ys
 
-  pub after_refused : (r : Refusal) → refusal_of t.plan s line.command ≡ Some r → s ≡ after t.plan s line.command
-  after_refused r e = ap (λ (o : Option Refusal). accepting_unless t.plan s o line.command) (sym e)
+module _ (t : Told) where
+  text_both : (s : Sitting) (xs ys : List CommandLine) → lines_text t s (xs ++ ys) ≡ lines_text t s xs ++ lines_text t (after_lines t.plan s xs) ys
+  text_both s [] ys = refl
+  text_both s (x ∷ xs) ys =
+      ap (λ text. piece t s x ++ text) (text_both (after t.plan s x.command) xs ys)
+      ∙ sym (append_assoc (piece t s x) (lines_text t (after t.plan s x.command) xs) (lines_text t (after_lines t.plan (after t.plan s x.command) xs) ys))
 
-  pub piece_accepted : refusal_of t.plan s line.command ≡ None → answer t s line.command ≡ piece t s line
-  piece_accepted e = ap (λ (o : Option Refusal). answer_unless t s o line) (sym e)
+-- the line of a number, between those before it and those behind it
+module _ (lines : List CommandLine) (i : ℕ) (line : CommandLine) (h : i < length lines) (e : line ≡ get_or lines i line) where
+  up_to : take (i + 1) lines ≡ take i lines ++ line ∷ []
+  up_to = take_more lines i line h ∙ ap (λ (x : CommandLine). take i lines ++ x ∷ []) (sym e)
 
-  pub piece_refused : (r : Refusal) → refusal_of t.plan s line.command ≡ Some r → refused_text line.line r ≡ piece t s line
-  piece_refused r e = ap (λ (o : Option Refusal). answer_unless t s o line) (sym e)
+  all_lines : lines ≡ take i lines ++ line ∷ drop (suc i) lines
+  all_lines = sym (take-append-drop i lines) ∙ ap (λ (rest : List CommandLine). take i lines ++ rest) (drop-cons lines i line h ∙ ap (λ (x : CommandLine). x ∷ drop (suc i) lines) (sym e))
 
-  pub nothing_written : is_reading line.command ≡ false → refusal_of t.plan s line.command ≡ None → piece t s line ≡ []
-  nothing_written e n = sym (piece_accepted n) ∙ silent line.command e
-    where
-      silent : (command : Command) → is_reading command ≡ false → answer t s command ≡ []
-      silent (Change input time diff row) e = refl
-      silent (Advance input times) e = refl
-      silent (Close input) e = refl
-      silent (Read view time) e = absurd cc
+  pub after_more : (p : List Node) (s : Sitting) → after p (after_lines p s (take i lines)) line.command ≡ after_lines p s (take (i + 1) lines)
+  after_more p s = sym (ap (after_lines p s) up_to ∙ after_both p s (take i lines) (line ∷ []))
+
+  module _ (t : Told) (s : Sitting) where
+    abbrev pub before : Sitting
+    before = after_lines t.plan s (take i lines)
+
+    pub text_more : lines_text t s (take i lines) ++ piece t before line ≡ lines_text t s (take (i + 1) lines)
+    text_more = sym (ap (lines_text t s) up_to ∙ text_both t s (take i lines) (line ∷ []) ∙ ap (λ text. lines_text t s (take i lines) ++ text) (append-nil (piece t before line)))
+
+    pub text_all : (lines_text t s (take i lines) ++ piece t before line) ++ lines_text t (after t.plan before line.command) (drop (suc i) lines) ≡ lines_text t s lines
+    text_all =
+        append_assoc (lines_text t s (take i lines)) (piece t before line) (lines_text t (after t.plan before line.command) (drop (suc i) lines))
+        ∙ sym (text_both t s (take i lines) (line ∷ drop (suc i) lines))
+        ∙ ap (lines_text t s) (sym all_lines)
