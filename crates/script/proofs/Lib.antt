@@ -2,3 +2,4 @@ pub mod BagLemmas
 pub mod OutLemmas
 pub mod PrintingLemmas
 pub mod TextLemmas
+pub mod StandingLemmas

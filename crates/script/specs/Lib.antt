@@ -5,3 +5,4 @@ pub mod Printing
 pub mod Sessions
 pub mod Text
 pub mod Engines
+pub mod Standing

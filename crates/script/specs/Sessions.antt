@@ -39,19 +39,26 @@ module _ {T : Type 0} where
   abbrev pub with_frontier : ℕ → List T → Session T → Session T
   with_frontier i ts s = record { fed = s.fed; openings = opening i ts ++ filter (λ o. not (eqb o.input i)) s.openings }
 
-module _ {T : Type 0} (below : T → T → Bool) (p : List Node) (s : Session T) where
-  -- what refuses a change, in the order of testing
-  abbrev pub change_refusal : Fed T → Option Refusal
-  change_refusal f = first_refusal ((not (eqb (length f.update.row) (width_of p f.input)), WrongWidth)
+module _ {T : Type 0} (below : T → T → Bool) where
+  -- what refuses a change, in the order of testing, where these times are open and the input has taken so many changes
+  abbrev pub change_faults : List Node → List (Open T) → ℕ → Fed T → List (Bool × Refusal)
+  change_faults p openings taken f = (not (eqb (length f.update.row) (width_of p f.input)), WrongWidth)
       ∷ (int_eq f.update.diff (pos 0), ZeroWeight)
       ∷ (not (nat_le (unsigned_abs f.update.diff) 2147483647), WeightTooLarge)
-      ∷ (not (is_beyond below (open_at f.input s.openings) f.update.time), TimePassed)
-      ∷ (not (nat_lt (length (fed_to f.input s.fed)) 1048576), InputFull)
-      ∷ [])
+      ∷ (not (is_beyond below (open_at f.input openings) f.update.time), TimePassed)
+      ∷ (not (nat_lt taken 1048576), InputFull)
+      ∷ []
 
   -- what refuses an input's frontier: each of its times must be beyond the old one
+  abbrev pub frontier_faults : List (Open T) → ℕ → List T → List (Bool × Refusal)
+  frontier_faults openings i ts = (not (all_beyond below (open_at i openings) ts), NotForward) ∷ []
+
+module _ {T : Type 0} (below : T → T → Bool) (p : List Node) (s : Session T) where
+  abbrev pub change_refusal : Fed T → Option Refusal
+  change_refusal f = first_refusal (change_faults below p s.openings (length (fed_to f.input s.fed)) f)
+
   abbrev pub frontier_refusal : ℕ → List T → Option Refusal
-  frontier_refusal i ts = first_refusal ((not (all_beyond below (open_at i s.openings) ts), NotForward) ∷ [])
+  frontier_refusal i ts = first_refusal (frontier_faults below s.openings i ts)
 
   -- the frontier of a view: the least of those of all inputs that feed it
   abbrev pub view_frontier : ℕ → List T

@@ -10,6 +10,7 @@ mod obeying;
 mod out;
 mod printing;
 mod running;
+mod solo;
 
 pub use fault::RunFault;
 pub use laws::the_bag_of_entries;

@@ -1,0 +1,131 @@
+-- A board that stands for a session, after the events of clients.
+use Rattle.std.proofs.Common.{◌≡◌, ℕ, suc, ◌<◌, Bool, not, eqb, ltb-true, nat_lt, List, [], ◌∷◌, ◌++◌, length, get_or, replicate, Option, Some, None, Result, Ok, Err, IsTrue, refl, sym, ◌∙◌, ap, ap₂, subst, inl, inr, ◌⊎◌}
+use Rattle.std.specs.Prelude.{IfOk, IfErr, OnOk, OnErr, ◌&&◌}
+use Rattle.std.specs.List.{All, filter}
+use Rattle.std.proofs.lemmas.Bool.{and_parts}
+use Rattle.std.proofs.lemmas.Option.{unwrap_or-slice_get}
+use Rattle.plan.specs.Operators.{is_linear}
+use Rattle.plan.specs.declared.node.Node.TheVariants.{Input}
+use Rattle.std.proofs.lemmas.Result.{on_ok_weaker, on_err_weaker}
+use Rattle.update.specs.declared.refusal.Refusal.{Refusal}
+use Rattle.update.specs.declared.refusal.Refusal.TheVariants.{OutOfMemory}
+use Rattle.plan.specs.Rules.{IsRefusalBy, first_refusal}
+use Rattle.plan.specs.Nodes.{node_at}
+use Rattle.plan.specs.Ancestors.{is_input}
+use Rattle.plan.specs.declared.node.Node.{Node}
+use Rattle.machine.specs.declared.event.Event.{Event}
+use Rattle.machine.specs.declared.event.Event.TheVariants.{Feed, Advance, Look}
+use Rattle.machine.specs.declared.event.Fed.{Fed}
+use Rattle.machine.specs.declared.event.Open.{Open}
+use Rattle.machine.specs.Dataflows.{Dataflow}
+use Rattle.machine.specs.Histories.{opening, IsInput}
+use Rattle.machine.specs.Worlds.{fed_to}
+use Rattle.machine.specs.Boards as boards
+use Rattle.machine.specs.Boards.{Shown, Stands, looked, fed, advanced}
+use Rattle.grammar.specs.Commands.{is_input_of}
+use Rattle.script.specs.Engines.{EndsRun, IsAnswer}
+use Rattle.script.specs.Sessions.{Session, with_change, with_frontier, change_faults, frontier_faults, change_refusal, frontier_refusal}
+use Rattle.script.specs.Standing.{StandsAs, IsIdle, IsIdleUnless}
+
+-- an answer, from what is known where it is accepted and where it is refused
+pub answered : (o : Option Refusal) (A S : Type 0) (r : Result (Unit {0}) Refusal) → OnOk r A → OnOk r (o ≡ None) → IfErr r (IsRefusalBy o) → OnErr r S → IsAnswer o (λ _. A) S r
+answered o A S (Ok x) a n e s = (n, a)
+answered o A S (Err r) a n e s = by o e
+  where
+    by : (o : Option Refusal) → IsRefusalBy o r → ((o ≡ Some r) × S) ⊎ EndsRun r
+    by (Some x) e = inl (ap Some (sym e), s)
+    by None e = inr (inl e)
+
+module _ {T : Type 0} (below : T → T → Bool) (minimum : T) where
+  -- what each history becomes
+  abbrev pub Follows : Shown T → Shown T → Type 0
+  Follows b c = (h : List (Event T)) → Stands below minimum b h → Stands below minimum c (c.last ∷ h)
+
+  pub stands_looked : (b c : Shown T) (actor : ℕ) (s : Session T) → c ≡ looked actor b → Follows b c → StandsAs below minimum b s → StandsAs below minimum c s
+  stands_looked b c actor s e follows a =
+      subst (λ (d : Shown T). Follows b d → StandsAs below minimum d s) (sym e)
+      (λ follows. record { history = Look actor ∷ a.history; stands = follows a.history a.stands; fed = a.fed; openings = a.openings; since = a.since })
+      follows
+
+  pub stands_fed : (b c : Shown T) (client : ℕ) (f : Fed T) (s : Session T) → c ≡ fed client f b → Follows b c → StandsAs below minimum b s → StandsAs below minimum c (with_change f s)
+  stands_fed b c client f s e follows a =
+      subst (λ (d : Shown T). Follows b d → StandsAs below minimum d (with_change f s)) (sym e)
+      (λ follows. record { history = Feed client f ∷ a.history; stands = follows a.history a.stands; fed = ap (λ (fs : List (Fed T)). f ∷ fs) a.fed; openings = a.openings; since = a.since })
+      follows
+
+  pub stands_advanced : (b c : Shown T) (client i : ℕ) (ts : List T) (s : Session T) → c ≡ advanced client i ts b → Follows b c → StandsAs below minimum b s → StandsAs below minimum c (with_frontier i ts s)
+  stands_advanced b c client i ts s e follows a =
+      subst (λ (d : Shown T). Follows b d → StandsAs below minimum d (with_frontier i ts s)) (sym e)
+      (λ follows. record { history = Advance client i ts ∷ a.history; stands = follows a.history a.stands; fed = a.fed; openings = ap (λ (os : List (Open T)). opening i ts ++ filter (λ o. not (eqb o.input i)) os) a.openings; since = a.since })
+      follows
+
+  -- the board refuses what the session refuses
+  pub same_change_refusal : (b : Shown T) (s : Session T) (f : Fed T) → f.input < length b.dataflow.nodes → StandsAs below minimum b s → boards.feed_refusal below b f ≡ change_refusal below b.dataflow.nodes s f
+  same_change_refusal b s f within a = λ j. first_refusal (change_faults below b.dataflow.nodes (openings j) (taken j) f)
+    where
+      openings : b.openings ≡ s.openings
+      openings = a.stands.openings ∙ a.openings
+
+      taken : get_or b.accepted f.input 0 ≡ length (fed_to f.input s.fed)
+      taken = a.stands.accepted f.input within ∙ ap (λ (fs : List (Fed T)). length (fed_to f.input fs)) a.fed
+
+  pub same_frontier_refusal : (b : Shown T) (s : Session T) (i : ℕ) (ts : List T) → StandsAs below minimum b s → boards.advance_refusal below b i ts ≡ frontier_refusal below b.dataflow.nodes s i ts
+  same_frontier_refusal b s i ts a = ap (λ (os : List (Open T)). first_refusal (frontier_faults below os i ts)) (a.stands.openings ∙ a.openings)
+
+  -- a change is answered as the session does
+  pub change_answered : (b c : Shown T) (client : ℕ) (f : Fed T) (s : Session T) (r : Result (Unit {0}) Refusal) → f.input < length b.dataflow.nodes
+      → OnOk r (c ≡ fed client f b) → OnOk r (boards.feed_refusal below b f ≡ None) → IfErr r (IsRefusalBy (boards.feed_refusal below b f)) → OnErr r (c ≡ looked client b)
+      → Follows b c → StandsAs below minimum b s
+      → IsAnswer (change_refusal below b.dataflow.nodes s f) (λ _. StandsAs below minimum c (with_change f s)) (StandsAs below minimum c s) r
+  change_answered b c client f s r within done accepted refused looks follows a =
+      subst (λ (o : Option Refusal). IsAnswer o (λ _. StandsAs below minimum c (with_change f s)) (StandsAs below minimum c s) r) (same_change_refusal b s f within a)
+      (answered (boards.feed_refusal below b f) (StandsAs below minimum c (with_change f s)) (StandsAs below minimum c s) r
+      (on_ok_weaker r (λ e. stands_fed b c client f s e follows a) done) accepted refused
+      (on_err_weaker r (λ e. stands_looked b c client s e follows a) looks))
+
+  -- and so is a frontier
+  pub frontier_answered : (b c : Shown T) (client i : ℕ) (ts : List T) (s : Session T) (r : Result (Unit {0}) Refusal)
+      → OnOk r (c ≡ advanced client i ts b) → OnOk r (boards.advance_refusal below b i ts ≡ None) → IfErr r (IsRefusalBy (boards.advance_refusal below b i ts)) → OnErr r (c ≡ looked client b)
+      → Follows b c → StandsAs below minimum b s
+      → IsAnswer (frontier_refusal below b.dataflow.nodes s i ts) (λ _. StandsAs below minimum c (with_frontier i ts s)) (StandsAs below minimum c s) r
+  frontier_answered b c client i ts s r done accepted refused looks follows a =
+      subst (λ (o : Option Refusal). IsAnswer o (λ _. StandsAs below minimum c (with_frontier i ts s)) (StandsAs below minimum c s) r) (same_frontier_refusal b s i ts a)
+      (answered (boards.advance_refusal below b i ts) (StandsAs below minimum c (with_frontier i ts s)) (StandsAs below minimum c s) r
+      (on_ok_weaker r (λ e. stands_advanced b c client i ts s e follows a) done) accepted refused
+      (on_err_weaker r (λ e. stands_looked b c client s e follows a) looks))
+
+module _ {T : Type 0} where
+  -- the worker stays as it was
+  pub idle_looked : (b : Shown T) (actor : ℕ) (o : Option Refusal) → IsIdleUnless o b → IsIdleUnless o (looked actor b)
+  idle_looked b actor None i = record { alone = i.alone; linear = i.linear; held = i.held; hand = i.hand }
+  idle_looked b actor (Some r) i = i
+
+  pub idle_fed : (b : Shown T) (client : ℕ) (f : Fed T) (o : Option Refusal) → IsIdleUnless o b → IsIdleUnless o (fed client f b)
+  idle_fed b client f None i = record { alone = i.alone; linear = i.linear; held = i.held; hand = i.hand }
+  idle_fed b client f (Some r) i = i
+
+  pub idle_advanced : (b : Shown T) (client i : ℕ) (ts : List T) (o : Option Refusal) → IsIdleUnless o b → IsIdleUnless o (advanced client i ts b)
+  idle_advanced b client i ts None idle = record { alone = idle.alone; linear = idle.linear; held = idle.held; hand = idle.hand }
+  idle_advanced b client i ts (Some r) idle = idle
+
+  -- whichever of both became of the board
+  pub idle_after : (P Q : Shown T) (c : Shown T) (o : Option Refusal) (r : Result (Unit {0}) Refusal) → IsIdleUnless o P → IsIdleUnless o Q → OnOk r (c ≡ P) → OnErr r (c ≡ Q) → IsIdleUnless o c
+  idle_after P Q c o (Ok x) p q e f = subst (IsIdleUnless o) (sym e) p
+  idle_after P Q c o (Err r) p q e f = subst (IsIdleUnless o) (sym f) q
+
+  pub kept_after : (P Q : Shown T) (b c : Shown T) (r : Result (Unit {0}) Refusal) → P.dataflow ≡ b.dataflow → Q.dataflow ≡ b.dataflow → OnOk r (c ≡ P) → OnErr r (c ≡ Q) → c.dataflow.nodes ≡ b.dataflow.nodes
+  kept_after P Q b c (Ok x) p q e f = ap (λ (d : Shown T). d.dataflow.nodes) e ∙ ap (λ (d : Dataflow). d.nodes) p
+  kept_after P Q b c (Err r) p q e f = ap (λ (d : Shown T). d.dataflow.nodes) f ∙ ap (λ (d : Dataflow). d.nodes) q
+
+-- an input of a plan, as the board asks for it
+pub input_there : (p : Dataflow) (input : ℕ) → IsTrue (is_input_of p.nodes input) → IsInput p input
+input_there p input h = let parts = and_parts _ _ h in (ltb-true _ _ parts.0, parts.1)
+
+-- on a board on which nothing has happened the one worker is idle
+pub idle_first : {T : Type 0} (minimum : T) (nodes : List Node) (b : Shown T) → b ≡ boards.first_board minimum (record { nodes = nodes; workers = 1 }) → All (λ node. IsTrue (is_linear node)) nodes → IsIdle b
+idle_first minimum nodes b e linear = subst IsIdle (sym e) (record {
+  alone = refl;
+  linear = λ n h. subst (λ (node : Node). IsTrue (is_linear node)) (sym (unwrap_or-slice_get nodes n (Input 0))) (linear n (Input 0) h);
+  held = refl;
+  hand = refl;
+})
