@@ -45,7 +45,8 @@ use Rattle.machine.specs.Worlds.{emitted_at}
 use Rattle.machine.specs.Histories.{is_held_by, IsGive}
 use Rattle.machine.specs.Boards.{capturing, given}
 use Rattle.machine.proofs.FlowLemmas.{sum_at-append}
-use Rattle.machine.specs.Boards.{taken}
+use Rattle.machine.specs.Boards.{taken, turned}
+use Rattle.machine.specs.Histories.{IsTakeHeld}
 use Rattle.machine.specs.Boards.{no_view, first_board, Shown, IsBoard, Stands, looked, fed, advanced, feed_refusal, advance_refusal}
 
 -- an input's frontier, tested element by element
@@ -199,6 +200,20 @@ module _ {T : Type 0} (below : T → T → Bool) (minimum : T) where
     captured = s.captured;
     last = refl;
   }
+
+  pub stands_turned : (b c : Shown T) → IsBoard b → (h : List (Event T)) (k n : ℕ) → k < b.dataflow.workers → IsTakeHeld below b.dataflow (world below minimum b.dataflow h) k n
+      → c ≡ turned k n b → Stands below minimum b h → Stands below minimum c (c.last ∷ h)
+  stands_turned b c board h k n l legal e s = subst (λ z. Stands below minimum z (z.last ∷ h)) (sym e) (record {
+    legal = (legal, s.legal);
+    in_flight = s.in_flight;
+    held = s.held;
+    openings = s.openings;
+    hand = hand_set b.hand (world below minimum b.dataflow h).hand b.dataflow.workers k (Some n) board.hand l s.hand;
+    accepted = s.accepted;
+    since = s.since;
+    captured = s.captured;
+    last = refl;
+  })
 
   pub stands_after_take : (r : Result (List (Update T)) Refusal) (b c : Shown T) (h : List (Event T)) (site : Place) (number : ℕ) → OnOk r (IsBoard b) → site.worker < b.dataflow.workers → get_or b.hand site.worker None ≡ None
       → (arranged_by (node_of b.dataflow site.node) ≡ None → number ≡ 0)

@@ -15,3 +15,7 @@ pub mod PlaceLemmas
 pub mod BoardLemmas
 pub mod MeetsLemmas
 pub mod TakingLemmas
+pub mod FrontLemmas
+pub mod ReadLemmas
+pub mod CuttingLemmas
+pub mod WaitingLemmas

@@ -119,7 +119,7 @@ hand_with p f i x h y k n e = step (eqb k i) refl e
 
 -- only a place that there is has a share of what a worker gave
 module _ {T : Type 0} (p : Dataflow) (q : IsDataflow p) where
-  shared : (site : Place) (g : Emission T) → g.worker < p.workers → share p site g ≢ [] → IsPlace p site
+  pub shared : (site : Place) (g : Emission T) → g.worker < p.workers → share p site g ≢ [] → IsPlace p site
   shared site g l h = step (source_of p site.node site.port) refl (arranged_by (node_of p site.node)) h
     where
       within : (xs : List ℕ) (i s : ℕ) → slice_get xs i ≡ Some s → i < length xs

@@ -12,6 +12,7 @@ use Rattle.plan.specs.Ancestors.{is_input}
 use Rattle.plan.specs.Edges.{numbers_where}
 use Rattle.plan.specs.Rules.{is_output, first_refusal}
 use Rattle.plan.specs.Widths.{width_of}
+use Rattle.plan.specs.declared.node.Node.{Node}
 use Rattle.machine.specs.declared.event.Place.{Place}
 use Rattle.machine.specs.declared.event.Bundle.{Bundle}
 use Rattle.machine.specs.declared.event.Fed.{Fed}
@@ -121,21 +122,24 @@ module _ {T : Type 0} (below : T → T → Bool) where
     last = Take site number us;
   }
 
-  -- what refuses a change, in the order of testing
-  abbrev pub feed_faults : Shown T → Fed T → List (Bool × Refusal)
-  feed_faults b f = (not (eqb (length f.update.row) (width_of b.dataflow.nodes f.input)), WrongWidth)
+  -- what refuses a change, in the order of testing, where these times are open and the input has taken so many changes
+  abbrev pub feed_faults : List Node → List (Open T) → ℕ → Fed T → List (Bool × Refusal)
+  feed_faults nodes openings taken f = (not (eqb (length f.update.row) (width_of nodes f.input)), WrongWidth)
       ∷ (int_eq f.update.diff (pos 0), ZeroWeight)
       ∷ (not (nat_le (unsigned_abs f.update.diff) 2147483647), WeightTooLarge)
-      ∷ (not (is_beyond below (open_at f.input b.openings) f.update.time), TimePassed)
-      ∷ (not (nat_lt (get_or b.accepted f.input 0) 1048576), InputFull)
+      ∷ (not (is_beyond below (open_at f.input openings) f.update.time), TimePassed)
+      ∷ (not (nat_lt taken 1048576), InputFull)
       ∷ []
 
   abbrev pub feed_refusal : Shown T → Fed T → Option Refusal
-  feed_refusal b f = first_refusal (feed_faults b f)
+  feed_refusal b f = first_refusal (feed_faults b.dataflow.nodes b.openings (get_or b.accepted f.input 0) f)
 
   -- what refuses an input's frontier
+  abbrev pub advance_faults : List (Open T) → ℕ → List T → List (Bool × Refusal)
+  advance_faults openings i ts = (not (all_beyond below (open_at i openings) ts), NotForward) ∷ []
+
   abbrev pub advance_refusal : Shown T → ℕ → List T → Option Refusal
-  advance_refusal b i ts = first_refusal ((not (all_beyond below (open_at i b.openings) ts), NotForward) ∷ [])
+  advance_refusal b i ts = first_refusal (advance_faults b.openings i ts)
 
 module _ {T : Type 0} (below : T → T → Bool) (minimum : T) where
   -- the event was the last one

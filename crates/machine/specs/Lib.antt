@@ -11,3 +11,6 @@ pub mod Histories
 pub mod Promises
 pub mod Readings
 pub mod Boards
+pub mod Reads
+pub mod Cuts
+pub mod Waiting

@@ -79,6 +79,17 @@ impl<T> std::marker::Model for Bundles<T> {
     ghost view = { λ u. u.items.items };
 }
 
+/// Takes no memory.
+impl<T> From<Vec<Bundle<T>>> for Bundles<T> {
+    ghost use Rattle.std.specs.Prelude.{◌≡◌};
+
+    ghost from_gives = { λ v r. r ≡ v.items };
+
+    fn from(items: Vec<Bundle<T>>) -> Bundles<T> {
+        Bundles { items }
+    }
+}
+
 /// What happens on a board, one at a time.
 #[derive(Debug, Drop)]
 pub enum Event<T> {

@@ -20,16 +20,22 @@
 
 mod board;
 mod clients;
+mod cutting;
 mod event;
+mod fronts;
 mod giving;
 mod lists;
 #[cfg(test)]
 mod memory_tests;
+mod reading;
+#[cfg(test)]
+mod relay_tests;
 mod standing;
 #[cfg(test)]
 mod tests;
 mod theorems;
 mod view;
+mod waiting;
 mod workers;
 
 pub use board::Board;

@@ -11,12 +11,14 @@ ghost use Rattle.machine.specs.Dataflows.{node_of};
 ghost use Rattle.machine.specs.Worlds.{queue, times, same_place};
 ghost use Rattle.machine.specs.Outstanding.{stamp};
 ghost use Rattle.machine.specs.Histories.{holding, without};
-ghost use Rattle.machine.specs.Boards.{Shown, IsBoard, Stands, looked, taken, position_in};
+ghost use Rattle.machine.specs.Boards.{Shown, IsBoard, Stands, looked, taken, turned, position_in};
+ghost use Rattle.machine.specs.Reads.{is_ready};
 
 use crate::board::Board;
 use crate::event::{Bundle, Event, Held, Place};
 use crate::lists::Updates;
 use lattice::Minimum;
+use plan::NodeId;
 use std::alloc::Global;
 use update::{Refusal, Update};
 
@@ -60,7 +62,10 @@ fn is_least<T: Minimum>(updates: &[Update<T>], t: &T) -> bool
 }
 
 // A copy of the updates.
-fn copied<T: Minimum>(alloc: Global, updates: &[Update<T>]) -> Result<Vec<Update<T>>, Refusal>
+pub(crate) fn copied<T: Minimum>(
+    alloc: Global,
+    updates: &[Update<T>],
+) -> Result<Vec<Update<T>>, Refusal>
     ensures copied { IfOk result (λ copy. copy.items ≡ updates.now) }
     ensures refused { IfErr result (λ refusal. refusal ≡ OutOfMemory) }
 {
@@ -194,5 +199,28 @@ impl<T: Minimum> Board<T> {
         let mut held = stamped(alloc, place, updates)?;
         push_held(&mut held, &self.held)?;
         Ok((copy, held))
+    }
+
+    /// A worker with nothing in hand turns to the times that it holds at a node, where the node's input frontier has passed
+    /// one of them: nothing more comes there at or before it. The worker then has the node in hand. Takes no memory.
+    pub fn take_held(&mut self, worker: usize, node: NodeId)
+        requires worker { worker < self.old.dataflow.workers }
+        requires within { node < length self.old.dataflow.nodes }
+        requires free { get_or self.old.hand worker None ≡ None }
+        requires ready { IsTrue (is_ready T.below self.old worker node) }
+        ensures turned { self.new ≡ turned worker node self.old }
+        ensures stands { (h : List (Event T)) → Stands T.below T.least self.old h → Stands T.below T.least self.new (self.new.last ∷ h) }
+    {
+        self.turn(worker, node);
+    }
+
+    // The same, without the histories.
+    fn turn(&mut self, worker: usize, node: NodeId)
+        requires { worker < self.old.dataflow.workers }
+        ensures turned { self.new ≡ turned worker node self.old }
+        ensures board { IsBoard self.old }
+    {
+        self.hand[worker] = Some(node);
+        self.last = Event::TakeHeld { worker, node };
     }
 }

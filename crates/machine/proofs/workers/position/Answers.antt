@@ -1,4 +1,4 @@
-use Rattle.std.proofs.Common.{◌≡◌, ◌+◌, ◌<◌, suc, sym, ◌∙◌, arith}
+use Rattle.std.proofs.Common.{◌≡◌, suc, sym, ◌∙◌, arith}
 use Rattle.machine.proofs.TakingLemmas.{found_here, one_less, passed_by}
 use Rattle.machine.proofs.workers.position.Goals as goal
 use Rattle.machine.proofs.workers.position.Goals.{then-is+else-left-eq0, else-is}

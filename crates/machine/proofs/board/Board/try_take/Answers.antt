@@ -1,4 +1,4 @@
-use Rattle.std.proofs.Common.{◌≡◌, ap, sym, ◌∙◌, get_or}
+use Rattle.std.proofs.Common.{◌≡◌, ap, ◌∙◌, get_or}
 use Rattle.machine.specs.Boards.{Shown, position_in}
 use Rattle.machine.proofs.TakingLemmas.{taken_after}
 use Rattle.machine.proofs.board.Board.try_take.Goals as goal

@@ -1,0 +1,183 @@
+-- A cut gives each place its share, in bundles none of which is empty.
+use Rattle.std.proofs.Common.{◌≡◌, ℕ, zero, suc, ◌<◌, ◌≤◌, ◌+◌, Bool, true, false, cond, not, ◌&&◌, List, [], ◌∷◌, ◌++◌, length, sym, refl, ap, ◌∙◌, Option, Some, None, eqb, arith, ◌⊎◌, inl, inr}
+use Rattle.std.specs.List.{flat_map, list_all}
+use mathlib.Core.Path.{fun_ext}
+use Rattle.std.proofs.lemmas.Bool.{eqb-true, eqb-false, eq-eqb, ne_eqb, and_from}
+use Rattle.std.proofs.lemmas.List.{append-nil, flat_map_more}
+use Rattle.std.proofs.lemmas.List.Concat.{flat_map-append}
+use Rattle.std.proofs.lemmas.List.Folds.{list_all-append}
+use Rattle.update.specs.declared.change.Update.{Update}
+use Rattle.plan.specs.Ancestors.{numbers_below}
+use Rattle.plan.specs.Nodes.{sources, arranged_by}
+use Rattle.plan.specs.declared.node.Node.{Node}
+use Rattle.plan.specs.declared.node.Node.TheVariants.{Input, Map, Filter, Concat, Negate, Arrange, Join, Reduce, Output}
+use Rattle.machine.specs.declared.event.Place.{Place}
+use Rattle.machine.specs.declared.event.Bundle.{Bundle}
+use Rattle.machine.specs.declared.event.Emission.{Emission}
+use Rattle.machine.specs.Dataflows.{Dataflow, IsDataflow, node_of, source_of}
+use Rattle.machine.specs.Worlds.{place, same_place, updates_at}
+use Rattle.machine.specs.Shares.{part, share, share_from}
+use Rattle.machine.specs.Cuts.{bundled, cut_at, cut}
+use Rattle.machine.proofs.FlowLemmas.{place_same}
+use Rattle.machine.proofs.PlaceLemmas.{shared}
+
+-- Over the numbers below one, at most one of which gives something
+
+pub none_below : {A : Type 0} (n : ℕ) (f : ℕ → List A) → ((m : ℕ) → m < n → f m ≡ []) → flat_map f (numbers_below n) ≡ []
+none_below zero f h = refl
+none_below (suc n) f h = flat_map-append f (numbers_below n) (n ∷ []) ∙ rw (none_below n f (λ m l. h m (omega arith)), h n (omega arith)) refl
+
+pub one_below : {A : Type 0} (n x : ℕ) (f : ℕ → List A) → ((m : ℕ) → (m ≡ x → ⊥) → f m ≡ []) → x < n → flat_map f (numbers_below n) ≡ f x
+one_below zero x f h l = absurd (omega arith)
+one_below {A} (suc n) x f h l = flat_map-append f (numbers_below n) (n ∷ []) ∙ step (eqb n x) refl (one_below n x f h)
+  where
+    step : (b : Bool) → eqb n x ≡ b → (x < n → flat_map f (numbers_below n) ≡ f x) → flat_map f (numbers_below n) ++ (f n ++ []) ≡ f x
+    step true e ih =
+        let s = eqb-true n x e in
+        rw (none_below n f (λ m k. h m (λ z. absurd (omega arith))), append-nil (f n)) (ap f s)
+    step false e ih =
+        let d = eqb-false n x e in
+        rw (h n d, ih (omega arith)) (append-nil (f x))
+
+-- with one number more
+pub with_next : {A : Type 0} (f : ℕ → List A) (n : ℕ) (before : List A) → (before ++ flat_map f (numbers_below n)) ++ f n ≡ before ++ flat_map f (numbers_below (n + 1))
+with_next {A} f n before = flat_map_more f before (numbers_below n) n ∙ ap (λ m. before ++ flat_map f (numbers_below m)) next
+  where
+    next : suc n ≡ n + 1
+    next = omega arith
+
+-- Of the bundles that are made number by number
+
+updates_over : {T : Type 0} (site : Place) (f : ℕ → List (Bundle T)) (ns : List ℕ) → updates_at site (flat_map f ns) ≡ flat_map (λ n. updates_at site (f n)) ns
+updates_over site f [] = refl
+updates_over {T} site f (n ∷ ns) = flat_map-append (λ (b : Bundle T). cond (same_place b.place site) b.updates []) (f n) (flat_map f ns) ∙ ap (λ z. updates_at site (f n) ++ z) (updates_over site f ns)
+
+abbrev pub is_filled : {T : Type 0} → List (Bundle T) → Bool
+is_filled bundles = list_all (λ b. not (eqb (length b.updates) 0)) bundles
+
+filled_over : {T : Type 0} (f : ℕ → List (Bundle T)) → ((n : ℕ) → is_filled (f n) ≡ true) → (ns : List ℕ) → is_filled (flat_map f ns) ≡ true
+filled_over f h [] = refl
+filled_over {T} f h (n ∷ ns) = list_all-append (λ (b : Bundle T). not (eqb (length b.updates) 0)) (f n) (flat_map f ns) ∙ and_from (is_filled (f n)) (is_filled (flat_map f ns)) (h n) (filled_over f h ns)
+
+filled_both : {T : Type 0} (xs ys : List (Bundle T)) → is_filled xs ≡ true → is_filled ys ≡ true → is_filled (xs ++ ys) ≡ true
+filled_both {T} xs ys a b = list_all-append (λ (b : Bundle T). not (eqb (length b.updates) 0)) xs ys ∙ and_from (is_filled xs) (is_filled ys) a b
+
+filled_bundle : {T : Type 0} (site : Place) (us : List (Update T)) → is_filled (bundled site us) ≡ true
+filled_bundle site [] = refl
+filled_bundle site (u ∷ us) = rw (ne_eqb (suc (length us)) 0 (λ z. absurd (omega (arith, z)))) refl
+
+nothing : {A : Type 0} (b : Bool) (xs : List A) → xs ≡ [] → cond b xs [] ≡ []
+nothing true xs e = e
+nothing false xs e = refl
+
+-- a bundle is where it is, and nowhere else
+bundle_there : {T : Type 0} (site other : Place) (us : List (Update T)) → updates_at site (bundled other us) ≡ cond (same_place other site) us []
+bundle_there site other [] = sym (nothing (same_place other site) [] refl)
+bundle_there site other (u ∷ us) = append-nil (cond (same_place other site) (u ∷ us) [])
+
+few_sources : (node : Node) → length (sources node) ≤ 2
+few_sources (Input width) = omega arith
+few_sources (Map source items) = omega arith
+few_sources (Filter source test) = omega arith
+few_sources (Concat left right) = omega arith
+few_sources (Negate source) = omega arith
+few_sources (Arrange source key) = omega arith
+few_sources (Join left right) = omega arith
+few_sources (Reduce kind source) = omega arith
+few_sources (Output source) = omega arith
+
+-- what goes to a place that reads the node
+pub share_is : {T : Type 0} (p : Dataflow) (site : Place) (g : Emission T) → source_of p site.node site.port ≡ Some g.node → share p site g ≡ part p (arranged_by (node_of p site.node)) g.worker site.worker g.updates
+share_is p site g e =
+    ap (λ x. share_from p x (arranged_by (node_of p site.node)) site.worker g) e
+    ∙ ap (λ b. cond b (part p (arranged_by (node_of p site.node)) g.worker site.worker g.updates) []) (eq-eqb g.node g.node refl)
+
+-- and to one that does not
+pub share_none : {T : Type 0} (p : Dataflow) (site : Place) (g : Emission T) → (source_of p site.node site.port ≡ Some g.node → ⊥) → share p site g ≡ []
+share_none {T} p site g d = step (source_of p site.node site.port) refl
+  where
+    step : (x : Option ℕ) → source_of p site.node site.port ≡ x → share_from p x (arranged_by (node_of p site.node)) site.worker g ≡ []
+    step None e = refl
+    step (Some s) e = ap (λ b. cond b (part p (arranged_by (node_of p site.node)) g.worker site.worker g.updates) []) (ne_eqb g.node s (λ z. d (e ∙ ap Some (sym z))))
+
+module _ {T : Type 0} (p : Dataflow) (g : Emission T) where
+  pub no_cut : (n port : ℕ) → (source_of p n port ≡ Some g.node → ⊥) → cut_at p g n port ≡ []
+  no_cut n port d = none_below p.workers (λ k. bundled (place n port k) (share p (place n port k) g)) (λ k l. ap (bundled (place n port k)) (share_none p (place n port k) g d))
+
+  pub no_more : (n port : ℕ) (before : List (Bundle T)) → (source_of p n port ≡ Some g.node → ⊥) → before ≡ before ++ cut_at p g n port
+  no_more n port before d = sym (ap (λ z. before ++ z) (no_cut n port d) ∙ append-nil before)
+
+  pub cut_filled : is_filled (cut p g) ≡ true
+  cut_filled = filled_over (λ n. cut_at p g n 0 ++ cut_at p g n 1) (λ n. filled_both (cut_at p g n 0) (cut_at p g n 1) (port n 0) (port n 1)) (numbers_below (length p.nodes))
+    where
+      port : (n i : ℕ) → is_filled (cut_at p g n i) ≡ true
+      port n i = filled_over (λ k. bundled (place n i k) (share p (place n i k) g)) (λ k. filled_bundle (place n i k) (share p (place n i k) g)) (numbers_below p.workers)
+
+  module _ (site : Place) where
+    abbrev mine : List (Update T)
+    mine = share p site g
+
+    -- what the bundle for one place has for this one
+    one_place : (other : Place) → updates_at site (bundled other (share p other g)) ≡ cond (same_place other site) mine []
+    one_place other = bundle_there site other (share p other g) ∙ step (same_place other site) refl
+      where
+        step : (b : Bool) → same_place other site ≡ b → cond b (share p other g) [] ≡ cond b mine []
+        step true e = ap (λ z. share p z g) (place_same other site e)
+        step false e = refl
+
+    abbrev from_port : ℕ → ℕ → List (Update T)
+    from_port n port = updates_at site (cut_at p g n port)
+
+    over_workers : (n port : ℕ) → from_port n port ≡ flat_map (λ k. updates_at site (bundled (place n port k) (share p (place n port k) g))) (numbers_below p.workers)
+    over_workers n port = updates_over site (λ k. bundled (place n port k) (share p (place n port k) g)) (numbers_below p.workers)
+
+    over_nodes : updates_at site (cut p g) ≡ flat_map (λ n. from_port n 0 ++ from_port n 1) (numbers_below (length p.nodes))
+    over_nodes =
+        updates_over site (λ n. cut_at p g n 0 ++ cut_at p g n 1) (numbers_below (length p.nodes))
+        ∙ ap (λ f. flat_map f (numbers_below (length p.nodes))) (fun_ext (λ n. flat_map-append (λ (b : Bundle T). cond (same_place b.place site) b.updates []) (cut_at p g n 0) (cut_at p g n 1)))
+
+    -- what comes of a port, where no worker gets anything but perhaps one
+    port_none : mine ≡ [] → (n port : ℕ) → from_port n port ≡ []
+    port_none e n port = over_workers n port ∙ none_below p.workers (λ k. updates_at site (bundled (place n port k) (share p (place n port k) g))) (λ k l. one_place (place n port k) ∙ nothing (same_place (place n port k) site) mine e)
+
+    port_some : site.worker < p.workers → (n port : ℕ) → from_port n port ≡ cond (eqb n site.node && eqb port site.port) mine []
+    port_some l n port =
+        over_workers n port
+        ∙ (one_below p.workers site.worker (λ k. updates_at site (bundled (place n port k) (share p (place n port k) g)))
+        (λ k d. one_place (place n port k) ∙ ap (λ b. cond b mine []) (other (eqb n site.node) (eqb port site.port) (eqb k site.worker) (ne_eqb k site.worker d))) l
+        ∙ (one_place (place n port site.worker) ∙ ap (λ b. cond b mine []) (same (eqb n site.node) (eqb port site.port) (eqb site.worker site.worker) (eq-eqb site.worker site.worker refl))))
+      where
+        other : (a b c : Bool) → c ≡ false → (a && (b && c)) ≡ false
+        other true true c e = e
+        other true false c e = refl
+        other false b c e = refl
+
+        same : (a b c : Bool) → c ≡ true → (a && (b && c)) ≡ (a && b)
+        same true true c e = e
+        same true false c e = refl
+        same false b c e = refl
+
+  pub cut_whole : IsDataflow p → g.worker < p.workers → (site : Place) → updates_at site (cut p g) ≡ share p site g
+  cut_whole q l site = over_nodes site ∙ step (share p site g) refl
+    where
+      from : ℕ → List (Update T)
+      from n = from_port site n 0 ++ from_port site n 1
+
+      ends : (port : ℕ) (us : List (Update T)) → port < 2 → cond (eqb 0 port) us [] ++ cond (eqb 1 port) us [] ≡ us
+      ends zero us k = append-nil us
+      ends (suc zero) us k = refl
+      ends (suc (suc port)) us k = absurd (omega arith)
+
+      few : (port ports : ℕ) → (port ≡ 0) ⊎ (port < ports) → ports ≤ 2 → port < 2
+      few port ports (inl e) k = omega (arith, e)
+      few port ports (inr m) k = omega arith
+
+      step : (us : List (Update T)) → share p site g ≡ us → flat_map from (numbers_below (length p.nodes)) ≡ share p site g
+      step [] e = none_below (length p.nodes) from (λ n k. rw (port_none site e n 0, port_none site e n 1) refl) ∙ sym e
+      step (u ∷ us) e =
+          let s = shared p q site g l (λ z. cons_some (sym e ∙ z)) in
+          one_below (length p.nodes) site.node from (λ n d. rw (port_some site s.worker n 0, port_some site s.worker n 1, ne_eqb n site.node d) refl) s.node
+          ∙ (rw (port_some site s.worker site.node 0, port_some site s.worker site.node 1, eq-eqb site.node site.node refl) (ends site.port (share p site g) (few site.port (length (sources (node_of p site.node))) s.port (few_sources (node_of p site.node)))))
+        where
+          cons_some : u ∷ us ≡ [] → ⊥
+          cons_some z = cc

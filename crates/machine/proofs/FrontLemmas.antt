@@ -1,0 +1,198 @@
+-- What is found on a board from scratch is what the definitions say of the histories that it may stand for.
+use Rattle.std.proofs.Common.{◌≡◌, ℕ, zero, suc, ◌<◌, Bool, true, false, cond, not, ◌&&◌, ◌||◌, List, [], ◌∷◌, ◌++◌, length, get_or, sym, refl, ap, ap₂, ◌∙◌, subst, Option, Some, None, arith, append_assoc, nat_lt, inl, inr}
+use Rattle.std.specs.List.{flat_map, list_any, list_all}
+use Rattle.std.specs.Result.{IfOk}
+use Rattle.std.specs.Prelude.{Result, Ok, Err}
+use Rattle.std.proofs.lemmas.Bool.{and_parts, and_from, false≢true, true≢false}
+use Rattle.std.proofs.lemmas.Bool.Decides.{nat_tests}
+use Rattle.std.proofs.lemmas.List.Folds.{list_any-append}
+use Rattle.lattice.specs.Order.{PartialOrderLaws}
+use Rattle.lattice.specs.Frontiers.{is_beyond}
+use Rattle.antichain.specs.Antichains.{least, SameElements}
+use Rattle.antichain.proofs.InsertionLemmas.{least_beyond}
+use Rattle.antichain.proofs.Lists.{Among, contains_among, all_at, all_from}
+use Rattle.plan.specs.Changes.{has_passed}
+use Rattle.machine.specs.declared.event.Bundle.{Bundle}
+use Rattle.machine.specs.declared.event.Held.{Held}
+use Rattle.machine.specs.declared.event.Open.{Open}
+use Rattle.machine.specs.declared.event.Event.{Event}
+use Rattle.machine.specs.Dataflows.{above}
+use Rattle.machine.specs.Worlds.{World, times, held_at}
+use Rattle.machine.specs.Outstanding.{stamp, stamps, held_where, open_where, counted, outstanding, frontier, strictly_above, input_frontier}
+use Rattle.machine.specs.Histories.{world, IsTakeHeld}
+use Rattle.machine.specs.Promises.{IsInPlace}
+use Rattle.machine.specs.Readings.{IsQuiet}
+use Rattle.machine.specs.Boards.{Shown, Stands}
+use Rattle.machine.specs.Reads.{on_board, front, input_front, is_ready, is_none, is_free, is_quiet_board}
+use Rattle.machine.proofs.QuietLemmas.{least_same}
+
+or_nothing : (b : Bool) → (b || false) ≡ b
+or_nothing true = refl
+or_nothing false = refl
+
+module _ {T : Type 0} (below : T → T → Bool) (o : PartialOrderLaws below) where
+  stamps_any : (test : ℕ → Bool) (t : T) (bs : List (Bundle T)) → is_beyond below (stamps below (λ site. test site.node) bs) t ≡ list_any (λ b. test b.place.node && is_beyond below (times b.updates) t) bs
+  stamps_any test t [] = refl
+  stamps_any test t (b ∷ bs) =
+      list_any-append (λ f. below f t) (cond (test b.place.node) (stamp below b.updates) []) (stamps below (λ site. test site.node) bs)
+      ∙ ap₂ (λ x y. x || y) (step (test b.place.node)) (stamps_any test t bs)
+    where
+      step : (c : Bool) → is_beyond below (cond c (stamp below b.updates) []) t ≡ (c && is_beyond below (times b.updates) t)
+      step true = least_beyond o (times b.updates) t
+      step false = refl
+
+  -- the same, where all times of the bundles are listed
+  all_any : (test : ℕ → Bool) (t : T) (bs : List (Bundle T)) → is_beyond below (flat_map (λ b. cond (test b.place.node) (times b.updates) []) bs) t ≡ list_any (λ b. test b.place.node && is_beyond below (times b.updates) t) bs
+  all_any test t [] = refl
+  all_any test t (b ∷ bs) =
+      list_any-append (λ f. below f t) (cond (test b.place.node) (times b.updates) []) (flat_map (λ b. cond (test b.place.node) (times b.updates) []) bs)
+      ∙ ap₂ (λ x y. x || y) (step (test b.place.node)) (all_any test t bs)
+    where
+      step : (c : Bool) → is_beyond below (cond c (times b.updates) []) t ≡ (c && is_beyond below (times b.updates) t)
+      step true = refl
+      step false = refl
+
+  held_any : (test : ℕ → Bool) (t : T) (ms : List (Held T)) → is_beyond below (held_where test ms) t ≡ list_any (λ m. test m.node && below m.time t) ms
+  held_any test t [] = refl
+  held_any test t (m ∷ ms) =
+      list_any-append (λ f. below f t) (cond (test m.node) (m.time ∷ []) []) (held_where test ms)
+      ∙ ap₂ (λ x y. x || y) (step (test m.node)) (held_any test t ms)
+    where
+      step : (c : Bool) → is_beyond below (cond c (m.time ∷ []) []) t ≡ (c && below m.time t)
+      step true = or_nothing (below m.time t)
+      step false = refl
+
+  opened_any : (test : ℕ → Bool) (t : T) (os : List (Open T)) → is_beyond below (open_where test os) t ≡ list_any (λ x. test x.input && below x.time t) os
+  opened_any test t [] = refl
+  opened_any test t (x ∷ os) =
+      list_any-append (λ f. below f t) (cond (test x.input) (x.time ∷ []) []) (open_where test os)
+      ∙ ap₂ (λ x y. x || y) (step (test x.input)) (opened_any test t os)
+    where
+      step : (c : Bool) → is_beyond below (cond c (x.time ∷ []) []) t ≡ (c && below x.time t)
+      step true = or_nothing (below x.time t)
+      step false = refl
+
+  counted_any : (w : World T) (there holds : ℕ → Bool) (t : T) → is_beyond below (counted below w there holds) t
+      ≡ (list_any (λ b. there b.place.node && is_beyond below (times b.updates) t) w.in_flight || (list_any (λ m. holds m.node && below m.time t) w.held || list_any (λ x. there x.input && below x.time t) w.openings))
+  counted_any w there holds t =
+      list_any-append (λ f. below f t) (stamps below (λ site. there site.node) w.in_flight) (held_where holds w.held ++ open_where there w.openings)
+      ∙ ap₂ (λ x y. x || y) (stamps_any there t w.in_flight) (list_any-append (λ f. below f t) (held_where holds w.held) (open_where there w.openings) ∙ ap₂ (λ x y. x || y) (held_any holds t w.held) (opened_any there t w.openings))
+
+  or_thrice : (a b c : Bool) → ((a || b) || c) ≡ (a || (b || c))
+  or_thrice true b c = refl
+  or_thrice false b c = refl
+
+  -- three tests tell whether a frontier has passed a time
+  pub passed_found : (w : World T) (there holds : ℕ → Bool) (t : T) (a b c : Bool)
+      → a ≡ list_any (λ b. there b.place.node && is_beyond below (times b.updates) t) w.in_flight → b ≡ list_any (λ m. holds m.node && below m.time t) w.held → c ≡ list_any (λ x. there x.input && below x.time t) w.openings
+      → not ((a || b) || c) ≡ has_passed below (least below (counted below w there holds)) t
+  passed_found w there holds t a b c e f g =
+      ap not (or_thrice a b c ∙ ap₂ (λ x y. x || y) e (ap₂ (λ x y. x || y) f g) ∙ sym (counted_any w there holds t) ∙ sym (least_beyond o (counted below w there holds) t))
+
+  -- the least of all times that were collected are the frontier
+  collected_any : (b : Shown T) (n : ℕ) (t : T) → is_beyond below (flat_map (λ q. cond (above b.dataflow n q.place.node) (times q.updates) []) b.in_flight ++ (held_where (above b.dataflow n) b.held ++ open_where (above b.dataflow n) b.openings)) t
+      ≡ is_beyond below (outstanding below b.dataflow (on_board b) n) t
+  collected_any b n t =
+      let there = above b.dataflow n in
+      list_any-append (λ f. below f t) (flat_map (λ q. cond (there q.place.node) (times q.updates) []) b.in_flight) (held_where there b.held ++ open_where there b.openings)
+      ∙ ap (λ x. x || is_beyond below (held_where there b.held ++ open_where there b.openings) t) (all_any there t b.in_flight ∙ sym (stamps_any there t b.in_flight))
+      ∙ sym (list_any-append (λ f. below f t) (stamps below (λ site. there site.node) b.in_flight) (held_where there b.held ++ open_where there b.openings))
+
+  collected : (b : Shown T) (n : ℕ) → ((flat_map (λ q. cond (above b.dataflow n q.place.node) (times q.updates) []) b.in_flight ++ held_where (above b.dataflow n) b.held) ++ open_where (above b.dataflow n) b.openings)
+      ≡ flat_map (λ q. cond (above b.dataflow n q.place.node) (times q.updates) []) b.in_flight ++ (held_where (above b.dataflow n) b.held ++ open_where (above b.dataflow n) b.openings)
+  collected b n = append_assoc (flat_map (λ q. cond (above b.dataflow n q.place.node) (times q.updates) []) b.in_flight) (held_where (above b.dataflow n) b.held) (open_where (above b.dataflow n) b.openings)
+
+  pub front_found : (b : Shown T) (n : ℕ) (all found : List T) → all ≡ (flat_map (λ q. cond (above b.dataflow n q.place.node) (times q.updates) []) b.in_flight ++ held_where (above b.dataflow n) b.held) ++ open_where (above b.dataflow n) b.openings
+      → SameElements found (least below all) → SameElements found (front below b n)
+  front_found b n all found e same =
+      let next = least_same below o all (outstanding below b.dataflow (on_board b) n) (λ t. ap (λ ts. is_beyond below ts t) (e ∙ collected b n) ∙ collected_any b n t) in
+      record { into = λ t c. next.into t (same.into t c); back = λ t c. same.back t (next.back t c) }
+
+  pub beyond_found : (b : Shown T) (n : ℕ) (all found : List T) → all ≡ (flat_map (λ q. cond (above b.dataflow n q.place.node) (times q.updates) []) b.in_flight ++ held_where (above b.dataflow n) b.held) ++ open_where (above b.dataflow n) b.openings
+      → ((t : T) → is_beyond below found t ≡ is_beyond below all t) → (t : T) → is_beyond below found t ≡ is_beyond below (front below b n) t
+  beyond_found b n all found e same t = same t ∙ (ap (λ ts. is_beyond below ts t) (e ∙ collected b n) ∙ (collected_any b n t ∙ sym (least_beyond o (outstanding below b.dataflow (on_board b) n) t)))
+
+-- what holds of an answer holds of what follows from it
+pub on_ok : {A E : Type 0} (r : Result A E) (P Q : A → Type 0) → ((x : A) → P x → Q x) → IfOk r P → IfOk r Q
+on_ok (Ok x) P Q f p = f x p
+on_ok (Err e) P Q f p = p
+
+module _ {T : Type 0} (below : T → T → Bool) (minimum : T) where
+  -- what a board shows of frontiers is what its history leaves
+  pub front_stands : (b : Shown T) (h : List (Event T)) → Stands below minimum b h → (n : ℕ) → front below b n ≡ frontier below b.dataflow (world below minimum b.dataflow h) n
+  front_stands b h s n = λ i. least below (stamps below (λ site. above b.dataflow n site.node) (s.in_flight i) ++ (held_where (above b.dataflow n) (s.held i) ++ open_where (above b.dataflow n) (s.openings i)))
+
+  pub input_front_stands : (b : Shown T) (h : List (Event T)) → Stands below minimum b h → (n : ℕ) → input_front below b n ≡ input_frontier below b.dataflow (world below minimum b.dataflow h) n
+  input_front_stands b h s n = λ i. least below (stamps below (λ site. above b.dataflow n site.node) (s.in_flight i) ++ (held_where (strictly_above b.dataflow n) (s.held i) ++ open_where (above b.dataflow n) (s.openings i)))
+
+  is_empty : {A : Type 0} (xs : List A) → is_none xs ≡ true → xs ≡ []
+  is_empty [] e = refl
+  is_empty (x ∷ xs) e = absurd (false≢true e)
+
+  empty_is : {A : Type 0} (xs : List A) → xs ≡ [] → is_none xs ≡ true
+  empty_is xs e = ap is_none e
+
+  free_at : (hand : List (Option ℕ)) → is_free hand ≡ true → (k : ℕ) → get_or hand k None ≡ None
+  free_at [] e k = refl
+  free_at (None ∷ hand) e zero = refl
+  free_at (None ∷ hand) e (suc k) = free_at hand e k
+  free_at (Some n ∷ hand) e k = absurd (false≢true e)
+
+  free_from : (hand : List (Option ℕ)) → ((k : ℕ) → k < length hand → get_or hand k None ≡ None) → is_free hand ≡ true
+  free_from [] f = refl
+  free_from (None ∷ hand) f = free_from hand (λ k l. f (suc k) (omega arith))
+  free_from (Some n ∷ hand) f = absurd (true≢false (ap taken (f 0 (omega arith))))
+    where
+      taken : Option ℕ → Bool
+      taken (Some n) = true
+      taken None = false
+
+  pub quiet_into : (b : Shown T) (h : List (Event T)) → Stands below minimum b h → is_quiet_board below b ≡ true → IsQuiet below b.dataflow (world below minimum b.dataflow h)
+  quiet_into b h s q =
+      let waits = λ (m : Held T). nat_lt m.node (length b.dataflow.nodes) && is_beyond below (input_front below b m.node) m.time in
+      let f = and_parts (is_none b.in_flight) (is_free b.hand && list_all waits b.held) q in
+      let g = and_parts (is_free b.hand) (list_all waits b.held) f.1 in
+      record {
+        in_flight = sym s.in_flight ∙ is_empty b.in_flight f.0;
+        hand = λ k l. sym (s.hand k l) ∙ free_at b.hand g.0 k;
+        held = subst (λ ms. list_all (λ m. is_beyond below (input_frontier below b.dataflow (world below minimum b.dataflow h) m.node) m.time) ms ≡ true) s.held
+            (all_from (λ m. is_beyond below (input_frontier below b.dataflow (world below minimum b.dataflow h) m.node) m.time) b.held
+            (λ m a. subst (λ front. is_beyond below front m.time ≡ true) (input_front_stands b h s m.node) (and_parts (nat_lt m.node (length b.dataflow.nodes)) (is_beyond below (input_front below b m.node) m.time) (all_at waits b.held m g.1 a)).1));
+      }
+
+  pub quiet_back : (b : Shown T) → length b.hand ≡ b.dataflow.workers → (h : List (Event T)) → Stands below minimum b h → IsInPlace b.dataflow (world below minimum b.dataflow h) → IsQuiet below b.dataflow (world below minimum b.dataflow h) → is_quiet_board below b ≡ true
+  quiet_back b len h s place q =
+      let w = world below minimum b.dataflow h in
+      let waits = λ (m : Held T). nat_lt m.node (length b.dataflow.nodes) && is_beyond below (input_front below b m.node) m.time in
+      and_from (is_none b.in_flight) (is_free b.hand && list_all waits b.held) (empty_is b.in_flight (s.in_flight ∙ q.in_flight))
+      (and_from (is_free b.hand) (list_all waits b.held) (free_from b.hand (λ k l. let m : k < b.dataflow.workers = subst (λ z. k < z) len l in s.hand k m ∙ q.hand k m))
+      (subst (λ ms. list_all waits ms ≡ true) (sym s.held) (all_from waits w.held (λ m a.
+      and_from (nat_lt m.node (length b.dataflow.nodes)) (is_beyond below (input_front below b m.node) m.time)
+      (within m.node (length b.dataflow.nodes) (place.held m (contains_among m w.held a)).0)
+      (subst (λ front. is_beyond below front m.time ≡ true) (sym (input_front_stands b h s m.node)) (all_at (λ m. is_beyond below (input_frontier below b.dataflow w m.node) m.time) w.held m q.held a))))))
+    where
+      within : (m n : ℕ) → m < n → nat_lt m n ≡ true
+      within m n l = grind (arith, nat_tests)
+
+  -- where a worker is ready it may turn to what it holds
+  any_among : {A : Type 0} (f : A → Bool) (xs : List A) → list_any f xs ≡ true → (x : A) × Among x xs × (f x ≡ true)
+  any_among {A} f [] e = absurd (false≢true e)
+  any_among {A} f (x ∷ xs) e = step (f x) refl e (any_among f xs)
+    where
+      step : (c : Bool) → f x ≡ c → (c || list_any f xs) ≡ true → (list_any f xs ≡ true → (y : A) × Among y xs × (f y ≡ true)) → (y : A) × Among y (x ∷ xs) × (f y ≡ true)
+      step true g k rest = (x, inl refl, g)
+      step false g k rest = let r = rest k in (r.0, inr r.1, r.2)
+
+  pub may_turn : (b : Shown T) (h : List (Event T)) → Stands below minimum b h → (k n : ℕ) → k < b.dataflow.workers → n < length b.dataflow.nodes → get_or b.hand k None ≡ None → is_ready below b k n ≡ true
+      → IsTakeHeld below b.dataflow (world below minimum b.dataflow h) k n
+  may_turn b h s k n l m free ready =
+      let w = world below minimum b.dataflow h in
+      let r = any_among (has_passed below (input_front below b n)) (held_at n k b.held) ready in
+      record {
+        worker = l;
+        within = m;
+        free = sym (s.hand k l) ∙ free;
+        held = r.0;
+        holds = subst (λ ms. Rattle.std.specs.Prelude.Contains (held_at n k ms) r.0) s.held (contains_among r.0 (held_at n k b.held) r.1);
+        passed = subst (λ front. has_passed below front r.0 ≡ true) (input_front_stands b h s n) r.2;
+      }

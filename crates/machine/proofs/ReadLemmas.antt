@@ -1,0 +1,85 @@
+-- What is read on a board is the query on what the history fed.
+use Rattle.std.proofs.Common.{◌≡◌, ℕ, ◌<◌, Bool, true, false, cond, not, List, [], ◌∷◌, length, sym, refl, ap, ap₂, ◌∙◌, subst, None, map, IsTrue}
+use Rattle.std.specs.List.{filter, list_all}
+use Rattle.std.specs.Result.{IfOk, OnOk}
+use Rattle.std.specs.Prelude.{Result, Ok, Err}
+use Rattle.std.specs.declared.cmp.Ordering.{Ordering}
+use Rattle.std.proofs.lemmas.Bool.{and_from, false≢true}
+use Rattle.lattice.specs.Order.{PartialOrderLaws}
+use Rattle.lattice.specs.Frontiers.{is_beyond}
+use Rattle.update.specs.Bags.{Entry, Alike}
+use Rattle.update.specs.Updates.{as_of, entry, IsConsolidated}
+use Rattle.update.specs.declared.change.Update.{Update}
+use Rattle.update.specs.declared.refusal.Refusal.{Refusal}
+use Rattle.update.specs.declared.refusal.Refusal.TheVariants.{NotPassed, GivenUp}
+use Rattle.plan.specs.Changes.{has_passed, query_at, AreDifferences}
+use Rattle.plan.specs.Rules.{is_output}
+use Rattle.plan.proofs.PlanLemmas.{no_first}
+use Rattle.machine.specs.declared.event.Event.{Event}
+use Rattle.machine.specs.Dataflows.{IsDataflow, node_of}
+use Rattle.machine.specs.Outstanding.{frontier}
+use Rattle.machine.specs.Histories.{world}
+use Rattle.machine.specs.Promises.{changes_in}
+use Rattle.machine.specs.Boards.{Shown, Stands}
+use Rattle.machine.specs.Reads.{front, captured_of, since_of, read_refusal}
+use Rattle.machine.proofs.FlowLemmas.{is_passed, not_beyond}
+use Rattle.machine.proofs.PassedLemmas.{passed_down}
+use Rattle.machine.proofs.HeadlineLemmas.{headline_lem, differences_lem}
+use Rattle.machine.proofs.FrontLemmas.{front_stands}
+
+module _ {T : Type 0} (below : T → T → Bool) (minimum : T) (o : PartialOrderLaws below) where
+  pub read_answers : (r : Result (List Entry) Refusal) (b : Shown T) (h : List (Event T)) (v : ℕ) (t : T) → IsDataflow b.dataflow → v < length b.dataflow.nodes → IsTrue (is_output (node_of b.dataflow v))
+      → OnOk r (read_refusal below b v t ≡ None) → IfOk r (λ bag. Alike bag (as_of below t (captured_of b v))) → Stands below minimum b h
+      → IfOk r (λ bag. Alike bag (query_at below b.dataflow.nodes (changes_in (world below minimum b.dataflow h)) v t))
+  read_answers (Ok bag) b h v t p l m e same s =
+      let f = no_first (is_beyond below (front below b v) t) NotPassed ((not (is_beyond below (since_of b v) t), GivenUp) ∷ []) e in
+      let passed = subst (λ F. has_passed below F t ≡ true) (front_stands below minimum b h s v) (ap not f.0) in
+      λ row. same row ∙ (s.captured v l m t row ∙ headline_lem below minimum o b.dataflow p h s.legal v t passed row)
+  read_answers (Err e) b h v t p l m f same s = tt
+
+  pub changes_answer : (us : List (Update T)) (b : Shown T) (h : List (Event T)) (v : ℕ) (cmp : T → T → Ordering) → IsDataflow b.dataflow → v < length b.dataflow.nodes → IsTrue (is_output (node_of b.dataflow v))
+      → IsConsolidated cmp us → IsTrue (list_all (λ u. has_passed below (front below b v) u.time) us)
+      → ((t : T) → IsTrue (has_passed below (front below b v) t) → Alike (as_of below t us) (as_of below t (captured_of b v)))
+      → Stands below minimum b h → AreDifferences below cmp b.dataflow.nodes (changes_in (world below minimum b.dataflow h)) (frontier below b.dataflow (world below minimum b.dataflow h) v) v us
+  changes_answer us b h v cmp p l m consolidated passed sums s =
+      let e = front_stands below minimum b h s v in
+      (differences_lem below minimum o b.dataflow p h s.legal v cmp).into us consolidated
+      (subst (λ F. list_all (λ u. has_passed below F u.time) us ≡ true) e passed)
+      (λ t f row. sums t (subst (λ F. has_passed below F t ≡ true) (sym e) f) row ∙ s.captured v l m t row)
+
+  pub changes_answers : {V : Type 0} (r : Result V Refusal) (list : V → List (Update T)) (b : Shown T) (h : List (Event T)) (v : ℕ) (cmp : T → T → Ordering) → IsDataflow b.dataflow → v < length b.dataflow.nodes → IsTrue (is_output (node_of b.dataflow v))
+      → IfOk r (λ us. IsConsolidated cmp (list us)) → IfOk r (λ us. IsTrue (list_all (λ u. has_passed below (front below b v) u.time) (list us)))
+      → IfOk r (λ us. (t : T) → IsTrue (has_passed below (front below b v) t) → Alike (as_of below t (list us)) (as_of below t (captured_of b v)))
+      → Stands below minimum b h → IfOk r (λ us. AreDifferences below cmp b.dataflow.nodes (changes_in (world below minimum b.dataflow h)) (frontier below b.dataflow (world below minimum b.dataflow h) v) v (list us))
+  changes_answers (Ok us) list b h v cmp p l m consolidated passed sums s = changes_answer (list us) b h v cmp p l m consolidated passed sums s
+  changes_answers (Err e) list b h v cmp p l m consolidated passed sums s = tt
+
+  -- the sum at a passed time is that of the updates at passed times
+  module _ (F : List T) where
+    passed_filter : (t : T) → has_passed below F t ≡ true → (us : List (Update T)) → filter (λ u. below u.time t) (filter (λ u. has_passed below F u.time) us) ≡ filter (λ u. below u.time t) us
+    passed_filter t e [] = refl
+    passed_filter t e (u ∷ us) = step (has_passed below F u.time) refl (below u.time t) refl (passed_filter t e us)
+      where
+        step : (a : Bool) → has_passed below F u.time ≡ a → (b : Bool) → below u.time t ≡ b → filter (λ u. below u.time t) (filter (λ u. has_passed below F u.time) us) ≡ filter (λ u. below u.time t) us
+            → filter (λ u. below u.time t) (cond a (u ∷ filter (λ u. has_passed below F u.time) us) (filter (λ u. has_passed below F u.time) us)) ≡ cond b (u ∷ filter (λ u. below u.time t) us) (filter (λ u. below u.time t) us)
+        step true f true g ih = rw g (ap (λ z. u ∷ z) ih)
+        step true f false g ih = rw g ih
+        step false f true g ih = absurd (false≢true (sym f ∙ is_passed (is_beyond below F u.time) (passed_down below o F u.time t g (not_beyond (is_beyond below F t) e))))
+        step false f false g ih = ih
+
+    pub passed_sums : (us : List (Update T)) (t : T) → has_passed below F t ≡ true → as_of below t (filter (λ u. has_passed below F u.time) us) ≡ as_of below t us
+    passed_sums us t e = ap (λ z. map entry z) (passed_filter t e us)
+
+    pub all_passed : (us : List (Update T)) → list_all (λ u. has_passed below F u.time) (filter (λ u. has_passed below F u.time) us) ≡ true
+    all_passed [] = refl
+    all_passed (u ∷ us) = step (has_passed below F u.time) refl (all_passed us)
+      where
+        step : (a : Bool) → has_passed below F u.time ≡ a → list_all (λ u. has_passed below F u.time) (filter (λ u. has_passed below F u.time) us) ≡ true
+            → list_all (λ u. has_passed below F u.time) (cond a (u ∷ filter (λ u. has_passed below F u.time) us) (filter (λ u. has_passed below F u.time) us)) ≡ true
+        step true f ih = and_from (has_passed below F u.time) (list_all (λ u. has_passed below F u.time) (filter (λ u. has_passed below F u.time) us)) f ih
+        step false f ih = ih
+
+  -- two frontiers with the same times beyond them keep the same updates
+  pub same_kept : (F G : List T) → ((t : T) → is_beyond below F t ≡ is_beyond below G t) → (us : List (Update T)) → filter (λ u. not (is_beyond below F u.time)) us ≡ filter (λ u. has_passed below G u.time) us
+  same_kept F G same [] = refl
+  same_kept F G same (u ∷ us) = ap₂ (λ a rest. cond a (u ∷ rest) rest) (ap not (same u.time)) (same_kept F G same us)

@@ -1,0 +1,12 @@
+use Rattle.std.proofs.Common.{sym, ◌∙◌}
+use Rattle.machine.proofs.PlaceLemmas.{in_place_lem}
+use Rattle.machine.proofs.FrontLemmas.{quiet_into, quiet_back}
+use Rattle.machine.proofs.board.Board.is_quiet.Goals as goal
+
+pub returns-clause-quiet : goal.returns-clause-quiet
+returns-clause-quiet g c h s =
+    let r = c.rests in
+    let b = c.args.self.now in (
+      λ e. quiet_into _ _ b h s (sym r.ensures.value ∙ e),
+      λ q. r.ensures.value ∙ quiet_back _ _ b r.ensures.board.hand h s (in_place_lem b.dataflow r.ensures.board.dataflow _ _ h s.legal) q,
+    )

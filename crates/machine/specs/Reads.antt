@@ -1,0 +1,79 @@
+-- What is found on a board by whoever asks it: frontiers, a view's rows at a time, its changes, and whether it is quiet.
+use Rattle.std.specs.Prelude.{◌≡◌, ℕ, Bool, true, false, not, ◌&&◌, List, [], ◌∷◌, length, get_or, Option, Some, None, nat_lt, ◌⊎◌}
+use Rattle.std.specs.List.{list_all, list_any}
+use Rattle.lattice.specs.Frontiers.{is_beyond}
+use Rattle.update.specs.declared.change.Update.{Update}
+use Rattle.update.specs.declared.refusal.Refusal.{Refusal}
+use Rattle.update.specs.declared.refusal.Refusal.TheVariants.{OutOfMemory, Overflow, NotPassed, GivenUp}
+use Rattle.plan.specs.Changes.{has_passed}
+use Rattle.plan.specs.Rules.{first_refusal}
+use Rattle.machine.specs.Worlds.{World, held_at}
+use Rattle.machine.specs.Outstanding.{frontier, input_frontier}
+use Rattle.machine.specs.Boards.{Shown, no_view}
+
+-- what lies on a board, as what a history leaves: its logs of what is past are not there
+abbrev pub on_board : {T : Type 0} → Shown T → World T
+on_board b = record {
+  fed = [];
+  in_flight = b.in_flight;
+  received = [];
+  emitted = [];
+  held = b.held;
+  openings = b.openings;
+  hand = λ k. get_or b.hand k None;
+  since = λ v. (get_or b.views v no_view).since;
+  left = [];
+}
+
+-- what a view captured, and the frontier beyond which it may be read
+abbrev pub captured_of : {T : Type 0} → Shown T → ℕ → List (Update T)
+captured_of b v = (get_or b.views v no_view).captured
+
+abbrev pub since_of : {T : Type 0} → Shown T → ℕ → List T
+since_of b v = (get_or b.views v no_view).since
+
+-- nobody has a piece in hand
+abbrev pub is_free : List (Option ℕ) → Bool
+is_free [] = true
+is_free (None ∷ hand) = is_free hand
+is_free (Some n ∷ hand) = false
+
+-- nothing of the list
+abbrev pub is_none : {A : Type 0} → List A → Bool
+is_none [] = true
+is_none (x ∷ xs) = false
+
+-- a refusal for one of the faults, or where there is none for want of memory, or for a number that is too large and has this cause
+abbrev pub IsRefusalOr : Type 0 → Option Refusal → Refusal → Type 0
+IsRefusalOr cause (Some fault) refusal = refusal ≡ fault
+IsRefusalOr cause None refusal = (refusal ≡ OutOfMemory) ⊎ ((refusal ≡ Overflow) × cause)
+
+module _ {T : Type 0} (below : T → T → Bool) where
+  -- the frontiers of a node, as they are found on the board
+  abbrev pub front : Shown T → ℕ → List T
+  front b n = frontier below b.dataflow (on_board b) n
+
+  abbrev pub input_front : Shown T → ℕ → List T
+  input_front b n = input_frontier below b.dataflow (on_board b) n
+
+  -- a worker holds a time at a node that the node's input frontier has passed
+  abbrev pub is_ready : Shown T → ℕ → ℕ → Bool
+  is_ready b k n = list_any (has_passed below (input_front b n)) (held_at n k b.held)
+
+  -- nothing is in flight or in hand, and whatever is held waits for what may still come to its node
+  abbrev pub is_quiet_board : Shown T → Bool
+  is_quiet_board b = is_none b.in_flight && (is_free b.hand && list_all (λ m. nat_lt m.node (length b.dataflow.nodes) && is_beyond below (input_front b m.node) m.time) b.held)
+
+  -- what refuses a read, in the order of testing
+  abbrev pub read_refusal : Shown T → ℕ → T → Option Refusal
+  read_refusal b v t = first_refusal ((is_beyond below (front b v) t, NotPassed) ∷ (not (is_beyond below (since_of b v) t), GivenUp) ∷ [])
+
+  -- the list is of the least time alone
+  abbrev pub is_from_start : T → List T → Bool
+  is_from_start minimum [] = false
+  is_from_start minimum (t ∷ []) = below t minimum
+  is_from_start minimum (t ∷ u ∷ ts) = false
+
+  -- what refuses the changes of a view
+  abbrev pub changes_refusal : T → Shown T → ℕ → Option Refusal
+  changes_refusal minimum b v = first_refusal ((not (is_from_start minimum (since_of b v)), GivenUp) ∷ [])

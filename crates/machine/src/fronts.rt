@@ -1,0 +1,275 @@
+//! Frontiers, found on a board from scratch: from what is in flight, what is held and what the inputs leave open, at a node
+//! or above it, on every worker. Nothing is kept between two questions, so nothing can be out of date.
+ghost use Rattle.std.specs.Prelude.{◌≡◌, ◌<◌, ◌++◌, ◌&&◌, not, eqb, if◌then◌else◌, [], ◌∷◌, IfErr, IfOk, OnOk, length, map};
+ghost use Rattle.std.specs.List.{flat_map, list_any};
+ghost use Rattle.lattice.specs.Frontiers.{is_beyond};
+ghost use Rattle.antichain.specs.Antichains.{SameElements, least};
+ghost use Rattle.update.specs.declared.refusal.Refusal.TheVariants.{OutOfMemory};
+ghost use Rattle.plan.specs.Ancestors.{is_above};
+ghost use Rattle.plan.specs.Changes.{has_passed};
+ghost use Rattle.machine.specs.Worlds.{times, held_at};
+ghost use Rattle.machine.specs.Outstanding.{held_where, open_where, outstanding};
+ghost use Rattle.machine.specs.Reads.{on_board, front, input_front, is_ready};
+
+use crate::board::Board;
+use crate::event::{Bundle, Held, Open};
+use crate::lists::Updates;
+use antichain::Antichain;
+use lattice::Minimum;
+use plan::{NodeId, Plan};
+use std::alloc::Global;
+use update::{Refusal, Update};
+
+// Whether some update is at or before a time.
+fn reach<T: Minimum>(updates: &[Update<T>], t: &T) -> bool
+    ensures { result ≡ is_beyond T.below (times updates.now) t.now }
+{
+    for update in updates {
+        if update.time.less_equal(t) {
+            return true;
+        }
+    }
+    false
+}
+
+// Whether a bundle at the node or above it has an update at or before a time.
+fn are_in_flight<T: Minimum>(plan: &Plan, bundles: &[Bundle<T>], node: NodeId, t: &T) -> bool
+    requires { node < length plan.now }
+    ensures { result ≡ list_any (λ b. is_above plan.now b.place.node node && is_beyond T.below (times b.updates) t.now) bundles.now }
+{
+    for bundle in bundles {
+        if plan.is_above(bundle.place.node, node) && reach(bundle.updates.as_slice(), t) {
+            return true;
+        }
+    }
+    false
+}
+
+// Whether a time at or before this one is held at the node or above it.
+fn are_held<T: Minimum>(plan: &Plan, held: &[Held<T>], node: NodeId, t: &T) -> bool
+    requires { node < length plan.now }
+    ensures { result ≡ list_any (λ m. is_above plan.now m.node node && T.below m.time t.now) held.now }
+{
+    for hold in held {
+        if plan.is_above(hold.node, node) && hold.time.less_equal(t) {
+            return true;
+        }
+    }
+    false
+}
+
+// The same above the node alone.
+fn are_held_above<T: Minimum>(plan: &Plan, held: &[Held<T>], node: NodeId, t: &T) -> bool
+    requires { node < length plan.now }
+    ensures { result ≡ list_any (λ m. (is_above plan.now m.node node && not (eqb m.node node)) && T.below m.time t.now) held.now }
+{
+    for hold in held {
+        if plan.is_above(hold.node, node) && hold.node != node && hold.time.less_equal(t) {
+            return true;
+        }
+    }
+    false
+}
+
+// Whether an input at the node or above it is open at or before a time.
+fn are_open<T: Minimum>(plan: &Plan, openings: &[Open<T>], node: NodeId, t: &T) -> bool
+    requires { node < length plan.now }
+    ensures { result ≡ list_any (λ o. is_above plan.now o.input node && T.below o.time t.now) openings.now }
+{
+    for open in openings {
+        if plan.is_above(open.input, node) && open.time.less_equal(t) {
+            return true;
+        }
+    }
+    false
+}
+
+// The times of updates, behind.
+fn push_times<T: Minimum>(all: &mut Vec<T>, updates: &[Update<T>]) -> Result<(), Refusal>
+    ensures more { OnOk result (all.new.items ≡ all.old.items ++ times updates.now) }
+    ensures refused { IfErr result (λ refusal. refusal ≡ OutOfMemory) }
+{
+    for update in updates {
+        all.push(update.time)?;
+    }
+    Ok(())
+}
+
+// The times of the bundles at the node or above it, behind.
+fn push_in_flight<T: Minimum>(
+    all: &mut Vec<T>,
+    plan: &Plan,
+    bundles: &[Bundle<T>],
+    node: NodeId,
+) -> Result<(), Refusal>
+    requires { node < length plan.now }
+    ensures more { OnOk result (all.new.items ≡ all.old.items ++ flat_map (λ b. if is_above plan.now b.place.node node then times b.updates else []) bundles.now) }
+    ensures refused { IfErr result (λ refusal. refusal ≡ OutOfMemory) }
+{
+    for bundle in bundles {
+        if plan.is_above(bundle.place.node, node) {
+            push_times(all, bundle.updates.as_slice())?;
+        }
+    }
+    Ok(())
+}
+
+// The times that are held at the node or above it, behind.
+fn push_held<T: Minimum>(
+    all: &mut Vec<T>,
+    plan: &Plan,
+    held: &[Held<T>],
+    node: NodeId,
+) -> Result<(), Refusal>
+    requires { node < length plan.now }
+    ensures more { OnOk result (all.new.items ≡ all.old.items ++ held_where (λ m. is_above plan.now m node) held.now) }
+    ensures refused { IfErr result (λ refusal. refusal ≡ OutOfMemory) }
+{
+    for hold in held {
+        if plan.is_above(hold.node, node) {
+            all.push(hold.time)?;
+        }
+    }
+    Ok(())
+}
+
+// The elements of the frontiers of the inputs at the node or above it, behind.
+fn push_open<T: Minimum>(
+    all: &mut Vec<T>,
+    plan: &Plan,
+    openings: &[Open<T>],
+    node: NodeId,
+) -> Result<(), Refusal>
+    requires { node < length plan.now }
+    ensures more { OnOk result (all.new.items ≡ all.old.items ++ open_where (λ m. is_above plan.now m node) openings.now) }
+    ensures refused { IfErr result (λ refusal. refusal ≡ OutOfMemory) }
+{
+    for open in openings {
+        if plan.is_above(open.input, node) {
+            all.push(open.time)?;
+        }
+    }
+    Ok(())
+}
+
+// The least of the times.
+fn least_of<T: Minimum>(alloc: Global, times: Vec<T>) -> Result<Antichain<T>, Refusal>
+    ensures least { IfOk result (λ frontier. SameElements frontier (least T.below times.items)) }
+    ensures beyond { IfOk result (λ frontier. (t : T) → is_beyond T.below frontier t ≡ is_beyond T.below times.items t) }
+    ensures refused { IfErr result (λ refusal. refusal ≡ OutOfMemory) }
+{
+    let frontier = Antichain::least_of(alloc, times.as_slice())?;
+    Ok(frontier)
+}
+
+impl<T: Minimum> Board<T> {
+    /// Whether the frontier of a node has passed a time: nothing that is in flight, held or open at the node or above it is
+    /// at or before the time. Takes no memory.
+    ///
+    /// Cost: linear in what is in flight, held and open, times the nodes.
+    pub fn has_passed(&self, node: NodeId, t: &T) -> bool
+        requires { node < length self.now.dataflow.nodes }
+        ensures { result ≡ has_passed T.below (front T.below self.now node) t.now }
+    {
+        !(self.is_in_flight(node, t) | self.is_held(node, t) | self.is_open(node, t))
+    }
+
+    /// Whether the input frontier of a node has passed a time: then nothing more comes to the node at or before it. Takes no
+    /// memory.
+    ///
+    /// Cost: linear in what is in flight, held and open, times the nodes.
+    pub fn input_has_passed(&self, node: NodeId, t: &T) -> bool
+        requires { node < length self.now.dataflow.nodes }
+        ensures { result ≡ has_passed T.below (input_front T.below self.now node) t.now }
+    {
+        !(self.is_in_flight(node, t) | self.is_held_above(node, t) | self.is_open(node, t))
+    }
+
+    // Whether a bundle at the node or above it has an update at or before a time.
+    fn is_in_flight(&self, node: NodeId, t: &T) -> bool
+        requires { node < length self.now.dataflow.nodes }
+        ensures { result ≡ list_any (λ b. is_above self.now.dataflow.nodes b.place.node node && is_beyond T.below (times b.updates) t.now) self.now.in_flight }
+    {
+        are_in_flight(&self.plan, &self.in_flight, node, t)
+    }
+
+    // Whether a time at or before this one is held at the node or above it.
+    fn is_held(&self, node: NodeId, t: &T) -> bool
+        requires { node < length self.now.dataflow.nodes }
+        ensures { result ≡ list_any (λ m. is_above self.now.dataflow.nodes m.node node && T.below m.time t.now) self.now.held }
+    {
+        are_held(&self.plan, &self.held, node, t)
+    }
+
+    // The same above the node alone.
+    fn is_held_above(&self, node: NodeId, t: &T) -> bool
+        requires { node < length self.now.dataflow.nodes }
+        ensures { result ≡ list_any (λ m. (is_above self.now.dataflow.nodes m.node node && not (eqb m.node node)) && T.below m.time t.now) self.now.held }
+    {
+        are_held_above(&self.plan, &self.held, node, t)
+    }
+
+    // Whether an input at the node or above it is open at or before a time.
+    fn is_open(&self, node: NodeId, t: &T) -> bool
+        requires { node < length self.now.dataflow.nodes }
+        ensures { result ≡ list_any (λ o. is_above self.now.dataflow.nodes o.input node && T.below o.time t.now) self.now.openings }
+    {
+        are_open(&self.plan, &self.openings, node, t)
+    }
+
+    /// The frontier of a node: the least of the times that are in flight, held or open at the node or above it. Refused only
+    /// with `OutOfMemory`.
+    ///
+    /// Cost: linear in what is in flight, held and open, times the nodes; each of its times is compared with the elements of
+    /// the frontier.
+    pub fn frontier(&self, node: NodeId) -> Result<Antichain<T>, Refusal>
+        requires { node < length self.now.dataflow.nodes }
+        ensures least { IfOk result (λ frontier. SameElements frontier (front T.below self.now node)) }
+        ensures beyond { IfOk result (λ frontier. (t : T) → is_beyond T.below frontier t ≡ is_beyond T.below (front T.below self.now node) t) }
+        ensures refused { IfErr result (λ refusal. refusal ≡ OutOfMemory) }
+    {
+        let times = self.outstanding(node)?;
+        least_of(*self.held.allocator(), times)
+    }
+
+    // All times that are in flight, held or open at the node or above it.
+    pub(crate) fn outstanding(&self, node: NodeId) -> Result<Vec<T>, Refusal>
+        requires { node < length self.now.dataflow.nodes }
+        ensures times { IfOk result (λ all. all.items ≡ (flat_map (λ b. if is_above self.now.dataflow.nodes b.place.node node then times b.updates else []) self.now.in_flight
+            ++ held_where (λ m. is_above self.now.dataflow.nodes m node) self.now.held) ++ open_where (λ m. is_above self.now.dataflow.nodes m node) self.now.openings) }
+        ensures refused { IfErr result (λ refusal. refusal ≡ OutOfMemory) }
+    {
+        let mut times = Vec::new(*self.held.allocator());
+        push_in_flight(&mut times, &self.plan, &self.in_flight, node)?;
+        push_held(&mut times, &self.plan, &self.held, node)?;
+        push_open(&mut times, &self.plan, &self.openings, node)?;
+        Ok(times)
+    }
+
+    /// Whether a worker holds a time at a node that the node's input frontier has passed: then it may turn to it, by
+    /// [`Board::take_held`]. Takes no memory.
+    ///
+    /// Cost: [`Board::input_has_passed`] for each time that is held at the node by the worker.
+    pub fn is_ready(&self, worker: usize, node: NodeId) -> bool
+        requires { node < length self.now.dataflow.nodes }
+        ensures { result ≡ is_ready T.below self.now worker node }
+    {
+        self.any_ready(worker, node, &self.held)
+    }
+
+    // Whether one of these times is held by the worker at the node, and passed.
+    fn any_ready(&self, worker: usize, node: NodeId, held: &[Held<T>]) -> bool
+        requires { node < length self.now.dataflow.nodes }
+        ensures { result ≡ list_any (has_passed T.below (input_front T.below self.now node)) (held_at node worker held.now) }
+    {
+        for hold in held {
+            if hold.node == node
+                && hold.worker == worker
+                && self.input_has_passed(node, &hold.time)
+            {
+                return true;
+            }
+        }
+        false
+    }
+}

@@ -1,0 +1,269 @@
+//! What a client reads on a board: a view's frontier is found in `fronts`; here are its rows at a time, its changes, and
+//! whether the board is quiet. Each is a function of what lies on the board at one moment, so that rows and frontier are of
+//! one history; and each says what it is of whatever history that is.
+ghost use Rattle.std.specs.Prelude.{◌≡◌, ◌<◌, ◌↔◌, ◌⊎◌, ◌&&◌, Bool, None, not, List, IfErr, IfOk, OnOk, IsTrue, length, nat_lt};
+ghost use Rattle.std.specs.List.{filter, list_all};
+ghost use Rattle.lattice.specs.Frontiers.{is_beyond};
+ghost use Rattle.update.specs.Bags.{Alike, IsBag, HasLargeCount};
+ghost use Rattle.update.specs.Updates.{as_of, IsConsolidated, HasLargeTotal};
+ghost use Rattle.update.specs.declared.refusal.Refusal.TheVariants.{OutOfMemory, Overflow};
+ghost use Rattle.plan.specs.Changes.{has_passed, query_at, AreDifferences};
+ghost use Rattle.plan.specs.Rules.{is_output};
+ghost use Rattle.machine.specs.declared.event.Event.{Event};
+ghost use Rattle.machine.specs.Dataflows.{IsDataflow, node_of};
+ghost use Rattle.machine.specs.Outstanding.{frontier};
+ghost use Rattle.machine.specs.Histories.{world};
+ghost use Rattle.machine.specs.Promises.{changes_in};
+ghost use Rattle.machine.specs.Readings.{IsQuiet};
+ghost use Rattle.machine.specs.Boards.{Stands, IsBoard};
+ghost use Rattle.machine.specs.Reads.{front, input_front, captured_of, since_of, is_free, is_quiet_board, is_from_start, read_refusal, changes_refusal, IsRefusalOr};
+
+use crate::board::Board;
+use crate::event::Held;
+use antichain::is_beyond;
+use lattice::Minimum;
+use plan::NodeId;
+use std::alloc::Global;
+use update::{Bag, Refusal, Update, consolidate, sum_at};
+
+// Whether nobody has a piece in hand.
+fn are_free(hand: &[Option<NodeId>]) -> bool
+    ensures { result ≡ is_free hand.now }
+{
+    for piece in hand {
+        if piece.is_some() {
+            return false;
+        }
+    }
+    true
+}
+
+// Whether a frontier is of the least time alone.
+fn is_from_start<T: Minimum>(times: &[T]) -> bool
+    ensures { result ≡ is_from_start T.below T.least times.now }
+{
+    times.len() == 1 && times[0].less_equal(&T::minimum())
+}
+
+// Copies of the updates that are at or after none of the times.
+fn passed_by<T: Minimum>(
+    alloc: Global,
+    updates: &[Update<T>],
+    times: &[T],
+) -> Result<Vec<Update<T>>, Refusal>
+    ensures passed { IfOk result (λ passed. passed.items ≡ filter (λ u. not (is_beyond T.below times.now u.time)) updates.now) }
+    ensures refused { IfErr result (λ refusal. refusal ≡ OutOfMemory) }
+{
+    let mut passed = Vec::new(alloc);
+    for update in updates {
+        if !is_beyond(times, &update.time) {
+            passed.push(update.copy())?;
+        }
+    }
+    Ok(passed)
+}
+
+impl<T: Minimum> Board<T> {
+    /// The frontier beyond which a view may be read, as its elements. Takes no memory.
+    pub fn since(&self, view: NodeId) -> &[T]
+        requires { view < length self.now.dataflow.nodes }
+        ensures { result.now ≡ since_of self.now view }
+    {
+        self.views[view.number()].since.as_slice()
+    }
+
+    // What a view captured.
+    fn captured(&self, view: NodeId) -> &[Update<T>]
+        requires { view < length self.now.dataflow.nodes }
+        ensures { result.now ≡ captured_of self.now view }
+    {
+        self.views[view.number()].captured.as_slice()
+    }
+
+    /// A view's rows at a time: the query, from scratch, on the changes fed up to that time.
+    ///
+    /// The refusals, in the order in which they are tested:
+    ///
+    /// | Refusal | Where |
+    /// |---|---|
+    /// | `NotPassed` | the view's frontier has an element at or before the time |
+    /// | `GivenUp` | the time is not beyond the view's since |
+    /// | `OutOfMemory` | an allocation was refused |
+    /// | `Overflow` | a row counts more often than a 64-bit number can say |
+    ///
+    /// Cost: [`Board::has_passed`], one pass over what the view captured, and a sort of what is at or before the time.
+    pub fn read(&self, view: NodeId, t: T) -> Result<Bag, Refusal>
+        requires within { view < length self.now.dataflow.nodes }
+        requires view { IsTrue (is_output (node_of self.now.dataflow view)) }
+        ensures accepted { OnOk result (read_refusal T.below self.now view t ≡ None) }
+        ensures refused { IfErr result (IsRefusalOr (HasLargeCount (as_of T.below t (captured_of self.now view))) (read_refusal T.below self.now view t)) }
+        ensures bag { IfOk result IsBag }
+        ensures sum { IfOk result (λ bag. Alike bag (as_of T.below t (captured_of self.now view))) }
+        ensures query { (h : List (Event T)) → Stands T.below T.least self.now h
+            → IfOk result (λ bag. Alike bag (query_at T.below self.now.dataflow.nodes (changes_in (world T.below T.least self.now.dataflow h)) view t)) }
+    {
+        self.read_captured(view, t)
+    }
+
+    // The same, without the histories.
+    fn read_captured(&self, view: NodeId, t: T) -> Result<Bag, Refusal>
+        requires within { view < length self.now.dataflow.nodes }
+        ensures accepted { OnOk result (read_refusal T.below self.now view t ≡ None) }
+        ensures refused { IfErr result (IsRefusalOr (HasLargeCount (as_of T.below t (captured_of self.now view))) (read_refusal T.below self.now view t)) }
+        ensures bag { IfOk result IsBag }
+        ensures sum { IfOk result (λ bag. Alike bag (as_of T.below t (captured_of self.now view))) }
+        ensures dataflow { IsDataflow self.now.dataflow }
+    {
+        let _count = self.workers();
+        match self.read_refusal(view, &t) {
+            Some(refusal) => Err(refusal),
+            None => self.captured_at(view, t),
+        }
+    }
+
+    // What a view captured, summed to a time.
+    fn captured_at(&self, view: NodeId, t: T) -> Result<Bag, Refusal>
+        requires within { view < length self.now.dataflow.nodes }
+        ensures refused { IfErr result (λ refusal. (refusal ≡ OutOfMemory) ⊎ ((refusal ≡ Overflow) × HasLargeCount (as_of T.below t (captured_of self.now view)))) }
+        ensures bag { IfOk result IsBag }
+        ensures sum { IfOk result (λ bag. Alike bag (as_of T.below t (captured_of self.now view))) }
+    {
+        sum_at(*self.held.allocator(), self.captured(view), t)
+    }
+
+    // What refuses a read, in the order of testing.
+    fn read_refusal(&self, view: NodeId, t: &T) -> Option<Refusal>
+        requires { view < length self.now.dataflow.nodes }
+        ensures { result ≡ read_refusal T.below self.now view t.now }
+    {
+        if !self.has_passed(view, t) {
+            Some(Refusal::NotPassed)
+        } else if !is_beyond(self.since(view), t) {
+            Some(Refusal::GivenUp)
+        } else {
+            None
+        }
+    }
+
+    /// A view's changes: the one consolidated list of updates at times that its frontier has passed, which sums at each of
+    /// them to the query, from scratch, on the changes fed up to that time. In the order of times, then rows.
+    ///
+    /// `GivenUp` where the view's since is not the least time alone, for then the times of some changes may be lost; else
+    /// `OutOfMemory` where an allocation was refused, and `Overflow` where the total of a row at some time is no 64-bit
+    /// number.
+    ///
+    /// Cost: [`Board::frontier`], one pass over what the view captured, and a sort of what is passed.
+    pub fn changes(&self, view: NodeId) -> Result<Vec<Update<T>>, Refusal>
+        requires within { view < length self.now.dataflow.nodes }
+        requires view { IsTrue (is_output (node_of self.now.dataflow view)) }
+        ensures accepted { OnOk result (changes_refusal T.below T.least self.now view ≡ None) }
+        ensures refused { IfErr result (IsRefusalOr (HasLargeTotal T.below (filter (λ u. has_passed T.below (front T.below self.now view) u.time) (captured_of self.now view))) (changes_refusal T.below T.least self.now view)) }
+        ensures differences { (h : List (Event T)) → Stands T.below T.least self.now h
+            → IfOk result (λ us. AreDifferences T.below T.cmp self.now.dataflow.nodes (changes_in (world T.below T.least self.now.dataflow h)) (frontier T.below self.now.dataflow (world T.below T.least self.now.dataflow h) view) view us.items) }
+    {
+        self.passed_changes(view)
+    }
+
+    // The same, without the histories.
+    fn passed_changes(&self, view: NodeId) -> Result<Vec<Update<T>>, Refusal>
+        requires within { view < length self.now.dataflow.nodes }
+        ensures accepted { OnOk result (changes_refusal T.below T.least self.now view ≡ None) }
+        ensures refused { IfErr result (IsRefusalOr (HasLargeTotal T.below (filter (λ u. has_passed T.below (front T.below self.now view) u.time) (captured_of self.now view))) (changes_refusal T.below T.least self.now view)) }
+        ensures consolidated { IfOk result (λ us. IsConsolidated T.cmp us.items) }
+        ensures passed { IfOk result (λ us. IsTrue (list_all (λ u. has_passed T.below (front T.below self.now view) u.time) us.items)) }
+        ensures sums { IfOk result (λ us. (t : T) → IsTrue (has_passed T.below (front T.below self.now view) t) → Alike (as_of T.below t us.items) (as_of T.below t (captured_of self.now view))) }
+        ensures dataflow { IsDataflow self.now.dataflow }
+    {
+        let _count = self.workers();
+        match self.changes_refusal(view) {
+            Some(refusal) => Err(refusal),
+            None => self.consolidated_changes(view),
+        }
+    }
+
+    // What refuses the changes of a view.
+    fn changes_refusal(&self, view: NodeId) -> Option<Refusal>
+        requires { view < length self.now.dataflow.nodes }
+        ensures { result ≡ changes_refusal T.below T.least self.now view }
+    {
+        if is_from_start(self.since(view)) {
+            None
+        } else {
+            Some(Refusal::GivenUp)
+        }
+    }
+
+    // The changes of a view, where nothing refuses them.
+    fn consolidated_changes(&self, view: NodeId) -> Result<Vec<Update<T>>, Refusal>
+        requires within { view < length self.now.dataflow.nodes }
+        ensures refused { IfErr result (λ refusal. (refusal ≡ OutOfMemory) ⊎ ((refusal ≡ Overflow) × HasLargeTotal T.below (filter (λ u. has_passed T.below (front T.below self.now view) u.time) (captured_of self.now view)))) }
+        ensures consolidated { IfOk result (λ us. IsConsolidated T.cmp us.items) }
+        ensures passed { IfOk result (λ us. IsTrue (list_all (λ u. has_passed T.below (front T.below self.now view) u.time) us.items)) }
+        ensures sums { IfOk result (λ us. (t : T) → IsTrue (has_passed T.below (front T.below self.now view) t) → Alike (as_of T.below t us.items) (as_of T.below t (captured_of self.now view))) }
+    {
+        let passed = self.passed_captured(view)?;
+        consolidate(passed)
+    }
+
+    // Copies of what a view captured at times that its frontier has passed.
+    fn passed_captured(&self, view: NodeId) -> Result<Vec<Update<T>>, Refusal>
+        requires within { view < length self.now.dataflow.nodes }
+        ensures passed { IfOk result (λ passed. passed.items ≡ filter (λ u. has_passed T.below (front T.below self.now view) u.time) (captured_of self.now view)) }
+        ensures refused { IfErr result (λ refusal. refusal ≡ OutOfMemory) }
+    {
+        let times = self.outstanding(view)?;
+        self.captured_passed_by(view, times)
+    }
+
+    // Copies of what a view captured that are at or after none of the times.
+    fn captured_passed_by(&self, view: NodeId, times: Vec<T>) -> Result<Vec<Update<T>>, Refusal>
+        requires within { view < length self.now.dataflow.nodes }
+        ensures passed { IfOk result (λ passed. passed.items ≡ filter (λ u. not (is_beyond T.below times.items u.time)) (captured_of self.now view)) }
+        ensures refused { IfErr result (λ refusal. refusal ≡ OutOfMemory) }
+    {
+        passed_by(
+            *self.held.allocator(),
+            self.captured(view),
+            times.as_slice(),
+        )
+    }
+
+    /// Whether the board is quiet: nothing is in flight, nobody has a piece in hand, and each time that is held waits for
+    /// what may still come to its node. Then every frontier stands where the inputs stand. Takes no memory.
+    ///
+    /// Cost: linear in the workers, and [`Board::input_has_passed`] for each time that is held.
+    pub fn is_quiet(&self) -> bool
+        ensures value { result ≡ is_quiet_board T.below self.now }
+        ensures quiet { (h : List (Event T)) → Stands T.below T.least self.now h
+            → (IsTrue result ↔ IsQuiet T.below self.now.dataflow (world T.below T.least self.now.dataflow h)) }
+    {
+        self.rests()
+    }
+
+    // The same, without the histories.
+    fn rests(&self) -> bool
+        ensures value { result ≡ is_quiet_board T.below self.now }
+        ensures board { IsBoard self.now }
+    {
+        self.in_flight.is_empty() && are_free(&self.hand) && self.all_wait(&self.held)
+    }
+
+    // Whether each of these times waits for what may still come to its node.
+    fn all_wait(&self, held: &[Held<T>]) -> bool
+        ensures { result ≡ list_all (λ m. nat_lt m.node (length self.now.dataflow.nodes) && is_beyond T.below (input_front T.below self.now m.node) m.time) held.now }
+    {
+        for hold in held {
+            if !self.waits(hold) {
+                return false;
+            }
+        }
+        true
+    }
+
+    // Whether something may still come to the node at or before the time that is held there.
+    fn waits(&self, hold: &Held<T>) -> bool
+        ensures { result ≡ (nat_lt hold.now.node (length self.now.dataflow.nodes) && is_beyond T.below (input_front T.below self.now hold.now.node) hold.now.time) }
+    {
+        hold.node.number() < self.plan.len() && !self.input_has_passed(hold.node, &hold.time)
+    }
+}
