@@ -1,31 +1,42 @@
 -- A board that stands for a session, after the events of clients.
-use Rattle.std.proofs.Common.{◌≡◌, ℕ, suc, ◌<◌, Bool, not, eqb, ltb-true, nat_lt, List, [], ◌∷◌, ◌++◌, length, get_or, replicate, Option, Some, None, Result, Ok, Err, IsTrue, refl, sym, ◌∙◌, ap, ap₂, subst, inl, inr, ◌⊎◌}
+use Rattle.std.proofs.Common.{◌≡◌, ℕ, suc, ◌<◌, Bool, true, false, not, eqb, ltb-true, lt-ltb, nat_lt, nat_le, ℤ, pos, negsuc, unsigned_abs, arith, unwrap_or, slice_get, List, [], ◌∷◌, ◌++◌, length, get_or, replicate, Option, Some, None, Result, Ok, Err, IsTrue, refl, sym, ◌∙◌, ap, ap₂, subst, inl, inr, ◌⊎◌}
 use Rattle.std.specs.Prelude.{IfOk, IfErr, OnOk, OnErr, ◌&&◌}
 use Rattle.std.specs.List.{All, filter}
-use Rattle.std.proofs.lemmas.Bool.{and_parts}
+use Rattle.std.proofs.lemmas.Bool.{and_parts, and_from}
 use Rattle.std.proofs.lemmas.Option.{unwrap_or-slice_get}
 use Rattle.plan.specs.Operators.{is_linear}
-use Rattle.plan.specs.declared.node.Node.TheVariants.{Input}
+use Rattle.plan.specs.declared.node.Node.TheVariants.{Input, Map, Filter, Concat, Negate, Arrange, Join, Reduce, Output}
 use Rattle.std.proofs.lemmas.Result.{on_ok_weaker, on_err_weaker}
 use Rattle.update.specs.declared.refusal.Refusal.{Refusal}
-use Rattle.update.specs.declared.refusal.Refusal.TheVariants.{OutOfMemory}
+use Rattle.update.specs.declared.refusal.Refusal.TheVariants.{OutOfMemory, WrongWidth, ZeroWeight, WeightTooLarge, TimePassed, InputFull}
 use Rattle.plan.specs.Rules.{IsRefusalBy, first_refusal}
-use Rattle.plan.specs.Nodes.{node_at}
+use Rattle.plan.specs.Nodes.{node_at, sources}
+use Rattle.plan.specs.Widths.{width_of}
+use Rattle.plan.proofs.PlanLemmas.{no_first}
+use Rattle.row.specs.Routing.{column_sum, route_of}
+use Rattle.std.specs.Int.{int_rem_euclid}
+use Rattle.std.specs.Ordering.{int_eq}
+use Rattle.lattice.specs.Frontiers.{is_beyond}
+use Rattle.lattice.specs.Naturals.{nat_lowest}
+use Rattle.std.proofs.lemmas.List.Folds.{list_all-append}
+use Rattle.std.proofs.lemmas.Int.{ints}
 use Rattle.plan.specs.Ancestors.{is_input}
 use Rattle.plan.specs.declared.node.Node.{Node}
 use Rattle.machine.specs.declared.event.Event.{Event}
 use Rattle.machine.specs.declared.event.Event.TheVariants.{Feed, Advance, Look}
 use Rattle.machine.specs.declared.event.Fed.{Fed}
 use Rattle.machine.specs.declared.event.Open.{Open}
-use Rattle.machine.specs.Dataflows.{Dataflow}
+use Rattle.machine.specs.Dataflows.{Dataflow, node_of}
+use Rattle.machine.specs.Shares.{home}
 use Rattle.machine.specs.Histories.{opening, IsInput}
-use Rattle.machine.specs.Worlds.{fed_to}
+use Rattle.machine.specs.Worlds.{fed_to, open_at}
 use Rattle.machine.specs.Boards as boards
 use Rattle.machine.specs.Boards.{Shown, Stands, looked, fed, advanced}
 use Rattle.grammar.specs.Commands.{is_input_of}
 use Rattle.script.specs.Engines.{EndsRun, IsAnswer}
-use Rattle.script.specs.Sessions.{Session, with_change, with_frontier, change_faults, frontier_faults, change_refusal, frontier_refusal}
-use Rattle.script.specs.Standing.{StandsAs, IsIdle, IsIdleUnless}
+use Rattle.script.specs.Sessions.{Session, with_change, with_frontier, change_refusal, frontier_refusal}
+use Rattle.script.specs.Relays.{IsIdle, is_due, are_due, width_at}
+use Rattle.script.specs.Standing.{StandsAs, IsReadyUnless}
 
 -- an answer, from what is known where it is accepted and where it is refused
 pub answered : (o : Option Refusal) (A S : Type 0) (r : Result (Unit {0}) Refusal) → OnOk r A → OnOk r (o ≡ None) → IfErr r (IsRefusalBy o) → OnErr r S → IsAnswer o (λ _. A) S r
@@ -61,7 +72,7 @@ module _ {T : Type 0} (below : T → T → Bool) (minimum : T) where
 
   -- the board refuses what the session refuses
   pub same_change_refusal : (b : Shown T) (s : Session T) (f : Fed T) → f.input < length b.dataflow.nodes → StandsAs below minimum b s → boards.feed_refusal below b f ≡ change_refusal below b.dataflow.nodes s f
-  same_change_refusal b s f within a = λ j. first_refusal (change_faults below b.dataflow.nodes (openings j) (taken j) f)
+  same_change_refusal b s f within a = λ j. first_refusal (boards.feed_faults below b.dataflow.nodes (openings j) (taken j) f)
     where
       openings : b.openings ≡ s.openings
       openings = a.stands.openings ∙ a.openings
@@ -70,7 +81,7 @@ module _ {T : Type 0} (below : T → T → Bool) (minimum : T) where
       taken = a.stands.accepted f.input within ∙ ap (λ (fs : List (Fed T)). length (fed_to f.input fs)) a.fed
 
   pub same_frontier_refusal : (b : Shown T) (s : Session T) (i : ℕ) (ts : List T) → StandsAs below minimum b s → boards.advance_refusal below b i ts ≡ frontier_refusal below b.dataflow.nodes s i ts
-  same_frontier_refusal b s i ts a = ap (λ (os : List (Open T)). first_refusal (frontier_faults below os i ts)) (a.stands.openings ∙ a.openings)
+  same_frontier_refusal b s i ts a = ap (λ (os : List (Open T)). first_refusal (boards.advance_faults below os i ts)) (a.stands.openings ∙ a.openings)
 
   -- a change is answered as the session does
   pub change_answered : (b c : Shown T) (client : ℕ) (f : Fed T) (s : Session T) (r : Result (Unit {0}) Refusal) → f.input < length b.dataflow.nodes
@@ -94,38 +105,90 @@ module _ {T : Type 0} (below : T → T → Bool) (minimum : T) where
       (on_ok_weaker r (λ e. stands_advanced b c client i ts s e follows a) done) accepted refused
       (on_err_weaker r (λ e. stands_looked b c client s e follows a) looks))
 
-module _ {T : Type 0} where
-  -- the worker stays as it was
-  pub idle_looked : (b : Shown T) (actor : ℕ) (o : Option Refusal) → IsIdleUnless o b → IsIdleUnless o (looked actor b)
-  idle_looked b actor None i = record { alone = i.alone; linear = i.linear; held = i.held; hand = i.hand }
-  idle_looked b actor (Some r) i = i
-
-  pub idle_fed : (b : Shown T) (client : ℕ) (f : Fed T) (o : Option Refusal) → IsIdleUnless o b → IsIdleUnless o (fed client f b)
-  idle_fed b client f None i = record { alone = i.alone; linear = i.linear; held = i.held; hand = i.hand }
-  idle_fed b client f (Some r) i = i
-
-  pub idle_advanced : (b : Shown T) (client i : ℕ) (ts : List T) (o : Option Refusal) → IsIdleUnless o b → IsIdleUnless o (advanced client i ts b)
-  idle_advanced b client i ts None idle = record { alone = idle.alone; linear = idle.linear; held = idle.held; hand = idle.hand }
-  idle_advanced b client i ts (Some r) idle = idle
-
-  -- whichever of both became of the board
-  pub idle_after : (P Q : Shown T) (c : Shown T) (o : Option Refusal) (r : Result (Unit {0}) Refusal) → IsIdleUnless o P → IsIdleUnless o Q → OnOk r (c ≡ P) → OnErr r (c ≡ Q) → IsIdleUnless o c
-  idle_after P Q c o (Ok x) p q e f = subst (IsIdleUnless o) (sym e) p
-  idle_after P Q c o (Err r) p q e f = subst (IsIdleUnless o) (sym f) q
-
-  pub kept_after : (P Q : Shown T) (b c : Shown T) (r : Result (Unit {0}) Refusal) → P.dataflow ≡ b.dataflow → Q.dataflow ≡ b.dataflow → OnOk r (c ≡ P) → OnErr r (c ≡ Q) → c.dataflow.nodes ≡ b.dataflow.nodes
-  kept_after P Q b c (Ok x) p q e f = ap (λ (d : Shown T). d.dataflow.nodes) e ∙ ap (λ (d : Dataflow). d.nodes) p
-  kept_after P Q b c (Err r) p q e f = ap (λ (d : Shown T). d.dataflow.nodes) f ∙ ap (λ (d : Dataflow). d.nodes) q
-
 -- an input of a plan, as the board asks for it
 pub input_there : (p : Dataflow) (input : ℕ) → IsTrue (is_input_of p.nodes input) → IsInput p input
 input_there p input h = let parts = and_parts _ _ h in (ltb-true _ _ parts.0, parts.1)
 
+-- ---- the worker
+
+-- an input reads nothing
+no_source : (node : Node) → IsTrue (is_input node) → sources node ≡ []
+no_source (Input width) e = refl
+no_source (Map source items) e = absurd cc
+no_source (Filter source test) e = absurd cc
+no_source (Concat left right) e = absurd cc
+no_source (Negate source) e = absurd cc
+no_source (Arrange source key) e = absurd cc
+no_source (Join left right) e = absurd cc
+no_source (Reduce kind source) e = absurd cc
+no_source (Output source) e = absurd cc
+
+-- the only worker has each row
+only_route : (key : List ℤ) (workers : ℕ) → workers ≡ 1 → route_of key workers ≡ 0
+only_route key workers e = ap (route_of key) e ∙ nothing_left (column_sum key)
+  where
+    nothing_left : (z : ℤ) → unsigned_abs (int_rem_euclid z (pos 1)) ≡ 0
+    nothing_left (pos a) = omega arith
+    nothing_left (negsuc a) = omega arith
+
+module _ {T : Type 0} (below : T → T → Bool) where
+  -- a change that is accepted waits where the worker finds it
+  fed_is_due : (b : Shown T) (f : Fed T) → b.dataflow.workers ≡ 1 → IsInput b.dataflow f.input → boards.feed_refusal below b f ≡ None
+      → IsTrue (is_due b.dataflow 0 (record { place = home b.dataflow f; updates = f.update ∷ [] }))
+  fed_is_due b f alone input accepted =
+      let p = b.dataflow in
+      let width = width_of p.nodes f.input in
+      let none : sources (node_of p f.input) ≡ [] = no_source (node_of p f.input) input.1 in
+      let own : width_at p (home p f) ≡ width = ap (λ (ns : List ℕ). width_of p.nodes (unwrap_or (slice_get ns 0) f.input)) none in
+      let rest = (int_eq f.update.diff (pos 0), ZeroWeight)
+          ∷ (not (nat_le (unsigned_abs f.update.diff) 2147483647), WeightTooLarge)
+          ∷ (not (is_beyond below (open_at f.input b.openings) f.update.time), TimePassed)
+          ∷ (not (nat_lt (get_or b.accepted f.input 0) 1048576), InputFull)
+          ∷ [] in
+      let fits = no_first (not (eqb (length f.update.row) width)) WrongWidth rest accepted in
+      let wide : eqb (length f.update.row) width ≡ true = not_false (eqb (length f.update.row) width) fits.0 in
+      and_from _ _
+      (and_from _ _ (nat_lowest f.input) (lt-ltb f.input (length p.nodes) input.0))
+      (and_from _ _
+        (and_from _ _ refl (ap (λ k. eqb k 0) (only_route f.update.row p.workers alone)))
+        (and_from _ _ (ap (λ w. eqb (length f.update.row) w) own ∙ wide) refl))
+    where
+      not_false : (c : Bool) → not c ≡ false → c ≡ true
+      not_false true e = refl
+      not_false false e = absurd cc
+
+  pub ready_fed : (b : Shown T) (client : ℕ) (f : Fed T) (o : Option Refusal) → IsInput b.dataflow f.input → boards.feed_refusal below b f ≡ None → IsReadyUnless o b → IsReadyUnless o (fed client f b)
+  ready_fed b client f None input accepted i = (
+    record { alone = i.0.alone; linear = i.0.linear; held = i.0.held; hand = i.0.hand },
+    list_all-append (is_due b.dataflow 0) b.in_flight (record { place = home b.dataflow f; updates = f.update ∷ [] } ∷ [])
+        ∙ and_from _ _ i.1 (and_from _ _ (fed_is_due b f i.0.alone input accepted) refl),
+  )
+  ready_fed b client f (Some r) input accepted i = i
+
+  pub ready_looked : (b : Shown T) (actor : ℕ) (o : Option Refusal) → IsReadyUnless o b → IsReadyUnless o (looked actor b)
+  ready_looked b actor None i = (record { alone = i.0.alone; linear = i.0.linear; held = i.0.held; hand = i.0.hand }, i.1)
+  ready_looked b actor (Some r) i = i
+
+  pub ready_advanced : (b : Shown T) (client i : ℕ) (ts : List T) (o : Option Refusal) → IsReadyUnless o b → IsReadyUnless o (advanced client i ts b)
+  ready_advanced b client i ts None ready = (record { alone = ready.0.alone; linear = ready.0.linear; held = ready.0.held; hand = ready.0.hand }, ready.1)
+  ready_advanced b client i ts (Some r) ready = ready
+
+  -- so it is after whatever came of a change
+  pub ready_after_change : (b c : Shown T) (client : ℕ) (f : Fed T) (o : Option Refusal) (r : Result (Unit {0}) Refusal) → IsInput b.dataflow f.input
+      → OnOk r (c ≡ fed client f b) → OnOk r (boards.feed_refusal below b f ≡ None) → OnErr r (c ≡ looked client b) → IsReadyUnless o b → IsReadyUnless o c
+  ready_after_change b c client f o (Ok x) input done accepted looks ready = subst (IsReadyUnless o) (sym done) (ready_fed b client f o input accepted ready)
+  ready_after_change b c client f o (Err r) input done accepted looks ready = subst (IsReadyUnless o) (sym looks) (ready_looked b client o ready)
+
+  pub ready_after_frontier : (b c : Shown T) (client i : ℕ) (ts : List T) (o : Option Refusal) (r : Result (Unit {0}) Refusal)
+      → OnOk r (c ≡ advanced client i ts b) → OnErr r (c ≡ looked client b) → IsReadyUnless o b → IsReadyUnless o c
+  ready_after_frontier b c client i ts o (Ok x) done looks ready = subst (IsReadyUnless o) (sym done) (ready_advanced b client i ts o ready)
+  ready_after_frontier b c client i ts o (Err r) done looks ready = subst (IsReadyUnless o) (sym looks) (ready_looked b client o ready)
+
 -- on a board on which nothing has happened the one worker is idle
-pub idle_first : {T : Type 0} (minimum : T) (nodes : List Node) (b : Shown T) → b ≡ boards.first_board minimum (record { nodes = nodes; workers = 1 }) → All (λ node. IsTrue (is_linear node)) nodes → IsIdle b
-idle_first minimum nodes b e linear = subst IsIdle (sym e) (record {
+pub ready_first : {T : Type 0} (minimum : T) (nodes : List Node) (b : Shown T) → b ≡ boards.first_board minimum (record { nodes = nodes; workers = 1 }) → All (λ node. IsTrue (is_linear node)) nodes → IsReadyUnless None b
+ready_first minimum nodes b e linear = subst (IsReadyUnless None) (sym e) (record {
   alone = refl;
   linear = λ n h. subst (λ (node : Node). IsTrue (is_linear node)) (sym (unwrap_or-slice_get nodes n (Input 0))) (linear n (Input 0) h);
   held = refl;
   hand = refl;
-})
+}, refl)

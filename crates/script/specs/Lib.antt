@@ -6,3 +6,4 @@ pub mod Sessions
 pub mod Text
 pub mod Engines
 pub mod Standing
+pub mod Relays

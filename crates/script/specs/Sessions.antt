@@ -1,23 +1,22 @@
 -- A session by definition: which changes were accepted, and where the inputs' frontiers stand. It knows neither workers nor
 -- differences.
-use Rattle.std.specs.Prelude.{ℕ, Bool, not, List, [], ◌∷◌, ◌++◌, length, eqb, nat_le, nat_lt, pos, unsigned_abs, Option}
+use Rattle.std.specs.Prelude.{ℕ, Bool, not, List, [], ◌∷◌, ◌++◌, length, eqb, Option}
 use Rattle.std.specs.List.{filter, flat_map}
-use Rattle.std.specs.Ordering.{int_eq}
-use Rattle.lattice.specs.Frontiers.{is_beyond, all_beyond}
+use Rattle.lattice.specs.Frontiers.{is_beyond}
 use Rattle.antichain.specs.Antichains.{least}
 use Rattle.update.specs.Bags.{Entry}
 use Rattle.update.specs.declared.refusal.Refusal.{Refusal}
-use Rattle.update.specs.declared.refusal.Refusal.TheVariants.{WrongWidth, ZeroWeight, WeightTooLarge, TimePassed, NotForward, InputFull, NotPassed}
+use Rattle.update.specs.declared.refusal.Refusal.TheVariants.{NotPassed}
 use Rattle.plan.specs.Ancestors.{is_input}
 use Rattle.plan.specs.Changes.{query_at, open_for}
 use Rattle.plan.specs.Edges.{numbers_where}
 use Rattle.plan.specs.Rules.{first_refusal}
-use Rattle.plan.specs.Widths.{width_of}
 use Rattle.plan.specs.declared.node.Node.{Node}
 use Rattle.machine.specs.declared.event.Fed.{Fed}
 use Rattle.machine.specs.declared.event.Open.{Open}
 use Rattle.machine.specs.Worlds.{fed_to, open_at}
 use Rattle.machine.specs.Histories.{opening}
+use Rattle.machine.specs.Boards.{feed_faults, advance_faults}
 use Rattle.script.specs.Bags.{bag_of}
 
 pub record Session (T : Type 0) : Type 0 where
@@ -39,26 +38,14 @@ module _ {T : Type 0} where
   abbrev pub with_frontier : ℕ → List T → Session T → Session T
   with_frontier i ts s = record { fed = s.fed; openings = opening i ts ++ filter (λ o. not (eqb o.input i)) s.openings }
 
-module _ {T : Type 0} (below : T → T → Bool) where
-  -- what refuses a change, in the order of testing, where these times are open and the input has taken so many changes
-  abbrev pub change_faults : List Node → List (Open T) → ℕ → Fed T → List (Bool × Refusal)
-  change_faults p openings taken f = (not (eqb (length f.update.row) (width_of p f.input)), WrongWidth)
-      ∷ (int_eq f.update.diff (pos 0), ZeroWeight)
-      ∷ (not (nat_le (unsigned_abs f.update.diff) 2147483647), WeightTooLarge)
-      ∷ (not (is_beyond below (open_at f.input openings) f.update.time), TimePassed)
-      ∷ (not (nat_lt taken 1048576), InputFull)
-      ∷ []
+module _ {T : Type 0} (below : T → T → Bool) (p : List Node) (s : Session T) where
+  -- what refuses a change
+  abbrev pub change_refusal : Fed T → Option Refusal
+  change_refusal f = first_refusal (feed_faults below p s.openings (length (fed_to f.input s.fed)) f)
 
   -- what refuses an input's frontier: each of its times must be beyond the old one
-  abbrev pub frontier_faults : List (Open T) → ℕ → List T → List (Bool × Refusal)
-  frontier_faults openings i ts = (not (all_beyond below (open_at i openings) ts), NotForward) ∷ []
-
-module _ {T : Type 0} (below : T → T → Bool) (p : List Node) (s : Session T) where
-  abbrev pub change_refusal : Fed T → Option Refusal
-  change_refusal f = first_refusal (change_faults below p s.openings (length (fed_to f.input s.fed)) f)
-
   abbrev pub frontier_refusal : ℕ → List T → Option Refusal
-  frontier_refusal i ts = first_refusal (frontier_faults below s.openings i ts)
+  frontier_refusal i ts = first_refusal (advance_faults below s.openings i ts)
 
   -- the frontier of a view: the least of those of all inputs that feed it
   abbrev pub view_frontier : ℕ → List T

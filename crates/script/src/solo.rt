@@ -33,13 +33,13 @@ impl Model for Solo {
     ghost use Rattle.std.specs.Prelude.{ℕ};
     ghost use Rattle.lattice.specs.declared.product.Pair.{Pair};
     ghost use Rattle.machine.specs.Boards.{Shown};
-    ghost use Rattle.script.specs.Standing.{IsIdleUnless};
+    ghost use Rattle.script.specs.Standing.{IsReadyUnless};
 
     ghost Value = { Shown (Pair ℕ ℕ) };
 
     ghost view = { λ solo. solo.board };
 
-    ghost invariant = { λ solo. IsIdleUnless solo.ended solo.board };
+    ghost invariant = { λ solo. IsReadyUnless solo.ended solo.board };
 }
 
 impl Solo {
