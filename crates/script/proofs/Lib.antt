@@ -1,0 +1,3 @@
+pub mod GivingLemmas
+pub mod DueLemmas
+pub mod RelayLemmas
