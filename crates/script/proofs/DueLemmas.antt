@@ -1,5 +1,5 @@
 -- Which bundles are due: what is taken fits its node, and what is sent is due at a later one.
-use Rattle.std.proofs.Common.{◌≡◌, ◌≢◌, ℕ, zero, suc, ◌<◌, ◌≤◌, Bool, true, false, cond, ◌&&◌, ◌||◌, eqb, nat_lt, nat_le, not, List, [], ◌∷◌, ◌++◌, length, take, Option, Some, None, IsTrue, sym, refl, ap, ◌∙◌, subst, arith, inl, inr, ⊎_elim, ◌⊎◌}
+use Rattle.std.proofs.Common.{◌≡◌, ◌≢◌, ℕ, zero, suc, ◌<◌, ◌≤◌, Bool, true, false, cond, ◌&&◌, ◌||◌, eqb, nat_lt, nat_le, not, List, [], ◌∷◌, ◌++◌, length, take, Option, Some, None, IsTrue, unsigned_abs, sym, refl, ap, ◌∙◌, subst, arith, inl, inr, ⊎_elim, ◌⊎◌}
 use Rattle.std.specs.List.{list_all, filter, slice_get}
 use Rattle.std.specs.Prelude.{unwrap_or}
 use Rattle.std.proofs.lemmas.Bool.{and_parts, and_from, eqb-true, eqb-false, eq-eqb, ne_eqb, false≢true}
@@ -29,7 +29,7 @@ use Rattle.machine.specs.Histories.{without}
 use Rattle.machine.proofs.FlowLemmas.{place_same}
 use Rattle.machine.proofs.PlaceLemmas.{queued, there_some, shared}
 use Rattle.machine.proofs.WaitingLemmas.{itself}
-use Rattle.script.specs.Relays.{width_at, is_due, are_due, waits_at}
+use Rattle.script.specs.Relays.{width_at, are_small, is_due, are_due, waits_at}
 
 -- a port at which nothing is read is an input's
 no_reader : (node : Node) (port : ℕ) → IsTrue (is_port node port) → slice_get (sources node) port ≡ None → (width : ℕ) × (node ≡ Input width)
@@ -96,21 +96,23 @@ module _ {T : Type 0} where
     pub port : IsTrue (is_port (node_of p b.place.node) b.place.port)
     pub worker : b.place.worker ≡ 0
     pub wide : IsTrue (are_wide (width_at p b.place) b.updates)
+    pub small : IsTrue (are_small b.updates)
 
   pub due_parts : (p : Dataflow) (n : ℕ) (b : Bundle T) → is_due p n b ≡ true → IsDue p n b
   due_parts p n b h =
-      let x = and_parts (nat_le n b.place.node && nat_lt b.place.node (length p.nodes)) ((is_port (node_of p b.place.node) b.place.port && eqb b.place.worker 0) && are_wide (width_at p b.place) b.updates) h in
+      let x = and_parts (nat_le n b.place.node && nat_lt b.place.node (length p.nodes)) ((is_port (node_of p b.place.node) b.place.port && eqb b.place.worker 0) && (are_wide (width_at p b.place) b.updates && are_small b.updates)) h in
       let y = and_parts (nat_le n b.place.node) (nat_lt b.place.node (length p.nodes)) x.0 in
-      let z = and_parts (is_port (node_of p b.place.node) b.place.port && eqb b.place.worker 0) (are_wide (width_at p b.place) b.updates) x.1 in
+      let z = and_parts (is_port (node_of p b.place.node) b.place.port && eqb b.place.worker 0) (are_wide (width_at p b.place) b.updates && are_small b.updates) x.1 in
+      let r = and_parts (are_wide (width_at p b.place) b.updates) (are_small b.updates) z.1 in
       let v = and_parts (is_port (node_of p b.place.node) b.place.port) (eqb b.place.worker 0) z.0 in
-      record { later = le_from n b.place.node y.0; within = lt_from b.place.node (length p.nodes) y.1; port = v.0; worker = eqb-true b.place.worker 0 v.1; wide = z.1 }
+      record { later = le_from n b.place.node y.0; within = lt_from b.place.node (length p.nodes) y.1; port = v.0; worker = eqb-true b.place.worker 0 v.1; wide = r.0; small = r.1 }
 
   pub due_from : (p : Dataflow) (n : ℕ) (b : Bundle T) → IsDue p n b → is_due p n b ≡ true
   due_from p n b d =
-      and_from (nat_le n b.place.node && nat_lt b.place.node (length p.nodes)) ((is_port (node_of p b.place.node) b.place.port && eqb b.place.worker 0) && are_wide (width_at p b.place) b.updates)
+      and_from (nat_le n b.place.node && nat_lt b.place.node (length p.nodes)) ((is_port (node_of p b.place.node) b.place.port && eqb b.place.worker 0) && (are_wide (width_at p b.place) b.updates && are_small b.updates))
       (and_from (nat_le n b.place.node) (nat_lt b.place.node (length p.nodes)) (le_to n b.place.node d.later) (lt_to b.place.node (length p.nodes) d.within))
-      (and_from (is_port (node_of p b.place.node) b.place.port && eqb b.place.worker 0) (are_wide (width_at p b.place) b.updates)
-      (and_from (is_port (node_of p b.place.node) b.place.port) (eqb b.place.worker 0) d.port (eq-eqb b.place.worker 0 d.worker)) d.wide)
+      (and_from (is_port (node_of p b.place.node) b.place.port && eqb b.place.worker 0) (are_wide (width_at p b.place) b.updates && are_small b.updates)
+      (and_from (is_port (node_of p b.place.node) b.place.port) (eqb b.place.worker 0) d.port (eq-eqb b.place.worker 0 d.worker)) (and_from (are_wide (width_at p b.place) b.updates) (are_small b.updates) d.wide d.small))
 
   -- a bundle that waits is due
   pub waiting_due : (p : Dataflow) (n : ℕ) (site : Place) (us : List (Update T)) (bundles : List (Bundle T)) → are_due p n bundles ≡ true → slice_get (queue site bundles) 0 ≡ Some us → IsDue p n (record { place = site; updates = us })
@@ -145,7 +147,7 @@ module _ {T : Type 0} where
   some : (us : List (Update T)) → not (eqb (length us) 0) ≡ true → us ≢ []
   some us h e = false≢true (subst (λ z. not (eqb (length z) 0) ≡ true) e h)
 
-  module _ (p : Dataflow) (q : IsDataflow p) (alone : p.workers ≡ 1) (g : Emission T) (worker : g.worker < p.workers) (wide : IsTrue (are_wide (width_of p.nodes g.node) g.updates)) where
+  module _ (p : Dataflow) (q : IsDataflow p) (alone : p.workers ≡ 1) (g : Emission T) (worker : g.worker < p.workers) (wide : IsTrue (are_wide (width_of p.nodes g.node) g.updates)) (small : IsTrue (are_small g.updates)) where
     -- what goes to a place that gets something is read there
     read_there : (site : Place) → share p site g ≢ [] → source_of p site.node site.port ≡ Some g.node
     read_there site d = step (source_of p site.node site.port) refl d
@@ -197,6 +199,7 @@ module _ {T : Type 0} where
             worker = let l = s.worker in omega (arith, l, alone);
             wide = subst (λ x. IsTrue (are_wide (width_of p.nodes (unwrap_or x b.place.node)) b.updates)) (sym source)
                 (own_part (λ u. eqb (length u.row) (width_of p.nodes g.node)) sent b m (ap (list_all (λ u. eqb (length u.row) (width_of p.nodes g.node))) (whole b.place) ∙ share_all (λ u. eqb (length u.row) (width_of p.nodes g.node)) b.place wide));
+            small = own_part (λ u. nat_le (unsigned_abs u.diff) 2147483647) sent b m (ap (list_all (λ u. nat_le (unsigned_abs u.diff) 2147483647)) (whole b.place) ∙ share_all (λ u. nat_le (unsigned_abs u.diff) 2147483647) b.place small);
           }
         where
           port_from : (ports : ℕ) → (b.place.port ≡ 0) ⊎ (b.place.port < ports) → (eqb b.place.port 0 || nat_lt b.place.port ports) ≡ true
@@ -215,14 +218,14 @@ module _ {T : Type 0} where
   pub due_earlier : (p : Dataflow) (n : ℕ) (bundles : List (Bundle T)) → are_due p (suc n) bundles ≡ true → are_due p n bundles ≡ true
   due_earlier p n bundles h =
       all_from (is_due p n) bundles (λ b m. let d = due_parts p (suc n) b (all_at (is_due p (suc n)) bundles b h m) in
-      due_from p n b (record { later = let l = d.later in omega arith; within = d.within; port = d.port; worker = d.worker; wide = d.wide }))
+      due_from p n b (record { later = let l = d.later in omega arith; within = d.within; port = d.port; worker = d.worker; wide = d.wide; small = d.small }))
 
   -- and where none waits at the node, the other way round
   pub due_later : (p : Dataflow) (n : ℕ) (bundles : List (Bundle T)) → are_due p n bundles ≡ true → IsTrue (list_all (λ b. not (eqb b.place.node n && eqb b.place.worker 0)) bundles) → are_due p (suc n) bundles ≡ true
   due_later p n bundles h none =
       all_from (is_due p (suc n)) bundles (λ b m. let d = due_parts p n b (all_at (is_due p n) bundles b h m) in
       let k = all_at (λ (b : Bundle T). not (eqb b.place.node n && eqb b.place.worker 0)) bundles b none m in
-      due_from p (suc n) b (record { later = after b (eqb b.place.node n) refl d.later (eqb b.place.worker 0) (eq-eqb b.place.worker 0 d.worker) k; within = d.within; port = d.port; worker = d.worker; wide = d.wide }))
+      due_from p (suc n) b (record { later = after b (eqb b.place.node n) refl d.later (eqb b.place.worker 0) (eq-eqb b.place.worker 0 d.worker) k; within = d.within; port = d.port; worker = d.worker; wide = d.wide; small = d.small }))
     where
       after : (b : Bundle T) (c : Bool) → eqb b.place.node n ≡ c → n ≤ b.place.node → (w : Bool) → w ≡ true → not (c && w) ≡ true → suc n ≤ b.place.node
       after b true e l w f k = absurd (false≢true (ap (λ z. not (true && z)) (sym f) ∙ k))

@@ -1,3 +1,5 @@
 pub mod GivingLemmas
+pub mod SmallLemmas
 pub mod DueLemmas
 pub mod RelayLemmas
+pub mod FedLemmas

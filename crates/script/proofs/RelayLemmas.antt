@@ -1,14 +1,15 @@
 -- One piece of a relay after another: the events that lie between, and what is then on the board.
 use Rattle.std.proofs.Common.{◌≡◌, ℕ, suc, ◌<◌, Bool, true, cond, eqb, not, List, [], ◌∷◌, ◌++◌, length, get_or, set, Option, Some, None, IsTrue, sym, refl, ap, ◌∙◌, subst, arith}
-use Rattle.std.specs.List.{filter, slice_get}
-use Rattle.std.specs.Result.{IfOk, OnOk, OnErr}
+use Rattle.std.specs.List.{list_all, filter, slice_get}
+use Rattle.std.specs.Result.{IsOk, IsErr, IfOk, OnOk, OnErr}
 use Rattle.std.specs.Prelude.{Result, Ok, Err}
 use Rattle.std.proofs.lemmas.Bool.{and_from, eq-eqb}
 use Rattle.std.proofs.lemmas.List.{append_assoc}
 use Rattle.lattice.specs.Order.{PartialOrderLaws}
+use Rattle.lattice.specs.Frontiers.{is_beyond}
 use Rattle.update.specs.declared.change.Update.{Update}
 use Rattle.update.specs.declared.refusal.Refusal.{Refusal}
-use Rattle.linear.specs.Applied.{applied}
+use Rattle.linear.specs.Applied.{applied, Overflows}
 use Rattle.linear.specs.Widths.{takes_rows}
 use Rattle.plan.specs.Operators.{is_linear}
 use Rattle.machine.specs.declared.event.Place.{Place}
@@ -19,18 +20,25 @@ use Rattle.machine.specs.declared.event.Event.{Event}
 use Rattle.machine.specs.declared.event.Event.TheVariants.{Take}
 use Rattle.machine.specs.Dataflows.{Dataflow, IsDataflow, node_of}
 use Rattle.machine.specs.Worlds.{World, queue}
-use Rattle.machine.specs.Outstanding.{stamp}
+use Rattle.machine.specs.Outstanding.{stamp, input_frontier}
+use Rattle.machine.specs.Readings.{IsQuiet}
 use Rattle.machine.specs.Histories.{holding, is_held_by, without, world, IsGive}
 use Rattle.machine.specs.Boards.{Shown, Stands, looked, taken, given}
 use Rattle.machine.proofs.BoardLemmas.{stands_looked}
 use Rattle.script.specs.Relays.{are_due, waits_at, IsIdle, IsSameOfClients, IsCut, GoesOnFrom, GoesOn}
 use Rattle.script.proofs.DueLemmas.{IsDue, waiting_due, widened, fitting, sent_due, one_less, no_more_wait, piece_due}
 use Rattle.script.proofs.GivingLemmas.{may_give}
+use Rattle.script.proofs.SmallLemmas.{small_applied, no_overflow}
 
 -- what is not some is none
 pub none_from : {A : Type 0} (r : Option A) → ((x : A) → r ≡ Some x → ⊥) → r ≡ None
 none_from (Some x) d = absurd (d x refl)
 none_from None d = refl
+
+-- what is no error is a value
+pub value_from : {A E : Type 0} (r : Result A E) → (IsErr r → ⊥) → IsOk r
+value_from (Ok x) d = refl
+value_from (Err e) d = absurd (d refl)
 
 module _ {T : Type 0} where
   same_refl : (w : World T) → IsSameOfClients w w
@@ -107,6 +115,17 @@ emptied hand k x e = subst (λ j. get_or (set (set hand j x) j None) 0 None ≡ 
     first [] = refl
     first (y ∷ hand) = refl
 
+-- where a worker is idle and nothing is in flight, all is quiet
+pub quiet : {T : Type 0} (below : T → T → Bool) (minimum : T) (b : Shown T) → IsIdle b → b.in_flight ≡ [] → (h : List (Event T)) → Stands below minimum b h → IsQuiet below b.dataflow (world below minimum b.dataflow h)
+quiet below minimum b idle none h s = record {
+  in_flight = sym s.in_flight ∙ none;
+  hand = λ k l. subst (λ j. (world below minimum b.dataflow h).hand j ≡ None) (first k l idle.alone) (sym (s.hand 0 (let a = idle.alone in omega (arith, a))) ∙ idle.hand);
+  held = ap (list_all (λ m. is_beyond below (input_frontier below b.dataflow (world below minimum b.dataflow h) m.node) m.time)) (sym s.held ∙ idle.held);
+}
+  where
+    first : (k : ℕ) → k < b.dataflow.workers → b.dataflow.workers ≡ 1 → 0 ≡ k
+    first k l a = omega (arith, l, a)
+
 -- After a piece
 
 module _ {T : Type 0} (below : T → T → Bool) (o : PartialOrderLaws below) (minimum : T) (b : Shown T) (q : IsDataflow b.dataflow) (idle : IsIdle b) (site : Place) (us : List (Update T))
@@ -126,6 +145,9 @@ module _ {T : Type 0} (below : T → T → Bool) (o : PartialOrderLaws below) (m
   pub takes : IsTrue (takes_rows (node_of p site.node) us)
   takes = fitting p q site us piece.port piece.wide
 
+  pub fits : Overflows (node_of p site.node) us → ⊥
+  fits = no_overflow (node_of p site.node) us piece.small
+
   pub linear : IsTrue (is_linear (node_of p site.node))
   linear = idle.linear site.node piece.within
 
@@ -138,7 +160,7 @@ module _ {T : Type 0} (below : T → T → Bool) (o : PartialOrderLaws below) (m
     done = given emission [] sent (taken below site 0 us b)
 
     later_due : are_due p (suc site.node) sent ≡ true
-    later_due = sent_due p q idle.alone emission (let a = idle.alone in omega (arith, worker, a)) (widened p q site us piece.port piece.wide linear) sent cut.whole cut.filled
+    later_due = sent_due p q idle.alone emission (let a = idle.alone in omega (arith, worker, a)) (widened p q site us piece.port piece.wide linear) (small_applied (node_of p site.node) us piece.small) sent cut.whole cut.filled
 
     pub piece_idle : IsIdle done
     piece_idle = record {

@@ -4,15 +4,16 @@
 //! gives what comes out. A node's readers have greater numbers, so nothing is sent to a node that is done, and one pass
 //! leaves nothing in flight. A linear node needs no time and no state: each bundle is a whole piece, after which the worker
 //! holds nothing. So between two pieces the node law holds at every time, and one piece more keeps it.
-ghost use Rattle.std.specs.Prelude.{◌≡◌, ◌<◌, ◌≤◌, ◌⊎◌, suc, [], ◌∷◌, List, None, Some, IfErr, IfOk, OnErr, OnOk, IsTrue, length, slice_get, get_or};
+ghost use Rattle.std.specs.Prelude.{◌≡◌, ◌<◌, ◌≤◌, suc, [], ◌∷◌, List, None, Some, IfErr, IfOk, OnErr, OnOk, IsTrue, length, slice_get, get_or};
 ghost use Rattle.update.specs.declared.change.Update.{Update};
-ghost use Rattle.update.specs.declared.refusal.Refusal.TheVariants.{OutOfMemory, Overflow};
+ghost use Rattle.update.specs.declared.refusal.Refusal.TheVariants.{OutOfMemory};
 ghost use Rattle.linear.specs.Applied.{applied};
 ghost use Rattle.machine.specs.declared.event.Bundle.{Bundle};
 ghost use Rattle.machine.specs.declared.event.Event.{Event};
 ghost use Rattle.machine.specs.Dataflows.{node_of};
 ghost use Rattle.machine.specs.Worlds.{queue};
 ghost use Rattle.machine.specs.Histories.{world, IsGive};
+ghost use Rattle.machine.specs.Readings.{IsQuiet};
 ghost use Rattle.machine.specs.Boards.{Stands, taken, given};
 ghost use Rattle.script.specs.Relays.{are_due, waits_at, IsIdle, IsCut, GoesOnFrom, GoesOn};
 
@@ -22,20 +23,22 @@ use plan::NodeId;
 use std::alloc::Global;
 use update::Refusal;
 
-/// Carries whatever is in flight through the plan, until nothing is. The worker then holds nothing and has nothing in hand.
+/// Carries whatever is in flight through the plan, until nothing is. The worker then holds nothing and has nothing in
+/// hand: all is quiet. No client does anything meanwhile.
 ///
-/// Refused with `OutOfMemory` where an allocation is, and with `Overflow` where a negation has no 64-bit opposite of a
-/// difference; then part of the work may be done, and the events that were done lie between.
+/// Refused only with `OutOfMemory`; then part of the work may be done, by events like those of all of it, and the worker may
+/// have a piece in hand.
 ///
-/// Cost: linear in the nodes, and for each bundle what taking, applying and giving it cost.
+/// Cost: linear in the nodes, and for each bundle what taking, applying, cutting and giving it cost.
 pub(crate) fn relay<T: Minimum>(alloc: Global, board: &mut Board<T>) -> Result<(), Refusal>
     requires idle { IsIdle board.old }
     requires due { IsTrue (are_due board.old.dataflow 0 board.old.in_flight) }
     ensures done { OnOk result (board.new.in_flight ≡ []) }
+    ensures quiet { OnOk result ((h : List (Event T)) → Stands T.below T.least board.new h → IsQuiet T.below board.new.dataflow (world T.below T.least board.new.dataflow h)) }
     ensures idle { OnOk result (IsIdle board.new) }
     ensures dataflow { board.new.dataflow ≡ board.old.dataflow }
     ensures goes_on { GoesOn T.below T.least board.old board.new }
-    ensures refused { IfErr result (λ refusal. (refusal ≡ OutOfMemory) ⊎ (refusal ≡ Overflow)) }
+    ensures refused { IfErr result (λ refusal. refusal ≡ OutOfMemory) }
 {
     for n in 0..board.plan().len() {
         relay_node(alloc, board, NodeId::new(n))?;
@@ -51,7 +54,7 @@ fn relay_node<T: Minimum>(alloc: Global, board: &mut Board<T>, node: NodeId) -> 
     ensures idle { OnOk result (IsIdle board.new) }
     ensures dataflow { board.new.dataflow ≡ board.old.dataflow }
     ensures goes_on { GoesOn T.below T.least board.old board.new }
-    ensures refused { IfErr result (λ refusal. (refusal ≡ OutOfMemory) ⊎ (refusal ≡ Overflow)) }
+    ensures refused { IfErr result (λ refusal. refusal ≡ OutOfMemory) }
 {
     while let Some(place) = board.waiting_at(node, 0) {
         relay_one(alloc, board, place)?;
@@ -70,7 +73,7 @@ fn relay_one<T: Minimum>(alloc: Global, board: &mut Board<T>, place: Place) -> R
     ensures idle { OnOk result (IsIdle board.new) }
     ensures dataflow { board.new.dataflow ≡ board.old.dataflow }
     ensures goes_on { GoesOn T.below T.least board.old board.new }
-    ensures refused { IfErr result (λ refusal. (refusal ≡ OutOfMemory) ⊎ (refusal ≡ Overflow)) }
+    ensures refused { IfErr result (λ refusal. refusal ≡ OutOfMemory) }
 {
     let _workers = board.workers();
     let emission = compute(board, place)?;
@@ -89,12 +92,12 @@ fn compute<T: Minimum>(board: &mut Board<T>, place: Place) -> Result<Emission<T>
     ensures dataflow { board.new.dataflow ≡ board.old.dataflow }
     ensures stands { (h : List (Event T)) → Stands T.below T.least board.old h → OnOk result (Stands T.below T.least board.new (board.new.last ∷ h)) }
     ensures goes_on { GoesOn T.below T.least board.old board.new }
-    ensures refused { IfErr result (λ refusal. (refusal ≡ OutOfMemory) ⊎ (refusal ≡ Overflow)) }
+    ensures refused { IfErr result (λ refusal. refusal ≡ OutOfMemory) }
 {
     let _workers = board.workers();
     let updates = board.take(place, 0)?.into_vec();
-    let node = board.plan().node(place.node);
-    let updates = linear::apply(node, updates)?;
+    // No difference is too large to be negated, so this is not refused.
+    let updates = linear::apply(board.plan().node(place.node), updates).unwrap();
     Ok(Emission {
         node: place.node,
         worker: place.worker,
