@@ -3,3 +3,6 @@ pub mod OutLemmas
 pub mod PrintingLemmas
 pub mod TextLemmas
 pub mod StandingLemmas
+pub mod GivingLemmas
+pub mod DueLemmas
+pub mod RelayLemmas

@@ -1,10 +1,11 @@
 -- One worker that carries bundles through a plan of linear nodes: what it finds on the board, and what it leaves.
-use Rattle.std.specs.Prelude.{◌≡◌, ℕ, ◌<◌, Bool, ◌&&◌, eqb, nat_le, nat_lt, not, List, [], ◌∷◌, ◌++◌, length, None, get_or, unwrap_or, IsTrue}
+use Rattle.std.specs.Prelude.{◌≡◌, ℕ, ◌<◌, Bool, ◌&&◌, eqb, nat_le, nat_lt, not, List, [], ◌++◌, length, None, get_or, unwrap_or, unsigned_abs, IsTrue}
 use Rattle.std.specs.List.{filter, list_all}
 use Rattle.plan.specs.Operators.{is_linear}
 use Rattle.plan.specs.Widths.{width_of}
 use Rattle.linear.specs.Ports.{is_port}
 use Rattle.linear.specs.Widths.{are_wide}
+use Rattle.update.specs.declared.change.Update.{Update}
 use Rattle.machine.specs.declared.event.Place.{Place}
 use Rattle.machine.specs.declared.event.Bundle.{Bundle}
 use Rattle.machine.specs.declared.event.Emission.{Emission}
@@ -20,11 +21,15 @@ abbrev pub width_at : Dataflow → Place → ℕ
 width_at p site = width_of p.nodes (unwrap_or (source_of p site.node site.port) site.node)
 
 module _ {T : Type 0} where
-  -- the bundle waits on the first worker, at a port of this node or of a later one, and its rows are as wide as those that
-  -- are read there
+  -- each diff is no larger than one that may be fed
+  abbrev pub are_small : List (Update T) → Bool
+  are_small us = list_all (λ u. nat_le (unsigned_abs u.diff) 2147483647) us
+
+  -- the bundle waits on the first worker, at a port of this node or of a later one; its rows are as wide as those that are
+  -- read there, and its diffs are small
   abbrev pub is_due : Dataflow → ℕ → Bundle T → Bool
   is_due p n b = (nat_le n b.place.node && nat_lt b.place.node (length p.nodes))
-      && ((is_port (node_of p b.place.node) b.place.port && eqb b.place.worker 0) && are_wide (width_at p b.place) b.updates)
+      && ((is_port (node_of p b.place.node) b.place.port && eqb b.place.worker 0) && (are_wide (width_at p b.place) b.updates && are_small b.updates))
 
   abbrev pub are_due : Dataflow → ℕ → List (Bundle T) → Bool
   are_due p n bundles = list_all (is_due p n) bundles

@@ -9,6 +9,7 @@ mod memory;
 mod obeying;
 mod out;
 mod printing;
+mod relay;
 mod running;
 mod solo;
 
