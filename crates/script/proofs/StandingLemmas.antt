@@ -26,7 +26,7 @@ use Rattle.machine.specs.declared.event.Event.{Event}
 use Rattle.machine.specs.declared.event.Event.TheVariants.{Feed, Advance, Look}
 use Rattle.machine.specs.declared.event.Fed.{Fed}
 use Rattle.machine.specs.declared.event.Open.{Open}
-use Rattle.machine.specs.Dataflows.{Dataflow, node_of}
+use Rattle.machine.specs.Dataflows.{Dataflow, IsDataflow}
 use Rattle.machine.specs.Shares.{home}
 use Rattle.machine.specs.Histories.{opening, IsInput}
 use Rattle.machine.specs.Worlds.{fed_to, open_at}
@@ -35,8 +35,8 @@ use Rattle.machine.specs.Boards.{Shown, Stands, looked, fed, advanced}
 use Rattle.grammar.specs.Commands.{is_input_of}
 use Rattle.script.specs.Engines.{EndsRun, IsAnswer}
 use Rattle.script.specs.Sessions.{Session, with_change, with_frontier, change_refusal, frontier_refusal}
-use Rattle.script.specs.Relays.{IsIdle, is_due, are_due, width_at}
 use Rattle.script.specs.Standing.{StandsAs, IsReadyUnless}
+use Rattle.script.proofs.FedLemmas.{fed_due}
 
 -- an answer, from what is known where it is accepted and where it is refused
 pub answered : (o : Option Refusal) (A S : Type 0) (r : Result (Unit {0}) Refusal) → OnOk r A → OnOk r (o ≡ None) → IfErr r (IsRefusalBy o) → OnErr r S → IsAnswer o (λ _. A) S r
@@ -111,59 +111,13 @@ input_there p input h = let parts = and_parts _ _ h in (ltb-true _ _ parts.0, pa
 
 -- ---- the worker
 
--- an input reads nothing
-no_source : (node : Node) → IsTrue (is_input node) → sources node ≡ []
-no_source (Input width) e = refl
-no_source (Map source items) e = absurd cc
-no_source (Filter source test) e = absurd cc
-no_source (Concat left right) e = absurd cc
-no_source (Negate source) e = absurd cc
-no_source (Arrange source key) e = absurd cc
-no_source (Join left right) e = absurd cc
-no_source (Reduce kind source) e = absurd cc
-no_source (Output source) e = absurd cc
-
--- the only worker has each row
-only_route : (key : List ℤ) (workers : ℕ) → workers ≡ 1 → route_of key workers ≡ 0
-only_route key workers e = ap (route_of key) e ∙ nothing_left (column_sum key)
-  where
-    nothing_left : (z : ℤ) → unsigned_abs (int_rem_euclid z (pos 1)) ≡ 0
-    nothing_left (pos a) = omega arith
-    nothing_left (negsuc a) = omega arith
-
 module _ {T : Type 0} (below : T → T → Bool) where
-  -- a change that is accepted waits where the worker finds it
-  fed_is_due : (b : Shown T) (f : Fed T) → b.dataflow.workers ≡ 1 → IsInput b.dataflow f.input → boards.feed_refusal below b f ≡ None
-      → IsTrue (is_due b.dataflow 0 (record { place = home b.dataflow f; updates = f.update ∷ [] }))
-  fed_is_due b f alone input accepted =
-      let p = b.dataflow in
-      let width = width_of p.nodes f.input in
-      let none : sources (node_of p f.input) ≡ [] = no_source (node_of p f.input) input.1 in
-      let own : width_at p (home p f) ≡ width = ap (λ (ns : List ℕ). width_of p.nodes (unwrap_or (slice_get ns 0) f.input)) none in
-      let rest = (int_eq f.update.diff (pos 0), ZeroWeight)
-          ∷ (not (nat_le (unsigned_abs f.update.diff) 2147483647), WeightTooLarge)
-          ∷ (not (is_beyond below (open_at f.input b.openings) f.update.time), TimePassed)
-          ∷ (not (nat_lt (get_or b.accepted f.input 0) 1048576), InputFull)
-          ∷ [] in
-      let fits = no_first (not (eqb (length f.update.row) width)) WrongWidth rest accepted in
-      let wide : eqb (length f.update.row) width ≡ true = not_false (eqb (length f.update.row) width) fits.0 in
-      and_from _ _
-      (and_from _ _ (nat_lowest f.input) (lt-ltb f.input (length p.nodes) input.0))
-      (and_from _ _
-        (and_from _ _ refl (ap (λ k. eqb k 0) (only_route f.update.row p.workers alone)))
-        (and_from _ _ (ap (λ w. eqb (length f.update.row) w) own ∙ wide) refl))
-    where
-      not_false : (c : Bool) → not c ≡ false → c ≡ true
-      not_false true e = refl
-      not_false false e = absurd cc
-
-  pub ready_fed : (b : Shown T) (client : ℕ) (f : Fed T) (o : Option Refusal) → IsInput b.dataflow f.input → boards.feed_refusal below b f ≡ None → IsReadyUnless o b → IsReadyUnless o (fed client f b)
-  ready_fed b client f None input accepted i = (
+  pub ready_fed : (b : Shown T) (client : ℕ) (f : Fed T) (o : Option Refusal) → IsDataflow b.dataflow → IsInput b.dataflow f.input → boards.feed_refusal below b f ≡ None → IsReadyUnless o b → IsReadyUnless o (fed client f b)
+  ready_fed b client f None p input accepted i = (
     record { alone = i.0.alone; linear = i.0.linear; held = i.0.held; hand = i.0.hand },
-    list_all-append (is_due b.dataflow 0) b.in_flight (record { place = home b.dataflow f; updates = f.update ∷ [] } ∷ [])
-        ∙ and_from _ _ i.1 (and_from _ _ (fed_is_due b f i.0.alone input accepted) refl),
+    fed_due below b client f accepted input p i.0.alone i.1,
   )
-  ready_fed b client f (Some r) input accepted i = i
+  ready_fed b client f (Some r) p input accepted i = i
 
   pub ready_looked : (b : Shown T) (actor : ℕ) (o : Option Refusal) → IsReadyUnless o b → IsReadyUnless o (looked actor b)
   ready_looked b actor None i = (record { alone = i.0.alone; linear = i.0.linear; held = i.0.held; hand = i.0.hand }, i.1)
@@ -174,10 +128,10 @@ module _ {T : Type 0} (below : T → T → Bool) where
   ready_advanced b client i ts (Some r) ready = ready
 
   -- so it is after whatever came of a change
-  pub ready_after_change : (b c : Shown T) (client : ℕ) (f : Fed T) (o : Option Refusal) (r : Result (Unit {0}) Refusal) → IsInput b.dataflow f.input
+  pub ready_after_change : (b c : Shown T) (client : ℕ) (f : Fed T) (o : Option Refusal) (r : Result (Unit {0}) Refusal) → IsDataflow b.dataflow → IsInput b.dataflow f.input
       → OnOk r (c ≡ fed client f b) → OnOk r (boards.feed_refusal below b f ≡ None) → OnErr r (c ≡ looked client b) → IsReadyUnless o b → IsReadyUnless o c
-  ready_after_change b c client f o (Ok x) input done accepted looks ready = subst (IsReadyUnless o) (sym done) (ready_fed b client f o input accepted ready)
-  ready_after_change b c client f o (Err r) input done accepted looks ready = subst (IsReadyUnless o) (sym looks) (ready_looked b client o ready)
+  ready_after_change b c client f o (Ok x) p input done accepted looks ready = subst (IsReadyUnless o) (sym done) (ready_fed b client f o p input accepted ready)
+  ready_after_change b c client f o (Err r) p input done accepted looks ready = subst (IsReadyUnless o) (sym looks) (ready_looked b client o ready)
 
   pub ready_after_frontier : (b c : Shown T) (client i : ℕ) (ts : List T) (o : Option Refusal) (r : Result (Unit {0}) Refusal)
       → OnOk r (c ≡ advanced client i ts b) → OnErr r (c ≡ looked client b) → IsReadyUnless o b → IsReadyUnless o c

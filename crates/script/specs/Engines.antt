@@ -17,6 +17,11 @@ abbrev pub IsAnswer : {X : Type 0} → Option Refusal → (X → Type 0) → Typ
 IsAnswer refusal Accepted Stays (Ok x) = (refusal ≡ None) × Accepted x
 IsAnswer refusal Accepted Stays (Err r) = ((refusal ≡ Some r) × Stays) ⊎ EndsRun r
 
+-- why a run may end early: the output failed, or the run was refused with one of these numbers
+abbrev pub IsRunEnd : RunFault → Type 0
+IsRunEnd (fault.Refused code) = (code ≡ 1) ⊎ (code ≡ 10)
+IsRunEnd fault.Write = Unit {0}
+
 -- how many calls of the output failed where a run ended so
 abbrev pub failures : RunFault → ℕ
 failures (fault.Refused code) = 0

@@ -17,3 +17,4 @@ pub use fault::RunFault;
 pub use laws::the_bag_of_entries;
 pub use memory::MemoryOut;
 pub use out::{Out, OutFault};
+pub use running::run_script;

@@ -3,7 +3,7 @@ ghost use Rattle.std.specs.Prelude.{◌≡◌, ◌++◌, true, false, IfErr, IfO
 ghost use Rattle.update.specs.Refusals.{code_of};
 ghost use Rattle.grammar.specs.Commands.{IsAbout};
 ghost use Rattle.grammar.specs.Told.{Told};
-ghost use Rattle.script.specs.Engines.{EndsRun, IsAnswer, failures, is_reading};
+ghost use Rattle.script.specs.Engines.{EndsRun, IsAnswer, IsRunEnd, failures, is_reading};
 ghost use Rattle.script.specs.Outs.{Wrote, Broke};
 ghost use Rattle.script.specs.Printing.{refused_text};
 ghost use Rattle.script.specs.Text.{Sitting, refusal_of, accepting, after, piece};
@@ -72,6 +72,7 @@ fn hand_over<E: Engine>(alloc: Global, engine: &mut E, command: &Command) -> Res
 fn print_refusal(gathered: &mut Gathered, line: u64, refusal: Refusal) -> Result<(), RunFault>
     ensures printed { OnOk result ((gathered.new ≡ gathered.old ++ refused_text line refusal) × (EndsRun refusal → ⊥)) }
     ensures ends { IfErr result (λ fault. failures fault ≡ 0) }
+    ensures known { IfErr result IsRunEnd }
 {
     let refusal = settled(refusal)?;
     gathered.print_refused(line, refusal)?;
@@ -91,6 +92,7 @@ fn tell<E: Engine>(
     ensures ran { (t : Told) (s : Sitting) → t.plan ≡ E.plan engine.old → E.stands engine.old s
         → OnOk result (E.stands engine.new (after t.plan s line.now.command) × (gathered.new ≡ gathered.old ++ piece t s line.now)) }
     ensures ends { IfErr result (λ fault. failures fault ≡ 0) }
+    ensures known { IfErr result IsRunEnd }
 {
     match hand_over(alloc, engine, &line.command) {
         Ok(()) => Ok(()),
@@ -115,6 +117,7 @@ fn ask<E: Engine, W: Out>(
         → OnOk result (E.stands engine.new (after script.now.plan s line.now.command) × Wrote W.took out.old gathered.old (piece script.now s line.now) out.new gathered.new) }
     ensures broke { (s : Sitting) → E.stands engine.old s
         → IfErr result (λ fault. Broke W.took out.old gathered.old (piece script.now s line.now) (failures fault) out.new) }
+    ensures known { IfErr result IsRunEnd }
 {
     let Command::Read { view, time } = &line.command else {
         unreachable!()
@@ -141,6 +144,7 @@ pub(crate) fn obey<E: Engine, W: Out>(
         → OnOk result (E.stands engine.new (after script.now.plan s line.now.command) × Wrote W.took out.old gathered.old (piece script.now s line.now) out.new gathered.new) }
     ensures broke { (s : Sitting) → E.stands engine.old s
         → IfErr result (λ fault. Broke W.took out.old gathered.old (piece script.now s line.now) (failures fault) out.new) }
+    ensures known { IfErr result IsRunEnd }
 {
     if is_reading(&line.command) {
         return ask(alloc, engine, script, line, gathered, out);

@@ -1,7 +1,7 @@
 //! The rows of a read, printed one by one: each into the waiting text, which goes on to the output in large pieces.
 ghost use Rattle.std.specs.Prelude.{◌<◌, ℕ, List, [], IfErr, OnErr, OnOk, IsSomeAnd, length, slice_get};
 ghost use Rattle.update.specs.Text.{entry_text};
-ghost use Rattle.script.specs.Engines.{failures};
+ghost use Rattle.script.specs.Engines.{IsRunEnd, failures};
 ghost use Rattle.script.specs.Outs.{Wrote, Broke};
 ghost use Rattle.script.specs.Printing.{rows_text};
 
@@ -21,6 +21,7 @@ fn print_entry<W: Out>(
 ) -> Result<(), RunFault>
     ensures wrote { OnOk result (Wrote W.took out.old gathered.old (entry_text (record { row = row.now; count = count })) out.new gathered.new) }
     ensures broke { IfErr result (λ fault. Broke W.took out.old gathered.old (entry_text (record { row = row.now; count = count })) (failures fault) out.new) }
+    ensures known { IfErr result IsRunEnd }
 {
     gathered.print_row(count, row)?;
     gathered.pass_on(out)?;
@@ -37,6 +38,7 @@ pub(crate) fn print_rows<W: Out>(
 ) -> Result<(), RunFault>
     ensures wrote { OnOk result (Wrote W.took out.old gathered.old (rows_text view.now time rows.now) out.new gathered.new) }
     ensures broke { IfErr result (λ fault. Broke W.took out.old gathered.old (rows_text view.now time rows.now) (failures fault) out.new) }
+    ensures known { IfErr result IsRunEnd }
 {
     gathered.print_read(view, time, rows.len())?;
     for i in 0..rows.len() {

@@ -8,7 +8,7 @@ use Rattle.script.specs.Engines.{IsAnswer}
 use Rattle.script.specs.Sessions.{with_change, change_refusal}
 use Rattle.script.specs.Standing.{StandsAs}
 use Rattle.script.specs.Text.{at_or_below}
-use Rattle.script.proofs.StandingLemmas.{change_answered, input_there}
+use Rattle.script.proofs.StandingLemmas.{change_answered, input_there, ready_after_change}
 use Rattle.script.proofs.solo.Solo.feed.Goals as goal
 
 pub returns-clause-answered : goal.returns-clause-answered
@@ -22,3 +22,11 @@ returns-clause-answered c s =
     c.self.view_is
     (change_answered at_or_below (make_pair 0 0) c.self.inside.board new 0 f s c.feed.result (input_there c.self.inside.board.dataflow c.args.input there).0
     c.feed.ensures.fed c.feed.ensures.accepted c.feed.ensures.refused c.feed.ensures.unchanged c.feed.ensures.stands)
+
+pub invariant_of-self : goal.invariant_of-self
+invariant_of-self c =
+    let f : Fed (Pair ℕ ℕ) = record { input = c.args.input; update = c.args.update } in
+    let there = subst (λ (b : Shown (Pair ℕ ℕ)). IsTrue (is_input_of b.dataflow.nodes c.args.input)) (sym c.self.view_is) c.requires in
+    ready_after_change at_or_below c.self.inside.board c.feed.new.self 0 f c.self.inside.ended c.feed.result
+    c.workers-workers.ensures.dataflow (input_there c.self.inside.board.dataflow c.args.input there)
+    c.feed.ensures.fed c.feed.ensures.accepted c.feed.ensures.unchanged c.self.invariant
