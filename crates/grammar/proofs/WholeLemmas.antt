@@ -8,8 +8,10 @@ use Rattle.std.proofs.lemmas.List.Elements.{All-nil, All-push, All-weaker}
 use Rattle.update.specs.declared.refusal.Refusal.TheVariants.{BadOrder}
 use Rattle.plan.specs.Nodes.{node_at}
 use Rattle.plan.specs.Ancestors.{is_input}
+use Rattle.plan.specs.Operators.{is_linear}
 use Rattle.plan.specs.Rules.{is_output}
 use Rattle.plan.specs.declared.node.Node.{Node}
+use Rattle.plan.specs.declared.node.Node.TheVariants.{Input, Map, Filter, Concat, Negate, Arrange, Join, Reduce, Output}
 use Rattle.plan.proofs.PlanLemmas.{node_before_more}
 use Rattle.grammar.specs.declared.command.Command.{Command}
 use Rattle.grammar.specs.declared.command.Command.TheVariants.{Change, Advance, Close, Read}
@@ -37,18 +39,32 @@ about_more p more (Advance input times) h = within_more is_input p more input h
 about_more p more (Close input) h = within_more is_input p more input h
 about_more p more (Read view time) h = within_more is_output p more view h
 
+-- a node whose line is spelled and kept adds up
+kept_is_linear : (names : List (List ℕ)) (name : List ℕ) (node : Node) → is_skipped (node_words names name node) ≡ false → IsTrue (is_linear node)
+kept_is_linear names name (Input width) e = refl
+kept_is_linear names name (Map source items) e = refl
+kept_is_linear names name (Filter source test) e = refl
+kept_is_linear names name (Concat left right) e = refl
+kept_is_linear names name (Negate source) e = refl
+kept_is_linear names name (Arrange source key) e = refl
+kept_is_linear names name (Join left right) e = absurd cc
+kept_is_linear names name (Reduce kind source) e = absurd cc
+kept_is_linear names name (Output source) e = refl
+
 -- what holds behind each line
 pub record Stands (k : Known) : Type 0 where
   pub named : length k.names ≡ length k.plan
+  pub linear : All (λ node. IsTrue (is_linear node)) k.plan
   pub about : All (λ line. IsAbout k.plan line.command) k.commands
   pub asked_late : k.started ≡ false → k.commands ≡ []
 
 pub nothing_stands : Stands nothing_known
-nothing_stands = record { named = refl; about = All-nil (λ (line : CommandLine). IsAbout [] line.command); asked_late = λ e. refl }
+nothing_stands = record { named = refl; linear = All-nil (λ (node : Node). IsTrue (is_linear node)); about = All-nil (λ (line : CommandLine). IsAbout [] line.command); asked_late = λ e. refl }
 
 declared_stands : (k next : Known) (words : List (List ℕ)) → Stands k → Declares k words next → Stands next
 declared_stands k next words s d = subst Stands (sym d.next_is) (record {
   named = (let a = length-append k.names (d.name ∷ []) in let b = length-append k.plan (d.node ∷ []) in let e = s.named in omega arith);
+  linear = All-push (λ (node : Node). IsTrue (is_linear node)) k.plan d.node s.linear (kept_is_linear k.names d.name d.node (ap is_skipped (sym d.words_are) ∙ d.is_kept));
   about = All-weaker (λ (line : CommandLine). IsAbout k.plan line.command) (λ line. IsAbout (k.plan ++ d.node ∷ []) line.command) (λ line h. about_more k.plan (d.node ∷ []) line.command h) k.commands s.about;
   asked_late = s.asked_late;
 })
@@ -56,6 +72,7 @@ declared_stands k next words s d = subst Stands (sym d.next_is) (record {
 asked_stands : (n : ℕ) (k next : Known) (words : List (List ℕ)) → Stands k → Asks n k words next → Stands next
 asked_stands n k next words s a = subst Stands (sym a.next_is) (record {
   named = s.named;
+  linear = s.linear;
   about = All-push (λ (line : CommandLine). IsAbout k.plan line.command) k.commands (record { line = n; command = a.command }) s.about a.is_about;
   asked_late = λ e. (let no : true ≡ false = sym a.is_late ∙ e in absurd cc);
 })
@@ -63,7 +80,7 @@ asked_stands n k next words s a = subst Stands (sym a.next_is) (record {
 pub says_stands : (n : ℕ) (k next : Known) (words : List (List ℕ)) → Stands k → Says n k words next → Stands next
 says_stands n k next words s (inl h) = subst Stands (sym h.next_is) s
 says_stands n k next words s (inr (inl h)) = declared_stands k next words s h
-says_stands n k next words s (inr (inr (inl h))) = subst Stands (sym h.next_is) (record { named = s.named; about = s.about; asked_late = λ e. absurd (no e) })
+says_stands n k next words s (inr (inr (inl h))) = subst Stands (sym h.next_is) (record { named = s.named; linear = s.linear; about = s.about; asked_late = λ e. absurd (no e) })
   where
     no : true ≡ false → ⊥
     no e = absurd cc
@@ -148,7 +165,7 @@ at_end n k t s e = by k.started refl e
 
     by : (b : Bool) → k.started ≡ b → cond b (found (told k)) (made n BadOrder) ≡ found t → Read_from k [] t
     by true started h = record {
-      whole = subst IsWhole (same h) (record { named = s.named; about = s.about });
+      whole = subst IsWhole (same h) (record { named = s.named; linear = s.linear; about = s.about });
       words = append-nil (known_words k) ∙ ap (λ b. plan_words [] k.names k.plan ++ late_words b k.names k.commands) started ∙ ap script_words (same h);
     }
     by false started h = absurd cc

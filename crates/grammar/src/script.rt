@@ -1,7 +1,8 @@
 //! A script that was read: a plan, a name for each of its nodes, and the commands in the order of their lines. What a
 //! reader of commands would else have to test is an invariant: each command names an input of the plan, or a view.
-ghost use Rattle.std.specs.Prelude.{◌≡◌, ◌<◌, length};
+ghost use Rattle.std.specs.Prelude.{◌≡◌, ◌<◌, IsTrue, length};
 ghost use Rattle.std.specs.List.{All};
+ghost use Rattle.plan.specs.Operators.{is_linear};
 ghost use Rattle.grammar.specs.Commands.{IsAbout};
 ghost use Rattle.grammar.specs.Known.{known};
 ghost use Rattle.grammar.specs.Scripts.{told};
@@ -65,9 +66,10 @@ impl Script {
         self.commands.len() as u64
     }
 
-    /// The plan, with the nodes in the order of their lines. Takes no memory.
+    /// The plan, with the nodes in the order of their lines. None of them is a join or a reduction so far. Takes no memory.
     pub fn plan(&self) -> &Plan
-        ensures { result.now ≡ self.now.plan }
+        ensures plan { result.now ≡ self.now.plan }
+        ensures linear { All (λ node. IsTrue (is_linear node)) self.now.plan }
     {
         &self.plan
     }

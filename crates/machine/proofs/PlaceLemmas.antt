@@ -82,7 +82,7 @@ module _ {T : Type 0} where
       step false f ih jh = more (jh f)
 
   -- what is at a place of the bundles, some of it where one of them is there
-  there_some : (qs : List (Bundle T)) (b : Bundle T) → Among b qs → b.updates ≢ [] → updates_at b.place qs ≢ []
+  pub there_some : (qs : List (Bundle T)) (b : Bundle T) → Among b qs → b.updates ≢ [] → updates_at b.place qs ≢ []
   there_some [] b m h e = absurd m
   there_some (q ∷ qs) b m h e =
       ⊎_elim

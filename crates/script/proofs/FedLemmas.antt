@@ -1,0 +1,70 @@
+-- A change that is fed is due.
+use Rattle.std.proofs.Common.{◌≡◌, ℕ, zero, suc, ◌<◌, ◌≤◌, Bool, true, false, ◌&&◌, ◌||◌, eqb, nat_lt, nat_le, not, List, [], ◌∷◌, ◌++◌, length, get_or, Option, Some, None, IsTrue, unsigned_abs, sym, refl, ap, ◌∙◌, subst, arith}
+use Rattle.std.specs.List.{list_all, slice_get}
+use Rattle.std.specs.Ordering.{int_eq}
+use Rattle.std.specs.Prelude.{unwrap_or, pos}
+use Rattle.std.proofs.lemmas.Bool.{and_from, true≢false, false≢true}
+use Rattle.std.proofs.lemmas.List.Folds.{list_all-append}
+use Rattle.lattice.specs.Frontiers.{is_beyond}
+use Rattle.update.specs.declared.refusal.Refusal.TheVariants.{WrongWidth, ZeroWeight, WeightTooLarge, TimePassed, InputFull}
+use Rattle.plan.specs.Ancestors.{is_input}
+use Rattle.plan.specs.Nodes.{sources}
+use Rattle.plan.specs.Widths.{width_of}
+use Rattle.plan.specs.declared.node.Node.{Node}
+use Rattle.plan.specs.declared.node.Node.TheVariants.{Input, Map, Filter, Concat, Negate, Arrange, Join, Reduce, Output}
+use Rattle.plan.proofs.PlanLemmas.{no_first}
+use Rattle.linear.specs.Ports.{is_port}
+use Rattle.machine.specs.declared.event.Fed.{Fed}
+use Rattle.machine.specs.declared.event.Bundle.{Bundle}
+use Rattle.machine.specs.Dataflows.{Dataflow, IsDataflow, node_of, route}
+use Rattle.machine.specs.Worlds.{open_at}
+use Rattle.machine.specs.Shares.{home}
+use Rattle.machine.specs.Histories.{IsInput}
+use Rattle.machine.specs.Boards.{Shown, fed, feed_refusal}
+use Rattle.machine.proofs.ClaimLemmas.{routed}
+use Rattle.script.specs.Relays.{is_due, are_due}
+use Rattle.script.proofs.DueLemmas.{IsDue, due_from}
+
+reads_none : (node : Node) → IsTrue (is_input node) → slice_get (sources node) 0 ≡ None
+reads_none (Input width) h = refl
+reads_none (Map source items) h = absurd (false≢true h)
+reads_none (Filter source test) h = absurd (false≢true h)
+reads_none (Concat left right) h = absurd (false≢true h)
+reads_none (Negate source) h = absurd (false≢true h)
+reads_none (Arrange source key) h = absurd (false≢true h)
+reads_none (Join left right) h = absurd (false≢true h)
+reads_none (Reduce kind source) h = absurd (false≢true h)
+reads_none (Output source) h = absurd (false≢true h)
+
+passed : (b : Bool) → not b ≡ false → b ≡ true
+passed true h = refl
+passed false h = absurd (true≢false h)
+
+module _ {T : Type 0} (below : T → T → Bool) where
+  fed_one : (b : Shown T) (f : Fed T) → feed_refusal below b f ≡ None → IsInput b.dataflow f.input → IsDataflow b.dataflow → b.dataflow.workers ≡ 1
+      → IsDue b.dataflow 0 (record { place = home b.dataflow f; updates = f.update ∷ [] })
+  fed_one b f e i q alone =
+      let width = no_first (not (eqb (length f.update.row) (width_of b.dataflow.nodes f.input))) WrongWidth ((int_eq f.update.diff (pos 0), ZeroWeight)
+      ∷ (not (nat_le (unsigned_abs f.update.diff) 2147483647), WeightTooLarge) ∷ (not (is_beyond below (open_at f.input b.openings) f.update.time), TimePassed)
+      ∷ (not (nat_lt (get_or b.accepted f.input 0) 1048576), InputFull) ∷ []) e in
+      let some = no_first (int_eq f.update.diff (pos 0)) ZeroWeight ((not (nat_le (unsigned_abs f.update.diff) 2147483647), WeightTooLarge) ∷ (not (is_beyond below (open_at f.input b.openings) f.update.time), TimePassed)
+      ∷ (not (nat_lt (get_or b.accepted f.input 0) 1048576), InputFull) ∷ []) width.1 in
+      let small = no_first (not (nat_le (unsigned_abs f.update.diff) 2147483647)) WeightTooLarge ((not (is_beyond below (open_at f.input b.openings) f.update.time), TimePassed)
+      ∷ (not (nat_lt (get_or b.accepted f.input 0) 1048576), InputFull) ∷ []) some.1 in
+      let r = routed b.dataflow q f.update.row in
+      record {
+        later = omega arith;
+        within = i.0;
+        port = refl;
+        worker = omega (arith, r, alone);
+        wide = and_from (eqb (length f.update.row) (width_of b.dataflow.nodes (unwrap_or (slice_get (sources (node_of b.dataflow f.input)) 0) f.input))) true
+            (ap (λ x. eqb (length f.update.row) (width_of b.dataflow.nodes (unwrap_or x f.input))) (reads_none (node_of b.dataflow f.input) i.1) ∙ passed (eqb (length f.update.row) (width_of b.dataflow.nodes f.input)) width.0) refl;
+        small = and_from (nat_le (unsigned_abs f.update.diff) 2147483647) true (passed (nat_le (unsigned_abs f.update.diff) 2147483647) small.0) refl;
+      }
+
+  pub fed_due : (b : Shown T) (client : ℕ) (f : Fed T) → feed_refusal below b f ≡ None → IsInput b.dataflow f.input → IsDataflow b.dataflow → b.dataflow.workers ≡ 1
+      → IsTrue (are_due b.dataflow 0 b.in_flight) → IsTrue (are_due b.dataflow 0 (fed client f b).in_flight)
+  fed_due b client f e i q alone due =
+      list_all-append (is_due b.dataflow 0) b.in_flight (record { place = home b.dataflow f; updates = f.update ∷ [] } ∷ [])
+      ∙ and_from (are_due b.dataflow 0 b.in_flight) (are_due b.dataflow 0 (record { place = home b.dataflow f; updates = f.update ∷ [] } ∷ [])) due
+      (and_from (is_due b.dataflow 0 (record { place = home b.dataflow f; updates = f.update ∷ [] })) true (due_from b.dataflow 0 (record { place = home b.dataflow f; updates = f.update ∷ [] }) (fed_one b f e i q alone)) refl)

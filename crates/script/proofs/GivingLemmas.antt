@@ -1,0 +1,186 @@
+-- What a linear node makes of a bundle may be given, where nothing was held before.
+use Rattle.std.proofs.Common.{◌≡◌, ℕ, zero, suc, ◌+◌, ◌≤◌, Bool, true, false, cond, ◌&&◌, ◌||◌, eqb, nat_lt, not, List, [], ◌∷◌, ◌++◌, length, Some, IsTrue, sym, refl, ap, ◌∙◌, subst, arith, ⊎_elim}
+use Rattle.std.specs.List.{list_all}
+use mathlib.Core.Path.{fun_ext}
+use Rattle.std.proofs.lemmas.Bool.{and_from, eqb-true, eqb-false, eq-eqb, ne_eqb, true≢false}
+use Rattle.std.proofs.lemmas.Bool.Decides.{nat_tests}
+use Rattle.std.proofs.lemmas.List.{append-nil}
+use Rattle.std.proofs.lemmas.List.Folds.{list_all-map}
+use Rattle.lattice.specs.Order.{PartialOrderLaws}
+use Rattle.lattice.specs.Frontiers.{is_beyond, all_beyond}
+use Rattle.antichain.proofs.Lists.{Among, all_from}
+use Rattle.antichain.proofs.InsertionLemmas.{least_beyond}
+use Rattle.update.specs.Bags.{Alike, count_of}
+use Rattle.update.specs.Updates.{as_of}
+use Rattle.update.specs.declared.change.Update.{Update}
+use Rattle.update.proofs.ConsolidatedLemmas.{weight, weight_is}
+use Rattle.plan.specs.Changes.{has_passed}
+use Rattle.plan.specs.Nodes.{key_width}
+use Rattle.plan.specs.Operators.{is_linear}
+use Rattle.plan.specs.Weights.{load}
+use Rattle.plan.specs.declared.node.Node.{Node}
+use Rattle.plan.specs.declared.node.Node.TheVariants.{Input, Map, Filter, Concat, Negate, Arrange, Join, Reduce, Output}
+use Rattle.linear.specs.Applied.{applied}
+use Rattle.linear.specs.Ports.{is_port, more_at}
+use Rattle.linear.proofs.SumLemmas.{applied_goes_on}
+use Rattle.linear.proofs.SizeLemmas.{size_applied, times_applied}
+use Rattle.machine.specs.declared.event.Place.{Place}
+use Rattle.machine.specs.declared.event.Bundle.{Bundle}
+use Rattle.machine.specs.declared.event.Emission.{Emission}
+use Rattle.machine.specs.declared.event.Event.{Event}
+use Rattle.machine.specs.declared.event.Event.TheVariants.{Take}
+use Rattle.machine.specs.Dataflows.{Dataflow, IsDataflow, node_of}
+use Rattle.machine.specs.Worlds.{World, place, same_place, times, updates_at, emitted_by, held_at}
+use Rattle.machine.specs.Shares.{share}
+use Rattle.machine.specs.Outstanding.{stamp}
+use Rattle.machine.specs.NodeLaws.{is_reduction, received_at, NodeLaw}
+use Rattle.machine.specs.Histories.{holding, gave, after, IsTake, IsGive, world, IsLegal}
+use Rattle.machine.proofs.KeptLemmas.{held_marked, kept_world}
+use Rattle.machine.proofs.SettledLemmas.{to_weight, from_weight, loaded_world}
+use Rattle.machine.proofs.SizeLemmas.{size-append}
+
+not_reduction : (node : Node) → IsTrue (is_linear node) → is_reduction node ≡ false
+not_reduction (Input width) l = refl
+not_reduction (Map source items) l = refl
+not_reduction (Filter source test) l = refl
+not_reduction (Concat left right) l = refl
+not_reduction (Negate source) l = refl
+not_reduction (Arrange source key) l = refl
+not_reduction (Join left right) l = absurd (true≢false (sym l))
+not_reduction (Reduce kind source) l = absurd (true≢false (sym l))
+not_reduction (Output source) l = refl
+
+-- so much more at a port
+module _ (x : ℕ) (f g : ℕ → ℕ) where
+  abbrev IsMore : ℕ → Type 0
+  IsMore port = (i : ℕ) → g i ≡ cond (eqb i port) (x + f i) (f i)
+
+  no_source : (port : ℕ) → IsTrue (eqb port 0 || nat_lt port 0) → IsMore port → x + f 0 ≤ g 0
+  no_source zero h m = let e = m 0 in omega (arith, e)
+  no_source (suc port) h m = absurd (grind (arith, nat_tests))
+
+  one_source : (port : ℕ) → IsTrue (eqb port 0 || nat_lt port 1) → IsMore port → x + f 0 ≤ g 0
+  one_source zero h m = let e = m 0 in omega (arith, e)
+  one_source (suc port) h m = absurd (grind (arith, nat_tests))
+
+  two_sources : (port : ℕ) → IsTrue (eqb port 0 || nat_lt port 2) → IsMore port → x + (f 0 + f 1) ≤ g 0 + g 1
+  two_sources zero h m = let e = m 0 in let d = m 1 in omega (arith, e, d)
+  two_sources (suc zero) h m = let e = m 0 in let d = m 1 in omega (arith, e, d)
+  two_sources (suc (suc port)) h m = absurd (grind (arith, nat_tests))
+
+  -- is so much more load
+  load_more : (node : Node) → IsTrue (is_linear node) → (port : ℕ) → IsTrue (is_port node port) → IsMore port → x + load node 0 f ≤ load node 0 g
+  load_more (Input width) l port h m = no_source port h m
+  load_more (Map source items) l port h m = one_source port h m
+  load_more (Filter source test) l port h m = one_source port h m
+  load_more (Concat left right) l port h m = two_sources port h m
+  load_more (Negate source) l port h m = one_source port h m
+  load_more (Arrange source key) l port h m = one_source port h m
+  load_more (Join left right) l port h m = absurd (true≢false (sym l))
+  load_more (Reduce kind source) l port h m = absurd (true≢false (sym l))
+  load_more (Output source) l port h m = one_source port h m
+
+module _ {T : Type 0} (below : T → T → Bool) (o : PartialOrderLaws below) where
+  -- each of the times is beyond the least of them
+  own_time : (us : List (Update T)) (u : Update T) → Among u us → is_beyond below (times us) u.time ≡ true
+  own_time [] u m = absurd m
+  own_time (v ∷ us) u m =
+      ⊎_elim
+      (λ e. subst (λ z. (below v.time z.time || is_beyond below (times us) z.time) ≡ true) e (ap (λ b. b || is_beyond below (times us) v.time) (o.reflexive v.time)))
+      (λ n. later (below v.time u.time) (own_time us u n))
+      m
+    where
+      later : (b : Bool) → is_beyond below (times us) u.time ≡ true → (b || is_beyond below (times us) u.time) ≡ true
+      later true e = refl
+      later false e = e
+
+  beyond_stamp : (us : List (Update T)) → IsTrue (list_all (λ u. is_beyond below (stamp below us) u.time) us)
+  beyond_stamp us = all_from (λ u. is_beyond below (stamp below us) u.time) us (λ u m. least_beyond o (times us) u.time ∙ own_time us u m)
+
+  module _ (minimum : T) (p : Dataflow) (q : IsDataflow p) (h : List (Event T)) (legal : IsLegal below minimum p h) (quiet : (world below minimum p h).held ≡ [])
+      (site : Place) (us : List (Update T)) (take : IsTake below p (world below minimum p h) site 0 us)
+      (linear : IsTrue (is_linear (node_of p site.node))) (port : IsTrue (is_port (node_of p site.node) site.port)) where
+    abbrev w : World T
+    w = world below minimum p h
+
+    abbrev node : Node
+    node = node_of p site.node
+
+    abbrev out : List (Update T)
+    out = applied node us
+
+    abbrev emission : Emission T
+    emission = record { node = site.node; worker = site.worker; updates = out }
+
+    abbrev v : World T
+    v = after below p w (Take site 0 us)
+
+    -- what was received at a port before
+    abbrev before : ℕ → List (Update T)
+    before i = received_at w site.node site.worker i
+
+    marked : (eqb site.node site.node && eqb site.worker site.worker) ≡ true
+    marked = and_from (eqb site.node site.node) (eqb site.worker site.worker) (eq-eqb site.node site.node refl) (eq-eqb site.worker site.worker refl)
+
+    held_here : held_at site.node site.worker v.held ≡ stamp below us
+    held_here =
+        ap (λ z. held_at site.node site.worker (holding site.node site.worker (stamp below us) ++ z)) quiet
+        ∙ (ap (held_at site.node site.worker) (append-nil (holding site.node site.worker (stamp below us)))
+        ∙ held_marked site.node site.worker site.node site.worker (stamp below us) marked)
+
+    onward : IsTrue (all_beyond below (held_at site.node site.worker v.held) (times out ++ []))
+    onward =
+        ap (λ ts. all_beyond below (held_at site.node site.worker v.held) ts) (append-nil (times out))
+        ∙ (ap (λ f. all_beyond below f (times out)) held_here
+        ∙ (list_all-map (λ t. is_beyond below (stamp below us) t) (λ (u : Update T). u.time) out
+        ∙ times_applied node (is_beyond below (stamp below us)) us (beyond_stamp us)))
+
+    emitted_is : emitted_by site.node site.worker (emission ∷ w.emitted) ≡ out ++ emitted_by site.node site.worker w.emitted
+    emitted_is = ap (λ b. cond b out [] ++ emitted_by site.node site.worker w.emitted) marked
+
+    received_is : (i : ℕ) → cond (same_place site (place site.node i site.worker)) us [] ++ before i ≡ more_at site.port us before i
+    received_is i = step (eqb i site.port) refl
+      where
+        step : (b : Bool) → eqb i site.port ≡ b → cond (same_place site (place site.node i site.worker)) us [] ++ before i ≡ cond b (us ++ before i) (before i)
+        step true e =
+            ap (λ b. cond b us [] ++ before i)
+            (and_from (eqb site.node site.node) (eqb site.port i && eqb site.worker site.worker) (eq-eqb site.node site.node refl)
+            (and_from (eqb site.port i) (eqb site.worker site.worker) (eq-eqb site.port i (sym (eqb-true i site.port e))) (eq-eqb site.worker site.worker refl)))
+        step false e = ap (λ b. cond b us [] ++ before i) (other (eqb site.node site.node) (eqb site.port i) (eqb site.worker site.worker) (ne_eqb site.port i (λ d. eqb-false i site.port e (sym d))))
+          where
+            other : (a b c : Bool) → b ≡ false → (a && (b && c)) ≡ false
+            other true b c e = ap (λ z. z && c) e
+            other false b c e = refl
+
+    law : (sent : List (Bundle T)) → NodeLaw below p (gave below p v emission [] sent) site.node site.worker
+    law sent t passed row =
+        let old : Alike (as_of below t (emitted_by site.node site.worker w.emitted)) (Rattle.plan.specs.Operators.given (key_width p.nodes node) node (λ i. as_of below t (before i))) =
+        (kept_world below o p minimum h legal).law site.node site.worker t (ap (λ ms. has_passed below (held_at site.node site.worker ms) t) quiet) in
+        ap (λ es. count_of (as_of below t es) row) emitted_is
+        ∙ (applied_goes_on below t (key_width p.nodes node) node linear site.port port before (emitted_by site.node site.worker w.emitted) us old row
+        ∙ ap (λ (f : ℕ → List (Update T)). count_of (Rattle.plan.specs.Operators.given (key_width p.nodes node) node (λ i. as_of below t (f i))) row) (sym (fun_ext received_is)))
+
+    within : (sent : List (Bundle T)) → weight (emitted_by site.node site.worker (emission ∷ w.emitted)) ≤ load node 0 (λ i. weight (received_at (gave below p v emission [] sent) site.node site.worker i))
+    within sent =
+        let old = to_weight below p w site.node site.worker (((loaded_world below o p q minimum h legal).rule site.node site.worker).within (not_reduction node linear)) in
+        let e = ap weight emitted_is ∙ size-append out (emitted_by site.node site.worker w.emitted) in
+        let small = size_applied node us in
+        let a = weight_is out in
+        let b = weight_is us in
+        let more = load_more (weight us) (λ i. weight (before i)) (λ i. weight (received_at (gave below p v emission [] sent) site.node site.worker i)) node linear site.port port (λ i. ap weight (received_is i) ∙ grown i (eqb i site.port)) in
+        omega (arith, old, e, small, a, b, more)
+      where
+        grown : (i : ℕ) (b : Bool) → weight (cond b (us ++ before i) (before i)) ≡ cond b (weight us + weight (before i)) (weight (before i))
+        grown i true = size-append us (before i)
+        grown i false = refl
+
+    pub may_give : (sent : List (Bundle T)) → ((other : Place) → updates_at other sent ≡ share p other emission) → IsTrue (list_all (λ b. not (eqb (length b.updates) 0)) sent) → IsGive below p v emission [] sent
+    may_give sent whole filled = record {
+      worker = take.worker;
+      in_hand = ap (λ b. cond b (Some site.node) (w.hand site.worker)) (eq-eqb site.worker site.worker refl);
+      onward = onward;
+      law = law sent;
+      load = record { within = λ e. from_weight below p (gave below p v emission [] sent) site.node site.worker (within sent); settled = λ e. absurd (true≢false (sym e ∙ not_reduction node linear)) };
+      whole = whole;
+      filled = filled;
+    }

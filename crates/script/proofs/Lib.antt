@@ -1,0 +1,11 @@
+pub mod BagLemmas
+pub mod OutLemmas
+pub mod PrintingLemmas
+pub mod TextLemmas
+pub mod GivingLemmas
+pub mod SmallLemmas
+pub mod DueLemmas
+pub mod RelayLemmas
+pub mod FedLemmas
+pub mod StandingLemmas
+pub mod ReadingLemmas

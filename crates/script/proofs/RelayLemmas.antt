@@ -1,0 +1,225 @@
+-- One piece of a relay after another: the events that lie between, and what is then on the board.
+use Rattle.std.proofs.Common.{◌≡◌, ℕ, suc, ◌<◌, Bool, true, cond, eqb, not, List, [], ◌∷◌, ◌++◌, length, get_or, set, Option, Some, None, IsTrue, sym, refl, ap, ◌∙◌, subst, arith}
+use Rattle.std.specs.List.{list_all, filter, slice_get}
+use Rattle.std.specs.Result.{IsOk, IsErr, IfOk, OnOk, OnErr}
+use Rattle.std.specs.Prelude.{Result, Ok, Err}
+use Rattle.std.proofs.lemmas.Bool.{and_from, eq-eqb}
+use Rattle.std.proofs.lemmas.List.{append_assoc}
+use Rattle.lattice.specs.Order.{PartialOrderLaws}
+use Rattle.lattice.specs.Frontiers.{is_beyond}
+use Rattle.update.specs.declared.change.Update.{Update}
+use Rattle.update.specs.declared.refusal.Refusal.{Refusal}
+use Rattle.linear.specs.Applied.{applied, Overflows}
+use Rattle.linear.specs.Widths.{takes_rows}
+use Rattle.plan.specs.Operators.{is_linear}
+use Rattle.machine.specs.declared.event.Place.{Place}
+use Rattle.machine.specs.declared.event.Bundle.{Bundle}
+use Rattle.machine.specs.declared.event.Held.{Held}
+use Rattle.machine.specs.declared.event.Emission.{Emission}
+use Rattle.machine.specs.declared.event.Event.{Event}
+use Rattle.machine.specs.declared.event.Event.TheVariants.{Take}
+use Rattle.machine.specs.Dataflows.{Dataflow, IsDataflow, node_of}
+use Rattle.machine.specs.Worlds.{World, queue}
+use Rattle.machine.specs.Outstanding.{stamp, input_frontier}
+use Rattle.machine.specs.Readings.{IsQuiet}
+use Rattle.machine.specs.Histories.{holding, is_held_by, without, world, IsGive}
+use Rattle.machine.specs.Boards.{Shown, Stands, looked, taken, given}
+use Rattle.machine.proofs.BoardLemmas.{stands_looked}
+use Rattle.script.specs.Relays.{are_due, waits_at, IsIdle, IsSameOfClients, IsCut, GoesOnFrom, GoesOn}
+use Rattle.script.proofs.DueLemmas.{IsDue, waiting_due, widened, fitting, sent_due, one_less, no_more_wait, piece_due}
+use Rattle.script.proofs.GivingLemmas.{may_give}
+use Rattle.script.proofs.SmallLemmas.{small_applied, no_overflow}
+
+-- what is not some is none
+pub none_from : {A : Type 0} (r : Option A) → ((x : A) → r ≡ Some x → ⊥) → r ≡ None
+none_from (Some x) d = absurd (d x refl)
+none_from None d = refl
+
+-- what is no error is a value
+pub value_from : {A E : Type 0} (r : Result A E) → (IsErr r → ⊥) → IsOk r
+value_from (Ok x) d = refl
+value_from (Err e) d = absurd (d refl)
+
+module _ {T : Type 0} where
+  same_refl : (w : World T) → IsSameOfClients w w
+  same_refl w = record { fed = refl; openings = refl; since = λ v. refl }
+
+  same_trans : (u v w : World T) → IsSameOfClients u v → IsSameOfClients v w → IsSameOfClients u w
+  same_trans u v w a b = record { fed = b.fed ∙ a.fed; openings = b.openings ∙ a.openings; since = λ x. b.since x ∙ a.since x }
+
+module _ {T : Type 0} (below : T → T → Bool) (minimum : T) where
+  pub goes_refl : (b : Shown T) → GoesOn below minimum b b
+  goes_refl b h s = ([], s, same_refl (world below minimum b.dataflow h))
+
+  -- later events on top of later ones
+  goes_further : (h : List (Event T)) (a b c : Shown T) (x : GoesOnFrom below minimum h a b) → GoesOnFrom below minimum (x.0 ++ h) b c → GoesOnFrom below minimum h a c
+  goes_further h a b c x y =
+      let e = sym (append_assoc y.0 x.0 h) in (
+        y.0 ++ x.0,
+        subst (λ k. Stands below minimum c k) e y.1,
+        same_trans (world below minimum a.dataflow h) (world below minimum b.dataflow (x.0 ++ h)) (world below minimum c.dataflow ((y.0 ++ x.0) ++ h)) x.2
+            (subst (λ k. IsSameOfClients (world below minimum b.dataflow (x.0 ++ h)) (world below minimum c.dataflow k)) e y.2),
+      )
+
+  pub goes_trans : (a b c : Shown T) → GoesOn below minimum a b → GoesOn below minimum b c → GoesOn below minimum a c
+  goes_trans a b c f g h s = let x = f h s in goes_further h a b c x (g (x.0 ++ h) x.1)
+
+  -- a look
+  goes_looked : (b c : Shown T) (actor : ℕ) → c ≡ looked actor b → GoesOn below minimum b c
+  goes_looked b c actor e h s = (
+    c.last ∷ [],
+    stands_looked below minimum b c h actor e s,
+    subst (λ (z : Shown T). IsSameOfClients (world below minimum b.dataflow h) (world below minimum z.dataflow (z.last ∷ h))) (sym e) (same_refl (world below minimum b.dataflow h)),
+  )
+
+  -- a take
+  same_taken : (b c : Shown T) (site : Place) (us : List (Update T)) → c ≡ taken below site 0 us b → (h : List (Event T)) → IsSameOfClients (world below minimum b.dataflow h) (world below minimum c.dataflow (c.last ∷ h))
+  same_taken b c site us e h = subst (λ (z : Shown T). IsSameOfClients (world below minimum b.dataflow h) (world below minimum z.dataflow (z.last ∷ h))) (sym e) (record { fed = refl; openings = refl; since = λ v. refl })
+
+  pub goes_after_take : (r : Result (List (Update T)) Refusal) (b c : Shown T) (site : Place) → IfOk r (λ us. c ≡ taken below site 0 us b) → OnErr r (c ≡ looked site.worker b)
+      → ((h : List (Event T)) → Stands below minimum b h → Stands below minimum c (c.last ∷ h)) → GoesOn below minimum b c
+  goes_after_take (Ok us) b c site e l stands = λ h s. (c.last ∷ [], stands h s, same_taken b c site us e h)
+  goes_after_take (Err r) b c site e l stands = goes_looked b c site.worker l
+
+  -- a give
+  pub goes_given : {A E : Type 0} (r : Result A E) (b c : Shown T) (g : Emission T) (ts : List T) (sent : List (Bundle T)) → OnOk r (c ≡ given g ts sent b) → OnErr r (c ≡ looked g.worker b)
+      → (h : List (Event T)) → Stands below minimum c (c.last ∷ h) → GoesOnFrom below minimum h b c
+  goes_given (Ok x) b c g ts sent e l h s = (
+    c.last ∷ [],
+    s,
+    subst (λ (z : Shown T). IsSameOfClients (world below minimum b.dataflow h) (world below minimum z.dataflow (z.last ∷ h))) (sym e) (record { fed = refl; openings = refl; since = λ v. refl }),
+  )
+  goes_given (Err x) b c g ts sent e l h s = (
+    c.last ∷ [],
+    s,
+    subst (λ (z : Shown T). IsSameOfClients (world below minimum b.dataflow h) (world below minimum z.dataflow (z.last ∷ h))) (sym l) (same_refl (world below minimum b.dataflow h)),
+  )
+
+  pub same_dataflow : {A E : Type 0} (r : Result A E) (b c : Shown T) (P : A → Shown T) → ((x : A) → (P x).dataflow ≡ b.dataflow) → (actor : ℕ) → IfOk r (λ x. c ≡ P x) → OnErr r (c ≡ looked actor b) → c.dataflow ≡ b.dataflow
+  same_dataflow (Ok x) b c P h actor e l = ap (λ (z : Shown T). z.dataflow) e ∙ h x
+  same_dataflow (Err x) b c P h actor e l = ap (λ (z : Shown T). z.dataflow) l
+
+-- what a worker holds where it gave the last of it
+none_left : {T : Type 0} (n k : ℕ) (ts : List T) (held : List (Held T)) → held ≡ [] → filter (λ m. not (is_held_by n k m)) (holding n k ts ++ held) ≡ []
+none_left n k [] held e = ap (filter (λ m. not (is_held_by n k m))) e
+none_left n k (t ∷ ts) held e =
+    ap (λ b. cond (not b) (record { node = n; worker = k; time = t } ∷ filter (λ m. not (is_held_by n k m)) (holding n k ts ++ held)) (filter (λ m. not (is_held_by n k m)) (holding n k ts ++ held)))
+    (and_from (eqb n n) (eqb k k) (eq-eqb n n refl) (eq-eqb k k refl))
+    ∙ none_left n k ts held e
+
+-- an empty hand
+emptied : (hand : List (Option ℕ)) (k : ℕ) (x : Option ℕ) → k ≡ 0 → get_or (set (set hand k x) k None) 0 None ≡ None
+emptied hand k x e = subst (λ j. get_or (set (set hand j x) j None) 0 None ≡ None) (sym e) (first hand)
+  where
+    first : (hand : List (Option ℕ)) → get_or (set (set hand 0 x) 0 None) 0 None ≡ None
+    first [] = refl
+    first (y ∷ hand) = refl
+
+-- where a worker is idle and nothing is in flight, all is quiet
+pub quiet : {T : Type 0} (below : T → T → Bool) (minimum : T) (b : Shown T) → IsIdle b → b.in_flight ≡ [] → (h : List (Event T)) → Stands below minimum b h → IsQuiet below b.dataflow (world below minimum b.dataflow h)
+quiet below minimum b idle none h s = record {
+  in_flight = sym s.in_flight ∙ none;
+  hand = λ k l. subst (λ j. (world below minimum b.dataflow h).hand j ≡ None) (first k l idle.alone) (sym (s.hand 0 (let a = idle.alone in omega (arith, a))) ∙ idle.hand);
+  held = ap (list_all (λ m. is_beyond below (input_frontier below b.dataflow (world below minimum b.dataflow h) m.node) m.time)) (sym s.held ∙ idle.held);
+}
+  where
+    first : (k : ℕ) → k < b.dataflow.workers → b.dataflow.workers ≡ 1 → 0 ≡ k
+    first k l a = omega (arith, l, a)
+
+-- After a piece
+
+module _ {T : Type 0} (below : T → T → Bool) (o : PartialOrderLaws below) (minimum : T) (b : Shown T) (q : IsDataflow b.dataflow) (idle : IsIdle b) (site : Place) (us : List (Update T))
+    (worker : site.worker ≡ 0) (due : are_due b.dataflow site.node b.in_flight ≡ true) (waits : slice_get (queue site b.in_flight) 0 ≡ Some us) where
+  abbrev p : Dataflow
+  p = b.dataflow
+
+  abbrev emission : Emission T
+  emission = record { node = site.node; worker = site.worker; updates = applied (node_of p site.node) us }
+
+  piece : IsDue p site.node (record { place = site; updates = us })
+  piece = waiting_due p site.node site us b.in_flight due waits
+
+  pub within : site.node < length p.nodes
+  within = piece.within
+
+  pub takes : IsTrue (takes_rows (node_of p site.node) us)
+  takes = fitting p q site us piece.port piece.wide
+
+  pub fits : Overflows (node_of p site.node) us → ⊥
+  fits = no_overflow (node_of p site.node) us piece.small
+
+  pub linear : IsTrue (is_linear (node_of p site.node))
+  linear = idle.linear site.node piece.within
+
+  pub gives : (h : List (Event T)) → Stands below minimum b h → Stands below minimum (taken below site 0 us b) (Take site 0 us ∷ h) → (sent : List (Bundle T)) → IsCut p emission sent
+      → IsGive below p (world below minimum p (Take site 0 us ∷ h)) emission [] sent
+  gives h s after sent cut = may_give below o minimum p q h s.legal (sym s.held ∙ idle.held) site us after.legal.0 linear piece.port sent cut.whole cut.filled
+
+  module _ (sent : List (Bundle T)) (cut : IsCut p emission sent) where
+    abbrev done : Shown T
+    done = given emission [] sent (taken below site 0 us b)
+
+    later_due : are_due p (suc site.node) sent ≡ true
+    later_due = sent_due p q idle.alone emission (let a = idle.alone in omega (arith, worker, a)) (widened p q site us piece.port piece.wide linear) (small_applied (node_of p site.node) us piece.small) sent cut.whole cut.filled
+
+    pub piece_idle : IsIdle done
+    piece_idle = record {
+      alone = idle.alone;
+      linear = idle.linear;
+      held = none_left site.node site.worker (stamp below us) b.held idle.held;
+      hand = emptied b.hand site.worker (Some site.node) worker;
+    }
+
+    pub done_due : are_due p site.node done.in_flight ≡ true
+    done_due = piece_due p site b.in_flight sent due later_due
+
+    pub done_fewer : suc (waits_at site.node done.in_flight) ≡ waits_at site.node b.in_flight
+    done_fewer = ap suc (no_more_wait p site.node (without site b.in_flight 0) sent later_due) ∙ one_less site us b.in_flight waits
+
+-- Where a worker took a bundle and applied the node to it, and where it then gave what came out
+
+module _ {T : Type 0} (below : T → T → Bool) (o : PartialOrderLaws below) (minimum : T) (b : Shown T) (q : IsDataflow b.dataflow) (idle : IsIdle b) (site : Place)
+    (worker : site.worker ≡ 0) (due : are_due b.dataflow site.node b.in_flight ≡ true) where
+  -- what it computed
+  abbrev IsComputed : Shown T → Emission T → Type 0
+  IsComputed c e = (us : List (Update T)) × (slice_get (queue site b.in_flight) 0 ≡ Some us) × (c ≡ taken below site 0 us b)
+      × (e ≡ record { node = site.node; worker = site.worker; updates = applied (node_of b.dataflow site.node) us })
+
+  -- and what it gave
+  abbrev IsHandedOn : Shown T → Emission T → Shown T → Type 0
+  IsHandedOn c e d = (sent : List (Bundle T)) × IsCut c.dataflow e sent × (d ≡ given e [] sent c)
+
+  pub computed_within : (c : Shown T) (e : Emission T) → IsComputed c e → e.node < length c.dataflow.nodes
+  computed_within c e x =
+      subst (λ (z : Shown T). e.node < length z.dataflow.nodes) (sym x.2)
+      (subst (λ (z : Emission T). z.node < length b.dataflow.nodes) (sym x.3) (within below o minimum b q idle site x.0 worker due x.1))
+
+  pub computed_goes : (c d : Shown T) (e : Emission T) → IsComputed c e → GoesOn below minimum b c → ((h : List (Event T)) → Stands below minimum b h → Stands below minimum c (c.last ∷ h))
+      → ((h : List (Event T)) → Stands below minimum c h → ((sent : List (Bundle T)) → IsCut c.dataflow e sent → IsGive below c.dataflow (world below minimum c.dataflow h) e [] sent) → GoesOnFrom below minimum h c d)
+      → GoesOn below minimum b d
+  computed_goes c d e x goes stands gave h s =
+      let after = stands h s in
+      goes_further below minimum h b c d (c.last ∷ [], after, same_taken below minimum b c site x.0 x.2 h) (gave (c.last ∷ h) after (given_now after))
+    where
+      given_now : Stands below minimum c (c.last ∷ h) → (sent : List (Bundle T)) → IsCut c.dataflow e sent → IsGive below c.dataflow (world below minimum c.dataflow (c.last ∷ h)) e [] sent
+      given_now after =
+          subst (λ (z : Shown T). Stands below minimum z (z.last ∷ h) → (sent : List (Bundle T)) → IsCut z.dataflow e sent → IsGive below z.dataflow (world below minimum z.dataflow (z.last ∷ h)) e [] sent) (sym x.2)
+          (subst (λ (y : Emission T). Stands below minimum (taken below site 0 x.0 b) (Take site 0 x.0 ∷ h) → (sent : List (Bundle T)) → IsCut b.dataflow y sent → IsGive below b.dataflow (world below minimum b.dataflow (Take site 0 x.0 ∷ h)) y [] sent) (sym x.3)
+          (gives below o minimum b q idle site x.0 worker due x.1 h s)) after
+
+  -- the board after it
+  after_both : (c d : Shown T) (e : Emission T) → (x : IsComputed c e) → (y : IsHandedOn c e d) → (P : Shown T → Type 0)
+      → ((sent : List (Bundle T)) → IsCut b.dataflow (emission below o minimum b q idle site x.0 worker due x.1) sent → P (given (emission below o minimum b q idle site x.0 worker due x.1) [] sent (taken below site 0 x.0 b))) → P d
+  after_both c d e x y P f =
+      subst P (sym y.2)
+      (subst (λ (z : Shown T). IsCut z.dataflow e y.0 → P (given e [] y.0 z)) (sym x.2)
+      (subst (λ (g : Emission T). IsCut b.dataflow g y.0 → P (given g [] y.0 (taken below site 0 x.0 b))) (sym x.3) (f y.0)) y.1)
+
+  pub both_idle : (c d : Shown T) (e : Emission T) → IsComputed c e → IsHandedOn c e d → IsIdle d
+  both_idle c d e x y = after_both c d e x y IsIdle (piece_idle below o minimum b q idle site x.0 worker due x.1)
+
+  pub both_due : (c d : Shown T) (e : Emission T) → IsComputed c e → IsHandedOn c e d → are_due d.dataflow site.node d.in_flight ≡ true
+  both_due c d e x y = after_both c d e x y (λ z. are_due z.dataflow site.node z.in_flight ≡ true) (done_due below o minimum b q idle site x.0 worker due x.1)
+
+  pub both_fewer : (c d : Shown T) (e : Emission T) → IsComputed c e → IsHandedOn c e d → suc (waits_at site.node d.in_flight) ≡ waits_at site.node b.in_flight
+  both_fewer c d e x y = after_both c d e x y (λ z. suc (waits_at site.node z.in_flight) ≡ waits_at site.node b.in_flight) (done_fewer below o minimum b q idle site x.0 worker due x.1)

@@ -1,0 +1,148 @@
+-- A board that stands for a session, after the events of clients.
+use Rattle.std.proofs.Common.{◌≡◌, ℕ, suc, ◌<◌, Bool, true, false, not, eqb, ltb-true, lt-ltb, nat_lt, nat_le, ℤ, pos, negsuc, unsigned_abs, arith, unwrap_or, slice_get, List, [], ◌∷◌, ◌++◌, length, get_or, replicate, Option, Some, None, Result, Ok, Err, IsTrue, refl, sym, ◌∙◌, ap, ap₂, subst, inl, inr, ◌⊎◌}
+use Rattle.std.specs.Prelude.{IfOk, IfErr, OnOk, OnErr, ◌&&◌}
+use Rattle.std.specs.List.{All, filter}
+use Rattle.std.proofs.lemmas.Bool.{and_parts, and_from}
+use Rattle.std.proofs.lemmas.Option.{unwrap_or-slice_get}
+use Rattle.plan.specs.Operators.{is_linear}
+use Rattle.plan.specs.declared.node.Node.TheVariants.{Input, Map, Filter, Concat, Negate, Arrange, Join, Reduce, Output}
+use Rattle.std.proofs.lemmas.Result.{on_ok_weaker, on_err_weaker}
+use Rattle.update.specs.declared.refusal.Refusal.{Refusal}
+use Rattle.update.specs.declared.refusal.Refusal.TheVariants.{OutOfMemory, WrongWidth, ZeroWeight, WeightTooLarge, TimePassed, InputFull}
+use Rattle.plan.specs.Rules.{IsRefusalBy, first_refusal}
+use Rattle.plan.specs.Nodes.{node_at, sources}
+use Rattle.plan.specs.Widths.{width_of}
+use Rattle.plan.proofs.PlanLemmas.{no_first}
+use Rattle.row.specs.Routing.{column_sum, route_of}
+use Rattle.std.specs.Int.{int_rem_euclid}
+use Rattle.std.specs.Ordering.{int_eq}
+use Rattle.lattice.specs.Frontiers.{is_beyond}
+use Rattle.lattice.specs.Naturals.{nat_lowest}
+use Rattle.std.proofs.lemmas.List.Folds.{list_all-append}
+use Rattle.std.proofs.lemmas.Int.{ints}
+use Rattle.plan.specs.Ancestors.{is_input}
+use Rattle.plan.specs.declared.node.Node.{Node}
+use Rattle.machine.specs.declared.event.Event.{Event}
+use Rattle.machine.specs.declared.event.Event.TheVariants.{Feed, Advance, Look}
+use Rattle.machine.specs.declared.event.Fed.{Fed}
+use Rattle.machine.specs.declared.event.Open.{Open}
+use Rattle.machine.specs.Dataflows.{Dataflow, IsDataflow}
+use Rattle.machine.specs.Shares.{home}
+use Rattle.machine.specs.Histories.{opening, IsInput}
+use Rattle.machine.specs.Worlds.{fed_to, open_at}
+use Rattle.machine.specs.Boards as boards
+use Rattle.machine.specs.Boards.{Shown, Stands, looked, fed, advanced}
+use Rattle.grammar.specs.Commands.{is_input_of}
+use Rattle.script.specs.Engines.{EndsRun, IsAnswer}
+use Rattle.script.specs.Sessions.{Session, with_change, with_frontier, change_refusal, frontier_refusal}
+use Rattle.script.specs.Standing.{StandsAs, IsReadyUnless}
+use Rattle.script.proofs.FedLemmas.{fed_due}
+
+-- an answer, from what is known where it is accepted and where it is refused
+pub answered : (o : Option Refusal) (A S : Type 0) (r : Result (Unit {0}) Refusal) → OnOk r A → OnOk r (o ≡ None) → IfErr r (IsRefusalBy o) → OnErr r S → IsAnswer o (λ _. A) S r
+answered o A S (Ok x) a n e s = (n, a)
+answered o A S (Err r) a n e s = by o e
+  where
+    by : (o : Option Refusal) → IsRefusalBy o r → ((o ≡ Some r) × S) ⊎ EndsRun r
+    by (Some x) e = inl (ap Some (sym e), s)
+    by None e = inr (inl e)
+
+module _ {T : Type 0} (below : T → T → Bool) (minimum : T) where
+  -- what each history becomes
+  abbrev pub Follows : Shown T → Shown T → Type 0
+  Follows b c = (h : List (Event T)) → Stands below minimum b h → Stands below minimum c (c.last ∷ h)
+
+  pub stands_looked : (b c : Shown T) (actor : ℕ) (s : Session T) → c ≡ looked actor b → Follows b c → StandsAs below minimum b s → StandsAs below minimum c s
+  stands_looked b c actor s e follows a =
+      subst (λ (d : Shown T). Follows b d → StandsAs below minimum d s) (sym e)
+      (λ follows. record { history = Look actor ∷ a.history; stands = follows a.history a.stands; fed = a.fed; openings = a.openings; since = a.since })
+      follows
+
+  pub stands_fed : (b c : Shown T) (client : ℕ) (f : Fed T) (s : Session T) → c ≡ fed client f b → Follows b c → StandsAs below minimum b s → StandsAs below minimum c (with_change f s)
+  stands_fed b c client f s e follows a =
+      subst (λ (d : Shown T). Follows b d → StandsAs below minimum d (with_change f s)) (sym e)
+      (λ follows. record { history = Feed client f ∷ a.history; stands = follows a.history a.stands; fed = ap (λ (fs : List (Fed T)). f ∷ fs) a.fed; openings = a.openings; since = a.since })
+      follows
+
+  pub stands_advanced : (b c : Shown T) (client i : ℕ) (ts : List T) (s : Session T) → c ≡ advanced client i ts b → Follows b c → StandsAs below minimum b s → StandsAs below minimum c (with_frontier i ts s)
+  stands_advanced b c client i ts s e follows a =
+      subst (λ (d : Shown T). Follows b d → StandsAs below minimum d (with_frontier i ts s)) (sym e)
+      (λ follows. record { history = Advance client i ts ∷ a.history; stands = follows a.history a.stands; fed = a.fed; openings = ap (λ (os : List (Open T)). opening i ts ++ filter (λ o. not (eqb o.input i)) os) a.openings; since = a.since })
+      follows
+
+  -- the board refuses what the session refuses
+  pub same_change_refusal : (b : Shown T) (s : Session T) (f : Fed T) → f.input < length b.dataflow.nodes → StandsAs below minimum b s → boards.feed_refusal below b f ≡ change_refusal below b.dataflow.nodes s f
+  same_change_refusal b s f within a = λ j. first_refusal (boards.feed_faults below b.dataflow.nodes (openings j) (taken j) f)
+    where
+      openings : b.openings ≡ s.openings
+      openings = a.stands.openings ∙ a.openings
+
+      taken : get_or b.accepted f.input 0 ≡ length (fed_to f.input s.fed)
+      taken = a.stands.accepted f.input within ∙ ap (λ (fs : List (Fed T)). length (fed_to f.input fs)) a.fed
+
+  pub same_frontier_refusal : (b : Shown T) (s : Session T) (i : ℕ) (ts : List T) → StandsAs below minimum b s → boards.advance_refusal below b i ts ≡ frontier_refusal below b.dataflow.nodes s i ts
+  same_frontier_refusal b s i ts a = ap (λ (os : List (Open T)). first_refusal (boards.advance_faults below os i ts)) (a.stands.openings ∙ a.openings)
+
+  -- a change is answered as the session does
+  pub change_answered : (b c : Shown T) (client : ℕ) (f : Fed T) (s : Session T) (r : Result (Unit {0}) Refusal) → f.input < length b.dataflow.nodes
+      → OnOk r (c ≡ fed client f b) → OnOk r (boards.feed_refusal below b f ≡ None) → IfErr r (IsRefusalBy (boards.feed_refusal below b f)) → OnErr r (c ≡ looked client b)
+      → Follows b c → StandsAs below minimum b s
+      → IsAnswer (change_refusal below b.dataflow.nodes s f) (λ _. StandsAs below minimum c (with_change f s)) (StandsAs below minimum c s) r
+  change_answered b c client f s r within done accepted refused looks follows a =
+      subst (λ (o : Option Refusal). IsAnswer o (λ _. StandsAs below minimum c (with_change f s)) (StandsAs below minimum c s) r) (same_change_refusal b s f within a)
+      (answered (boards.feed_refusal below b f) (StandsAs below minimum c (with_change f s)) (StandsAs below minimum c s) r
+      (on_ok_weaker r (λ e. stands_fed b c client f s e follows a) done) accepted refused
+      (on_err_weaker r (λ e. stands_looked b c client s e follows a) looks))
+
+  -- and so is a frontier
+  pub frontier_answered : (b c : Shown T) (client i : ℕ) (ts : List T) (s : Session T) (r : Result (Unit {0}) Refusal)
+      → OnOk r (c ≡ advanced client i ts b) → OnOk r (boards.advance_refusal below b i ts ≡ None) → IfErr r (IsRefusalBy (boards.advance_refusal below b i ts)) → OnErr r (c ≡ looked client b)
+      → Follows b c → StandsAs below minimum b s
+      → IsAnswer (frontier_refusal below b.dataflow.nodes s i ts) (λ _. StandsAs below minimum c (with_frontier i ts s)) (StandsAs below minimum c s) r
+  frontier_answered b c client i ts s r done accepted refused looks follows a =
+      subst (λ (o : Option Refusal). IsAnswer o (λ _. StandsAs below minimum c (with_frontier i ts s)) (StandsAs below minimum c s) r) (same_frontier_refusal b s i ts a)
+      (answered (boards.advance_refusal below b i ts) (StandsAs below minimum c (with_frontier i ts s)) (StandsAs below minimum c s) r
+      (on_ok_weaker r (λ e. stands_advanced b c client i ts s e follows a) done) accepted refused
+      (on_err_weaker r (λ e. stands_looked b c client s e follows a) looks))
+
+-- an input of a plan, as the board asks for it
+pub input_there : (p : Dataflow) (input : ℕ) → IsTrue (is_input_of p.nodes input) → IsInput p input
+input_there p input h = let parts = and_parts _ _ h in (ltb-true _ _ parts.0, parts.1)
+
+-- ---- the worker
+
+module _ {T : Type 0} (below : T → T → Bool) where
+  pub ready_fed : (b : Shown T) (client : ℕ) (f : Fed T) (o : Option Refusal) → IsDataflow b.dataflow → IsInput b.dataflow f.input → boards.feed_refusal below b f ≡ None → IsReadyUnless o b → IsReadyUnless o (fed client f b)
+  ready_fed b client f None p input accepted i = (
+    record { alone = i.0.alone; linear = i.0.linear; held = i.0.held; hand = i.0.hand },
+    fed_due below b client f accepted input p i.0.alone i.1,
+  )
+  ready_fed b client f (Some r) p input accepted i = i
+
+  pub ready_looked : (b : Shown T) (actor : ℕ) (o : Option Refusal) → IsReadyUnless o b → IsReadyUnless o (looked actor b)
+  ready_looked b actor None i = (record { alone = i.0.alone; linear = i.0.linear; held = i.0.held; hand = i.0.hand }, i.1)
+  ready_looked b actor (Some r) i = i
+
+  pub ready_advanced : (b : Shown T) (client i : ℕ) (ts : List T) (o : Option Refusal) → IsReadyUnless o b → IsReadyUnless o (advanced client i ts b)
+  ready_advanced b client i ts None ready = (record { alone = ready.0.alone; linear = ready.0.linear; held = ready.0.held; hand = ready.0.hand }, ready.1)
+  ready_advanced b client i ts (Some r) ready = ready
+
+  -- so it is after whatever came of a change
+  pub ready_after_change : (b c : Shown T) (client : ℕ) (f : Fed T) (o : Option Refusal) (r : Result (Unit {0}) Refusal) → IsDataflow b.dataflow → IsInput b.dataflow f.input
+      → OnOk r (c ≡ fed client f b) → OnOk r (boards.feed_refusal below b f ≡ None) → OnErr r (c ≡ looked client b) → IsReadyUnless o b → IsReadyUnless o c
+  ready_after_change b c client f o (Ok x) p input done accepted looks ready = subst (IsReadyUnless o) (sym done) (ready_fed b client f o p input accepted ready)
+  ready_after_change b c client f o (Err r) p input done accepted looks ready = subst (IsReadyUnless o) (sym looks) (ready_looked b client o ready)
+
+  pub ready_after_frontier : (b c : Shown T) (client i : ℕ) (ts : List T) (o : Option Refusal) (r : Result (Unit {0}) Refusal)
+      → OnOk r (c ≡ advanced client i ts b) → OnErr r (c ≡ looked client b) → IsReadyUnless o b → IsReadyUnless o c
+  ready_after_frontier b c client i ts o (Ok x) done looks ready = subst (IsReadyUnless o) (sym done) (ready_advanced b client i ts o ready)
+  ready_after_frontier b c client i ts o (Err r) done looks ready = subst (IsReadyUnless o) (sym looks) (ready_looked b client o ready)
+
+-- on a board on which nothing has happened the one worker is idle
+pub ready_first : {T : Type 0} (minimum : T) (nodes : List Node) (b : Shown T) → b ≡ boards.first_board minimum (record { nodes = nodes; workers = 1 }) → All (λ node. IsTrue (is_linear node)) nodes → IsReadyUnless None b
+ready_first minimum nodes b e linear = subst (IsReadyUnless None) (sym e) (record {
+  alone = refl;
+  linear = λ n h. subst (λ (node : Node). IsTrue (is_linear node)) (sym (unwrap_or-slice_get nodes n (Input 0))) (linear n (Input 0) h);
+  held = refl;
+  hand = refl;
+}, refl)

@@ -1,0 +1,43 @@
+-- What lines write and leave, one line after another.
+use Rattle.std.proofs.Common.{◌≡◌, ℕ, suc, ◌+◌, ◌<◌, List, [], ◌∷◌, ◌++◌, take, drop, length, get_or, refl, sym, ◌∙◌, ap, append_assoc, add-one, arith, take-append-drop, drop-cons}
+use Rattle.std.proofs.lemmas.List.{append-nil, take_more}
+use Rattle.plan.specs.declared.node.Node.{Node}
+use Rattle.grammar.specs.declared.command.CommandLine.{CommandLine}
+use Rattle.grammar.specs.Told.{Told}
+use Rattle.script.specs.Text.{Sitting, after, piece, after_lines, lines_text}
+
+module _ (p : List Node) where
+  after_both : (s : Sitting) (xs ys : List CommandLine) → after_lines p s (xs ++ ys) ≡ after_lines p (after_lines p s xs) ys
+  after_both s [] ys = refl
+  after_both s (x ∷ xs) ys = after_both (after p s x.command) xs ys
+
+module _ (t : Told) where
+  text_both : (s : Sitting) (xs ys : List CommandLine) → lines_text t s (xs ++ ys) ≡ lines_text t s xs ++ lines_text t (after_lines t.plan s xs) ys
+  text_both s [] ys = refl
+  text_both s (x ∷ xs) ys =
+      ap (λ text. piece t s x ++ text) (text_both (after t.plan s x.command) xs ys)
+      ∙ sym (append_assoc (piece t s x) (lines_text t (after t.plan s x.command) xs) (lines_text t (after_lines t.plan (after t.plan s x.command) xs) ys))
+
+-- the line of a number, between those before it and those behind it
+module _ (lines : List CommandLine) (i : ℕ) (line : CommandLine) (h : i < length lines) (e : line ≡ get_or lines i line) where
+  up_to : take (i + 1) lines ≡ take i lines ++ line ∷ []
+  up_to = take_more lines i line h ∙ ap (λ (x : CommandLine). take i lines ++ x ∷ []) (sym e)
+
+  all_lines : lines ≡ take i lines ++ line ∷ drop (suc i) lines
+  all_lines = sym (take-append-drop i lines) ∙ ap (λ (rest : List CommandLine). take i lines ++ rest) (drop-cons lines i line h ∙ ap (λ (x : CommandLine). x ∷ drop (suc i) lines) (sym e))
+
+  pub after_more : (p : List Node) (s : Sitting) → after p (after_lines p s (take i lines)) line.command ≡ after_lines p s (take (i + 1) lines)
+  after_more p s = sym (ap (after_lines p s) up_to ∙ after_both p s (take i lines) (line ∷ []))
+
+  module _ (t : Told) (s : Sitting) where
+    abbrev pub before : Sitting
+    before = after_lines t.plan s (take i lines)
+
+    pub text_more : lines_text t s (take i lines) ++ piece t before line ≡ lines_text t s (take (i + 1) lines)
+    text_more = sym (ap (lines_text t s) up_to ∙ text_both t s (take i lines) (line ∷ []) ∙ ap (λ text. lines_text t s (take i lines) ++ text) (append-nil (piece t before line)))
+
+    pub text_all : (lines_text t s (take i lines) ++ piece t before line) ++ lines_text t (after t.plan before line.command) (drop (suc i) lines) ≡ lines_text t s lines
+    text_all =
+        append_assoc (lines_text t s (take i lines)) (piece t before line) (lines_text t (after t.plan before line.command) (drop (suc i) lines))
+        ∙ sym (text_both t s (take i lines) (line ∷ drop (suc i) lines))
+        ∙ ap (lines_text t s) (sym all_lines)

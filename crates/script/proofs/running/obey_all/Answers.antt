@@ -1,0 +1,43 @@
+use Rattle.std.proofs.Common.{◌≡◌, suc, ◌+◌, ◌<◌, List, length, get_or, take, drop, subst, arith}
+use Rattle.std.proofs.lemmas.Result.{err_from_is_err_and}
+use Rattle.grammar.specs.declared.command.CommandLine.{CommandLine}
+use Rattle.script.specs.Text.{Sitting, after, after_lines, piece, lines_text}
+use Rattle.script.proofs.OutLemmas.{wrote_more, broke_more}
+use Rattle.script.proofs.TextLemmas.{after_more, text_more, text_all}
+use Rattle.script.proofs.running.obey_all.Goals as goal
+
+pub loop-line-preserved : goal.loop-line-preserved
+loop-line-preserved g c =
+    let t = c.args.script.now in
+    let i = c.loop-line.line-index in
+    let line = c.line-item.result in
+    let same = c.command_lines-line-items.ensures.lines in
+    let within : i < length t.commands = subst (λ (lines : List CommandLine). i < length lines) same c.loop-line-test.true in
+    let is : line ≡ get_or t.commands i line = subst (λ (lines : List CommandLine). line ≡ get_or lines i line) same c.line-item.is in
+    let before = λ (s : Sitting). after_lines t.plan s (take i t.commands) in
+    record {
+      plan = grind arith;
+      stands = λ s h. subst (g.E.Engine.stands c.obey.new.engine) (after_more t.commands i line within is t.plan s) (c.in_ok-obey.ensures.ran (before s) (c.loop-line.invariant.stands s h)).0;
+      wrote = λ s h.
+          wrote_more g.W.Out.took g.met.W.Out.in_turn c.args.out.now c.loop-line.out c.obey.new.out c.args.gathered.now
+          (lines_text t s (take i t.commands)) c.loop-line.gathered (piece t (before s) line) c.obey.new.gathered
+          (lines_text t s (take (i + 1) t.commands)) (text_more t.commands i line within is t s)
+          (c.loop-line.invariant.wrote s h) (c.in_ok-obey.ensures.ran (before s) (c.loop-line.invariant.stands s h)).1;
+    }
+
+pub returns-in_err-obey-clause-broke : goal.returns-in_err-obey-clause-broke
+returns-in_err-obey-clause-broke g c =
+    let t = c.args.script.now in
+    let i = c.loop-line.line-index in
+    let line = c.line-item.result in
+    let same = c.command_lines-line-items.ensures.lines in
+    let within : i < length t.commands = subst (λ (lines : List CommandLine). i < length lines) same c.loop-line-test.true in
+    let is : line ≡ get_or t.commands i line = subst (λ (lines : List CommandLine). line ≡ get_or lines i line) same c.line-item.is in
+    let before = λ (s : Sitting). after_lines t.plan s (take i t.commands) in
+    let p = err_from_is_err_and c.from_residual.result c.from_residual.ensures.1 in
+    λ s h. rw (p.1, p.2)
+        (broke_more g.W.Out.took g.met.W.Out.in_turn c.args.out.now c.loop-line.out c.obey.new.out c.args.gathered.now
+        (lines_text t s (take i t.commands)) c.loop-line.gathered (piece t (before s) line)
+        (lines_text t (after t.plan (before s) line.command) (drop (suc i) t.commands)) (lines_text t s t.commands) _
+        (text_all t.commands i line within is t s)
+        (c.loop-line.invariant.wrote s h) (c.in_err-obey.ensures.broke (before s) (c.loop-line.invariant.stands s h)))

@@ -1,0 +1,22 @@
+use Rattle.std.proofs.Common.{ℕ, subst}
+use Rattle.lattice.specs.Pairs.{make_pair}
+use Rattle.lattice.specs.declared.product.Pair.{Pair}
+use Rattle.machine.specs.Boards.{Shown}
+use Rattle.script.specs.Engines.{IsAnswer}
+use Rattle.script.specs.Sessions.{with_frontier, frontier_refusal}
+use Rattle.script.specs.Standing.{StandsAs}
+use Rattle.script.specs.Text.{at_or_below}
+use Rattle.script.proofs.StandingLemmas.{frontier_answered}
+use Rattle.script.proofs.solo.Solo.move_on.Goals as goal
+
+pub returns-clause-answered : goal.returns-clause-answered
+returns-clause-answered c s =
+    let i = c.args.input in
+    let ts = c.args.times in
+    let new = c.advance.new.self in
+    subst
+    (λ (b : Shown (Pair ℕ ℕ)). StandsAs at_or_below (make_pair 0 0) b s
+        → IsAnswer (frontier_refusal at_or_below b.dataflow.nodes s i ts) (λ _. StandsAs at_or_below (make_pair 0 0) new (with_frontier i ts s)) (StandsAs at_or_below (make_pair 0 0) new s) c.advance.result)
+    c.self.view_is
+    (frontier_answered at_or_below (make_pair 0 0) c.self.inside.board new 0 i ts s c.advance.result
+    c.advance.ensures.advanced c.advance.ensures.accepted c.advance.ensures.refused c.advance.ensures.unchanged c.advance.ensures.stands)

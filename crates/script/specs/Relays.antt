@@ -1,0 +1,66 @@
+-- One worker that carries bundles through a plan of linear nodes: what it finds on the board, and what it leaves.
+use Rattle.std.specs.Prelude.{◌≡◌, ℕ, ◌<◌, Bool, ◌&&◌, eqb, nat_le, nat_lt, not, List, [], ◌++◌, length, None, get_or, unwrap_or, unsigned_abs, IsTrue}
+use Rattle.std.specs.List.{filter, list_all}
+use Rattle.plan.specs.Operators.{is_linear}
+use Rattle.plan.specs.Widths.{width_of}
+use Rattle.linear.specs.Ports.{is_port}
+use Rattle.linear.specs.Widths.{are_wide}
+use Rattle.update.specs.declared.change.Update.{Update}
+use Rattle.machine.specs.declared.event.Place.{Place}
+use Rattle.machine.specs.declared.event.Bundle.{Bundle}
+use Rattle.machine.specs.declared.event.Emission.{Emission}
+use Rattle.machine.specs.declared.event.Event.{Event}
+use Rattle.machine.specs.Dataflows.{Dataflow, node_of, source_of}
+use Rattle.machine.specs.Worlds.{World, updates_at}
+use Rattle.machine.specs.Shares.{share}
+use Rattle.machine.specs.Histories.{world}
+use Rattle.machine.specs.Boards.{Shown, Stands}
+
+-- the width of the rows that come to a place: that of the node that is read there, and at an input its own
+abbrev pub width_at : Dataflow → Place → ℕ
+width_at p site = width_of p.nodes (unwrap_or (source_of p site.node site.port) site.node)
+
+module _ {T : Type 0} where
+  -- each diff is no larger than one that may be fed
+  abbrev pub are_small : List (Update T) → Bool
+  are_small us = list_all (λ u. nat_le (unsigned_abs u.diff) 2147483647) us
+
+  -- the bundle waits on the first worker, at a port of this node or of a later one; its rows are as wide as those that are
+  -- read there, and its diffs are small
+  abbrev pub is_due : Dataflow → ℕ → Bundle T → Bool
+  is_due p n b = (nat_le n b.place.node && nat_lt b.place.node (length p.nodes))
+      && ((is_port (node_of p b.place.node) b.place.port && eqb b.place.worker 0) && (are_wide (width_at p b.place) b.updates && are_small b.updates))
+
+  abbrev pub are_due : Dataflow → ℕ → List (Bundle T) → Bool
+  are_due p n bundles = list_all (is_due p n) bundles
+
+  -- how many of the bundles wait at a node
+  abbrev pub waits_at : ℕ → List (Bundle T) → ℕ
+  waits_at n bundles = length (filter (λ b. eqb b.place.node n) bundles)
+
+  -- one worker, linear nodes alone, and the worker holds nothing and has nothing in hand
+  pub record IsIdle (b : Shown T) : Type 0 where
+    pub alone : b.dataflow.workers ≡ 1
+    pub linear : (n : ℕ) → n < length b.dataflow.nodes → IsTrue (is_linear (node_of b.dataflow n))
+    pub held : b.held ≡ []
+    pub hand : get_or b.hand 0 None ≡ None
+
+  -- what clients did is as it was
+  pub record IsSameOfClients (w v : World T) : Type 0 where
+    pub fed : v.fed ≡ w.fed
+    pub openings : v.openings ≡ w.openings
+    pub since : (view : ℕ) → v.since view ≡ w.since view
+
+  -- what was given is sent whole, in bundles none of which is empty
+  pub record IsCut (p : Dataflow) (g : Emission T) (sent : List (Bundle T)) : Type 0 where
+    pub whole : (site : Place) → updates_at site sent ≡ share p site g
+    pub filled : IsTrue (list_all (λ b. not (eqb (length b.updates) 0)) sent)
+
+module _ {T : Type 0} (below : T → T → Bool) (minimum : T) where
+  -- where the one board stands for this history, the other stands for it with later events, none of them of a client
+  abbrev pub GoesOnFrom : List (Event T) → Shown T → Shown T → Type 0
+  GoesOnFrom h b c = (later : List (Event T)) × Stands below minimum c (later ++ h) × IsSameOfClients (world below minimum b.dataflow h) (world below minimum c.dataflow (later ++ h))
+
+  -- so it is of whatever history the one stands for
+  abbrev pub GoesOn : Shown T → Shown T → Type 0
+  GoesOn b c = (h : List (Event T)) → Stands below minimum b h → GoesOnFrom h b c

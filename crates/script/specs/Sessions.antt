@@ -1,0 +1,60 @@
+-- A session by definition: which changes were accepted, and where the inputs' frontiers stand. It knows neither workers nor
+-- differences.
+use Rattle.std.specs.Prelude.{ℕ, Bool, not, List, [], ◌∷◌, ◌++◌, length, eqb, Option}
+use Rattle.std.specs.List.{filter, flat_map}
+use Rattle.lattice.specs.Frontiers.{is_beyond}
+use Rattle.antichain.specs.Antichains.{least}
+use Rattle.update.specs.Bags.{Entry}
+use Rattle.update.specs.declared.refusal.Refusal.{Refusal}
+use Rattle.update.specs.declared.refusal.Refusal.TheVariants.{NotPassed}
+use Rattle.plan.specs.Ancestors.{is_input}
+use Rattle.plan.specs.Changes.{query_at, open_for}
+use Rattle.plan.specs.Edges.{numbers_where}
+use Rattle.plan.specs.Rules.{first_refusal}
+use Rattle.plan.specs.declared.node.Node.{Node}
+use Rattle.machine.specs.declared.event.Fed.{Fed}
+use Rattle.machine.specs.declared.event.Open.{Open}
+use Rattle.machine.specs.Worlds.{fed_to, open_at}
+use Rattle.machine.specs.Histories.{opening}
+use Rattle.machine.specs.Boards.{feed_faults, advance_faults}
+use Rattle.script.specs.Bags.{bag_of}
+
+pub record Session (T : Type 0) : Type 0 where
+  -- the changes that were accepted, the newest first
+  pub fed : List (Fed T)
+  -- the elements of the inputs' frontiers
+  pub openings : List (Open T)
+
+module _ {T : Type 0} where
+  -- before the first command nothing was accepted, and each input's frontier is the least time
+  abbrev pub first_session : T → List Node → Session T
+  first_session minimum p = record { fed = []; openings = flat_map (λ i. opening i (minimum ∷ [])) (numbers_where is_input p) }
+
+  -- a change is accepted
+  abbrev pub with_change : Fed T → Session T → Session T
+  with_change f s = record { fed = f ∷ s.fed; openings = s.openings }
+
+  -- an input's frontier moves on; with no time the input is closed
+  abbrev pub with_frontier : ℕ → List T → Session T → Session T
+  with_frontier i ts s = record { fed = s.fed; openings = opening i ts ++ filter (λ o. not (eqb o.input i)) s.openings }
+
+module _ {T : Type 0} (below : T → T → Bool) (p : List Node) (s : Session T) where
+  -- what refuses a change
+  abbrev pub change_refusal : Fed T → Option Refusal
+  change_refusal f = first_refusal (feed_faults below p s.openings (length (fed_to f.input s.fed)) f)
+
+  -- what refuses an input's frontier: each of its times must be beyond the old one
+  abbrev pub frontier_refusal : ℕ → List T → Option Refusal
+  frontier_refusal i ts = first_refusal (advance_faults below s.openings i ts)
+
+  -- the frontier of a view: the least of those of all inputs that feed it
+  abbrev pub view_frontier : ℕ → List T
+  view_frontier v = least below (open_for below p (λ i. open_at i s.openings) v)
+
+  -- what refuses a reading: the view may still change at the time
+  abbrev pub read_refusal : ℕ → T → Option Refusal
+  read_refusal v t = first_refusal ((is_beyond below (view_frontier v) t, NotPassed) ∷ [])
+
+  -- the rows of a view at a time: the query, from scratch, on the accepted changes at or before it
+  abbrev pub rows_at : ℕ → T → List Entry
+  rows_at v t = bag_of (query_at below p (λ i. fed_to i s.fed) v t)

@@ -1,0 +1,25 @@
+-- Which board stands for which session.
+use Rattle.std.specs.Prelude.{◌≡◌, ℕ, Bool, List, [], ◌∷◌, Option, Some, None, IsTrue}
+use Rattle.update.specs.declared.refusal.Refusal.{Refusal}
+use Rattle.machine.specs.declared.event.Event.{Event}
+use Rattle.machine.specs.Histories.{world}
+use Rattle.machine.specs.Boards.{Shown, Stands}
+use Rattle.script.specs.Engines.{EndsRun}
+use Rattle.script.specs.Relays.{IsIdle, are_due}
+use Rattle.script.specs.Sessions.{Session}
+
+module _ {T : Type 0} where
+  -- the worker may carry on what waits, unless it met what ends a run
+  abbrev pub IsReadyUnless : Option Refusal → Shown T → Type 0
+  IsReadyUnless None b = IsIdle b × IsTrue (are_due b.dataflow 0 b.in_flight)
+  IsReadyUnless (Some refusal) b = EndsRun refusal
+
+module _ {T : Type 0} (below : T → T → Bool) (minimum : T) where
+  -- the board may stand after a history in which just these changes were fed and the inputs' frontiers came to stand so, and
+  -- in which no time was given up at a view
+  pub record StandsAs (b : Shown T) (s : Session T) : Type 0 where
+    pub history : List (Event T)
+    pub stands : Stands below minimum b history
+    pub fed : (world below minimum b.dataflow history).fed ≡ s.fed
+    pub openings : (world below minimum b.dataflow history).openings ≡ s.openings
+    pub since : (view : ℕ) → (world below minimum b.dataflow history).since view ≡ minimum ∷ []

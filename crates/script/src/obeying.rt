@@ -1,0 +1,162 @@
+//! One line of a script: its command goes to the engine, and what it answers is printed.
+ghost use Rattle.std.specs.Prelude.{◌≡◌, ◌++◌, true, false, IfErr, IfOk, OnOk};
+ghost use Rattle.update.specs.Refusals.{code_of};
+ghost use Rattle.grammar.specs.Commands.{IsAbout};
+ghost use Rattle.grammar.specs.Told.{Told};
+ghost use Rattle.script.specs.Engines.{EndsRun, IsAnswer, IsRunEnd, failures, is_reading};
+ghost use Rattle.script.specs.Outs.{Wrote, Broke};
+ghost use Rattle.script.specs.Printing.{refused_text};
+ghost use Rattle.script.specs.Text.{Sitting, refusal_of, accepting, after, piece};
+ghost use Rattle.script.specs.declared.fault.RunFault.TheVariants.{Refused};
+
+use crate::engine::Engine;
+use crate::fault::RunFault;
+use crate::gathering::Gathered;
+use crate::out::Out;
+use crate::printing::print_rows;
+use grammar::{Command, CommandLine, Script};
+use lattice::Bitime;
+use machine::Times;
+use plan::NodeId;
+use std::alloc::{AllocError, Global};
+use update::{Refusal, Update};
+
+// What a command was refused for, unless that ends the run.
+fn settled(refusal: Refusal) -> Result<Refusal, RunFault>
+    ensures goes_on { IfOk result (λ r. (r ≡ refusal) × (EndsRun refusal → ⊥)) }
+    ensures ends { IfErr result (λ fault. (fault ≡ Refused (code_of refusal)) × EndsRun refusal) }
+{
+    match refusal {
+        Refusal::OutOfMemory | Refusal::Overflow => Err(RunFault::from(refusal)),
+        _ => Ok(refusal),
+    }
+}
+
+// The times, copied.
+fn copied(alloc: Global, times: &[Bitime]) -> Result<Times<Bitime>, AllocError>
+    ensures { IfOk result (λ copy. copy ≡ times.now) }
+{
+    let copy = times.to_vec(alloc)?;
+    Ok(Times::from(copy))
+}
+
+// Hands a command to the engine that writes nothing where it is accepted: any but a read.
+fn hand_over<E: Engine>(alloc: Global, engine: &mut E, command: &Command) -> Result<(), Refusal>
+    requires about { IsAbout (E.plan engine.old) command.now }
+    requires writes_nothing { is_reading command.now ≡ false }
+    ensures plan { E.plan engine.new ≡ E.plan engine.old }
+    ensures answered { (s : Sitting) → E.stands engine.old s
+        → IsAnswer (refusal_of (E.plan engine.old) s command.now) (λ _. E.stands engine.new (accepting (E.plan engine.old) s command.now)) (E.stands engine.new s) result }
+{
+    match command {
+        Command::Change {
+            input,
+            time,
+            diff,
+            row,
+        } => engine.change(
+            *input,
+            Update {
+                time: *time,
+                row: row.copy(),
+                diff: *diff,
+            },
+        ),
+        Command::Advance { input, times } => engine.advance(*input, copied(alloc, times.as_slice())?),
+        Command::Close { input } => engine.advance(*input, Times::from(Vec::new(alloc))),
+        Command::Read { .. } => unreachable!(),
+    }
+}
+
+// Prints what a command was refused for, unless that ends the run.
+fn print_refusal(gathered: &mut Gathered, line: u64, refusal: Refusal) -> Result<(), RunFault>
+    ensures printed { OnOk result ((gathered.new ≡ gathered.old ++ refused_text line refusal) × (EndsRun refusal → ⊥)) }
+    ensures ends { IfErr result (λ fault. failures fault ≡ 0) }
+    ensures known { IfErr result IsRunEnd }
+{
+    let refusal = settled(refusal)?;
+    gathered.print_refused(line, refusal)?;
+    Ok(())
+}
+
+// A line that writes nothing where its command is accepted.
+fn tell<E: Engine>(
+    alloc: Global,
+    engine: &mut E,
+    line: &CommandLine,
+    gathered: &mut Gathered,
+) -> Result<(), RunFault>
+    requires about { IsAbout (E.plan engine.old) line.now.command }
+    requires writes_nothing { is_reading line.now.command ≡ false }
+    ensures plan { E.plan engine.new ≡ E.plan engine.old }
+    ensures ran { (t : Told) (s : Sitting) → t.plan ≡ E.plan engine.old → E.stands engine.old s
+        → OnOk result (E.stands engine.new (after t.plan s line.now.command) × (gathered.new ≡ gathered.old ++ piece t s line.now)) }
+    ensures ends { IfErr result (λ fault. failures fault ≡ 0) }
+    ensures known { IfErr result IsRunEnd }
+{
+    match hand_over(alloc, engine, &line.command) {
+        Ok(()) => Ok(()),
+        Err(refusal) => print_refusal(gathered, line.line, refusal),
+    }
+}
+
+// A line that asks for the rows of a view at a time.
+fn ask<E: Engine, W: Out>(
+    alloc: Global,
+    engine: &mut E,
+    script: &Script,
+    line: &CommandLine,
+    gathered: &mut Gathered,
+    out: &mut W,
+) -> Result<(), RunFault>
+    requires plan { script.now.plan ≡ E.plan engine.old }
+    requires about { IsAbout (E.plan engine.old) line.now.command }
+    requires reads { is_reading line.now.command ≡ true }
+    ensures plan { E.plan engine.new ≡ E.plan engine.old }
+    ensures ran { (s : Sitting) → E.stands engine.old s
+        → OnOk result (E.stands engine.new (after script.now.plan s line.now.command) × Wrote W.took out.old gathered.old (piece script.now s line.now) out.new gathered.new) }
+    ensures broke { (s : Sitting) → E.stands engine.old s
+        → IfErr result (λ fault. Broke W.took out.old gathered.old (piece script.now s line.now) (failures fault) out.new) }
+    ensures known { IfErr result IsRunEnd }
+{
+    let Command::Read { view, time } = &line.command else {
+        unreachable!()
+    };
+    match engine.read(alloc, *view, *time) {
+        Ok(rows) => print_rows(gathered, out, script.name(*view), *time, &rows),
+        Err(refusal) => print_refusal(gathered, line.line, refusal),
+    }
+}
+
+/// Carries out a line: its command goes to the engine, and what that answers is printed.
+pub(crate) fn obey<E: Engine, W: Out>(
+    alloc: Global,
+    engine: &mut E,
+    script: &Script,
+    line: &CommandLine,
+    gathered: &mut Gathered,
+    out: &mut W,
+) -> Result<(), RunFault>
+    requires plan { script.now.plan ≡ E.plan engine.old }
+    requires about { IsAbout (E.plan engine.old) line.now.command }
+    ensures plan { E.plan engine.new ≡ E.plan engine.old }
+    ensures ran { (s : Sitting) → E.stands engine.old s
+        → OnOk result (E.stands engine.new (after script.now.plan s line.now.command) × Wrote W.took out.old gathered.old (piece script.now s line.now) out.new gathered.new) }
+    ensures broke { (s : Sitting) → E.stands engine.old s
+        → IfErr result (λ fault. Broke W.took out.old gathered.old (piece script.now s line.now) (failures fault) out.new) }
+    ensures known { IfErr result IsRunEnd }
+{
+    if is_reading(&line.command) {
+        return ask(alloc, engine, script, line, gathered, out);
+    }
+    tell(alloc, engine, line, gathered)?;
+    gathered.pass_on(out)?;
+    Ok(())
+}
+
+// Whether the command asks for rows.
+fn is_reading(command: &Command) -> bool
+    ensures { result ≡ is_reading command.now }
+{
+    matches!(command, Command::Read { .. })
+}

@@ -1,0 +1,128 @@
+//! The worker that carries bundles through a plan of linear nodes, on the caller's thread.
+//!
+//! It goes through the nodes once, in the order of their numbers, and at each takes what waits there, applies the node, and
+//! gives what comes out. A node's readers have greater numbers, so nothing is sent to a node that is done, and one pass
+//! leaves nothing in flight. A linear node needs no time and no state: each bundle is a whole piece, after which the worker
+//! holds nothing. So between two pieces the node law holds at every time, and one piece more keeps it.
+ghost use Rattle.std.specs.Prelude.{◌≡◌, ◌<◌, ◌≤◌, suc, [], ◌∷◌, List, None, Some, IfErr, IfOk, OnErr, OnOk, IsTrue, length, slice_get, get_or};
+ghost use Rattle.update.specs.declared.change.Update.{Update};
+ghost use Rattle.update.specs.declared.refusal.Refusal.TheVariants.{OutOfMemory};
+ghost use Rattle.linear.specs.Applied.{applied};
+ghost use Rattle.machine.specs.declared.event.Bundle.{Bundle};
+ghost use Rattle.machine.specs.declared.event.Event.{Event};
+ghost use Rattle.machine.specs.Dataflows.{node_of};
+ghost use Rattle.machine.specs.Worlds.{queue};
+ghost use Rattle.machine.specs.Histories.{world, IsGive};
+ghost use Rattle.machine.specs.Readings.{IsQuiet};
+ghost use Rattle.machine.specs.Boards.{Stands, taken, given};
+ghost use Rattle.script.specs.Relays.{are_due, waits_at, IsIdle, IsCut, GoesOnFrom, GoesOn};
+
+use lattice::Minimum;
+use machine::{Board, Emission, Place};
+use plan::NodeId;
+use std::alloc::Global;
+use update::Refusal;
+
+/// Carries whatever is in flight through the plan, until nothing is. The worker then holds nothing and has nothing in
+/// hand: all is quiet. No client does anything meanwhile.
+///
+/// Refused only with `OutOfMemory`; then part of the work may be done, by events like those of all of it, and the worker may
+/// have a piece in hand.
+///
+/// Cost: linear in the nodes, and for each bundle what taking, applying, cutting and giving it cost.
+pub(crate) fn relay<T: Minimum>(alloc: Global, board: &mut Board<T>) -> Result<(), Refusal>
+    requires idle { IsIdle board.old }
+    requires due { IsTrue (are_due board.old.dataflow 0 board.old.in_flight) }
+    ensures done { OnOk result (board.new.in_flight ≡ []) }
+    ensures quiet { OnOk result ((h : List (Event T)) → Stands T.below T.least board.new h → IsQuiet T.below board.new.dataflow (world T.below T.least board.new.dataflow h)) }
+    ensures idle { OnOk result (IsIdle board.new) }
+    ensures dataflow { board.new.dataflow ≡ board.old.dataflow }
+    ensures goes_on { GoesOn T.below T.least board.old board.new }
+    ensures refused { IfErr result (λ refusal. refusal ≡ OutOfMemory) }
+{
+    for n in 0..board.plan().len() {
+        relay_node(alloc, board, NodeId::new(n))?;
+    }
+    Ok(())
+}
+
+// Relays what waits at a node. What is sent meanwhile waits at later ones.
+fn relay_node<T: Minimum>(alloc: Global, board: &mut Board<T>, node: NodeId) -> Result<(), Refusal>
+    requires idle { IsIdle board.old }
+    requires due { IsTrue (are_due board.old.dataflow node board.old.in_flight) }
+    ensures due { OnOk result (IsTrue (are_due board.new.dataflow (suc node) board.new.in_flight)) }
+    ensures idle { OnOk result (IsIdle board.new) }
+    ensures dataflow { board.new.dataflow ≡ board.old.dataflow }
+    ensures goes_on { GoesOn T.below T.least board.old board.new }
+    ensures refused { IfErr result (λ refusal. refusal ≡ OutOfMemory) }
+{
+    while let Some(place) = board.waiting_at(node, 0) {
+        relay_one(alloc, board, place)?;
+    }
+    Ok(())
+}
+
+// Relays the first bundle of a place: takes it, applies the node, and gives what comes out.
+fn relay_one<T: Minimum>(alloc: Global, board: &mut Board<T>, place: Place) -> Result<(), Refusal>
+    requires idle { IsIdle board.old }
+    requires due { IsTrue (are_due board.old.dataflow place.node board.old.in_flight) }
+    requires worker { place.worker ≡ 0 }
+    requires waits { 0 < length (queue place board.old.in_flight) }
+    ensures due { OnOk result (IsTrue (are_due board.new.dataflow place.node board.new.in_flight)) }
+    ensures fewer { OnOk result (suc (waits_at place.node board.new.in_flight) ≡ waits_at place.node board.old.in_flight) }
+    ensures idle { OnOk result (IsIdle board.new) }
+    ensures dataflow { board.new.dataflow ≡ board.old.dataflow }
+    ensures goes_on { GoesOn T.below T.least board.old board.new }
+    ensures refused { IfErr result (λ refusal. refusal ≡ OutOfMemory) }
+{
+    let _workers = board.workers();
+    let emission = compute(board, place)?;
+    hand_on(alloc, board, emission)?;
+    Ok(())
+}
+
+// Takes the first bundle of a place, and applies the node to it.
+fn compute<T: Minimum>(board: &mut Board<T>, place: Place) -> Result<Emission<T>, Refusal>
+    requires idle { IsIdle board.old }
+    requires due { IsTrue (are_due board.old.dataflow place.node board.old.in_flight) }
+    requires worker { place.worker ≡ 0 }
+    requires waits { 0 < length (queue place board.old.in_flight) }
+    ensures taken { IfOk result (λ emission. (us : List (Update T)) × (slice_get (queue place board.old.in_flight) 0 ≡ Some us) × (board.new ≡ taken T.below place 0 us board.old)
+        × (emission ≡ record { node = place.node; worker = place.worker; updates = applied (node_of board.old.dataflow place.node) us })) }
+    ensures dataflow { board.new.dataflow ≡ board.old.dataflow }
+    ensures stands { (h : List (Event T)) → Stands T.below T.least board.old h → OnOk result (Stands T.below T.least board.new (board.new.last ∷ h)) }
+    ensures goes_on { GoesOn T.below T.least board.old board.new }
+    ensures refused { IfErr result (λ refusal. refusal ≡ OutOfMemory) }
+{
+    let _workers = board.workers();
+    let updates = board.take(place, 0)?.into_vec();
+    // No difference is too large to be negated, so this is not refused.
+    let updates = linear::apply(board.plan().node(place.node), updates).unwrap();
+    Ok(Emission {
+        node: place.node,
+        worker: place.worker,
+        updates: updates.into(),
+    })
+}
+
+// Cuts what was computed, and gives it. The worker then holds nothing there.
+fn hand_on<T: Minimum>(
+    alloc: Global,
+    board: &mut Board<T>,
+    emission: Emission<T>,
+) -> Result<(), Refusal>
+    requires worker { emission.worker < board.old.dataflow.workers }
+    requires within { emission.node < length board.old.dataflow.nodes }
+    ensures given { OnOk result ((sent : List (Bundle T)) × IsCut board.old.dataflow emission sent × (board.new ≡ given emission [] sent board.old)) }
+    ensures goes_on { (h : List (Event T)) → Stands T.below T.least board.old h
+        → ((sent : List (Bundle T)) → IsCut board.old.dataflow emission sent → IsGive T.below board.old.dataflow (world T.below T.least board.old.dataflow h) emission [] sent)
+        → GoesOnFrom T.below T.least h board.old board.new }
+    ensures dataflow { board.new.dataflow ≡ board.old.dataflow }
+    ensures refused { IfErr result (λ refusal. refusal ≡ OutOfMemory) }
+{
+    let sent = board.cut(&emission)?;
+    match board.give(emission, Vec::new(alloc).into(), sent) {
+        Ok(()) => Ok(()),
+        Err(_ungiven) => Err(Refusal::OutOfMemory),
+    }
+}

@@ -1,0 +1,89 @@
+//! The lines of a script, one after another.
+ghost use Rattle.std.specs.Prelude.{◌≡◌, ◌≢◌, ◌⊎◌, ◌↔◌, ℕ, List, [], IfErr, OnOk, IsErrOf};
+ghost use Rattle.script.specs.Engines.{IsRunEnd, failures};
+ghost use Rattle.script.specs.Outs.{IsBeginning, Wrote, Broke};
+ghost use Rattle.script.specs.Text.{Sitting, lines_text, text};
+ghost use Rattle.script.specs.declared.fault.RunFault.TheVariants.{Refused};
+
+use crate::engine::Engine;
+use crate::fault::RunFault;
+use crate::gathering::Gathered;
+use crate::obeying::obey;
+use crate::out::Out;
+use crate::solo::Solo;
+use grammar::Script;
+use std::alloc::Global;
+use update::Refusal;
+
+// Carries out all lines.
+fn obey_all<E: Engine, W: Out>(
+    alloc: Global,
+    engine: &mut E,
+    script: &Script,
+    gathered: &mut Gathered,
+    out: &mut W,
+) -> Result<(), RunFault>
+    requires plan { script.now.plan ≡ E.plan engine.old }
+    ensures wrote { (s : Sitting) → E.stands engine.old s
+        → OnOk result (Wrote W.took out.old gathered.old (lines_text script.now s script.now.commands) out.new gathered.new) }
+    ensures broke { (s : Sitting) → E.stands engine.old s
+        → IfErr result (λ fault. Broke W.took out.old gathered.old (lines_text script.now s script.now.commands) (failures fault) out.new) }
+    ensures known { IfErr result IsRunEnd }
+{
+    for line in script.command_lines() {
+        obey(alloc, engine, script, line, gathered, out)?;
+    }
+    Ok(())
+}
+
+/// Carries out a script on an engine that has its plan: what is taken is what the lines write in the session for which the
+/// engine stands.
+pub(crate) fn run<E: Engine, W: Out>(
+    alloc: Global,
+    engine: &mut E,
+    script: &Script,
+    out: &mut W,
+) -> Result<(), RunFault>
+    requires plan { script.now.plan ≡ E.plan engine.old }
+    ensures wrote { (s : Sitting) → E.stands engine.old s
+        → OnOk result (W.took out.old (lines_text script.now s script.now.commands) 0 out.new) }
+    ensures broke { (s : Sitting) → E.stands engine.old s
+        → IfErr result (λ fault. Broke W.took out.old [] (lines_text script.now s script.now.commands) (failures fault) out.new) }
+    ensures known { IfErr result IsRunEnd }
+{
+    let mut gathered = Gathered::new(alloc);
+    obey_all(alloc, engine, script, &mut gathered, out)?;
+    gathered.flush(out)?;
+    Ok(())
+}
+
+/// Runs a script, and puts what it writes.
+///
+/// Where it answers Ok, exactly the script's text was taken. After a fault a beginning of it was:
+///
+/// | Fault | Where |
+/// |---|---|
+/// | `Refused(23)` | the number of workers is not 1: nothing else is taken yet. Then nothing was written |
+/// | `Refused(1)` | an allocation was refused |
+/// | `Refused(10)` | a row counts more often than a 64-bit number can say |
+/// | `Write` | the output failed, which no other fault goes with |
+///
+/// Cost: for each line what its event costs on the board; a read also a pass over what waits, and over all that its view
+/// captured.
+pub fn run_script<W: Out>(
+    alloc: Global,
+    script: &Script,
+    workers: u64,
+    out: &mut W,
+) -> Result<(), RunFault>
+    ensures written { OnOk result (W.took out.old (text script.now) 0 out.new) }
+    ensures beginning { IfErr result (λ fault. (part : List ℕ) × IsBeginning part (text script.now) × W.took out.old part (failures fault) out.new) }
+    ensures workers { IsErrOf result (Refused 23) ↔ (workers ≢ 1) }
+    ensures known { IfErr result (λ fault. IsRunEnd fault ⊎ (fault ≡ Refused 23)) }
+{
+    if workers != 1 {
+        return Err(RunFault::from(Refusal::BadWorkers));
+    }
+    let mut engine = Solo::open(alloc, script.plan())?;
+    run(alloc, &mut engine, script, out)
+}

@@ -1,0 +1,135 @@
+//! A board and its one worker, which take turns: clients' events go to the board at once, and where rows are asked for, the
+//! worker first carries on what waits.
+ghost use Rattle.std.specs.Prelude.{◌≡◌, [], IsTrue, IfErr, IfOk, OnOk};
+ghost use Rattle.std.specs.List.{All};
+ghost use Rattle.update.specs.declared.refusal.Refusal.TheVariants.{OutOfMemory};
+ghost use Rattle.plan.specs.Operators.{is_linear};
+ghost use Rattle.grammar.specs.Commands.{is_input_of, is_view_of};
+ghost use Rattle.lattice.specs.Pairs.{make_pair};
+ghost use Rattle.script.specs.Engines.{EndsRun, IsAnswer};
+ghost use Rattle.script.specs.Relays.{IsIdle};
+ghost use Rattle.script.specs.Sessions.{with_change, with_frontier, change_refusal, frontier_refusal, read_refusal, rows_at};
+ghost use Rattle.script.specs.Standing.{StandsAs};
+ghost use Rattle.script.specs.Text.{Sitting, at_or_below, first_sitting};
+
+use crate::engine::Engine;
+use crate::relay::relay;
+use lattice::Bitime;
+use machine::{Board, Times};
+use plan::{NodeId, Plan};
+use std::alloc::Global;
+use std::marker::Model;
+use update::{Bag, Refusal, Update};
+
+// The number of the only client: that of the events which commands are.
+const CLIENT: usize = 0;
+
+/// A board whose one worker carries on what waits where rows are asked for. A contract sees what lies on the board.
+#[derive(Debug, Drop)]
+pub(crate) struct Solo {
+    board: Board<Bitime>,
+    // What the worker met that ends a run, if anything: then it may have a piece in hand.
+    ended: Option<Refusal>,
+}
+
+impl Model for Solo {
+    ghost use Rattle.std.specs.Prelude.{ℕ};
+    ghost use Rattle.lattice.specs.declared.product.Pair.{Pair};
+    ghost use Rattle.machine.specs.Boards.{Shown};
+    ghost use Rattle.script.specs.Standing.{IsReadyUnless};
+
+    ghost Value = { Shown (Pair ℕ ℕ) };
+
+    ghost view = { λ solo. solo.board };
+
+    ghost invariant = { λ solo. IsReadyUnless solo.ended solo.board };
+}
+
+impl Solo {
+    /// A board on which nothing has happened yet. Refused only with `OutOfMemory`.
+    pub(crate) fn open(alloc: Global, plan: &Plan) -> Result<Solo, Refusal>
+        requires linear { All (λ node. IsTrue (is_linear node)) plan.now }
+        ensures plan { IfOk result (λ solo. solo.dataflow.nodes ≡ plan.now) }
+        ensures stands { IfOk result (λ solo. StandsAs at_or_below (make_pair 0 0) solo (first_sitting plan.now)) }
+        ensures refused { IfErr result (λ refusal. refusal ≡ OutOfMemory) }
+    {
+        let plan = plan.clone()?;
+        let board = Board::open(alloc, plan, 1)?;
+        Ok(Solo { board, ended: None })
+    }
+
+    /// A change of an input.
+    pub(crate) fn feed(&mut self, input: NodeId, update: Update<Bitime>) -> Result<(), Refusal>
+        requires { IsTrue (is_input_of self.old.dataflow.nodes input) }
+        ensures plan { self.new.dataflow.nodes ≡ self.old.dataflow.nodes }
+        ensures answered { (s : Sitting) → StandsAs at_or_below (make_pair 0 0) self.old s
+            → IsAnswer (change_refusal at_or_below self.old.dataflow.nodes s (record { input = input; update = update })) (λ _. StandsAs at_or_below (make_pair 0 0) self.new (with_change (record { input = input; update = update }) s)) (StandsAs at_or_below (make_pair 0 0) self.new s) result }
+    {
+        let _workers = self.board.workers();
+        self.board.feed(CLIENT, input, update)
+    }
+
+    /// A frontier of an input.
+    pub(crate) fn move_on(&mut self, input: NodeId, times: Times<Bitime>) -> Result<(), Refusal>
+        requires { IsTrue (is_input_of self.old.dataflow.nodes input) }
+        ensures plan { self.new.dataflow.nodes ≡ self.old.dataflow.nodes }
+        ensures answered { (s : Sitting) → StandsAs at_or_below (make_pair 0 0) self.old s
+            → IsAnswer (frontier_refusal at_or_below self.old.dataflow.nodes s input times) (λ _. StandsAs at_or_below (make_pair 0 0) self.new (with_frontier input times s)) (StandsAs at_or_below (make_pair 0 0) self.new s) result }
+    {
+        self.board.advance(CLIENT, input, times)
+    }
+
+    // The worker carries on what waits, until nothing does.
+    fn carry_on(&mut self, alloc: Global) -> Result<(), Refusal>
+        ensures plan { self.new.dataflow ≡ self.old.dataflow }
+        ensures done { OnOk result (IsIdle self.new × (self.new.in_flight ≡ [])) }
+        ensures stands { (s : Sitting) → StandsAs at_or_below (make_pair 0 0) self.old s → StandsAs at_or_below (make_pair 0 0) self.new s }
+        ensures refused { IfErr result EndsRun }
+    {
+        if let Some(refusal) = self.ended {
+            return Err(refusal);
+        }
+        match relay(alloc, &mut self.board) {
+            Ok(()) => Ok(()),
+            Err(refusal) => {
+                self.ended = Some(refusal);
+                Err(refusal)
+            }
+        }
+    }
+
+    // The rows of a view at a time, where nothing waits.
+    fn rows(&self, view: NodeId, time: Bitime) -> Result<Bag, Refusal>
+        requires view { IsTrue (is_view_of self.now.dataflow.nodes view) }
+        requires idle { IsIdle self.now }
+        requires done { self.now.in_flight ≡ [] }
+        ensures answered { (s : Sitting) → StandsAs at_or_below (make_pair 0 0) self.now s
+            → IsAnswer (read_refusal at_or_below self.now.dataflow.nodes s view time) (λ bag. (bag ≡ rows_at at_or_below self.now.dataflow.nodes s view time) × StandsAs at_or_below (make_pair 0 0) self.now s) (StandsAs at_or_below (make_pair 0 0) self.now s) result }
+    {
+        let _workers = self.board.workers();
+        self.board.read(view, time)
+    }
+}
+
+impl Engine for Solo {
+    ghost use Rattle.lattice.specs.Pairs.{make_pair};
+    ghost use Rattle.script.specs.Standing.{StandsAs};
+    ghost use Rattle.script.specs.Text.{at_or_below};
+
+    ghost plan = { λ b. b.dataflow.nodes };
+
+    ghost stands = { λ b s. StandsAs at_or_below (make_pair 0 0) b s };
+
+    fn change(&mut self, input: NodeId, update: Update<Bitime>) -> Result<(), Refusal> {
+        self.feed(input, update)
+    }
+
+    fn advance(&mut self, input: NodeId, times: Times<Bitime>) -> Result<(), Refusal> {
+        self.move_on(input, times)
+    }
+
+    fn read(&mut self, alloc: Global, view: NodeId, time: Bitime) -> Result<Bag, Refusal> {
+        self.carry_on(alloc)?;
+        self.rows(view, time)
+    }
+}
