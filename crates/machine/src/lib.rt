@@ -28,8 +28,6 @@ mod lists;
 #[cfg(test)]
 mod memory_tests;
 mod reading;
-#[cfg(test)]
-mod relay_tests;
 mod standing;
 #[cfg(test)]
 mod tests;

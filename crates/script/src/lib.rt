@@ -16,5 +16,5 @@ mod solo;
 pub use fault::RunFault;
 pub use laws::the_bag_of_entries;
 pub use memory::MemoryOut;
-pub use out::{Out, OutFault};
+pub use out::{Out, OutFault, put_all};
 pub use running::run_script;
