@@ -62,7 +62,10 @@ fn hand_over<E: Engine>(alloc: Global, engine: &mut E, command: &Command) -> Res
                 diff: *diff,
             },
         ),
-        Command::Advance { input, times } => engine.advance(*input, copied(alloc, times.as_slice())?),
+        Command::Advance { input, times } => engine.advance(
+            *input,
+            copied(alloc, times.as_slice())?,
+        ),
         Command::Close { input } => engine.advance(*input, Times::from(Vec::new(alloc))),
         Command::Read { .. } => unreachable!(),
     }
