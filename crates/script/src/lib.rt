@@ -12,6 +12,8 @@ mod printing;
 mod relay;
 mod running;
 mod solo;
+#[cfg(test)]
+mod tests;
 
 pub use fault::RunFault;
 pub use laws::the_bag_of_entries;

@@ -1,0 +1,125 @@
+//! Scripts and what they write. No clause says that a run with ample memory answers Ok at all, nor what bytes the words of
+//! the definitions are: the texts are worked out by hand from the rules of the language. An output that takes one byte at a
+//! time, and one that fails, show a run that is broken off in the middle.
+use crate::{MemoryOut, RunFault, run_script};
+use grammar::{Script, parse};
+use std::alloc::Global;
+use std::process::Abort;
+use std::test::Fail;
+
+// The script of a text that has no fault.
+pub(crate) fn script(alloc: Global, text: &str) -> Result<Script, Fail> {
+    Ok(parse(alloc, text.as_bytes())?)
+}
+
+// The script writes just this, with one worker.
+fn writes(rt: &impl Abort, alloc: Global, text: &str, expected: &str) -> Result<(), Fail> {
+    let script = script(alloc, text)?;
+    let mut out = MemoryOut::new(alloc);
+    assert_eq!(rt; run_script(alloc, &script, 1, &mut out), Ok(()));
+    assert_eq!(rt; out.bytes(), expected.as_bytes());
+    Ok(())
+}
+
+#[test]
+fn changes_are_read(rt: HostRuntime) -> Result<(), Fail> {
+    let alloc = rt.alloc();
+    writes(&rt, alloc, "input a 1\nview v a\nstart\n", "")?;
+    writes(
+        &rt,
+        alloc,
+        "input a 1\nview v a\nstart\nchange a 0 0 1 7\nadvance a 0 1\nread v 5 0\nread v 0 1\n",
+        "read v 5 0 1\n1 7\nrefused 7 8\n",
+    )?;
+    // A line is counted also where it is skipped, and the last one needs no end.
+    writes(
+        &rt,
+        alloc,
+        "# a ledger\ninput a 2\n\nview v a\nstart\nchange a 1 1 -2 7 -8\n  # soon closed\nchange a 0 2 1 -7 8\nchange a 0 2 1 7 -8\nclose a\nread v 1 1\nread v 1 2\nread v 0 1\nclose a\nread v 0 9",
+        "read v 1 1 1\n-2 7 -8\nread v 1 2 2\n1 -7 8\n-1 7 -8\nread v 0 1 0\nread v 0 9 2\n1 -7 8\n1 7 -8\n",
+    )
+}
+
+#[test]
+fn late_changes_are_refused(rt: HostRuntime) -> Result<(), Fail> {
+    let alloc = rt.alloc();
+    writes(
+        &rt,
+        alloc,
+        "input a 1\nview v a\nstart\nchange a 0 0 1 7\nadvance a 0 1\nchange a 2 0 1 7\nread v 5 0\n",
+        "refused 6 5\nread v 5 0 1\n1 7\n",
+    )?;
+    writes(
+        &rt,
+        alloc,
+        "input a 1\nview v a\nstart\nclose a\nclose a\nchange a 0 0 1 7\nread v 9 9\n",
+        "refused 6 5\nread v 9 9 0\n",
+    )?;
+    // Once closed, an input has no frontier to advance to.
+    writes(
+        &rt,
+        alloc,
+        "input a 1\nview v a\nstart\nclose a\nadvance a 3 3\nread v 0 0\n",
+        "refused 5 6\nread v 0 0 0\n",
+    )
+}
+
+#[test]
+fn changes_have_limits(rt: HostRuntime) -> Result<(), Fail> {
+    let alloc = rt.alloc();
+    writes(
+        &rt,
+        alloc,
+        "input a 1\nview v a\nstart\nchange a 0 0 0 7\nchange a 0 0 2147483648 7\nchange a 0 0 1 7 8\nchange a 0 0 0 7 8\nchange a 0 0 -2147483647 7\nclose a\nread v 0 0\n",
+        "refused 4 3\nrefused 5 4\nrefused 6 2\nrefused 7 2\nread v 0 0 1\n-2147483647 7\n",
+    )?;
+    writes(
+        &rt,
+        alloc,
+        "input a 1\nview v a\nstart\nchange a 18446744073709551615 18446744073709551615 1 9223372036854775807\nclose a\nread v 18446744073709551615 18446744073709551615\nchange a 18446744073709551615 18446744073709551615 1 7\n",
+        "read v 18446744073709551615 18446744073709551615 1\n1 9223372036854775807\nrefused 7 5\n",
+    )
+}
+
+#[test]
+fn frontiers_have_several_times(rt: HostRuntime) -> Result<(), Fail> {
+    let alloc = rt.alloc();
+    writes(
+        &rt,
+        alloc,
+        "input a 1\nview v a\nstart\nadvance a 0 1 4 0\nadvance a 0 0\nread v 3 0\nread v 4 0\n",
+        "refused 5 6\nread v 3 0 0\nrefused 7 8\n",
+    )?;
+    // Two inputs move on apart, and a view waits for its own alone.
+    writes(
+        &rt,
+        alloc,
+        "input a 1\ninput b 1\nview v a\nview w b\nstart\nchange a 0 0 2 5\nchange b 0 0 3 5\nclose a\nread v 0 0\nread w 0 0\nclose b\nread w 0 0\n",
+        "read v 0 0 1\n2 5\nrefused 10 8\nread w 0 0 1\n3 5\n",
+    )
+}
+
+// What cancels is gone, and what is read once can be read again.
+#[test]
+fn rows_that_cancel_are_gone(rt: HostRuntime) -> Result<(), Fail> {
+    let alloc = rt.alloc();
+    writes(
+        &rt,
+        alloc,
+        "input a 1\nview v a\nstart\nchange a 0 0 1 7\nchange a 1 0 -1 7\nchange a 1 0 1 8\nadvance a 9 0\nread v 0 0\nread v 5 5\nread v 1 0\nread v 1 0\n",
+        "read v 0 0 1\n1 7\nread v 5 5 1\n1 8\nread v 1 0 1\n1 8\nread v 1 0 1\n1 8\n",
+    )
+}
+
+#[test]
+fn one_worker_is_taken(rt: HostRuntime) -> Result<(), Fail> {
+    let alloc = rt.alloc();
+    let script = script(alloc, "input a 1\nview v a\nstart\nclose a\nread v 0 0\n")?;
+    for workers in [0, 2, 16, u64::MAX] {
+        let mut out = MemoryOut::new(alloc);
+        let answered = run_script(alloc, &script, workers, &mut out);
+        assert_eq!(rt; answered, Err(RunFault::Refused(23)));
+        assert!(rt; out.bytes().is_empty());
+    }
+    Ok(())
+}
