@@ -1,9 +1,10 @@
 //! Scripts and what they write. No clause says that a run with ample memory answers Ok at all, nor what bytes the words of
 //! the definitions are: the texts are worked out by hand from the rules of the language. An output that takes one byte at a
 //! time, and one that fails, show a run that is broken off in the middle.
-use crate::{MemoryOut, RunFault, run_script};
+use crate::{MemoryOut, Out, OutFault, RunFault, run_script};
 use grammar::{Script, parse};
 use std::alloc::Global;
+use std::marker::Model;
 use std::process::Abort;
 use std::test::Fail;
 
@@ -121,5 +122,83 @@ fn one_worker_is_taken(rt: HostRuntime) -> Result<(), Fail> {
         assert_eq!(rt; answered, Err(RunFault::Refused(23)));
         assert!(rt; out.bytes().is_empty());
     }
+    Ok(())
+}
+
+// An output that takes one byte a call, until it has taken so many: then it fails.
+#[derive(Drop)]
+struct Trickle {
+    taken: Vec<u8>,
+    room: usize,
+}
+
+impl Model for Trickle {
+    ghost use Rattle.std.specs.Prelude.{List, ℕ};
+
+    ghost Value = { List ℕ };
+
+    ghost view = { λ out. out.taken.items };
+}
+
+impl Out for Trickle {
+    ghost use Rattle.std.specs.Prelude.{◌≡◌, ◌++◌};
+    ghost use Rattle.script.specs.Took.{nothing_more, more_and_more};
+
+    ghost took = { λ out bytes failures later. later ≡ out ++ bytes };
+
+    ghost at_once = { λ out. nothing_more out };
+
+    ghost in_turn = { λ s t u xs ys m n h k. more_and_more s t u xs ys h k };
+
+    fn put(&mut self, bytes: &[u8]) -> Result<usize, OutFault> {
+        if self.taken.len() >= self.room {
+            return Err(OutFault);
+        }
+        match self.taken.push(bytes[0]) {
+            Ok(()) => Ok(1),
+            Err(_failed) => Err(OutFault),
+        }
+    }
+}
+
+#[test]
+fn outputs_may_take_little_or_fail(rt: HostRuntime) -> Result<(), Fail> {
+    let alloc = rt.alloc();
+    let script = script(
+        alloc,
+        "input a 1\nview v a\nstart\nchange a 0 0 1 7\nclose a\nread v 5 0\nchange a 0 0 1 7\n",
+    )?;
+    let mut patient = Trickle {
+        taken: Vec::new(alloc),
+        room: 100,
+    };
+    assert_eq!(rt; run_script(alloc, &script, 1, &mut patient), Ok(()));
+    assert_eq!(rt;
+        patient.taken.as_slice(),
+        b"read v 5 0 1\n1 7\nrefused 7 5\n".as_slice()
+    );
+    let mut full = Trickle {
+        taken: Vec::new(alloc),
+        room: 5,
+    };
+    let answered = run_script(alloc, &script, 1, &mut full);
+    assert_eq!(rt; answered, Err(RunFault::Write));
+    assert_eq!(rt; full.taken.as_slice(), b"read ".as_slice());
+    Ok(())
+}
+
+// A script that writes nothing needs no output at all.
+#[test]
+fn no_text_needs_no_output(rt: HostRuntime) -> Result<(), Fail> {
+    let alloc = rt.alloc();
+    let script = script(
+        alloc,
+        "input a 1\nview v a\nstart\nchange a 0 0 1 7\nclose a\n",
+    )?;
+    let mut full = Trickle {
+        taken: Vec::new(alloc),
+        room: 0,
+    };
+    assert_eq!(rt; run_script(alloc, &script, 1, &mut full), Ok(()));
     Ok(())
 }
