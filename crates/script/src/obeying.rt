@@ -55,6 +55,7 @@ fn hand_over<E: Engine>(alloc: Global, engine: &mut E, command: &Command) -> Res
             diff,
             row,
         } => engine.change(
+            alloc,
             *input,
             Update {
                 time: *time,
