@@ -1,6 +1,6 @@
 -- A change that is fed is due.
-use Rattle.std.proofs.Common.{◌≡◌, ℕ, zero, suc, ◌<◌, ◌≤◌, Bool, true, false, ◌&&◌, ◌||◌, eqb, nat_lt, nat_le, not, List, [], ◌∷◌, ◌++◌, length, get_or, Option, Some, None, IsTrue, unsigned_abs, sym, refl, ap, ◌∙◌, subst, arith}
-use Rattle.std.specs.List.{list_all, slice_get}
+use Rattle.std.proofs.Common.{◌≡◌, ℕ, Bool, true, false, eqb, nat_lt, nat_le, not, [], ◌∷◌, length, get_or, None, IsTrue, unsigned_abs, refl, ap, ◌∙◌, arith}
+use Rattle.std.specs.List.{slice_get}
 use Rattle.std.specs.Ordering.{int_eq}
 use Rattle.std.specs.Prelude.{unwrap_or, pos}
 use Rattle.std.proofs.lemmas.Bool.{and_from, true≢false, false≢true}
@@ -13,10 +13,8 @@ use Rattle.plan.specs.Widths.{width_of}
 use Rattle.plan.specs.declared.node.Node.{Node}
 use Rattle.plan.specs.declared.node.Node.TheVariants.{Input, Map, Filter, Concat, Negate, Arrange, Join, Reduce, Output}
 use Rattle.plan.proofs.PlanLemmas.{no_first}
-use Rattle.linear.specs.Ports.{is_port}
 use Rattle.machine.specs.declared.event.Fed.{Fed}
-use Rattle.machine.specs.declared.event.Bundle.{Bundle}
-use Rattle.machine.specs.Dataflows.{Dataflow, IsDataflow, node_of, route}
+use Rattle.machine.specs.Dataflows.{IsDataflow, node_of}
 use Rattle.machine.specs.Worlds.{open_at}
 use Rattle.machine.specs.Shares.{home}
 use Rattle.machine.specs.Histories.{IsInput}

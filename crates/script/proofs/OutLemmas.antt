@@ -1,6 +1,5 @@
 -- Writing in turn.
-use Rattle.std.proofs.Common.{◌≡◌, ℕ, zero, ◌+◌, List, [], ◌∷◌, ◌++◌, refl, sym, ◌∙◌, ap, subst, append_assoc, arith}
-use Rattle.std.proofs.lemmas.List.{append-nil}
+use Rattle.std.proofs.Common.{◌≡◌, ℕ, ◌+◌, List, [], ◌++◌, refl, sym, ◌∙◌, ap, subst, append_assoc, arith}
 use Rattle.script.specs.Outs.{IsBeginning, Wrote, Broke}
 
 joined : (waiting xs part left ys more rest : List ℕ) → waiting ++ xs ≡ part ++ left → left ++ ys ≡ more ++ rest → waiting ++ (xs ++ ys) ≡ (part ++ more) ++ rest

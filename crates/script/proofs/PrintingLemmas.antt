@@ -1,5 +1,5 @@
 -- Rows, printed one by one.
-use Rattle.std.proofs.Common.{◌≡◌, ℕ, zero, suc, ◌+◌, ◌<◌, List, [], ◌∷◌, ◌++◌, take, drop, length, Option, Some, None, ℤ, slice_get, refl, sym, ◌∙◌, ap, append_assoc, add-one, arith}
+use Rattle.std.proofs.Common.{◌≡◌, ℕ, zero, suc, ◌+◌, List, [], ◌∷◌, ◌++◌, take, drop, Option, Some, None, ℤ, slice_get, sym, ◌∙◌, ap, append_assoc, add-one}
 use Rattle.std.specs.Prelude.{IsSomeAnd}
 use Rattle.std.proofs.lemmas.List.{append-nil}
 use Rattle.update.specs.Bags.{Entry}

@@ -1,28 +1,27 @@
 -- What is read of a board where nothing waits is what the session reads.
-use Rattle.std.proofs.Common.{◌≡◌, ℕ, zero, suc, ◌<◌, Bool, true, false, not, ◌||◌, List, [], ◌∷◌, ◌++◌, length, get_or, Option, Some, None, Result, Ok, Err, IsTrue, refl, sym, ◌∙◌, ap, subst, inl, inr, ◌⊎◌, arith}
-use Rattle.std.specs.Prelude.{IfOk, IfErr, OnOk, OnErr}
+use Rattle.std.proofs.Common.{◌≡◌, ℕ, zero, suc, ◌<◌, Bool, false, not, ◌||◌, List, [], ◌∷◌, ◌++◌, length, get_or, Option, Some, None, Result, Ok, Err, IsTrue, refl, sym, ◌∙◌, ap, subst, inl, inr, ◌⊎◌, arith}
+use Rattle.std.specs.Prelude.{IfOk, IfErr, OnOk}
 use Rattle.std.specs.List.{list_all}
 use Rattle.lattice.specs.Frontiers.{is_beyond}
 use Rattle.lattice.specs.Order.{PartialOrderLaws}
-use Rattle.antichain.specs.Antichains.{SameElements, least}
+use Rattle.antichain.specs.Antichains.{least}
 use Rattle.antichain.proofs.Lists.{contains_among}
 use Rattle.update.specs.Bags.{Entry, Alike, IsBag}
 use Rattle.update.specs.declared.refusal.Refusal.{Refusal}
-use Rattle.update.specs.declared.refusal.Refusal.TheVariants.{OutOfMemory, Overflow, NotPassed, GivenUp}
+use Rattle.update.specs.declared.refusal.Refusal.TheVariants.{NotPassed, GivenUp}
 use Rattle.plan.specs.Changes.{query_at, open_for}
 use Rattle.plan.specs.Rules.{first_refusal}
-use Rattle.plan.specs.declared.node.Node.{Node}
 use Rattle.machine.specs.declared.event.Event.{Event}
 use Rattle.machine.specs.declared.event.Fed.{Fed}
 use Rattle.machine.specs.declared.event.Held.{Held}
 use Rattle.machine.specs.declared.event.Open.{Open}
-use Rattle.machine.specs.Dataflows.{Dataflow, IsDataflow}
+use Rattle.machine.specs.Dataflows.{IsDataflow}
 use Rattle.machine.specs.Worlds.{fed_to, open_at}
 use Rattle.machine.specs.Histories.{world}
 use Rattle.machine.specs.Outstanding.{frontier, input_frontier}
 use Rattle.machine.specs.Promises.{changes_in}
 use Rattle.machine.specs.Readings.{IsQuiet}
-use Rattle.machine.specs.Boards.{Shown, Stands, no_view}
+use Rattle.machine.specs.Boards.{Shown, Stands}
 use Rattle.machine.specs.Reads as reads
 use Rattle.machine.specs.Reads.{front, since_of, IsRefusalOr}
 use Rattle.machine.proofs.FrontLemmas.{front_stands}

@@ -1,7 +1,7 @@
 -- Small diffs stay small at a linear node, so none is too large to be negated.
-use Rattle.std.proofs.Common.{◌≡◌, ℕ, ◌<◌, ◌≤◌, ◌^◌, Bool, true, false, cond, ◌&&◌, nat_le, List, [], ◌∷◌, map, IsTrue, refl, ap, sym, ◌∙◌, subst, arith, w64, FitsSigned}
+use Rattle.std.proofs.Common.{◌≡◌, ℕ, ◌<◌, ◌≤◌, ◌^◌, true, nat_le, List, [], ◌∷◌, map, IsTrue, refl, ap, ◌∙◌, subst, arith, w64, FitsSigned}
 use Rattle.std.specs.Prelude.{ℤ, neg_ℤ, unsigned_abs}
-use Rattle.std.specs.List.{filter, list_all, AllByRecursion}
+use Rattle.std.specs.List.{AllByRecursion}
 use Rattle.std.proofs.lemmas.Bool.{and_parts, and_from}
 use Rattle.std.proofs.lemmas.Bool.Decides.{nat_tests}
 use Rattle.std.proofs.lemmas.Int.{ints, fits_signed_from_abs}

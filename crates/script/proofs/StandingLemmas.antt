@@ -1,35 +1,22 @@
 -- A board that stands for a session, after the events of clients.
-use Rattle.std.proofs.Common.{◌≡◌, ℕ, suc, ◌<◌, Bool, true, false, not, eqb, ltb-true, lt-ltb, nat_lt, nat_le, ℤ, pos, negsuc, unsigned_abs, arith, unwrap_or, slice_get, List, [], ◌∷◌, ◌++◌, length, get_or, replicate, Option, Some, None, Result, Ok, Err, IsTrue, refl, sym, ◌∙◌, ap, ap₂, subst, inl, inr, ◌⊎◌}
-use Rattle.std.specs.Prelude.{IfOk, IfErr, OnOk, OnErr, ◌&&◌}
+use Rattle.std.proofs.Common.{◌≡◌, ℕ, ◌<◌, Bool, not, eqb, ltb-true, List, ◌∷◌, ◌++◌, length, get_or, Option, Some, None, Result, Ok, Err, IsTrue, refl, sym, ◌∙◌, ap, subst, inl, inr, ◌⊎◌}
+use Rattle.std.specs.Prelude.{IfErr, OnOk, OnErr}
 use Rattle.std.specs.List.{All, filter}
-use Rattle.std.proofs.lemmas.Bool.{and_parts, and_from}
+use Rattle.std.proofs.lemmas.Bool.{and_parts}
 use Rattle.std.proofs.lemmas.Option.{unwrap_or-slice_get}
 use Rattle.plan.specs.Operators.{is_linear}
-use Rattle.plan.specs.declared.node.Node.TheVariants.{Input, Map, Filter, Concat, Negate, Arrange, Join, Reduce, Output}
+use Rattle.plan.specs.declared.node.Node.TheVariants.{Input}
 use Rattle.std.proofs.lemmas.Result.{on_ok_weaker, on_err_weaker}
 use Rattle.update.specs.declared.refusal.Refusal.{Refusal}
-use Rattle.update.specs.declared.refusal.Refusal.TheVariants.{OutOfMemory, WrongWidth, ZeroWeight, WeightTooLarge, TimePassed, InputFull}
 use Rattle.plan.specs.Rules.{IsRefusalBy, first_refusal}
-use Rattle.plan.specs.Nodes.{node_at, sources}
-use Rattle.plan.specs.Widths.{width_of}
-use Rattle.plan.proofs.PlanLemmas.{no_first}
-use Rattle.row.specs.Routing.{column_sum, route_of}
-use Rattle.std.specs.Int.{int_rem_euclid}
-use Rattle.std.specs.Ordering.{int_eq}
-use Rattle.lattice.specs.Frontiers.{is_beyond}
-use Rattle.lattice.specs.Naturals.{nat_lowest}
-use Rattle.std.proofs.lemmas.List.Folds.{list_all-append}
-use Rattle.std.proofs.lemmas.Int.{ints}
-use Rattle.plan.specs.Ancestors.{is_input}
 use Rattle.plan.specs.declared.node.Node.{Node}
 use Rattle.machine.specs.declared.event.Event.{Event}
 use Rattle.machine.specs.declared.event.Event.TheVariants.{Feed, Advance, Look}
 use Rattle.machine.specs.declared.event.Fed.{Fed}
 use Rattle.machine.specs.declared.event.Open.{Open}
 use Rattle.machine.specs.Dataflows.{Dataflow, IsDataflow}
-use Rattle.machine.specs.Shares.{home}
 use Rattle.machine.specs.Histories.{opening, IsInput}
-use Rattle.machine.specs.Worlds.{fed_to, open_at}
+use Rattle.machine.specs.Worlds.{fed_to}
 use Rattle.machine.specs.Boards as boards
 use Rattle.machine.specs.Boards.{Shown, Stands, looked, fed, advanced}
 use Rattle.grammar.specs.Commands.{is_input_of}
@@ -140,9 +127,12 @@ module _ {T : Type 0} (below : T → T → Bool) where
 
 -- on a board on which nothing has happened the one worker is idle
 pub ready_first : {T : Type 0} (minimum : T) (nodes : List Node) (b : Shown T) → b ≡ boards.first_board minimum (record { nodes = nodes; workers = 1 }) → All (λ node. IsTrue (is_linear node)) nodes → IsReadyUnless None b
-ready_first minimum nodes b e linear = subst (IsReadyUnless None) (sym e) (record {
-  alone = refl;
-  linear = λ n h. subst (λ (node : Node). IsTrue (is_linear node)) (sym (unwrap_or-slice_get nodes n (Input 0))) (linear n (Input 0) h);
-  held = refl;
-  hand = refl;
-}, refl)
+ready_first minimum nodes b e linear = subst (IsReadyUnless None) (sym e) (
+  record {
+    alone = refl;
+    linear = λ n h. subst (λ (node : Node). IsTrue (is_linear node)) (sym (unwrap_or-slice_get nodes n (Input 0))) (linear n (Input 0) h);
+    held = refl;
+    hand = refl;
+  },
+  refl,
+)

@@ -1,5 +1,5 @@
 -- What lines write and leave, one line after another.
-use Rattle.std.proofs.Common.{◌≡◌, ℕ, suc, ◌+◌, ◌<◌, List, [], ◌∷◌, ◌++◌, take, drop, length, get_or, refl, sym, ◌∙◌, ap, append_assoc, add-one, arith, take-append-drop, drop-cons}
+use Rattle.std.proofs.Common.{◌≡◌, ℕ, suc, ◌+◌, ◌<◌, List, [], ◌∷◌, ◌++◌, take, drop, length, get_or, refl, sym, ◌∙◌, ap, append_assoc, take-append-drop, drop-cons}
 use Rattle.std.proofs.lemmas.List.{append-nil, take_more}
 use Rattle.plan.specs.declared.node.Node.{Node}
 use Rattle.grammar.specs.declared.command.CommandLine.{CommandLine}

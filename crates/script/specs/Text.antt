@@ -4,7 +4,6 @@ use Rattle.lattice.specs.declared.product.Pair.{Pair}
 use Rattle.lattice.specs.Pairs.{make_pair, pair_below}
 use Rattle.update.specs.declared.refusal.Refusal.{Refusal}
 use Rattle.plan.specs.declared.node.Node.{Node}
-use Rattle.machine.specs.declared.event.Fed.{Fed}
 use Rattle.grammar.specs.declared.command.Command.{Command}
 use Rattle.grammar.specs.declared.command.Command.TheVariants.{Change, Advance, Close, Read}
 use Rattle.grammar.specs.declared.command.CommandLine.{CommandLine}

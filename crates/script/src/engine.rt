@@ -23,7 +23,12 @@ pub(crate) trait Engine {
     ghost stands: { Self → Sitting → Type 0 };
 
     /// A change of an input.
-    fn change(&mut self, input: NodeId, update: Update<Bitime>) -> Result<(), Refusal>
+    fn change(
+        &mut self,
+        alloc: Global,
+        input: NodeId,
+        update: Update<Bitime>,
+    ) -> Result<(), Refusal>
         requires { IsTrue (is_input_of (plan self.old) input) }
         ensures plan { plan self.new ≡ plan self.old }
         ensures answered { (s : Sitting) → stands self.old s

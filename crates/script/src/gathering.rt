@@ -71,7 +71,12 @@ impl Gathered {
     }
 
     // What is read, and how many rows there are.
-    pub(crate) fn print_read(&mut self, view: &str, time: Bitime, rows: usize) -> Result<(), AllocError>
+    pub(crate) fn print_read(
+        &mut self,
+        view: &str,
+        time: Bitime,
+        rows: usize,
+    ) -> Result<(), AllocError>
         ensures { OnOk result (self.new ≡ self.old ++ read_text view.now time rows) }
     {
         let valid = time.first;

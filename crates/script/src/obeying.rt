@@ -55,6 +55,7 @@ fn hand_over<E: Engine>(alloc: Global, engine: &mut E, command: &Command) -> Res
             diff,
             row,
         } => engine.change(
+            alloc,
             *input,
             Update {
                 time: *time,
@@ -62,7 +63,10 @@ fn hand_over<E: Engine>(alloc: Global, engine: &mut E, command: &Command) -> Res
                 diff: *diff,
             },
         ),
-        Command::Advance { input, times } => engine.advance(*input, copied(alloc, times.as_slice())?),
+        Command::Advance { input, times } => engine.advance(
+            *input,
+            copied(alloc, times.as_slice())?,
+        ),
         Command::Close { input } => engine.advance(*input, Times::from(Vec::new(alloc))),
         Command::Read { .. } => unreachable!(),
     }

@@ -21,6 +21,10 @@ use std::alloc::Global;
 use std::marker::Model;
 use update::{Bag, Refusal, Update};
 
+// With so many changes waiting the worker carries on before there is one more: what it looks through for each of them
+// stays short, however many there are.
+const BACKLOG: usize = 64;
+
 // The number of the only client: that of the events which commands are.
 const CLIENT: usize = 0;
 
@@ -30,6 +34,8 @@ pub(crate) struct Solo {
     board: Board<Bitime>,
     // What the worker met that ends a run, if anything: then it may have a piece in hand.
     ended: Option<Refusal>,
+    // How many changes may be waiting.
+    waiting: usize,
 }
 
 impl Model for Solo {
@@ -55,7 +61,11 @@ impl Solo {
     {
         let plan = plan.clone()?;
         let board = Board::open(alloc, plan, 1)?;
-        Ok(Solo { board, ended: None })
+        Ok(Solo {
+            board,
+            ended: None,
+            waiting: 0,
+        })
     }
 
     /// A change of an input.
@@ -98,6 +108,20 @@ impl Solo {
         }
     }
 
+    // There is one change more, before which the worker carries on where many wait.
+    fn make_room(&mut self, alloc: Global) -> Result<(), Refusal>
+        ensures plan { self.new.dataflow ≡ self.old.dataflow }
+        ensures stands { (s : Sitting) → StandsAs at_or_below (make_pair 0 0) self.old s → StandsAs at_or_below (make_pair 0 0) self.new s }
+        ensures refused { IfErr result EndsRun }
+    {
+        if self.waiting < BACKLOG {
+            self.waiting += 1;
+            return Ok(());
+        }
+        self.waiting = 1;
+        self.carry_on(alloc)
+    }
+
     // The rows of a view at a time, where nothing waits.
     fn rows(&self, view: NodeId, time: Bitime) -> Result<Bag, Refusal>
         requires view { IsTrue (is_view_of self.now.dataflow.nodes view) }
@@ -120,7 +144,13 @@ impl Engine for Solo {
 
     ghost stands = { λ b s. StandsAs at_or_below (make_pair 0 0) b s };
 
-    fn change(&mut self, input: NodeId, update: Update<Bitime>) -> Result<(), Refusal> {
+    fn change(
+        &mut self,
+        alloc: Global,
+        input: NodeId,
+        update: Update<Bitime>,
+    ) -> Result<(), Refusal> {
+        self.make_room(alloc)?;
         self.feed(input, update)
     }
 

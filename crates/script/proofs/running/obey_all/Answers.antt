@@ -36,8 +36,8 @@ returns-in_err-obey-clause-broke g c =
     let before = λ (s : Sitting). after_lines t.plan s (take i t.commands) in
     let p = err_from_is_err_and c.from_residual.result c.from_residual.ensures.1 in
     λ s h. rw (p.1, p.2)
-        (broke_more g.W.Out.took g.met.W.Out.in_turn c.args.out.now c.loop-line.out c.obey.new.out c.args.gathered.now
-        (lines_text t s (take i t.commands)) c.loop-line.gathered (piece t (before s) line)
-        (lines_text t (after t.plan (before s) line.command) (drop (suc i) t.commands)) (lines_text t s t.commands) _
-        (text_all t.commands i line within is t s)
-        (c.loop-line.invariant.wrote s h) (c.in_err-obey.ensures.broke (before s) (c.loop-line.invariant.stands s h)))
+    (broke_more g.W.Out.took g.met.W.Out.in_turn c.args.out.now c.loop-line.out c.obey.new.out c.args.gathered.now
+    (lines_text t s (take i t.commands)) c.loop-line.gathered (piece t (before s) line)
+    (lines_text t (after t.plan (before s) line.command) (drop (suc i) t.commands)) (lines_text t s t.commands) _
+    (text_all t.commands i line within is t s)
+    (c.loop-line.invariant.wrote s h) (c.in_err-obey.ensures.broke (before s) (c.loop-line.invariant.stands s h)))
