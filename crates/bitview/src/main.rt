@@ -20,6 +20,8 @@ use clap::Error;
 use clap::error::ErrorKind;
 use script::MemoryOut;
 use std::alloc::{AllocError, Global};
+use std::env::Env;
+use std::fs::Files;
 use std::process::ExitCode;
 use std::{env, fs, io, str};
 
@@ -67,11 +69,7 @@ fn obey<R: Files + AllocGlobal + Print + Eprint>(rt: &R, alloc: Global, given: &
 }
 
 // Reads the file, and acts on it.
-fn perform<R: Files + AllocGlobal + Print + Eprint>(
-    rt: &R,
-    alloc: Global,
-    action: Action<'_>,
-) -> u8
+fn perform<R: Files + AllocGlobal + Print + Eprint>(rt: &R, alloc: Global, action: Action<'_>) -> u8
     requires { IsInRange action }
 {
     let Action::Run { file, workers: _ } = action;

@@ -40,10 +40,25 @@ fn acted(alloc: Global, bytes: Option<&[u8]>) -> (u8, MemoryOut, MemoryOut) {
 #[test]
 fn each_status_has_its_line(rt: HostRuntime) -> Result<(), Fail> {
     let table: [(Option<&str>, u8, &str, &str); 5] = [
-        (Some("input a 1\nview v a\nstart\nclose a\nread v 0 0"), 0, "read v 0 0 0\n", ""),
-        (Some("input a 1\nview v a\nstart\nchange a 0 0 1 7\nread v 0 0\n"), 0, "refused 5 8\n", ""),
+        (
+            Some("input a 1\nview v a\nstart\nclose a\nread v 0 0"),
+            0,
+            "read v 0 0 0\n",
+            "",
+        ),
+        (
+            Some("input a 1\nview v a\nstart\nchange a 0 0 1 7\nread v 0 0\n"),
+            0,
+            "refused 5 8\n",
+            "",
+        ),
         (Some(""), 2, "", "fault line 1 code 34\n"),
-        (Some("input a 9\nread v 0 0\n"), 2, "", "fault line 1 code 20\n"),
+        (
+            Some("input a 9\nread v 0 0\n"),
+            2,
+            "",
+            "fault line 1 code 20\n",
+        ),
         (None, 3, "", "cannot read a.bv\n"),
     ];
     for (text, status, written, told) in table {
@@ -60,7 +75,13 @@ fn each_status_has_its_line(rt: HostRuntime) -> Result<(), Fail> {
 fn a_failed_output_is_told(rt: HostRuntime) -> Result<(), Fail> {
     let mut error = MemoryOut::new(rt.alloc());
     let text = "input a 1\nview v a\nstart\nclose a\nread v 0 0\n";
-    let status = act(rt.alloc(), ASKED, Some(text.as_bytes()), &mut Broken, &mut error);
+    let status = act(
+        rt.alloc(),
+        ASKED,
+        Some(text.as_bytes()),
+        &mut Broken,
+        &mut error,
+    );
     assert_eq!(rt; status, 3);
     assert_eq!(rt; error.bytes(), "cannot write\n".as_bytes());
     Ok(())
@@ -84,8 +105,14 @@ fn words_are_understood(rt: HostRuntime) -> Result<(), Fail> {
 #[test]
 fn other_words_are_not(rt: HostRuntime) -> Result<(), Fail> {
     let table: [(&[&str], ErrorKind); 6] = [
-        (&["bitview", "run", "a.bv", "--workers", "2"], ErrorKind::ValueValidation),
-        (&["bitview", "run", "a.bv", "--workers", "x"], ErrorKind::ValueValidation),
+        (
+            &["bitview", "run", "a.bv", "--workers", "2"],
+            ErrorKind::ValueValidation,
+        ),
+        (
+            &["bitview", "run", "a.bv", "--workers", "x"],
+            ErrorKind::ValueValidation,
+        ),
         (&["bitview", "run"], ErrorKind::MissingRequiredArgument),
         (&["bitview", "walk"], ErrorKind::InvalidSubcommand),
         (&["bitview", "--help"], ErrorKind::DisplayHelp),
