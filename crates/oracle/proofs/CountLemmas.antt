@@ -44,6 +44,13 @@ large_number k es large = (large.0, λ fits. large.1 (subst (FitsSigned w64) (sy
 abbrev pub answer : List ℤ → ℤ → List ℤ → ℤ
 answer key n row = cond (not (int_eq n (pos 0)) && same_row (key ++ n ∷ []) row) (pos 1) (pos 0)
 
+pub counted_at : (key : List ℤ) (n : ℤ) (row : List ℤ) → answer key n row ≡ count_of (counted key n) row
+counted_at key n row =
+    elim (int_eq n (pos 0)) as (λ b. cond (not b && same_row (key ++ n ∷ []) row) (pos 1) (pos 0) ≡ count_of (cond b [] (single (key ++ n ∷ []) ∷ [])) row) [
+      | true ↦ refl
+      | false ↦ sym (plus_zero (cond (same_row (key ++ n ∷ []) row) (pos 1) (pos 0)))
+    ]
+
 take_front : (k : ℕ) (r s : List ℤ) → length r ≡ k → take k (r ++ s) ≡ r
 take_front k r s l = subst (λ (n : ℕ). take n (r ++ s) ≡ r) l (front r)
   where
@@ -117,13 +124,6 @@ numbers_are k es totals bag keys alike row =
     ∙ (ap (λ n. answer (take k row) n row) (alike (take k row) ∙ count_keyed k es (take k row))
     ∙ (step (nat_le k (length row)) refl ∙ sym (by_key_at k (reduced Count) (all_reduce Count k) es row)))
   where
-    answered : (n : ℤ) → answer (take k row) n row ≡ count_of (counted (take k row) n) row
-    answered n =
-        elim (int_eq n (pos 0)) as (λ b. cond (not b && same_row (take k row ++ n ∷ []) row) (pos 1) (pos 0) ≡ count_of (cond b [] (single (take k row ++ n ∷ []) ∷ [])) row) [
-          | true ↦ refl
-          | false ↦ sym (plus_zero (cond (same_row (take k row ++ n ∷ []) row) (pos 1) (pos 0)))
-        ]
-
     short : length row < k → (n : ℤ) (b : Bool) → same_row (take k row ++ n ∷ []) row ≡ b → answer (take k row) n row ≡ pos 0
     short l n true t =
         let longer : length (take k row ++ n ∷ []) ≡ length row + 1 = length-append (take k row) (n ∷ []) ∙ ap (λ r. length r + 1) (take_all k row (omega (arith, l))) in
@@ -135,7 +135,7 @@ numbers_are k es totals bag keys alike row =
         none false = refl
 
     step : (b : Bool) → nat_le k (length row) ≡ b → answer (take k row) (sum_of_counts (filter (has_key k (take k row)) es)) row ≡ cond b (count_of (reduced Count (take k row) (filter (has_key k (take k row)) es)) row) (pos 0)
-    step true e = answered (sum_of_counts (filter (has_key k (take k row)) es))
+    step true e = counted_at (take k row) (sum_of_counts (filter (has_key k (take k row)) es)) row
     step false e = short (leb-false k (length row) e) (sum_of_counts (filter (has_key k (take k row)) es)) (same_row (take k row ++ sum_of_counts (filter (has_key k (take k row)) es) ∷ []) row) refl
 
 -- no reduction answers a row more than once

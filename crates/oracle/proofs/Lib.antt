@@ -6,3 +6,6 @@ pub mod RowLemmas
 pub mod EndLemmas
 pub mod CountLemmas
 pub mod ResultLemmas
+pub mod ProductLemmas
+pub mod NodeLemmas
+pub mod EvaluationLemmas

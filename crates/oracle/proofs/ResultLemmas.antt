@@ -9,3 +9,7 @@ ok_more P Q f (Err e) h = tt
 pub err_more : {X E : Type 0} (P Q : E → Type 0) → ((e : E) → P e → Q e) → (r : Result X E) → IfErr r P → IfErr r Q
 err_more P Q f (Ok x) h = tt
 err_more P Q f (Err e) h = f e h
+
+pub ok_both : {X E : Type 0} (P Q R : X → Type 0) → ((x : X) → P x → Q x → R x) → (r : Result X E) → IfOk r P → IfOk r Q → IfOk r R
+ok_both P Q R f (Ok x) h k = f x h k
+ok_both P Q R f (Err e) h k = tt

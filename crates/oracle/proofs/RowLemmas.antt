@@ -48,10 +48,14 @@ some_row p bag is h =
     let found = Any-from_list_any (λ (e : Entry). p e.row) bag h in
     ((get_or bag found.0 found.1).row, ap (λ (e : Entry). p e.row) found.3 ∙ found.4, λ z. counts_at bag is found.0 found.1 found.2 (sym (count_at bag found.0 found.1 found.2 is.ascending) ∙ z))
 
--- what all rows of a list pass, all rows of its bag do
-pub rows_pass : (p : List ℤ → Bool) (bag es : List Entry) → IsBag bag → Alike bag es → IsTrue (list_all (λ e. p e.row) es) → IsTrue (list_all (λ e. p e.row) bag)
-rows_pass p bag es is alike h = list_all-from_AllPass (λ (e : Entry). p e.row) bag (λ i d l. step i d l (p (get_or bag i d).row) refl)
+-- where a row that does not pass counts 0, all rows of the bag pass
+pub rows_by_counts : (p : List ℤ → Bool) (bag : List Entry) → IsBag bag → ((row : List ℤ) → p row ≡ false → count_of bag row ≡ pos 0) → IsTrue (list_all (λ e. p e.row) bag)
+rows_by_counts p bag is none = list_all-from_AllPass (λ (e : Entry). p e.row) bag (λ i d l. step i d l (p (get_or bag i d).row) refl)
   where
     step : (i : ℕ) (d : Entry) → i < length bag → (b : Bool) → p (get_or bag i d).row ≡ b → p (get_or bag i d).row ≡ true
     step i d l true e = e
-    step i d l false e = absurd (counts_at bag is i d l (sym (count_at bag i d l is.ascending) ∙ (alike (get_or bag i d).row ∙ absent_row p es (get_or bag i d).row h e)))
+    step i d l false e = absurd (counts_at bag is i d l (sym (count_at bag i d l is.ascending) ∙ none (get_or bag i d).row e))
+
+-- what all rows of a list pass, all rows of its bag do
+pub rows_pass : (p : List ℤ → Bool) (bag es : List Entry) → IsBag bag → Alike bag es → IsTrue (list_all (λ e. p e.row) es) → IsTrue (list_all (λ e. p e.row) bag)
+rows_pass p bag es is alike h = rows_by_counts p bag is (λ row n. alike row ∙ absent_row p es row h n)

@@ -2,3 +2,4 @@ pub mod Entries
 pub mod Keys
 pub mod Products
 pub mod Reduced
+pub mod Evaluation

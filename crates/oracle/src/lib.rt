@@ -8,7 +8,12 @@
 #![tactic(auto)]
 
 mod entries;
+mod evaluation;
 mod join;
 mod keys;
 mod linear;
+mod node;
+mod operators;
 mod reductions;
+
+pub use evaluation::evaluate;

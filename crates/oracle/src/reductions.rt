@@ -13,6 +13,7 @@ ghost use Rattle.oracle.specs.Reduced.{keyed, numbered, is_least, is_greatest, H
 
 use crate::entries::{Entries, added_up, count_at, is_positive, put, put_entry, row_at};
 use crate::keys::key_at;
+use plan::Kind;
 use row::Row;
 use std::alloc::Global;
 use update::{Bag, Refusal};
@@ -31,8 +32,8 @@ fn put_present(entries: &mut Entries, bag: &Bag) -> Result<(), Refusal>
     Ok(())
 }
 
-/// The rows that count more than 0 times, each once: what distinct answers, by a key of however many columns all rows have.
-pub(crate) fn distinct(alloc: Global, bag: &Bag) -> Result<Bag, Refusal>
+// The rows that count more than 0 times, each once: what distinct answers, by a key of however many columns all rows have.
+fn distinct(alloc: Global, bag: &Bag) -> Result<Bag, Refusal>
     ensures distinct { IfOk result (λ out. (k : ℕ) → IsTrue (have_keys k bag.now) → Alike out (reduced_by_key k (reduced Distinct) bag.now)) }
     ensures bag { IfOk result IsBag }
     ensures refused { IfErr result (λ refused. refused ≡ Refusal.OutOfMemory) }
@@ -152,11 +153,11 @@ fn numbered(alloc: Global, totals: &Bag) -> Result<Bag, Refusal>
     added_up(alloc, &entries)
 }
 
-/// How often the rows of each key count together: the key and that number, where it is not 0. [`Refusal::Overflow`] only
-/// where some such number is no 64-bit number.
-///
-/// Cost: two sorts.
-pub(crate) fn counted(alloc: Global, bag: &Bag, k: usize) -> Result<Bag, Refusal>
+// How often the rows of each key count together: the key and that number, where it is not 0. [`Refusal::Overflow`] only
+// where some such number is no 64-bit number.
+//
+// Cost: two sorts.
+fn counted(alloc: Global, bag: &Bag, k: usize) -> Result<Bag, Refusal>
     requires some { 1 ≤ k }
     requires room { k ≤ 7 }
     requires keys { IsTrue (have_keys k bag.now) }
@@ -168,10 +169,10 @@ pub(crate) fn counted(alloc: Global, bag: &Bag, k: usize) -> Result<Bag, Refusal
     numbered(alloc, &totals)
 }
 
-/// Of the rows that count more than 0 times the least of each key, once. Refused only for want of memory.
-///
-/// Cost: two sorts.
-pub(crate) fn least(alloc: Global, bag: &Bag, k: usize) -> Result<Bag, Refusal>
+// Of the rows that count more than 0 times the least of each key, once. Refused only for want of memory.
+//
+// Cost: two sorts.
+fn least(alloc: Global, bag: &Bag, k: usize) -> Result<Bag, Refusal>
     requires { IsTrue (have_keys k bag.now) }
     ensures least { IfOk result (λ out. Alike out (reduced_by_key k (reduced Min) bag.now)) }
     ensures bag { IfOk result IsBag }
@@ -183,10 +184,10 @@ pub(crate) fn least(alloc: Global, bag: &Bag, k: usize) -> Result<Bag, Refusal>
     added_up(alloc, &entries)
 }
 
-/// Of the rows that count more than 0 times the greatest of each key, once. Refused only for want of memory.
-///
-/// Cost: two sorts.
-pub(crate) fn greatest(alloc: Global, bag: &Bag, k: usize) -> Result<Bag, Refusal>
+// Of the rows that count more than 0 times the greatest of each key, once. Refused only for want of memory.
+//
+// Cost: two sorts.
+fn greatest(alloc: Global, bag: &Bag, k: usize) -> Result<Bag, Refusal>
     requires { IsTrue (have_keys k bag.now) }
     ensures greatest { IfOk result (λ out. Alike out (reduced_by_key k (reduced Max) bag.now)) }
     ensures bag { IfOk result IsBag }
@@ -196,4 +197,22 @@ pub(crate) fn greatest(alloc: Global, bag: &Bag, k: usize) -> Result<Bag, Refusa
     let mut entries = Vec::new(alloc);
     put_last(&mut entries, &present, k)?;
     added_up(alloc, &entries)
+}
+
+/// What the reduction answers for each key of `k` columns. [`Refusal::Overflow`] only of a count, where the rows of some key
+/// count together as often as no 64-bit number says.
+pub(crate) fn reduced(alloc: Global, bag: &Bag, kind: Kind, k: usize) -> Result<Bag, Refusal>
+    requires some { 1 ≤ k }
+    requires room { kind ≡ Count → k ≤ 7 }
+    requires keys { IsTrue (have_keys k bag.now) }
+    ensures reduced { IfOk result (λ out. Alike out (reduced_by_key k (reduced kind) bag.now)) }
+    ensures bag { IfOk result IsBag }
+    ensures refused { IfErr result (IsRefusal ((kind ≡ Count) × HasLargeNumber k bag.now)) }
+{
+    match kind {
+        Kind::Count => counted(alloc, bag, k),
+        Kind::Distinct => distinct(alloc, bag),
+        Kind::Min => least(alloc, bag, k),
+        Kind::Max => greatest(alloc, bag, k),
+    }
 }
