@@ -1,5 +1,5 @@
 -- Counts: the totals of the keys are the numbers, and a row of a key and its number is what count answers.
-use Rattle.std.proofs.Common.{◌≡◌, ◌≢◌, ℕ, zero, suc, ◌+◌, ◌<◌, ◌≤◌, Bool, true, false, cond, List, [], ◌∷◌, ◌++◌, ℤ, map, take, take_all, length, get_or, IsTrue, ◌⊎◌, ⊎_elim, inl, inr, refl, ap, sym, subst, ◌∙◌, w64, FitsSigned, rules, arith, length-append}
+use Rattle.std.proofs.Common.{◌≡◌, ◌≢◌, ℕ, ◌+◌, ◌<◌, ◌≤◌, Bool, true, false, cond, List, [], ◌∷◌, ◌++◌, ℤ, map, take, take_all, length, IsTrue, ⊎_elim, inl, inr, refl, ap, sym, subst, ◌∙◌, w64, FitsSigned, rules, arith, length-append}
 use Rattle.std.specs.Prelude.{pos, ◌+ℤ◌, not, ◌&&◌, nat_le, eqb}
 use Rattle.std.specs.Cmp.{signed_Decides}
 use Rattle.std.specs.Cmp.Lexicographic.{slice_cmp}
@@ -7,7 +7,6 @@ use Rattle.std.specs.List.{filter, list_all, AllByRecursion}
 use Rattle.std.specs.List.Sorted.{IsStrictlySortedBy}
 use Rattle.std.specs.Ordering.{int_cmp, int_eq}
 use Rattle.std.proofs.lemmas.Bool.{and_parts, and_from, true≢false, leb-true, leb-false, le-leb, eqb-true, eq-eqb}
-use Rattle.std.proofs.lemmas.Int.{ints}
 use Rattle.std.proofs.lemmas.List.{length-take-le}
 use Rattle.update.specs.Bags.{Entry, Alike, IsBag, HasLargeCount, count_of, same_row}
 use Rattle.update.proofs.BagLemmas.{count_absent}
@@ -20,7 +19,7 @@ use Rattle.plan.specs.declared.node.Kind.TheVariants.{Count}
 use Rattle.plan.proofs.AnswerLemmas.{answered_once}
 use Rattle.plan.proofs.ReducerLemmas.{all_reduce}
 use Rattle.plan.proofs.ReductionLemmas.{by_key_at}
-use Rattle.plan.proofs.WeighLemmas.{row_same, row_itself, when_zero}
+use Rattle.plan.proofs.WeighLemmas.{row_same, row_itself}
 use Rattle.oracle.specs.Entries.{IsRefusal}
 use Rattle.oracle.specs.Keys.{have_keys}
 use Rattle.oracle.specs.Reduced.{keyed, numbered, HasLargeNumber}

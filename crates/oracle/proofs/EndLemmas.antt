@@ -1,5 +1,5 @@
 -- The first and the last row of each key: that they are found by their neighbours, and that min and max answer them.
-use Rattle.std.proofs.Common.{◌≡◌, ℕ, zero, suc, ◌+◌, ◌<◌, ◌≤◌, Bool, true, false, cond, List, [], ◌∷◌, ℤ, take, length, get_or, IsTrue, ◌⊎◌, ⊎_elim, inl, inr, refl, ap, sym, subst, ◌∙◌, ◌↔◌, ◌-◌, eq-or-lt_of_le, arith}
+use Rattle.std.proofs.Common.{◌≡◌, ℕ, ◌+◌, ◌<◌, ◌≤◌, Bool, true, false, cond, List, ℤ, take, length, get_or, IsTrue, ⊎_elim, refl, ap, sym, subst, ◌∙◌, ◌↔◌, ◌-◌, eq-or-lt_of_le, arith}
 use Rattle.std.specs.Prelude.{pos, not, ◌&&◌, int_lt, nat_le}
 use Rattle.std.specs.List.{filter, list_any}
 use Rattle.std.specs.Cmp.Lexicographic.{slice_cmp}

@@ -1,11 +1,11 @@
 -- The bags of nodes, one after another: from those before it a node has the bag that the query says.
-use Rattle.std.proofs.Common.{◌≡◌, ℕ, zero, suc, ◌+◌, ◌*◌, ◌<◌, ◌≤◌, Bool, true, false, cond, List, [], ◌∷◌, ◌++◌, ℤ, map, take, length, get_or, IsTrue, ◌⊎◌, ⊎_elim, inl, inr, refl, ap, sym, subst, ◌∙◌, length-append, Option, Some, None, Result, w64, FitsSigned, add-one, eq-or-lt_of_le, arith}
+use Rattle.std.proofs.Common.{◌≡◌, ℕ, zero, suc, ◌+◌, ◌<◌, ◌≤◌, Bool, true, false, cond, List, [], ◌∷◌, ◌++◌, ℤ, map, take, length, IsTrue, ⊎_elim, inl, inr, refl, ap, sym, subst, ◌∙◌, length-append, Option, Some, None, Result, w64, FitsSigned, eq-or-lt_of_le, arith}
 use Rattle.std.specs.Prelude.{pos, IfOk, IfErr, ◌+ℤ◌, ◌*ℤ◌, eqb, slice_get}
 use Rattle.std.specs.List.{filter, list_all}
 use Rattle.std.proofs.lemmas.Bool.{and_parts, and_from}
 use Rattle.std.proofs.lemmas.List.{get_or_push}
 use Rattle.std.proofs.lemmas.List.Elements.{filter-append}
-use Rattle.update.specs.Bags.{Entry, Alike, IsBag, HasLargeCount, count_of, same_row}
+use Rattle.update.specs.Bags.{Entry, Alike, IsBag, count_of, same_row}
 use Rattle.update.specs.Updates.{as_of}
 use Rattle.update.specs.declared.change.Update.{Update}
 use Rattle.plan.specs.Ancestors.{is_above, is_input, numbers_below}

@@ -1,8 +1,8 @@
 -- What every plan gives its nodes: that the rows at a node's ports have the columns that its operator names, and that the
 -- rows which it gives have its width.
-use Rattle.std.proofs.Common.{◌≡◌, ℕ, zero, suc, ◌+◌, ◌-◌, ◌<◌, ◌≤◌, Bool, true, false, cond, List, [], ◌∷◌, ◌++◌, ℤ, map, take, drop, length, get_or, IsTrue, ◌⊎◌, ⊎_elim, inl, inr, refl, ap, sym, subst, ◌∙◌, length-append, length-drop, Some, None, arith}
-use Rattle.std.specs.Prelude.{pos, neg_ℤ, ◌+ℤ◌, ◌&&◌, not, int_lt, nat_le, eqb, slice_get, slice_index_or}
-use Rattle.std.specs.List.{filter, flat_map, list_all}
+use Rattle.std.proofs.Common.{◌≡◌, ℕ, suc, ◌+◌, ◌-◌, ◌<◌, ◌≤◌, Bool, true, false, cond, List, [], ◌∷◌, ◌++◌, ℤ, map, take, drop, length, IsTrue, ◌⊎◌, ⊎_elim, refl, ap, sym, subst, ◌∙◌, length-append, length-drop, Some, None, arith}
+use Rattle.std.specs.Prelude.{pos, neg_ℤ, ◌&&◌, not, int_lt, nat_le, eqb, slice_get}
+use Rattle.std.specs.List.{filter, list_all}
 use Rattle.std.specs.Ordering.{int_eq}
 use Rattle.std.proofs.lemmas.Bool.{and_parts, and_from, true≢false, leb-true, le-leb, eqb-true, eq-eqb}
 use Rattle.std.proofs.lemmas.List.{length-take-le, length-map}
@@ -12,7 +12,7 @@ use Rattle.row.specs.declared.projection.Item.{Item}
 use Rattle.row.specs.declared.testing.Test.{Test}
 use Rattle.update.specs.Bags.{Entry, Alike, IsBag, HasLargeCount, count_of, same_row}
 use Rattle.plan.specs.Nodes.{node_at, sources, key_width}
-use Rattle.plan.specs.Operators.{given, is_linear, mapped, negated, paired, joined, reduced_by_key}
+use Rattle.plan.specs.Operators.{given, is_linear, mapped, paired, joined, reduced_by_key}
 use Rattle.plan.specs.Queries.{handed}
 use Rattle.plan.specs.Ancestors.{is_input}
 use Rattle.plan.specs.Reductions.{reduced, has_key, is_present, sum_of_counts}
@@ -29,13 +29,12 @@ use Rattle.plan.proofs.PlanLemmas.{source_smaller, no_first, no_fault}
 use Rattle.plan.proofs.ReducerLemmas.{all_reduce}
 use Rattle.plan.proofs.ReductionLemmas.{by_key_at}
 use Rattle.plan.proofs.StepLemmas.{width_by_sources}
-use Rattle.plan.proofs.WeighLemmas.{row_same, when_zero, count_of-append, count_of-negated, count_of-filter}
+use Rattle.plan.proofs.WeighLemmas.{row_same, when_zero, count_of-negated, count_of-filter}
 use Rattle.plan.proofs.WidthLemmas.{faultless, width_bounds}
 use Rattle.oracle.specs.Entries.{all_wide}
 use Rattle.oracle.specs.Keys.{have_keys}
-use Rattle.oracle.specs.Evaluation.{ports, given_at, HasLargeAt, HasLargeStep, HasLargeProductOf}
+use Rattle.oracle.specs.Evaluation.{given_at, HasLargeAt, HasLargeStep, HasLargeProductOf}
 use Rattle.oracle.proofs.CountLemmas.{answer, counted_at}
-use Rattle.oracle.proofs.DistinctLemmas.{zero_plus}
 use Rattle.oracle.proofs.RowLemmas.{absent_row, rows_by_counts}
 
 -- what holds of a width holds of all rows of it

@@ -1,5 +1,5 @@
 -- What is too large of the entries of bags is too large of their rows.
-use Rattle.std.proofs.Common.{◌≡◌, ℕ, List, [], ◌∷◌, ℤ, map, take, length, get_or, ap, sym, subst, ◌∙◌, w64, FitsSigned, ◌<◌}
+use Rattle.std.proofs.Common.{◌≡◌, ℕ, List, map, take, length, get_or, ap, sym, subst, ◌∙◌, w64, FitsSigned, ◌<◌}
 use Rattle.std.specs.Prelude.{neg_ℤ, ◌*ℤ◌}
 use Rattle.std.specs.List.{Any}
 use Rattle.update.specs.Bags.{Entry, IsBag, HasLargeCount, count_of}

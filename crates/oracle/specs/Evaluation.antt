@@ -1,5 +1,5 @@
 -- Where a query is worked out: what a node has at its ports, which list is which input's, and what can be no 64-bit number.
-use Rattle.std.specs.Prelude.{◌≡◌, ℕ, Bool, true, List, [], ◌⊎◌, ◌<◌, take, length, eqb, ◌*ℤ◌, FitsSigned, IsTrue, slice_get, slice_index_or, ℤ}
+use Rattle.std.specs.Prelude.{◌≡◌, ℕ, Bool, true, List, [], ◌⊎◌, ◌<◌, take, length, eqb, not, ◌||◌, ◌*ℤ◌, FitsSigned, IsTrue, slice_get, slice_index_or, ℤ}
 use Rattle.std.specs.Int.{w64}
 use Rattle.std.specs.List.{filter, list_all}
 use Rattle.update.specs.Bags.{Entry, Alike, HasLargeCount, count_of}
@@ -10,7 +10,6 @@ use Rattle.plan.specs.Ancestors.{is_above, is_input, numbers_below}
 use Rattle.plan.specs.Operators.{given}
 use Rattle.plan.specs.Queries.{query, handed}
 use Rattle.plan.specs.Widths.{width_of}
-use Rattle.plan.specs.declared.node.Kind.{Kind}
 use Rattle.plan.specs.declared.node.Kind.TheVariants.{Count, Distinct, Min, Max}
 use Rattle.plan.specs.declared.node.Node.{Node}
 use Rattle.plan.specs.declared.node.Node.TheVariants.{Input, Map, Filter, Concat, Negate, Arrange, Join, Reduce, Output}
@@ -63,6 +62,10 @@ inputs_before p n = length (filter (λ m. is_input (node_at p m)) (numbers_below
 -- the list of an input, where there is one list for each, in the order of their numbers
 abbrev pub list_of : {X : Type 0} → List Node → List (List X) → ℕ → List X
 list_of p lists n = slice_index_or lists (inputs_before p n) []
+
+-- the node is no input, or the rows of its list have its width
+abbrev pub is_wide_at : {T : Type 0} → List Node → List (List (Update T)) → ℕ → Bool
+is_wide_at p lists n = not (is_input (node_at p n)) || list_all (λ u. eqb (length u.row) (width_of p n)) (list_of p lists n)
 
 -- the rows of each input's list have its width
 abbrev pub AreWide : {T : Type 0} → List Node → List (List (Update T)) → Type 0

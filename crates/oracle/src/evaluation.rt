@@ -1,14 +1,15 @@
 //! The query at a time, worked out from scratch. The bags of the nodes are found one after another in the order of their
 //! numbers, so that each is found once and its sources' are there before it. Nodes that do not stand above the view have
 //! the empty bag: they are not computed, and nothing in them can be too large.
-ghost use Rattle.std.specs.Prelude.{◌≡◌, ◌≤◌, ◌<◌, map, length, IfOk, IfErr, IsTrue};
+ghost use Rattle.std.specs.Prelude.{◌≡◌, ◌≤◌, ◌<◌, ◌↔◌, eqb, map, length, IfOk, IfErr, IsTrue};
+ghost use Rattle.std.specs.List.{list_all};
 ghost use Rattle.update.specs.Bags.{Alike, IsBag};
 ghost use Rattle.plan.specs.Ancestors.{is_above};
 ghost use Rattle.plan.specs.Changes.{query_at};
 ghost use Rattle.plan.specs.Queries.{query};
 ghost use Rattle.plan.specs.Widths.{width_of};
 ghost use Rattle.oracle.specs.Entries.{all_wide, IsRefusal};
-ghost use Rattle.oracle.specs.Evaluation.{AreBags, AreWide, HasLargeAbove, inputs_before, list_of, sums_at};
+ghost use Rattle.oracle.specs.Evaluation.{AreBags, AreWide, HasLargeAbove, inputs_before, is_wide_at, list_of, sums_at};
 
 use crate::entries::added_up;
 use crate::node::of_node;
@@ -44,6 +45,41 @@ fn list_of<'a, T: Lattice>(
         Some(list) => list.as_slice(),
         None => &[],
     }
+}
+
+// Whether the rows of a list have so many columns.
+fn have_width<T: Lattice>(updates: &[Update<T>], width: usize) -> bool
+    ensures { result ≡ list_all (λ u. eqb (length u.row) width) updates.now }
+{
+    for update in updates {
+        if update.row.width() != width {
+            return false;
+        }
+    }
+    true
+}
+
+// Whether the node is no input, or its changes have its width.
+fn is_wide<T: Lattice>(plan: &Plan, changes: &[Vec<Update<T>>], id: NodeId) -> bool
+    requires { id < length plan.now }
+    ensures { result ≡ is_wide_at plan.now (map (λ v. v.items) changes.now) id }
+{
+    !plan.node(id).is_input() || have_width(list_of(plan, changes, id), plan.width(id))
+}
+
+/// Whether the changes of each input have its width, as [`evaluate`] asks. `changes` has a list for each input, in the order of
+/// the inputs' numbers. Takes no memory.
+///
+/// Cost: the changes are looked at once.
+pub fn are_wide<T: Lattice>(plan: &Plan, changes: &[Vec<Update<T>>]) -> bool
+    ensures { IsTrue result ↔ AreWide plan.now (map (λ v. v.items) changes.now) }
+{
+    for n in 0..plan.len() {
+        if !is_wide(plan, changes, NodeId::new(n)) {
+            return false;
+        }
+    }
+    true
 }
 
 // The bag of the node behind those whose bags are there.

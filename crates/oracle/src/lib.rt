@@ -16,4 +16,4 @@ mod node;
 mod operators;
 mod reductions;
 
-pub use evaluation::evaluate;
+pub use evaluation::{are_wide, evaluate};

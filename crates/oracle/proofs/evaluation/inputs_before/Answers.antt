@@ -1,7 +1,6 @@
 use Rattle.std.proofs.Common.{◌≡◌, ◌+◌, ◌∙◌, ap, sym, arith}
 use Rattle.plan.specs.Nodes.{node_at}
 use Rattle.plan.specs.Ancestors.{is_input}
-use Rattle.oracle.specs.Evaluation.{inputs_before}
 use Rattle.oracle.proofs.EvaluationLemmas.{inputs_few, inputs_with, inputs_without}
 use Rattle.oracle.proofs.evaluation.inputs_before.Goals as goal
 

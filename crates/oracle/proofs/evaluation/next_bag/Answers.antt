@@ -1,8 +1,8 @@
-use Rattle.std.proofs.Common.{◌≡◌, ◌∙◌, true, map, length, ap, sym, subst}
+use Rattle.std.proofs.Common.{◌≡◌, ◌∙◌, true, map, length, ap, sym}
 use Rattle.update.specs.Updates.{as_of}
 use Rattle.plan.specs.Ancestors.{is_above}
 use Rattle.plan.specs.Widths.{width_of}
-use Rattle.oracle.specs.Evaluation.{list_of, sums_at}
+use Rattle.oracle.specs.Evaluation.{sums_at}
 use Rattle.oracle.proofs.EvaluationLemmas.{query_ok, wide_ok, large_err, empty_wide, inputs_wide}
 use Rattle.oracle.proofs.evaluation.next_bag.Goals as goal
 

@@ -1,16 +1,12 @@
-use Rattle.std.proofs.Common.{◌≡◌, ◌∙◌, ◌++◌, ℕ, List, map, IsTrue, ap, sym, subst, inl, inr, ◌⊎◌}
-use Rattle.std.specs.List.{filter, list_all}
-use Rattle.row.specs.Projection.{is_within}
+use Rattle.std.proofs.Common.{◌≡◌, ◌∙◌, List, map, ap, sym, subst, inl, ◌⊎◌}
+use Rattle.std.specs.List.{filter}
 use Rattle.row.specs.Testing.{passes}
 use Rattle.update.specs.Bags.{Entry, HasLargeCount}
 use Rattle.update.specs.Updates.{as_of}
 use Rattle.plan.specs.Nodes.{node_at, key_width}
 use Rattle.plan.specs.Operators.{mapped, joined}
-use Rattle.plan.specs.Rules.{is_test_within}
-use Rattle.plan.specs.declared.node.Node.{Node}
 use Rattle.plan.specs.declared.node.Node.TheVariants.{Input, Map, Filter, Join, Reduce}
 use Rattle.oracle.specs.Entries.{IsRefusal}
-use Rattle.oracle.specs.Keys.{have_keys}
 use Rattle.oracle.specs.Evaluation.{bag_of, HasLargeAt, HasLargeProductOf}
 use Rattle.oracle.proofs.CountLemmas.{refused_by}
 use Rattle.oracle.proofs.NodeLemmas.{map_within, filter_within, left_keys, right_keys, join_room, reduce_some, reduce_keys, count_room, large_of, join_large}

@@ -1,4 +1,4 @@
-use Rattle.std.proofs.Common.{◌≡◌, ◌∙◌, List, map}
+use Rattle.std.proofs.Common.{◌∙◌, List, map}
 use Rattle.update.specs.Bags.{Entry, Alike, HasLargeCount}
 use Rattle.plan.specs.Operators.{reduced_by_key}
 use Rattle.plan.specs.Reductions.{reduced}
