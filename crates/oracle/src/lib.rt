@@ -9,11 +9,15 @@
 
 mod entries;
 mod evaluation;
+#[cfg(test)]
+mod evaluation_tests;
 mod join;
 mod keys;
 mod linear;
 mod node;
 mod operators;
 mod reductions;
+#[cfg(test)]
+mod sketches;
 
 pub use evaluation::{are_wide, evaluate};
