@@ -9,3 +9,4 @@ pub mod ResultLemmas
 pub mod ProductLemmas
 pub mod NodeLemmas
 pub mod EvaluationLemmas
+pub mod GridLemmas

@@ -3,3 +3,4 @@ pub mod Keys
 pub mod Products
 pub mod Reduced
 pub mod Evaluation
+pub mod Grid

@@ -13,6 +13,7 @@ mod entries;
 mod evaluation;
 #[cfg(test)]
 mod evaluation_tests;
+mod grid;
 mod join;
 mod keys;
 mod linear;
