@@ -29,7 +29,7 @@ pub fn act<W: Out, E: Out>(
     error: &mut E,
 ) -> u8
     requires { IsInRange action }
-    ensures { Acts (λ taken failures. W.took out.old taken failures out.new) (option_map (λ b. b.now) bytes) result }
+    ensures { Acts (λ taken failures. W.took out.old taken failures out.new) (option_map (λ b. b.now) bytes.entry) result }
 {
     let Action::Run { file, workers } = action;
     match bytes {
