@@ -10,6 +10,8 @@
 #![tactic(auto)]
 
 mod difference;
+#[cfg(test)]
+mod difference_tests;
 mod entries;
 mod evaluation;
 #[cfg(test)]
