@@ -10,3 +10,5 @@ pub mod ProductLemmas
 pub mod NodeLemmas
 pub mod EvaluationLemmas
 pub mod GridLemmas
+pub mod ListingLemmas
+pub mod DifferenceLemmas

@@ -4,3 +4,4 @@ pub mod Products
 pub mod Reduced
 pub mod Evaluation
 pub mod Grid
+pub mod Listing

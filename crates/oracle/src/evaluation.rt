@@ -18,8 +18,8 @@ use plan::{NodeId, Plan};
 use std::alloc::Global;
 use update::{Bag, Refusal, Update};
 
-// How many inputs have smaller numbers.
-fn inputs_before(plan: &Plan, id: NodeId) -> usize
+/// How many inputs have smaller numbers.
+pub(crate) fn inputs_before(plan: &Plan, id: NodeId) -> usize
     requires { id ≤ length plan.now }
     ensures { result ≡ inputs_before plan.now id }
 {

@@ -9,6 +9,9 @@
 //! [`Refusal::Overflow`]: update::Refusal::Overflow
 #![tactic(auto)]
 
+mod difference;
+#[cfg(test)]
+mod difference_tests;
 mod entries;
 mod evaluation;
 #[cfg(test)]
@@ -17,10 +20,12 @@ mod grid;
 mod join;
 mod keys;
 mod linear;
+mod listing;
 mod node;
 mod operators;
 mod reductions;
 #[cfg(test)]
 mod sketches;
 
+pub use difference::differences;
 pub use evaluation::{are_wide, evaluate};

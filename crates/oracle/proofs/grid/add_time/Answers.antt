@@ -1,4 +1,3 @@
-use Rattle.std.proofs.Common.{◌≡◌, ◌∙◌, ◌++◌, ◌∷◌, [], map, ap, sym, subst}
 use Rattle.oracle.proofs.GridLemmas.{added_closed, added_old}
 use Rattle.oracle.proofs.grid.add_time.Goals as goal
 

@@ -1,5 +1,4 @@
-use Rattle.std.proofs.Common.{◌∙◌, map, List}
-use Rattle.oracle.specs.Grid.{IsGrid}
+use Rattle.std.proofs.Common.{map}
 use Rattle.oracle.proofs.GridLemmas.{grid_ok}
 use Rattle.oracle.proofs.grid.grid.Goals as goal
 

@@ -1,6 +1,5 @@
-use Rattle.std.proofs.Common.{◌≡◌, ◌<◌, ◌∙◌, [], map, length, get_or, ap, sym, subst, take_all, arith}
+use Rattle.std.proofs.Common.{◌≡◌, ◌<◌, ◌∙◌, [], map, length, get_or, sym, arith}
 use Rattle.std.proofs.lemmas.List.{get_or-map, length-map}
-use Rattle.oracle.specs.Grid.{Covers}
 use Rattle.oracle.proofs.GridLemmas.{covers_next, covers_all}
 use Rattle.oracle.proofs.grid.occurring.Goals as goal
 

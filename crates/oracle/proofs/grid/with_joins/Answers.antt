@@ -1,5 +1,4 @@
-use Rattle.std.proofs.Common.{◌<◌, length, take_all, sym, subst, arith}
-use Rattle.std.specs.List.{All, Contains}
+use Rattle.std.proofs.Common.{sym, subst, arith}
 use Rattle.std.specs.List.Sorted.{IsStrictlySortedBy}
 use Rattle.oracle.specs.Grid.{IsClosed}
 use Rattle.oracle.proofs.GridLemmas.{sorted_none, closed_none, kept_next, kept_all}

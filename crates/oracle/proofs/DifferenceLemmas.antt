@@ -1,0 +1,338 @@
+-- Lists of differences: that they go on along a grid, and that at its end they are the differences of the view.
+use Rattle.std.proofs.Common.{◌≡◌, ◌≢◌, ℕ, zero, suc, ◌+◌, ◌<◌, Bool, true, false, cond, List, [], ◌∷◌, ◌++◌, ℤ, map, take, drop, length, get_or, IsTrue, ◌⊎◌, ⊎_elim, inl, inr, refl, ap, sym, subst, ◌∙◌, eq-or-lt_of_le, length-take-le, Option, Some, None, Result, Ok, Err, Vec, arith}
+use Rattle.std.specs.Prelude.{pos, ◌+ℤ◌, not, slice_get, IfOk}
+use Rattle.std.specs.List.{filter, flat_map, list_all, AllByRecursion, Contains}
+use Rattle.std.specs.List.Sorted.{IsStrictlySortedBy}
+use Rattle.std.specs.Cmp.{IsTotalOrder}
+use Rattle.std.specs.Cmp.Lexicographic.{slice_cmp}
+use Rattle.std.specs.Ordering.{int_cmp, is_le, is_eq, ordering_then, ordering_reverse}
+use Rattle.std.specs.declared.cmp.Ordering.{Ordering}
+use Rattle.std.specs.declared.cmp.Ordering.TheVariants.{Less, Equal, Greater}
+use Rattle.std.proofs.lemmas.Bool.{and_from, true≢false, cases_lt}
+use Rattle.std.proofs.lemmas.Int.{ints}
+use Rattle.std.proofs.lemmas.List.{map-append, take_more, get_or_past, get_or_default, get_or-take, take-append-drop, append-nil, flat_map_more}
+use Rattle.std.proofs.lemmas.List.Elements.{All-from_recursion, recursion_from_All, filter-append, Contains-push, Contains-push_cases, Contains-append_left}
+use Rattle.antichain.proofs.AntichainLemmas.{not_true, not_from}
+use Rattle.lattice.specs.Frontiers.{is_beyond}
+use Rattle.lattice.specs.Order.{PartialOrderLaws, LatticeLaws, ExtendsLaws}
+use Rattle.lattice.proofs.FrontierLemmas.{beyond_up}
+use Rattle.update.specs.Bags.{Entry, Alike, IsBag, count_of}
+use Rattle.update.specs.Updates.{as_of, entry, by_time_then_row}
+use Rattle.update.specs.declared.change.Update.{Update}
+use Rattle.plan.specs.Ancestors.{feeds, numbers_below}
+use Rattle.plan.specs.Changes.{AreDifferences, has_passed, query_at}
+use Rattle.plan.specs.Nodes.{node_at, sources, key_width}
+use Rattle.plan.specs.Queries.{query, handed}
+use Rattle.plan.specs.Rules.{IsPlan}
+use Rattle.plan.specs.declared.node.Node.{Node}
+use Rattle.plan.proofs.OperatorLemmas.{given_alike, given_nothing}
+use Rattle.plan.proofs.PlanLemmas.{source_smaller}
+use Rattle.plan.proofs.QueryLemmas.{query_alike}
+use Rattle.plan.proofs.StepLemmas.{query_by_sources}
+use Rattle.plan.proofs.UpwardLemmas.{by_smaller}
+use Rattle.plan.proofs.WeighLemmas.{count_of-append}
+use Rattle.oracle.specs.Evaluation.{HasLargeAbove, inputs_before, list_of, sums_at}
+use Rattle.oracle.specs.Grid.{Covers, IsGrid}
+use Rattle.oracle.specs.Listing.{at_time, GoesOn, HasLargeDifference, HasLargeGap, IsListed}
+use Rattle.oracle.proofs.GridLemmas.{last_of}
+
+-- ---- lists
+
+sorted_at : {X : Type 0} (c : X → X → Ordering) (xs : List X) → IsStrictlySortedBy c xs → (i j : ℕ) (d : X) → i < j → j < length xs → c (get_or xs i d) (get_or xs j d) ≡ Less
+unfolding IsStrictlySortedBy
+sorted_at c [] s i j d l m = absurd (omega (arith, m))
+sorted_at c (x ∷ xs) s i zero d l m = absurd (omega (arith, l))
+sorted_at c (x ∷ xs) s zero (suc j) d l m = All-from_recursion (λ y. c x y ≡ Less) xs s.0 j d (omega (arith, m))
+sorted_at c (x ∷ xs) s (suc i) (suc j) d l m = sorted_at c xs s.1 i j d (omega (arith, l)) (omega (arith, m))
+
+all_both : {X : Type 0} (P : X → Type 0) (xs ys : List X) → AllByRecursion P xs → AllByRecursion P ys → AllByRecursion P (xs ++ ys)
+all_both P [] ys a b = b
+all_both P (x ∷ xs) ys a b = (a.0, all_both P xs ys a.1 b)
+
+all_weaker : {X : Type 0} (P Q : X → Type 0) → ((x : X) → P x → Q x) → (xs : List X) → AllByRecursion P xs → AllByRecursion Q xs
+all_weaker P Q f [] a = tt
+all_weaker P Q f (x ∷ xs) a = (f x a.0, all_weaker P Q f xs a.1)
+
+sorted_both : {X : Type 0} (c : X → X → Ordering) (xs ys : List X) → IsStrictlySortedBy c xs → IsStrictlySortedBy c ys → AllByRecursion (λ x. AllByRecursion (λ y. c x y ≡ Less) ys) xs → IsStrictlySortedBy c (xs ++ ys)
+unfolding IsStrictlySortedBy
+sorted_both c [] ys s t a = t
+sorted_both c (x ∷ xs) ys s t a = (all_both (λ y. c x y ≡ Less) xs ys s.0 a.0, sorted_both c xs ys s.1 t a.1)
+
+-- ---- sums
+
+module _ {T : Type 0} (below : T → T → Bool) where
+  sum_both : (t : T) (us vs : List (Update T)) → as_of below t (us ++ vs) ≡ as_of below t us ++ as_of below t vs
+  sum_both t us vs = ap (map entry) (filter-append (λ u. below u.time t) us vs) ∙ map-append entry (filter (λ u. below u.time t) us) (filter (λ u. below u.time t) vs)
+
+  sum_at_time : (s t : T) (es : List Entry) (b : Bool) → below t s ≡ b → as_of below s (map (at_time t) es) ≡ cond b es []
+  sum_at_time s t [] true h = refl
+  sum_at_time s t [] false h = refl
+  sum_at_time s t (e ∷ es) true h = ap (λ b. map entry (cond b (at_time t e ∷ filter (λ u. below u.time s) (map (at_time t) es)) (filter (λ u. below u.time s) (map (at_time t) es)))) h ∙ ap (λ l. e ∷ l) (sum_at_time s t es true h)
+  sum_at_time s t (e ∷ es) false h = ap (λ b. map entry (cond b (at_time t e ∷ filter (λ u. below u.time s) (map (at_time t) es)) (filter (λ u. below u.time s) (map (at_time t) es)))) h ∙ sum_at_time s t es false h
+
+  -- where the same of the list's times are at or before both, the sums are equal
+  sum_same : (s t : T) (us : List (Update T)) → AllByRecursion (λ u. below u.time s ≡ below u.time t) us → as_of below s us ≡ as_of below t us
+  sum_same s t [] a = refl
+  sum_same s t (u ∷ us) a =
+      (λ i. map entry (cond (a.0 i) (u ∷ filter (λ u. below u.time s) us) (filter (λ u. below u.time s) us)))
+      ∙ step (sum_same s t us a.1) (below u.time t)
+    where
+      step : as_of below s us ≡ as_of below t us → (b : Bool) → map entry (cond b (u ∷ filter (λ u. below u.time s) us) (filter (λ u. below u.time s) us)) ≡ map entry (cond b (u ∷ filter (λ u. below u.time t) us) (filter (λ u. below u.time t) us))
+      step rest true = ap (λ l. entry u ∷ l) rest
+      step rest false = rest
+
+  sum_none : (t : T) (us : List (Update T)) → AllByRecursion (λ u. below u.time t ≡ false) us → as_of below t us ≡ []
+  sum_none t [] a = refl
+  sum_none t (u ∷ us) a = (λ i. map entry (cond (a.0 i) (u ∷ filter (λ u. below u.time t) us) (filter (λ u. below u.time t) us))) ∙ sum_none t us a.1
+
+-- of no rows at all a query has none
+query_nothing : (p : List Node) → IsPlan p → (n : ℕ) → Alike (query p (λ input. []) n) []
+query_nothing p plan = by_smaller (λ n. Alike (query p (λ input. []) n) []) (λ n rest row.
+    ap (λ es. count_of es row) (query_by_sources p plan (λ input. []) n)
+    ∙ (given_alike (key_width p (node_at p n)) (node_at p n) (λ port. handed [] (query p (λ input. [])) (slice_get (sources (node_at p n)) port)) (λ port. []) (λ port s. at_port n rest port (slice_get (sources (node_at p n)) port) refl) row
+    ∙ given_nothing (key_width p (node_at p n)) (node_at p n) row))
+  where
+    at_port : (n : ℕ) → ((m : ℕ) → m < n → Alike (query p (λ input. []) m) []) → (port : ℕ) (o : Option ℕ) → slice_get (sources (node_at p n)) port ≡ o → Alike (handed [] (query p (λ input. [])) o) []
+    at_port n rest port None e = λ row. refl
+    at_port n rest port (Some s) e = rest s (source_smaller p plan n port s e)
+
+list_covered : {T : Type 0} (p : List Node) (lists : List (List (Update T))) (grid : List T) → Covers grid lists → (n : ℕ) → AllByRecursion (λ u. Contains grid u.time) (list_of p lists n)
+list_covered p lists grid covers n =
+    ⊎_elim
+    (λ inside. recursion_from_All (λ u. Contains grid u.time) (get_or lists (inputs_before p n) []) (covers (inputs_before p n) [] inside))
+    (λ past. subst (AllByRecursion (λ u. Contains grid u.time)) (sym (get_or_past lists (inputs_before p n) [] past)) tt)
+    (cases_lt (inputs_before p n) (length lists))
+
+-- ---- along the grid
+
+module _ {T : Type 0} {below : T → T → Bool} {joined met : T → T → T} {cmp : T → T → Ordering} (o : PartialOrderLaws below) (b : LatticeLaws below joined met) (x : ExtendsLaws below cmp) (total : IsTotalOrder cmp)
+    (p : List Node) (plan : IsPlan p) (lists : List (List (Update T))) (view : ℕ) (frontier grid : List T) (is : IsGrid cmp joined lists grid) where
+  abbrev wanted : T → List Entry
+  wanted = query_at below p (list_of p lists) view
+
+  passed_down : (s t : T) → IsTrue (below s t) → IsTrue (has_passed below frontier t) → IsTrue (has_passed below frontier s)
+  passed_down s t h k = not_from (is_beyond below frontier s) (λ c. not_true (is_beyond below frontier t) k (beyond_up o frontier s t c h))
+
+  -- a time that sorts before another is not at or behind it
+  not_behind : (s t : T) → cmp s t ≡ Less → below t s ≡ true → ⊥
+  not_behind s t l h = true≢false (sym (x.extends t s h) ∙ ap is_le (total.antisymm t s ∙ ap ordering_reverse l))
+
+  same_order : (t : T) → cmp t t ≡ Equal
+  same_order t = step (cmp t t) (x.extends t t (o.reflexive t)) (total.antisymm t t)
+    where
+      step : (r : Ordering) → is_le r ≡ true → r ≡ ordering_reverse r → r ≡ Equal
+      step Less h e = absurd (true≢false (ap is_le e))
+      step Equal h e = refl
+      step Greater h e = absurd (true≢false (sym h))
+
+  -- what the sums are at a time, they are at the last time of the grid before it
+  same_below : (t f : T) → IsTrue (below f t) → ((s : T) → Contains grid s → IsTrue (below s t) → IsTrue (below s f)) → (s : T) → Contains grid s → below s t ≡ below s f
+  same_below t f h last s c = step (below s t) (below s f) refl refl
+    where
+      step : (v w : Bool) → below s t ≡ v → below s f ≡ w → v ≡ w
+      step true w e g = sym (last s c e) ∙ g
+      step false false e g = refl
+      step false true e g = sym e ∙ o.transitive s f t g h
+
+  wanted_same : (t f : T) → IsTrue (below f t) → ((s : T) → Contains grid s → IsTrue (below s t) → IsTrue (below s f)) → Alike (wanted t) (wanted f)
+  wanted_same t f h last =
+      query_alike p (sums_at below p lists t) (sums_at below p lists f)
+      (λ input row. ap (λ es. count_of es row) (sum_same below t f (list_of p lists input) (all_weaker (λ u. Contains grid u.time) (λ u. below u.time t ≡ below u.time f) (λ u c. same_below t f h last u.time c) (list_of p lists input) (list_covered p lists grid is.covers input))))
+      view
+
+  wanted_none : (t : T) → ((s : T) → Contains grid s → below s t ≡ false) → Alike (wanted t) []
+  wanted_none t none row =
+      query_alike p (sums_at below p lists t) (λ input. [])
+      (λ input row. ap (λ es. count_of es row) (sum_none below t (list_of p lists input) (all_weaker (λ u. Contains grid u.time) (λ u. below u.time t ≡ false) (λ u c. none u.time c) (list_of p lists input) (list_covered p lists grid is.covers input))))
+      view row
+      ∙ query_nothing p plan view row
+
+  -- of the times so far
+  module _ (i : ℕ) (f : T) (inside : i < length grid) (here : f ≡ get_or grid i f) where
+    in_front : (t : T) → Contains (take i grid) t → cmp t f ≡ Less
+    in_front t c =
+        let few = length-take-le i grid (omega (arith, inside)) in
+        let k : c.0 < i = omega (arith, c.1, few) in
+        let at : get_or grid c.0 t ≡ t = sym (get_or-take i grid c.0 t k) ∙ c.2 in
+        (λ j. cmp (sym at j) (here j)) ∙ (ap (cmp (get_or grid c.0 t)) (get_or_default grid i f t inside) ∙ sorted_at cmp grid is.ascending c.0 i t k inside)
+
+    from_grid : (t : T) → Contains (take i grid) t → Contains grid t
+    from_grid t c = subst (λ xs. Contains xs t) (take-append-drop i grid) (Contains-append_left (take i grid) (drop i grid) t c)
+
+    next_times : take (i + 1) grid ≡ take i grid ++ f ∷ []
+    next_times = take_more grid i f inside ∙ ap (λ t. take i grid ++ t ∷ []) (sym here)
+
+    next_cases : (t : T) → Contains (take (i + 1) grid) t → Contains (take i grid) t ⊎ (f ≡ t)
+    next_cases t c = Contains-push_cases (take i grid) f t (subst (λ xs. Contains xs t) next_times c)
+
+    next_old : (t : T) → Contains (take i grid) t → Contains (take (i + 1) grid) t
+    next_old t c = subst (λ xs. Contains xs t) (sym next_times) (Contains-append_left (take i grid) (f ∷ []) t c)
+
+    next_new : Contains (take (i + 1) grid) f
+    next_new = subst (λ xs. Contains xs f) (sym next_times) (Contains-push (take i grid) f)
+
+    -- a time that has not passed adds nothing
+    pub listed_skip : (us : List (Update T)) → is_beyond below frontier f ≡ true → IsListed below cmp frontier wanted (take i grid) us → IsListed below cmp frontier wanted (take (i + 1) grid) us
+    listed_skip us late so = record {
+      sums = λ t c h. ⊎_elim (λ d. so.sums t d h) (λ e. absurd (not_true (is_beyond below frontier t) h (subst (λ s. IsTrue (is_beyond below frontier s)) e late))) (next_cases t c);
+      among = all_weaker (λ u. IsTrue (has_passed below frontier u.time) × Contains (take i grid) u.time) (λ u. IsTrue (has_passed below frontier u.time) × Contains (take (i + 1) grid) u.time) (λ u h. (h.0, next_old u.time h.1)) us so.among;
+      consolidated = so.consolidated;
+    }
+
+    gap_sorted : (gap : List Entry) → IsStrictlySortedBy (λ a b. slice_cmp int_cmp a.row b.row) gap → IsStrictlySortedBy (by_time_then_row cmp) (map (at_time f) gap)
+    unfolding IsStrictlySortedBy
+    gap_sorted [] s = tt
+    gap_sorted (e ∷ gap) s = (rows e gap s.0, gap_sorted gap s.1)
+      where
+        rows : (e : Entry) (gap : List Entry) → AllByRecursion (λ d. slice_cmp int_cmp e.row d.row ≡ Less) gap → AllByRecursion (λ v. by_time_then_row cmp (at_time f e) v ≡ Less) (map (at_time f) gap)
+        rows e [] a = tt
+        rows e (d ∷ gap) a = (ap (λ r. ordering_then r (slice_cmp int_cmp e.row d.row)) (same_order f) ∙ a.0, rows e gap a.1)
+
+    gap_all : (P : Update T → Type 0) (Q : Entry → Type 0) → ((e : Entry) → Q e → P (at_time f e)) → (gap : List Entry) → AllByRecursion Q gap → AllByRecursion P (map (at_time f) gap)
+    gap_all P Q h [] a = tt
+    gap_all P Q h (e ∷ gap) a = (h e a.0, gap_all P Q h gap a.1)
+
+    gap_each : (P : Update T → Type 0) → ((e : Entry) → P (at_time f e)) → (gap : List Entry) → AllByRecursion P (map (at_time f) gap)
+    gap_each P h [] = tt
+    gap_each P h (e ∷ gap) = (h e, gap_each P h gap)
+
+    listed_more : (us : List (Update T)) (gap : List Entry) → IsTrue (has_passed below frontier f) → IsListed below cmp frontier wanted (take i grid) us → IsBag gap
+        → ((row : List ℤ) → count_of gap row +ℤ count_of (as_of below f us) row ≡ count_of (wanted f) row) → IsListed below cmp frontier wanted (take (i + 1) grid) (us ++ map (at_time f) gap)
+    listed_more us gap passed so bag fills = record {
+      sums = λ t c h. ⊎_elim (λ d. old t d h) (λ e. subst (λ s. Alike (as_of below s (us ++ map (at_time f) gap)) (wanted s)) e new) (next_cases t c);
+      among = all_both (λ u. IsTrue (has_passed below frontier u.time) × Contains (take (i + 1) grid) u.time) us (map (at_time f) gap)
+          (all_weaker (λ u. IsTrue (has_passed below frontier u.time) × Contains (take i grid) u.time) (λ u. IsTrue (has_passed below frontier u.time) × Contains (take (i + 1) grid) u.time) (λ u h. (h.0, next_old u.time h.1)) us so.among)
+          (gap_each (λ u. IsTrue (has_passed below frontier u.time) × Contains (take (i + 1) grid) u.time) (λ e. (passed, next_new)) gap);
+      consolidated = record {
+        ascending = sorted_both (by_time_then_row cmp) us (map (at_time f) gap) so.consolidated.ascending (gap_sorted gap bag.ascending)
+            (all_weaker (λ u. IsTrue (has_passed below frontier u.time) × Contains (take i grid) u.time) (λ u. AllByRecursion (λ v. by_time_then_row cmp u v ≡ Less) (map (at_time f) gap))
+            (λ u h. gap_each (λ v. by_time_then_row cmp u v ≡ Less) (λ e. ap (λ r. ordering_then r (slice_cmp int_cmp u.row e.row)) (in_front u.time h.1)) gap) us so.among);
+        nonzero = all_both (λ u. u.diff ≢ pos 0) us (map (at_time f) gap) so.consolidated.nonzero (gap_all (λ u. u.diff ≢ pos 0) (λ e. e.count ≢ pos 0) (λ e n. n) gap bag.nonzero);
+      };
+    }
+      where
+        behind : (t : T) → Contains (take i grid) t → (v : Bool) → below f t ≡ v → below f t ≡ false
+        behind t c true e = absurd (not_behind t f (in_front t c) e)
+        behind t c false e = e
+
+        old : (t : T) → Contains (take i grid) t → IsTrue (has_passed below frontier t) → Alike (as_of below t (us ++ map (at_time f) gap)) (wanted t)
+        old t c h row =
+            ap (λ es. count_of es row) (sum_both below t us (map (at_time f) gap) ∙ (ap (λ es. as_of below t us ++ es) (sum_at_time below t f gap false (behind t c (below f t) refl)) ∙ append-nil (as_of below t us)))
+            ∙ so.sums t c h row
+
+        new : Alike (as_of below f (us ++ map (at_time f) gap)) (wanted f)
+        new row =
+            ap (λ es. count_of es row) (sum_both below f us (map (at_time f) gap) ∙ ap (λ es. as_of below f us ++ es) (sum_at_time below f f gap true (o.reflexive f)))
+            ∙ (count_of-append (as_of below f us) gap row ∙ (swap (count_of (as_of below f us) row) (count_of gap row) ∙ fills row))
+          where
+            swap : (m n : ℤ) → m +ℤ n ≡ n +ℤ m
+            swap m n = omega (arith, ints)
+
+    -- a time that has passed adds what is wanted
+    pub listed_next : (us vs : List (Update T)) → is_beyond below frontier f ≡ false → GoesOn below f (wanted f) us vs → IsListed below cmp frontier wanted (take i grid) us → IsListed below cmp frontier wanted (take (i + 1) grid) vs
+    listed_next us vs passed on so = subst (IsListed below cmp frontier wanted (take (i + 1) grid)) (sym on.2) (listed_more us on.0 (ap not passed) so on.1 on.3)
+
+    -- what the list sums to at each time before f
+    sums_before : (us : List (Update T)) → IsTrue (has_passed below frontier f) → IsListed below cmp frontier wanted (take i grid) us → (s : T) → IsTrue (below s f) → (s ≡ f → ⊥) → Alike (as_of below s us) (wanted s)
+    sums_before us passed so s h n =
+        ⊎_elim
+        (λ none row.
+        ap (λ es. count_of es row) (sum_none below s us (all_weaker (λ u. IsTrue (has_passed below frontier u.time) × Contains (take i grid) u.time) (λ u. below u.time s ≡ false) (λ u c. none u.time (from_grid u.time c.1)) us so.among))
+        ∙ sym (wanted_none s none row))
+        (λ r.
+        let g = r.0 in
+        let same = sum_same below s r.0 us (all_weaker (λ u. IsTrue (has_passed below frontier u.time) × Contains (take i grid) u.time) (λ u. below u.time s ≡ below u.time r.0) (λ u c. same_below s r.0 r.2.0 r.2.1 u.time (from_grid u.time c.1)) us so.among) in
+        λ row.
+        ap (λ es. count_of es row) same
+        ∙ (so.sums r.0 (before r.0 r.1 (o.transitive r.0 s f r.2.0 h) (λ e. n (o.antisymmetric s f h (subst (λ g. IsTrue (below g s)) e r.2.0)))) (passed_down r.0 f (o.transitive r.0 s f r.2.0 h) passed) row
+        ∙ sym (wanted_same s r.0 r.2.0 r.2.1 row)))
+        (last_of o b grid is.closed s)
+      where
+        less_from : (g : T) → IsTrue (below g f) → (g ≡ f → ⊥) → cmp g f ≡ Less
+        less_from g l m = step (cmp g f) refl (x.extends g f l)
+          where
+            step : (r : Ordering) → cmp g f ≡ r → is_le r ≡ true → r ≡ Less
+            step Less e k = refl
+            step Equal e k = absurd (m (x.exact g f e))
+            step Greater e k = absurd (true≢false (sym k))
+
+        before : (g : T) → Contains grid g → IsTrue (below g f) → (g ≡ f → ⊥) → Contains (take i grid) g
+        before g c l m =
+            let less = less_from g l m in
+            ⊎_elim
+            (λ k. (c.0, omega (arith, k, length-take-le i grid (omega (arith, inside))), get_or-take i grid c.0 g k ∙ c.2))
+            (λ k. absurd (⊎_elim
+            (λ e. m (sym c.2 ∙ (ap (λ j. get_or grid j g) (sym e) ∙ (get_or_default grid i g f inside ∙ sym here))))
+            (λ j.
+            let back : cmp f g ≡ Less = (λ q. cmp (here q) (sym c.2 q)) ∙ (ap (λ t. cmp t (get_or grid c.0 g)) (get_or_default grid i f g inside) ∙ sorted_at cmp grid is.ascending i c.0 g j c.1) in
+            not_behind f g back l)
+            (eq-or-lt_of_le k)))
+            (cases_lt c.0 i)
+
+    pub listed_large : (us : List (Update T)) → is_beyond below frontier f ≡ false → IsListed below cmp frontier wanted (take i grid) us → HasLargeAbove p (sums_at below p lists f) view ⊎ HasLargeGap below f (wanted f) us → HasLargeDifference below p lists frontier view
+    listed_large us passed so large = (
+      f,
+      ap not passed,
+      ⊎_elim
+          (λ query. inl query)
+          (λ gap. inr (
+            us,
+            sums_before us (ap not passed) so,
+            all_weaker (λ u. IsTrue (has_passed below frontier u.time) × Contains (take i grid) u.time) (λ u. u.time ≡ f → ⊥) (λ u c e. true≢false (ap is_eq (sym (same_order f) ∙ (ap (λ t. cmp t f) (sym e) ∙ in_front u.time c.1)))) us so.among,
+            gap,
+          ))
+          large,
+    )
+
+  pub listed_none : IsListed below cmp frontier wanted (take 0 grid) []
+  unfolding IsStrictlySortedBy
+  listed_none = record {
+    sums = λ t c h. absurd (omega (arith, c.1));
+    among = tt;
+    consolidated = record { ascending = tt; nonzero = tt };
+  }
+
+  -- at its end
+  pub listed_all : (us : List (Update T)) → IsListed below cmp frontier wanted grid us → AreDifferences below cmp p (list_of p lists) frontier view us
+  listed_all us so = record {
+    consolidated = so.consolidated;
+    passed = all_passed us so.among;
+    sums = sums;
+  }
+    where
+      all_passed : (us : List (Update T)) → AllByRecursion (λ u. IsTrue (has_passed below frontier u.time) × Contains grid u.time) us → IsTrue (list_all (λ u. has_passed below frontier u.time) us)
+      all_passed [] a = refl
+      all_passed (u ∷ us) a = and_from (has_passed below frontier u.time) (list_all (λ u. has_passed below frontier u.time) us) a.0.0 (all_passed us a.1)
+
+      sums : (t : T) → IsTrue (has_passed below frontier t) → Alike (as_of below t us) (wanted t)
+      sums t h =
+          ⊎_elim
+          (λ none row.
+          ap (λ es. count_of es row) (sum_none below t us (all_weaker (λ u. IsTrue (has_passed below frontier u.time) × Contains grid u.time) (λ u. below u.time t ≡ false) (λ u c. none u.time c.1) us so.among))
+          ∙ sym (wanted_none t none row))
+          (λ r row.
+          ap (λ es. count_of es row) (sum_same below t r.0 us (all_weaker (λ u. IsTrue (has_passed below frontier u.time) × Contains grid u.time) (λ u. below u.time t ≡ below u.time r.0) (λ u c. same_below t r.0 r.2.0 r.2.1 u.time c.1) us so.among))
+          ∙ (so.sums r.0 r.1 (passed_down r.0 t r.2.0 h) row ∙ sym (wanted_same t r.0 r.2.0 r.2.1 row)))
+          (last_of o b grid is.closed t)
+
+  pub differences_ok : {A E : Type 0} (times : List T) → frontier ≡ times → (r : Result (Vec (Update T) A) E) → IfOk r (λ us. IsListed below cmp frontier wanted grid us.items) → IfOk r (λ us. AreDifferences below cmp p (list_of p lists) times view us.items)
+  differences_ok times e (Ok us) h = subst (λ fs. AreDifferences below cmp p (list_of p lists) fs view us.items) e (listed_all us.items h)
+  differences_ok times e (Err r) h = tt
+
+-- ---- what is open
+
+next_number : (n : ℕ) → n + 1 ≡ suc n
+next_number n = omega arith
+
+next_feeders : (p : List Node) (view n : ℕ) → filter (λ m. feeds p m view) (numbers_below (n + 1)) ≡ filter (λ m. feeds p m view) (numbers_below n) ++ cond (feeds p n view) (n ∷ []) []
+next_feeders p view n = ap (λ k. filter (λ m. feeds p m view) (numbers_below k)) (next_number n) ∙ filter-append (λ m. feeds p m view) (numbers_below n) (n ∷ [])
+
+pub feeds_more : (T : Type 0) (p : List Node) (frontiers : ℕ → List T) (view n : ℕ) (old new : List T) → feeds p n view ≡ true → old ≡ flat_map frontiers (filter (λ m. feeds p m view) (numbers_below n)) → new ≡ old ++ frontiers n → new ≡ flat_map frontiers (filter (λ m. feeds p m view) (numbers_below (n + 1)))
+feeds_more T p frontiers view n old new h e f =
+    f ∙ (ap (λ xs. xs ++ frontiers n) e
+    ∙ (flat_map_more frontiers [] (filter (λ m. feeds p m view) (numbers_below n)) n
+    ∙ ap (flat_map frontiers) (sym (next_feeders p view n ∙ ap (λ b. filter (λ m. feeds p m view) (numbers_below n) ++ cond b (n ∷ []) []) h))))
+
+pub feeds_same : (T : Type 0) (p : List Node) (frontiers : ℕ → List T) (view n : ℕ) (old : List T) → feeds p n view ≡ false → old ≡ flat_map frontiers (filter (λ m. feeds p m view) (numbers_below n)) → old ≡ flat_map frontiers (filter (λ m. feeds p m view) (numbers_below (n + 1)))
+feeds_same T p frontiers view n old h e =
+    e ∙ ap (flat_map frontiers) (sym (next_feeders p view n ∙ (ap (λ b. filter (λ m. feeds p m view) (numbers_below n) ++ cond b (n ∷ []) []) h ∙ append-nil (filter (λ m. feeds p m view) (numbers_below n)))))

@@ -1,0 +1,40 @@
+-- How the differences of a view are listed, time by time along a grid.
+use Rattle.std.specs.Prelude.{◌≡◌, ◌⊎◌, ℕ, Bool, List, ◌++◌, map, IsTrue, ◌+ℤ◌, neg_ℤ, FitsSigned, ℤ}
+use Rattle.std.specs.Int.{w64}
+use Rattle.std.specs.List.{AllByRecursion, Contains}
+use Rattle.std.specs.declared.cmp.Ordering.{Ordering}
+use Rattle.update.specs.Bags.{Entry, Alike, IsBag, count_of}
+use Rattle.update.specs.Updates.{as_of, IsConsolidated}
+use Rattle.update.specs.declared.change.Update.{Update}
+use Rattle.plan.specs.Changes.{has_passed, query_at}
+use Rattle.plan.specs.declared.node.Node.{Node}
+use Rattle.oracle.specs.Evaluation.{HasLargeAbove, list_of, sums_at}
+
+-- the row changes at t, by its count
+abbrev pub at_time : {T : Type 0} → T → Entry → Update T
+at_time t e = record { time = t; row = e.row; diff = e.count }
+
+module _ {T : Type 0} (below : T → T → Bool) where
+  -- what some row counts, less what is listed of it at or before t, is no 64-bit number
+  abbrev pub HasLargeGap : T → List Entry → List (Update T) → Type 0
+  HasLargeGap t wanted us = (row : List ℤ) × (FitsSigned w64 (count_of wanted row +ℤ neg_ℤ (count_of (as_of below t us) row)) → ⊥)
+
+  -- the list goes up to some times of the grid: at these it sums to what is wanted, where they have passed, and it has no
+  -- others
+  pub record IsListed (cmp : T → T → Ordering) (frontier : List T) (wanted : T → List Entry) (times : List T) (us : List (Update T)) : Type 0 where
+    pub sums : (t : T) → Contains times t → IsTrue (has_passed below frontier t) → Alike (as_of below t us) (wanted t)
+    pub among : AllByRecursion (λ u. IsTrue (has_passed below frontier u.time) × Contains times u.time) us
+    pub consolidated : IsConsolidated cmp us
+
+  -- the list goes on at t: by what is wanted there, less what is listed at or before t
+  abbrev pub GoesOn : T → List Entry → List (Update T) → List (Update T) → Type 0
+  GoesOn t wanted us vs = (gap : List Entry) × IsBag gap × (vs ≡ us ++ map (at_time t) gap) × ((row : List ℤ) → count_of gap row +ℤ count_of (as_of below t us) row ≡ count_of wanted row)
+
+  -- at some passed time the query has too large a number, or what it has more than a list that sums to it at all times before
+  abbrev pub HasLargeDifference : List Node → List (List (Update T)) → List T → ℕ → Type 0
+  HasLargeDifference p lists frontier n = (t : T) × IsTrue (has_passed below frontier t)
+      × (HasLargeAbove p (sums_at below p lists t) n
+      ⊎ ((us : List (Update T))
+      × ((s : T) → IsTrue (below s t) → (s ≡ t → ⊥) → Alike (as_of below s us) (query_at below p (list_of p lists) n s))
+      × AllByRecursion (λ u. u.time ≡ t → ⊥) us
+      × HasLargeGap t (query_at below p (list_of p lists) n t) us))
