@@ -19,3 +19,4 @@ pub mod FrontLemmas
 pub mod ReadLemmas
 pub mod CuttingLemmas
 pub mod WaitingLemmas
+pub mod ExampleLemmas

@@ -14,3 +14,4 @@ pub mod Boards
 pub mod Reads
 pub mod Cuts
 pub mod Waiting
+pub mod Examples

@@ -10,8 +10,8 @@
 //! what it does are these events.
 //!
 //! The [`Board`] is what lies between clients and workers, in memory. Each of its calls is one event, and says so in one
-//! way: whatever history the board stood for, it then stands for that history with the board's last event on top. So far
-//! it has changes and frontiers of clients, and takes and gives of workers.
+//! way: whatever history the board stood for, it then stands for that history with the board's last event on top. What is
+//! asked of a board, a view's rows among it, is answered for whatever history it stands for.
 //!
 //! A worker that gives has two duties. The node law: at every time before those that it still holds, what it gave is what
 //! the node makes of what it received. The load rule: it gives no more than that can take, and a reduction gives only what
@@ -28,8 +28,6 @@ mod lists;
 #[cfg(test)]
 mod memory_tests;
 mod reading;
-#[cfg(test)]
-mod relay_tests;
 mod standing;
 #[cfg(test)]
 mod tests;
@@ -46,6 +44,6 @@ pub use lists::{Times, Updates};
 pub use standing::meets;
 pub use theorems::{
     frontiers_do_not_go_back, headline, nothing_lurks, one_list, parts_of_workers,
-    quiet_is_caught_up, weights_are_kept, what_waits_has_its_place,
+    premises_can_be_met, quiet_is_caught_up, weights_are_kept, what_waits_has_its_place,
 };
 pub use view::View;

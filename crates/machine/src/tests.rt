@@ -122,3 +122,25 @@ fn frontiers_of_inputs_move_on(rt: HostRuntime) -> Result<(), Fail> {
     assert_eq!(rt; answered, Err(Refusal::TimePassed));
     Ok(())
 }
+
+// The view of the plan, which there is one of.
+fn is_answered(rt: &impl Abort, board: &Board<Bitime>) -> Result<bool, Refusal> {
+    let view = NodeId::new(1);
+    let there = view.number() < board.plan().len();
+    assert!(rt; there);
+    let is_view = board.plan().node(view).is_output();
+    assert!(rt; is_view);
+    let frontier = board.frontier(view)?;
+    let changes = board.changes(view)?;
+    Ok(frontier.len() == 1 && changes.is_empty())
+}
+
+// Catches answers that are refused for nothing.
+#[test]
+fn a_board_is_read(rt: HostRuntime) -> Result<(), Fail> {
+    let alloc = rt.alloc();
+    let board = Board::open(alloc, plan(alloc)?, 1)?;
+    assert!(rt; board.is_quiet());
+    assert!(rt; is_answered(&rt, &board)?);
+    Ok(())
+}

@@ -4,6 +4,7 @@
 ghost use Rattle.std.specs.Prelude.{◌≡◌, ℕ, ◌++◌, ◌∷◌, List, IsTrue};
 ghost use Rattle.update.specs.Bags.{Alike};
 ghost use Rattle.update.specs.Updates.{as_of};
+ghost use Rattle.update.specs.declared.change.Update.{Update};
 ghost use Rattle.plan.specs.Changes.{has_passed};
 ghost use Rattle.machine.specs.Dataflows.{Dataflow, IsDataflow};
 ghost use Rattle.machine.specs.declared.event.Event.{Event};
@@ -11,6 +12,7 @@ ghost use Rattle.machine.specs.Worlds.{emitted_at};
 ghost use Rattle.machine.specs.Outstanding.{frontier, input_frontier, port_frontier};
 ghost use Rattle.machine.specs.Histories.{IsLegal, world};
 ghost use Rattle.machine.specs.Readings.{IsQuiet, IsCaughtUp};
+ghost use Rattle.machine.specs.Examples.{IsExample};
 ghost use Rattle.machine.specs.Promises.{IsInPlace, changes_in, MeetsQuery, MeetsDifferences, MeetsPart, NothingLurks, KeepsWeight, OwesWithinWeight, GoesOn};
 
 use lattice::Minimum;
@@ -79,4 +81,11 @@ pub fn quiet_is_caught_up<T: Minimum>()
 /// Whatever waits, waits at a place that there is: so a worker that goes through its places finds it.
 pub fn what_waits_has_its_place<T: Minimum>()
     ensures { (p : Dataflow) → IsDataflow p → (h : List (Event T)) → IsLegal T.below T.least p h → IsInPlace p (world T.below T.least p h) }
+{}
+
+/// The premises of all this can be met: there are a plan with a join and a reduction, a legal history of it on two workers in
+/// which every kind of event occurs, and a reading of a view of it, from which something is read at a time that its frontier
+/// has passed and that is still held.
+pub fn premises_can_be_met()
+    ensures { (p : Dataflow) × (h : List (Event ℕ)) × (v : ℕ) × (us : List (Update ℕ)) × (front : List ℕ) × (since : List ℕ) × (t : ℕ) × IsExample p h v us front since t }
 {}

@@ -1,5 +1,5 @@
 -- The rows that count are what distinct answers, key by key.
-use Rattle.std.proofs.Common.{◌≡◌, ℕ, Bool, true, false, cond, List, [], ◌∷◌, ℤ, map, take, length, IsTrue, refl, ap, sym, ◌∙◌, arith}
+use Rattle.std.proofs.Common.{◌≡◌, ℕ, Bool, true, false, cond, List, [], ◌∷◌, ℤ, map, take, length, IsTrue, refl, ap, sym, subst, ◌∙◌, w64, FitsSigned, rules, arith}
 use Rattle.std.specs.Prelude.{pos, ◌+ℤ◌, int_lt, nat_le}
 use Rattle.std.specs.Cmp.Lexicographic.{slice_cmp, lists_ties, lists_total}
 use Rattle.std.specs.Cmp.Rules.{signed_items}
@@ -10,7 +10,7 @@ use Rattle.std.specs.declared.cmp.Ordering.TheVariants.{Less}
 use Rattle.std.proofs.lemmas.Bool.{and_parts, true≢false}
 use Rattle.std.proofs.lemmas.Cmp.{int_cmp_total}
 use Rattle.std.proofs.lemmas.Int.{ints}
-use Rattle.update.specs.Bags.{Entry, Alike, IsBag, count_of, same_row}
+use Rattle.update.specs.Bags.{Entry, Alike, IsBag, HasLargeCount, count_of, same_row}
 use Rattle.update.proofs.BagLemmas.{count_absent}
 use Rattle.plan.specs.Operators.{reduced_by_key}
 use Rattle.plan.specs.Reductions.{single, reduced, has_key}
@@ -25,13 +25,13 @@ abbrev pub present_rows : List Entry → List Entry
 present_rows es = map (λ e. single e.row) (filter (λ e. int_lt (pos 0) e.count) es)
 
 -- once where the number is more than 0
-abbrev once : ℤ → ℤ
+abbrev pub once : ℤ → ℤ
 once n = cond (int_lt (pos 0) n) (pos 1) (pos 0)
 
-plus_zero : (n : ℤ) → n +ℤ pos 0 ≡ n
+pub plus_zero : (n : ℤ) → n +ℤ pos 0 ≡ n
 plus_zero n = omega (arith, ints)
 
-zero_plus : (n : ℤ) → pos 0 +ℤ n ≡ n
+pub zero_plus : (n : ℤ) → pos 0 +ℤ n ≡ n
 zero_plus n = omega (arith, ints)
 
 first_row : (e : Entry) (es : List Entry) (row : List ℤ) → count_of (present_rows (e ∷ es)) row ≡ cond (int_lt (pos 0) e.count) (cond (same_row e.row row) (pos 1) (pos 0)) (pos 0) +ℤ count_of (present_rows es) row
@@ -49,7 +49,7 @@ added false n rest out h none =
     ap (λ m. m +ℤ out) (when_zero (int_lt (pos 0) n)) ∙ (zero_plus out ∙ (h ∙ ap once (sym (zero_plus rest))))
 
 -- rows behind another one are other rows
-others : (e : Entry) (es : List Entry) (row : List ℤ) → same_row e.row row ≡ true → AllByRecursion (λ y. slice_cmp int_cmp e.row y.row ≡ Less) es → AllByRecursion (λ y. same_row y.row row ≡ false) es
+pub others : (e : Entry) (es : List Entry) (row : List ℤ) → same_row e.row row ≡ true → AllByRecursion (λ y. slice_cmp int_cmp e.row y.row ≡ Less) es → AllByRecursion (λ y. same_row y.row row ≡ false) es
 others e [] row h s = tt
 others e (y ∷ es) row h s =
     let total = lists_total int_cmp_total in
@@ -57,7 +57,7 @@ others e (y ∷ es) row h s =
     (ap (λ r. same_row y.row r) (sym (row_same e.row row h)) ∙ other, others e es row h s.1)
 
 -- a row that counts more than 0 times stands there once
-present_at : (es : List Entry) → IsStrictlySortedBy (λ a b. slice_cmp int_cmp a.row b.row) es → (row : List ℤ) → count_of (present_rows es) row ≡ once (count_of es row)
+pub present_at : (es : List Entry) → IsStrictlySortedBy (λ a b. slice_cmp int_cmp a.row b.row) es → (row : List ℤ) → count_of (present_rows es) row ≡ once (count_of es row)
 unfolding IsStrictlySortedBy
 present_at [] s row = refl
 present_at (e ∷ es) s row =
@@ -87,3 +87,11 @@ distinct_is k es bag keys row =
     step : (b : Bool) → nat_le k (length row) ≡ b → once (count_of es row) ≡ cond b (count_of (reduced Distinct (take k row) (filter (has_key k (take k row)) es)) row) (pos 0)
     step true i = ap once (sym own) ∙ sym (distinct_answered (take k row) (filter (has_key k (take k row)) es) row)
     step false i = ap once (count_absent es row (narrow k es row keys i))
+
+-- no row is there more than once
+pub present_fit : (es : List Entry) → IsBag es → HasLargeCount (present_rows es) → ⊥
+present_fit es bag large = large.1 (subst (FitsSigned w64) (sym (present_at es bag.ascending large.0)) (step (int_lt (pos 0) (count_of es large.0))))
+  where
+    step : (b : Bool) → FitsSigned w64 (cond b (pos 1) (pos 0))
+    step true = search rules
+    step false = search rules

@@ -2,3 +2,11 @@ pub mod PutLemmas
 pub mod KeyLemmas
 pub mod PairLemmas
 pub mod DistinctLemmas
+pub mod RowLemmas
+pub mod EndLemmas
+pub mod CountLemmas
+pub mod ResultLemmas
+pub mod ProductLemmas
+pub mod NodeLemmas
+pub mod EvaluationLemmas
+pub mod GridLemmas

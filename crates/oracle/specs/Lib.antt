@@ -1,3 +1,6 @@
 pub mod Entries
 pub mod Keys
 pub mod Products
+pub mod Reduced
+pub mod Evaluation
+pub mod Grid

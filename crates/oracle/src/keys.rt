@@ -10,13 +10,26 @@ use row::Row;
 use std::cmp::Ordering;
 use update::Bag;
 
+/// The first `k` columns of an entry's row.
+pub(crate) fn key_at(bag: &Bag, i: usize, k: usize) -> &[i64]
+    requires inside { i < length bag.now }
+    requires keys { IsTrue (have_keys k bag.now) }
+    ensures key { (d : Entry) → result.now ≡ take k (slice_index_or bag.now i d).row }
+    ensures width { length result.now ≡ k }
+    ensures few { k ≤ 8 }
+{
+    let row = row_at(bag, i);
+    let _width = row.width();
+    row.key(k)
+}
+
 // Whether the key of an entry comes before the key, or is it where that is asked.
 fn is_before_key(bag: &Bag, i: usize, key: &[i64], equal: bool) -> bool
     requires inside { i < length bag.now }
     requires keys { IsTrue (have_keys (length key.now) bag.now) }
     ensures { (d : Entry) → result ≡ is_before_key equal key.now (slice_index_or bag.now i d) }
 {
-    match row_at(bag, i).key(key.len()).cmp(key) {
+    match key_at(bag, i, key.len()).cmp(key) {
         Ordering::Less => true,
         Ordering::Equal => equal,
         Ordering::Greater => false,

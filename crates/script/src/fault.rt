@@ -1,7 +1,7 @@
 //! Why a run ended before its end.
 ghost use Rattle.std.specs.Prelude.{◌≡◌};
 
-use crate::out::OutFault;
+use crate::outputs::OutFault;
 use std::alloc::AllocError;
 use thiserror::Error;
 use update::Refusal;

@@ -7,7 +7,7 @@ ghost use Rattle.script.specs.Outs.{IsBeginning, Wrote, Broke};
 ghost use Rattle.script.specs.Printing.{refused_text, read_text};
 ghost use Rattle.update.specs.Text.{entry_text};
 
-use crate::out::{Out, OutFault, put_all};
+use crate::outputs::{Out, OutFault, put_all};
 use lattice::Bitime;
 use row::Row;
 use std::alloc::{AllocError, Global};

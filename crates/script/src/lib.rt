@@ -21,7 +21,7 @@ mod memory;
 #[cfg(test)]
 mod memory_tests;
 mod obeying;
-mod out;
+mod outputs;
 mod printing;
 mod relay;
 mod running;
@@ -32,5 +32,5 @@ mod tests;
 pub use fault::RunFault;
 pub use laws::the_bag_of_entries;
 pub use memory::MemoryOut;
-pub use out::{Out, OutFault};
+pub use outputs::{Out, OutFault, put_all};
 pub use running::run_script;

@@ -1,7 +1,7 @@
 //! An output that keeps what it took: for tests, and for whoever wants a run's text as bytes.
 ghost use Rattle.std.specs.Prelude.{◌≡◌, ◌++◌, [], OnErr, OnOk};
 
-use crate::out::{Out, OutFault};
+use crate::outputs::{Out, OutFault};
 use std::alloc::Global;
 use std::marker::Model;
 

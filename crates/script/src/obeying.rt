@@ -12,7 +12,7 @@ ghost use Rattle.script.specs.declared.fault.RunFault.TheVariants.{Refused};
 use crate::engine::Engine;
 use crate::fault::RunFault;
 use crate::gathering::Gathered;
-use crate::out::Out;
+use crate::outputs::Out;
 use crate::printing::print_rows;
 use grammar::{Command, CommandLine, Script};
 use lattice::Bitime;

@@ -7,7 +7,7 @@ ghost use Rattle.script.specs.Printing.{rows_text};
 
 use crate::fault::RunFault;
 use crate::gathering::Gathered;
-use crate::out::Out;
+use crate::outputs::Out;
 use lattice::Bitime;
 use row::Row;
 use update::Bag;

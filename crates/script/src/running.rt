@@ -9,7 +9,7 @@ use crate::engine::Engine;
 use crate::fault::RunFault;
 use crate::gathering::Gathered;
 use crate::obeying::obey;
-use crate::out::Out;
+use crate::outputs::Out;
 use crate::solo::Solo;
 use grammar::Script;
 use std::alloc::Global;

@@ -5,7 +5,6 @@ use Rattle.plan.specs.Reductions.{single}
 use Rattle.oracle.specs.Entries.{entries_of, entry_of}
 use Rattle.oracle.proofs.PutLemmas.{no_entry}
 use Rattle.oracle.proofs.PairLemmas.{put_kept_as, put_left_as}
-use Rattle.oracle.proofs.DistinctLemmas.{distinct_is}
 use Rattle.oracle.proofs.reductions.put_present.Goals as goal
 
 pub loop-i-preserved : goal.loop-i-preserved
@@ -23,9 +22,3 @@ loop-i-preserved c =
           rw w.entries-is (put_kept_as (λ (e : Entry). int_lt (pos 0) e.count) once old mid (entries_of w.put.new.entries.items) bag i no_entry inside (sym here ∙ w.if-is_positive.true) c.loop-i.invariant (w.in_ok-put.ensures.put ∙ (λ j. mid ++ entry_of (row j) (pos 1) ∷ [])))
       | goal.else-is_positive w ↦ rw w.entries-is (put_left_as (λ (e : Entry). int_lt (pos 0) e.count) once old mid bag i no_entry inside (sym here ∙ w.if-is_positive.false) c.loop-i.invariant)
     ]
-
-pub returns-clause-distinct : goal.returns-clause-distinct
-returns-clause-distinct c k keys = distinct_is k c.args.bag.now c.len-i-end.ensures.bag keys
-
-pub returns-in_err-put-clause-distinct : goal.returns-in_err-put-clause-distinct
-returns-in_err-put-clause-distinct c k keys = distinct_is k c.args.bag.now c.len-i-end.ensures.bag keys

@@ -31,7 +31,7 @@ pub trait Out {
 }
 
 /// Puts all the bytes, or, where a call fails, a beginning of them.
-pub(crate) fn put_all<W: Out>(out: &mut W, bytes: &[u8]) -> Result<(), OutFault>
+pub fn put_all<W: Out>(out: &mut W, bytes: &[u8]) -> Result<(), OutFault>
     ensures all { OnOk result (W.took out.old bytes.now 0 out.new) }
     ensures beginning { OnErr result ((part : List ℕ) × IsBeginning part bytes.now × W.took out.old part 1 out.new) }
 {

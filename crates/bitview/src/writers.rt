@@ -1,0 +1,26 @@
+//! The process's own outputs. Nothing is said of where their bytes go.
+use script::{Out, OutFault};
+use std::io::Write;
+
+/// A writer, as an output.
+#[derive(Debug, Drop)]
+pub(crate) struct Output<W> {
+    pub(crate) writer: W,
+}
+
+impl<W: Write> Out for Output<W> {
+    ghost use Rattle.std.specs.Prelude.{⊤};
+
+    ghost took = { λ _ _ _ _. ⊤ };
+
+    ghost at_once = { λ _. tt };
+
+    ghost in_turn = { λ _ _ _ _ _ _ _ _ _. tt };
+
+    fn put(&mut self, bytes: &[u8]) -> Result<usize, OutFault> {
+        match self.writer.write(bytes) {
+            Ok(0) | Err(_) => Err(OutFault),
+            Ok(taken) => Ok(taken),
+        }
+    }
+}

@@ -1,0 +1,250 @@
+-- What every plan gives its nodes: that the rows at a node's ports have the columns that its operator names, and that the
+-- rows which it gives have its width.
+use Rattle.std.proofs.Common.{◌≡◌, ℕ, suc, ◌+◌, ◌-◌, ◌<◌, ◌≤◌, Bool, true, false, cond, List, [], ◌∷◌, ◌++◌, ℤ, map, take, drop, length, IsTrue, ◌⊎◌, ⊎_elim, refl, ap, sym, subst, ◌∙◌, length-append, length-drop, Some, None, arith}
+use Rattle.std.specs.Prelude.{pos, neg_ℤ, ◌&&◌, not, int_lt, nat_le, eqb, slice_get}
+use Rattle.std.specs.List.{filter, list_all}
+use Rattle.std.specs.Ordering.{int_eq}
+use Rattle.std.proofs.lemmas.Bool.{and_parts, and_from, true≢false, leb-true, le-leb, eqb-true, eq-eqb}
+use Rattle.std.proofs.lemmas.List.{length-take-le, length-map}
+use Rattle.row.specs.Projection.{is_within, projected}
+use Rattle.row.specs.Testing.{passes}
+use Rattle.row.specs.declared.projection.Item.{Item}
+use Rattle.row.specs.declared.testing.Test.{Test}
+use Rattle.update.specs.Bags.{Entry, Alike, IsBag, HasLargeCount, count_of, same_row}
+use Rattle.plan.specs.Nodes.{node_at, sources, key_width}
+use Rattle.plan.specs.Operators.{given, is_linear, mapped, paired, joined, reduced_by_key}
+use Rattle.plan.specs.Queries.{handed}
+use Rattle.plan.specs.Ancestors.{is_input}
+use Rattle.plan.specs.Reductions.{reduced, has_key, is_present, sum_of_counts}
+use Rattle.plan.specs.Rules.{IsPlan, faults, first_refusal, is_width, is_test_within}
+use Rattle.plan.specs.Widths.{width_of, width_from, reduced_width}
+use Rattle.plan.specs.declared.node.Kind.{Kind}
+use Rattle.plan.specs.declared.node.Kind.TheVariants.{Count, Distinct, Min, Max}
+use Rattle.plan.specs.declared.node.Node.{Node}
+use Rattle.plan.specs.declared.node.Node.TheVariants.{Input, Map, Filter, Concat, Negate, Arrange, Join, Reduce, Output}
+use Rattle.update.specs.declared.refusal.Refusal.TheVariants.{BadWidth, BadColumn, WidthMismatch}
+use Rattle.plan.proofs.AnswerLemmas.{distinct_answered, least_answered, greatest_answered, answered_once}
+use Rattle.plan.proofs.KeyLemmas.{key_bounds, source_arranged}
+use Rattle.plan.proofs.PlanLemmas.{source_smaller, no_first, no_fault}
+use Rattle.plan.proofs.ReducerLemmas.{all_reduce}
+use Rattle.plan.proofs.ReductionLemmas.{by_key_at}
+use Rattle.plan.proofs.StepLemmas.{width_by_sources}
+use Rattle.plan.proofs.WeighLemmas.{row_same, when_zero, count_of-negated, count_of-filter}
+use Rattle.plan.proofs.WidthLemmas.{faultless, width_bounds}
+use Rattle.oracle.specs.Entries.{all_wide}
+use Rattle.oracle.specs.Keys.{have_keys}
+use Rattle.oracle.specs.Evaluation.{given_at, HasLargeAt, HasLargeStep, HasLargeProductOf}
+use Rattle.oracle.proofs.CountLemmas.{answer, counted_at}
+use Rattle.oracle.proofs.RowLemmas.{absent_row, rows_by_counts}
+
+-- what holds of a width holds of all rows of it
+pub all_by_width : (test : ℕ → Bool) (w : ℕ) (es : List Entry) → IsTrue (all_wide w es) → test w ≡ true → IsTrue (list_all (λ e. test (length e.row)) es)
+all_by_width test w [] h t = refl
+all_by_width test w (e ∷ es) h t =
+    let parts = and_parts (eqb (length e.row) w) (all_wide w es) h in
+    and_from (test (length e.row)) (list_all (λ e. test (length e.row)) es) (ap test (eqb-true (length e.row) w parts.0) ∙ t) (all_by_width test w es parts.1 t)
+
+add_one : (k : ℕ) → k + 1 ≡ suc k
+add_one k = omega arith
+
+-- ---- widths of what operators give
+
+mapped_wide : (items : List Item) (es : List Entry) → IsTrue (all_wide (length items) (map (mapped items) es))
+mapped_wide items [] = refl
+mapped_wide items (e ∷ es) = and_from (eqb (length (projected items e.row)) (length items)) (all_wide (length items) (map (mapped items) es)) (eq-eqb (length (projected items e.row)) (length items) (length-map items _)) (mapped_wide items es)
+
+kept_wide : (test : Entry → Bool) (w : ℕ) (es : List Entry) → IsTrue (all_wide w es) → IsTrue (all_wide w (filter test es))
+kept_wide test w [] h = refl
+kept_wide test w (e ∷ es) h = step (kept_wide test w es (and_parts (eqb (length e.row) w) (all_wide w es) h).1) (test e)
+  where
+    step : IsTrue (all_wide w (filter test es)) → (b : Bool) → IsTrue (all_wide w (cond b (e ∷ filter test es) (filter test es)))
+    step rest true = and_from (eqb (length e.row) w) (all_wide w (filter test es)) (and_parts (eqb (length e.row) w) (all_wide w es) h).0 rest
+    step rest false = rest
+
+both_wide : (w : ℕ) (a b : List Entry) → IsTrue (all_wide w a) → IsTrue (all_wide w b) → IsTrue (all_wide w (a ++ b))
+both_wide w [] b h k = k
+both_wide w (e ∷ a) b h k =
+    let parts = and_parts (eqb (length e.row) w) (all_wide w a) h in
+    and_from (eqb (length e.row) w) (all_wide w (a ++ b)) parts.0 (both_wide w a b parts.1 k)
+
+pairs_wide : (k w v : ℕ) (x : Entry) (ys : List Entry) → length x.row ≡ w → IsTrue (all_wide v ys) → IsTrue (all_wide (w + (v - k)) (map (paired k x) ys))
+pairs_wide k w v x [] l h = refl
+pairs_wide k w v x (y ∷ ys) l h =
+    let parts = and_parts (eqb (length y.row) v) (all_wide v ys) h in
+    let long : length (x.row ++ drop k y.row) ≡ w + (v - k) = length-append x.row (drop k y.row) ∙ (λ i. l i + length-drop k y.row i) ∙ ap (λ m. w + (m - k)) (eqb-true (length y.row) v parts.0) in
+    and_from (eqb (length (x.row ++ drop k y.row)) (w + (v - k))) (all_wide (w + (v - k)) (map (paired k x) ys)) (eq-eqb (length (x.row ++ drop k y.row)) (w + (v - k)) long) (pairs_wide k w v x ys l parts.1)
+
+joined_wide : (k w v : ℕ) (left right : List Entry) → IsTrue (all_wide w left) → IsTrue (all_wide v right) → IsTrue (all_wide (w + (v - k)) (joined k left right))
+joined_wide k w v [] right h i = refl
+joined_wide k w v (x ∷ left) right h i =
+    let parts = and_parts (eqb (length x.row) w) (all_wide w left) h in
+    both_wide (w + (v - k)) (map (paired k x) (filter (has_key k (take k x.row)) right)) (joined k left right)
+    (pairs_wide k w v x (filter (has_key k (take k x.row)) right) (eqb-true (length x.row) w parts.0) (kept_wide (has_key k (take k x.row)) v right i))
+    (joined_wide k w v left right parts.1 i)
+
+absent_wide : (w : ℕ) (es : List Entry) (row : List ℤ) → IsTrue (all_wide w es) → eqb (length row) w ≡ false → count_of es row ≡ pos 0
+absent_wide w es row h n = absent_row (λ r. eqb (length r) w) es row h n
+
+-- ---- reductions
+
+module _ (k : ℕ) (es : List Entry) (row : List ℤ) where
+  abbrev of_key : List Entry
+  of_key = filter (has_key k (take k row)) es
+
+  not_present : count_of es row ≡ pos 0 → is_present of_key row ≡ false
+  not_present z = ap (int_lt (pos 0)) (count_of-filter (λ r. same_row (take k r) (take k row)) es row ∙ (ap (λ n. cond (same_row (take k row) (take k row)) n (pos 0)) z ∙ when_zero (same_row (take k row) (take k row))))
+
+  unanswered : (kind : Kind) → (count_of (reduced kind (take k row) of_key) row ≡ pos 1 → is_present of_key row ≡ true) → count_of es row ≡ pos 0 → count_of (reduced kind (take k row) of_key) row ≡ pos 0
+  unanswered kind needs z =
+      ⊎_elim
+      (λ none. none)
+      (λ one. absurd (true≢false (sym (needs one) ∙ not_present z)))
+      (answered_once kind (take k row) of_key row)
+
+  of_source : (kind : Kind) → (count_of (reduced kind (take k row) of_key) row ≡ pos 1 → is_present of_key row ≡ true) → count_of es row ≡ pos 0 → count_of (reduced_by_key k (reduced kind) es) row ≡ pos 0
+  of_source kind needs z =
+      by_key_at k (reduced kind) (all_reduce kind k) es row
+      ∙ (ap (λ n. cond (nat_le k (length row)) n (pos 0)) (unanswered kind needs z) ∙ when_zero (nat_le k (length row)))
+
+  distinct_absent : count_of es row ≡ pos 0 → count_of (reduced_by_key k (reduced Distinct) es) row ≡ pos 0
+  distinct_absent z =
+      by_key_at k (reduced Distinct) (all_reduce Distinct k) es row
+      ∙ (ap (λ n. cond (nat_le k (length row)) n (pos 0)) (distinct_answered (take k row) of_key row ∙ ap (λ b. cond b (pos 1) (pos 0)) (not_present z)) ∙ when_zero (nat_le k (length row)))
+
+  count_absent_row : eqb (length row) (suc k) ≡ false → count_of (reduced_by_key k (reduced Count) es) row ≡ pos 0
+  count_absent_row h =
+      by_key_at k (reduced Count) (all_reduce Count k) es row
+      ∙ step (nat_le k (length row)) refl
+    where
+      number : (n : ℤ) (b : Bool) → nat_le k (length row) ≡ true → same_row (take k row ++ n ∷ []) row ≡ b → answer (take k row) n row ≡ pos 0
+      number n true wide t =
+          let long : length row ≡ suc k = sym (ap length (row_same (take k row ++ n ∷ []) row t)) ∙ length-append (take k row) (n ∷ []) ∙ ap (λ m. m + 1) (length-take-le k row (leb-true k (length row) wide)) ∙ add_one k in
+          absurd (true≢false (sym (eq-eqb (length row) (suc k) long) ∙ h))
+      number n false wide t = ap (λ b. cond (not (int_eq n (pos 0)) && b) (pos 1) (pos 0)) t ∙ none (int_eq n (pos 0))
+        where
+          none : (b : Bool) → cond (not b && false) (pos 1) (pos 0) ≡ pos 0
+          none true = refl
+          none false = refl
+
+      step : (b : Bool) → nat_le k (length row) ≡ b → cond b (count_of (reduced Count (take k row) of_key) row) (pos 0) ≡ pos 0
+      step true wide = sym (counted_at (take k row) (sum_of_counts of_key) row) ∙ number (sum_of_counts of_key) (same_row (take k row ++ sum_of_counts of_key ∷ []) row) wide refl
+      step false wide = refl
+
+  reduced_absent : (kind : Kind) (w : ℕ) → IsTrue (all_wide w es) → eqb (length row) (reduced_width kind k w) ≡ false → count_of (reduced_by_key k (reduced kind) es) row ≡ pos 0
+  reduced_absent Count w h n = count_absent_row n
+  reduced_absent Distinct w h n = distinct_absent (absent_wide w es row h n)
+  reduced_absent Min w h n = of_source Min (λ one. ((least_answered (take k row) of_key row).0 one).0) (absent_wide w es row h n)
+  reduced_absent Max w h n = of_source Max (λ one. ((greatest_answered (take k row) of_key row).0 one).0) (absent_wide w es row h n)
+
+-- ---- nodes
+
+module _ (p : List Node) (plan : IsPlan p) (n : ℕ) (l : n < length p) (bags : ℕ → List Entry) (wide : (m : ℕ) → m < n → IsTrue (all_wide (width_of p m) (bags m))) where
+  faults_none : (node : Node) → node_at p n ≡ node → first_refusal (faults p node) ≡ None
+  faults_none node e = subst (λ node. first_refusal (faults p node) ≡ None) e (faultless p plan n l)
+
+  width_is : (node : Node) → node_at p n ≡ node → width_of p n ≡ width_from (key_width p node) node (width_of p)
+  width_is node e = width_by_sources p plan n ∙ ap (λ node. width_from (key_width p node) node (width_of p)) e
+
+  at_port : (node : Node) → node_at p n ≡ node → (port s : ℕ) → slice_get (sources node) port ≡ Some s → IsTrue (all_wide (width_of p s) (bags s))
+  at_port node e port s g = wide s (source_smaller p plan n port s (ap (λ node. slice_get (sources node) port) e ∙ g))
+
+  pub map_within : (source : ℕ) (items : List Item) → node_at p n ≡ Map source items → IsTrue (list_all (λ e. list_all (λ item. is_within item (length e.row)) items) (bags source))
+  map_within source items e =
+      let second = (no_first (not (is_width (length items))) BadWidth ((not (list_all (λ item. is_within item (width_of p source)) items), BadColumn) ∷ []) (faults_none (Map source items) e)).1 in
+      let within = no_fault (list_all (λ item. is_within item (width_of p source)) items) (no_first (not (list_all (λ item. is_within item (width_of p source)) items)) BadColumn [] second).0 in
+      all_by_width (λ w. list_all (λ item. is_within item w) items) (width_of p source) (bags source) (at_port (Map source items) e 0 source refl) within
+
+  pub filter_within : (source : ℕ) (test : Test) → node_at p n ≡ Filter source test → IsTrue (list_all (λ e. is_test_within test (length e.row)) (bags source))
+  filter_within source test e =
+      let within = no_fault (is_test_within test (width_of p source)) (no_first (not (is_test_within test (width_of p source))) BadColumn [] (faults_none (Filter source test) e)).0 in
+      all_by_width (is_test_within test) (width_of p source) (bags source) (at_port (Filter source test) e 0 source refl) within
+
+  source_key : (node : Node) → node_at p n ≡ node → is_linear node ≡ false → (port s : ℕ) → slice_get (sources node) port ≡ Some s → (1 ≤ key_width p (node_at p n)) × (key_width p (node_at p n) ≤ width_of p s)
+  source_key node e linear port s g =
+      let there : slice_get (sources (node_at p n)) port ≡ Some s = ap (λ node. slice_get (sources node) port) e ∙ g in
+      let smaller = source_smaller p plan n port s there in
+      key_bounds p plan s (key_width p (node_at p n)) (omega (arith, smaller, l)) (source_arranged p plan n port s l (ap is_linear e ∙ linear) there)
+
+  port_keys : (node : Node) → node_at p n ≡ node → is_linear node ≡ false → (port s : ℕ) → slice_get (sources node) port ≡ Some s → IsTrue (have_keys (key_width p (node_at p n)) (bags s))
+  port_keys node e linear port s g =
+      all_by_width (nat_le (key_width p (node_at p n))) (width_of p s) (bags s) (at_port node e port s g) (le-leb (key_width p (node_at p n)) (width_of p s) (source_key node e linear port s g).1)
+
+  pub left_keys : (left right : ℕ) → node_at p n ≡ Join left right → IsTrue (have_keys (key_width p (node_at p n)) (bags left))
+  left_keys left right e = port_keys (Join left right) e refl 0 left refl
+
+  pub right_keys : (left right : ℕ) → node_at p n ≡ Join left right → IsTrue (have_keys (key_width p (node_at p n)) (bags right))
+  right_keys left right e = port_keys (Join left right) e refl 1 right refl
+
+  few : width_of p n ≤ 8
+  few = leb-true (width_of p n) 8 (and_parts (nat_le 1 (width_of p n)) (nat_le (width_of p n) 8) (width_bounds p plan n l)).1
+
+  join_width : (left right : ℕ) → node_at p n ≡ Join left right → width_of p n ≡ width_of p left + (width_of p right - key_width p (node_at p n))
+  join_width left right e =
+      let own : width_of p n ≡ key_width p (node_at p n) + ((width_of p left - key_width p (node_at p n)) + (width_of p right - key_width p (node_at p n))) = width_is (Join left right) e ∙ ap (λ node. key_width p node + ((width_of p left - key_width p node) + (width_of p right - key_width p node))) (sym e) in
+      let fits = (source_key (Join left right) e refl 0 left refl).1 in
+      omega (arith, own, fits)
+
+  pub join_room : (left right : ℕ) → node_at p n ≡ Join left right → IsTrue (list_all (λ x. list_all (λ y. nat_le (length x.row + (length y.row - key_width p (node_at p n))) 8) (bags right)) (bags left))
+  join_room left right e =
+      let room : width_of p left + (width_of p right - key_width p (node_at p n)) ≤ 8 = omega (arith, few, join_width left right e) in
+      all_by_width (λ a. list_all (λ y. nat_le (a + (length y.row - key_width p (node_at p n))) 8) (bags right)) (width_of p left) (bags left) (at_port (Join left right) e 0 left refl)
+      (all_by_width (λ b. nat_le (width_of p left + (b - key_width p (node_at p n))) 8) (width_of p right) (bags right) (at_port (Join left right) e 1 right refl) (le-leb (width_of p left + (width_of p right - key_width p (node_at p n))) 8 room))
+
+  pub reduce_some : (kind : Kind) (source : ℕ) → node_at p n ≡ Reduce kind source → 1 ≤ key_width p (node_at p n)
+  reduce_some kind source e = (source_key (Reduce kind source) e refl 0 source refl).0
+
+  pub reduce_keys : (kind : Kind) (source : ℕ) → node_at p n ≡ Reduce kind source → IsTrue (have_keys (key_width p (node_at p n)) (bags source))
+  reduce_keys kind source e = port_keys (Reduce kind source) e refl 0 source refl
+
+  pub count_room : (kind : Kind) (source : ℕ) → node_at p n ≡ Reduce kind source → kind ≡ Count → key_width p (node_at p n) ≤ 7
+  count_room kind source e c =
+      let own : width_of p n ≡ suc (key_width p (node_at p n)) = width_is (Reduce kind source) e ∙ ap (λ node. reduced_width kind (key_width p node) (width_of p source)) (sym e) ∙ ap (λ (kind : Kind). reduced_width kind (key_width p (node_at p n)) (width_of p source)) c in
+      omega (arith, own, few)
+
+  -- a row of another width counts 0
+  absent_at : (outside : List Entry) → (is_input (node_at p n) ≡ true → IsTrue (all_wide (width_of p n) outside)) → (row : List ℤ) → eqb (length row) (width_of p n) ≡ false
+      → (node : Node) → node_at p n ≡ node → count_of (given (key_width p node) node (λ port. handed outside bags (slice_get (sources node) port))) row ≡ pos 0
+  absent_at outside own row h (Input width) e = absent_wide (width_of p n) outside row (own (ap is_input e)) h
+  absent_at outside own row h (Map source items) e =
+      absent_wide (length items) (map (mapped items) (bags source)) row (mapped_wide items (bags source)) (ap (eqb (length row)) (sym (width_is (Map source items) e)) ∙ h)
+  absent_at outside own row h (Filter source test) e =
+      absent_wide (width_of p source) (filter (λ e. passes test e.row) (bags source)) row (kept_wide (λ e. passes test e.row) (width_of p source) (bags source) (at_port (Filter source test) e 0 source refl)) (ap (eqb (length row)) (sym (width_is (Filter source test) e)) ∙ h)
+  absent_at outside own row h (Concat left right) e =
+      let same = eqb-true (width_of p left) (width_of p right) (no_fault (eqb (width_of p left) (width_of p right)) (no_first (not (eqb (width_of p left) (width_of p right))) WidthMismatch [] (faults_none (Concat left right) e)).0) in
+      let one = at_port (Concat left right) e 0 left refl in
+      let other = subst (λ w. IsTrue (all_wide w (bags right))) (sym same) (at_port (Concat left right) e 1 right refl) in
+      absent_wide (width_of p left) (bags left ++ bags right) row (both_wide (width_of p left) (bags left) (bags right) one other) (ap (eqb (length row)) (sym (width_is (Concat left right) e)) ∙ h)
+  absent_at outside own row h (Negate source) e =
+      count_of-negated (bags source) row
+      ∙ ap neg_ℤ (absent_wide (width_of p source) (bags source) row (at_port (Negate source) e 0 source refl) (ap (eqb (length row)) (sym (width_is (Negate source) e)) ∙ h))
+  absent_at outside own row h (Arrange source key) e =
+      absent_wide (width_of p source) (bags source) row (at_port (Arrange source key) e 0 source refl) (ap (eqb (length row)) (sym (width_is (Arrange source key) e)) ∙ h)
+  absent_at outside own row h (Join left right) e =
+      let k : key_width p (Join left right) ≡ key_width p (node_at p n) = ap (key_width p) (sym e) in
+      ap (λ k. count_of (joined k (bags left) (bags right)) row) k
+      ∙ absent_wide (width_of p left + (width_of p right - key_width p (node_at p n))) (joined (key_width p (node_at p n)) (bags left) (bags right)) row
+      (joined_wide (key_width p (node_at p n)) (width_of p left) (width_of p right) (bags left) (bags right) (at_port (Join left right) e 0 left refl) (at_port (Join left right) e 1 right refl))
+      (ap (eqb (length row)) (sym (join_width left right e)) ∙ h)
+  absent_at outside own row h (Reduce kind source) e =
+      reduced_absent (key_width p (Reduce kind source)) (bags source) row kind (width_of p source) (at_port (Reduce kind source) e 0 source refl) (ap (eqb (length row)) (sym (width_is (Reduce kind source) e)) ∙ h)
+  absent_at outside own row h (Output source) e =
+      absent_wide (width_of p source) (bags source) row (at_port (Output source) e 0 source refl) (ap (eqb (length row)) (sym (width_is (Output source) e)) ∙ h)
+
+  -- the rows that a node gives have its width
+  pub given_wide : (outside out : List Entry) → (is_input (node_at p n) ≡ true → IsTrue (all_wide (width_of p n) outside)) → IsBag out → Alike out (given_at p n outside bags) → IsTrue (all_wide (width_of p n) out)
+  given_wide outside out own bag alike = rows_by_counts (λ r. eqb (length r) (width_of p n)) out bag (λ row h. alike row ∙ absent_at outside own row h (node_at p n) refl)
+
+-- ---- what is too large, by the node
+
+module _ (p : List Node) (n : ℕ) (outside : List Entry) (bags : ℕ → List Entry) where
+  abbrev pub HasLargeOf : Node → Type 0
+  HasLargeOf node = HasLargeCount (given (key_width p node) node (λ port. handed outside bags (slice_get (sources node) port))) ⊎ HasLargeStep (key_width p node) node (λ port. handed outside bags (slice_get (sources node) port))
+
+  pub large_of : (node : Node) → node_at p n ≡ node → HasLargeOf node → HasLargeAt p n outside bags
+  large_of node e large = subst HasLargeOf (sym e) large
+
+pub join_large : (k m : ℕ) (a b c d : List Entry) → m ≡ k → b ≡ a → d ≡ c → HasLargeCount (joined m b d) ⊎ HasLargeProductOf m b d → HasLargeCount (joined k a c) ⊎ HasLargeProductOf k a c
+join_large k m a b c d e f g large =
+    subst (λ (n : ℕ). HasLargeCount (joined n a c) ⊎ HasLargeProductOf n a c) e
+    (subst (λ (x : List Entry). HasLargeCount (joined m x c) ⊎ HasLargeProductOf m x c) f
+    (subst (λ (y : List Entry). HasLargeCount (joined m b y) ⊎ HasLargeProductOf m b y) g large))

@@ -1,0 +1,81 @@
+-- Where a query is worked out: what a node has at its ports, which list is which input's, and what can be no 64-bit number.
+use Rattle.std.specs.Prelude.{◌≡◌, ℕ, Bool, true, List, [], ◌⊎◌, ◌<◌, take, length, eqb, not, ◌||◌, ◌*ℤ◌, FitsSigned, IsTrue, slice_get, slice_index_or, ℤ}
+use Rattle.std.specs.Int.{w64}
+use Rattle.std.specs.List.{filter, list_all}
+use Rattle.update.specs.Bags.{Entry, Alike, HasLargeCount, count_of}
+use Rattle.update.specs.Updates.{as_of}
+use Rattle.update.specs.declared.change.Update.{Update}
+use Rattle.plan.specs.Nodes.{node_at, sources, key_width}
+use Rattle.plan.specs.Ancestors.{is_above, is_input, numbers_below}
+use Rattle.plan.specs.Operators.{given}
+use Rattle.plan.specs.Queries.{query, handed}
+use Rattle.plan.specs.Widths.{width_of}
+use Rattle.plan.specs.declared.node.Kind.TheVariants.{Count, Distinct, Min, Max}
+use Rattle.plan.specs.declared.node.Node.{Node}
+use Rattle.plan.specs.declared.node.Node.TheVariants.{Input, Map, Filter, Concat, Negate, Arrange, Join, Reduce, Output}
+use Rattle.oracle.specs.Entries.{all_wide}
+use Rattle.oracle.specs.Reduced.{HasLargeNumber}
+
+-- what a node has at its ports: the bags of its sources, or, where it is an input, what comes from outside
+abbrev pub ports : List Node → ℕ → List Entry → (ℕ → List Entry) → ℕ → List Entry
+ports p n outside bags port = handed outside bags (slice_get (sources (node_at p n)) port)
+
+-- what a node gives from these
+abbrev pub given_at : List Node → ℕ → List Entry → (ℕ → List Entry) → List Entry
+given_at p n outside bags = given (key_width p (node_at p n)) (node_at p n) (ports p n outside bags)
+
+-- the bag of a number in a list of bags
+abbrev pub bag_of : List (List Entry) → ℕ → List Entry
+bag_of bags n = slice_index_or bags n []
+
+-- of two rows of one key the product of how often they count is no 64-bit number
+abbrev pub HasLargeProductOf : ℕ → List Entry → List Entry → Type 0
+HasLargeProductOf k left right = (row : List ℤ) × (other : List ℤ) × (take k row ≡ take k other) × (FitsSigned w64 (count_of left row *ℤ count_of right other) → ⊥)
+
+-- what the operator multiplies, or counts, is no 64-bit number somewhere
+abbrev pub HasLargeStep : ℕ → Node → (ℕ → List Entry) → Type 0
+HasLargeStep k (Join left right) bags = HasLargeProductOf k (bags 0) (bags 1)
+HasLargeStep k (Reduce Count source) bags = HasLargeNumber k (bags 0)
+HasLargeStep k (Reduce Distinct source) bags = ⊥
+HasLargeStep k (Reduce Min source) bags = ⊥
+HasLargeStep k (Reduce Max source) bags = ⊥
+HasLargeStep k (Input width) bags = ⊥
+HasLargeStep k (Map source items) bags = ⊥
+HasLargeStep k (Filter source test) bags = ⊥
+HasLargeStep k (Concat left right) bags = ⊥
+HasLargeStep k (Negate source) bags = ⊥
+HasLargeStep k (Arrange source key) bags = ⊥
+HasLargeStep k (Output source) bags = ⊥
+
+-- some row counts in what a node gives as often as no 64-bit number says, or one of its steps is too large
+abbrev pub HasLargeAt : List Node → ℕ → List Entry → (ℕ → List Entry) → Type 0
+HasLargeAt p n outside bags = HasLargeCount (given_at p n outside bags) ⊎ HasLargeStep (key_width p (node_at p n)) (node_at p n) (ports p n outside bags)
+
+-- so it is at a node that stands above node n, or at that node itself
+abbrev pub HasLargeAbove : List Node → (ℕ → List Entry) → ℕ → Type 0
+HasLargeAbove p inputs n = (m : ℕ) × IsTrue (is_above p m n) × HasLargeAt p m (inputs m) (query p inputs)
+
+-- how many inputs have smaller numbers
+abbrev pub inputs_before : List Node → ℕ → ℕ
+inputs_before p n = length (filter (λ m. is_input (node_at p m)) (numbers_below n))
+
+-- the list of an input, where there is one list for each, in the order of their numbers
+abbrev pub list_of : {X : Type 0} → List Node → List (List X) → ℕ → List X
+list_of p lists n = slice_index_or lists (inputs_before p n) []
+
+-- the node is no input, or the rows of its list have its width
+abbrev pub is_wide_at : {T : Type 0} → List Node → List (List (Update T)) → ℕ → Bool
+is_wide_at p lists n = not (is_input (node_at p n)) || list_all (λ u. eqb (length u.row) (width_of p n)) (list_of p lists n)
+
+-- the rows of each input's list have its width
+abbrev pub AreWide : {T : Type 0} → List Node → List (List (Update T)) → Type 0
+AreWide p lists = (n : ℕ) → n < length p → is_input (node_at p n) ≡ true → IsTrue (list_all (λ u. eqb (length u.row) (width_of p n)) (list_of p lists n))
+
+-- what the inputs sum to at t
+abbrev pub sums_at : {T : Type 0} → (T → T → Bool) → List Node → List (List (Update T)) → T → ℕ → List Entry
+sums_at below p lists t input = as_of below t (list_of p lists input)
+
+-- the bags of the first nodes: their rows have the widths of the nodes, and those above node view are what the query says
+pub record AreBags (p : List Node) (inputs : ℕ → List Entry) (view : ℕ) (bags : List (List Entry)) : Type 0 where
+  pub wide : (m : ℕ) → m < length bags → IsTrue (all_wide (width_of p m) (bag_of bags m))
+  pub found : (m : ℕ) → m < length bags → IsTrue (is_above p m view) → Alike (bag_of bags m) (query p inputs m)

@@ -1,0 +1,161 @@
+//! The query at a time, worked out from scratch. The bags of the nodes are found one after another in the order of their
+//! numbers, so that each is found once and its sources' are there before it. Nodes that do not stand above the view have
+//! the empty bag: they are not computed, and nothing in them can be too large.
+ghost use Rattle.std.specs.Prelude.{◌≡◌, ◌≤◌, ◌<◌, ◌↔◌, eqb, map, length, IfOk, IfErr, IsTrue};
+ghost use Rattle.std.specs.List.{list_all};
+ghost use Rattle.update.specs.Bags.{Alike, IsBag};
+ghost use Rattle.plan.specs.Ancestors.{is_above};
+ghost use Rattle.plan.specs.Changes.{query_at};
+ghost use Rattle.plan.specs.Queries.{query};
+ghost use Rattle.plan.specs.Widths.{width_of};
+ghost use Rattle.oracle.specs.Entries.{all_wide, IsRefusal};
+ghost use Rattle.oracle.specs.Evaluation.{AreBags, AreWide, HasLargeAbove, inputs_before, is_wide_at, list_of, sums_at};
+
+use crate::entries::added_up;
+use crate::node::of_node;
+use lattice::Lattice;
+use plan::{NodeId, Plan};
+use std::alloc::Global;
+use update::{Bag, Refusal, Update};
+
+// How many inputs have smaller numbers.
+fn inputs_before(plan: &Plan, id: NodeId) -> usize
+    requires { id ≤ length plan.now }
+    ensures { result ≡ inputs_before plan.now id }
+{
+    let mut count = 0;
+    for n in 0..id.number() {
+        if plan.node(NodeId::new(n)).is_input() {
+            count += 1;
+        }
+    }
+    count
+}
+
+// The changes of an input. A list that is missing is read as an empty one.
+fn list_of<'a, T: Lattice>(
+    plan: &Plan,
+    changes: &'a [Vec<Update<T>>],
+    id: NodeId,
+) -> &'a [Update<T>]
+    requires { id ≤ length plan.now }
+    ensures { result.now ≡ list_of plan.now (map (λ v. v.items) changes.now) id }
+{
+    match changes.get(inputs_before(plan, id)) {
+        Some(list) => list.as_slice(),
+        None => &[],
+    }
+}
+
+// Whether the rows of a list have so many columns.
+fn have_width<T: Lattice>(updates: &[Update<T>], width: usize) -> bool
+    ensures { result ≡ list_all (λ u. eqb (length u.row) width) updates.now }
+{
+    for update in updates {
+        if update.row.width() != width {
+            return false;
+        }
+    }
+    true
+}
+
+// Whether the node is no input, or its changes have its width.
+fn is_wide<T: Lattice>(plan: &Plan, changes: &[Vec<Update<T>>], id: NodeId) -> bool
+    requires { id < length plan.now }
+    ensures { result ≡ is_wide_at plan.now (map (λ v. v.items) changes.now) id }
+{
+    !plan.node(id).is_input() || have_width(list_of(plan, changes, id), plan.width(id))
+}
+
+/// Whether the changes of each input have its width, as [`evaluate`] asks. `changes` has a list for each input, in the order of
+/// the inputs' numbers. Takes no memory.
+///
+/// Cost: the changes are looked at once.
+pub fn are_wide<T: Lattice>(plan: &Plan, changes: &[Vec<Update<T>>]) -> bool
+    ensures { IsTrue result ↔ AreWide plan.now (map (λ v. v.items) changes.now) }
+{
+    for n in 0..plan.len() {
+        if !is_wide(plan, changes, NodeId::new(n)) {
+            return false;
+        }
+    }
+    true
+}
+
+// The bag of the node behind those whose bags are there.
+fn next_bag<T: Lattice>(
+    alloc: Global,
+    plan: &Plan,
+    view: NodeId,
+    changes: &[Vec<Update<T>>],
+    t: T,
+    bags: &[Bag],
+) -> Result<Bag, Refusal>
+    requires view { view < length plan.now }
+    requires next { length bags.now < length plan.now }
+    requires lists { AreWide plan.now (map (λ v. v.items) changes.now) }
+    requires bags { AreBags plan.now (sums_at T.below plan.now (map (λ v. v.items) changes.now) t) view bags.now }
+    ensures wide { IfOk result (λ out. IsTrue (all_wide (width_of plan.now (length bags.now)) out)) }
+    ensures query { IfOk result (λ out. IsTrue (is_above plan.now (length bags.now) view)
+        → Alike out (query plan.now (sums_at T.below plan.now (map (λ v. v.items) changes.now) t) (length bags.now))) }
+    ensures bag { IfOk result IsBag }
+    ensures refused { IfErr result (IsRefusal (HasLargeAbove plan.now (sums_at T.below plan.now (map (λ v. v.items) changes.now) t) view)) }
+{
+    let _count = plan.len();
+    let id = NodeId::new(bags.len());
+    if !plan.is_above(id, view) {
+        return added_up(alloc, &[]);
+    }
+    of_node(alloc, plan, id, list_of(plan, changes, id), t, bags)
+}
+
+// The bags of the nodes before the view.
+fn bags_before<T: Lattice>(
+    alloc: Global,
+    plan: &Plan,
+    view: NodeId,
+    changes: &[Vec<Update<T>>],
+    t: T,
+) -> Result<Vec<Bag>, Refusal>
+    requires view { view < length plan.now }
+    requires lists { AreWide plan.now (map (λ v. v.items) changes.now) }
+    ensures bags { IfOk result (λ bags. AreBags plan.now (sums_at T.below plan.now (map (λ v. v.items) changes.now) t) view bags.items) }
+    ensures count { IfOk result (λ bags. length bags.items ≡ view) }
+    ensures refused { IfErr result (IsRefusal (HasLargeAbove plan.now (sums_at T.below plan.now (map (λ v. v.items) changes.now) t) view)) }
+{
+    let mut bags = Vec::new(alloc);
+    for n in 0..view.number() {
+        let bag = next_bag(alloc, plan, view, changes, t, &bags)?;
+        bags.push(bag)?;
+    }
+    Ok(bags)
+}
+
+/// What a node of a plan is at `t`: the query on the bags to which the inputs' changes sum at `t`. `changes` has a list for
+/// each input, in the order of the inputs' numbers; one that is missing is read as an empty one.
+///
+/// The refusals:
+///
+/// | Refusal | Where |
+/// |---|---|
+/// | `Overflow` | at a node above the view, or at the view, some row's count is no 64-bit number, or the product of two counts that a join multiplies, or the number of a key's rows |
+/// | `OutOfMemory` | an allocation was refused |
+///
+/// Cost: for each node above the view a sort or two of what it reads and gives; the changes of an input are looked at once.
+pub fn evaluate<T: Lattice>(
+    alloc: Global,
+    plan: &Plan,
+    view: NodeId,
+    changes: &[Vec<Update<T>>],
+    t: T,
+) -> Result<Bag, Refusal>
+    requires view { view < length plan.now }
+    requires lists { AreWide plan.now (map (λ v. v.items) changes.now) }
+    ensures query { IfOk result (λ bag. Alike bag (query_at T.below plan.now (list_of plan.now (map (λ v. v.items) changes.now)) view t)) }
+    ensures bag { IfOk result IsBag }
+    ensures refused { IfErr result (IsRefusal (HasLargeAbove plan.now (sums_at T.below plan.now (map (λ v. v.items) changes.now) t) view)) }
+{
+    let _count = plan.len();
+    let bags = bags_before(alloc, plan, view, changes, t)?;
+    next_bag(alloc, plan, view, changes, t, &bags)
+}

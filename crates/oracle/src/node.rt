@@ -1,0 +1,71 @@
+//! One node: its operator, on the bags that its sources have. That the sources are there, and that their rows have the
+//! columns that the operator names, holds of every plan.
+ghost use Rattle.std.specs.Prelude.{◌≡◌, ◌≤◌, ◌<◌, ℕ, length, IfOk, IfErr, IsTrue};
+ghost use Rattle.update.specs.Bags.{Alike, IsBag};
+ghost use Rattle.update.specs.Updates.{as_of};
+ghost use Rattle.plan.specs.Widths.{width_of};
+ghost use Rattle.oracle.specs.Entries.{all_wide, IsRefusal};
+ghost use Rattle.oracle.specs.Evaluation.{bag_of, given_at, HasLargeAt};
+
+use crate::operators::{joined, mapped, opposite, passing, together};
+use crate::reductions::reduced;
+use lattice::Lattice;
+use plan::{Node, NodeId, Plan};
+use std::alloc::Global;
+use update::{Bag, Refusal, Update, sum_at};
+
+// The bag of a node.
+fn bag_at(bags: &[Bag], id: NodeId) -> &Bag
+    requires { id < length bags.now }
+    ensures { result.now ≡ bag_of bags.now id }
+{
+    &bags[id.number()]
+}
+
+// The same bag once more.
+fn copied(bag: &Bag) -> Result<Bag, Refusal>
+    ensures same { IfOk result (λ out. Alike out bag.now) }
+    ensures bag { IfOk result IsBag }
+    ensures refused { IfErr result (λ refused. refused ≡ Refusal.OutOfMemory) }
+{
+    let _bag = bag.len();
+    Ok(bag.clone()?)
+}
+
+/// What a node gives from the bags of the nodes before it, or, where it is an input, from its own updates at or before `t`.
+/// [`Refusal::Overflow`] only where a count that it gives, or what it multiplies or counts for that, is no 64-bit number.
+///
+/// Cost: that of a sort of what it reads and gives.
+pub(crate) fn of_node<T: Lattice>(
+    alloc: Global,
+    plan: &Plan,
+    id: NodeId,
+    own: &[Update<T>],
+    t: T,
+    bags: &[Bag],
+) -> Result<Bag, Refusal>
+    requires inside { id < length plan.now }
+    requires bags { id ≤ length bags.now }
+    requires wide { (m : ℕ) → m < id → IsTrue (all_wide (width_of plan.now m) (bag_of bags.now m)) }
+    ensures given { IfOk result (λ out. Alike out (given_at plan.now id (as_of T.below t own.now) (bag_of bags.now))) }
+    ensures bag { IfOk result IsBag }
+    ensures refused { IfErr result (IsRefusal (HasLargeAt plan.now id (as_of T.below t own.now) (bag_of bags.now))) }
+{
+    let _count = plan.len();
+    let k = plan.key_width(id);
+    match plan.node(id) {
+        Node::Input { .. } => sum_at(alloc, own, t),
+        Node::Map { source, items } => mapped(alloc, bag_at(bags, *source), items.as_slice()),
+        Node::Filter { source, test } => passing(alloc, bag_at(bags, *source), test),
+        Node::Concat { left, right } => {
+            together(alloc, bag_at(bags, *left), bag_at(bags, *right))
+        }
+        Node::Negate { source } => opposite(alloc, bag_at(bags, *source)),
+        Node::Arrange { source, .. } => copied(bag_at(bags, *source)),
+        Node::Join { left, right } => {
+            joined(alloc, bag_at(bags, *left), bag_at(bags, *right), k)
+        }
+        Node::Reduce { kind, source } => reduced(alloc, bag_at(bags, *source), *kind, k),
+        Node::Output { source } => copied(bag_at(bags, *source)),
+    }
+}
