@@ -18,6 +18,8 @@ mod fault;
 mod gathering;
 mod laws;
 mod memory;
+#[cfg(test)]
+mod memory_tests;
 mod obeying;
 mod outputs;
 mod printing;
