@@ -12,3 +12,4 @@ pub mod EvaluationLemmas
 pub mod GridLemmas
 pub mod ListingLemmas
 pub mod DifferenceLemmas
+pub mod InputLemmas

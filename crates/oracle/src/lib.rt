@@ -6,6 +6,10 @@
 //! 128 bits, so that it never depends on an order whether a sum is refused. What a node is stands in the definitions of
 //! crate `plan`, and what can be too large on the way in this crate's own: [`Refusal::Overflow`] comes for nothing else.
 //!
+//! [`differences`] answers a view's changes, for the engine's lists of changes to be compared with: at each time at which the
+//! view may change, what the query answers there less what is listed at or before it. That is slow, and right for plain
+//! reasons. Whose changes and whose frontier a list is, its place says ([`lists_belong_to_inputs`]).
+//!
 //! [`Refusal::Overflow`]: update::Refusal::Overflow
 #![tactic(auto)]
 
@@ -19,6 +23,7 @@ mod evaluation_tests;
 mod grid;
 mod join;
 mod keys;
+mod laws;
 mod linear;
 mod listing;
 mod node;
@@ -29,3 +34,4 @@ mod sketches;
 
 pub use difference::differences;
 pub use evaluation::{are_wide, evaluate};
+pub use laws::lists_belong_to_inputs;
