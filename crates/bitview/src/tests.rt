@@ -7,6 +7,7 @@ use std::alloc::Global;
 use std::test::Fail;
 
 // An output that always fails.
+#[derive(Drop)]
 struct Broken;
 
 impl Out for Broken {
