@@ -7,7 +7,8 @@ use std::test::Fail;
 #[test]
 fn runs_take_memory(rt: HostRuntime) -> Result<(), Fail> {
     let alloc = rt.alloc();
-    let bytes = b"input a 1\nview v a\nstart\nchange a 0 0 1 7\nread v 0 0\nadvance a 1 1\nread v 0 0\n";
+    let bytes =
+        b"input a 1\nview v a\nstart\nchange a 0 0 1 7\nread v 0 0\nadvance a 1 1\nread v 0 0\n";
     let text = b"refused 5 8\nread v 0 0 1\n1 7\n";
     let script = match parse(alloc, bytes) {
         Err(_refused) => parse(alloc, bytes)?,
