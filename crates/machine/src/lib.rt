@@ -13,6 +13,10 @@
 //! way: whatever history the board stood for, it then stands for that history with the board's last event on top. What is
 //! asked of a board, a view's rows among it, is answered for whatever history it stands for.
 //!
+//! A client calls `feed`, `advance` and `look`, and reads by `frontier`, `read`, `changes` and `is_quiet`. A worker finds what
+//! to do by `waiting_at` or `is_ready`, turns to it by `take` or `take_held`, computes, cuts what comes out by `cut`, and
+//! gives it by `give`.
+//!
 //! A worker that gives has two duties. The node law: at every time before those that it still holds, what it gave is what
 //! the node makes of what it received. The load rule: it gives no more than that can take, and a reduction gives only what
 //! is final. From the first follows that views are right, from the second that no number is too large unless a weight is.
