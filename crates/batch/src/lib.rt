@@ -27,8 +27,6 @@ mod laws;
 mod merging;
 mod reader;
 mod sealing;
-#[cfg(test)]
-mod tests;
 
 pub use batch::Batch;
 pub use builder::Builder;

@@ -24,12 +24,15 @@ Numbered = ℕ × List (List ℕ)
 -- before `start` a line says the same whatever its number
 early_number : (n m : ℕ) (k : Known) (found : Keyword) (words : List (List ℕ)) → cond (is_early found) false true ≡ false → keyword_line n k found words ≡ keyword_line m k found words
 early_number n m k keyword.Input words e = refl
+early_number n m k keyword.Node words e = refl
 early_number n m k keyword.View words e = refl
 early_number n m k keyword.Start words e = refl
 early_number n m k keyword.Change words e = absurd cc
 early_number n m k keyword.Advance words e = absurd cc
 early_number n m k keyword.Close words e = absurd cc
 early_number n m k keyword.Read words e = absurd cc
+early_number n m k keyword.Changes words e = absurd cc
+early_number n m k keyword.Frontier words e = absurd cc
 
 any_number : (n m : ℕ) (k next : Known) (words : List (List ℕ)) → k.started ≡ false → words_line n k words ≡ Ok next → words_line m k words ≡ Ok next
 unfolding words_line

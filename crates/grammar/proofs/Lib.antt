@@ -3,6 +3,8 @@ pub mod NumberLemmas
 pub mod DecimalLemmas
 pub mod StepLemmas
 pub mod WordLemmas
+pub mod ItemLemmas
+pub mod DeclaringLemmas
 pub mod SayingLemmas
 pub mod EachLemmas
 pub mod PlaceLemmas

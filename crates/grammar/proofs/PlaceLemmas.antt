@@ -13,7 +13,7 @@ use Rattle.grammar.specs.declared.fault.LineError.TheVariants as error
 use Rattle.grammar.specs.Faults.{IsErrorOf}
 use Rattle.grammar.specs.Outcomes.{◌>>=◌, unless, Fails}
 use Rattle.grammar.specs.Known.{Known, plan_with}
-use Rattle.grammar.specs.Lines.{with_node}
+use Rattle.grammar.specs.Declaring.{with_node}
 use Rattle.grammar.proofs.TextLemmas.{none_is}
 
 position_or_len-map : {A B : Type 0} (f : A → B) (p : B → Bool) (xs : List A) → position_or_len p (map f xs) ≡ position_or_len (λ x. p (f x)) xs

@@ -6,65 +6,21 @@ use Rattle.std.proofs.lemmas.List.{length-map}
 use Rattle.lattice.specs.Pairs.{make_pair}
 use Rattle.update.specs.declared.refusal.Refusal.{Refusal}
 use Rattle.update.specs.declared.refusal.Refusal.TheVariants.{WrongWordCount, LineTooLong, NotUtf8}
-use Rattle.plan.specs.declared.node.Node.TheVariants.{Input, Output}
 use Rattle.grammar.specs.declared.command.Command.{Command}
-use Rattle.grammar.specs.declared.command.Command.TheVariants.{Change, Advance, Close, Read}
+use Rattle.grammar.specs.declared.command.Command.TheVariants.{Change, Advance, Close, Read, Changes, Frontier}
 use Rattle.grammar.specs.declared.keyword.Keyword.{Keyword}
 use Rattle.grammar.specs.declared.keyword.Keyword.TheVariants as keyword
 use Rattle.grammar.specs.Commands.{IsAbout}
 use Rattle.grammar.specs.Outcomes.{◌>>=◌}
-use Rattle.grammar.specs.Known.{Known, source, input, view, new_name}
+use Rattle.grammar.specs.Known.{Known, input, view}
 use Rattle.grammar.specs.Words.{whole, signed, wholes, columns, pairs_of}
 use Rattle.grammar.specs.Text.{words_of, opens_comment}
-use Rattle.grammar.specs.Lines.{with_node, input_line, view_line, start_line, change_line, advance_line, close_line, read_line, is_early, opening, with_command, keyword_line, words_line, text_of, line_of}
-use Rattle.grammar.specs.Spelling.{command_words, Declares, Starts, Asks, Says}
+use Rattle.grammar.specs.Lines.{start_line, change_line, advance_line, close_line, read_line, changes_line, frontier_line, is_early, opening, with_command, keyword_line, words_line, text_of, line_of}
+use Rattle.grammar.specs.Spelling.{command_words, Starts, Asks, Says}
 use Rattle.grammar.proofs.WordLemmas.{whole_ok, signed_ok, wholes_ok, columns_ok, pairs_text}
 use Rattle.grammar.proofs.NumberLemmas.{and-right}
-use Rattle.grammar.proofs.StepLemmas.{accepted, same_ok, bind_ok, guard_ok, guard_not_ok, source_ok, input_ok, view_ok, new_name_ok, with_node_ok, keyword_text, opening_ok}
-
-is_input_line : (n : ℕ) (k next : Known) (words : List (List ℕ)) → k.started ≡ false → input_line k words ≡ Ok next → Declares k (codes "input" ∷ words) next
-unfolding input_line
-is_input_line n k next [] early e = absurd cc
-is_input_line n k next (name ∷ []) early e = absurd cc
-is_input_line n k next (name ∷ width ∷ []) early e =
-    let a = bind_ok (new_name k name) (λ name. whole width >>= λ width. with_node k name (Input width)) next e in
-    let b = bind_ok (whole width) (λ width. with_node k a.0 (Input width)) next a.2 in
-    let c = with_node_ok k a.0 (Input b.0) next b.2 in
-    let free = new_name_ok k name a.0 a.1 in
-    record {
-      name = name;
-      node = Input b.0;
-      words_are = ap (λ (w : List ℕ). codes "input" ∷ name ∷ w ∷ []) (whole_ok width b.0 b.1);
-      is_kept = refl;
-      is_early = early;
-      is_formed = free.is_formed;
-      is_free = free.is_free;
-      is_accepted = c.0;
-      next_is = c.1 ∙ ap (λ (w : List ℕ). record { names = k.names ++ w ∷ []; plan = k.plan ++ Input b.0 ∷ []; started = k.started; commands = k.commands }) free.name_is;
-    }
-is_input_line n k next (name ∷ width ∷ more ∷ words) early e = absurd cc
-
-is_view_line : (n : ℕ) (k next : Known) (words : List (List ℕ)) → k.started ≡ false → view_line k words ≡ Ok next → Declares k (codes "view" ∷ words) next
-unfolding view_line
-is_view_line n k next [] early e = absurd cc
-is_view_line n k next (name ∷ []) early e = absurd cc
-is_view_line n k next (name ∷ from ∷ []) early e =
-    let a = bind_ok (new_name k name) (λ name. source k from >>= λ from. with_node k name (Output from)) next e in
-    let b = bind_ok (source k from) (λ from. with_node k a.0 (Output from)) next a.2 in
-    let c = with_node_ok k a.0 (Output b.0) next b.2 in
-    let free = new_name_ok k name a.0 a.1 in
-    record {
-      name = name;
-      node = Output b.0;
-      words_are = ap (λ (w : List ℕ). codes "view" ∷ name ∷ w ∷ []) (source_ok k from b.0 b.1).name_is;
-      is_kept = refl;
-      is_early = early;
-      is_formed = free.is_formed;
-      is_free = free.is_free;
-      is_accepted = c.0;
-      next_is = c.1 ∙ ap (λ (w : List ℕ). record { names = k.names ++ w ∷ []; plan = k.plan ++ Output b.0 ∷ []; started = k.started; commands = k.commands }) free.name_is;
-    }
-is_view_line n k next (name ∷ from ∷ more ∷ words) early e = absurd cc
+use Rattle.grammar.proofs.StepLemmas.{accepted, same_ok, bind_ok, guard_ok, guard_not_ok, input_ok, view_ok, keyword_text, opening_ok}
+use Rattle.grammar.proofs.DeclaringLemmas.{is_input_line, is_node_line, is_view_line}
 
 is_start_line : (n : ℕ) (k next : Known) (words : List (List ℕ)) → k.started ≡ false → start_line k words ≡ Ok next → Starts k (codes "start" ∷ words) next
 unfolding start_line
@@ -147,6 +103,24 @@ read_spelled k command (name ∷ v ∷ s ∷ []) e =
     three a b c a' b' c' e f g = cc
 read_spelled k command (name ∷ v ∷ s ∷ more ∷ words) e = absurd cc
 
+changes_spelled : (k : Known) (command : Command) (words : List (List ℕ)) → changes_line k words ≡ Ok command → IsSpelled k (codes "changes" ∷ words) command
+unfolding changes_line
+changes_spelled k command [] e = absurd cc
+changes_spelled k command (name ∷ []) e =
+    let a = bind_ok (view k name) (λ name. Ok (Changes name)) command e in
+    let about = view_ok k name a.0 a.1 in
+    spelled_as k (Changes a.0) command (codes "changes" ∷ name ∷ []) a.2 (ap (λ (w : List ℕ). codes "changes" ∷ w ∷ []) about.name_is) about.passes
+changes_spelled k command (name ∷ more ∷ words) e = absurd cc
+
+frontier_spelled : (k : Known) (command : Command) (words : List (List ℕ)) → frontier_line k words ≡ Ok command → IsSpelled k (codes "frontier" ∷ words) command
+unfolding frontier_line
+frontier_spelled k command [] e = absurd cc
+frontier_spelled k command (name ∷ []) e =
+    let a = bind_ok (view k name) (λ name. Ok (Frontier name)) command e in
+    let about = view_ok k name a.0 a.1 in
+    spelled_as k (Frontier a.0) command (codes "frontier" ∷ name ∷ []) a.2 (ap (λ (w : List ℕ). codes "frontier" ∷ w ∷ []) about.name_is) about.passes
+frontier_spelled k command (name ∷ more ∷ words) e = absurd cc
+
 asks : (n : ℕ) (k next : Known) (words : List (List ℕ)) (outcome : Result Command Refusal) → k.started ≡ true → with_command n k outcome ≡ Ok next
     → ((command : Command) → outcome ≡ Ok command → IsSpelled k words command) → Asks n k words next
 asks n k next words (Err refusal) late e spelled = absurd cc
@@ -159,13 +133,16 @@ not_late true h = refl
 not_late false h = absurd cc
 
 keyword_says : (n : ℕ) (k next : Known) (found : Keyword) (words : List (List ℕ)) → cond (is_early found) k.started (not k.started) ≡ false → keyword_line n k found words ≡ Ok next → Says n k (keyword_text found ∷ words) next
-keyword_says n k next keyword.Input words o e = inr (inl (is_input_line n k next words o e))
-keyword_says n k next keyword.View words o e = inr (inl (is_view_line n k next words o e))
+keyword_says n k next keyword.Input words o e = inr (inl (is_input_line k next words o e))
+keyword_says n k next keyword.Node words o e = inr (inl (is_node_line k next words o e))
+keyword_says n k next keyword.View words o e = inr (inl (is_view_line k next words o e))
 keyword_says n k next keyword.Start words o e = inr (inr (inl (is_start_line n k next words o e)))
 keyword_says n k next keyword.Change words o e = inr (inr (inr (asks n k next (codes "change" ∷ words) (change_line k words) (not_late k.started o) e (λ c. change_spelled k c words))))
 keyword_says n k next keyword.Advance words o e = inr (inr (inr (asks n k next (codes "advance" ∷ words) (advance_line k words) (not_late k.started o) e (λ c. advance_spelled k c words))))
 keyword_says n k next keyword.Close words o e = inr (inr (inr (asks n k next (codes "close" ∷ words) (close_line k words) (not_late k.started o) e (λ c. close_spelled k c words))))
 keyword_says n k next keyword.Read words o e = inr (inr (inr (asks n k next (codes "read" ∷ words) (read_line k words) (not_late k.started o) e (λ c. read_spelled k c words))))
+keyword_says n k next keyword.Changes words o e = inr (inr (inr (asks n k next (codes "changes" ∷ words) (changes_line k words) (not_late k.started o) e (λ c. changes_spelled k c words))))
+keyword_says n k next keyword.Frontier words o e = inr (inr (inr (asks n k next (codes "frontier" ∷ words) (frontier_line k words) (not_late k.started o) e (λ c. frontier_spelled k c words))))
 
 pub words_say : (n : ℕ) (k next : Known) (words : List (List ℕ)) → words_line n k words ≡ Ok next → Says n k words next
 unfolding words_line

@@ -14,7 +14,8 @@ use Rattle.grammar.specs.Commands.{is_input_of, is_view_of}
 use Rattle.grammar.specs.Names.{is_name}
 use Rattle.grammar.specs.Outcomes.{◌>>=◌, or_refused, unless}
 use Rattle.grammar.specs.Known.{Known, place_of, if_passes, used_name, source, input, view, new_name, plan_with}
-use Rattle.grammar.specs.Lines.{with_node, keyword_of, is_early, opening}
+use Rattle.grammar.specs.Declaring.{with_node}
+use Rattle.grammar.specs.Lines.{keyword_of, is_early, opening}
 use Rattle.grammar.specs.Told.{name_at}
 
 -- a line that is in order, and one that is not
@@ -109,30 +110,36 @@ with_node_ok k name node next e =
 -- the word of a keyword
 abbrev pub keyword_text : Keyword → List ℕ
 keyword_text keyword.Input = codes "input"
+keyword_text keyword.Node = codes "node"
 keyword_text keyword.View = codes "view"
 keyword_text keyword.Start = codes "start"
 keyword_text keyword.Change = codes "change"
 keyword_text keyword.Advance = codes "advance"
 keyword_text keyword.Close = codes "close"
 keyword_text keyword.Read = codes "read"
+keyword_text keyword.Changes = codes "changes"
+keyword_text keyword.Frontier = codes "frontier"
 
--- the first word of a list of alternatives that fits
-one_of : (word text : List ℕ) (found keyword : Keyword) (more : Option Keyword) → cond (bytes_eq word text) (Some found) more ≡ Some keyword → keyword_text found ≡ text → (more ≡ Some keyword → word ≡ keyword_text keyword) → word ≡ keyword_text keyword
-one_of word text found keyword more e t rest = by (bytes_eq word text) refl e
+-- the first of a list of alternatives whose word this is
+pub one_of : {A : Type 0} (text_of : A → List ℕ) (word text : List ℕ) (first found : A) (more : Option A) → cond (bytes_eq word text) (Some first) more ≡ Some found → text_of first ≡ text → (more ≡ Some found → word ≡ text_of found) → word ≡ text_of found
+one_of text_of word text first found more e t rest = by (bytes_eq word text) refl e
   where
-    by : (b : Bool) → bytes_eq word text ≡ b → cond b (Some found) more ≡ Some keyword → word ≡ keyword_text keyword
-    by true same h = let is : found ≡ keyword = cc in (bytes_eq-Decides word text).0 same ∙ sym t ∙ ap keyword_text is
+    by : (b : Bool) → bytes_eq word text ≡ b → cond b (Some first) more ≡ Some found → word ≡ text_of found
+    by true same h = let is : first ≡ found = cc in (bytes_eq-Decides word text).0 same ∙ sym t ∙ ap text_of is
     by false other h = rest h
 
 pub keyword_ok : (word : List ℕ) (found : Keyword) → keyword_of word ≡ Some found → word ≡ keyword_text found
 keyword_ok word found e =
-    one_of word (codes "input") keyword.Input found _ e refl (λ e.
-    one_of word (codes "view") keyword.View found _ e refl (λ e.
-    one_of word (codes "start") keyword.Start found _ e refl (λ e.
-    one_of word (codes "change") keyword.Change found _ e refl (λ e.
-    one_of word (codes "advance") keyword.Advance found _ e refl (λ e.
-    one_of word (codes "close") keyword.Close found _ e refl (λ e.
-    one_of word (codes "read") keyword.Read found None e refl (λ e. absurd cc)))))))
+    one_of keyword_text word (codes "input") keyword.Input found _ e refl (λ e.
+    one_of keyword_text word (codes "node") keyword.Node found _ e refl (λ e.
+    one_of keyword_text word (codes "view") keyword.View found _ e refl (λ e.
+    one_of keyword_text word (codes "start") keyword.Start found _ e refl (λ e.
+    one_of keyword_text word (codes "change") keyword.Change found _ e refl (λ e.
+    one_of keyword_text word (codes "advance") keyword.Advance found _ e refl (λ e.
+    one_of keyword_text word (codes "close") keyword.Close found _ e refl (λ e.
+    one_of keyword_text word (codes "read") keyword.Read found _ e refl (λ e.
+    one_of keyword_text word (codes "changes") keyword.Changes found _ e refl (λ e.
+    one_of keyword_text word (codes "frontier") keyword.Frontier found None e refl (λ e. absurd cc))))))))))
 
 pub opening_ok : (k : Known) (word : List ℕ) (found : Keyword) → opening k word ≡ Ok found → (word ≡ keyword_text found) × (cond (is_early found) k.started (not k.started) ≡ false)
 unfolding opening

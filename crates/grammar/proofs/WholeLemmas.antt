@@ -14,7 +14,7 @@ use Rattle.plan.specs.declared.node.Node.{Node}
 use Rattle.plan.specs.declared.node.Node.TheVariants.{Input, Map, Filter, Concat, Negate, Arrange, Join, Reduce, Output}
 use Rattle.plan.proofs.PlanLemmas.{node_before_more}
 use Rattle.grammar.specs.declared.command.Command.{Command}
-use Rattle.grammar.specs.declared.command.Command.TheVariants.{Change, Advance, Close, Read}
+use Rattle.grammar.specs.declared.command.Command.TheVariants.{Change, Advance, Close, Read, Changes, Frontier}
 use Rattle.grammar.specs.declared.command.CommandLine.{CommandLine}
 use Rattle.grammar.specs.Commands.{IsAbout}
 use Rattle.grammar.specs.Text.{lines_of, words_of, is_skipped}
@@ -38,6 +38,8 @@ about_more p more (Change input time diff row) h = within_more is_input p more i
 about_more p more (Advance input times) h = within_more is_input p more input h
 about_more p more (Close input) h = within_more is_input p more input h
 about_more p more (Read view time) h = within_more is_output p more view h
+about_more p more (Changes view) h = within_more is_output p more view h
+about_more p more (Frontier view) h = within_more is_output p more view h
 
 -- a node whose line is spelled and kept adds up
 kept_is_linear : (names : List (List ℕ)) (name : List ℕ) (node : Node) → is_skipped (node_words names name node) ≡ false → IsTrue (is_linear node)
@@ -135,6 +137,8 @@ is_command names (Change input time diff row) = refl
 is_command names (Advance input times) = refl
 is_command names (Close input) = refl
 is_command names (Read view time) = refl
+is_command names (Changes view) = refl
+is_command names (Frontier view) = refl
 
 asked_words : (n : ℕ) (k next : Known) (words : List (List ℕ)) → Asks n k words next → known_words k ++ one words ≡ known_words next
 asked_words n k next words a =

@@ -7,6 +7,8 @@ pub mod Commands
 pub mod Told
 pub mod Known
 pub mod Words
+pub mod Items
+pub mod Declaring
 pub mod Lines
 pub mod Scripts
 pub mod Spelling

@@ -5,36 +5,15 @@ use Rattle.std.specs.Str.{bytes_eq, is_utf8}
 use Rattle.update.specs.declared.refusal.Refusal.{Refusal}
 use Rattle.update.specs.declared.refusal.Refusal.TheVariants.{UnknownCommand, WrongWordCount, BadOrder, LineTooLong, NotUtf8}
 use Rattle.lattice.specs.Pairs.{make_pair}
-use Rattle.plan.specs.declared.node.Node.{Node}
-use Rattle.plan.specs.declared.node.Node.TheVariants.{Input, Output}
 use Rattle.grammar.specs.declared.command.Command.{Command}
-use Rattle.grammar.specs.declared.command.Command.TheVariants.{Change, Advance, Close, Read}
+use Rattle.grammar.specs.declared.command.Command.TheVariants.{Change, Advance, Close, Read, Changes, Frontier}
 use Rattle.grammar.specs.declared.keyword.Keyword.{Keyword}
 use Rattle.grammar.specs.declared.keyword.Keyword.TheVariants as keyword
 use Rattle.grammar.specs.Outcomes.{◌>>=◌, or_refused}
 use Rattle.grammar.specs.Text.{words_of, opens_comment}
-use Rattle.grammar.specs.Known.{Known, source, input, view, new_name, plan_with}
+use Rattle.grammar.specs.Known.{Known, input, view}
 use Rattle.grammar.specs.Words.{whole, signed, wholes, columns, pairs_of}
-
--- the node is added under the name, unless the plan refuses it
-unfoldable pub with_node : Known → List ℕ → Node → Result Known Refusal
-with_node k name node = plan_with k.plan node >>= λ plan. Ok (record k { names = k.names ++ name ∷ []; plan = plan })
-
--- input NAME W
-unfoldable pub input_line : Known → List (List ℕ) → Result Known Refusal
-input_line k (name ∷ width ∷ []) = do
-  name ← new_name k name
-  width ← whole width
-  with_node k name (Input width)
-input_line k _ = Err WrongWordCount
-
--- view NAME SRC
-unfoldable pub view_line : Known → List (List ℕ) → Result Known Refusal
-view_line k (name ∷ from ∷ []) = do
-  name ← new_name k name
-  from ← source k from
-  with_node k name (Output from)
-view_line k _ = Err WrongWordCount
+use Rattle.grammar.specs.Declaring.{input_line, node_line, view_line}
 
 -- start
 unfoldable pub start_line : Known → List (List ℕ) → Result Known Refusal
@@ -76,24 +55,44 @@ read_line k (name ∷ v ∷ s ∷ []) = do
   Ok (Read name (make_pair v s))
 read_line k _ = Err WrongWordCount
 
+-- changes VIEW
+unfoldable pub changes_line : Known → List (List ℕ) → Result Command Refusal
+changes_line k (name ∷ []) = do
+  name ← view k name
+  Ok (Changes name)
+changes_line k _ = Err WrongWordCount
+
+-- frontier VIEW
+unfoldable pub frontier_line : Known → List (List ℕ) → Result Command Refusal
+frontier_line k (name ∷ []) = do
+  name ← view k name
+  Ok (Frontier name)
+frontier_line k _ = Err WrongWordCount
+
 abbrev pub keyword_of : List ℕ → Option Keyword
 keyword_of word = if bytes_eq word (codes "input") then Some keyword.Input
+    else if bytes_eq word (codes "node") then Some keyword.Node
     else if bytes_eq word (codes "view") then Some keyword.View
     else if bytes_eq word (codes "start") then Some keyword.Start
     else if bytes_eq word (codes "change") then Some keyword.Change
     else if bytes_eq word (codes "advance") then Some keyword.Advance
     else if bytes_eq word (codes "close") then Some keyword.Close
-    else if bytes_eq word (codes "read") then Some keyword.Read else None
+    else if bytes_eq word (codes "read") then Some keyword.Read
+    else if bytes_eq word (codes "changes") then Some keyword.Changes
+    else if bytes_eq word (codes "frontier") then Some keyword.Frontier else None
 
 -- the line stands before `start`, or is `start`
 abbrev pub is_early : Keyword → Bool
 is_early keyword.Input = true
+is_early keyword.Node = true
 is_early keyword.View = true
 is_early keyword.Start = true
 is_early keyword.Change = false
 is_early keyword.Advance = false
 is_early keyword.Close = false
 is_early keyword.Read = false
+is_early keyword.Changes = false
+is_early keyword.Frontier = false
 
 -- the keyword of a line whose first word this is, if it may stand here
 unfoldable pub opening : Known → List ℕ → Result Keyword Refusal
@@ -107,12 +106,15 @@ with_command n k outcome = outcome >>= λ command. Ok (record k { commands = k.c
 -- what is known behind line n, with these words behind its keyword
 abbrev pub keyword_line : ℕ → Known → Keyword → List (List ℕ) → Result Known Refusal
 keyword_line n k keyword.Input words = input_line k words
+keyword_line n k keyword.Node words = node_line k words
 keyword_line n k keyword.View words = view_line k words
 keyword_line n k keyword.Start words = start_line k words
 keyword_line n k keyword.Change words = with_command n k (change_line k words)
 keyword_line n k keyword.Advance words = with_command n k (advance_line k words)
 keyword_line n k keyword.Close words = with_command n k (close_line k words)
 keyword_line n k keyword.Read words = with_command n k (read_line k words)
+keyword_line n k keyword.Changes words = with_command n k (changes_line k words)
+keyword_line n k keyword.Frontier words = with_command n k (frontier_line k words)
 
 -- a line without words is skipped, and so is one whose first word begins with #
 unfoldable pub words_line : ℕ → Known → List (List ℕ) → Result Known Refusal

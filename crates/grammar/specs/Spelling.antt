@@ -3,11 +3,13 @@ use Rattle.std.specs.Prelude.{◌≡◌, ℕ, true, false, ◌⊎◌, not, List,
 use Rattle.std.specs.Fmt.{signed_decimal}
 use Rattle.std.specs.List.{flat_map}
 use Rattle.lattice.specs.declared.product.Pair.{Pair}
+use Rattle.row.specs.Text.{item_text, cmp_text}
+use Rattle.row.specs.declared.testing.Test.{Test}
 use Rattle.plan.specs.Rules.{refusal_of}
 use Rattle.plan.specs.declared.node.Node.{Node}
 use Rattle.plan.specs.declared.node.Node.TheVariants.{Input, Map, Filter, Concat, Negate, Arrange, Join, Reduce, Output}
 use Rattle.grammar.specs.declared.command.Command.{Command}
-use Rattle.grammar.specs.declared.command.Command.TheVariants.{Change, Advance, Close, Read}
+use Rattle.grammar.specs.declared.command.Command.TheVariants.{Change, Advance, Close, Read, Changes, Frontier}
 use Rattle.grammar.specs.Commands.{IsAbout}
 use Rattle.grammar.specs.Known.{Known, place_of}
 use Rattle.grammar.specs.Lines.{words_line}
@@ -22,14 +24,18 @@ use Rattle.grammar.specs.Told.{Told, name_at}
 abbrev pub time_words : Pair ℕ ℕ → List (List ℕ)
 time_words t = decimal t.first ∷ decimal t.second ∷ []
 
--- the words of a node's line, where nodes have these names; no line declares the nodes of other kinds yet
+-- the three words of a test
+abbrev pub test_words : Test → List (List ℕ)
+test_words test = item_text test.left ∷ cmp_text test.op ∷ item_text test.right ∷ []
+
+-- the words of a node's line, where nodes have these names; no line declares an arrange node, a join or a reduction yet
 abbrev pub node_words : List (List ℕ) → List ℕ → Node → List (List ℕ)
 node_words names name (Input width) = codes "input" ∷ name ∷ decimal width ∷ []
 node_words names name (Output source) = codes "view" ∷ name ∷ name_at names source ∷ []
-node_words names name (Map source items) = []
-node_words names name (Filter source test) = []
-node_words names name (Concat left right) = []
-node_words names name (Negate source) = []
+node_words names name (Map source items) = codes "node" ∷ name ∷ codes "map" ∷ name_at names source ∷ map item_text items
+node_words names name (Filter source test) = codes "node" ∷ name ∷ codes "filter" ∷ name_at names source ∷ test_words test
+node_words names name (Concat left right) = codes "node" ∷ name ∷ codes "concat" ∷ name_at names left ∷ name_at names right ∷ []
+node_words names name (Negate source) = codes "node" ∷ name ∷ codes "negate" ∷ name_at names source ∷ []
 node_words names name (Arrange source key) = []
 node_words names name (Join left right) = []
 node_words names name (Reduce kind source) = []
@@ -40,6 +46,8 @@ command_words names (Change input time diff row) = codes "change" ∷ name_at na
 command_words names (Advance input times) = codes "advance" ∷ name_at names input ∷ flat_map time_words times
 command_words names (Close input) = codes "close" ∷ name_at names input ∷ []
 command_words names (Read view time) = codes "read" ∷ name_at names view ∷ time_words time
+command_words names (Changes view) = codes "changes" ∷ name_at names view ∷ []
+command_words names (Frontier view) = codes "frontier" ∷ name_at names view ∷ []
 
 -- the line is skipped, and says nothing
 pub record Skips (k : Known) (words : List (List ℕ)) (next : Known) : Type 0 where

@@ -66,6 +66,14 @@ pub enum Command {
         view: NodeId,
         time: Bitime,
     },
+    /// Asks for the view's changes at the times that have passed.
+    Changes {
+        view: NodeId,
+    },
+    /// Asks for the view's frontier.
+    Frontier {
+        view: NodeId,
+    },
 }
 
 /// A command, and the line on which it stands, counted from 1, skipped lines too.

@@ -1,8 +1,9 @@
-//! The lines before `start`, and `start` itself.
+//! The lines before `start` but those of operators, and `start` itself.
 ghost use Rattle.std.specs.Prelude.{◌≡◌, map};
 ghost use Rattle.update.specs.declared.refusal.Refusal.TheVariants.{WrongWordCount};
 ghost use Rattle.grammar.specs.Known.{known};
-ghost use Rattle.grammar.specs.Lines.{input_line, view_line, start_line};
+ghost use Rattle.grammar.specs.Declaring.{input_line, view_line};
+ghost use Rattle.grammar.specs.Lines.{start_line};
 ghost use Rattle.grammar.specs.Outcomes.{Gives};
 
 use crate::draft::Draft;
@@ -19,7 +20,7 @@ pub(crate) fn wrong_count() -> LineError
     LineError::Refused(Refusal::WrongWordCount)
 }
 
-#[tactic(auto, unfolding(crate::specs::Lines::input_line))]
+#[tactic(auto, unfolding(crate::specs::Declaring::input_line))]
 pub(crate) fn input_line(alloc: Global, draft: &mut Draft, words: &[&str]) -> Result<(), LineError>
     ensures { Gives (λ _. known draft.new) result (input_line (known draft.old) (map (λ w. w.now) words.now)) }
 {
@@ -33,7 +34,7 @@ pub(crate) fn input_line(alloc: Global, draft: &mut Draft, words: &[&str]) -> Re
     }
 }
 
-#[tactic(auto, unfolding(crate::specs::Lines::view_line))]
+#[tactic(auto, unfolding(crate::specs::Declaring::view_line))]
 pub(crate) fn view_line(alloc: Global, draft: &mut Draft, words: &[&str]) -> Result<(), LineError>
     ensures { Gives (λ _. known draft.new) result (view_line (known draft.old) (map (λ w. w.now) words.now)) }
 {

@@ -5,7 +5,7 @@ ghost use Rattle.plan.specs.Rules.{is_readable};
 ghost use Rattle.update.specs.declared.refusal.Refusal.TheVariants.{UnknownName};
 ghost use Rattle.grammar.specs.Commands.{is_input_of, is_view_of};
 ghost use Rattle.grammar.specs.Known.{known, place_of, used_name, source, input, view, new_name, plan_with};
-ghost use Rattle.grammar.specs.Lines.{with_node, with_command};
+ghost use Rattle.grammar.specs.Declaring.{with_node};
 ghost use Rattle.grammar.specs.Outcomes.{Gives};
 
 use crate::command::{Command, CommandLine};
@@ -112,7 +112,7 @@ impl Draft {
     }
 
     // Adds the node under a name that is free.
-    #[tactic(auto, unfolding(crate::specs::Lines::with_node))]
+    #[tactic(auto, unfolding(crate::specs::Declaring::with_node))]
     pub(crate) fn add(&mut self, alloc: Global, name: String, node: Node) -> Result<(), LineError>
         requires { place_of (known self.old) (string_bytes name) ≡ None }
         ensures { Gives (λ _. known self.new) result (with_node (known self.old) (string_bytes name) node) }

@@ -6,12 +6,15 @@ ghost use Rattle.grammar.specs.Lines.{keyword_of, is_early};
 #[derive(Clone, Copy, Debug, PartialEq, Eq)]
 pub(crate) enum Keyword {
     Input,
+    Node,
     View,
     Start,
     Change,
     Advance,
     Close,
     Read,
+    Changes,
+    Frontier,
 }
 
 impl Keyword {
@@ -21,6 +24,8 @@ impl Keyword {
     {
         if word == "input" {
             Some(Keyword::Input)
+        } else if word == "node" {
+            Some(Keyword::Node)
         } else if word == "view" {
             Some(Keyword::View)
         } else if word == "start" {
@@ -33,6 +38,10 @@ impl Keyword {
             Some(Keyword::Close)
         } else if word == "read" {
             Some(Keyword::Read)
+        } else if word == "changes" {
+            Some(Keyword::Changes)
+        } else if word == "frontier" {
+            Some(Keyword::Frontier)
         } else {
             None
         }
@@ -43,8 +52,13 @@ impl Keyword {
         ensures { result ≡ is_early self }
     {
         match self {
-            Keyword::Input | Keyword::View | Keyword::Start => true,
-            Keyword::Change | Keyword::Advance | Keyword::Close | Keyword::Read => false,
+            Keyword::Input | Keyword::Node | Keyword::View | Keyword::Start => true,
+            Keyword::Change
+            | Keyword::Advance
+            | Keyword::Close
+            | Keyword::Read
+            | Keyword::Changes
+            | Keyword::Frontier => false,
         }
     }
 }

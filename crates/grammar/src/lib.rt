@@ -3,31 +3,29 @@
 //! A file is lines and a line is words, and what a line says depends on the lines before it alone. So a file has one
 //! reading: [`parse`] answers the [`Script`] that it is, or the one [`Fault`], which is that of the first faulty line and
 //! there of the first test that fails. Names are resolved here and never again: a script in hand has a plan that keeps all
-//! rules, and every command of it names an input of that plan, or a view where it reads one.
+//! rules, and every command of it names an input of that plan, or a view where it asks one.
 //!
 //! The grammar stands in `specs/` as lists of bytes, with no position and no state beside what the lines so far have said:
-//! `Text` cuts bytes into lines and words, `Names` and `Numbers` say which words are names and numbers, `Lines` has a
-//! definition for each kind of line, and `Scripts` goes over all lines. The code follows it line by line.
+//! `Text` cuts bytes into lines and words, `Names`, `Numbers` and `Items` say which words are names, numbers and items,
+//! `Declaring` and `Lines` have a definition for each kind of line, and `Scripts` goes over all lines. The code follows it
+//! line by line.
 #![tactic(auto)]
 
 mod command;
 mod declarations;
 mod draft;
 mod fault;
-#[cfg(test)]
-mod faults_tests;
+mod items;
 mod keyword;
+mod kind;
 mod laws;
 mod lines;
-#[cfg(test)]
-mod memory_tests;
 mod names;
+mod nodes;
 mod numbers;
 mod parsing;
 mod requests;
 mod script;
-#[cfg(test)]
-mod tests;
 mod text;
 mod words;
 

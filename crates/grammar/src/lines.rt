@@ -9,7 +9,10 @@ use crate::declarations::{input_line, start_line, view_line};
 use crate::draft::Draft;
 use crate::fault::LineError;
 use crate::keyword::Keyword;
-use crate::requests::{advance_line, change_line, close_line, read_line};
+use crate::nodes::node_line;
+use crate::requests::{
+    advance_line, change_line, changes_line, close_line, frontier_line, read_line,
+};
 use crate::text::{opens_comment, text, words};
 use std::alloc::Global;
 use update::Refusal;
@@ -59,6 +62,7 @@ fn keyword_line(
 {
     match keyword {
         Keyword::Input => input_line(alloc, draft, words),
+        Keyword::Node => node_line(alloc, draft, words),
         Keyword::View => view_line(alloc, draft, words),
         Keyword::Start => start_line(draft, words),
         Keyword::Change => {
@@ -75,6 +79,14 @@ fn keyword_line(
         }
         Keyword::Read => {
             let command = read_line(draft, words)?;
+            push_command(draft, number, command)
+        }
+        Keyword::Changes => {
+            let command = changes_line(draft, words)?;
+            push_command(draft, number, command)
+        }
+        Keyword::Frontier => {
+            let command = frontier_line(draft, words)?;
             push_command(draft, number, command)
         }
     }

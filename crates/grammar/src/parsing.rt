@@ -49,7 +49,7 @@ fn take_lines(alloc: Global, draft: &mut Draft, bytes: &[u8]) -> Result<(), Faul
 
 /// The script that the bytes are, or its first faulty line with the number of what that is refused for.
 ///
-/// The numbers are those of [`Refusal::code`]: 13 to 16, 20 and 31 to 37, and 1 where memory was refused while the line was
+/// The numbers are those of [`Refusal::code`]: 13 to 17, 20 and 31 to 37, and 1 where memory was refused while the line was
 /// read. Cost: linear in the bytes up to the fault.
 pub fn parse(alloc: Global, bytes: &[u8]) -> Result<Script, Fault>
     // Which script it is, or which fault; want of memory, number 1, aside.

@@ -1,7 +1,7 @@
 //! The lines after `start`: each is one command. They look names up and change nothing.
 ghost use Rattle.std.specs.Prelude.{◌≡◌, map};
 ghost use Rattle.grammar.specs.Known.{known};
-ghost use Rattle.grammar.specs.Lines.{change_line, advance_line, close_line, read_line};
+ghost use Rattle.grammar.specs.Lines.{change_line, advance_line, close_line, read_line, changes_line, frontier_line};
 ghost use Rattle.grammar.specs.Outcomes.{Gives};
 
 use crate::command::Command;
@@ -88,6 +88,32 @@ pub(crate) fn read_line(draft: &Draft, words: &[&str]) -> Result<Command, LineEr
                 view,
                 time: time(valid, system),
             })
+        }
+        _ => Err(wrong_count()),
+    }
+}
+
+#[tactic(auto, unfolding(crate::specs::Lines::changes_line))]
+pub(crate) fn changes_line(draft: &Draft, words: &[&str]) -> Result<Command, LineError>
+    ensures { Gives (λ command. command) result (changes_line (known draft.now) (map (λ w. w.now) words.now)) }
+{
+    match words {
+        [name] => {
+            let view = draft.view(name)?;
+            Ok(Command::Changes { view })
+        }
+        _ => Err(wrong_count()),
+    }
+}
+
+#[tactic(auto, unfolding(crate::specs::Lines::frontier_line))]
+pub(crate) fn frontier_line(draft: &Draft, words: &[&str]) -> Result<Command, LineError>
+    ensures { Gives (λ command. command) result (frontier_line (known draft.now) (map (λ w. w.now) words.now)) }
+{
+    match words {
+        [name] => {
+            let view = draft.view(name)?;
+            Ok(Command::Frontier { view })
         }
         _ => Err(wrong_count()),
     }

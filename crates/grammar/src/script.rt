@@ -82,7 +82,7 @@ impl Script {
         self.names.get_index(id.number()).unwrap().as_str()
     }
 
-    /// The commands in the order of their lines. Each is about an input of the plan, or a view where it reads one. Takes no
+    /// The commands in the order of their lines. Each is about an input of the plan, or a view where it asks one. Takes no
     /// memory.
     pub fn command_lines(&self) -> &[CommandLine]
         ensures lines { result.now ≡ self.now.commands }

@@ -127,8 +127,11 @@ impl<T: Minimum> Board<T> {
     }
 }
 
-// Each input's frontier is the least time.
-fn first_openings<T: Minimum>(alloc: Global, inputs: &[NodeId]) -> Result<Vec<Open<T>>, Refusal>
+/// The elements of the inputs' frontiers before anything has happened: each input's is the least time. Refused only with
+/// `OutOfMemory`.
+///
+/// Cost: linear in the inputs.
+pub fn first_openings<T: Minimum>(alloc: Global, inputs: &[NodeId]) -> Result<Vec<Open<T>>, Refusal>
     ensures first { IfOk result (λ openings. openings.items ≡ flat_map (λ i. opening i (T.least ∷ [])) inputs.now) }
     ensures refused { IfErr result (λ refusal. refusal ≡ OutOfMemory) }
 {

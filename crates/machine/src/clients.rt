@@ -5,18 +5,18 @@ ghost use Rattle.std.specs.Prelude.{◌≡◌, ◌<◌, ◌++◌, List, [], ◌�
 ghost use Rattle.std.specs.List.{filter};
 ghost use Rattle.lattice.specs.Frontiers.{is_beyond, all_beyond};
 ghost use Rattle.update.specs.declared.refusal.Refusal.TheVariants.{OutOfMemory};
-ghost use Rattle.plan.specs.Rules.{IsRefusalBy};
+ghost use Rattle.plan.specs.Rules.{IsRefusalBy, first_refusal};
 ghost use Rattle.machine.specs.declared.event.Event.{Event};
 ghost use Rattle.machine.specs.Worlds.{open_at, place};
 ghost use Rattle.machine.specs.Shares.{home};
 ghost use Rattle.machine.specs.Histories.{IsInput, opening};
-ghost use Rattle.machine.specs.Boards.{Shown, IsBoard, Stands, looked, fed, advanced, feed_refusal, advance_refusal};
+ghost use Rattle.machine.specs.Boards.{Shown, IsBoard, Stands, looked, fed, advanced, feed_faults, feed_refusal, advance_faults, advance_refusal};
 
 use crate::board::Board;
 use crate::event::{Bundle, Event, Fed, Open, Place};
 use crate::lists::Times;
 use lattice::Minimum;
-use plan::NodeId;
+use plan::{NodeId, Plan};
 use std::alloc::Global;
 use update::{Refusal, Update};
 
@@ -73,7 +73,8 @@ impl<T: Minimum> Board<T> {
         ensures board { OnOk result (IsBoard self.old) }
         ensures unchanged { OnErr result (self.new ≡ looked client self.old) }
     {
-        if let Some(refusal) = self.feed_refusal(input, &update) {
+        let taken = self.accepted[input.number()];
+        if let Some(refusal) = feed_refusal(&self.plan, &self.openings, taken, input, &update) {
             self.look(client);
             return Err(refusal);
         }
@@ -90,26 +91,6 @@ impl<T: Minimum> Board<T> {
                 self.look(client);
                 Err(refusal)
             }
-        }
-    }
-
-    // What refuses a change, in the order of testing.
-    fn feed_refusal(&self, input: NodeId, update: &Update<T>) -> Option<Refusal>
-        requires { input < length self.now.dataflow.nodes }
-        ensures { result ≡ feed_refusal T.below self.now (record { input = input; update = update.now }) }
-    {
-        if update.row.width() != self.plan.width(input) {
-            Some(Refusal::WrongWidth)
-        } else if update.diff == 0 {
-            Some(Refusal::ZeroWeight)
-        } else if update.diff.unsigned_abs() > MAX_DIFFERENCE {
-            Some(Refusal::WeightTooLarge)
-        } else if !is_open(&self.openings, input, &update.time) {
-            Some(Refusal::TimePassed)
-        } else if self.accepted[input.number()] >= MAX_CHANGES {
-            Some(Refusal::InputFull)
-        } else {
-            None
         }
     }
 
@@ -160,11 +141,12 @@ impl<T: Minimum> Board<T> {
         ensures refused { IfErr result (λ refusal. IsRefusalBy (advance_refusal T.below self.old input times) refusal) }
         ensures unchanged { OnErr result (self.new ≡ looked client self.old) }
     {
-        if !is_onward(&self.openings, input, times.as_slice()) {
+        if let Some(refusal) = advance_refusal(&self.openings, input, times.as_slice()) {
             self.look(client);
-            return Err(Refusal::NotForward);
+            return Err(refusal);
         }
-        match self.openings_with(input, times.as_slice()) {
+        let alloc = *self.openings.allocator();
+        match openings_with(alloc, &self.openings, input, times.as_slice()) {
             Ok(openings) => {
                 self.openings = openings;
                 self.last = Event::Advance {
@@ -180,16 +162,81 @@ impl<T: Minimum> Board<T> {
             }
         }
     }
+}
 
-    // The elements of all frontiers, where an input has these.
-    fn openings_with(&self, input: NodeId, times: &[T]) -> Result<Vec<Open<T>>, Refusal>
-        ensures with { IfOk result (λ openings. openings.items ≡ opening input times.now ++ filter (λ o. not (eqb o.input input)) self.now.openings) }
-        ensures refused { IfErr result (λ refusal. refusal ≡ OutOfMemory) }
-    {
-        let mut openings = opened(*self.openings.allocator(), input, times)?;
-        push_others(&mut openings, &self.openings, input)?;
-        Ok(openings)
+/// What refuses a change of an input, where these are the elements of the inputs' frontiers and the input has taken so many
+/// changes; `None` where nothing does. Takes no memory. Whoever takes changes without a board refuses just what a board does.
+///
+/// The refusals, in the order in which they are tested:
+///
+/// | Refusal | Where |
+/// |---|---|
+/// | `WrongWidth` | the row has not the input's width |
+/// | `ZeroWeight` | the difference is 0 |
+/// | `WeightTooLarge` | the difference is above [`MAX_DIFFERENCE`], or below its negative |
+/// | `TimePassed` | the time is not beyond the input's frontier |
+/// | `InputFull` | the input has taken [`MAX_CHANGES`] changes |
+///
+/// Cost: linear in the elements of the inputs' frontiers.
+pub fn feed_refusal<T: Minimum>(
+    plan: &Plan,
+    openings: &[Open<T>],
+    taken: usize,
+    input: NodeId,
+    update: &Update<T>,
+) -> Option<Refusal>
+    requires { input < length plan.now }
+    ensures { result ≡ first_refusal (feed_faults T.below plan.now openings.now taken (record { input = input; update = update.now })) }
+{
+    if update.row.width() != plan.width(input) {
+        Some(Refusal::WrongWidth)
+    } else if update.diff == 0 {
+        Some(Refusal::ZeroWeight)
+    } else if update.diff.unsigned_abs() > MAX_DIFFERENCE {
+        Some(Refusal::WeightTooLarge)
+    } else if !is_open(openings, input, &update.time) {
+        Some(Refusal::TimePassed)
+    } else if taken >= MAX_CHANGES {
+        Some(Refusal::InputFull)
+    } else {
+        None
     }
+}
+
+/// What refuses these times as an input's frontier, where these are the elements of the inputs' frontiers: `NotForward` where
+/// one of the times is not beyond the input's old frontier. `None` where nothing does; no times, with which the input is
+/// closed, are never refused. Takes no memory.
+///
+/// Cost: the product of the times and of the elements of the inputs' frontiers.
+pub fn advance_refusal<T: Minimum>(
+    openings: &[Open<T>],
+    input: NodeId,
+    times: &[T],
+) -> Option<Refusal>
+    ensures { result ≡ first_refusal (advance_faults T.below openings.now input times.now) }
+{
+    if !is_onward(openings, input, times) {
+        return Some(Refusal::NotForward);
+    }
+    None
+}
+
+/// The elements of the inputs' frontiers, where one input has these times from now on and the others stand as they did.
+/// Refused only with `OutOfMemory`.
+///
+/// Cost: linear in the times and the elements.
+pub fn openings_with<T: Minimum>(
+    alloc: Global,
+    openings: &[Open<T>],
+    input: NodeId,
+    times: &[T],
+) -> Result<Vec<Open<T>>, Refusal>
+    ensures with { IfOk result (λ all. all.items ≡ opening input times.now ++ filter (λ o. not (eqb o.input input)) openings.now) }
+    ensures refused { IfErr result (λ refusal. refusal ≡ OutOfMemory) }
+{
+    let mut all = opened(alloc, input, times)?;
+    push_others(&mut all, openings, input)?;
+    Ok(all)
 }
 
 // Whether each of the times is beyond an input's frontier.

@@ -11,7 +11,8 @@
 //!
 //! The [`Board`] is what lies between clients and workers, in memory. Each of its calls is one event, and says so in one
 //! way: whatever history the board stood for, it then stands for that history with the board's last event on top. What is
-//! asked of a board, a view's rows among it, is answered for whatever history it stands for.
+//! asked of a board, a view's rows among it, is answered for whatever history it stands for. What refuses a change or a
+//! frontier stands in functions beside it ([`feed_refusal`], [`advance_refusal`]), for whoever takes them without a board.
 //!
 //! A client calls `feed`, `advance` and `look`, and reads by `frontier`, `read`, `changes` and `is_quiet`. A worker finds what
 //! to do by `waiting_at` or `is_ready`, turns to it by `take` or `take_held`, computes, cuts what comes out by `cut`, and
@@ -29,19 +30,15 @@ mod event;
 mod fronts;
 mod giving;
 mod lists;
-#[cfg(test)]
-mod memory_tests;
 mod reading;
 mod standing;
-#[cfg(test)]
-mod tests;
 mod theorems;
 mod view;
 mod waiting;
 mod workers;
 
-pub use board::Board;
-pub use clients::{MAX_CHANGES, MAX_DIFFERENCE};
+pub use board::{Board, first_openings};
+pub use clients::{MAX_CHANGES, MAX_DIFFERENCE, advance_refusal, feed_refusal, openings_with};
 pub use event::{Bundle, Bundles, Emission, Event, Fed, Held, Open, Place};
 pub use giving::Ungiven;
 pub use lists::{Times, Updates};

@@ -14,12 +14,8 @@
 #![tactic(auto)]
 
 mod difference;
-#[cfg(test)]
-mod difference_tests;
 mod entries;
 mod evaluation;
-#[cfg(test)]
-mod evaluation_tests;
 mod grid;
 mod join;
 mod keys;
@@ -29,8 +25,6 @@ mod listing;
 mod node;
 mod operators;
 mod reductions;
-#[cfg(test)]
-mod sketches;
 
 pub use difference::differences;
 pub use evaluation::{are_wide, evaluate};

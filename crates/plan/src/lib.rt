@@ -13,21 +13,11 @@
 mod builder;
 mod differences;
 mod edges;
-#[cfg(test)]
-mod equality_tests;
 mod items;
 mod laws;
-#[cfg(test)]
-mod memory_tests;
 mod node;
 mod plan;
-#[cfg(test)]
-mod rows_tests;
 mod rules;
-#[cfg(test)]
-mod sketches;
-#[cfg(test)]
-mod tests;
 mod text;
 
 pub use builder::PlanBuilder;

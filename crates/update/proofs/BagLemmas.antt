@@ -198,16 +198,3 @@ module _ {T : Type 0} where
 
   pub text_by_items : (us ls : List (Update T)) (xs : List Entry) (k : ℕ) → ls ≡ us → map entry us ≡ xs → length ls ≤ k → flat_map (λ u. entry_text (entry u)) (take k ls) ≡ bag_text xs
   text_by_items us ls xs k e g l = rw (take_all k ls l, e) (sym (flat_map-map entry_text entry us) ∙ ap bag_text g)
-
--- ---- short consolidated lists
-
-pub none_is_consolidated : {T : Type 0} {cmp : T → T → Ordering} → IsConsolidated cmp []
-unfolding IsStrictlySortedBy
-none_is_consolidated = record { ascending = tt; nonzero = tt }
-
-pub three_are_consolidated : {T : Type 0} (u v w : Update T) → by_columns u.row v.row ≡ Less → by_columns v.row w.row ≡ Less → u.diff ≢ pos 0 → v.diff ≢ pos 0 → w.diff ≢ pos 0 → IsConsolidated (λ _ _. Equal) (u ∷ v ∷ w ∷ [])
-unfolding IsStrictlySortedBy
-three_are_consolidated u v w e f l m n = record {
-  ascending = ((e, (rows_total.trans u.row v.row w.row e f, tt)), ((f, tt), (tt, tt)));
-  nonzero = (l, (m, (n, tt)));
-}

@@ -13,16 +13,10 @@
 mod bag;
 mod change;
 mod consolidation;
-#[cfg(test)]
-mod consolidation_tests;
 mod laws;
 mod moment;
 mod refusal;
 mod summation;
-#[cfg(test)]
-mod summation_tests;
-#[cfg(test)]
-mod tests;
 mod weight;
 
 pub use bag::Bag;

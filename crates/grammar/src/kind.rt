@@ -1,0 +1,31 @@
+//! The kinds of nodes that a `node` line can declare, by their words. Those that need arranged rows are not among them yet.
+ghost use Rattle.std.specs.Prelude.{◌≡◌};
+ghost use Rattle.grammar.specs.Declaring.{kind_of};
+
+/// The third word of a `node` line.
+#[derive(Clone, Copy, Debug, PartialEq, Eq)]
+pub(crate) enum KindWord {
+    Map,
+    Filter,
+    Concat,
+    Negate,
+}
+
+impl KindWord {
+    // The kind that the word is, if it is one.
+    pub(crate) fn of(word: &str) -> Option<KindWord>
+        ensures { result ≡ kind_of word.now }
+    {
+        if word == "map" {
+            Some(KindWord::Map)
+        } else if word == "filter" {
+            Some(KindWord::Filter)
+        } else if word == "concat" {
+            Some(KindWord::Concat)
+        } else if word == "negate" {
+            Some(KindWord::Negate)
+        } else {
+            None
+        }
+    }
+}

@@ -1,0 +1,123 @@
+//! The `node` lines. Such a line says its name before its kind, and how many words it has is for the kind to say: so the
+//! kind is looked at first, then the number of words, and only then the words from left to right.
+ghost use Rattle.std.specs.Prelude.{◌≡◌, map};
+ghost use Rattle.grammar.specs.Known.{known};
+ghost use Rattle.grammar.specs.Declaring.{map_line, filter_line, concat_line, negate_line, kind_line, node_line};
+ghost use Rattle.grammar.specs.Outcomes.{Gives};
+
+use crate::declarations::wrong_count;
+use crate::draft::Draft;
+use crate::fault::LineError;
+use crate::items::{items, test};
+use crate::kind::KindWord;
+use plan::{Items, Node};
+use std::alloc::Global;
+use update::Refusal;
+
+#[tactic(auto, unfolding(crate::specs::Declaring::map_line))]
+fn map_line(alloc: Global, draft: &mut Draft, name: &str, words: &[&str]) -> Result<(), LineError>
+    ensures { Gives (λ _. known draft.new) result (map_line (known draft.old) name.now (map (λ w. w.now) words.now)) }
+{
+    match words {
+        [source, rest @ ..] => {
+            if rest.is_empty() {
+                return Err(wrong_count());
+            }
+            let name = draft.new_name(alloc, name)?;
+            let source = draft.source(source)?;
+            let items = Items::from(items(alloc, rest)?);
+            draft.add(alloc, name, Node::Map { source, items })
+        }
+        _ => Err(wrong_count()),
+    }
+}
+
+#[tactic(auto, unfolding(crate::specs::Declaring::filter_line))]
+fn filter_line(
+    alloc: Global,
+    draft: &mut Draft,
+    name: &str,
+    words: &[&str],
+) -> Result<(), LineError>
+    ensures { Gives (λ _. known draft.new) result (filter_line (known draft.old) name.now (map (λ w. w.now) words.now)) }
+{
+    match words {
+        [source, left, op, right] => {
+            let name = draft.new_name(alloc, name)?;
+            let source = draft.source(source)?;
+            let test = test(left, op, right)?;
+            draft.add(alloc, name, Node::Filter { source, test })
+        }
+        _ => Err(wrong_count()),
+    }
+}
+
+#[tactic(auto, unfolding(crate::specs::Declaring::concat_line))]
+fn concat_line(
+    alloc: Global,
+    draft: &mut Draft,
+    name: &str,
+    words: &[&str],
+) -> Result<(), LineError>
+    ensures { Gives (λ _. known draft.new) result (concat_line (known draft.old) name.now (map (λ w. w.now) words.now)) }
+{
+    match words {
+        [left, right] => {
+            let name = draft.new_name(alloc, name)?;
+            let left = draft.source(left)?;
+            let right = draft.source(right)?;
+            draft.add(alloc, name, Node::Concat { left, right })
+        }
+        _ => Err(wrong_count()),
+    }
+}
+
+#[tactic(auto, unfolding(crate::specs::Declaring::negate_line))]
+fn negate_line(
+    alloc: Global,
+    draft: &mut Draft,
+    name: &str,
+    words: &[&str],
+) -> Result<(), LineError>
+    ensures { Gives (λ _. known draft.new) result (negate_line (known draft.old) name.now (map (λ w. w.now) words.now)) }
+{
+    match words {
+        [source] => {
+            let name = draft.new_name(alloc, name)?;
+            let source = draft.source(source)?;
+            draft.add(alloc, name, Node::Negate { source })
+        }
+        _ => Err(wrong_count()),
+    }
+}
+
+// The words behind the kind.
+fn kind_line(
+    alloc: Global,
+    draft: &mut Draft,
+    name: &str,
+    kind: KindWord,
+    words: &[&str],
+) -> Result<(), LineError>
+    ensures { Gives (λ _. known draft.new) result (kind_line (known draft.old) name.now kind (map (λ w. w.now) words.now)) }
+{
+    match kind {
+        KindWord::Map => map_line(alloc, draft, name, words),
+        KindWord::Filter => filter_line(alloc, draft, name, words),
+        KindWord::Concat => concat_line(alloc, draft, name, words),
+        KindWord::Negate => negate_line(alloc, draft, name, words),
+    }
+}
+
+#[tactic(auto, unfolding(crate::specs::Declaring::node_line))]
+pub(crate) fn node_line(alloc: Global, draft: &mut Draft, words: &[&str]) -> Result<(), LineError>
+    ensures { Gives (λ _. known draft.new) result (node_line (known draft.old) (map (λ w. w.now) words.now)) }
+{
+    match words {
+        [name, word, rest @ ..] => match KindWord::of(word) {
+            Some(kind) => kind_line(alloc, draft, name, kind, rest),
+            None => Err(LineError::Refused(Refusal::UnknownCommand)),
+        },
+        _ => Err(wrong_count()),
+    }
+}
