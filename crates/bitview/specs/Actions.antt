@@ -1,8 +1,22 @@
--- What may be asked of the program.
-use Rattle.std.specs.Prelude.{◌≡◌}
+-- What may be asked of the program, and what is then written.
+use Rattle.std.specs.Prelude.{◌≡◌, ℕ, List, [], ◌∷◌, ◌++◌, length, codes, decimal}
+use Rattle.grammar.specs.Told.{Told}
+use Rattle.script.specs.Text.{text}
 use Rattle.bitview.specs.declared.command_line.Action.{Action}
-use Rattle.bitview.specs.declared.command_line.Action.TheVariants.{Run}
+use Rattle.bitview.specs.declared.command_line.Action.TheVariants.{Run, Plain, Check}
 
 -- the number of workers is one that is taken
 abbrev pub IsInRange : Action → Type 0
 IsInRange (Run file workers) = workers ≡ 1
+IsInRange (Plain file) = Unit {0}
+IsInRange (Check file) = Unit {0}
+
+-- ok NODES COMMANDS
+abbrev pub check_text : Told → List ℕ
+check_text t = codes "ok " ++ (decimal (length t.plan) ++ (codes " " ++ (decimal (length t.commands) ++ 10 ∷ [])))
+
+-- what is written of a script: its text, whoever carries it out, or how much it holds
+abbrev pub asked_text : Action → Told → List ℕ
+asked_text (Run file workers) t = text t
+asked_text (Plain file) t = text t
+asked_text (Check file) t = check_text t

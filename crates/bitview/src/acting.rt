@@ -1,17 +1,20 @@
 //! What the program does with a file's bytes, whatever the outputs are.
 //!
 //! A failure of the second output, standard error, changes nothing: what went wrong is then told by the status alone.
-ghost use Rattle.std.specs.Prelude.{◌≡◌, Ok, Some, option_map};
-ghost use Rattle.bitview.specs.Actions.{IsInRange};
+ghost use Rattle.std.specs.Prelude.{◌≡◌, ℕ, List, Ok, Some, IfErr, OnOk, option_map};
+ghost use Rattle.script.specs.Engines.{IsRunEnd, failures};
+ghost use Rattle.script.specs.Outs.{IsBeginning};
+ghost use Rattle.bitview.specs.Actions.{IsInRange, asked_text, check_text};
 ghost use Rattle.bitview.specs.Acts.{Acts, IsDone, status_of, fault_status};
 
 use crate::command_line::Action;
 use grammar::{Fault, Script, parse};
-use script::{Out, RunFault, put_all, run_script};
+use script::{Out, RunFault, plain_script, put_all, run_script};
 use std::alloc::{AllocError, Global};
 
-/// Does what is asked with the file's bytes, which are `None` where it was not read: writes the script's text to the first
-/// output, and what went wrong, in one line, to the second. The answer is the program's status:
+/// Does what is asked with the file's bytes, which are `None` where it was not read: writes the script's text, or how many
+/// nodes and commands it has, to the first output, and what went wrong, in one line, to the second. The answer is the
+/// program's status:
 ///
 /// | Status | When | The line on the second output |
 /// |---|---|---|
@@ -29,12 +32,12 @@ pub fn act<W: Out, E: Out>(
     error: &mut E,
 ) -> u8
     requires { IsInRange action }
-    ensures { Acts (λ taken failures. W.took out.old taken failures out.new) (option_map (λ b. b.now) bytes.entry) result }
+    ensures { Acts (λ taken failures. W.took out.old taken failures out.new) (asked_text action.entry) (option_map (λ b. b.now) bytes.entry) result }
 {
-    let Action::Run { file, workers } = action;
     match bytes {
-        Some(bytes) => act_on(alloc, workers, bytes, out, error),
+        Some(bytes) => act_on(alloc, action, bytes, out, error),
         None => {
+            let file = action.file();
             tell(error, format!(in alloc; "cannot read {file}\n"));
             3
         }
@@ -44,35 +47,67 @@ pub fn act<W: Out, E: Out>(
 // The same where the file was read.
 fn act_on<W: Out, E: Out>(
     alloc: Global,
-    workers: u64,
+    action: Action<'_>,
     bytes: &[u8],
     out: &mut W,
     error: &mut E,
 ) -> u8
-    requires { workers ≡ 1 }
-    ensures { Acts (λ taken failures. W.took out.old taken failures out.new) (Some bytes.now) result }
+    requires { IsInRange action }
+    ensures { Acts (λ taken failures. W.took out.old taken failures out.new) (asked_text action.entry) (Some bytes.now) result }
 {
     match parse(alloc, bytes) {
-        Ok(script) => carry_out(alloc, workers, &script, out, error),
+        Ok(script) => carry_out(alloc, action, &script, out, error),
         Err(fault) => refuse(alloc, fault, error),
     }
 }
 
-// Carries a script out.
+// Does what is asked with a script.
 fn carry_out<W: Out, E: Out>(
     alloc: Global,
-    workers: u64,
+    action: Action<'_>,
     script: &Script,
     out: &mut W,
     error: &mut E,
 ) -> u8
-    requires { workers ≡ 1 }
-    ensures { IsDone (λ taken failures. W.took out.old taken failures out.new) (Ok script.now) result }
+    requires { IsInRange action }
+    ensures { IsDone (λ taken failures. W.took out.old taken failures out.new) (asked_text action.entry) (Ok script.now) result }
 {
-    match run_script(alloc, script, workers, out) {
+    match write_asked(alloc, action, script, out) {
         Ok(()) => 0,
         Err(fault) => end(alloc, fault, error),
     }
+}
+
+// Writes what is asked of a script.
+fn write_asked<W: Out>(
+    alloc: Global,
+    action: Action<'_>,
+    script: &Script,
+    out: &mut W,
+) -> Result<(), RunFault>
+    requires { IsInRange action }
+    ensures written { OnOk result (W.took out.old (asked_text action.entry script.now) 0 out.new) }
+    ensures beginning { IfErr result (λ fault. (part : List ℕ) × IsBeginning part (asked_text action.entry script.now) × W.took out.old part (failures fault) out.new) }
+    ensures known { IfErr result IsRunEnd }
+{
+    match action {
+        Action::Run { workers, .. } => run_script(alloc, script, workers, out),
+        Action::Plain { .. } => plain_script(alloc, script, out),
+        Action::Check { .. } => write_size(alloc, script, out),
+    }
+}
+
+// Writes how many nodes and commands a script has.
+fn write_size<W: Out>(alloc: Global, script: &Script, out: &mut W) -> Result<(), RunFault>
+    ensures written { OnOk result (W.took out.old (check_text script.now) 0 out.new) }
+    ensures beginning { IfErr result (λ fault. (part : List ℕ) × IsBeginning part (check_text script.now) × W.took out.old part (failures fault) out.new) }
+    ensures known { IfErr result IsRunEnd }
+{
+    let nodes = script.nodes();
+    let commands = script.commands();
+    let line = format!(in alloc; "ok {nodes} {commands}\n")?;
+    put_all(out, line.as_str().as_bytes())?;
+    Ok(())
 }
 
 // Tells why a run ended early.

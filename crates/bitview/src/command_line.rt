@@ -29,6 +29,26 @@ pub enum Action<'a> {
         /// How many workers, which for now is 1.
         workers: u64,
     },
+    /// To work the same text out from scratch at each question, without workers.
+    Plain {
+        /// The file's name.
+        file: &'a str,
+    },
+    /// To read the commands, and carry none out.
+    Check {
+        /// The file's name.
+        file: &'a str,
+    },
+}
+
+impl<'a> Action<'a> {
+    /// The name of the file that is to be read.
+    pub fn file(&self) -> &'a str {
+        match self {
+            Action::Run { file, workers: _ } | Action::Plain { file } | Action::Check { file } =>
+                file,
+        }
+    }
 }
 
 /// Reads the program's words, its name first.
@@ -41,17 +61,29 @@ pub fn words<'a>(alloc: Global, words: &'a [&'a str]) -> Result<Action<'a>, Erro
 {
     let matches = command(alloc)?.try_get_matches_from(words)?;
     match matches.subcommand() {
-        Some((_run, inner)) => asked(alloc, inner),
+        Some((name, inner)) => asked(alloc, name, inner),
         None => Err(command(alloc)?.error(ErrorKind::MissingSubcommand, "no command is given")?),
     }
 }
 
-// What the words behind `run` ask for.
-fn asked<'a>(alloc: Global, inner: &ArgMatches<'a>) -> Result<Action<'a>, Error>
+// What the words behind the subcommand of that name ask for.
+fn asked<'a>(alloc: Global, name: &str, inner: &ArgMatches<'a>) -> Result<Action<'a>, Error>
     ensures { IfOk result IsInRange }
 {
-    match (inner.get_str("FILE"), inner.get_one::<u64>("workers")) {
-        (Some(file), Some(1)) => Ok(Action::Run { file, workers: 1 }),
+    match inner.get_str("FILE") {
+        Some(file) if name == "plain" => Ok(Action::Plain { file }),
+        Some(file) if name == "check" => Ok(Action::Check { file }),
+        Some(file) => asked_run(alloc, file, inner),
+        None => Err(command(alloc)?.error(ErrorKind::MissingRequiredArgument, "no file is given")?),
+    }
+}
+
+// A run, by as many workers as are taken.
+fn asked_run<'a>(alloc: Global, file: &'a str, inner: &ArgMatches<'a>) -> Result<Action<'a>, Error>
+    ensures { IfOk result IsInRange }
+{
+    match inner.get_one::<u64>("workers") {
+        Some(1) => Ok(Action::Run { file, workers: 1 }),
         _ => Err(command(alloc)?.error(ErrorKind::InvalidValue, "the number of workers is 1")?),
     }
 }
@@ -63,15 +95,21 @@ fn command<'a>(alloc: Global) -> Result<Command<'a>, AllocError> {
         .version("0.1.0")
         .after_help(EXAMPLE)
         .arg_required_else_help(true)
-        .subcommand(run(alloc)?)
+        .subcommand(run(alloc)?)?
+        .subcommand(plain(alloc)?)?
+        .subcommand(check(alloc)?)
+}
+
+// The name of a file, which each subcommand takes.
+fn file<'a>(alloc: Global) -> Arg<'a> {
+    Arg::new(alloc, "FILE")
+        .required(true)
+        .action(ArgAction::Set)
+        .help("The command file")
 }
 
 // The words behind `run`.
 fn run<'a>(alloc: Global) -> Result<Command<'a>, AllocError> {
-    let file = Arg::new(alloc, "FILE")
-        .required(true)
-        .action(ArgAction::Set)
-        .help("The command file");
     let workers = Arg::new(alloc, "workers")
         .long("workers")
         .value_name("N")
@@ -79,7 +117,21 @@ fn run<'a>(alloc: Global) -> Result<Command<'a>, AllocError> {
         .value_parser(clap::value_parser!(u64).range(1..2))
         .help("How many workers, for now 1");
     Command::new(alloc, "run")
-        .about("Runs a command file, and writes what its reads ask for")
-        .arg(file)?
+        .about("Runs a command file by workers, and writes what it asks for")
+        .arg(file(alloc))?
         .arg(workers)
+}
+
+// The words behind `plain`.
+fn plain<'a>(alloc: Global) -> Result<Command<'a>, AllocError> {
+    Command::new(alloc, "plain")
+        .about("Writes the same, worked out from scratch at each question")
+        .arg(file(alloc))
+}
+
+// The words behind `check`.
+fn check<'a>(alloc: Global) -> Result<Command<'a>, AllocError> {
+    Command::new(alloc, "check")
+        .about("Reads a command file, and writes how many nodes and commands it has")
+        .arg(file(alloc))
 }

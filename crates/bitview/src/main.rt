@@ -1,4 +1,5 @@
-//! The program: `bitview run FILE` reads a command file and writes what it says.
+//! The program: `bitview run FILE` reads a command file and writes what it asks for, `bitview plain FILE` writes the same,
+//! worked out from scratch, and `bitview check FILE` says how much the file holds.
 //!
 //! The command line is read by [`words`], the file is read here, and [`act`] does the rest: it knows no file and no process,
 //! only bytes and two outputs, so that its promise can be stated, and tested with outputs in memory. What is left to `main`
@@ -72,12 +73,11 @@ fn obey<R: Files + AllocGlobal + Print + Eprint>(rt: &R, alloc: Global, given: &
 fn perform<R: Files + AllocGlobal + Print + Eprint>(rt: &R, alloc: Global, action: Action<'_>) -> u8
     requires { IsInRange action }
 {
-    let Action::Run { file, workers: _ } = action;
     let mut out = Output {
         writer: io::writer(rt),
     };
     let mut error = MemoryOut::new(alloc);
-    let status = match fs::read(rt, file) {
+    let status = match fs::read(rt, action.file()) {
         Ok(bytes) => act(alloc, action, Some(bytes.as_slice()), &mut out, &mut error),
         Err(_unread) => act(alloc, action, None, &mut out, &mut error),
     };

@@ -1,4 +1,6 @@
 //! Statuses, and the lines on standard error, which no contract states. The expected answers are worked out from the rules.
+ghost use Rattle.bitview.specs.Actions.{IsInRange};
+
 use crate::acting::act;
 use crate::command_line::{Action, words};
 use clap::error::ErrorKind;
@@ -29,41 +31,83 @@ const ASKED: Action<'static> = Action::Run {
     workers: 1,
 };
 
+const PLAIN: Action<'static> = Action::Plain { file: "a.bv" };
+
+const CHECK: Action<'static> = Action::Check { file: "a.bv" };
+
+// What a subcommand asks for.
+fn asked(word: &str) -> Action<'static>
+    ensures { IsInRange result }
+{
+    if word == "plain" {
+        PLAIN
+    } else if word == "check" {
+        CHECK
+    } else {
+        ASKED
+    }
+}
+
 // The status and what both outputs took.
-fn acted(alloc: Global, bytes: Option<&[u8]>) -> (u8, MemoryOut, MemoryOut) {
+fn acted(alloc: Global, word: &str, bytes: Option<&[u8]>) -> (u8, MemoryOut, MemoryOut) {
     let mut out = MemoryOut::new(alloc);
     let mut error = MemoryOut::new(alloc);
-    let status = act(alloc, ASKED, bytes, &mut out, &mut error);
+    let status = act(alloc, asked(word), bytes, &mut out, &mut error);
     (status, out, error)
 }
 
 // Catches a status that says something else than the line on standard error, and output after a fault.
 #[test]
 fn each_status_has_its_line(rt: HostRuntime) -> Result<(), Fail> {
-    let table: [(Option<&str>, u8, &str, &str); 5] = [
+    let table: [(&str, Option<&str>, u8, &str, &str); 9] = [
         (
+            "run",
             Some("input a 1\nview v a\nstart\nclose a\nread v 0 0"),
             0,
             "read v 0 0 0\n",
             "",
         ),
         (
+            "plain",
+            Some("input a 1\nview v a\nstart\nclose a\nread v 0 0"),
+            0,
+            "read v 0 0 0\n",
+            "",
+        ),
+        (
+            "check",
+            Some("input a 1\nview v a\nstart\n# done\nclose a\nread v 0 0"),
+            0,
+            "ok 2 2\n",
+            "",
+        ),
+        (
+            "check",
+            Some("input a 1\nview v a\nstart\n"),
+            0,
+            "ok 2 0\n",
+            "",
+        ),
+        (
+            "run",
             Some("input a 1\nview v a\nstart\nchange a 0 0 1 7\nread v 0 0\n"),
             0,
             "refused 5 8\n",
             "",
         ),
-        (Some(""), 2, "", "fault line 1 code 34\n"),
+        ("run", Some(""), 2, "", "fault line 1 code 34\n"),
+        ("check", Some(""), 2, "", "fault line 1 code 34\n"),
         (
+            "plain",
             Some("input a 9\nread v 0 0\n"),
             2,
             "",
             "fault line 1 code 20\n",
         ),
-        (None, 3, "", "cannot read a.bv\n"),
+        ("run", None, 3, "", "cannot read a.bv\n"),
     ];
-    for (text, status, written, told) in table {
-        let (answered, out, error) = acted(rt.alloc(), text.map(|text| text.as_bytes()));
+    for (word, text, status, written, told) in table {
+        let (answered, out, error) = acted(rt.alloc(), word, text.map(|text| text.as_bytes()));
         assert_eq!(rt; answered, status);
         assert_eq!(rt; out.bytes(), written.as_bytes());
         assert_eq!(rt; error.bytes(), told.as_bytes());
@@ -91,13 +135,15 @@ fn a_failed_output_is_told(rt: HostRuntime) -> Result<(), Fail> {
 // Catches words that are understood as others, and a number of workers that is not taken.
 #[test]
 fn words_are_understood(rt: HostRuntime) -> Result<(), Fail> {
-    let table: [&[&str]; 3] = [
-        &["bitview", "run", "a.bv"],
-        &["bitview", "run", "a.bv", "--workers", "1"],
-        &["bitview", "run", "--workers=1", "a.bv"],
+    let table: [(&[&str], Action<'static>); 5] = [
+        (&["bitview", "run", "a.bv"], ASKED),
+        (&["bitview", "run", "a.bv", "--workers", "1"], ASKED),
+        (&["bitview", "run", "--workers=1", "a.bv"], ASKED),
+        (&["bitview", "plain", "a.bv"], PLAIN),
+        (&["bitview", "check", "a.bv"], CHECK),
     ];
-    for given in table {
-        assert_eq!(rt; words(rt.alloc(), given)?, ASKED);
+    for (given, asked) in table {
+        assert_eq!(rt; words(rt.alloc(), given)?, asked);
     }
     Ok(())
 }

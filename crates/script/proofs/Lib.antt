@@ -9,3 +9,7 @@ pub mod RelayLemmas
 pub mod FedLemmas
 pub mod StandingLemmas
 pub mod ReadingLemmas
+pub mod OrderLemmas
+pub mod InputLemmas
+pub mod ChangesLemmas
+pub mod PlainLemmas

@@ -1,9 +1,9 @@
--- Rows, printed one by one.
-use Rattle.std.proofs.Common.{◌≡◌, ℕ, zero, suc, ◌+◌, List, [], ◌∷◌, ◌++◌, take, drop, Option, Some, None, ℤ, slice_get, sym, ◌∙◌, ap, append_assoc, add-one}
+-- Lines, printed one by one.
+use Rattle.std.proofs.Common.{◌≡◌, ℕ, zero, suc, ◌+◌, ◌<◌, List, [], ◌∷◌, ◌++◌, take, drop, length, get_or, Option, Some, None, ℤ, slice_get, sym, ◌∙◌, ap, append_assoc, add-one, arith}
 use Rattle.std.specs.Prelude.{IsSomeAnd}
 use Rattle.std.proofs.lemmas.List.{append-nil}
+use Rattle.std.specs.List.{flat_map}
 use Rattle.update.specs.Bags.{Entry}
-use Rattle.update.specs.Text.{entry_text, bag_text}
 
 -- the entry of a number, by its row and its count
 pub entry_here : (rows : List Entry) (i : ℕ) (row : List ℤ) (count : ℤ) → IsSomeAnd (slice_get rows i) (λ e. row ≡ e.row) → IsSomeAnd (slice_get rows i) (λ e. count ≡ e.count) → slice_get rows i ≡ Some (record { row = row; count = count })
@@ -13,33 +13,41 @@ entry_here rows i row count h k = by (slice_get rows i) h k
     by None h k = absurd h
     by (Some e) h k = let rows_are = sym h in let counts_are = sym k in λ j. Some (record { row = rows_are j; count = counts_are j })
 
--- the text so far, the entry's and that of the rest are the text of all
-pub text_from : (rows : List Entry) (i : ℕ) (e : Entry) → slice_get rows i ≡ Some e → bag_text rows ≡ bag_text (take i rows) ++ (entry_text e ++ bag_text (drop (suc i) rows))
-text_from [] i e h = absurd cc
-text_from (x ∷ rows) zero e h = ap (λ (y : Entry). entry_text y ++ bag_text rows) same
-  where
-    same : x ≡ e
-    same = cc
-text_from (x ∷ rows) (suc i) e h =
-    ap (λ text. entry_text x ++ text) (text_from rows i e h)
-    ∙ sym (append_assoc (entry_text x) (bag_text (take i rows)) (entry_text e ++ bag_text (drop (suc i) rows)))
+-- the element of a number, by its place
+pub item_here : {X : Type 0} (xs : List X) (i : ℕ) (x : X) → i < length xs → x ≡ get_or xs i x → slice_get xs i ≡ Some x
+item_here [] i x l e = absurd (omega (arith, l))
+item_here (y ∷ xs) zero x l e = ap Some (sym e)
+item_here (y ∷ xs) (suc i) x l e = item_here xs i x (omega (arith, l)) e
 
-pub text_up_to : (rows : List Entry) (i : ℕ) (e : Entry) → slice_get rows i ≡ Some e → bag_text (take (suc i) rows) ≡ bag_text (take i rows) ++ entry_text e
-text_up_to [] i e h = absurd cc
-text_up_to (x ∷ rows) zero e h = append-nil (entry_text x) ∙ ap entry_text same
-  where
-    same : x ≡ e
-    same = cc
-text_up_to (x ∷ rows) (suc i) e h =
-    ap (λ text. entry_text x ++ text) (text_up_to rows i e h)
-    ∙ sym (append_assoc (entry_text x) (bag_text (take i rows)) (entry_text e))
+-- each element has its line, and the lines stand one behind another
+module _ {X : Type 0} (line : X → List ℕ) where
+  -- the text so far, the element's and that of the rest are the text of all
+  text_from : (xs : List X) (i : ℕ) (x : X) → slice_get xs i ≡ Some x → flat_map line xs ≡ flat_map line (take i xs) ++ (line x ++ flat_map line (drop (suc i) xs))
+  text_from [] i x h = absurd cc
+  text_from (y ∷ xs) zero x h = ap (λ (z : X). line z ++ flat_map line xs) same
+    where
+      same : y ≡ x
+      same = cc
+  text_from (y ∷ xs) (suc i) x h =
+      ap (λ text. line y ++ text) (text_from xs i x h)
+      ∙ sym (append_assoc (line y) (flat_map line (take i xs)) (line x ++ flat_map line (drop (suc i) xs)))
 
--- the same behind a header
-pub printed_more : (head : List ℕ) (rows : List Entry) (i : ℕ) (e : Entry) → slice_get rows i ≡ Some e → (head ++ bag_text (take i rows)) ++ entry_text e ≡ head ++ bag_text (take (i + 1) rows)
-printed_more head rows i e h = rw add-one (append_assoc head (bag_text (take i rows)) (entry_text e) ∙ ap (λ text. head ++ text) (sym (text_up_to rows i e h)))
+  text_up_to : (xs : List X) (i : ℕ) (x : X) → slice_get xs i ≡ Some x → flat_map line (take (suc i) xs) ≡ flat_map line (take i xs) ++ line x
+  text_up_to [] i x h = absurd cc
+  text_up_to (y ∷ xs) zero x h = append-nil (line y) ∙ ap line same
+    where
+      same : y ≡ x
+      same = cc
+  text_up_to (y ∷ xs) (suc i) x h =
+      ap (λ text. line y ++ text) (text_up_to xs i x h)
+      ∙ sym (append_assoc (line y) (flat_map line (take i xs)) (line x))
 
-pub printed_all : (head : List ℕ) (rows : List Entry) (i : ℕ) (e : Entry) → slice_get rows i ≡ Some e → ((head ++ bag_text (take i rows)) ++ entry_text e) ++ bag_text (drop (suc i) rows) ≡ head ++ bag_text rows
-printed_all head rows i e h =
-    append_assoc (head ++ bag_text (take i rows)) (entry_text e) (bag_text (drop (suc i) rows))
-    ∙ append_assoc head (bag_text (take i rows)) (entry_text e ++ bag_text (drop (suc i) rows))
-    ∙ ap (λ text. head ++ text) (sym (text_from rows i e h))
+  -- the same behind a header
+  pub printed_more : (head : List ℕ) (xs : List X) (i : ℕ) (x : X) → slice_get xs i ≡ Some x → (head ++ flat_map line (take i xs)) ++ line x ≡ head ++ flat_map line (take (i + 1) xs)
+  printed_more head xs i x h = rw add-one (append_assoc head (flat_map line (take i xs)) (line x) ∙ ap (λ text. head ++ text) (sym (text_up_to xs i x h)))
+
+  pub printed_all : (head : List ℕ) (xs : List X) (i : ℕ) (x : X) → slice_get xs i ≡ Some x → ((head ++ flat_map line (take i xs)) ++ line x) ++ flat_map line (drop (suc i) xs) ≡ head ++ flat_map line xs
+  printed_all head xs i x h =
+      append_assoc (head ++ flat_map line (take i xs)) (line x) (flat_map line (drop (suc i) xs))
+      ∙ append_assoc head (flat_map line (take i xs)) (line x ++ flat_map line (drop (suc i) xs))
+      ∙ ap (λ text. head ++ text) (sym (text_from xs i x h))

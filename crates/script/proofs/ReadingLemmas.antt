@@ -1,15 +1,20 @@
 -- What is read of a board where nothing waits is what the session reads.
 use Rattle.std.proofs.Common.{◌≡◌, ℕ, zero, suc, ◌<◌, Bool, false, not, ◌||◌, List, [], ◌∷◌, ◌++◌, length, get_or, Option, Some, None, Result, Ok, Err, IsTrue, refl, sym, ◌∙◌, ap, subst, inl, inr, ◌⊎◌, arith}
 use Rattle.std.specs.Prelude.{IfOk, IfErr, OnOk}
+use Rattle.std.specs.Cmp.{IsTotalOrder}
 use Rattle.std.specs.List.{list_all}
+use Rattle.std.specs.declared.cmp.Ordering.{Ordering}
+use Rattle.std.specs.declared.cmp.Ordering.TheVariants.{Equal}
 use Rattle.lattice.specs.Frontiers.{is_beyond}
-use Rattle.lattice.specs.Order.{PartialOrderLaws}
-use Rattle.antichain.specs.Antichains.{least}
-use Rattle.antichain.proofs.Lists.{contains_among}
-use Rattle.update.specs.Bags.{Entry, Alike, IsBag}
+use Rattle.lattice.specs.Order.{PartialOrderLaws, LatticeLaws, ExtendsLaws}
+use Rattle.antichain.specs.Antichains.{SameElements, IsFrontier, least}
+use Rattle.antichain.proofs.AntichainLemmas.{sorted_same}
+use Rattle.antichain.proofs.Lists.{among_contains, contains_among}
+use Rattle.update.specs.Bags.{Entry, Alike, IsBag, count_of}
+use Rattle.update.specs.declared.change.Update.{Update}
 use Rattle.update.specs.declared.refusal.Refusal.{Refusal}
 use Rattle.update.specs.declared.refusal.Refusal.TheVariants.{NotPassed, GivenUp}
-use Rattle.plan.specs.Changes.{query_at, open_for}
+use Rattle.plan.specs.Changes.{AreDifferences, has_passed, query_at, open_for}
 use Rattle.plan.specs.Rules.{first_refusal}
 use Rattle.machine.specs.declared.event.Event.{Event}
 use Rattle.machine.specs.declared.event.Fed.{Fed}
@@ -30,9 +35,12 @@ use Rattle.machine.proofs.QuietLemmas.{caught_up_lem, beyond_elements}
 use Rattle.script.specs.Bags.{bag_of}
 use Rattle.script.specs.Engines.{EndsRun, IsAnswer}
 use Rattle.script.specs.Relays.{IsIdle, GoesOn}
-use Rattle.script.specs.Sessions.{Session, view_frontier, read_refusal, rows_at}
+use Rattle.script.specs.Orders.{in_order}
+use Rattle.script.specs.Sessions.{Session, view_frontier, read_refusal, rows_at, frontier_at, changes_at}
 use Rattle.script.specs.Standing.{StandsAs}
 use Rattle.script.proofs.BagLemmas.{bag_of-only}
+use Rattle.script.proofs.ChangesLemmas.{changes_are, differences_only}
+use Rattle.script.proofs.OrderLemmas.{in_order-sorted, in_order-has, in_order-only}
 
 -- of two faults the second is none
 one_fault : (a b c : Bool) → a ≡ b → c ≡ false → first_refusal ((a, NotPassed) ∷ (c, GivenUp) ∷ []) ≡ first_refusal ((b, NotPassed) ∷ [])
@@ -97,3 +105,42 @@ module _ {T : Type 0} (below : T → T → Bool) (minimum : T) where
         by (Some fault) e f = inl (e ∙ ap Some (sym f), a)
         by None e (inl memory) = inr (inl memory)
         by None e (inr large) = inr (inr large.0)
+
+  -- what is asked of a view at all times
+  module _ (o : PartialOrderLaws below) (b : Shown T) (s : Session T) (v : ℕ) (p : IsDataflow b.dataflow) (within : v < length b.dataflow.nodes) (idle : IsIdle b) (none : b.in_flight ≡ []) (a : StandsAs below minimum b s) where
+    -- the frontier of the history is that of the session
+    same_frontier : SameElements (frontier below b.dataflow (world below minimum b.dataflow a.history) v) (view_frontier below b.dataflow.nodes s v)
+    same_frontier =
+        let w = world below minimum b.dataflow a.history in
+        let quiet = quiet_world b a.history a.stands idle none in
+        let caught = caught_up_lem below o b.dataflow p w v (λ x m. (in_place_lem b.dataflow p below minimum a.history a.stands.legal).inputs x (contains_among x w.openings m)) quiet in
+        subst (λ (os : List (Open T)). SameElements (frontier below b.dataflow w v) (least below (open_for below b.dataflow.nodes (λ i. open_at i os) v))) a.openings caught
+
+    pub frontier_found : {cmp : T → T → Ordering} → IsTotalOrder cmp → ((s t : T) → cmp s t ≡ Equal → s ≡ t) → (F : List T) → IsFrontier below cmp F → SameElements F (front below b v)
+        → F ≡ frontier_at below b.dataflow.nodes s cmp v
+    frontier_found {cmp} total exact F is same =
+        let found = view_frontier below b.dataflow.nodes s v in
+        let stood : SameElements F (frontier below b.dataflow (world below minimum b.dataflow a.history) v) = subst (λ (G : List T). SameElements F G) (front_stands below minimum b a.history a.stands v) same in
+        sorted_same total F (in_order cmp found) is.ascending (in_order-sorted cmp total found)
+        (λ t h. in_order-has cmp exact found t (among_contains t found (same_frontier.into t (stood.into t (contains_among t F h)))))
+        (λ t h. among_contains t F (stood.back t (same_frontier.back t (contains_among t found (in_order-only cmp found t h)))))
+
+    pub changes_found : {joined met : T → T → T} {cmp : T → T → Ordering} → LatticeLaws below joined met → ExtendsLaws below cmp → IsTotalOrder cmp → (us : List (Update T))
+        → AreDifferences below cmp b.dataflow.nodes (changes_in (world below minimum b.dataflow a.history)) (frontier below b.dataflow (world below minimum b.dataflow a.history) v) v us
+        → us ≡ changes_at below b.dataflow.nodes s cmp joined v
+    changes_found {joined} {met} {cmp} l x total us d =
+        let w = world below minimum b.dataflow a.history in
+        let F = frontier below b.dataflow w v in
+        let G = view_frontier below b.dataflow.nodes s v in
+        let tests : has_passed below F ≡ has_passed below G = λ i t. not (beyond_elements below F G same_frontier t i) in
+        let own : AreDifferences below cmp b.dataflow.nodes (λ i. fed_to i s.fed) G v us = record {
+          consolidated = d.consolidated;
+          passed = subst (λ (test : T → Bool). IsTrue (list_all (λ u. test u.time) us)) tests d.passed;
+          sums = λ t h row. d.sums t (subst (λ (test : T → Bool). IsTrue (test t)) (sym tests) h) row ∙ ap (λ (fs : List (Fed T)). count_of (query_at below b.dataflow.nodes (λ i. fed_to i fs) v t) row) a.fed;
+        } in
+        differences_only o total b.dataflow.nodes (λ i. fed_to i s.fed) G v us (changes_at below b.dataflow.nodes s cmp joined v) own
+        (changes_are o l x total b.dataflow.nodes s.fed p.plan v within G)
+
+    -- no time was given up, so nothing refuses that the changes are asked for
+    pub nothing_given_up : IsTrue (below minimum minimum) → reads.changes_refusal below minimum b v ≡ None
+    nothing_given_up low = rw (a.stands.since v within ∙ a.since v, low) refl

@@ -3,7 +3,7 @@ use Rattle.std.specs.Prelude.{◌≡◌, ◌⊎◌, ℕ, Bool, true, false, Opti
 use Rattle.update.specs.declared.refusal.Refusal.{Refusal}
 use Rattle.update.specs.declared.refusal.Refusal.TheVariants.{OutOfMemory, Overflow}
 use Rattle.grammar.specs.declared.command.Command.{Command}
-use Rattle.grammar.specs.declared.command.Command.TheVariants.{Change, Advance, Close, Read}
+use Rattle.grammar.specs.declared.command.Command.TheVariants.{Change, Advance, Close, Read, Changes, Frontier}
 use Rattle.script.specs.declared.fault.RunFault.{RunFault}
 use Rattle.script.specs.declared.fault.RunFault.TheVariants as fault
 
@@ -27,9 +27,11 @@ abbrev pub failures : RunFault → ℕ
 failures (fault.Refused code) = 0
 failures fault.Write = 1
 
--- the command asks for rows
+-- the command asks for something, which is written
 abbrev pub is_reading : Command → Bool
 is_reading (Change input time diff row) = false
 is_reading (Advance input times) = false
 is_reading (Close input) = false
 is_reading (Read view time) = true
+is_reading (Changes view) = true
+is_reading (Frontier view) = true

@@ -1,4 +1,6 @@
 pub mod Bags
+pub mod Orders
+pub mod Changes
 pub mod Outs
 pub mod Took
 pub mod Printing
@@ -6,4 +8,5 @@ pub mod Sessions
 pub mod Text
 pub mod Engines
 pub mod Standing
+pub mod PlainStanding
 pub mod Relays

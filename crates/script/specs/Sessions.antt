@@ -1,10 +1,12 @@
 -- A session by definition: which changes were accepted, and where the inputs' frontiers stand. It knows neither workers nor
 -- differences.
-use Rattle.std.specs.Prelude.{ℕ, Bool, not, List, [], ◌∷◌, ◌++◌, length, eqb, Option}
+use Rattle.std.specs.Prelude.{ℕ, Bool, not, List, [], ◌∷◌, ◌++◌, length, map, eqb, Option}
 use Rattle.std.specs.List.{filter, flat_map}
+use Rattle.std.specs.declared.cmp.Ordering.{Ordering}
 use Rattle.lattice.specs.Frontiers.{is_beyond}
 use Rattle.antichain.specs.Antichains.{least}
 use Rattle.update.specs.Bags.{Entry}
+use Rattle.update.specs.declared.change.Update.{Update}
 use Rattle.update.specs.declared.refusal.Refusal.{Refusal}
 use Rattle.update.specs.declared.refusal.Refusal.TheVariants.{NotPassed}
 use Rattle.plan.specs.Ancestors.{is_input}
@@ -18,6 +20,8 @@ use Rattle.machine.specs.Worlds.{fed_to, open_at}
 use Rattle.machine.specs.Histories.{opening}
 use Rattle.machine.specs.Boards.{feed_faults, advance_faults}
 use Rattle.script.specs.Bags.{bag_of}
+use Rattle.script.specs.Changes.{changes_along}
+use Rattle.script.specs.Orders.{in_order}
 
 pub record Session (T : Type 0) : Type 0 where
   -- the changes that were accepted, the newest first
@@ -58,3 +62,12 @@ module _ {T : Type 0} (below : T → T → Bool) (p : List Node) (s : Session T)
   -- the rows of a view at a time: the query, from scratch, on the accepted changes at or before it
   abbrev pub rows_at : ℕ → T → List Entry
   rows_at v t = bag_of (query_at below p (λ i. fed_to i s.fed) v t)
+
+  -- the frontier of a view, in order
+  abbrev pub frontier_at : (T → T → Ordering) → ℕ → List T
+  frontier_at cmp v = in_order cmp (view_frontier v)
+
+  -- the changes of a view at the times that its frontier has passed: the one list of updates that at each of them sums to
+  -- the query, from scratch, on the accepted changes
+  abbrev pub changes_at : (T → T → Ordering) → (T → T → T) → ℕ → List (Update T)
+  changes_at cmp joined v = changes_along below cmp joined (view_frontier v) (λ t. query_at below p (λ i. fed_to i s.fed) v t) (map (λ f. f.update.time) s.fed)

@@ -1,19 +1,28 @@
 -- The text of a script: the pieces of its commands, in order.
-use Rattle.std.specs.Prelude.{ℕ, Bool, nat_le, List, [], ◌∷◌, ◌++◌, Option, Some, None}
+use Rattle.std.specs.Prelude.{ℕ, Bool, nat_le, max, List, [], ◌∷◌, ◌++◌, Option, Some, None}
+use Rattle.std.specs.Ordering.{nat_cmp}
+use Rattle.std.specs.declared.cmp.Ordering.{Ordering}
 use Rattle.lattice.specs.declared.product.Pair.{Pair}
-use Rattle.lattice.specs.Pairs.{make_pair, pair_below}
+use Rattle.lattice.specs.Pairs.{make_pair, pair_below, pair_with, pair_cmp}
 use Rattle.update.specs.declared.refusal.Refusal.{Refusal}
 use Rattle.plan.specs.declared.node.Node.{Node}
 use Rattle.grammar.specs.declared.command.Command.{Command}
-use Rattle.grammar.specs.declared.command.Command.TheVariants.{Change, Advance, Close, Read}
+use Rattle.grammar.specs.declared.command.Command.TheVariants.{Change, Advance, Close, Read, Changes, Frontier}
 use Rattle.grammar.specs.declared.command.CommandLine.{CommandLine}
 use Rattle.grammar.specs.Told.{Told, name_at}
-use Rattle.script.specs.Printing.{refused_text, rows_text}
-use Rattle.script.specs.Sessions.{Session, first_session, with_change, with_frontier, change_refusal, frontier_refusal, read_refusal, rows_at}
+use Rattle.script.specs.Printing.{refused_text, rows_text, changes_text, frontier_text}
+use Rattle.script.specs.Sessions.{Session, first_session, with_change, with_frontier, change_refusal, frontier_refusal, read_refusal, rows_at, changes_at, frontier_at}
 
 -- the first pair is at or below the second
 abbrev pub at_or_below : Pair ℕ ℕ → Pair ℕ ℕ → Bool
 at_or_below = pair_below nat_le nat_le
+
+-- pairs in the order of printing, and the least pair at or after both
+abbrev pub in_print : Pair ℕ ℕ → Pair ℕ ℕ → Ordering
+in_print = pair_cmp nat_cmp nat_cmp
+
+abbrev pub join_of : Pair ℕ ℕ → Pair ℕ ℕ → Pair ℕ ℕ
+join_of = pair_with max max
 
 -- a script's session
 abbrev pub Sitting : Type 0
@@ -26,6 +35,8 @@ module _ (p : List Node) (s : Sitting) where
   refusal_of (Advance input times) = frontier_refusal at_or_below p s input times
   refusal_of (Close input) = None
   refusal_of (Read view time) = read_refusal at_or_below p s view time
+  refusal_of (Changes view) = None
+  refusal_of (Frontier view) = None
 
   -- the session after a command that is accepted
   abbrev pub accepting : Command → Sitting
@@ -33,6 +44,8 @@ module _ (p : List Node) (s : Sitting) where
   accepting (Advance input times) = with_frontier input times s
   accepting (Close input) = with_frontier input [] s
   accepting (Read view time) = s
+  accepting (Changes view) = s
+  accepting (Frontier view) = s
 
   -- where something refuses a command, the session stays as it is
   abbrev pub accepting_unless : Option Refusal → Command → Sitting
@@ -44,12 +57,14 @@ module _ (p : List Node) (s : Sitting) where
   after command = accepting_unless (refusal_of command) command
 
 module _ (t : Told) (s : Sitting) where
-  -- what a command writes that is accepted: a read its rows, the others nothing
+  -- what a command writes that is accepted: what it asks for, if anything
   abbrev pub answer : Command → List ℕ
   answer (Change input time diff row) = []
   answer (Advance input times) = []
   answer (Close input) = []
   answer (Read view time) = rows_text (name_at t.names view) time (rows_at at_or_below t.plan s view time)
+  answer (Changes view) = changes_text (name_at t.names view) (changes_at at_or_below t.plan s in_print join_of view)
+  answer (Frontier view) = frontier_text (name_at t.names view) (frontier_at at_or_below t.plan s in_print view)
 
   -- where something refuses the command of a line, that is written
   abbrev pub answer_unless : Option Refusal → CommandLine → List ℕ

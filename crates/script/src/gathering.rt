@@ -4,7 +4,7 @@
 //! piece worth putting. Numbers and rows are printed straight into the waiting text, without an allocation each.
 ghost use Rattle.std.specs.Prelude.{◌≡◌, ◌++◌, ℕ, List, [], OnErr, OnOk};
 ghost use Rattle.script.specs.Outs.{IsBeginning, Wrote, Broke};
-ghost use Rattle.script.specs.Printing.{refused_text, read_text};
+ghost use Rattle.script.specs.Printing.{refused_text, read_text, count_text, update_text, element_text};
 ghost use Rattle.update.specs.Text.{entry_text};
 
 use crate::outputs::{Out, OutFault, put_all};
@@ -12,7 +12,7 @@ use lattice::Bitime;
 use row::Row;
 use std::alloc::{AllocError, Global};
 use std::marker::Model;
-use update::Refusal;
+use update::{Refusal, Update};
 
 // From so many bytes on a piece is put.
 const PIECE: usize = 65_536;
@@ -82,6 +82,38 @@ impl Gathered {
         let valid = time.first;
         let system = time.second;
         writeln!(self.text, "read {view} {valid} {system} {rows}")
+    }
+
+    // What is asked for of a view, and how many lines of it there are.
+    pub(crate) fn print_count(
+        &mut self,
+        word: &str,
+        view: &str,
+        lines: usize,
+    ) -> Result<(), AllocError>
+        ensures { OnOk result (self.new ≡ self.old ++ count_text word.now view.now lines) }
+    {
+        writeln!(self.text, "{word} {view} {lines}")
+    }
+
+    // A change: its time, by how much, and the row.
+    pub(crate) fn print_update(&mut self, update: &Update<Bitime>) -> Result<(), AllocError>
+        ensures { OnOk result (self.new ≡ self.old ++ update_text update.now) }
+    {
+        let valid = update.time.first;
+        let system = update.time.second;
+        let diff = update.diff;
+        let row = &update.row;
+        writeln!(self.text, "{valid} {system} {diff} {row}")
+    }
+
+    // A time alone.
+    pub(crate) fn print_element(&mut self, time: Bitime) -> Result<(), AllocError>
+        ensures { OnOk result (self.new ≡ self.old ++ element_text time) }
+    {
+        let valid = time.first;
+        let system = time.second;
+        writeln!(self.text, "{valid} {system}")
     }
 
     // A row, behind how often it counts.

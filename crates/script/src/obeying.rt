@@ -13,7 +13,7 @@ use crate::engine::Engine;
 use crate::fault::RunFault;
 use crate::gathering::Gathered;
 use crate::outputs::Out;
-use crate::printing::print_rows;
+use crate::printing::{print_changes, print_frontier, print_rows};
 use grammar::{Command, CommandLine, Script};
 use lattice::Bitime;
 use machine::Times;
@@ -40,7 +40,7 @@ fn copied(alloc: Global, times: &[Bitime]) -> Result<Times<Bitime>, AllocError>
     Ok(Times::from(copy))
 }
 
-// Hands a command to the engine that writes nothing where it is accepted: any but a read.
+// Hands a command to the engine that writes nothing where it is accepted.
 fn hand_over<E: Engine>(alloc: Global, engine: &mut E, command: &Command) -> Result<(), Refusal>
     requires about { IsAbout (E.plan engine.old) command.now }
     requires writes_nothing { is_reading command.now ≡ false }
@@ -68,7 +68,7 @@ fn hand_over<E: Engine>(alloc: Global, engine: &mut E, command: &Command) -> Res
             copied(alloc, times.as_slice())?,
         ),
         Command::Close { input } => engine.advance(*input, Times::from(Vec::new(alloc))),
-        Command::Read { .. } => unreachable!(),
+        Command::Read { .. } | Command::Changes { .. } | Command::Frontier { .. } => unreachable!(),
     }
 }
 
@@ -104,7 +104,7 @@ fn tell<E: Engine>(
     }
 }
 
-// A line that asks for the rows of a view at a time.
+// A line that asks for something of a view.
 fn ask<E: Engine, W: Out>(
     alloc: Global,
     engine: &mut E,
@@ -123,12 +123,20 @@ fn ask<E: Engine, W: Out>(
         → IfErr result (λ fault. Broke W.took out.old gathered.old (piece script.now s line.now) (failures fault) out.new) }
     ensures known { IfErr result IsRunEnd }
 {
-    let Command::Read { view, time } = &line.command else {
-        unreachable!()
-    };
-    match engine.read(alloc, *view, *time) {
-        Ok(rows) => print_rows(gathered, out, script.name(*view), *time, &rows),
-        Err(refusal) => print_refusal(gathered, line.line, refusal),
+    match &line.command {
+        Command::Read { view, time } => match engine.read(alloc, *view, *time) {
+            Ok(rows) => print_rows(gathered, out, script.name(*view), *time, &rows),
+            Err(refusal) => print_refusal(gathered, line.line, refusal),
+        },
+        Command::Changes { view } => match engine.changes(alloc, *view) {
+            Ok(changes) => print_changes(gathered, out, script.name(*view), changes.as_slice()),
+            Err(refusal) => print_refusal(gathered, line.line, refusal),
+        },
+        Command::Frontier { view } => match engine.frontier(alloc, *view) {
+            Ok(frontier) => print_frontier(gathered, out, script.name(*view), frontier.elements()),
+            Err(refusal) => print_refusal(gathered, line.line, refusal),
+        },
+        Command::Change { .. } | Command::Advance { .. } | Command::Close { .. } => unreachable!(),
     }
 }
 
@@ -158,9 +166,12 @@ pub(crate) fn obey<E: Engine, W: Out>(
     Ok(())
 }
 
-// Whether the command asks for rows.
+// Whether the command asks for something.
 fn is_reading(command: &Command) -> bool
     ensures { result ≡ is_reading command.now }
 {
-    matches!(command, Command::Read { .. })
+    matches!(
+        command,
+        Command::Read { .. } | Command::Changes { .. } | Command::Frontier { .. }
+    )
 }

@@ -1,16 +1,16 @@
-//! The rows of a read, printed one by one: each into the waiting text, which goes on to the output in large pieces.
-ghost use Rattle.std.specs.Prelude.{◌<◌, ℕ, List, [], IfErr, OnErr, OnOk, IsSomeAnd, length, slice_get};
+//! What a command asks for, printed line by line: each into the waiting text, which goes on to the output in large pieces.
+ghost use Rattle.std.specs.Prelude.{◌<◌, ℕ, List, [], IfErr, OnErr, OnOk, IsSomeAnd, codes, length, slice_get};
 ghost use Rattle.update.specs.Text.{entry_text};
 ghost use Rattle.script.specs.Engines.{IsRunEnd, failures};
 ghost use Rattle.script.specs.Outs.{Wrote, Broke};
-ghost use Rattle.script.specs.Printing.{rows_text};
+ghost use Rattle.script.specs.Printing.{rows_text, changes_text, frontier_text, update_text, element_text};
 
 use crate::fault::RunFault;
 use crate::gathering::Gathered;
 use crate::outputs::Out;
 use lattice::Bitime;
 use row::Row;
-use update::Bag;
+use update::{Bag, Update};
 
 // A row, behind how often it counts.
 fn print_entry<W: Out>(
@@ -43,6 +43,72 @@ pub(crate) fn print_rows<W: Out>(
     gathered.print_read(view, time, rows.len())?;
     for i in 0..rows.len() {
         print_entry(gathered, out, rows.count(i), rows.row(i))?;
+    }
+    Ok(())
+}
+
+// One change of a view.
+fn print_update<W: Out>(
+    gathered: &mut Gathered,
+    out: &mut W,
+    update: &Update<Bitime>,
+) -> Result<(), RunFault>
+    ensures wrote { OnOk result (Wrote W.took out.old gathered.old (update_text update.now) out.new gathered.new) }
+    ensures broke { IfErr result (λ fault. Broke W.took out.old gathered.old (update_text update.now) (failures fault) out.new) }
+    ensures known { IfErr result IsRunEnd }
+{
+    gathered.print_update(update)?;
+    gathered.pass_on(out)?;
+    Ok(())
+}
+
+/// The changes of a view: how many, and each of them.
+pub(crate) fn print_changes<W: Out>(
+    gathered: &mut Gathered,
+    out: &mut W,
+    view: &str,
+    changes: &[Update<Bitime>],
+) -> Result<(), RunFault>
+    ensures wrote { OnOk result (Wrote W.took out.old gathered.old (changes_text view.now changes.now) out.new gathered.new) }
+    ensures broke { IfErr result (λ fault. Broke W.took out.old gathered.old (changes_text view.now changes.now) (failures fault) out.new) }
+    ensures known { IfErr result IsRunEnd }
+{
+    gathered.print_count("changes", view, changes.len())?;
+    for update in changes {
+        print_update(gathered, out, update)?;
+    }
+    Ok(())
+}
+
+// One element of a frontier.
+fn print_element<W: Out>(
+    gathered: &mut Gathered,
+    out: &mut W,
+    time: &Bitime,
+) -> Result<(), RunFault>
+    ensures wrote { OnOk result (Wrote W.took out.old gathered.old (element_text time.now) out.new gathered.new) }
+    ensures broke { IfErr result (λ fault. Broke W.took out.old gathered.old (element_text time.now) (failures fault) out.new) }
+    ensures known { IfErr result IsRunEnd }
+{
+    gathered.print_element(*time)?;
+    gathered.pass_on(out)?;
+    Ok(())
+}
+
+/// The frontier of a view: how many elements it has, and each of them.
+pub(crate) fn print_frontier<W: Out>(
+    gathered: &mut Gathered,
+    out: &mut W,
+    view: &str,
+    elements: &[Bitime],
+) -> Result<(), RunFault>
+    ensures wrote { OnOk result (Wrote W.took out.old gathered.old (frontier_text view.now elements.now) out.new gathered.new) }
+    ensures broke { IfErr result (λ fault. Broke W.took out.old gathered.old (frontier_text view.now elements.now) (failures fault) out.new) }
+    ensures known { IfErr result IsRunEnd }
+{
+    gathered.print_count("frontier", view, elements.len())?;
+    for time in elements {
+        print_element(gathered, out, time)?;
     }
     Ok(())
 }

@@ -68,8 +68,9 @@ pub(crate) fn run<E: Engine, W: Out>(
 /// | `Refused(10)` | a row counts more often than a 64-bit number can say |
 /// | `Write` | the output failed, which no other fault goes with |
 ///
-/// Cost: for each line what its event costs on the board; a read also a pass over what waits, and over all that its view
-/// captured.
+/// Cost: for each line what its event costs on the board, and for a change that of carrying it along every path of the plan:
+/// a node that another reads at both of its ports is passed on twice, and so a tower of n such nodes passes it on 2 to the n
+/// times. A read sorts what its view captured up to its time, and a question for changes all that it captured.
 pub fn run_script<W: Out>(
     alloc: Global,
     script: &Script,

@@ -1,6 +1,6 @@
 //! A board and its one worker, which take turns: clients' events go to the board at once, and where rows are asked for, the
 //! worker first carries on what waits.
-ghost use Rattle.std.specs.Prelude.{◌≡◌, [], IsTrue, IfErr, IfOk, OnOk};
+ghost use Rattle.std.specs.Prelude.{◌≡◌, [], None, IsTrue, IfErr, IfOk, OnOk};
 ghost use Rattle.std.specs.List.{All};
 ghost use Rattle.update.specs.declared.refusal.Refusal.TheVariants.{OutOfMemory};
 ghost use Rattle.plan.specs.Operators.{is_linear};
@@ -8,14 +8,15 @@ ghost use Rattle.grammar.specs.Commands.{is_input_of, is_view_of};
 ghost use Rattle.lattice.specs.Pairs.{make_pair};
 ghost use Rattle.script.specs.Engines.{EndsRun, IsAnswer};
 ghost use Rattle.script.specs.Relays.{IsIdle};
-ghost use Rattle.script.specs.Sessions.{with_change, with_frontier, change_refusal, frontier_refusal, read_refusal, rows_at};
+ghost use Rattle.script.specs.Sessions.{with_change, with_frontier, change_refusal, frontier_refusal, read_refusal, rows_at, changes_at, frontier_at};
 ghost use Rattle.script.specs.Standing.{StandsAs};
-ghost use Rattle.script.specs.Text.{Sitting, at_or_below, first_sitting};
+ghost use Rattle.script.specs.Text.{Sitting, at_or_below, in_print, join_of, first_sitting};
 
 use crate::engine::Engine;
 use crate::relay::relay;
+use antichain::Antichain;
 use lattice::Bitime;
-use machine::{Board, Times};
+use machine::{Board, Times, Updates};
 use plan::{NodeId, Plan};
 use std::alloc::Global;
 use std::marker::Model;
@@ -133,6 +134,39 @@ impl Solo {
         let _workers = self.board.workers();
         self.board.read(view, time)
     }
+
+    // The changes of a view, where nothing waits.
+    fn passed_changes(&self, view: NodeId) -> Result<Updates<Bitime>, Refusal>
+        requires view { IsTrue (is_view_of self.now.dataflow.nodes view) }
+        requires idle { IsIdle self.now }
+        requires done { self.now.in_flight ≡ [] }
+        ensures answered { (s : Sitting) → StandsAs at_or_below (make_pair 0 0) self.now s
+            → IsAnswer None (λ changes. (changes ≡ changes_at at_or_below self.now.dataflow.nodes s in_print join_of view) × StandsAs at_or_below (make_pair 0 0) self.now s) (StandsAs at_or_below (make_pair 0 0) self.now s) result }
+    {
+        let _workers = self.board.workers();
+        match self.board.changes(view) {
+            Ok(changes) => Ok(Updates::from(changes)),
+            Err(refusal) => Err(refusal),
+        }
+    }
+
+    // The frontier of a view, where nothing waits.
+    fn view_frontier(&self, view: NodeId) -> Result<Antichain<Bitime>, Refusal>
+        requires view { IsTrue (is_view_of self.now.dataflow.nodes view) }
+        requires idle { IsIdle self.now }
+        requires done { self.now.in_flight ≡ [] }
+        ensures answered { (s : Sitting) → StandsAs at_or_below (make_pair 0 0) self.now s
+            → IsAnswer None (λ frontier. (frontier ≡ frontier_at at_or_below self.now.dataflow.nodes s in_print view) × StandsAs at_or_below (make_pair 0 0) self.now s) (StandsAs at_or_below (make_pair 0 0) self.now s) result }
+    {
+        let _workers = self.board.workers();
+        match self.board.frontier(view) {
+            Ok(frontier) => {
+                let _elements = frontier.elements();
+                Ok(frontier)
+            }
+            Err(refusal) => Err(refusal),
+        }
+    }
 }
 
 impl Engine for Solo {
@@ -161,5 +195,15 @@ impl Engine for Solo {
     fn read(&mut self, alloc: Global, view: NodeId, time: Bitime) -> Result<Bag, Refusal> {
         self.carry_on(alloc)?;
         self.rows(view, time)
+    }
+
+    fn changes(&mut self, alloc: Global, view: NodeId) -> Result<Updates<Bitime>, Refusal> {
+        self.carry_on(alloc)?;
+        self.passed_changes(view)
+    }
+
+    fn frontier(&mut self, alloc: Global, view: NodeId) -> Result<Antichain<Bitime>, Refusal> {
+        self.carry_on(alloc)?;
+        self.view_frontier(view)
     }
 }

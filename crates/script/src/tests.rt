@@ -1,7 +1,7 @@
 //! Scripts and what they write. No clause says that a run with ample memory answers Ok at all, nor what bytes the words of
 //! the definitions are: the texts are worked out by hand from the rules of the language. An output that takes one byte at a
 //! time, and one that fails, show a run that is broken off in the middle.
-use crate::{MemoryOut, Out, OutFault, RunFault, run_script};
+use crate::{MemoryOut, Out, OutFault, RunFault, plain_script, run_script};
 use grammar::{Script, parse};
 use std::alloc::Global;
 use std::marker::Model;
@@ -13,12 +13,15 @@ pub(crate) fn script(alloc: Global, text: &str) -> Result<Script, Fail> {
     Ok(parse(alloc, text.as_bytes())?)
 }
 
-// The script writes just this, with one worker.
+// The script writes just this, with one worker and with none.
 fn writes(rt: &impl Abort, alloc: Global, text: &str, expected: &str) -> Result<(), Fail> {
     let script = script(alloc, text)?;
     let mut out = MemoryOut::new(alloc);
     assert_eq!(rt; run_script(alloc, &script, 1, &mut out), Ok(()));
     assert_eq!(rt; out.bytes(), expected.as_bytes());
+    let mut plain = MemoryOut::new(alloc);
+    assert_eq!(rt; plain_script(alloc, &script, &mut plain), Ok(()));
+    assert_eq!(rt; plain.bytes(), expected.as_bytes());
     Ok(())
 }
 
@@ -38,6 +41,48 @@ fn changes_are_read(rt: HostRuntime) -> Result<(), Fail> {
         alloc,
         "# a ledger\ninput a 2\n\nview v a\nstart\nchange a 1 1 -2 7 -8\n  # soon closed\nchange a 0 2 1 -7 8\nchange a 0 2 1 7 -8\nclose a\nread v 1 1\nread v 1 2\nread v 0 1\nclose a\nread v 0 9",
         "read v 1 1 1\n-2 7 -8\nread v 1 2 2\n1 -7 8\n-1 7 -8\nread v 0 1 0\nread v 0 9 2\n1 -7 8\n1 7 -8\n",
+    )
+}
+
+#[test]
+fn linear_nodes_are_carried_out(rt: HostRuntime) -> Result<(), Fail> {
+    let alloc = rt.alloc();
+    writes(
+        &rt,
+        alloc,
+        "input a 2\nnode f filter a c1 gt =10\nnode g negate f\nnode h concat a g\nnode m map h c1 c0 =9\nview v m\nstart\nchange a 0 0 1 1 10\nchange a 0 0 3 2 11\nclose a\nread v 0 0\n",
+        "read v 0 0 1\n1 10 1 9\n",
+    )?;
+    // Both ports of a concat count, and what is at one time is one change.
+    writes(
+        &rt,
+        alloc,
+        "input a 1\nnode m map a c0 =3 c0\nnode n concat m m\nview v n\nstart\nchange a 2 1 -4 6\nclose a\nchanges v\n",
+        "changes v 1\n2 1 -8 6 3 6\n",
+    )
+}
+
+#[test]
+fn changes_and_frontiers_are_told(rt: HostRuntime) -> Result<(), Fail> {
+    let alloc = rt.alloc();
+    writes(
+        &rt,
+        alloc,
+        "input a 1\nview v a\nstart\nadvance a 0 1 4 0\nadvance a 0 0\nfrontier v\nread v 3 0\nread v 4 0\n",
+        "refused 5 6\nfrontier v 2\n0 1\n4 0\nread v 3 0 0\nrefused 8 8\n",
+    )?;
+    writes(
+        &rt,
+        alloc,
+        "input a 1\nview v a\nstart\nchange a 18446744073709551615 18446744073709551615 1 7\nclose a\nread v 18446744073709551615 18446744073709551615\nfrontier v\nchange a 18446744073709551615 18446744073709551615 1 7\n",
+        "read v 18446744073709551615 18446744073709551615 1\n1 7\nfrontier v 0\nrefused 8 5\n",
+    )?;
+    // Of what is not settled nothing is told; the rest comes by time and then by row, and what cancels does not come.
+    writes(
+        &rt,
+        alloc,
+        "input a 1\nview v a\nstart\nchange a 3 0 1 9\nchange a 1 5 1 8\nchange a 1 5 1 7\nchange a 0 9 1 7\nchange a 2 2 1 6\nchange a 2 2 -1 6\nadvance a 0 6 3 1\nchanges v\n",
+        "changes v 3\n1 5 1 7\n1 5 1 8\n3 0 1 9\n",
     )
 }
 

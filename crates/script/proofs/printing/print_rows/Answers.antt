@@ -20,7 +20,7 @@ loop-i-preserved g c =
     (head ++ bag_text (take i rows)) c.loop-i.gathered
     (entry_text (record { row = c.row.result.now; count = c.count.result })) c.print_entry.new.gathered
     (head ++ bag_text (take (i + 1) rows))
-    (printed_more head rows i (record { row = c.row.result.now; count = c.count.result }) here)
+    (printed_more entry_text head rows i (record { row = c.row.result.now; count = c.count.result }) here)
     c.loop-i.invariant (let fits : FitsSigned w64 c.count.result = search rules in simp to_z-of_z at c.in_ok-print_entry.ensures.wrote)
 
 pub returns-in_err-print_entry-clause-broke : goal.returns-in_err-print_entry-clause-broke
@@ -35,5 +35,5 @@ returns-in_err-print_entry-clause-broke g c =
     (head ++ bag_text (take i rows)) c.loop-i.gathered
     (entry_text (record { row = c.row.result.now; count = c.count.result }))
     (bag_text (drop (suc i) rows)) (head ++ bag_text rows) _
-    (printed_all head rows i (record { row = c.row.result.now; count = c.count.result }) here)
+    (printed_all entry_text head rows i (record { row = c.row.result.now; count = c.count.result }) here)
     c.loop-i.invariant (let fits : FitsSigned w64 c.count.result = search rules in simp to_z-of_z at c.in_err-print_entry.ensures.broke))

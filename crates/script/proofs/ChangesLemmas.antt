@@ -1,0 +1,192 @@
+-- The list that is built time by time is consolidated, and sums to the query at each time that has passed; and it is the only
+-- one.
+use Rattle.std.proofs.Common.{◌≡◌, ℕ, zero, suc, ◌+◌, ◌<◌, ◌≤◌, Bool, true, false, cond, not, List, [], ◌∷◌, ◌++◌, map, take, drop, length, get_or, IsTrue, ◌⊎◌, inl, inr, ⊎_elim, refl, sym, ◌∙◌, ap, subst, take_all, eqb, arith}
+use Rattle.std.specs.Cmp.{IsTotalOrder}
+use Rattle.std.specs.List.{All, filter, list_all, Contains}
+use Rattle.std.specs.declared.cmp.Ordering.{Ordering}
+use Rattle.std.proofs.lemmas.Bool.{and_parts}
+use Rattle.std.proofs.lemmas.Int.{ints}
+use Rattle.std.proofs.lemmas.List.{get_or-map, length-map}
+use Rattle.std.proofs.lemmas.List.Elements.{Contains-get_or}
+use Rattle.lattice.specs.Frontiers.{is_beyond}
+use Rattle.lattice.proofs.FrontierLemmas.{beyond_up}
+use Rattle.antichain.proofs.AntichainLemmas.{not_true, not_from}
+use Rattle.lattice.specs.Order.{PartialOrderLaws, LatticeLaws, ExtendsLaws}
+use Rattle.antichain.proofs.Lists.{Among, among_contains, contains_among}
+use Rattle.update.specs.Bags.{Entry, Alike, count_of}
+use Rattle.update.specs.Updates.{as_of}
+use Rattle.update.specs.declared.change.Update.{Update}
+use Rattle.update.proofs.UniqueLemmas.{same_totals, same_updates}
+use Rattle.plan.specs.Ancestors.{is_input}
+use Rattle.plan.specs.Changes.{AreDifferences, has_passed, query_at}
+use Rattle.plan.specs.Edges.{numbers_where}
+use Rattle.plan.specs.Operators.{negated}
+use Rattle.plan.specs.Rules.{IsPlan}
+use Rattle.plan.specs.declared.node.Node.{Node}
+use Rattle.plan.proofs.WeighLemmas.{count_of-append, count_of-negated}
+use Rattle.machine.specs.declared.event.Fed.{Fed}
+use Rattle.machine.specs.Worlds.{fed_to}
+use Rattle.oracle.specs.Evaluation.{list_of}
+use Rattle.oracle.specs.Grid.{IsClosed, IsGrid}
+use Rattle.oracle.specs.Listing.{at_time, GoesOn, IsListed}
+use Rattle.oracle.proofs.DifferenceLemmas.{listed_none, listed_skip, listed_next, listed_all}
+use Rattle.oracle.proofs.GridLemmas.{more_closed, more_new, more_old, closed_same, closed_none}
+use Rattle.script.specs.Changes.{joins_of, missing, listed_along, changes_along}
+use Rattle.script.specs.Orders.{in_order}
+use Rattle.script.proofs.BagLemmas.{bag_of-is_bag, bag_of-alike}
+use Rattle.script.proofs.InputLemmas.{query_at_inputs, list_of_input}
+use Rattle.script.proofs.OrderLemmas.{in_order-sorted, in_order-has, in_order-only}
+
+-- ---- the times at which the list may change
+
+module _ {T : Type 0} {below : T → T → Bool} {joined met : T → T → T} {cmp : T → T → Ordering} (o : PartialOrderLaws below) (b : LatticeLaws below joined met) (x : ExtendsLaws below cmp) (total : IsTotalOrder cmp) where
+  joins_closed : (ts : List T) → IsClosed joined (joins_of joined ts)
+  joins_closed [] = closed_none joined
+  joins_closed (t ∷ ts) = more_closed o b (joins_of joined ts) t (joins_closed ts)
+
+  joins_have : (ts : List T) (s : T) → Among s ts → Contains (joins_of joined ts) s
+  joins_have [] s h = absurd h
+  joins_have (t ∷ ts) s h =
+      ⊎_elim
+      (λ e. subst (Contains (joins_of joined (t ∷ ts))) e (more_new o b (joins_of joined ts) t))
+      (λ k. more_old o b (joins_of joined ts) t s (joins_have ts s k))
+      h
+
+  to_order : (ts : List T) (s : T) → Contains ts s → Contains (in_order cmp ts) s
+  to_order ts s c = contains_among s (in_order cmp ts) (in_order-has cmp x.exact ts s (among_contains s ts c))
+
+  from_order : (ts : List T) (s : T) → Contains (in_order cmp ts) s → Contains ts s
+  from_order ts s c = contains_among s ts (in_order-only cmp ts s (among_contains s (in_order cmp ts) c))
+
+  module _ (p : List Node) (fed : List (Fed T)) where
+    abbrev pub times : List T
+    times = map (λ f. f.update.time) fed
+
+    abbrev pub grid : List T
+    grid = in_order cmp (joins_of joined times)
+
+    -- the changes of each input, in the order of the inputs' numbers
+    abbrev pub lists : List (List (Update T))
+    lists = map (λ i. fed_to i fed) (numbers_where is_input p)
+
+    in_grid : (s : T) → Among s times → Contains grid s
+    in_grid s h = to_order (joins_of joined times) s (joins_have times s h)
+
+    fed_in : (i : ℕ) (fs : List (Fed T)) (u : Update T) → Among u (fed_to i fs) → Among u.time (map (λ f. f.update.time) fs)
+    fed_in i [] u h = absurd h
+    fed_in i (f ∷ fs) u h = by (eqb f.input i) h (λ k. fed_in i fs u k)
+      where
+        by : (v : Bool) → Among u (cond v (f.update ∷ []) [] ++ fed_to i fs) → (Among u (fed_to i fs) → Among u.time (map (λ f. f.update.time) fs)) → (f.update.time ≡ u.time) ⊎ Among u.time (map (λ f. f.update.time) fs)
+        by true h rest = ⊎_elim (λ e. inl (ap (λ (w : Update T). w.time) e)) (λ k. inr (rest k)) h
+        by false h rest = inr (rest h)
+
+    -- the list of a number: that of an input, or of none
+    covered : (n : ℕ) (d : List (Update T)) → n < length lists → All (λ u. Contains grid u.time) (get_or lists n d)
+    covered n d l k u within =
+        let i = get_or (numbers_where is_input p) n 0 in
+        let there : n < length (numbers_where is_input p) = subst (λ (m : ℕ). n < m) (length-map (numbers_where is_input p) (λ i. fed_to i fed)) l in
+        let is : get_or lists n d ≡ fed_to i fed = get_or-map (λ (i : ℕ). fed_to i fed) (numbers_where is_input p) n 0 d there in
+        let here = Contains-get_or (get_or lists n d) k u within in
+        in_grid (get_or (get_or lists n d) k u).time (fed_in i fed (get_or (get_or lists n d) k u) (subst (λ (us : List (Update T)). Among (get_or (get_or lists n d) k u) us) is (among_contains (get_or (get_or lists n d) k u) (get_or lists n d) here)))
+
+    is_grid : IsGrid cmp joined lists grid
+    is_grid = record {
+      ascending = in_order-sorted cmp total (joins_of joined times);
+      closed = closed_same joined (joins_of joined times) grid (to_order (joins_of joined times)) (from_order (joins_of joined times)) (joins_closed times);
+      covers = covered;
+    }
+
+    module _ (plan : IsPlan p) (view : ℕ) (within : view < length p) (frontier : List T) where
+      -- what is wanted, from the accepted changes and from the lists
+      abbrev wanted : T → List Entry
+      wanted t = query_at below p (λ i. fed_to i fed) view t
+
+      abbrev listed_wanted : T → List Entry
+      listed_wanted t = query_at below p (list_of p lists) view t
+
+      same_wanted : (t : T) → Alike (listed_wanted t) (wanted t)
+      same_wanted t = query_at_inputs p plan (λ i. as_of below t (list_of p lists i)) (λ i. as_of below t (fed_to i fed)) (λ n l i row. ap (λ us. count_of (as_of below t us) row) (list_of_input p (λ i. fed_to i fed) n l i)) view within
+
+      -- what is missing, and what is listed, are what is wanted
+      fills : (t : T) (us : List (Update T)) → GoesOn below t (listed_wanted t) us (us ++ map (at_time t) (missing below (wanted t) t us))
+      fills t us = (
+        missing below (wanted t) t us,
+        bag_of-is_bag (wanted t ++ map negated (as_of below t us)),
+        refl,
+        λ row.
+            let entries = wanted t ++ map negated (as_of below t us) in
+            let counts = bag_of-alike entries row in
+            let parts = count_of-append (wanted t) (map negated (as_of below t us)) row in
+            let opposite = count_of-negated (as_of below t us) row in
+            let same = same_wanted t row in
+            omega (arith, ints),
+      )
+
+      abbrev IsListedUpTo : ℕ → List (Update T) → Type 0
+      IsListedUpTo n us = IsListed below cmp frontier listed_wanted (take n grid) us
+
+      step : (n : ℕ) (t : T) (us : List (Update T)) → n < length grid → t ≡ get_or grid n t → IsListedUpTo n us
+          → IsListedUpTo (n + 1) (cond (has_passed below frontier t) (us ++ map (at_time t) (missing below (wanted t) t us)) us)
+      step n t us l e so = by (is_beyond below frontier t) refl
+        where
+          by : (v : Bool) → is_beyond below frontier t ≡ v → IsListedUpTo (n + 1) (cond (not v) (us ++ map (at_time t) (missing below (wanted t) t us)) us)
+          by true late = listed_skip o b x total p plan lists view frontier grid is_grid n t l e us late so
+          by false passed = listed_next o b x total p plan lists view frontier grid is_grid n t l e us (us ++ map (at_time t) (missing below (wanted t) t us)) passed (fills t us) so
+
+      along : (n : ℕ) (ts : List T) (us : List (Update T)) → drop n grid ≡ ts → IsListedUpTo n us → IsListed below cmp frontier listed_wanted grid (listed_along below frontier wanted ts us)
+      along n [] us e so = subst (λ (g : List T). IsListed below cmp frontier listed_wanted g us) (take_all n grid (past grid n e)) so
+        where
+          past : (xs : List T) (n : ℕ) → drop n xs ≡ [] → length xs ≤ n
+          past [] n e = omega arith
+          past (x ∷ xs) zero e = absurd cc
+          past (x ∷ xs) (suc n) e = let k = past xs n e in omega (arith, k)
+      along n (t ∷ ts) us e so =
+          let h = here grid n e in
+          let more = cond (has_passed below frontier t) (us ++ map (at_time t) (missing below (wanted t) t us)) us in
+          let next : n + 1 ≡ suc n = omega arith in
+          along (suc n) ts more h.2 (subst (λ (m : ℕ). IsListedUpTo m more) next (step n t us h.0 h.1 so))
+        where
+          here : (xs : List T) (n : ℕ) → drop n xs ≡ t ∷ ts → (n < length xs) × (t ≡ get_or xs n t) × (drop (suc n) xs ≡ ts)
+          here [] zero e = absurd cc
+          here [] (suc n) e = absurd cc
+          here (x ∷ xs) zero e = (omega arith, first, rest)
+            where
+              first : t ≡ x
+              first = cc
+
+              rest : xs ≡ ts
+              rest = cc
+          here (x ∷ xs) (suc n) e = let k = here xs n e in (omega (arith, k.0), k.1, k.2)
+
+      listed : IsListed below cmp frontier listed_wanted grid (changes_along below cmp joined frontier wanted times)
+      listed = along 0 grid [] refl (listed_none o b x total p plan lists view frontier grid is_grid)
+
+      pub changes_are : AreDifferences below cmp p (λ i. fed_to i fed) frontier view (changes_along below cmp joined frontier wanted times)
+      changes_are =
+          let d = listed_all o b x total p plan lists view frontier grid is_grid (changes_along below cmp joined frontier wanted times) listed in
+          record {
+            consolidated = d.consolidated;
+            passed = d.passed;
+            sums = λ t h row. d.sums t h row ∙ same_wanted t row;
+          }
+
+-- ---- there is no other
+
+module _ {T : Type 0} {below : T → T → Bool} {cmp : T → T → Ordering} (o : PartialOrderLaws below) (total : IsTotalOrder cmp) (p : List Node) (changes : ℕ → List (Update T)) (frontier : List T) (view : ℕ) where
+  all_pass : (us : List (Update T)) → IsTrue (list_all (λ u. has_passed below frontier u.time) us) → filter (λ u. has_passed below frontier u.time) us ≡ us
+  all_pass [] h = refl
+  all_pass (u ∷ us) h =
+      let parts = and_parts (has_passed below frontier u.time) (list_all (λ u. has_passed below frontier u.time) us) h in
+      ap (λ v. cond v (u ∷ filter (λ u. has_passed below frontier u.time) us) (filter (λ u. has_passed below frontier u.time) us)) parts.0
+      ∙ ap (λ (vs : List (Update T)). u ∷ vs) (all_pass us parts.1)
+
+  pub differences_only : (us vs : List (Update T)) → AreDifferences below cmp p changes frontier view us → AreDifferences below cmp p changes frontier view vs → us ≡ vs
+  differences_only us vs d e =
+      let down = λ (s t : T) (h : IsTrue (below s t)) (k : IsTrue (has_passed below frontier t)). passed_down s t h k in
+      let totals = same_totals o (has_passed below frontier) us vs down (λ t h row. d.sums t h row ∙ sym (e.sums t h row)) in
+      sym (all_pass us d.passed)
+      ∙ same_updates o total (has_passed below frontier) us vs totals d.consolidated e.consolidated
+      ∙ all_pass vs e.passed
+    where
+      passed_down : (s t : T) → IsTrue (below s t) → IsTrue (has_passed below frontier t) → IsTrue (has_passed below frontier s)
+      passed_down s t h k = not_from (is_beyond below frontier s) (λ c. not_true (is_beyond below frontier t) k (beyond_up o frontier s t c h))

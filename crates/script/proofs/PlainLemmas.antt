@@ -1,0 +1,368 @@
+-- What the plain engine keeps is the session's, and so is what it answers.
+use Rattle.std.proofs.Common.{◌≡◌, ℕ, zero, suc, ◌+◌, ◌<◌, ◌≤◌, Bool, true, false, cond, not, ◌||◌, eqb, ltb-true, List, [], ◌∷◌, ◌++◌, ℤ, map, length, get_or, Option, Some, None, Result, Ok, Err, IsTrue, inl, inr, ⊎_elim, refl, sym, ◌∙◌, ap, subst, length-append, nat_le, nat_lt, unsigned_abs, arith}
+use Rattle.std.specs.Prelude.{pos, ◌+ℤ◌, set, reverse, IfOk, IfErr, OnOk, OnErr}
+use Rattle.std.specs.Cmp.{IsTotalOrder}
+use Rattle.std.specs.List.{filter, flat_map, list_all}
+use Rattle.std.specs.Ordering.{int_eq}
+use Rattle.std.specs.declared.cmp.Ordering.{Ordering}
+use Rattle.std.specs.declared.cmp.Ordering.TheVariants.{Equal}
+use Rattle.std.proofs.lemmas.Bool.{and_parts, and_from, cases_lt, eqb-true, eqb-false, lt-ltb, true≢false}
+use Rattle.std.proofs.lemmas.Grind.{flat_map-append}
+use Rattle.std.proofs.lemmas.Int.{ints}
+use Rattle.std.proofs.lemmas.List.{append-nil, map-append, reverse-append, length-reverse, length-set, length-map, map-set, get_or-map, get_or-set_same, get_or-set_other, get_or_append_left, get_or_push}
+use Rattle.std.proofs.lemmas.List.Elements.{filter-append}
+use Rattle.std.proofs.lemmas.List.Folds.{list_any-append, list_all-append}
+use Rattle.std.proofs.lemmas.Result.{on_ok_weaker, on_err_weaker}
+use Rattle.std.proofs.Math.Seq.{map-set_same}
+use Rattle.lattice.specs.Frontiers.{is_beyond}
+use Rattle.lattice.specs.Order.{PartialOrderLaws, LatticeLaws, ExtendsLaws}
+use Rattle.antichain.specs.Antichains.{SameElements, IsFrontier, least}
+use Rattle.antichain.proofs.AntichainLemmas.{sorted_same}
+use Rattle.antichain.proofs.InsertionLemmas.{least_beyond}
+use Rattle.antichain.proofs.Lists.{among_contains, contains_among}
+use Rattle.update.specs.Bags.{Entry, Alike, IsBag, count_of}
+use Rattle.update.specs.Updates.{entry, as_of}
+use Rattle.update.specs.declared.change.Update.{Update}
+use Rattle.update.specs.declared.refusal.Refusal.{Refusal}
+use Rattle.update.specs.declared.refusal.Refusal.TheVariants.{OutOfMemory, WrongWidth, ZeroWeight, WeightTooLarge, TimePassed, InputFull, NotPassed}
+use Rattle.plan.specs.Ancestors.{is_input, feeds, numbers_below}
+use Rattle.plan.specs.Changes.{AreDifferences, has_passed, query_at, open_for}
+use Rattle.plan.specs.Edges.{numbers_where}
+use Rattle.plan.specs.Nodes.{node_at}
+use Rattle.plan.specs.Rules.{IsPlan, IsRefusalBy, first_refusal}
+use Rattle.plan.specs.Widths.{width_of}
+use Rattle.plan.specs.declared.node.Node.{Node}
+use Rattle.plan.proofs.PlanLemmas.{no_first, no_fault}
+use Rattle.plan.proofs.WeighLemmas.{count_of-append}
+use Rattle.machine.specs.declared.event.Fed.{Fed}
+use Rattle.machine.specs.declared.event.Open.{Open}
+use Rattle.machine.specs.Boards.{feed_faults, advance_faults}
+use Rattle.machine.specs.Histories.{opening}
+use Rattle.machine.specs.Worlds.{fed_to, open_at}
+use Rattle.grammar.specs.Commands.{is_input_of}
+use Rattle.oracle.specs.Entries.{IsRefusal}
+use Rattle.oracle.specs.Evaluation.{inputs_before, list_of}
+use Rattle.oracle.proofs.EvaluationLemmas.{inputs_with, inputs_without}
+use Rattle.script.specs.Engines.{IsAnswer}
+use Rattle.script.specs.Orders.{in_order}
+use Rattle.script.specs.PlainStanding.{Register, IsRegister, Records, with_entry, with_openings, entry_refusal, openings_refusal, AreFrontiers}
+use Rattle.script.specs.Sessions.{Session, with_change, with_frontier, change_refusal, frontier_refusal, view_frontier, read_refusal, rows_at, frontier_at, changes_at}
+use Rattle.script.proofs.BagLemmas.{bag_of-only}
+use Rattle.script.proofs.ChangesLemmas.{changes_are, differences_only}
+use Rattle.script.proofs.InputLemmas.{query_at_inputs}
+use Rattle.script.proofs.OrderLemmas.{in_order-sorted, in_order-has, in_order-only}
+use Rattle.script.proofs.StandingLemmas.{answered}
+
+-- ---- the place of an input's list
+
+next_number : (n : ℕ) → n + 1 ≡ suc n
+next_number n = omega arith
+
+places_grow : (p : List Node) (n : ℕ) → inputs_before p n ≤ inputs_before p (suc n)
+places_grow p n = by (is_input (node_at p n)) refl
+  where
+    by : (b : Bool) → is_input (node_at p n) ≡ b → inputs_before p n ≤ inputs_before p (suc n)
+    by true e = let k = ap (inputs_before p) (sym (next_number n)) ∙ inputs_with p n e in omega (arith, k)
+    by false e = let k = ap (inputs_before p) (sym (next_number n)) ∙ inputs_without p n e in omega (arith, k)
+
+-- a greater number has an input more before it
+pub place_before : (p : List Node) (i n : ℕ) → i < n → is_input (node_at p i) ≡ true → inputs_before p i < inputs_before p n
+place_before p i zero l t = absurd (omega (arith, l))
+place_before p i (suc n) l t =
+    ⊎_elim
+    (λ k. let before = place_before p i n k t in let grows = places_grow p n in omega (arith, before, grows))
+    (λ k. let same : n ≡ i = omega (arith, k, l) in last same)
+    (cases_lt i n)
+  where
+    last : n ≡ i → inputs_before p i < inputs_before p (suc n)
+    last same =
+        let one = ap (inputs_before p) (sym (next_number n)) ∙ inputs_with p n (ap (λ m. is_input (node_at p m)) same ∙ t) in
+        let own = ap (inputs_before p) same in
+        omega (arith, one, own)
+
+pub place_within : (p : List Node) (i : ℕ) → IsTrue (is_input_of p i) → inputs_before p i < length (numbers_where is_input p)
+place_within p i h = let parts = and_parts _ _ h in place_before p i (length p) (ltb-true _ _ parts.0) parts.1
+
+places_apart : (p : List Node) (i j : ℕ) → is_input (node_at p i) ≡ true → is_input (node_at p j) ≡ true → inputs_before p i ≡ inputs_before p j → i ≡ j
+places_apart p i j t u e =
+    ⊎_elim
+    (λ k. let before = place_before p i j k t in absurd (omega (arith, before, e)))
+    (λ k. ⊎_elim (λ m. let before = place_before p j i m u in absurd (omega (arith, before, e))) (λ m. omega (arith, k, m)) (cases_lt j i))
+    (cases_lt i j)
+
+-- ---- lists that lie in vectors
+
+-- an element is another one: one that is seen alike, or one with an element more behind
+pub put_back : {X Y : Type 0} (f : X → Y) (xs : List X) (i : ℕ) (old new : X) → old ≡ get_or xs i old → f new ≡ f old → map f (set xs i new) ≡ map f xs
+put_back f xs i old new is e = map-set_same f xs i new old (e ∙ ap f is)
+
+pub put_behind : {X Z : Type 0} (f : X → List Z) (xs : List X) (i : ℕ) (old new : X) (z : Z) → i < length xs → old ≡ get_or xs i old → f new ≡ f old ++ z ∷ []
+    → map f (set xs i new) ≡ set (map f xs) i (get_or (map f xs) i [] ++ z ∷ [])
+put_behind f xs i old new z l is e = map-set f xs i new ∙ ap (set (map f xs) i) (e ∙ ap (λ ys. ys ++ z ∷ []) (ap f is ∙ sym (get_or-map f xs i old [] l)))
+
+-- the place of an input is within the lists, and its list is as long as the one that lies there
+pub in_lists : {X Y : Type 0} (f : X → Y) (xs : List X) (p : List Node) (input place : ℕ) → IsTrue (is_input_of p input) → length (map f xs) ≡ length (numbers_where is_input p) → place ≡ inputs_before p input → place < length xs
+in_lists f xs p input place there lists e = let within = place_within p input there in let long = length-map xs f in omega (arith, within, lists, long, e)
+
+pub taken_is : {X Z : Type 0} (f : X → List Z) (xs : List X) (p : List Node) (input place taken : ℕ) (x : X) → place < length xs → place ≡ inputs_before p input → x ≡ get_or xs place x → taken ≡ length (f x) → taken ≡ length (list_of p (map f xs) input)
+taken_is f xs p input place taken x l e is t =
+    t ∙ ap length (ap f is ∙ (sym (get_or-map f xs place x [] l) ∙ ap (λ k. get_or (map f xs) k []) e))
+
+-- ---- one change more
+
+-- the rows have the width of the node
+abbrev wide_at : {T : Type 0} → List Node → ℕ → List (Update T) → Bool
+wide_at p n us = list_all (λ u. eqb (length u.row) (width_of p n)) us
+
+module _ {T : Type 0} (r : Register T) (is : IsRegister r) (f : Fed T) (there : IsTrue (is_input_of r.plan f.input)) where
+  -- the list of the change's input has it, and no other list is another
+  own_list : list_of r.plan (with_entry f r).changes f.input ≡ list_of r.plan r.changes f.input ++ f.update ∷ []
+  own_list =
+      let place = place_within r.plan f.input there in
+      let lists = is.lists in
+      get_or-set_same r.changes (inputs_before r.plan f.input) (list_of r.plan r.changes f.input ++ f.update ∷ []) [] (omega (arith, place, lists))
+
+  other_list : (i : ℕ) → is_input (node_at r.plan i) ≡ true → (f.input ≡ i → ⊥) → list_of r.plan (with_entry f r).changes i ≡ list_of r.plan r.changes i
+  other_list i t apart =
+      get_or-set_other r.changes (inputs_before r.plan f.input) (inputs_before r.plan i) (list_of r.plan r.changes f.input ++ f.update ∷ []) []
+      (λ e. apart (places_apart r.plan f.input i (and_parts _ _ there).1 t (sym e)))
+
+  pub entry_register : IsTrue (eqb (length f.update.row) (width_of r.plan f.input)) → IsRegister (with_entry f r)
+  entry_register wide = record {
+    lists = length-set r.changes (inputs_before r.plan f.input) (list_of r.plan r.changes f.input ++ f.update ∷ []) ∙ is.lists;
+    wide = λ n l t. by n l t (eqb f.input n) refl;
+  }
+    where
+      own : IsTrue (wide_at r.plan f.input (list_of r.plan (with_entry f r).changes f.input))
+      own =
+          let parts = and_parts _ _ there in
+          ap (wide_at r.plan f.input) own_list
+          ∙ (list_all-append (λ (u : Update T). eqb (length u.row) (width_of r.plan f.input)) (list_of r.plan r.changes f.input) (f.update ∷ [])
+          ∙ and_from _ _ (is.wide f.input (ltb-true _ _ parts.0) parts.1) (and_from _ _ wide refl))
+
+      by : (n : ℕ) → n < length r.plan → is_input (node_at r.plan n) ≡ true → (b : Bool) → eqb f.input n ≡ b → IsTrue (wide_at r.plan n (list_of r.plan (with_entry f r).changes n))
+      by n l t true e = subst (λ (m : ℕ). IsTrue (wide_at r.plan m (list_of r.plan (with_entry f r).changes m))) (eqb-true f.input n e) own
+      by n l t false e = ap (wide_at r.plan n) (other_list n t (eqb-false f.input n e)) ∙ is.wide n l t
+
+  pub entry_records : (s : Session T) → Records r s → Records (with_entry f r) (with_change f s)
+  entry_records s a = record { changes = λ i h. by i h (eqb f.input i) refl; openings = a.openings }
+    where
+      own : list_of r.plan (with_entry f r).changes f.input ≡ reverse (f.update ∷ fed_to f.input s.fed)
+      own =
+          own_list
+          ∙ (ap (λ (us : List (Update T)). us ++ f.update ∷ []) (a.changes f.input there)
+          ∙ sym (reverse-append (f.update ∷ []) (fed_to f.input s.fed)))
+
+      by : (i : ℕ) → IsTrue (is_input_of r.plan i) → (b : Bool) → eqb f.input i ≡ b → list_of r.plan (with_entry f r).changes i ≡ reverse (cond b (f.update ∷ []) [] ++ fed_to i s.fed)
+      by i h true e = subst (λ (j : ℕ). list_of r.plan (with_entry f r).changes j ≡ reverse (f.update ∷ fed_to j s.fed)) (eqb-true f.input i e) own
+      by i h false e = other_list i (and_parts _ _ h).1 (eqb-false f.input i e) ∙ a.changes i h
+
+module _ {T : Type 0} (below : T → T → Bool) where
+  -- a change that nothing refuses has the width of its input
+  pub entry_wide : (r : Register T) (f : Fed T) → entry_refusal below r f ≡ None → IsTrue (eqb (length f.update.row) (width_of r.plan f.input))
+  entry_wide r f e =
+      no_fault (eqb (length f.update.row) (width_of r.plan f.input))
+      (no_first (not (eqb (length f.update.row) (width_of r.plan f.input))) WrongWidth ((int_eq f.update.diff (pos 0), ZeroWeight)
+      ∷ (not (nat_le (unsigned_abs f.update.diff) 2147483647), WeightTooLarge) ∷ (not (is_beyond below (open_at f.input r.openings) f.update.time), TimePassed)
+      ∷ (not (nat_lt (length (list_of r.plan r.changes f.input)) 1048576), InputFull) ∷ []) e).0
+
+  -- what is asked of the openings and of the number of changes is asked of the register
+  pub same_faults : (r : Register T) (f : Fed T) (openings : List (Open T)) (taken : ℕ) → openings ≡ r.openings → taken ≡ length (list_of r.plan r.changes f.input) → first_refusal (feed_faults below r.plan openings taken f) ≡ entry_refusal below r f
+  same_faults r f openings taken e t = λ j. first_refusal (feed_faults below r.plan (e j) (t j) f)
+
+  -- whatever came of a change, the register is one
+  pub after_entry : (r : Register T) (lists : List (List (Update T))) (f : Fed T) (place : ℕ) (x : Result (Unit {0}) Refusal) → IsRegister r → IsTrue (is_input_of r.plan f.input) → entry_refusal below r f ≡ None
+      → place ≡ inputs_before r.plan f.input → OnOk x (lists ≡ set r.changes place (get_or r.changes place [] ++ f.update ∷ [])) → OnErr x (lists ≡ r.changes) → IsRegister (record { plan = r.plan; changes = lists; openings = r.openings })
+  after_entry r lists f place (Ok u) is there accepted at pushed stays =
+      let whole : lists ≡ (with_entry f r).changes = pushed ∙ ap (λ k. set r.changes k (get_or r.changes k [] ++ f.update ∷ [])) at in
+      subst (λ (ls : List (List (Update T))). IsRegister (record { plan = r.plan; changes = ls; openings = r.openings })) (sym whole) (entry_register r is f there (entry_wide r f accepted))
+  after_entry r lists f place (Err e) is there accepted at pushed stays =
+      subst (λ (ls : List (List (Update T))). IsRegister (record { plan = r.plan; changes = ls; openings = r.openings })) (sym stays) (record { lists = is.lists; wide = is.wide })
+
+  -- what refuses a change or a frontier is what the session refuses
+  same_entry_refusal : (r : Register T) (s : Session T) (f : Fed T) → IsTrue (is_input_of r.plan f.input) → Records r s → entry_refusal below r f ≡ change_refusal below r.plan s f
+  same_entry_refusal r s f there a = λ j. first_refusal (feed_faults below r.plan (a.openings j) (taken j) f)
+    where
+      taken : length (list_of r.plan r.changes f.input) ≡ length (fed_to f.input s.fed)
+      taken = ap length (a.changes f.input there) ∙ length-reverse (fed_to f.input s.fed)
+
+  same_openings_refusal : (r : Register T) (s : Session T) (i : ℕ) (ts : List T) → Records r s → openings_refusal below r i ts ≡ frontier_refusal below r.plan s i ts
+  same_openings_refusal r s i ts a = ap (λ (os : List (Open T)). first_refusal (advance_faults below os i ts)) a.openings
+
+  pub entry_answered : (r c : Register T) (f : Fed T) (s : Session T) (x : Result (Unit {0}) Refusal) → IsTrue (is_input_of r.plan f.input) → IsRegister r
+      → OnOk x (c ≡ with_entry f r) → OnOk x (entry_refusal below r f ≡ None) → IfErr x (IsRefusalBy (entry_refusal below r f)) → OnErr x (c ≡ r) → Records r s
+      → IsAnswer (change_refusal below r.plan s f) (λ _. Records c (with_change f s)) (Records c s) x
+  entry_answered r c f s x there is taken accepted refused stays a =
+      subst (λ (o : Option Refusal). IsAnswer o (λ _. Records c (with_change f s)) (Records c s) x) (same_entry_refusal r s f there a)
+      (answered (entry_refusal below r f) (Records c (with_change f s)) (Records c s) x
+      (on_ok_weaker x (λ e. subst (λ (d : Register T). Records d (with_change f s)) (sym e) (entry_records r is f there s a)) taken) accepted refused
+      (on_err_weaker x (λ e. subst (λ (d : Register T). Records d s) (sym e) a) stays))
+
+  -- what is refused where no fault is, is refused for want of memory
+  pub memory_alone : (o : Option Refusal) (x : Result (Unit {0}) Refusal) → o ≡ None → IfErr x (λ e. e ≡ OutOfMemory) → IfErr x (IsRefusalBy o)
+  memory_alone o x e h = subst (λ (q : Option Refusal). IfErr x (IsRefusalBy q)) (sym e) h
+
+  pub openings_answered : (r c : Register T) (i : ℕ) (ts : List T) (s : Session T) (x : Result (Unit {0}) Refusal)
+      → OnOk x (c ≡ with_openings i ts r) → OnOk x (openings_refusal below r i ts ≡ None) → IfErr x (IsRefusalBy (openings_refusal below r i ts)) → OnErr x (c ≡ r) → Records r s
+      → IsAnswer (frontier_refusal below r.plan s i ts) (λ _. Records c (with_frontier i ts s)) (Records c s) x
+  openings_answered r c i ts s x taken accepted refused stays a =
+      subst (λ (o : Option Refusal). IsAnswer o (λ _. Records c (with_frontier i ts s)) (Records c s) x) (same_openings_refusal r s i ts a)
+      (answered (openings_refusal below r i ts) (Records c (with_frontier i ts s)) (Records c s) x
+      (on_ok_weaker x (λ e. subst (λ (d : Register T). Records d (with_frontier i ts s)) (sym e) moved) taken) accepted refused
+      (on_err_weaker x (λ e. subst (λ (d : Register T). Records d s) (sym e) a) stays))
+    where
+      moved : Records (with_openings i ts r) (with_frontier i ts s)
+      moved = record { changes = a.changes; openings = ap (λ (os : List (Open T)). opening i ts ++ filter (λ o. not (eqb o.input i)) os) a.openings }
+
+-- ---- a list sums to what it sums to backwards
+
+module _ {T : Type 0} (below : T → T → Bool) (t : T) where
+  as_of-append : (us vs : List (Update T)) → as_of below t (us ++ vs) ≡ as_of below t us ++ as_of below t vs
+  as_of-append us vs =
+      ap (map entry) (filter-append (λ (u : Update T). below u.time t) us vs)
+      ∙ map-append entry (filter (λ (u : Update T). below u.time t) us) (filter (λ (u : Update T). below u.time t) vs)
+
+  reversed_alike : (us : List (Update T)) → Alike (as_of below t (reverse us)) (as_of below t us)
+  reversed_alike [] row = refl
+  reversed_alike (u ∷ us) row =
+      let back = ap (λ (vs : List (Update T)). count_of (as_of below t vs) row) (reverse-append (u ∷ []) us) in
+      let behind = ap (λ es. count_of es row) (as_of-append (reverse us) (u ∷ [])) ∙ count_of-append (as_of below t (reverse us)) (as_of below t (u ∷ [])) row in
+      let front = ap (λ es. count_of es row) (as_of-append (u ∷ []) us) ∙ count_of-append (as_of below t (u ∷ [])) (as_of below t us) row in
+      back ∙ (behind ∙ (swapped _ _ _ (reversed_alike us row) ∙ sym front))
+    where
+      swapped : (m n k : ℤ) → m ≡ n → (m +ℤ k) ≡ (k +ℤ n)
+      swapped m n k e = omega (arith, ints, e)
+
+-- ---- what is open for a view
+
+-- what the inputs below a number have that feed a view
+abbrev feeding : {T : Type 0} → List Node → ℕ → (ℕ → List T) → ℕ → List T
+feeding p v k m = flat_map k (filter (λ i. feeds p i v) (numbers_below m))
+
+module _ {T : Type 0} (below : T → T → Bool) where
+  -- frontiers that have the same times beyond them, all together
+  pub same_open : (p : List Node) (f g : ℕ → List T) (v : ℕ) (t : T) → ((i : ℕ) → IsTrue (is_input_of p i) → is_beyond below (f i) t ≡ is_beyond below (g i) t)
+      → is_beyond below (open_for below p f v) t ≡ is_beyond below (open_for below p g v) t
+  same_open p f g v t h = up_to (length p) (omega arith)
+    where
+      split : (k : ℕ → List T) (m : ℕ) → is_beyond below (feeding p v k (suc m)) t ≡ (is_beyond below (feeding p v k m) t || is_beyond below (flat_map k (cond (feeds p m v) (m ∷ []) [])) t)
+      split k m =
+          ap (λ (is : List ℕ). is_beyond below (flat_map k is) t) (filter-append (λ i. feeds p i v) (numbers_below m) (m ∷ []))
+          ∙ (ap (λ (ts : List T). is_beyond below ts t) (flat_map-append k (filter (λ i. feeds p i v) (numbers_below m)) (cond (feeds p m v) (m ∷ []) []))
+          ∙ list_any-append (λ x. below x t) (feeding p v k m) (flat_map k (cond (feeds p m v) (m ∷ []) [])))
+
+      last : (m : ℕ) → m < length p → (b : Bool) → feeds p m v ≡ b → is_beyond below (flat_map f (cond b (m ∷ []) [])) t ≡ is_beyond below (flat_map g (cond b (m ∷ []) [])) t
+      last m l false e = refl
+      last m l true e =
+          ap (λ (ts : List T). is_beyond below ts t) (append-nil (f m))
+          ∙ (h m (and_from _ _ (lt-ltb m (length p) l) (and_parts _ _ e).0)
+          ∙ ap (λ (ts : List T). is_beyond below ts t) (sym (append-nil (g m))))
+
+      up_to : (m : ℕ) → m ≤ length p → is_beyond below (feeding p v f m) t ≡ is_beyond below (feeding p v g m) t
+      up_to zero l = refl
+      up_to (suc m) l =
+          split f m
+          ∙ ((λ j. up_to m (omega (arith, l)) j || last m (omega (arith, l)) (feeds p m v) refl j)
+          ∙ sym (split g m))
+
+  -- the frontiers of the inputs, one after another
+  pub record AreSome (p : List Node) (openings : List (Open T)) (n : ℕ) (frontiers : List (List T)) : Type 0 where
+    pub count : length frontiers ≡ inputs_before p n
+    pub beyond : (i : ℕ) → i < n → is_input (node_at p i) ≡ true → (t : T) → is_beyond below (list_of p frontiers i) t ≡ is_beyond below (open_at i openings) t
+
+  pub some_more : (p : List Node) (openings : List (Open T)) (n : ℕ) (old new : List (List T)) (F : List T) → is_input (node_at p n) ≡ true → new ≡ old ++ F ∷ []
+      → ((t : T) → is_beyond below F t ≡ is_beyond below (open_at n openings) t) → AreSome p openings n old → AreSome p openings (n + 1) new
+  some_more p openings n old new F input e h so = subst (AreSome p openings (n + 1)) (sym e) (record { count = long; beyond = each })
+    where
+      long : length (old ++ F ∷ []) ≡ inputs_before p (n + 1)
+      long = let parts = length-append old (F ∷ []) in let count = so.count in let one = inputs_with p n input in omega (arith, parts, count, one)
+
+      each : (i : ℕ) → i < n + 1 → is_input (node_at p i) ≡ true → (t : T) → is_beyond below (list_of p (old ++ F ∷ []) i) t ≡ is_beyond below (open_at i openings) t
+      each i l there t =
+          ⊎_elim
+          (λ k.
+          let place = place_before p i n k there in
+          let count = so.count in
+          ap (λ (ts : List T). is_beyond below ts t) (get_or_append_left old (F ∷ []) [] (inputs_before p i) (omega (arith, place, count))) ∙ so.beyond i k there t)
+          (λ k.
+          let same : n ≡ i = omega (arith, k, l) in
+          subst (λ (j : ℕ). is_beyond below (list_of p (old ++ F ∷ []) j) t ≡ is_beyond below (open_at j openings) t) same
+          (ap (λ (ts : List T). is_beyond below ts t) (get_or_push old F [] (inputs_before p n) so.count) ∙ h t))
+          (cases_lt i n)
+
+  pub some_same : (p : List Node) (openings : List (Open T)) (n : ℕ) (old : List (List T)) → is_input (node_at p n) ≡ false → AreSome p openings n old → AreSome p openings (n + 1) old
+  some_same p openings n old none so = record { count = so.count ∙ sym (inputs_without p n none); beyond = each }
+    where
+      each : (i : ℕ) → i < n + 1 → is_input (node_at p i) ≡ true → (t : T) → is_beyond below (list_of p old i) t ≡ is_beyond below (open_at i openings) t
+      each i l there t =
+          ⊎_elim
+          (λ k. so.beyond i k there t)
+          (λ k. let same : n ≡ i = omega (arith, k, l) in absurd (true≢false (sym there ∙ (ap (λ j. is_input (node_at p j)) (sym same) ∙ none))))
+          (cases_lt i n)
+
+  pub some_all : (p : List Node) (openings : List (Open T)) (n : ℕ) (all : List (List T)) → length p ≤ n → AreSome p openings n all → AreFrontiers below p openings all
+  some_all p openings n all long so i h t = let parts = and_parts _ _ h in let within : i < length p = ltb-true _ _ parts.0 in so.beyond i (omega (arith, within, long)) parts.1 t
+
+-- ---- what is asked
+
+module _ {T : Type 0} {below : T → T → Bool} (o : PartialOrderLaws below) (r : Register T) (s : Session T) (a : Records r s) (v : ℕ) where
+  same_found : view_frontier below r.plan s v ≡ least below (open_for below r.plan (λ i. open_at i r.openings) v)
+  same_found = ap (λ (os : List (Open T)). least below (open_for below r.plan (λ i. open_at i os) v)) (sym a.openings)
+
+  -- what is open for the view at a time is so in the session
+  pub same_passed : (times : List T) (t : T) → times ≡ open_for below r.plan (λ i. open_at i r.openings) v → is_beyond below (view_frontier below r.plan s v) t ≡ is_beyond below times t
+  same_passed times t e =
+      ap (λ (ts : List T). is_beyond below ts t) same_found
+      ∙ (least_beyond o (open_for below r.plan (λ i. open_at i r.openings) v) t
+      ∙ ap (λ (ts : List T). is_beyond below ts t) (sym e))
+
+  -- a time that is still open refuses a reading, and no other does
+  pub open_refuses : (t : T) → is_beyond below (view_frontier below r.plan s v) t ≡ true → read_refusal below r.plan s v t ≡ Some NotPassed
+  open_refuses t e = ap (λ b. first_refusal ((b, NotPassed) ∷ [])) e
+
+  passed_reads : (t : T) → is_beyond below (view_frontier below r.plan s v) t ≡ false → read_refusal below r.plan s v t ≡ None
+  passed_reads t e = ap (λ b. first_refusal ((b, NotPassed) ∷ [])) e
+
+  -- the least of what is open, in order
+  pub frontier_found : {cmp : T → T → Ordering} → IsTotalOrder cmp → ((t u : T) → cmp t u ≡ Equal → t ≡ u) → (times F : List T) → times ≡ open_for below r.plan (λ i. open_at i r.openings) v
+      → IsFrontier below cmp F → SameElements F (least below times) → F ≡ frontier_at below r.plan s cmp v
+  frontier_found {cmp} total exact times F e is same =
+      let found = view_frontier below r.plan s v in
+      let all : least below times ≡ view_frontier below r.plan s v = ap (least below) e ∙ sym same_found in
+      let own : SameElements F (view_frontier below r.plan s v) = subst (λ (G : List T). SameElements F G) all same in
+      sorted_same total F (in_order cmp found) is.ascending (in_order-sorted cmp total found)
+      (λ t h. in_order-has cmp exact found t (among_contains t found (own.into t (contains_among t F h))))
+      (λ t h. among_contains t F (own.back t (contains_among t found (in_order-only cmp found t h))))
+
+  module _ (plan : IsPlan r.plan) (within : v < length r.plan) where
+    -- the query is the session's
+    same_query : (t : T) → Alike (query_at below r.plan (list_of r.plan r.changes) v t) (query_at below r.plan (λ i. fed_to i s.fed) v t)
+    same_query t =
+        query_at_inputs r.plan plan (λ i. as_of below t (list_of r.plan r.changes i)) (λ i. as_of below t (fed_to i s.fed))
+        (λ n l i row. ap (λ (us : List (Update T)). count_of (as_of below t us) row) (a.changes n (and_from _ _ (lt-ltb n (length r.plan) l) i)) ∙ reversed_alike below t (fed_to n s.fed) row)
+        v within
+
+    pub rows_answered : (cause : Type 0) (t : T) (x : Result (List Entry) Refusal) → is_beyond below (view_frontier below r.plan s v) t ≡ false
+        → IfOk x (λ bag. Alike bag (query_at below r.plan (list_of r.plan r.changes) v t)) → IfOk x IsBag → IfErr x (IsRefusal cause)
+        → IsAnswer (read_refusal below r.plan s v t) (λ bag. (bag ≡ rows_at below r.plan s v t) × Records r s) (Records r s) x
+    rows_answered cause t (Ok bag) passed alike is refused = (passed_reads t passed, (bag_of-only _ bag is (λ row. alike row ∙ same_query t row), a))
+    rows_answered cause t (Err e) passed alike is refused = inr (⊎_elim (λ m. inl m) (λ l. inr l.0) refused)
+
+    -- what is listed of the inputs' changes and frontiers is the session's list
+    pub changes_found : {joined met : T → T → T} {cmp : T → T → Ordering} → LatticeLaws below joined met → ExtendsLaws below cmp → IsTotalOrder cmp → (frontiers : List (List T)) (us : List (Update T)) → AreFrontiers below r.plan r.openings frontiers
+        → AreDifferences below cmp r.plan (list_of r.plan r.changes) (open_for below r.plan (list_of r.plan frontiers) v) v us → us ≡ changes_at below r.plan s cmp joined v
+    changes_found {joined} {met} {cmp} l x total frontiers us are d =
+        let F = open_for below r.plan (list_of r.plan frontiers) v in
+        let G = view_frontier below r.plan s v in
+        let tests : has_passed below F ≡ has_passed below G = λ j t. not (same t j) in
+        let own : AreDifferences below cmp r.plan (λ i. fed_to i s.fed) G v us = record {
+          consolidated = d.consolidated;
+          passed = subst (λ (test : T → Bool). IsTrue (list_all (λ u. test u.time) us)) tests d.passed;
+          sums = λ t h row. d.sums t (subst (λ (test : T → Bool). IsTrue (test t)) (sym tests) h) row ∙ same_query t row;
+        } in
+        differences_only o total r.plan (λ i. fed_to i s.fed) G v us (changes_at below r.plan s cmp joined v) own (changes_are o l x total r.plan s.fed plan v within G)
+      where
+        same : (t : T) → is_beyond below (open_for below r.plan (list_of r.plan frontiers) v) t ≡ is_beyond below (view_frontier below r.plan s v) t
+        same t =
+            same_open below r.plan (list_of r.plan frontiers) (λ i. open_at i r.openings) v t (λ i h. are i h t)
+            ∙ sym (same_passed (open_for below r.plan (λ i. open_at i r.openings) v) t refl)

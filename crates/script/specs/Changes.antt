@@ -1,0 +1,32 @@
+-- The changes of a view, as a function: of all lists of updates the one that is consolidated and sums to what is wanted
+-- at each time that has passed (McSherry et al., Differential Dataflow, CIDR 2013). It is built time by time, in order.
+use Rattle.std.specs.Prelude.{Bool, List, [], ◌∷◌, ◌++◌, map, if◌then◌else◌}
+use Rattle.std.specs.declared.cmp.Ordering.{Ordering}
+use Rattle.update.specs.Bags.{Entry}
+use Rattle.update.specs.Updates.{as_of}
+use Rattle.update.specs.declared.change.Update.{Update}
+use Rattle.plan.specs.Changes.{has_passed}
+use Rattle.plan.specs.Operators.{negated}
+use Rattle.oracle.specs.Listing.{at_time}
+use Rattle.script.specs.Bags.{bag_of}
+use Rattle.script.specs.Orders.{in_order}
+
+module _ {T : Type 0} where
+  -- the joins of all sets of these times but the empty one
+  abbrev pub joins_of : (T → T → T) → List T → List T
+  joins_of joined [] = []
+  joins_of joined (t ∷ ts) = (joins_of joined ts ++ map (λ s. joined s t) (joins_of joined ts)) ++ t ∷ []
+
+  module _ (below : T → T → Bool) where
+    -- what is wanted at t, less what is listed at or before it
+    abbrev pub missing : List Entry → T → List (Update T) → List Entry
+    missing wanted t listed = bag_of (wanted ++ map negated (as_of below t listed))
+
+    -- at each of these times that has passed, what is missing there is listed behind what is listed
+    abbrev pub listed_along : List T → (T → List Entry) → List T → List (Update T) → List (Update T)
+    listed_along frontier wanted [] listed = listed
+    listed_along frontier wanted (t ∷ ts) listed = listed_along frontier wanted ts (if has_passed below frontier t then listed ++ map (at_time t) (missing (wanted t) t listed) else listed)
+
+    -- the list that sums to what is wanted, where that changes at joins of these times alone
+    abbrev pub changes_along : (T → T → Ordering) → (T → T → T) → List T → (T → List Entry) → List T → List (Update T)
+    changes_along cmp joined frontier wanted times = listed_along frontier wanted (in_order cmp (joins_of joined times)) []

@@ -1,0 +1,324 @@
+//! The plain engine: it carries out commands by the plain query of crate `oracle` alone, and knows neither workers nor
+//! boards, batches nor differences that were kept.
+//!
+//! It keeps each input's accepted changes, as they came, and where the inputs' frontiers stand; whatever is asked of a view is
+//! worked out from these, from scratch. The invariant is what the query asks for: each input has its list, at its place in
+//! the order of the inputs, and the rows in it have the input's width. Nothing that was computed is kept, so there is nothing
+//! that could be out of date: this engine is slow, and right for plain reasons. What a command is refused for is asked where
+//! a board asks it (crate `machine`), so that both refuse alike.
+ghost use Rattle.std.specs.Prelude.{◌≡◌, ◌<◌, ◌++◌, ℕ, List, [], ◌∷◌, None, length, map, replicate, set, slice_index_or, IfErr, IfOk, IsTrue, OnErr, OnOk};
+ghost use Rattle.lattice.specs.declared.product.Pair.{Pair};
+ghost use Rattle.lattice.specs.Frontiers.{is_beyond};
+ghost use Rattle.update.specs.declared.refusal.Refusal.TheVariants.{OutOfMemory};
+ghost use Rattle.plan.specs.Changes.{open_for};
+ghost use Rattle.plan.specs.Rules.{IsRefusalBy};
+ghost use Rattle.machine.specs.Worlds.{open_at};
+ghost use Rattle.grammar.specs.Commands.{is_input_of, is_view_of};
+ghost use Rattle.oracle.specs.Evaluation.{inputs_before};
+ghost use Rattle.script.specs.Engines.{IsAnswer, IsRunEnd, failures};
+ghost use Rattle.script.specs.Outs.{IsBeginning};
+ghost use Rattle.script.specs.PlainStanding.{IsRegister, Records, AreFrontiers, with_entry, with_openings, entry_refusal, openings_refusal};
+ghost use Rattle.script.specs.Sessions.{read_refusal, rows_at, changes_at, frontier_at};
+ghost use Rattle.script.specs.Text.{Sitting, at_or_below, in_print, join_of, first_sitting, text};
+
+use crate::engine::Engine;
+use crate::fault::RunFault;
+use crate::outputs::Out;
+use crate::running::run;
+use antichain::{Antichain, is_beyond};
+use grammar::Script;
+use lattice::Bitime;
+use machine::{Open, Times, Updates, advance_refusal, feed_refusal, first_openings, openings_with};
+use oracle::{differences, evaluate};
+use plan::{NodeId, Plan};
+use std::alloc::Global;
+use std::marker::Model;
+use update::{Bag, Refusal, Update};
+
+/// All that was accepted, and nothing that follows from it. A contract sees the plan, the changes and the openings.
+#[derive(Debug, Drop)]
+pub(crate) struct Plain {
+    plan: Plan,
+    // The changes of each input, the oldest first, in the order of the inputs' numbers.
+    changes: Vec<Vec<Update<Bitime>>>,
+    // The elements of the inputs' frontiers.
+    openings: Vec<Open<Bitime>>,
+}
+
+impl Model for Plain {
+    ghost use Rattle.std.specs.Prelude.{ℕ, map};
+    ghost use Rattle.lattice.specs.declared.product.Pair.{Pair};
+    ghost use Rattle.script.specs.PlainStanding.{Register, IsRegister};
+
+    ghost Value = { Register (Pair ℕ ℕ) };
+
+    ghost view = { λ plain. record { plan = plain.plan; changes = map (λ v. v.items) plain.changes.items; openings = plain.openings.items } };
+
+    ghost invariant = { λ plain. IsRegister (record { plan = plain.plan; changes = map (λ v. v.items) plain.changes.items; openings = plain.openings.items }) };
+}
+
+// How many inputs have smaller numbers: the place of an input's list.
+fn place_of(plan: &Plan, input: NodeId) -> usize
+    requires { input < length plan.now }
+    ensures { result ≡ inputs_before plan.now input }
+{
+    let mut place = 0;
+    for n in 0..input.number() {
+        if plan.node(NodeId::new(n)).is_input() {
+            place += 1;
+        }
+    }
+    place
+}
+
+// So many lists of no changes.
+fn no_changes(alloc: Global, inputs: usize) -> Result<Vec<Vec<Update<Bitime>>>, Refusal>
+    ensures none { IfOk result (λ lists. map (λ v. v.items) lists.items ≡ replicate inputs []) }
+    ensures refused { IfErr result (λ refusal. refusal ≡ OutOfMemory) }
+{
+    let mut lists = Vec::new(alloc);
+    for _input in 0..inputs {
+        lists.push(Vec::new(alloc))?;
+    }
+    Ok(lists)
+}
+
+// One change more in the list of a place.
+fn push_change(
+    lists: &mut Vec<Vec<Update<Bitime>>>,
+    place: usize,
+    update: Update<Bitime>,
+) -> Result<(), Refusal>
+    requires { place < length lists.old.items }
+    ensures pushed { OnOk result (map (λ v. v.items) lists.new.items ≡ set (map (λ v. v.items) lists.old.items) place (slice_index_or (map (λ v. v.items) lists.old.items) place [] ++ update ∷ [])) }
+    ensures refused { IfErr result (λ refusal. refusal ≡ OutOfMemory) }
+    ensures unchanged { OnErr result (map (λ v. v.items) lists.new.items ≡ map (λ v. v.items) lists.old.items) }
+{
+    lists[place].push(update)?;
+    Ok(())
+}
+
+// Adds the elements of an input's frontier.
+fn push_open(
+    times: &mut Vec<Bitime>,
+    openings: &[Open<Bitime>],
+    input: NodeId,
+) -> Result<(), Refusal>
+    ensures pushed { OnOk result (times.new.items ≡ times.old.items ++ open_at input openings.now) }
+    ensures refused { IfErr result (λ refusal. refusal ≡ OutOfMemory) }
+{
+    for open in openings {
+        if open.input == input {
+            times.push(open.time)?;
+        }
+    }
+    Ok(())
+}
+
+// What is open for a view: the elements of the frontiers of all inputs that feed it.
+fn open_for(
+    alloc: Global,
+    plan: &Plan,
+    openings: &[Open<Bitime>],
+    view: NodeId,
+) -> Result<Vec<Bitime>, Refusal>
+    requires { view < length plan.now }
+    ensures open { IfOk result (λ times. times.items ≡ open_for at_or_below plan.now (λ i. open_at i openings.now) view) }
+    ensures refused { IfErr result (λ refusal. refusal ≡ OutOfMemory) }
+{
+    let mut times = Vec::new(alloc);
+    for n in 0..plan.len() {
+        let input = NodeId::new(n);
+        if plan.node(input).is_input() && plan.is_above(input, view) {
+            push_open(&mut times, openings, input)?;
+        }
+    }
+    Ok(times)
+}
+
+// The frontier of an input.
+fn frontier_of(
+    alloc: Global,
+    openings: &[Open<Bitime>],
+    input: NodeId,
+) -> Result<Antichain<Bitime>, Refusal>
+    ensures beyond { IfOk result (λ frontier. (t : Pair ℕ ℕ) → is_beyond at_or_below frontier t ≡ is_beyond at_or_below (open_at input openings.now) t) }
+    ensures refused { IfErr result (λ refusal. refusal ≡ OutOfMemory) }
+{
+    let mut times = Vec::new(alloc);
+    push_open(&mut times, openings, input)?;
+    Ok(Antichain::least_of(alloc, &times)?)
+}
+
+// The frontier of each input, in the order of the inputs' numbers.
+fn frontiers(
+    alloc: Global,
+    plan: &Plan,
+    openings: &[Open<Bitime>],
+) -> Result<Vec<Antichain<Bitime>>, Refusal>
+    ensures frontiers { IfOk result (λ all. AreFrontiers at_or_below plan.now openings.now all.items) }
+    ensures refused { IfErr result (λ refusal. refusal ≡ OutOfMemory) }
+{
+    let mut all = Vec::new(alloc);
+    for n in 0..plan.len() {
+        if plan.node(NodeId::new(n)).is_input() {
+            all.push(frontier_of(alloc, openings, NodeId::new(n))?)?;
+        }
+    }
+    Ok(all)
+}
+
+impl Plain {
+    /// An engine to which nothing has happened yet. Refused only with `OutOfMemory`.
+    pub(crate) fn open(alloc: Global, plan: &Plan) -> Result<Plain, Refusal>
+        ensures plan { IfOk result (λ plain. plain.plan ≡ plan.now) }
+        ensures stands { IfOk result (λ plain. Records plain (first_sitting plan.now)) }
+        ensures refused { IfErr result (λ refusal. refusal ≡ OutOfMemory) }
+    {
+        let plan = plan.clone()?;
+        let inputs = plan.inputs(alloc)?;
+        let openings = first_openings(alloc, &inputs)?;
+        let changes = no_changes(alloc, inputs.len())?;
+        Ok(Plain {
+            plan,
+            changes,
+            openings,
+        })
+    }
+
+    // Takes a change, or refuses it as a board does.
+    fn take_change(&mut self, input: NodeId, update: Update<Bitime>) -> Result<(), Refusal>
+        requires { IsTrue (is_input_of self.old.plan input) }
+        ensures taken { OnOk result (self.new ≡ with_entry (record { input = input; update = update }) self.old) }
+        ensures accepted { OnOk result (entry_refusal at_or_below self.old (record { input = input; update = update }) ≡ None) }
+        ensures refused { IfErr result (λ refusal. IsRefusalBy (entry_refusal at_or_below self.old (record { input = input; update = update })) refusal) }
+        ensures unchanged { OnErr result (self.new ≡ self.old) }
+        ensures register { IsRegister self.old }
+    {
+        let place = place_of(&self.plan, input);
+        let taken = self.changes[place].len();
+        match feed_refusal(&self.plan, &self.openings, taken, input, &update) {
+            Some(refusal) => Err(refusal),
+            None => push_change(&mut self.changes, place, update),
+        }
+    }
+
+    // Takes a frontier, or refuses it as a board does.
+    fn take_frontier(&mut self, input: NodeId, times: &[Bitime]) -> Result<(), Refusal>
+        ensures taken { OnOk result (self.new ≡ with_openings input times.now self.old) }
+        ensures accepted { OnOk result (openings_refusal at_or_below self.old input times.now ≡ None) }
+        ensures refused { IfErr result (λ refusal. IsRefusalBy (openings_refusal at_or_below self.old input times.now) refusal) }
+        ensures unchanged { OnErr result (self.new ≡ self.old) }
+    {
+        match advance_refusal(&self.openings, input, times) {
+            Some(refusal) => Err(refusal),
+            None => self.stand_at(input, times),
+        }
+    }
+
+    // From now on an input's frontier has these times.
+    fn stand_at(&mut self, input: NodeId, times: &[Bitime]) -> Result<(), Refusal>
+        ensures taken { OnOk result (self.new ≡ with_openings input times.now self.old) }
+        ensures refused { IfErr result (λ refusal. refusal ≡ OutOfMemory) }
+        ensures unchanged { OnErr result (self.new ≡ self.old) }
+    {
+        let alloc = *self.openings.allocator();
+        self.openings = openings_with(alloc, &self.openings, input, times)?;
+        Ok(())
+    }
+
+    // The rows of a view at a time.
+    fn rows(&self, alloc: Global, view: NodeId, time: Bitime) -> Result<Bag, Refusal>
+        requires { IsTrue (is_view_of self.now.plan view) }
+        ensures answered { (s : Sitting) → Records self.now s
+            → IsAnswer (read_refusal at_or_below self.now.plan s view time) (λ bag. (bag ≡ rows_at at_or_below self.now.plan s view time) × Records self.now s) (Records self.now s) result }
+    {
+        let _count = self.plan.len();
+        let open = open_for(alloc, &self.plan, &self.openings, view)?;
+        if is_beyond(&open, &time) {
+            return Err(Refusal::NotPassed);
+        }
+        evaluate(alloc, &self.plan, view, &self.changes, time)
+    }
+
+    // The changes of a view at the times that its frontier has passed.
+    fn passed_changes(&self, alloc: Global, view: NodeId) -> Result<Updates<Bitime>, Refusal>
+        requires { IsTrue (is_view_of self.now.plan view) }
+        ensures answered { (s : Sitting) → Records self.now s
+            → IsAnswer None (λ changes. (changes ≡ changes_at at_or_below self.now.plan s in_print join_of view) × Records self.now s) (Records self.now s) result }
+    {
+        let _count = self.plan.len();
+        let frontiers = frontiers(alloc, &self.plan, &self.openings)?;
+        let changes = differences(alloc, &self.plan, view, &self.changes, &frontiers)?;
+        Ok(Updates::from(changes))
+    }
+
+    // The frontier of a view: the least of what is open for it.
+    fn view_frontier(&self, alloc: Global, view: NodeId) -> Result<Antichain<Bitime>, Refusal>
+        requires { IsTrue (is_view_of self.now.plan view) }
+        ensures answered { (s : Sitting) → Records self.now s
+            → IsAnswer None (λ frontier. (frontier ≡ frontier_at at_or_below self.now.plan s in_print view) × Records self.now s) (Records self.now s) result }
+    {
+        let open = open_for(alloc, &self.plan, &self.openings, view)?;
+        let frontier = Antichain::least_of(alloc, &open)?;
+        // What its elements promise is known from here on: they are in order.
+        let _elements = frontier.elements();
+        Ok(frontier)
+    }
+}
+
+impl Engine for Plain {
+    ghost use Rattle.script.specs.PlainStanding.{Records};
+
+    ghost plan = { λ r. r.plan };
+
+    ghost stands = { λ r s. Records r s };
+
+    fn change(
+        &mut self,
+        _alloc: Global,
+        input: NodeId,
+        update: Update<Bitime>,
+    ) -> Result<(), Refusal> {
+        self.take_change(input, update)
+    }
+
+    fn advance(&mut self, input: NodeId, times: Times<Bitime>) -> Result<(), Refusal> {
+        self.take_frontier(input, times.as_slice())
+    }
+
+    fn read(&mut self, alloc: Global, view: NodeId, time: Bitime) -> Result<Bag, Refusal> {
+        self.rows(alloc, view, time)
+    }
+
+    fn changes(&mut self, alloc: Global, view: NodeId) -> Result<Updates<Bitime>, Refusal> {
+        self.passed_changes(alloc, view)
+    }
+
+    fn frontier(&mut self, alloc: Global, view: NodeId) -> Result<Antichain<Bitime>, Refusal> {
+        self.view_frontier(alloc, view)
+    }
+}
+
+/// Runs a script without workers, and puts what it writes: every view is worked out from scratch whenever it is asked for.
+///
+/// Where it answers Ok, exactly the script's text was taken. After a fault a beginning of it was:
+///
+/// | Fault | Where |
+/// |---|---|
+/// | `Refused(1)` | an allocation was refused |
+/// | `Refused(10)` | a number is too large for 64 bits: how often a row counts, at the view or at a node above it, or what a join or a count makes of such numbers |
+/// | `Write` | the output failed, which no other fault goes with |
+///
+/// Cost: a change is linear in the nodes of the plan and the elements of the inputs' frontiers. A read goes over all changes
+/// that came before it, and sorts what each node above the view reads and gives, so that a script of reads and changes takes
+/// the square of its length. A view's changes take such a query for each time of a grid that has the times of all changes and all their joins:
+/// as many as the product of the valid and the system times that occur.
+pub fn plain_script<W: Out>(alloc: Global, script: &Script, out: &mut W) -> Result<(), RunFault>
+    ensures written { OnOk result (W.took out.old (text script.now) 0 out.new) }
+    ensures beginning { IfErr result (λ fault. (part : List ℕ) × IsBeginning part (text script.now) × W.took out.old part (failures fault) out.new) }
+    ensures known { IfErr result IsRunEnd }
+{
+    let mut engine = Plain::open(alloc, script.plan())?;
+    run(alloc, &mut engine, script, out)
+}
