@@ -1,6 +1,5 @@
 //! Scripts that run without workers. No clause says that a run with ample memory answers Ok at all: two texts are worked out by
-//! hand from the rules of the language, and on further scripts a run with a worker writes the same bytes. Run with each
-//! allocation refused in turn, the last test sees a beginning of the text, and that the script runs once there is memory.
+//! hand from the rules of the language, and on further scripts a run with a worker writes the same bytes.
 use crate::tests::script;
 use crate::{MemoryOut, plain_script, run_script};
 use std::alloc::Global;
@@ -57,23 +56,5 @@ fn a_worker_changes_nothing(rt: HostRuntime) -> Result<(), Fail> {
         assert_eq!(rt; run_script(alloc, &script, 1, &mut worked), Ok(()));
         assert_eq!(rt; plain.bytes(), worked.bytes());
     }
-    Ok(())
-}
-
-#[test]
-fn plain_runs_take_memory(rt: HostRuntime) -> Result<(), Fail> {
-    let alloc = rt.alloc();
-    let script = script(
-        alloc,
-        "input a 1\nview v a\nstart\nchange a 0 0 1 7\nread v 0 0\nadvance a 1 1\nread v 0 0\n",
-    )?;
-    let text = b"refused 5 8\nread v 0 0 1\n1 7\n";
-    let mut out = MemoryOut::new(alloc);
-    if plain_script(alloc, &script, &mut out).is_err() {
-        assert!(rt; text.starts_with(out.bytes()));
-        out = MemoryOut::new(alloc);
-        plain_script(alloc, &script, &mut out)?;
-    }
-    assert_eq!(rt; out.bytes(), text.as_slice());
     Ok(())
 }
