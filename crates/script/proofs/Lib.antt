@@ -12,4 +12,6 @@ pub mod ReadingLemmas
 pub mod OrderLemmas
 pub mod InputLemmas
 pub mod ChangesLemmas
+pub mod EndLemmas
+pub mod WeightLemmas
 pub mod PlainLemmas

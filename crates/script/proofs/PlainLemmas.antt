@@ -1,8 +1,9 @@
 -- What the plain engine keeps is the session's, and so is what it answers.
 use Rattle.std.proofs.Common.{◌≡◌, ℕ, zero, suc, ◌+◌, ◌<◌, ◌≤◌, Bool, true, false, cond, not, ◌||◌, eqb, ltb-true, List, [], ◌∷◌, ◌++◌, ℤ, map, length, get_or, Option, Some, None, Result, Ok, Err, IsTrue, inl, inr, ⊎_elim, refl, sym, ◌∙◌, ap, subst, length-append, nat_le, nat_lt, unsigned_abs, arith}
-use Rattle.std.specs.Prelude.{pos, ◌+ℤ◌, set, reverse, IfOk, IfErr, OnOk, OnErr}
+use Rattle.std.specs.Int.{w64}
+use Rattle.std.specs.Prelude.{FitsSigned, neg_ℤ, pos, ◌+ℤ◌, set, reverse, IfOk, IfErr, OnOk, OnErr}
 use Rattle.std.specs.Cmp.{IsTotalOrder}
-use Rattle.std.specs.List.{filter, flat_map, list_all}
+use Rattle.std.specs.List.{All, filter, flat_map, list_all}
 use Rattle.std.specs.Ordering.{int_eq}
 use Rattle.std.specs.declared.cmp.Ordering.{Ordering}
 use Rattle.std.specs.declared.cmp.Ordering.TheVariants.{Equal}
@@ -28,11 +29,16 @@ use Rattle.update.specs.declared.refusal.Refusal.TheVariants.{OutOfMemory, Wrong
 use Rattle.plan.specs.Ancestors.{is_input, feeds, numbers_below}
 use Rattle.plan.specs.Changes.{AreDifferences, has_passed, query_at, open_for}
 use Rattle.plan.specs.Edges.{numbers_where}
-use Rattle.plan.specs.Nodes.{node_at}
+use Rattle.plan.specs.Nodes.{node_at, key_width}
+use Rattle.plan.specs.Operators.{is_linear}
+use Rattle.plan.specs.Queries.{query}
 use Rattle.plan.specs.Rules.{IsPlan, IsRefusalBy, first_refusal}
 use Rattle.plan.specs.Widths.{width_of}
 use Rattle.plan.specs.declared.node.Node.{Node}
+use Rattle.plan.specs.declared.node.Node.TheVariants.{Input, Map, Filter, Concat, Negate, Arrange, Join, Reduce, Output}
 use Rattle.plan.proofs.PlanLemmas.{no_first, no_fault}
+use Rattle.plan.proofs.StandLemmas.{above_earlier}
+use Rattle.plan.proofs.StepLemmas.{query_by_sources}
 use Rattle.plan.proofs.WeighLemmas.{count_of-append}
 use Rattle.machine.specs.declared.event.Fed.{Fed}
 use Rattle.machine.specs.declared.event.Open.{Open}
@@ -41,17 +47,20 @@ use Rattle.machine.specs.Histories.{opening}
 use Rattle.machine.specs.Worlds.{fed_to, open_at}
 use Rattle.grammar.specs.Commands.{is_input_of}
 use Rattle.oracle.specs.Entries.{IsRefusal}
-use Rattle.oracle.specs.Evaluation.{inputs_before, list_of}
+use Rattle.oracle.specs.Evaluation.{HasLargeAbove, HasLargeStep, given_at, inputs_before, list_of, ports, sums_at}
+use Rattle.oracle.specs.Listing.{HasLargeDifference}
 use Rattle.oracle.proofs.EvaluationLemmas.{inputs_with, inputs_without}
 use Rattle.script.specs.Engines.{IsAnswer}
 use Rattle.script.specs.Orders.{in_order}
 use Rattle.script.specs.PlainStanding.{Register, IsRegister, Records, with_entry, with_openings, entry_refusal, openings_refusal, AreFrontiers}
+use Rattle.script.specs.Weights.{HasLargeWeight}
 use Rattle.script.specs.Sessions.{Session, with_change, with_frontier, change_refusal, frontier_refusal, view_frontier, read_refusal, rows_at, frontier_at, changes_at}
 use Rattle.script.proofs.BagLemmas.{bag_of-only}
 use Rattle.script.proofs.ChangesLemmas.{changes_are, differences_only}
 use Rattle.script.proofs.InputLemmas.{query_at_inputs}
 use Rattle.script.proofs.OrderLemmas.{in_order-sorted, in_order-has, in_order-only}
 use Rattle.script.proofs.StandingLemmas.{answered}
+use Rattle.script.proofs.WeightLemmas.{linear_at, large_count, large_gap}
 
 -- ---- the place of an input's list
 
@@ -129,6 +138,7 @@ module _ {T : Type 0} (r : Register T) (is : IsRegister r) (f : Fed T) (there : 
 
   pub entry_register : IsTrue (eqb (length f.update.row) (width_of r.plan f.input)) → IsRegister (with_entry f r)
   entry_register wide = record {
+    linear = is.linear;
     lists = length-set r.changes (inputs_before r.plan f.input) (list_of r.plan r.changes f.input ++ f.update ∷ []) ∙ is.lists;
     wide = λ n l t. by n l t (eqb f.input n) refl;
   }
@@ -177,7 +187,7 @@ module _ {T : Type 0} (below : T → T → Bool) where
       let whole : lists ≡ (with_entry f r).changes = pushed ∙ ap (λ k. set r.changes k (get_or r.changes k [] ++ f.update ∷ [])) at in
       subst (λ (ls : List (List (Update T))). IsRegister (record { plan = r.plan; changes = ls; openings = r.openings })) (sym whole) (entry_register r is f there (entry_wide r f accepted))
   after_entry r lists f place (Err e) is there accepted at pushed stays =
-      subst (λ (ls : List (List (Update T))). IsRegister (record { plan = r.plan; changes = ls; openings = r.openings })) (sym stays) (record { lists = is.lists; wide = is.wide })
+      subst (λ (ls : List (List (Update T))). IsRegister (record { plan = r.plan; changes = ls; openings = r.openings })) (sym stays) (record { linear = is.linear; lists = is.lists; wide = is.wide })
 
   -- what refuses a change or a frontier is what the session refuses
   same_entry_refusal : (r : Register T) (s : Session T) (f : Fed T) → IsTrue (is_input_of r.plan f.input) → Records r s → entry_refusal below r f ≡ change_refusal below r.plan s f
@@ -191,9 +201,9 @@ module _ {T : Type 0} (below : T → T → Bool) where
 
   pub entry_answered : (r c : Register T) (f : Fed T) (s : Session T) (x : Result (Unit {0}) Refusal) → IsTrue (is_input_of r.plan f.input) → IsRegister r
       → OnOk x (c ≡ with_entry f r) → OnOk x (entry_refusal below r f ≡ None) → IfErr x (IsRefusalBy (entry_refusal below r f)) → OnErr x (c ≡ r) → Records r s
-      → IsAnswer (change_refusal below r.plan s f) (λ _. Records c (with_change f s)) (Records c s) x
+      → IsAnswer ⊥ (change_refusal below r.plan s f) (λ _. Records c (with_change f s)) (Records c s) x
   entry_answered r c f s x there is taken accepted refused stays a =
-      subst (λ (o : Option Refusal). IsAnswer o (λ _. Records c (with_change f s)) (Records c s) x) (same_entry_refusal r s f there a)
+      subst (λ (o : Option Refusal). IsAnswer ⊥ o (λ _. Records c (with_change f s)) (Records c s) x) (same_entry_refusal r s f there a)
       (answered (entry_refusal below r f) (Records c (with_change f s)) (Records c s) x
       (on_ok_weaker x (λ e. subst (λ (d : Register T). Records d (with_change f s)) (sym e) (entry_records r is f there s a)) taken) accepted refused
       (on_err_weaker x (λ e. subst (λ (d : Register T). Records d s) (sym e) a) stays))
@@ -204,9 +214,9 @@ module _ {T : Type 0} (below : T → T → Bool) where
 
   pub openings_answered : (r c : Register T) (i : ℕ) (ts : List T) (s : Session T) (x : Result (Unit {0}) Refusal)
       → OnOk x (c ≡ with_openings i ts r) → OnOk x (openings_refusal below r i ts ≡ None) → IfErr x (IsRefusalBy (openings_refusal below r i ts)) → OnErr x (c ≡ r) → Records r s
-      → IsAnswer (frontier_refusal below r.plan s i ts) (λ _. Records c (with_frontier i ts s)) (Records c s) x
+      → IsAnswer ⊥ (frontier_refusal below r.plan s i ts) (λ _. Records c (with_frontier i ts s)) (Records c s) x
   openings_answered r c i ts s x taken accepted refused stays a =
-      subst (λ (o : Option Refusal). IsAnswer o (λ _. Records c (with_frontier i ts s)) (Records c s) x) (same_openings_refusal r s i ts a)
+      subst (λ (o : Option Refusal). IsAnswer ⊥ o (λ _. Records c (with_frontier i ts s)) (Records c s) x) (same_openings_refusal r s i ts a)
       (answered (openings_refusal below r i ts) (Records c (with_frontier i ts s)) (Records c s) x
       (on_ok_weaker x (λ e. subst (λ (d : Register T). Records d (with_frontier i ts s)) (sym e) moved) taken) accepted refused
       (on_err_weaker x (λ e. subst (λ (d : Register T). Records d s) (sym e) a) stays))
@@ -305,6 +315,18 @@ module _ {T : Type 0} (below : T → T → Bool) where
 
 -- ---- what is asked
 
+-- a linear node multiplies and counts nothing
+no_step : (k : ℕ) (node : Node) → IsTrue (is_linear node) → (bags : ℕ → List Entry) → HasLargeStep k node bags → ⊥
+no_step k (Input width) l bags step = step
+no_step k (Map source items) l bags step = step
+no_step k (Filter source test) l bags step = step
+no_step k (Concat left right) l bags step = step
+no_step k (Negate source) l bags step = step
+no_step k (Arrange source key) l bags step = step
+no_step k (Join left right) l bags step = true≢false (sym l)
+no_step k (Reduce kind source) l bags step = true≢false (sym l)
+no_step k (Output source) l bags step = step
+
 module _ {T : Type 0} {below : T → T → Bool} (o : PartialOrderLaws below) (r : Register T) (s : Session T) (a : Records r s) (v : ℕ) where
   same_found : view_frontier below r.plan s v ≡ least below (open_for below r.plan (λ i. open_at i r.openings) v)
   same_found = ap (λ (os : List (Open T)). least below (open_for below r.plan (λ i. open_at i os) v)) (sym a.openings)
@@ -335,18 +357,38 @@ module _ {T : Type 0} {below : T → T → Bool} (o : PartialOrderLaws below) (r
       (λ t h. among_contains t F (own.back t (contains_among t found (in_order-only cmp found t h))))
 
   module _ (plan : IsPlan r.plan) (within : v < length r.plan) where
-    -- the query is the session's
-    same_query : (t : T) → Alike (query_at below r.plan (list_of r.plan r.changes) v t) (query_at below r.plan (λ i. fed_to i s.fed) v t)
-    same_query t =
+    -- the query is the session's, at each node
+    same_query_of : (n : ℕ) → n < length r.plan → (t : T) → Alike (query_at below r.plan (list_of r.plan r.changes) n t) (query_at below r.plan (λ i. fed_to i s.fed) n t)
+    same_query_of n l t =
         query_at_inputs r.plan plan (λ i. as_of below t (list_of r.plan r.changes i)) (λ i. as_of below t (fed_to i s.fed))
         (λ n l i row. ap (λ (us : List (Update T)). count_of (as_of below t us) row) (a.changes n (and_from _ _ (lt-ltb n (length r.plan) l) i)) ∙ reversed_alike below t (fed_to n s.fed) row)
-        v within
+        n l
 
-    pub rows_answered : (cause : Type 0) (t : T) (x : Result (List Entry) Refusal) → is_beyond below (view_frontier below r.plan s v) t ≡ false
+    same_query : (t : T) → Alike (query_at below r.plan (list_of r.plan r.changes) v t) (query_at below r.plan (λ i. fed_to i s.fed) v t)
+    same_query t = same_query_of v within t
+
+    -- where the query is too large, so is a weight
+    module _ (cmp : T → T → Ordering) (linear : All (λ node. IsTrue (is_linear node)) r.plan) where
+      pub large_query : (t : T) → HasLargeAbove r.plan (sums_at below r.plan r.changes t) v → HasLargeWeight below cmp r.plan s
+      large_query t (m, above, inl (row, large)) =
+          let early : m < length r.plan = let up = above_earlier r.plan plan m v above in omega (arith, up, within) in
+          large_count o cmp r.plan plan (linear_at r.plan linear) s m early t (row, λ fits. large (subst (FitsSigned w64) (sym (own row ∙ same_query_of m early t row)) fits))
+        where
+          own : (row : List ℤ) → count_of (given_at r.plan m (sums_at below r.plan r.changes t m) (query r.plan (sums_at below r.plan r.changes t))) row ≡ count_of (query_at below r.plan (list_of r.plan r.changes) m t) row
+          own row = ap (λ es. count_of es row) (sym (query_by_sources r.plan plan (sums_at below r.plan r.changes t) m))
+      large_query t (m, above, inr step) = absurd (no_step (key_width r.plan (node_at r.plan m)) (node_at r.plan m) (linear_at r.plan linear m) (ports r.plan m (sums_at below r.plan r.changes t m) (query r.plan (sums_at below r.plan r.changes t))) step)
+
+      pub large_changes : (F : List T) → HasLargeDifference below r.plan r.changes F v → HasLargeWeight below cmp r.plan s
+      large_changes F (t, passed, inl above) = large_query t above
+      large_changes F (t, passed, inr (us, before, apart, (row, large))) =
+          large_gap o cmp r.plan plan (linear_at r.plan linear) s v within t us (λ u l d row. before u l d row ∙ same_query u row) apart
+          (row, λ fits. large (subst (FitsSigned w64) (sym (ap (λ x. x +ℤ neg_ℤ (count_of (as_of below t us) row)) (same_query t row))) fits))
+
+    pub rows_answered : (cause Large : Type 0) → (cause → Large) → (t : T) (x : Result (List Entry) Refusal) → is_beyond below (view_frontier below r.plan s v) t ≡ false
         → IfOk x (λ bag. Alike bag (query_at below r.plan (list_of r.plan r.changes) v t)) → IfOk x IsBag → IfErr x (IsRefusal cause)
-        → IsAnswer (read_refusal below r.plan s v t) (λ bag. (bag ≡ rows_at below r.plan s v t) × Records r s) (Records r s) x
-    rows_answered cause t (Ok bag) passed alike is refused = (passed_reads t passed, (bag_of-only _ bag is (λ row. alike row ∙ same_query t row), a))
-    rows_answered cause t (Err e) passed alike is refused = inr (⊎_elim (λ m. inl m) (λ l. inr l.0) refused)
+        → IsAnswer Large (read_refusal below r.plan s v t) (λ bag. (bag ≡ rows_at below r.plan s v t) × Records r s) (Records r s) x
+    rows_answered cause Large found t (Ok bag) passed alike is refused = (passed_reads t passed, (bag_of-only _ bag is (λ row. alike row ∙ same_query t row), a))
+    rows_answered cause Large found t (Err e) passed alike is refused = inr (⊎_elim (λ m. inl m) (λ l. inr (l.0, found l.1)) refused)
 
     -- what is listed of the inputs' changes and frontiers is the session's list
     pub changes_found : {joined met : T → T → T} {cmp : T → T → Ordering} → LatticeLaws below joined met → ExtendsLaws below cmp → IsTotalOrder cmp → (frontiers : List (List T)) (us : List (Update T)) → AreFrontiers below r.plan r.openings frontiers

@@ -1,8 +1,9 @@
 -- What is read of a board where nothing waits is what the session reads.
 use Rattle.std.proofs.Common.{◌≡◌, ℕ, zero, suc, ◌<◌, Bool, false, not, ◌||◌, List, [], ◌∷◌, ◌++◌, length, get_or, Option, Some, None, Result, Ok, Err, IsTrue, refl, sym, ◌∙◌, ap, subst, inl, inr, ◌⊎◌, arith}
-use Rattle.std.specs.Prelude.{IfOk, IfErr, OnOk}
+use Rattle.std.specs.Prelude.{FitsSigned, IfOk, IfErr, OnOk}
 use Rattle.std.specs.Cmp.{IsTotalOrder}
-use Rattle.std.specs.List.{list_all}
+use Rattle.std.specs.Int.{w64}
+use Rattle.std.specs.List.{filter, list_all}
 use Rattle.std.specs.declared.cmp.Ordering.{Ordering}
 use Rattle.std.specs.declared.cmp.Ordering.TheVariants.{Equal}
 use Rattle.lattice.specs.Frontiers.{is_beyond}
@@ -10,17 +11,20 @@ use Rattle.lattice.specs.Order.{PartialOrderLaws, LatticeLaws, ExtendsLaws}
 use Rattle.antichain.specs.Antichains.{SameElements, IsFrontier, least}
 use Rattle.antichain.proofs.AntichainLemmas.{sorted_same}
 use Rattle.antichain.proofs.Lists.{among_contains, contains_among}
-use Rattle.update.specs.Bags.{Entry, Alike, IsBag, count_of}
+use Rattle.update.specs.Bags.{Entry, Alike, IsBag, HasLargeCount, count_of}
+use Rattle.update.specs.Updates.{as_of, HasLargeTotal}
 use Rattle.update.specs.declared.change.Update.{Update}
 use Rattle.update.specs.declared.refusal.Refusal.{Refusal}
 use Rattle.update.specs.declared.refusal.Refusal.TheVariants.{NotPassed, GivenUp}
 use Rattle.plan.specs.Changes.{AreDifferences, has_passed, query_at, open_for}
-use Rattle.plan.specs.Rules.{first_refusal}
+use Rattle.plan.specs.Operators.{is_linear}
+use Rattle.plan.specs.Rules.{first_refusal, is_output}
+use Rattle.plan.proofs.PlanLemmas.{no_first}
 use Rattle.machine.specs.declared.event.Event.{Event}
 use Rattle.machine.specs.declared.event.Fed.{Fed}
 use Rattle.machine.specs.declared.event.Held.{Held}
 use Rattle.machine.specs.declared.event.Open.{Open}
-use Rattle.machine.specs.Dataflows.{IsDataflow}
+use Rattle.machine.specs.Dataflows.{IsDataflow, node_of}
 use Rattle.machine.specs.Worlds.{fed_to, open_at}
 use Rattle.machine.specs.Histories.{world}
 use Rattle.machine.specs.Outstanding.{frontier, input_frontier}
@@ -28,17 +32,23 @@ use Rattle.machine.specs.Promises.{changes_in}
 use Rattle.machine.specs.Readings.{IsQuiet}
 use Rattle.machine.specs.Boards.{Shown, Stands}
 use Rattle.machine.specs.Reads as reads
-use Rattle.machine.specs.Reads.{front, since_of, IsRefusalOr}
+use Rattle.machine.specs.Reads.{front, captured_of, since_of, IsRefusalOr}
+use Rattle.machine.proofs.FlowLemmas.{is_passed, not_beyond}
 use Rattle.machine.proofs.FrontLemmas.{front_stands}
+use Rattle.machine.proofs.HeadlineLemmas.{headline_lem}
+use Rattle.machine.proofs.PassedLemmas.{passed_down}
 use Rattle.machine.proofs.PlaceLemmas.{in_place_lem}
 use Rattle.machine.proofs.QuietLemmas.{caught_up_lem, beyond_elements}
 use Rattle.script.specs.Bags.{bag_of}
-use Rattle.script.specs.Engines.{EndsRun, IsAnswer}
+use Rattle.oracle.specs.Entries.{IsRefusal}
+use Rattle.script.specs.Engines.{IsAnswer}
 use Rattle.script.specs.Relays.{IsIdle, GoesOn}
 use Rattle.script.specs.Orders.{in_order}
 use Rattle.script.specs.Sessions.{Session, view_frontier, read_refusal, rows_at, frontier_at, changes_at}
 use Rattle.script.specs.Standing.{StandsAs}
+use Rattle.script.specs.Weights.{HasLargeWeight}
 use Rattle.script.proofs.BagLemmas.{bag_of-only}
+use Rattle.script.proofs.WeightLemmas.{linear_within, large_count, large_listed}
 use Rattle.script.proofs.ChangesLemmas.{changes_are, differences_only}
 use Rattle.script.proofs.OrderLemmas.{in_order-sorted, in_order-has, in_order-only}
 
@@ -94,17 +104,40 @@ module _ {T : Type 0} (below : T → T → Bool) (minimum : T) where
     same_rows : (bag : List Entry) → IsBag bag → Alike bag (query_at below b.dataflow.nodes (changes_in (world below minimum b.dataflow a.history)) v t) → bag ≡ rows_at below b.dataflow.nodes s v t
     same_rows bag is alike = bag_of-only _ bag is alike ∙ ap (λ (fs : List (Fed T)). bag_of (query_at below b.dataflow.nodes (λ i. fed_to i fs) v t)) a.fed
 
-    pub read_answered : (cause : Type 0) (r : Result (List Entry) Refusal) → IsTrue (below minimum t)
+    pub read_answered : (cause Large : Type 0) (r : Result (List Entry) Refusal) → (cause → reads.read_refusal below b v t ≡ None → Large) → IsTrue (below minimum t)
         → OnOk r (reads.read_refusal below b v t ≡ None) → IfErr r (IsRefusalOr cause (reads.read_refusal below b v t)) → IfOk r IsBag
         → IfOk r (λ bag. Alike bag (query_at below b.dataflow.nodes (changes_in (world below minimum b.dataflow a.history)) v t))
-        → IsAnswer (read_refusal below b.dataflow.nodes s v t) (λ bag. (bag ≡ rows_at below b.dataflow.nodes s v t) × StandsAs below minimum b s) (StandsAs below minimum b s) r
-    read_answered cause (Ok bag) low accepted refused is alike = (sym (same_read_refusal low) ∙ accepted, (same_rows bag is alike, a))
-    read_answered cause (Err r) low accepted refused is alike = by (reads.read_refusal below b v t) (sym (same_read_refusal low)) refused
+        → IsAnswer Large (read_refusal below b.dataflow.nodes s v t) (λ bag. (bag ≡ rows_at below b.dataflow.nodes s v t) × StandsAs below minimum b s) (StandsAs below minimum b s) r
+    read_answered cause Large (Ok bag) found low accepted refused is alike = (sym (same_read_refusal low) ∙ accepted, (same_rows bag is alike, a))
+    read_answered cause Large (Err r) found low accepted refused is alike = by (reads.read_refusal below b v t) refl (sym (same_read_refusal low)) refused
       where
-        by : (o : Option Refusal) → read_refusal below b.dataflow.nodes s v t ≡ o → IsRefusalOr cause o r → ((read_refusal below b.dataflow.nodes s v t ≡ Some r) × StandsAs below minimum b s) ⊎ EndsRun r
-        by (Some fault) e f = inl (e ∙ ap Some (sym f), a)
-        by None e (inl memory) = inr (inl memory)
-        by None e (inr large) = inr (inr large.0)
+        by : (o : Option Refusal) → reads.read_refusal below b v t ≡ o → read_refusal below b.dataflow.nodes s v t ≡ o → IsRefusalOr cause o r
+            → ((read_refusal below b.dataflow.nodes s v t ≡ Some r) × StandsAs below minimum b s) ⊎ IsRefusal Large r
+        by (Some fault) own e f = inl (e ∙ ap Some (sym f), a)
+        by None own e (inl memory) = inr (inl memory)
+        by None own e (inr large) = inr (inr (large.0, found large.1 own))
+
+  -- where what is read is too large, so is a weight
+  module _ (o : PartialOrderLaws below) (cmp : T → T → Ordering) (b : Shown T) (s : Session T) (v : ℕ) (p : IsDataflow b.dataflow) (within : v < length b.dataflow.nodes) (view : IsTrue (is_output (node_of b.dataflow v)))
+      (idle : IsIdle b) (a : StandsAs below minimum b s) where
+    -- at a passed time what was captured sums to the query of the session
+    captured_query : (t : T) → IsTrue (has_passed below (front below b v) t) → Alike (as_of below t (captured_of b v)) (query_at below b.dataflow.nodes (λ i. fed_to i s.fed) v t)
+    captured_query t h row =
+        a.stands.captured v within view t row
+        ∙ (headline_lem below minimum o b.dataflow p a.history a.stands.legal v t (subst (λ (F : List T). IsTrue (has_passed below F t)) (front_stands below minimum b a.history a.stands v) h) row
+        ∙ ap (λ (fs : List (Fed T)). count_of (query_at below b.dataflow.nodes (λ i. fed_to i fs) v t) row) a.fed)
+
+    linear : (n : ℕ) → IsTrue (is_linear (node_of b.dataflow n))
+    linear = linear_within b.dataflow.nodes idle.linear
+
+    pub large_read : (t : T) → HasLargeCount (as_of below t (captured_of b v)) → reads.read_refusal below b v t ≡ None → HasLargeWeight below cmp b.dataflow.nodes s
+    large_read t (row, large) e =
+        let passed = no_first (is_beyond below (front below b v) t) NotPassed ((not (is_beyond below (since_of b v) t), GivenUp) ∷ []) e in
+        large_count o cmp b.dataflow.nodes p.plan linear s v within t (row, λ fits. large (subst (FitsSigned w64) (sym (captured_query t (ap not passed.0) row)) fits))
+
+    pub large_changes : HasLargeTotal below (filter (λ u. has_passed below (front below b v) u.time) (captured_of b v)) → HasLargeWeight below cmp b.dataflow.nodes s
+    large_changes large =
+        large_listed o cmp b.dataflow.nodes p.plan linear s v within (has_passed below (front below b v)) (λ u t l h. is_passed _ (passed_down below o (front below b v) u t l (not_beyond _ h))) (captured_of b v) captured_query large
 
   -- what is asked of a view at all times
   module _ (o : PartialOrderLaws below) (b : Shown T) (s : Session T) (v : ℕ) (p : IsDataflow b.dataflow) (within : v < length b.dataflow.nodes) (idle : IsIdle b) (none : b.in_flight ≡ []) (a : StandsAs below minimum b s) where

@@ -20,17 +20,18 @@ use Rattle.machine.specs.Worlds.{fed_to}
 use Rattle.machine.specs.Boards as boards
 use Rattle.machine.specs.Boards.{Shown, Stands, looked, fed, advanced}
 use Rattle.grammar.specs.Commands.{is_input_of}
-use Rattle.script.specs.Engines.{EndsRun, IsAnswer}
+use Rattle.oracle.specs.Entries.{IsRefusal}
+use Rattle.script.specs.Engines.{IsAnswer}
 use Rattle.script.specs.Sessions.{Session, with_change, with_frontier, change_refusal, frontier_refusal}
 use Rattle.script.specs.Standing.{StandsAs, IsReadyUnless}
 use Rattle.script.proofs.FedLemmas.{fed_due}
 
 -- an answer, from what is known where it is accepted and where it is refused
-pub answered : (o : Option Refusal) (A S : Type 0) (r : Result (Unit {0}) Refusal) → OnOk r A → OnOk r (o ≡ None) → IfErr r (IsRefusalBy o) → OnErr r S → IsAnswer o (λ _. A) S r
+pub answered : (o : Option Refusal) (A S : Type 0) (r : Result (Unit {0}) Refusal) → OnOk r A → OnOk r (o ≡ None) → IfErr r (IsRefusalBy o) → OnErr r S → IsAnswer ⊥ o (λ _. A) S r
 answered o A S (Ok x) a n e s = (n, a)
 answered o A S (Err r) a n e s = by o e
   where
-    by : (o : Option Refusal) → IsRefusalBy o r → ((o ≡ Some r) × S) ⊎ EndsRun r
+    by : (o : Option Refusal) → IsRefusalBy o r → ((o ≡ Some r) × S) ⊎ IsRefusal ⊥ r
     by (Some x) e = inl (ap Some (sym e), s)
     by None e = inr (inl e)
 
@@ -74,9 +75,9 @@ module _ {T : Type 0} (below : T → T → Bool) (minimum : T) where
   pub change_answered : (b c : Shown T) (client : ℕ) (f : Fed T) (s : Session T) (r : Result (Unit {0}) Refusal) → f.input < length b.dataflow.nodes
       → OnOk r (c ≡ fed client f b) → OnOk r (boards.feed_refusal below b f ≡ None) → IfErr r (IsRefusalBy (boards.feed_refusal below b f)) → OnErr r (c ≡ looked client b)
       → Follows b c → StandsAs below minimum b s
-      → IsAnswer (change_refusal below b.dataflow.nodes s f) (λ _. StandsAs below minimum c (with_change f s)) (StandsAs below minimum c s) r
+      → IsAnswer ⊥ (change_refusal below b.dataflow.nodes s f) (λ _. StandsAs below minimum c (with_change f s)) (StandsAs below minimum c s) r
   change_answered b c client f s r within done accepted refused looks follows a =
-      subst (λ (o : Option Refusal). IsAnswer o (λ _. StandsAs below minimum c (with_change f s)) (StandsAs below minimum c s) r) (same_change_refusal b s f within a)
+      subst (λ (o : Option Refusal). IsAnswer ⊥ o (λ _. StandsAs below minimum c (with_change f s)) (StandsAs below minimum c s) r) (same_change_refusal b s f within a)
       (answered (boards.feed_refusal below b f) (StandsAs below minimum c (with_change f s)) (StandsAs below minimum c s) r
       (on_ok_weaker r (λ e. stands_fed b c client f s e follows a) done) accepted refused
       (on_err_weaker r (λ e. stands_looked b c client s e follows a) looks))
@@ -85,9 +86,9 @@ module _ {T : Type 0} (below : T → T → Bool) (minimum : T) where
   pub frontier_answered : (b c : Shown T) (client i : ℕ) (ts : List T) (s : Session T) (r : Result (Unit {0}) Refusal)
       → OnOk r (c ≡ advanced client i ts b) → OnOk r (boards.advance_refusal below b i ts ≡ None) → IfErr r (IsRefusalBy (boards.advance_refusal below b i ts)) → OnErr r (c ≡ looked client b)
       → Follows b c → StandsAs below minimum b s
-      → IsAnswer (frontier_refusal below b.dataflow.nodes s i ts) (λ _. StandsAs below minimum c (with_frontier i ts s)) (StandsAs below minimum c s) r
+      → IsAnswer ⊥ (frontier_refusal below b.dataflow.nodes s i ts) (λ _. StandsAs below minimum c (with_frontier i ts s)) (StandsAs below minimum c s) r
   frontier_answered b c client i ts s r done accepted refused looks follows a =
-      subst (λ (o : Option Refusal). IsAnswer o (λ _. StandsAs below minimum c (with_frontier i ts s)) (StandsAs below minimum c s) r) (same_frontier_refusal b s i ts a)
+      subst (λ (o : Option Refusal). IsAnswer ⊥ o (λ _. StandsAs below minimum c (with_frontier i ts s)) (StandsAs below minimum c s) r) (same_frontier_refusal b s i ts a)
       (answered (boards.advance_refusal below b i ts) (StandsAs below minimum c (with_frontier i ts s)) (StandsAs below minimum c s) r
       (on_ok_weaker r (λ e. stands_advanced b c client i ts s e follows a) done) accepted refused
       (on_err_weaker r (λ e. stands_looked b c client s e follows a) looks))

@@ -6,6 +6,7 @@ pub mod Took
 pub mod Printing
 pub mod Sessions
 pub mod Text
+pub mod Weights
 pub mod Engines
 pub mod Standing
 pub mod PlainStanding

@@ -1,11 +1,12 @@
 -- What the plain engine keeps, and for which session it stands.
 use Rattle.std.specs.Prelude.{◌≡◌, ℕ, Bool, not, eqb, List, ◌∷◌, [], ◌++◌, length, reverse, set, Option, IsTrue}
-use Rattle.std.specs.List.{filter}
+use Rattle.std.specs.List.{All, filter}
 use Rattle.lattice.specs.Frontiers.{is_beyond}
 use Rattle.update.specs.declared.change.Update.{Update}
 use Rattle.update.specs.declared.refusal.Refusal.{Refusal}
 use Rattle.plan.specs.Ancestors.{is_input}
 use Rattle.plan.specs.Edges.{numbers_where}
+use Rattle.plan.specs.Operators.{is_linear}
 use Rattle.plan.specs.Rules.{first_refusal}
 use Rattle.plan.specs.declared.node.Node.{Node}
 use Rattle.machine.specs.declared.event.Fed.{Fed}
@@ -25,8 +26,9 @@ pub record Register (T : Type 0) : Type 0 where
   pub openings : List (Open T)
 
 module _ {T : Type 0} where
-  -- each input has its list, and the rows in it have its width
+  -- the plan is linear; each input has its list, and the rows in it have its width
   pub record IsRegister (r : Register T) : Type 0 where
+    pub linear : All (λ node. IsTrue (is_linear node)) r.plan
     pub lists : length r.changes ≡ length (numbers_where is_input r.plan)
     pub wide : AreWide r.plan r.changes
 

@@ -1,10 +1,10 @@
 -- Which board stands for which session.
 use Rattle.std.specs.Prelude.{◌≡◌, ℕ, Bool, List, [], ◌∷◌, Option, Some, None, IsTrue}
 use Rattle.update.specs.declared.refusal.Refusal.{Refusal}
+use Rattle.update.specs.declared.refusal.Refusal.TheVariants.{OutOfMemory}
 use Rattle.machine.specs.declared.event.Event.{Event}
 use Rattle.machine.specs.Histories.{world}
 use Rattle.machine.specs.Boards.{Shown, Stands}
-use Rattle.script.specs.Engines.{EndsRun}
 use Rattle.script.specs.Relays.{IsIdle, are_due}
 use Rattle.script.specs.Sessions.{Session}
 
@@ -12,7 +12,7 @@ module _ {T : Type 0} where
   -- the worker may carry on what waits, unless it met what ends a run
   abbrev pub IsReadyUnless : Option Refusal → Shown T → Type 0
   IsReadyUnless None b = IsIdle b × IsTrue (are_due b.dataflow 0 b.in_flight)
-  IsReadyUnless (Some refusal) b = EndsRun refusal
+  IsReadyUnless (Some refusal) b = refusal ≡ OutOfMemory
 
 module _ {T : Type 0} (below : T → T → Bool) (minimum : T) where
   -- the board may stand after a history in which just these changes were fed and the inputs' frontiers came to stand so, and

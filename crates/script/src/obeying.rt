@@ -1,12 +1,14 @@
 //! One line of a script: its command goes to the engine, and what it answers is printed.
 ghost use Rattle.std.specs.Prelude.{◌≡◌, ◌++◌, true, false, IfErr, IfOk, OnOk};
 ghost use Rattle.update.specs.Refusals.{code_of};
+ghost use Rattle.update.specs.declared.refusal.Refusal.TheVariants.{Overflow};
 ghost use Rattle.grammar.specs.Commands.{IsAbout};
 ghost use Rattle.grammar.specs.Told.{Told};
 ghost use Rattle.script.specs.Engines.{EndsRun, IsAnswer, IsRunEnd, failures, is_reading};
 ghost use Rattle.script.specs.Outs.{Wrote, Broke};
 ghost use Rattle.script.specs.Printing.{refused_text};
 ghost use Rattle.script.specs.Text.{Sitting, refusal_of, accepting, after, piece};
+ghost use Rattle.script.specs.Weights.{IsLarge};
 ghost use Rattle.script.specs.declared.fault.RunFault.TheVariants.{Refused};
 
 use crate::engine::Engine;
@@ -46,7 +48,7 @@ fn hand_over<E: Engine>(alloc: Global, engine: &mut E, command: &Command) -> Res
     requires writes_nothing { is_reading command.now ≡ false }
     ensures plan { E.plan engine.new ≡ E.plan engine.old }
     ensures answered { (s : Sitting) → E.stands engine.old s
-        → IsAnswer (refusal_of (E.plan engine.old) s command.now) (λ _. E.stands engine.new (accepting (E.plan engine.old) s command.now)) (E.stands engine.new s) result }
+        → IsAnswer ⊥ (refusal_of (E.plan engine.old) s command.now) (λ _. E.stands engine.new (accepting (E.plan engine.old) s command.now)) (E.stands engine.new s) result }
 {
     match command {
         Command::Change {
@@ -76,7 +78,7 @@ fn hand_over<E: Engine>(alloc: Global, engine: &mut E, command: &Command) -> Res
 fn print_refusal(gathered: &mut Gathered, line: u64, refusal: Refusal) -> Result<(), RunFault>
     ensures printed { OnOk result ((gathered.new ≡ gathered.old ++ refused_text line refusal) × (EndsRun refusal → ⊥)) }
     ensures ends { IfErr result (λ fault. failures fault ≡ 0) }
-    ensures known { IfErr result IsRunEnd }
+    ensures known { IfErr result (IsRunEnd (refusal ≡ Overflow)) }
 {
     let refusal = settled(refusal)?;
     gathered.print_refused(line, refusal)?;
@@ -96,7 +98,7 @@ fn tell<E: Engine>(
     ensures ran { (t : Told) (s : Sitting) → t.plan ≡ E.plan engine.old → E.stands engine.old s
         → OnOk result (E.stands engine.new (after t.plan s line.now.command) × (gathered.new ≡ gathered.old ++ piece t s line.now)) }
     ensures ends { IfErr result (λ fault. failures fault ≡ 0) }
-    ensures known { IfErr result IsRunEnd }
+    ensures known { (s : Sitting) → E.stands engine.old s → IfErr result (IsRunEnd ⊥) }
 {
     match hand_over(alloc, engine, &line.command) {
         Ok(()) => Ok(()),
@@ -121,7 +123,7 @@ fn ask<E: Engine, W: Out>(
         → OnOk result (E.stands engine.new (after script.now.plan s line.now.command) × Wrote W.took out.old gathered.old (piece script.now s line.now) out.new gathered.new) }
     ensures broke { (s : Sitting) → E.stands engine.old s
         → IfErr result (λ fault. Broke W.took out.old gathered.old (piece script.now s line.now) (failures fault) out.new) }
-    ensures known { IfErr result IsRunEnd }
+    ensures known { (s : Sitting) → E.stands engine.old s → IfErr result (IsRunEnd (IsLarge script.now.plan s)) }
 {
     match &line.command {
         Command::Read { view, time } => match engine.read(alloc, *view, *time) {
@@ -156,7 +158,7 @@ pub(crate) fn obey<E: Engine, W: Out>(
         → OnOk result (E.stands engine.new (after script.now.plan s line.now.command) × Wrote W.took out.old gathered.old (piece script.now s line.now) out.new gathered.new) }
     ensures broke { (s : Sitting) → E.stands engine.old s
         → IfErr result (λ fault. Broke W.took out.old gathered.old (piece script.now s line.now) (failures fault) out.new) }
-    ensures known { IfErr result IsRunEnd }
+    ensures known { (s : Sitting) → E.stands engine.old s → IfErr result (IsRunEnd (IsLarge script.now.plan s)) }
 {
     if is_reading(&line.command) {
         return ask(alloc, engine, script, line, gathered, out);

@@ -7,10 +7,12 @@
 //! that could be out of date: this engine is slow, and right for plain reasons. What a command is refused for is asked where
 //! a board asks it (crate `machine`), so that both refuse alike.
 ghost use Rattle.std.specs.Prelude.{◌≡◌, ◌<◌, ◌++◌, ℕ, List, [], ◌∷◌, None, length, map, replicate, set, slice_index_or, IfErr, IfOk, IsTrue, OnErr, OnOk};
+ghost use Rattle.std.specs.List.{All};
 ghost use Rattle.lattice.specs.declared.product.Pair.{Pair};
 ghost use Rattle.lattice.specs.Frontiers.{is_beyond};
 ghost use Rattle.update.specs.declared.refusal.Refusal.TheVariants.{OutOfMemory};
 ghost use Rattle.plan.specs.Changes.{open_for};
+ghost use Rattle.plan.specs.Operators.{is_linear};
 ghost use Rattle.plan.specs.Rules.{IsRefusalBy};
 ghost use Rattle.machine.specs.Worlds.{open_at};
 ghost use Rattle.grammar.specs.Commands.{is_input_of, is_view_of};
@@ -20,6 +22,7 @@ ghost use Rattle.script.specs.Outs.{IsBeginning};
 ghost use Rattle.script.specs.PlainStanding.{IsRegister, Records, AreFrontiers, with_entry, with_openings, entry_refusal, openings_refusal};
 ghost use Rattle.script.specs.Sessions.{read_refusal, rows_at, changes_at, frontier_at};
 ghost use Rattle.script.specs.Text.{Sitting, at_or_below, in_print, join_of, first_sitting, text};
+ghost use Rattle.script.specs.Weights.{IsLarge, IsLargeScript};
 
 use crate::engine::Engine;
 use crate::fault::RunFault;
@@ -171,6 +174,7 @@ fn frontiers(
 impl Plain {
     /// An engine to which nothing has happened yet. Refused only with `OutOfMemory`.
     pub(crate) fn open(alloc: Global, plan: &Plan) -> Result<Plain, Refusal>
+        requires linear { All (λ node. IsTrue (is_linear node)) plan.now }
         ensures plan { IfOk result (λ plain. plain.plan ≡ plan.now) }
         ensures stands { IfOk result (λ plain. Records plain (first_sitting plan.now)) }
         ensures refused { IfErr result (λ refusal. refusal ≡ OutOfMemory) }
@@ -231,7 +235,7 @@ impl Plain {
     fn rows(&self, alloc: Global, view: NodeId, time: Bitime) -> Result<Bag, Refusal>
         requires { IsTrue (is_view_of self.now.plan view) }
         ensures answered { (s : Sitting) → Records self.now s
-            → IsAnswer (read_refusal at_or_below self.now.plan s view time) (λ bag. (bag ≡ rows_at at_or_below self.now.plan s view time) × Records self.now s) (Records self.now s) result }
+            → IsAnswer (IsLarge self.now.plan s) (read_refusal at_or_below self.now.plan s view time) (λ bag. (bag ≡ rows_at at_or_below self.now.plan s view time) × Records self.now s) (Records self.now s) result }
     {
         let _count = self.plan.len();
         let open = open_for(alloc, &self.plan, &self.openings, view)?;
@@ -245,7 +249,7 @@ impl Plain {
     fn passed_changes(&self, alloc: Global, view: NodeId) -> Result<Updates<Bitime>, Refusal>
         requires { IsTrue (is_view_of self.now.plan view) }
         ensures answered { (s : Sitting) → Records self.now s
-            → IsAnswer None (λ changes. (changes ≡ changes_at at_or_below self.now.plan s in_print join_of view) × Records self.now s) (Records self.now s) result }
+            → IsAnswer (IsLarge self.now.plan s) None (λ changes. (changes ≡ changes_at at_or_below self.now.plan s in_print join_of view) × Records self.now s) (Records self.now s) result }
     {
         let _count = self.plan.len();
         let frontiers = frontiers(alloc, &self.plan, &self.openings)?;
@@ -257,7 +261,7 @@ impl Plain {
     fn view_frontier(&self, alloc: Global, view: NodeId) -> Result<Antichain<Bitime>, Refusal>
         requires { IsTrue (is_view_of self.now.plan view) }
         ensures answered { (s : Sitting) → Records self.now s
-            → IsAnswer None (λ frontier. (frontier ≡ frontier_at at_or_below self.now.plan s in_print view) × Records self.now s) (Records self.now s) result }
+            → IsAnswer ⊥ None (λ frontier. (frontier ≡ frontier_at at_or_below self.now.plan s in_print view) × Records self.now s) (Records self.now s) result }
     {
         let open = open_for(alloc, &self.plan, &self.openings, view)?;
         let frontier = Antichain::least_of(alloc, &open)?;
@@ -307,7 +311,7 @@ impl Engine for Plain {
 /// | Fault | Where |
 /// |---|---|
 /// | `Refused(1)` | an allocation was refused |
-/// | `Refused(10)` | a number is too large for 64 bits: how often a row counts, at the view or at a node above it, or what a join or a count makes of such numbers |
+/// | `Refused(10)` | a number is too large for 64 bits: how often a row counts, at a view or at a node above it. This needs changes by which some node has a weight of 2 to the 63 or more |
 /// | `Write` | the output failed, which no other fault goes with |
 ///
 /// Cost: a change is linear in the nodes of the plan and the elements of the inputs' frontiers. A read goes over all changes
@@ -317,7 +321,7 @@ impl Engine for Plain {
 pub fn plain_script<W: Out>(alloc: Global, script: &Script, out: &mut W) -> Result<(), RunFault>
     ensures written { OnOk result (W.took out.old (text script.now) 0 out.new) }
     ensures beginning { IfErr result (λ fault. (part : List ℕ) × IsBeginning part (text script.now) × W.took out.old part (failures fault) out.new) }
-    ensures known { IfErr result IsRunEnd }
+    ensures known { IfErr result (IsRunEnd (IsLargeScript script.now)) }
 {
     let mut engine = Plain::open(alloc, script.plan())?;
     run(alloc, &mut engine, script, out)

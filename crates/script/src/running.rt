@@ -3,6 +3,7 @@ ghost use Rattle.std.specs.Prelude.{◌≡◌, ◌≢◌, ◌⊎◌, ◌↔◌, 
 ghost use Rattle.script.specs.Engines.{IsRunEnd, failures};
 ghost use Rattle.script.specs.Outs.{IsBeginning, Wrote, Broke};
 ghost use Rattle.script.specs.Text.{Sitting, lines_text, text};
+ghost use Rattle.script.specs.Weights.{IsLargeAlong, IsLargeScript};
 ghost use Rattle.script.specs.declared.fault.RunFault.TheVariants.{Refused};
 
 use crate::engine::Engine;
@@ -28,7 +29,7 @@ fn obey_all<E: Engine, W: Out>(
         → OnOk result (Wrote W.took out.old gathered.old (lines_text script.now s script.now.commands) out.new gathered.new) }
     ensures broke { (s : Sitting) → E.stands engine.old s
         → IfErr result (λ fault. Broke W.took out.old gathered.old (lines_text script.now s script.now.commands) (failures fault) out.new) }
-    ensures known { IfErr result IsRunEnd }
+    ensures known { (s : Sitting) → E.stands engine.old s → IfErr result (IsRunEnd (IsLargeAlong script.now.plan s script.now.commands)) }
 {
     for line in script.command_lines() {
         obey(alloc, engine, script, line, gathered, out)?;
@@ -49,7 +50,7 @@ pub(crate) fn run<E: Engine, W: Out>(
         → OnOk result (W.took out.old (lines_text script.now s script.now.commands) 0 out.new) }
     ensures broke { (s : Sitting) → E.stands engine.old s
         → IfErr result (λ fault. Broke W.took out.old [] (lines_text script.now s script.now.commands) (failures fault) out.new) }
-    ensures known { IfErr result IsRunEnd }
+    ensures known { (s : Sitting) → E.stands engine.old s → IfErr result (IsRunEnd (IsLargeAlong script.now.plan s script.now.commands)) }
 {
     let mut gathered = Gathered::new(alloc);
     obey_all(alloc, engine, script, &mut gathered, out)?;
@@ -65,7 +66,7 @@ pub(crate) fn run<E: Engine, W: Out>(
 /// |---|---|
 /// | `Refused(23)` | the number of workers is not 1: nothing else is taken yet. Then nothing was written |
 /// | `Refused(1)` | an allocation was refused |
-/// | `Refused(10)` | a row counts more often than a 64-bit number can say |
+/// | `Refused(10)` | a row counts more often than a 64-bit number can say. This needs changes by which some node has a weight of 2 to the 63 or more |
 /// | `Write` | the output failed, which no other fault goes with |
 ///
 /// Cost: for each line what its event costs on the board, and for a change that of carrying it along every path of the plan:
@@ -80,7 +81,7 @@ pub fn run_script<W: Out>(
     ensures written { OnOk result (W.took out.old (text script.now) 0 out.new) }
     ensures beginning { IfErr result (λ fault. (part : List ℕ) × IsBeginning part (text script.now) × W.took out.old part (failures fault) out.new) }
     ensures workers { IsErrOf result (Refused 23) ↔ (workers ≢ 1) }
-    ensures known { IfErr result (λ fault. IsRunEnd fault ⊎ (fault ≡ Refused 23)) }
+    ensures known { IfErr result (λ fault. IsRunEnd (IsLargeScript script.now) fault ⊎ (fault ≡ Refused 23)) }
 {
     if workers != 1 {
         return Err(RunFault::from(Refusal::BadWorkers));

@@ -6,11 +6,12 @@ ghost use Rattle.update.specs.declared.refusal.Refusal.TheVariants.{OutOfMemory}
 ghost use Rattle.plan.specs.Operators.{is_linear};
 ghost use Rattle.grammar.specs.Commands.{is_input_of, is_view_of};
 ghost use Rattle.lattice.specs.Pairs.{make_pair};
-ghost use Rattle.script.specs.Engines.{EndsRun, IsAnswer};
+ghost use Rattle.script.specs.Engines.{IsAnswer};
 ghost use Rattle.script.specs.Relays.{IsIdle};
 ghost use Rattle.script.specs.Sessions.{with_change, with_frontier, change_refusal, frontier_refusal, read_refusal, rows_at, changes_at, frontier_at};
 ghost use Rattle.script.specs.Standing.{StandsAs};
 ghost use Rattle.script.specs.Text.{Sitting, at_or_below, in_print, join_of, first_sitting};
+ghost use Rattle.script.specs.Weights.{IsLarge};
 
 use crate::engine::Engine;
 use crate::relay::relay;
@@ -33,7 +34,7 @@ const CLIENT: usize = 0;
 #[derive(Debug, Drop)]
 pub(crate) struct Solo {
     board: Board<Bitime>,
-    // What the worker met that ends a run, if anything: then it may have a piece in hand.
+    // Want of memory, if the worker met it: then it may have a piece in hand.
     ended: Option<Refusal>,
     // How many changes may be waiting.
     waiting: usize,
@@ -74,7 +75,7 @@ impl Solo {
         requires { IsTrue (is_input_of self.old.dataflow.nodes input) }
         ensures plan { self.new.dataflow.nodes ≡ self.old.dataflow.nodes }
         ensures answered { (s : Sitting) → StandsAs at_or_below (make_pair 0 0) self.old s
-            → IsAnswer (change_refusal at_or_below self.old.dataflow.nodes s (record { input = input; update = update })) (λ _. StandsAs at_or_below (make_pair 0 0) self.new (with_change (record { input = input; update = update }) s)) (StandsAs at_or_below (make_pair 0 0) self.new s) result }
+            → IsAnswer ⊥ (change_refusal at_or_below self.old.dataflow.nodes s (record { input = input; update = update })) (λ _. StandsAs at_or_below (make_pair 0 0) self.new (with_change (record { input = input; update = update }) s)) (StandsAs at_or_below (make_pair 0 0) self.new s) result }
     {
         let _workers = self.board.workers();
         self.board.feed(CLIENT, input, update)
@@ -85,7 +86,7 @@ impl Solo {
         requires { IsTrue (is_input_of self.old.dataflow.nodes input) }
         ensures plan { self.new.dataflow.nodes ≡ self.old.dataflow.nodes }
         ensures answered { (s : Sitting) → StandsAs at_or_below (make_pair 0 0) self.old s
-            → IsAnswer (frontier_refusal at_or_below self.old.dataflow.nodes s input times) (λ _. StandsAs at_or_below (make_pair 0 0) self.new (with_frontier input times s)) (StandsAs at_or_below (make_pair 0 0) self.new s) result }
+            → IsAnswer ⊥ (frontier_refusal at_or_below self.old.dataflow.nodes s input times) (λ _. StandsAs at_or_below (make_pair 0 0) self.new (with_frontier input times s)) (StandsAs at_or_below (make_pair 0 0) self.new s) result }
     {
         self.board.advance(CLIENT, input, times)
     }
@@ -95,7 +96,7 @@ impl Solo {
         ensures plan { self.new.dataflow ≡ self.old.dataflow }
         ensures done { OnOk result (IsIdle self.new × (self.new.in_flight ≡ [])) }
         ensures stands { (s : Sitting) → StandsAs at_or_below (make_pair 0 0) self.old s → StandsAs at_or_below (make_pair 0 0) self.new s }
-        ensures refused { IfErr result EndsRun }
+        ensures refused { IfErr result (λ refusal. refusal ≡ OutOfMemory) }
     {
         if let Some(refusal) = self.ended {
             return Err(refusal);
@@ -113,7 +114,7 @@ impl Solo {
     fn make_room(&mut self, alloc: Global) -> Result<(), Refusal>
         ensures plan { self.new.dataflow ≡ self.old.dataflow }
         ensures stands { (s : Sitting) → StandsAs at_or_below (make_pair 0 0) self.old s → StandsAs at_or_below (make_pair 0 0) self.new s }
-        ensures refused { IfErr result EndsRun }
+        ensures refused { IfErr result (λ refusal. refusal ≡ OutOfMemory) }
     {
         if self.waiting < BACKLOG {
             self.waiting += 1;
@@ -129,7 +130,7 @@ impl Solo {
         requires idle { IsIdle self.now }
         requires done { self.now.in_flight ≡ [] }
         ensures answered { (s : Sitting) → StandsAs at_or_below (make_pair 0 0) self.now s
-            → IsAnswer (read_refusal at_or_below self.now.dataflow.nodes s view time) (λ bag. (bag ≡ rows_at at_or_below self.now.dataflow.nodes s view time) × StandsAs at_or_below (make_pair 0 0) self.now s) (StandsAs at_or_below (make_pair 0 0) self.now s) result }
+            → IsAnswer (IsLarge self.now.dataflow.nodes s) (read_refusal at_or_below self.now.dataflow.nodes s view time) (λ bag. (bag ≡ rows_at at_or_below self.now.dataflow.nodes s view time) × StandsAs at_or_below (make_pair 0 0) self.now s) (StandsAs at_or_below (make_pair 0 0) self.now s) result }
     {
         let _workers = self.board.workers();
         self.board.read(view, time)
@@ -141,7 +142,7 @@ impl Solo {
         requires idle { IsIdle self.now }
         requires done { self.now.in_flight ≡ [] }
         ensures answered { (s : Sitting) → StandsAs at_or_below (make_pair 0 0) self.now s
-            → IsAnswer None (λ changes. (changes ≡ changes_at at_or_below self.now.dataflow.nodes s in_print join_of view) × StandsAs at_or_below (make_pair 0 0) self.now s) (StandsAs at_or_below (make_pair 0 0) self.now s) result }
+            → IsAnswer (IsLarge self.now.dataflow.nodes s) None (λ changes. (changes ≡ changes_at at_or_below self.now.dataflow.nodes s in_print join_of view) × StandsAs at_or_below (make_pair 0 0) self.now s) (StandsAs at_or_below (make_pair 0 0) self.now s) result }
     {
         let _workers = self.board.workers();
         match self.board.changes(view) {
@@ -156,7 +157,7 @@ impl Solo {
         requires idle { IsIdle self.now }
         requires done { self.now.in_flight ≡ [] }
         ensures answered { (s : Sitting) → StandsAs at_or_below (make_pair 0 0) self.now s
-            → IsAnswer None (λ frontier. (frontier ≡ frontier_at at_or_below self.now.dataflow.nodes s in_print view) × StandsAs at_or_below (make_pair 0 0) self.now s) (StandsAs at_or_below (make_pair 0 0) self.now s) result }
+            → IsAnswer ⊥ None (λ frontier. (frontier ≡ frontier_at at_or_below self.now.dataflow.nodes s in_print view) × StandsAs at_or_below (make_pair 0 0) self.now s) (StandsAs at_or_below (make_pair 0 0) self.now s) result }
     {
         let _workers = self.board.workers();
         match self.board.frontier(view) {

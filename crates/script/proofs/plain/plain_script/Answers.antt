@@ -16,3 +16,9 @@ returns-clause-beginning g c =
     (λ fault. (part : List ℕ) × IsBeginning part (text t) × g.W.Out.took c.args.out.now part (failures fault) c.run.new.out)
     (λ fault b. (b.part, b.beginning, b.taken))
     (c.run.ensures.broke (first_sitting t.plan) stands)
+
+pub returns-clause-known : goal.returns-clause-known
+returns-clause-known g c =
+    let t = c.args.script.now in
+    let stands = subst (λ (p : List Node). Records c.in_ok-engine.engine (first_sitting p)) c.plan.ensures.plan c.in_ok-engine.ensures.stands in
+    c.run.ensures.known (first_sitting t.plan) stands

@@ -1,7 +1,9 @@
-use Rattle.std.proofs.Common.{◌≡◌, suc, ◌+◌, ◌<◌, List, length, get_or, take, drop, subst, arith}
+use Rattle.std.proofs.Common.{◌≡◌, suc, ◌+◌, ◌<◌, List, length, get_or, take, drop, take-append-drop, subst, arith}
 use Rattle.std.proofs.lemmas.Result.{err_from_is_err_and}
 use Rattle.grammar.specs.declared.command.CommandLine.{CommandLine}
 use Rattle.script.specs.Text.{Sitting, after, after_lines, piece, lines_text}
+use Rattle.script.specs.Weights.{IsLarge}
+use Rattle.script.proofs.EndLemmas.{end_weaker}
 use Rattle.script.proofs.OutLemmas.{wrote_more, broke_more}
 use Rattle.script.proofs.TextLemmas.{after_more, text_more, text_all}
 use Rattle.script.proofs.running.obey_all.Goals as goal
@@ -41,3 +43,13 @@ returns-in_err-obey-clause-broke g c =
     (lines_text t (after t.plan (before s) line.command) (drop (suc i) t.commands)) (lines_text t s t.commands) _
     (text_all t.commands i line within is t s)
     (c.loop-line.invariant.wrote s h) (c.in_err-obey.ensures.broke (before s) (c.loop-line.invariant.stands s h)))
+
+pub returns-in_err-obey-clause-known : goal.returns-in_err-obey-clause-known
+returns-in_err-obey-clause-known g c =
+    let t = c.args.script.now in
+    let i = c.loop-line.line-index in
+    let p = err_from_is_err_and c.from_residual.result c.from_residual.ensures.1 in
+    λ s h. rw (p.1, p.2)
+    (end_weaker
+    (λ (large : IsLarge t.plan (after_lines t.plan s (take i t.commands))). (take i t.commands, drop i t.commands, take-append-drop i t.commands, large))
+    _ (c.in_err-obey.ensures.known (after_lines t.plan s (take i t.commands)) (c.loop-line.invariant.stands s h)))

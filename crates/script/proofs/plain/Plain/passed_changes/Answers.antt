@@ -1,5 +1,6 @@
-use Rattle.std.proofs.Common.{◌<◌, ◌∙◌, ℕ, List, map, length, IsTrue, Vec, Global, ltb-true, refl, ap, sym, subst}
+use Rattle.std.proofs.Common.{◌<◌, ◌∙◌, ℕ, List, map, length, IsTrue, Vec, Global, ltb-true, inr, refl, ap, sym, subst}
 use Rattle.std.proofs.lemmas.Bool.{and_parts}
+use Rattle.std.proofs.lemmas.Result.{err_from_is_err_and}
 use Rattle.std.proofs.lemmas.Cmp.{nat_cmp_total, then_total, on_total}
 use Rattle.lattice.specs.Naturals.{nat_order, nat_bounds, nat_extends}
 use Rattle.lattice.specs.Pairs.{pair_order, pair_bounds, pair_extends}
@@ -9,10 +10,13 @@ use Rattle.plan.specs.Changes.{AreDifferences, open_for}
 use Rattle.machine.specs.declared.event.Open.{Open}
 use Rattle.grammar.specs.Commands.{is_view_of}
 use Rattle.oracle.specs.Evaluation.{list_of}
+use Rattle.oracle.specs.Listing.{HasLargeDifference}
 use Rattle.script.specs.PlainStanding.{Register, Records, AreFrontiers}
 use Rattle.script.specs.Sessions.{changes_at}
 use Rattle.script.specs.Text.{at_or_below, in_print, join_of}
-use Rattle.script.proofs.PlainLemmas.{changes_found}
+use Rattle.script.specs.Weights.{IsLarge}
+use Rattle.script.proofs.EndLemmas.{refusal_weaker}
+use Rattle.script.proofs.PlainLemmas.{changes_found, large_changes}
 use Rattle.script.proofs.plain.Plain.passed_changes.Goals as goal
 
 pub returns : goal.returns
@@ -39,4 +43,24 @@ returns c = record {
           a,
         ),
       );
+}
+
+pub returns-in_err-changes : goal.returns-in_err-changes
+returns-in_err-changes c = record {
+  answered = λ s a.
+      let p = c.self.inside.plan in
+      let v = c.args.view in
+      let items = λ (v : Vec (Update (Pair ℕ ℕ)) Global). v.items in
+      let r : Register (Pair ℕ ℕ) = record { plan = c.self.inside.plan; changes = map items c.self.inside.changes.items; openings = c.self.inside.openings.items } in
+      let own : Records r s = subst (λ (r : Register (Pair ℕ ℕ)). Records r s) (sym c.self.view_is) a in
+      let there = subst (λ (r : Register (Pair ℕ ℕ)). IsTrue (is_view_of r.plan v)) (sym c.self.view_is) c.requires in
+      let within : v < length p = ltb-true v (length p) (and_parts _ _ there).0 in
+      let o = pair_order nat_order nat_order in
+      let is = err_from_is_err_and c.from_residual-in_err-changes.result c.from_residual-in_err-changes.ensures.1 in
+      rw (is.1, is.2)
+      (inr (refusal_weaker
+      (λ large. subst (λ (r : Register (Pair ℕ ℕ)). IsLarge r.plan s) c.self.view_is
+      (large_changes o r s own v c.len-count.ensures.plan within in_print c.self.invariant.linear (open_for at_or_below p (list_of p c.deref-3.result.now) v)
+      (subst (λ (ls : List (Vec (Update (Pair ℕ ℕ)) Global)). HasLargeDifference at_or_below p (map items ls) (open_for at_or_below p (list_of p c.deref-3.result.now) v) v) c.deref-2.ensures.value large)))
+      _ c.in_err-changes.ensures.refused));
 }

@@ -14,8 +14,9 @@ use Rattle.oracle.specs.Evaluation.{HasLargeAbove, list_of, sums_at}
 use Rattle.script.specs.Engines.{IsAnswer}
 use Rattle.script.specs.PlainStanding.{Register, Records}
 use Rattle.script.specs.Sessions.{read_refusal, rows_at}
-use Rattle.script.specs.Text.{at_or_below}
-use Rattle.script.proofs.PlainLemmas.{same_passed, open_refuses, rows_answered}
+use Rattle.script.specs.Text.{at_or_below, in_print}
+use Rattle.script.specs.Weights.{IsLarge}
+use Rattle.script.proofs.PlainLemmas.{same_passed, open_refuses, large_query, rows_answered}
 use Rattle.script.proofs.plain.Plain.rows.Goals as goal
 
 pub returns-then-is_beyond : goal.returns-then-is_beyond
@@ -51,8 +52,9 @@ returns c = record {
       let passed = same_passed (pair_order nat_order nat_order) r s own v c.deref-2.result.now t found ∙ (sym c.is_beyond.ensures ∙ c.if-is_beyond.false) in
       let query = subst (λ (ls : List (Vec (Update (Pair ℕ ℕ)) Global)). IfOk c.evaluate.result (λ bag. Alike bag (query_at at_or_below p (list_of p (map items ls)) v t))) c.deref-3.ensures.value c.evaluate.ensures.query in
       subst
-      (λ (r : Register (Pair ℕ ℕ)). IsAnswer (read_refusal at_or_below r.plan s v t) (λ bag. (bag ≡ rows_at at_or_below r.plan s v t) × Records r s) (Records r s) c.evaluate.result)
+      (λ (r : Register (Pair ℕ ℕ)). IsAnswer (IsLarge r.plan s) (read_refusal at_or_below r.plan s v t) (λ bag. (bag ≡ rows_at at_or_below r.plan s v t) × Records r s) (Records r s) c.evaluate.result)
       c.self.view_is
-      (rows_answered (pair_order nat_order nat_order) r s own v c.len-count.ensures.plan within (HasLargeAbove p (sums_at at_or_below p (map items c.deref-3.result.now) t) v) t c.evaluate.result
+      (rows_answered (pair_order nat_order nat_order) r s own v c.len-count.ensures.plan within (HasLargeAbove p (sums_at at_or_below p (map items c.deref-3.result.now) t) v) (IsLarge p s)
+      (λ large. large_query (pair_order nat_order nat_order) r s own v c.len-count.ensures.plan within in_print c.self.invariant.linear t (subst (λ (ls : List (Vec (Update (Pair ℕ ℕ)) Global)). HasLargeAbove p (sums_at at_or_below p (map items ls) t) v) c.deref-3.ensures.value large)) t c.evaluate.result
       passed query c.evaluate.ensures.bag c.evaluate.ensures.refused);
 }

@@ -18,7 +18,7 @@ returns-clause-answered c s =
     let there = subst (λ (b : Shown (Pair ℕ ℕ)). IsTrue (is_input_of b.dataflow.nodes c.args.input)) (sym c.self.view_is) c.requires in
     subst
     (λ (b : Shown (Pair ℕ ℕ)). StandsAs at_or_below (make_pair 0 0) b s
-    → IsAnswer (change_refusal at_or_below b.dataflow.nodes s f) (λ _. StandsAs at_or_below (make_pair 0 0) new (with_change f s)) (StandsAs at_or_below (make_pair 0 0) new s) c.feed.result)
+    → IsAnswer ⊥ (change_refusal at_or_below b.dataflow.nodes s f) (λ _. StandsAs at_or_below (make_pair 0 0) new (with_change f s)) (StandsAs at_or_below (make_pair 0 0) new s) c.feed.result)
     c.self.view_is
     (change_answered at_or_below (make_pair 0 0) c.self.inside.board new 0 f s c.feed.result (input_there c.self.inside.board.dataflow c.args.input there).0
     c.feed.ensures.fed c.feed.ensures.accepted c.feed.ensures.refused c.feed.ensures.unchanged c.feed.ensures.stands)

@@ -12,8 +12,9 @@ use Rattle.script.specs.Engines.{IsAnswer}
 use Rattle.script.specs.Relays.{IsIdle}
 use Rattle.script.specs.Sessions.{read_refusal, rows_at}
 use Rattle.script.specs.Standing.{StandsAs}
-use Rattle.script.specs.Text.{at_or_below}
-use Rattle.script.proofs.ReadingLemmas.{read_answered}
+use Rattle.script.specs.Text.{at_or_below, in_print}
+use Rattle.script.specs.Weights.{IsLarge}
+use Rattle.script.proofs.ReadingLemmas.{read_answered, large_read}
 use Rattle.script.proofs.solo.Solo.rows.Goals as goal
 
 pub returns : goal.returns
@@ -28,9 +29,10 @@ returns c = record {
       let none = subst (λ (d : Shown (Pair ℕ ℕ)). d.in_flight ≡ []) (sym c.self.view_is) c.requires.done in
       subst
       (λ (d : Shown (Pair ℕ ℕ)). StandsAs at_or_below (make_pair 0 0) d s
-      → IsAnswer (read_refusal at_or_below d.dataflow.nodes s v t) (λ bag. (bag ≡ rows_at at_or_below d.dataflow.nodes s v t) × StandsAs at_or_below (make_pair 0 0) d s) (StandsAs at_or_below (make_pair 0 0) d s) c.read.result)
+      → IsAnswer (IsLarge d.dataflow.nodes s) (read_refusal at_or_below d.dataflow.nodes s v t) (λ bag. (bag ≡ rows_at at_or_below d.dataflow.nodes s v t) × StandsAs at_or_below (make_pair 0 0) d s) (StandsAs at_or_below (make_pair 0 0) d s) c.read.result)
       c.self.view_is
       (λ a. read_answered at_or_below (make_pair 0 0) (pair_order nat_order nat_order) b s v t c.workers-workers.ensures.dataflow within idle none a
-      (HasLargeCount (as_of at_or_below t (captured_of b v))) c.read.result (and_from _ _ (nat_lowest t.first) (nat_lowest t.second))
+      (HasLargeCount (as_of at_or_below t (captured_of b v))) (IsLarge b.dataflow.nodes s) c.read.result
+      (large_read at_or_below (make_pair 0 0) (pair_order nat_order nat_order) in_print b s v c.workers-workers.ensures.dataflow within (and_parts _ _ there).1 idle a t) (and_from _ _ (nat_lowest t.first) (nat_lowest t.second))
       c.read.ensures.accepted c.read.ensures.refused c.read.ensures.bag (c.read.ensures.query a.history a.stands));
 }

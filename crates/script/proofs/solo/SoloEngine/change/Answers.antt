@@ -15,6 +15,6 @@ returns-clause-answered c s a =
     let f : Fed (Pair ℕ ℕ) = record { input = c.args.input; update = c.args.update } in
     let new = c.feed.new.self in
     subst
-    (λ (nodes : List Node). IsAnswer (change_refusal at_or_below nodes s f) (λ _. StandsAs at_or_below (make_pair 0 0) new (with_change f s)) (StandsAs at_or_below (make_pair 0 0) new s) c.feed.result)
+    (λ (nodes : List Node). IsAnswer ⊥ (change_refusal at_or_below nodes s f) (λ _. StandsAs at_or_below (make_pair 0 0) new (with_change f s)) (StandsAs at_or_below (make_pair 0 0) new s) c.feed.result)
     (ap (λ (p : Dataflow). p.nodes) c.make_room.ensures.plan)
     (c.feed.ensures.answered s (c.make_room.ensures.stands s a))
