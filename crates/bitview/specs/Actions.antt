@@ -2,6 +2,7 @@
 use Rattle.std.specs.Prelude.{◌≡◌, ℕ, List, [], ◌∷◌, ◌++◌, length, codes, decimal}
 use Rattle.grammar.specs.Told.{Told}
 use Rattle.script.specs.Text.{text}
+use Rattle.script.specs.Weights.{IsLargeScript}
 use Rattle.bitview.specs.declared.command_line.Action.{Action}
 use Rattle.bitview.specs.declared.command_line.Action.TheVariants.{Run, Plain, Check}
 
@@ -20,3 +21,9 @@ abbrev pub asked_text : Action → Told → List ℕ
 asked_text (Run file workers) t = text t
 asked_text (Plain file) t = text t
 asked_text (Check file) t = check_text t
+
+-- why a number may be too large: some node's weight is; to count nodes and commands none is
+abbrev pub asked_cause : Action → Told → Type 0
+asked_cause (Run file workers) t = IsLargeScript t
+asked_cause (Plain file) t = IsLargeScript t
+asked_cause (Check file) t = ⊥

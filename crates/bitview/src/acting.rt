@@ -4,7 +4,7 @@
 ghost use Rattle.std.specs.Prelude.{◌≡◌, ℕ, List, Ok, Some, IfErr, OnOk, option_map};
 ghost use Rattle.script.specs.Engines.{IsRunEnd, failures};
 ghost use Rattle.script.specs.Outs.{IsBeginning};
-ghost use Rattle.bitview.specs.Actions.{IsInRange, asked_text, check_text};
+ghost use Rattle.bitview.specs.Actions.{IsInRange, asked_cause, asked_text, check_text};
 ghost use Rattle.bitview.specs.Acts.{Acts, IsDone, status_of, fault_status};
 
 use crate::command_line::Action;
@@ -21,7 +21,7 @@ use std::alloc::{AllocError, Global};
 /// | 0 | done, refused commands included | none |
 /// | 2 | the file is at fault | `fault line L code C` |
 /// | 3 | memory was refused; the file was not read; the output failed; no thread | `no memory`; `cannot read FILE`; `cannot write`; `no thread` |
-/// | 4 | a number is no 64-bit number | `overflow` |
+/// | 4 | a number is no 64-bit number, which needs changes that give some node a weight of 2 to the 63 or more | `overflow` |
 ///
 /// Cost: that of reading the script and of running it.
 pub fn act<W: Out, E: Out>(
@@ -32,7 +32,7 @@ pub fn act<W: Out, E: Out>(
     error: &mut E,
 ) -> u8
     requires { IsInRange action }
-    ensures { Acts (λ taken failures. W.took out.old taken failures out.new) (asked_text action.entry) (option_map (λ b. b.now) bytes.entry) result }
+    ensures { Acts (λ taken failures. W.took out.old taken failures out.new) (asked_text action.entry) (asked_cause action.entry) (option_map (λ b. b.now) bytes.entry) result }
 {
     match bytes {
         Some(bytes) => act_on(alloc, action, bytes, out, error),
@@ -53,7 +53,7 @@ fn act_on<W: Out, E: Out>(
     error: &mut E,
 ) -> u8
     requires { IsInRange action }
-    ensures { Acts (λ taken failures. W.took out.old taken failures out.new) (asked_text action.entry) (Some bytes.now) result }
+    ensures { Acts (λ taken failures. W.took out.old taken failures out.new) (asked_text action.entry) (asked_cause action.entry) (Some bytes.now) result }
 {
     match parse(alloc, bytes) {
         Ok(script) => carry_out(alloc, action, &script, out, error),
@@ -70,7 +70,7 @@ fn carry_out<W: Out, E: Out>(
     error: &mut E,
 ) -> u8
     requires { IsInRange action }
-    ensures { IsDone (λ taken failures. W.took out.old taken failures out.new) (asked_text action.entry) (Ok script.now) result }
+    ensures { IsDone (λ taken failures. W.took out.old taken failures out.new) (asked_text action.entry) (asked_cause action.entry) (Ok script.now) result }
 {
     match write_asked(alloc, action, script, out) {
         Ok(()) => 0,
@@ -88,7 +88,7 @@ fn write_asked<W: Out>(
     requires { IsInRange action }
     ensures written { OnOk result (W.took out.old (asked_text action.entry script.now) 0 out.new) }
     ensures beginning { IfErr result (λ fault. (part : List ℕ) × IsBeginning part (asked_text action.entry script.now) × W.took out.old part (failures fault) out.new) }
-    ensures known { IfErr result IsRunEnd }
+    ensures known { IfErr result (IsRunEnd (asked_cause action.entry script.now)) }
 {
     match action {
         Action::Run { workers, .. } => run_script(alloc, script, workers, out),
@@ -101,7 +101,7 @@ fn write_asked<W: Out>(
 fn write_size<W: Out>(alloc: Global, script: &Script, out: &mut W) -> Result<(), RunFault>
     ensures written { OnOk result (W.took out.old (check_text script.now) 0 out.new) }
     ensures beginning { IfErr result (λ fault. (part : List ℕ) × IsBeginning part (check_text script.now) × W.took out.old part (failures fault) out.new) }
-    ensures known { IfErr result IsRunEnd }
+    ensures known { IfErr result (IsRunEnd ⊥) }
 {
     let nodes = script.nodes();
     let commands = script.commands();
