@@ -19,8 +19,6 @@ mod edits;
 mod frontier;
 mod laws;
 mod refusal;
-#[cfg(test)]
-mod tests;
 
 pub use beyond::{all_beyond, is_beyond};
 pub use frontier::Antichain;

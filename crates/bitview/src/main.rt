@@ -2,16 +2,14 @@
 //! worked out from scratch, and `bitview check FILE` says how much the file holds.
 //!
 //! The command line is read by [`words`], the file is read here, and [`act`] does the rest: it knows no file and no process,
-//! only bytes and two outputs, so that its promise can be stated, and tested with outputs in memory. What is left to `main`
-//! is what no promise reaches: the arguments, the file, and where standard output and standard error go.
+//! only bytes and two outputs, so that its promise can be stated. What is left to `main` is what no promise reaches: the
+//! arguments, the file, and where standard output and standard error go.
 #![tactic(auto)]
 
 ghost use Rattle.bitview.specs.Actions.{IsInRange};
 
 mod acting;
 mod command_line;
-#[cfg(test)]
-mod tests;
 mod writers;
 
 use crate::acting::act;

@@ -24,8 +24,6 @@ mod laws;
 mod natural;
 mod order;
 mod product;
-#[cfg(test)]
-mod tests;
 
 pub use compaction::{representative, representatives_are_canonical};
 pub use laws::{bounds_are_tested_apart, later_frontiers_are_beyond};

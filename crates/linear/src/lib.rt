@@ -13,8 +13,6 @@
 mod application;
 mod fitting;
 mod laws;
-#[cfg(test)]
-mod tests;
 
 pub use application::apply;
 pub use fitting::{is_linear, takes_rows};

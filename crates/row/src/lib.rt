@@ -17,8 +17,6 @@ mod projection;
 mod refusal;
 mod routing;
 mod testing;
-#[cfg(test)]
-mod tests;
 mod text;
 
 pub use columns::Row;

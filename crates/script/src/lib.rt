@@ -19,19 +19,13 @@ mod fault;
 mod gathering;
 mod laws;
 mod memory;
-#[cfg(test)]
-mod memory_tests;
 mod obeying;
 mod outputs;
 mod plain;
-#[cfg(test)]
-mod plain_tests;
 mod printing;
 mod relay;
 mod running;
 mod solo;
-#[cfg(test)]
-mod tests;
 
 pub use fault::RunFault;
 pub use laws::{the_bag_of_entries, the_changes_of_a_view, the_frontier_of_a_view};

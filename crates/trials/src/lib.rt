@@ -1,47 +1,36 @@
-//! Trials: the tests of updates, batches, plans, boards, the plain query and command files.
+//! Trials: what no clause of the libraries says, seen by calling their public functions.
 //!
-//! They call public functions alone, so they need not stand in the crates that they try. And they had better not: where a
-//! crate has tests, the merge gate proves all of it twice, once with them and once without, and most of a large crate's
-//! proof knows nothing of its tests. Here they are proved once, over libraries that are finished. A test that needs what is
-//! private stays in its crate, and so do the tests of the other crates.
+//! Contracts pin nearly every answer, and the command files of `cases/` show what the program makes of the rest, at no cost of
+//! proof. What is left stands here: that a call with ample memory succeeds at all, where its contract would allow that it is
+//! always refused; that a call whose memory was refused succeeds once there is memory (the tests with the word `memory` in
+//! their names, which `./refusals` runs); and small worked examples of what no command file reaches yet. The expected answers
+//! are worked out by hand.
 //!
-//! A test shows what no clause says: that a call with ample memory succeeds at all, that a definition is the one that is
-//! meant, what is printed, and that a call whose memory was refused succeeds once there is memory. The expected answers are
-//! worked out by hand.
+//! Tests stand in no other crate. The merge gate proves a crate that has some twice, with them and without, and most of a
+//! large crate's proof knows nothing of its tests: here they are proved once, over libraries that are finished. They are
+//! proved like all else, some for half a minute of a processor, and so there are few.
 //!
 //! There is nothing here to call, and so no wrong body to keep: a test that cannot fail would be one, and each of these
 //! compares an answer. The wrong bodies of what they call stand in the crates below.
 #![tactic(auto)]
 
 #[cfg(test)]
+mod antichain_tests;
+#[cfg(test)]
 mod batch_tests;
-#[cfg(test)]
-mod consolidation_tests;
-#[cfg(test)]
-mod difference_tests;
-#[cfg(test)]
-mod evaluation_tests;
-#[cfg(test)]
-mod grammar_faults_tests;
-#[cfg(test)]
-mod grammar_memory_tests;
 #[cfg(test)]
 mod grammar_tests;
 #[cfg(test)]
-mod machine_memory_tests;
+mod linear_tests;
 #[cfg(test)]
 mod machine_tests;
 #[cfg(test)]
-mod plan_equality_tests;
-#[cfg(test)]
-mod plan_memory_tests;
-#[cfg(test)]
-mod plan_rows_tests;
+mod oracle_tests;
 #[cfg(test)]
 mod plan_tests;
 #[cfg(test)]
-mod sketches;
+mod script_tests;
 #[cfg(test)]
-mod summation_tests;
+mod sketches;
 #[cfg(test)]
 mod update_tests;

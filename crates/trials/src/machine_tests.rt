@@ -1,129 +1,52 @@
-//! Boards by hand. What no clause says is that a call with ample memory succeeds at all, and in which order the faults of a
-//! change are found: the expected answers are worked out from the rules.
-use lattice::{Bitime, Pair};
+//! Boards: that their calls succeed where there is memory, and once there is.
+use crate::sketches::{at, built, input, view};
+use lattice::Bitime;
 use machine::{Board, Times};
-use plan::{Node, NodeId, Plan, PlanBuilder};
+use plan::NodeId;
 use row::Row;
 use std::alloc::{AllocError, Global};
 use std::process::Abort;
 use std::test::Fail;
 use update::{Refusal, Update};
 
-// An input of one column, and a view of it.
-pub(crate) fn plan(alloc: Global) -> Result<Plan, Refusal> {
-    let mut builder = PlanBuilder::new(alloc);
-    let source = builder.add(Node::Input { width: 1 })?;
-    builder.add(Node::Output { source })?;
-    Ok(builder.finish())
+// A board of an input of one column, and a view of it, for two workers.
+fn opened(alloc: Global) -> Result<Board<Bitime>, Refusal> {
+    Board::open(alloc, built(alloc, &[input(1), view(0)])?, 2)
 }
 
-// A change at a pair of times.
-pub(crate) fn change(
-    alloc: Global,
-    (valid, system): (u64, u64),
-    columns: &[i64],
-    diff: i64,
-) -> Result<Update<Bitime>, Refusal> {
-    Ok(Update {
-        time: Pair {
-            first: valid,
-            second: system,
-        },
-        row: Row::new(alloc, columns)?,
-        diff,
-    })
-}
-
-// The elements of a frontier.
-pub(crate) fn times(alloc: Global, pairs: &[(u64, u64)]) -> Result<Times<Bitime>, AllocError> {
-    let mut times = Vec::new(alloc);
-    for (first, second) in pairs {
-        times.push(Pair {
-            first: *first,
-            second: *second,
-        })?;
-    }
-    Ok(times.into())
-}
-
-// Feeds the input of the plan. That it is one is tested first, since `feed` asks for it.
-pub(crate) fn fed(
-    rt: &impl Abort,
-    board: &mut Board<Bitime>,
-    update: Update<Bitime>,
-) -> Result<(), Refusal> {
+// Feeds the row 7 at (0, 0). That the first node is an input is tested here, since `feed` asks for it.
+fn fed(rt: &impl Abort, alloc: Global, board: &mut Board<Bitime>) -> Result<(), Refusal> {
     let input = NodeId::new(0);
     let there = input.number() < board.plan().len();
     assert!(rt; there);
     let is_input = board.plan().node(input).is_input();
     assert!(rt; is_input);
+    let update = Update {
+        time: at((0, 0)),
+        row: Row::new(alloc, &[7])?,
+        diff: 1,
+    };
     board.feed(7, input, update)
 }
 
-// Moves the frontier of the input of the plan.
-pub(crate) fn advanced(
-    rt: &impl Abort,
-    board: &mut Board<Bitime>,
-    times: Times<Bitime>,
-) -> Result<(), Refusal> {
+// A frontier of one time.
+fn times(alloc: Global, time: (u64, u64)) -> Result<Times<Bitime>, AllocError> {
+    let mut times = Vec::new(alloc);
+    times.push(at(time))?;
+    Ok(times.into())
+}
+
+// Moves the frontier of the input to (0, 1).
+fn advanced(rt: &impl Abort, alloc: Global, board: &mut Board<Bitime>) -> Result<(), Refusal> {
     let input = NodeId::new(0);
     let there = input.number() < board.plan().len();
     assert!(rt; there);
     let is_input = board.plan().node(input).is_input();
     assert!(rt; is_input);
-    board.advance(7, input, times)
+    board.advance(7, input, times(alloc, (0, 1))?)
 }
 
-// Catches faults that are tested in another order, and a change that is taken where its time is passed.
-#[test]
-fn changes_are_refused_in_order(rt: HostRuntime) -> Result<(), Fail> {
-    let alloc = rt.alloc();
-    let mut board = Board::open(alloc, plan(alloc)?, 3)?;
-    assert_eq!(rt; board.workers(), 3);
-    assert_eq!(rt; board.plan().len(), 2);
-    advanced(&rt, &mut board, times(alloc, &[(0, 2), (3, 0)])?)?;
-    let table: [((u64, u64), &[i64], i64, Result<(), Refusal>); 9] = [
-        ((0, 2), &[7], 1, Ok(())),
-        ((3, 0), &[7], -1, Ok(())),
-        ((9, 9), &[7], 2_147_483_647, Ok(())),
-        ((9, 9), &[7], -2_147_483_647, Ok(())),
-        ((2, 1), &[7], 1, Err(Refusal::TimePassed)),
-        ((2, 1), &[7], 2_147_483_648, Err(Refusal::WeightTooLarge)),
-        ((2, 1), &[7], i64::MIN, Err(Refusal::WeightTooLarge)),
-        ((2, 1), &[7], 0, Err(Refusal::ZeroWeight)),
-        ((2, 1), &[7, 7], 0, Err(Refusal::WrongWidth)),
-    ];
-    for (pair, columns, diff, answer) in table {
-        let answered = fed(&rt, &mut board, change(alloc, pair, columns, diff)?);
-        assert_eq!(rt; answered, answer);
-    }
-    Ok(())
-}
-
-// Catches a frontier that goes back, one that does not move, and a closed input that takes a change.
-#[test]
-fn frontiers_of_inputs_move_on(rt: HostRuntime) -> Result<(), Fail> {
-    let alloc = rt.alloc();
-    let mut board = Board::open(alloc, plan(alloc)?, 1)?;
-    let table: [(&[(u64, u64)], Result<(), Refusal>); 6] = [
-        (&[(0, 2), (3, 0)], Ok(())),
-        (&[(2, 1)], Err(Refusal::NotForward)),
-        (&[(0, 2), (3, 0)], Ok(())),
-        (&[(5, 5)], Ok(())),
-        (&[], Ok(())),
-        (&[(9, 9)], Err(Refusal::NotForward)),
-    ];
-    for (pairs, answer) in table {
-        let answered = advanced(&rt, &mut board, times(alloc, pairs)?);
-        assert_eq!(rt; answered, answer);
-    }
-    board.look(1);
-    let answered = fed(&rt, &mut board, change(alloc, (9, 9), &[7], 1)?);
-    assert_eq!(rt; answered, Err(Refusal::TimePassed));
-    Ok(())
-}
-
-// The view of the plan, which there is one of.
+// The change lies on the board and is not settled, so the view has one time in its frontier and no change.
 fn is_answered(rt: &impl Abort, board: &Board<Bitime>) -> Result<bool, Refusal> {
     let view = NodeId::new(1);
     let there = view.number() < board.plan().len();
@@ -135,12 +58,35 @@ fn is_answered(rt: &impl Abort, board: &Board<Bitime>) -> Result<bool, Refusal> 
     Ok(frontier.len() == 1 && changes.is_empty())
 }
 
-// Catches answers that are refused for nothing.
 #[test]
-fn a_board_is_read(rt: HostRuntime) -> Result<(), Fail> {
+fn boards_take_memory(rt: HostRuntime) -> Result<(), Fail> {
     let alloc = rt.alloc();
-    let board = Board::open(alloc, plan(alloc)?, 1)?;
-    assert!(rt; board.is_quiet());
-    assert!(rt; is_answered(&rt, &board)?);
+    let mut board = match opened(alloc) {
+        Err(Refusal::OutOfMemory) => opened(alloc)?,
+        done => done?,
+    };
+    match fed(&rt, alloc, &mut board) {
+        Err(Refusal::OutOfMemory) => fed(&rt, alloc, &mut board)?,
+        done => done?,
+    }
+    match advanced(&rt, alloc, &mut board) {
+        Err(Refusal::OutOfMemory) => advanced(&rt, alloc, &mut board)?,
+        done => done?,
+    }
+    assert_eq!(rt; fed(&rt, alloc, &mut board), Err(Refusal::TimePassed));
+    Ok(())
+}
+
+#[test]
+fn answers_take_memory(rt: HostRuntime) -> Result<(), Fail> {
+    let board = match opened(rt.alloc()) {
+        Err(Refusal::OutOfMemory) => opened(rt.alloc())?,
+        done => done?,
+    };
+    let answered = match is_answered(&rt, &board) {
+        Err(Refusal::OutOfMemory) => is_answered(&rt, &board)?,
+        done => done?,
+    };
+    assert!(rt; answered && board.is_quiet());
     Ok(())
 }
