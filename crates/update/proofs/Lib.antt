@@ -3,6 +3,7 @@ pub mod UniqueLemmas
 pub mod LeastLemmas
 pub mod Places
 pub mod GatherLemmas
+pub mod TakeLemmas
 pub mod RunLemmas
 pub mod TotalLemmas
 pub mod ConsolidatedLemmas
