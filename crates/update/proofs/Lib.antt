@@ -2,6 +2,7 @@ pub mod SumLemmas
 pub mod UniqueLemmas
 pub mod LeastLemmas
 pub mod Places
+pub mod CopyLemmas
 pub mod GatherLemmas
 pub mod TakeLemmas
 pub mod RunLemmas
