@@ -11,3 +11,7 @@ module _ {X : Type 0} (xs : List X) (i : ℕ) where
   -- and at the end all are copied
   pub copied_all : (ys : List X) → length xs ≤ i → ys ≡ take i xs → ys ≡ xs
   copied_all ys end so_far = so_far ∙ take_all i xs end
+
+  -- the element read at i is put behind those before it
+  pub put_more : (ys new : List X) (d : X) → i < length xs → ys ≡ take i xs → new ≡ ys ++ (get_or xs i d ∷ []) → new ≡ take (i + 1) xs
+  put_more ys new d inside so_far push = push ∙ ap (λ zs. zs ++ (get_or xs i d ∷ [])) so_far ∙ sym (take_more xs i d inside)
