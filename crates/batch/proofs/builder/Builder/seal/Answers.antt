@@ -1,4 +1,5 @@
-use Rattle.std.proofs.Common.{rules, ◌≡◌, IsTrue, refl, sym}
+use Rattle.std.proofs.lemmas.Grind.{common_steps}
+use Rattle.std.proofs.Common.{rules, ◌≡◌, IsTrue, refl, sym, arith}
 use Rattle.std.proofs.lemmas.Result.{err_from_is_err_and}
 use Rattle.std.proofs.lemmas.Bool.{and_parts, true≢false}
 use Rattle.update.specs.declared.refusal.Refusal.TheVariants.{OutOfMemory}
@@ -32,3 +33,6 @@ returns-clause-sums g c = sums_from_totals _ _ _ (returns-clause-totals g c)
 
 pub returns-clause-overflow : goal.returns-clause-overflow
 returns-clause-overflow g c = rw (← c.self.view_is) ((λ e. cc), (λ h. absurd (true≢false (sym (c.in_ok-sealed.ensures.overflow.1 h.1)))))
+
+pub returns-then-not-is_interval-clause-stray : goal.returns-then-not-is_interval-clause-stray
+returns-then-not-is_interval-clause-stray g c = grind (arith, common_steps)
