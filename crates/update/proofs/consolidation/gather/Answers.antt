@@ -1,4 +1,4 @@
-use Rattle.std.proofs.Common.{true, ◌≡◌, [], ◌∷◌, ◌++◌, ◌+◌, refl, ◌<◌, length, take, drop, slice_index_or, sym, ◌∙◌, ap, rules, arith}
+use Rattle.std.proofs.Common.{true, ◌≡◌, [], ◌++◌, ◌+◌, refl, ◌<◌, length, take, drop, sym, ◌∙◌, ap, rules, arith}
 use Rattle.std.specs.Prelude.{FitsSigned}
 use Rattle.std.specs.Int.{w128}
 use Rattle.update.specs.declared.change.Update.{Update}
