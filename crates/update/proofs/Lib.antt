@@ -2,7 +2,9 @@ pub mod SumLemmas
 pub mod UniqueLemmas
 pub mod LeastLemmas
 pub mod Places
+pub mod CopyLemmas
 pub mod GatherLemmas
+pub mod TakeLemmas
 pub mod RunLemmas
 pub mod TotalLemmas
 pub mod ConsolidatedLemmas

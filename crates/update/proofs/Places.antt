@@ -1,5 +1,5 @@
 -- What stands from a place on.
-use Rattle.std.proofs.Common.{◌≡◌, ℕ, zero, suc, ◌+◌, ◌-◌, ◌<◌, ◌≤◌, List, [], ◌∷◌, length, get_or, drop, refl, ap, sym, ◌∙◌, arith}
+use Rattle.std.proofs.Common.{◌≡◌, ℕ, zero, suc, ◌+◌, ◌-◌, ◌<◌, ◌≤◌, List, [], ◌∷◌, length, get_or, drop, refl, ap, sym, ◌∙◌, add-one, drop-cons, arith}
 use Rattle.std.proofs.lemmas.List.{drop-drop, get_or-drop}
 use Rattle.std.specs.List.{SwappedAt}
 
@@ -31,3 +31,10 @@ module _ {X : Type 0} where
   pub rest_swapped : (i j n : ℕ) (xs ys : List X) → i < n → j < n → length ys ≡ length xs → SwappedAt xs ys i j → drop n ys ≡ drop n xs
   rest_swapped i j n xs ys l m e s =
       rest_by_places n ys xs e (λ k d h. s.2 k d (λ q. absurd (omega (arith, h, q))) (λ q. absurd (omega (arith, h, q))))
+
+  -- what is to come at a place is the element there and what is to come behind it, in lists that agree from there on
+  pub to_come : (n : ℕ) (xs all : List X) (d : X) → n < length xs → drop n xs ≡ drop n all → drop n all ≡ get_or xs n d ∷ drop (n + 1) all
+  to_come n xs all d l e =
+      let rest : drop (n + 1) xs ≡ drop (n + 1) all = rest_later n (n + 1) xs all (omega arith) e in
+      let here : drop n xs ≡ get_or xs n d ∷ drop (n + 1) xs = rw add-one (drop-cons xs n d l) in
+      sym e ∙ here ∙ ap (λ ys. get_or xs n d ∷ ys) rest

@@ -1,6 +1,7 @@
-use Rattle.std.proofs.Common.{[]}
+use Rattle.std.proofs.lemmas.Grind.{common_steps}
+use Rattle.std.proofs.Common.{[], arith}
 use Rattle.batch.specs.Merging.{IsMerging}
-use Rattle.batch.proofs.MergeLemmas.{whole, ends_total, ends_among, ends_fit}
+use Rattle.batch.proofs.MergeLemmas.{whole, ends_sealed, ends_size, ends_total, ends_among, ends_fit}
 use Rattle.batch.proofs.fingers.merged_list.Given.{Over}
 use Rattle.batch.proofs.fingers.merged_list.Goals as goal
 
@@ -17,3 +18,15 @@ returns-clause-among g c = ends_among g.met.T.PartialOrder.order g.met.T.Ord.tot
 
 pub returns-clause-fits : goal.returns-clause-fits
 returns-clause-fits g c = ends_fit g.met.T.PartialOrder.order g.met.T.Ord.total (merged g c)
+
+pub returns-in_err-out-clause-refused : goal.returns-in_err-out-clause-refused
+returns-in_err-out-clause-refused g c = grind (arith, common_steps)
+
+pub returns-in_err-at-clause-refused : goal.returns-in_err-at-clause-refused
+returns-in_err-at-clause-refused g c = grind (arith, common_steps)
+
+pub returns-clause-sealed : goal.returns-clause-sealed
+returns-clause-sealed g c = ends_sealed g.met.T.PartialOrder.order g.met.T.Ord.total (merged g c)
+
+pub returns-clause-size : goal.returns-clause-size
+returns-clause-size g c = ends_size g.met.T.PartialOrder.order g.met.T.Ord.total (merged g c)

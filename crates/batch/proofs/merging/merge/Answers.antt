@@ -1,4 +1,5 @@
-use Rattle.std.proofs.Common.{IsTrue}
+use Rattle.std.proofs.lemmas.Grind.{common_steps}
+use Rattle.std.proofs.Common.{IsTrue, arith}
 use Rattle.lattice.specs.Frontiers.{all_beyond}
 use Rattle.batch.specs.Descriptions.{Follows}
 use Rattle.batch.specs.Intervals.{is_between}
@@ -36,3 +37,18 @@ returns-clause-fits g c = rw (← c.updates.ensures.value, ← c.updates-2.ensur
 
 pub returns-clause-stray : goal.returns-clause-stray
 returns-clause-stray g c = ((λ e. cc), (λ n. absurd (n (follows g c))))
+
+pub returns-in_err-description-clause-refused : goal.returns-in_err-description-clause-refused
+returns-in_err-description-clause-refused g c = grind (arith, common_steps)
+
+pub returns-in_err-description-clause-stray : goal.returns-in_err-description-clause-stray
+returns-in_err-description-clause-stray g c = grind (arith, common_steps)
+
+pub returns-clause-described : goal.returns-clause-described
+returns-clause-described g c = rw (c.of.ensures, ← c.description.ensures, ← c.description-2.ensures) c.in_ok-description.ensures.made
+
+pub returns-clause-sealed : goal.returns-clause-sealed
+returns-clause-sealed g c = rw c.of.ensures c.in_ok-updates.ensures.sealed
+
+pub returns-clause-size : goal.returns-clause-size
+returns-clause-size g c = rw (c.of.ensures, ← c.updates.ensures.value, ← c.updates-2.ensures.value) c.in_ok-updates.ensures.size

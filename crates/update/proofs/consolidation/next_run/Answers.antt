@@ -1,3 +1,4 @@
+use Rattle.std.proofs.lemmas.Grind.{common_steps}
 use Rattle.std.proofs.Common.{◌≤◌, ◌<◌, ◌+◌, ◌∙◌, arith}
 use Rattle.update.proofs.Places.{rest_later, get_later, rest_swapped}
 use Rattle.update.proofs.consolidation.next_run.Goals as goal
@@ -14,3 +15,6 @@ returns-clause-rest g c =
     let here : c.args.from < c.args.from + 1 = omega arith in
     rest_swapped c.in_ok-next.next c.args.from (c.args.from + 1) c.settle.new.updates c.swap.new.self behind here c.swap.ensures.len c.swap.ensures.by_index
     ∙ rest_later (c.args.at + 1) (c.args.from + 1) c.settle.new.updates c.args.updates.now (omega (arith, c.requires.before)) c.settle.ensures.rest
+
+pub returns-clause-settled : goal.returns-clause-settled
+returns-clause-settled g c = grind (arith, common_steps)

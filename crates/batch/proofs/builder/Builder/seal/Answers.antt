@@ -1,10 +1,16 @@
-use Rattle.std.proofs.Common.{rules, ◌≡◌, IsTrue, refl, sym}
+use Rattle.std.proofs.lemmas.Grind.{common_steps}
+use Rattle.std.proofs.Common.{rules, ◌≡◌, IsTrue, refl, sym, arith}
 use Rattle.std.proofs.lemmas.Result.{err_from_is_err_and}
 use Rattle.std.proofs.lemmas.Bool.{and_parts, true≢false}
 use Rattle.update.specs.declared.refusal.Refusal.TheVariants.{OutOfMemory}
 use Rattle.batch.specs.Intervals.{is_between, is_interval_of}
 use Rattle.batch.proofs.SumsLemmas.{sums_from_totals}
+use Rattle.batch.proofs.builder.Builder.seal.Given.{Over}
 use Rattle.batch.proofs.builder.Builder.seal.Goals as goal
+
+-- the updates lie between the frontiers
+whole : (g : Over) (c : goal.After-of g) → IsTrue (is_interval_of g.T.PartialOrder.below c.args.lower.now c.args.upper.now c.self.inside.updates.items)
+whole g c = search rules
 
 pub returns-in_err-sealed-clause-overflow : goal.returns-in_err-sealed-clause-overflow
 returns-in_err-sealed-clause-overflow g c =
@@ -21,8 +27,7 @@ returns-clause-between g c =
     let below = g.T.PartialOrder.below in
     let lower = c.args.lower.now in
     let upper = c.args.upper.now in
-    let whole : IsTrue (is_interval_of below lower upper c.self.inside.updates.items) = search rules in
-    rw c.of.ensures (c.in_ok-sealed.ensures.among (λ _ t. is_between below lower upper t) (and_parts _ _ whole).1)
+    rw c.of.ensures (c.in_ok-sealed.ensures.among (λ _ t. is_between below lower upper t) (and_parts _ _ (whole g c)).1)
 
 pub returns-clause-totals : goal.returns-clause-totals
 returns-clause-totals g c p = rw (c.of.ensures, ← c.self.view_is) (c.in_ok-sealed.ensures.totals p)
@@ -32,3 +37,15 @@ returns-clause-sums g c = sums_from_totals _ _ _ (returns-clause-totals g c)
 
 pub returns-clause-overflow : goal.returns-clause-overflow
 returns-clause-overflow g c = rw (← c.self.view_is) ((λ e. cc), (λ h. absurd (true≢false (sym (c.in_ok-sealed.ensures.overflow.1 h.1)))))
+
+pub returns-then-not-is_interval-clause-stray : goal.returns-then-not-is_interval-clause-stray
+returns-then-not-is_interval-clause-stray g c = grind (arith, common_steps)
+
+pub returns-clause-sealed : goal.returns-clause-sealed
+returns-clause-sealed g c = rw c.of.ensures c.in_ok-sealed.ensures.sealed
+
+pub returns-clause-size : goal.returns-clause-size
+returns-clause-size g c = rw (c.of.ensures, ← c.self.view_is) c.in_ok-sealed.ensures.size
+
+pub returns-clause-stray : goal.returns-clause-stray
+returns-clause-stray g c = rw (← c.self.view_is) ((λ e. cc), (λ n. absurd (n (whole g c))))
