@@ -16,6 +16,7 @@ pub mod BoardLemmas
 pub mod MeetsLemmas
 pub mod TakingLemmas
 pub mod FrontLemmas
+pub mod PutLemmas
 pub mod ReadLemmas
 pub mod CuttingLemmas
 pub mod WaitingLemmas
