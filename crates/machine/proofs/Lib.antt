@@ -17,6 +17,8 @@ pub mod MeetsLemmas
 pub mod TakingLemmas
 pub mod FrontLemmas
 pub mod PutLemmas
+pub mod CaptureLemmas
+pub mod PartLemmas
 pub mod ReadLemmas
 pub mod CuttingLemmas
 pub mod WaitingLemmas

@@ -1,7 +1,7 @@
 -- Steps of the loops that read a list and put what they read, or some of it, behind another.
-use Rattle.std.proofs.Common.{◌≡◌, ℕ, ◌+◌, ◌<◌, ◌≤◌, Bool, true, false, cond, List, [], ◌∷◌, ◌++◌, map, take, length, get_or, sym, ap, ◌∙◌, append_assoc}
+use Rattle.std.proofs.Common.{◌≡◌, ℕ, ◌+◌, ◌<◌, ◌≤◌, Bool, true, false, cond, List, [], ◌∷◌, ◌++◌, map, take, length, get_or, replicate, sym, ap, ◌∙◌, append_assoc}
 use Rattle.std.specs.List.{filter, flat_map}
-use Rattle.std.proofs.lemmas.List.{take_more, take_all, take_at, map_push, append-nil}
+use Rattle.std.proofs.lemmas.List.{take_more, take_all, take_at, replicate_more, map_push, map-append, append-nil}
 use Rattle.std.proofs.lemmas.List.Concat.{flat_map-append}
 use Rattle.std.proofs.lemmas.List.Elements.{filter-append}
 
@@ -25,6 +25,10 @@ module _ {X : Type 0} where
 
   pub put_behind_more : (old mid new more : List X) → mid ≡ old ++ more → new ≡ mid → take (length old) new ≡ old
   put_behind_more old mid new more m n = put_behind old new more (n ∙ m)
+
+  -- one more of the same
+  pub put_alike : (mid new : List X) (n : ℕ) (x y : X) → y ≡ x → mid ≡ replicate n x → new ≡ mid ++ y ∷ [] → new ≡ replicate (n + 1) x
+  put_alike mid new n x y s m h = h ∙ (ap (λ z. mid ++ z ∷ []) s ∙ (ap (λ ys. ys ++ x ∷ []) m ∙ replicate_more n x))
 
   -- one more element, as it is
   pub put_next : (old mid new xs : List X) (i : ℕ) (x y : X) → i < length xs → x ≡ get_or xs i x → y ≡ x → mid ≡ old ++ take i xs → new ≡ mid ++ y ∷ [] → new ≡ old ++ take (i + 1) xs
@@ -62,3 +66,19 @@ module _ {X : Type 0} where
     pub put_left : p x ≡ false → mid ≡ old ++ filter p (take i xs) → new ≡ mid → new ≡ old ++ filter p (take (i + 1) xs)
     put_left h m t =
         put (filter p) old mid new [] (take i xs) (take (i + 1) xs) (test_more false h) m (t ∙ sym (append-nil mid))
+
+  -- one more element as another, where a second one made of it passes a test, and where it does not
+  module _ {Y Z : Type 0} (f : X → Y) (p : Y → Bool) (image : Y → Z) (mid new : List Z) (xs : List X) (i : ℕ) (x : X) (l : i < length xs) (e : x ≡ get_or xs i x) where
+    passing_more : (b : Bool) → p (f x) ≡ b → map image (filter p (map f (take (i + 1) xs))) ≡ map image (filter p (map f (take i xs))) ++ map image (cond b (f x ∷ []) [])
+    passing_more b h =
+        ap (λ us. map image (filter p (map f us))) (read_more xs i x l e)
+        ∙ (ap (λ ys. map image (filter p ys)) (map_push f (take i xs) x)
+        ∙ (ap (map image) (filter-append p (map f (take i xs)) (f x ∷ []))
+        ∙ (map-append image (filter p (map f (take i xs))) (cond (p (f x)) (f x ∷ []) [])
+        ∙ ap (λ b. map image (filter p (map f (take i xs))) ++ map image (cond b (f x ∷ []) [])) h)))
+
+    pub put_passing : (now : List Z) → p (f x) ≡ true → mid ≡ map image (filter p (map f (take i xs))) → now ≡ mid ++ image (f x) ∷ [] → new ≡ now → new ≡ map image (filter p (map f (take (i + 1) xs)))
+    put_passing now h m n t = t ∙ (n ∙ (ap (λ ys. ys ++ image (f x) ∷ []) m ∙ sym (passing_more true h)))
+
+    pub put_passed : p (f x) ≡ false → mid ≡ map image (filter p (map f (take i xs))) → new ≡ mid → new ≡ map image (filter p (map f (take (i + 1) xs)))
+    put_passed h m t = t ∙ (m ∙ (sym (append-nil (map image (filter p (map f (take i xs))))) ∙ sym (passing_more false h)))

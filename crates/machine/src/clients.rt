@@ -81,10 +81,10 @@ impl<T: Minimum> Board<T> {
         match self.send_change(input, &update) {
             Ok(()) => {
                 self.accepted[input.number()] += 1;
-                self.last = Event::Feed {
+                self.note(Event::Feed {
                     client,
                     fed: Fed { input, update },
-                };
+                });
                 Ok(())
             }
             Err(refusal) => {
@@ -149,11 +149,11 @@ impl<T: Minimum> Board<T> {
         match openings_with(alloc, &self.openings, input, times.as_slice()) {
             Ok(openings) => {
                 self.openings = openings;
-                self.last = Event::Advance {
+                self.note(Event::Advance {
                     client,
                     input,
                     times,
-                };
+                });
                 Ok(())
             }
             Err(refusal) => {

@@ -13,7 +13,7 @@ loop-time-preserved g c =
     let other = λ (m : Held g.row.T.Denot). not (is_held_by c.args.node c.args.worker m) in
     let held : c.if-eq.value ≡ is_held_by c.args.node c.args.worker m = elim c.if-eq.branch [
       | then-eq w ↦ w.value-is ∙ ap (λ b. b && eqb m.worker c.args.worker) (sym (sym c.eq.ensures ∙ w.if-eq.true))
-      | else-eq w ↦ w.value-is ∙ ap (λ b. b && eqb m.worker c.args.worker) (sym (sym c.eq.ensures ∙ w.if-eq.false))
+      | else-eq w ↦ w.value-is ∙ (w.if-eq.false ∙ ap (λ b. b && eqb m.worker c.args.worker) (sym (sym c.eq.ensures ∙ w.if-eq.false)))
     ] in
     elim c.if-not-time-worker.branch [
       | then-not-time-worker+in_ok-push w ↦ put_kept other c.args.all.now.items i.all.items c.if-not-time-worker.all.items c.args.held.now i.time-index m c.loop-time-test.true c.time-item.is w.push.new.self.items m (λ _. m) (ap not (sym held ∙ w.if-not-time-worker.true)) i.invariant w.in_ok-push.ensures.items (λ j. (w.all-is j).items)
