@@ -19,6 +19,8 @@ pub mod FrontLemmas
 pub mod PutLemmas
 pub mod CaptureLemmas
 pub mod PartLemmas
+pub mod AcceptLemmas
+pub mod FirstLemmas
 pub mod ReadLemmas
 pub mod CuttingLemmas
 pub mod WaitingLemmas
