@@ -21,6 +21,8 @@ pub mod CaptureLemmas
 pub mod PartLemmas
 pub mod AcceptLemmas
 pub mod FirstLemmas
+pub mod GiveLemmas
+pub mod FoundLemmas
 pub mod ReadLemmas
 pub mod CuttingLemmas
 pub mod WaitingLemmas
