@@ -1,13 +1,12 @@
 -- A change is accepted, or refused, and a frontier likewise.
-use Rattle.std.proofs.Common.{◌≡◌, ℕ, ◌+◌, ◌<◌, Bool, List, [], ◌∷◌, ◌++◌, length, get_or, set, sym, ap, ◌∙◌, subst, arith, Option, Some, None, Result, Ok, Err}
+use Rattle.std.proofs.Common.{◌≡◌, ℕ, ◌+◌, ◌<◌, [], ◌∷◌, ◌++◌, length, get_or, set, sym, ap, ◌∙◌, subst, arith, Option, Some, None, Result, Ok, Err}
 use Rattle.std.specs.Result.{IfErr, IsErrAnd}
 use Rattle.std.proofs.lemmas.List.{get_or_default, length-set}
 use Rattle.update.specs.declared.refusal.Refusal.{Refusal}
 use Rattle.update.specs.declared.refusal.Refusal.TheVariants.{OutOfMemory}
-use Rattle.plan.specs.Rules.{IsRefusalBy, first_refusal}
+use Rattle.plan.specs.Rules.{IsRefusalBy}
 use Rattle.machine.specs.declared.event.Bundle.{Bundle}
-use Rattle.machine.specs.declared.event.Fed.{Fed}
-use Rattle.machine.specs.Boards.{Shown, IsBoard, feed_faults, feed_refusal}
+use Rattle.machine.specs.Boards.{Shown, IsBoard}
 
 -- what is found to refuse is what refuses
 pub refuses : (o found : Option Refusal) (refusal : Refusal) → found ≡ o → found ≡ Some refusal → IsRefusalBy o refusal

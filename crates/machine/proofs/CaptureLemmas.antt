@@ -1,5 +1,5 @@
 -- What a node gave is captured where the node is a view, and nowhere else.
-use Rattle.std.proofs.Common.{◌≡◌, ℕ, ◌<◌, Bool, true, false, cond, List, ◌++◌, length, get_or, set, refl, sym, ap, ◌∙◌, arith, Result, Ok, Err}
+use Rattle.std.proofs.Common.{◌≡◌, ℕ, ◌<◌, Bool, true, false, cond, List, ◌++◌, length, get_or, set, sym, ap, ◌∙◌, arith, Result, Ok, Err}
 use Rattle.std.specs.Result.{OnOk, OnErr}
 use Rattle.std.proofs.lemmas.List.{get_or_default, set-get_or, length-set}
 use Rattle.update.specs.declared.change.Update.{Update}

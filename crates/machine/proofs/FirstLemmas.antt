@@ -1,5 +1,5 @@
 -- The board on which nothing has happened, from its lists.
-use Rattle.std.proofs.Common.{◌≡◌, ℕ, List, [], ◌∷◌, length, replicate, sym, ap, ◌∙◌, subst, Option, None}
+use Rattle.std.proofs.Common.{◌≡◌, ℕ, List, [], ◌∷◌, length, replicate, ap, ◌∙◌, Option, None}
 use Rattle.std.specs.List.{flat_map}
 use Rattle.std.proofs.lemmas.List.{length-replicate}
 use Rattle.plan.specs.Ancestors.{is_input}
@@ -11,7 +11,7 @@ use Rattle.machine.specs.declared.event.Event.TheVariants.{Look}
 use Rattle.machine.specs.declared.view.View.{View}
 use Rattle.machine.specs.Dataflows.{Dataflow, IsDataflow}
 use Rattle.machine.specs.Histories.{opening}
-use Rattle.machine.specs.Boards.{Shown, IsBoard, first_board}
+use Rattle.machine.specs.Boards.{IsBoard, first_board}
 
 module _ {T : Type 0} (least : T) (p : Dataflow) (in_flight : List (Bundle T)) (held : List (Held T)) (openings : List (Open T)) (hand : List (Option ℕ)) (accepted : List ℕ) (views : List (View T))
     (read inputs : List ℕ) (n m : ℕ) (a : in_flight ≡ []) (b : held ≡ []) (c : openings ≡ flat_map (λ i. opening i (least ∷ [])) read) (d : read ≡ inputs) (e : inputs ≡ numbers_where is_input p.nodes)

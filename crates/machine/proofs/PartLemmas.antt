@@ -4,7 +4,7 @@ use Rattle.std.specs.List.{filter}
 use Rattle.std.proofs.lemmas.Bool.{eq-eqb, ne_eqb}
 use Rattle.row.specs.Routing.{route_of}
 use Rattle.update.specs.declared.change.Update.{Update}
-use Rattle.machine.specs.Dataflows.{Dataflow, route}
+use Rattle.machine.specs.Dataflows.{Dataflow}
 use Rattle.machine.specs.Boards.{Shown}
 use Rattle.machine.specs.Shares.{part}
 

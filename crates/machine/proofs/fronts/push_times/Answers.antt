@@ -1,4 +1,3 @@
-use Rattle.std.proofs.Common.{map}
 use Rattle.update.specs.declared.change.Update.{Update}
 use Rattle.machine.proofs.PutLemmas.{put_image, put_all}
 use Rattle.machine.specs.Worlds.{times}

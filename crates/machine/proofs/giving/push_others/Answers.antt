@@ -1,4 +1,4 @@
-use Rattle.std.proofs.Common.{◌≡◌, ◌&&◌, true, false, not, eqb, sym, ap, refl, ◌∙◌}
+use Rattle.std.proofs.Common.{◌≡◌, ◌&&◌, not, eqb, sym, ap, ◌∙◌}
 use Rattle.std.specs.List.{filter}
 use Rattle.machine.specs.declared.event.Held.{Held}
 use Rattle.machine.specs.Histories.{is_held_by}

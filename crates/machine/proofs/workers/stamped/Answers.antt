@@ -1,10 +1,8 @@
-use Rattle.std.proofs.Common.{sym, ◌∙◌, [], map, ap}
-use Rattle.std.specs.List.{filter}
+use Rattle.std.proofs.Common.{sym, ◌∙◌}
 use Rattle.antichain.specs.Antichains.{is_least}
 use Rattle.update.specs.declared.change.Update.{Update}
 use Rattle.machine.specs.declared.event.Held.{Held}
 use Rattle.machine.specs.Worlds.{times}
-use Rattle.machine.specs.Histories.{holding}
 use Rattle.machine.proofs.PutLemmas.{put_passing, put_passed}
 use Rattle.machine.proofs.workers.stamped.Goals as goal
 use Rattle.machine.proofs.workers.stamped.Goals.{then-is_least+in_ok-push, else-is_least}

@@ -1,10 +1,3 @@
-use Rattle.std.proofs.Common.{◌≡◌, ◌∙◌, sym, ap, List, Some, cond, eqb, [], take}
-use Rattle.std.specs.List.{filter}
-use Rattle.std.proofs.lemmas.Bool.{eq-eqb, ne_eqb}
-use Rattle.row.specs.Routing.{route_of}
-use Rattle.update.specs.declared.change.Update.{Update}
-use Rattle.machine.specs.Boards.{Shown}
-use Rattle.machine.specs.Shares.{part}
 use Rattle.machine.proofs.FrontLemmas.{on_ok}
 use Rattle.machine.proofs.PartLemmas.{part_routed, part_own, part_other}
 use Rattle.machine.proofs.board.Board.part.Goals as goal

@@ -2,7 +2,7 @@ use Rattle.machine.specs.Worlds.{place}
 use Rattle.machine.specs.Shares.{share}
 use Rattle.machine.specs.Cuts.{bundled}
 use Rattle.machine.proofs.CuttingLemmas.{with_more, with_all}
-use Rattle.std.proofs.Common.{ap, ◌∙◌, ◌≡◌}
+use Rattle.std.proofs.Common.{ap, ◌≡◌}
 use Rattle.machine.specs.Boards.{Shown}
 use Rattle.machine.proofs.board.Board.push_for_workers.Goals as goal
 
