@@ -181,3 +181,13 @@ module _ {T : Type 0} (p : Dataflow) (g : Emission T) where
         where
           cons_some : u ∷ us ≡ [] → ⊥
           cons_some z = cc
+
+-- with what one number more gives
+pub with_more : {A : Type 0} (f : ℕ → List A) (old mid new more : List A) (n : ℕ) → more ≡ f n → mid ≡ old ++ flat_map f (numbers_below n) → new ≡ mid ++ more → new ≡ old ++ flat_map f (numbers_below (n + 1))
+with_more f old mid new more n e m h = h ∙ (ap (λ ys. mid ++ ys) e ∙ (ap (λ ys. ys ++ f n) m ∙ with_next f n old))
+
+-- once all numbers are gone through
+pub with_all : {A : Type 0} (f : ℕ → List A) (old mid : List A) (n k all : ℕ) → k ≡ all → n ≤ k → k ≤ n → mid ≡ old ++ flat_map f (numbers_below n) → mid ≡ old ++ flat_map f (numbers_below all)
+with_all f old mid n k all e l r m =
+    let same : n ≡ all = omega (arith, e, l, r) in
+    m ∙ ap (λ i. old ++ flat_map f (numbers_below i)) same

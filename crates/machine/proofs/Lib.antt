@@ -16,6 +16,13 @@ pub mod BoardLemmas
 pub mod MeetsLemmas
 pub mod TakingLemmas
 pub mod FrontLemmas
+pub mod PutLemmas
+pub mod CaptureLemmas
+pub mod PartLemmas
+pub mod AcceptLemmas
+pub mod FirstLemmas
+pub mod GiveLemmas
+pub mod FoundLemmas
 pub mod ReadLemmas
 pub mod CuttingLemmas
 pub mod WaitingLemmas

@@ -12,7 +12,7 @@ ghost use Rattle.plan.specs.Edges.{numbers_where};
 ghost use Rattle.machine.specs.Histories.{opening};
 ghost use Rattle.machine.specs.Dataflows.{IsDataflow};
 ghost use Rattle.machine.specs.declared.event.Event.{Event};
-ghost use Rattle.machine.specs.Boards.{Shown, Stands, first_board, looked};
+ghost use Rattle.machine.specs.Boards.{Shown, IsBoard, Stands, first_board, looked};
 
 use crate::event::{Bundle, Event, Held, Open};
 use crate::view::View;
@@ -118,12 +118,20 @@ impl<T: Minimum> Board<T> {
         &self.plan
     }
 
+    // An event is the board's last.
+    pub(crate) fn note(&mut self, event: Event<T>)
+        ensures noted { self.new ≡ record self.old { last = event } }
+        ensures board { IsBoard self.old }
+    {
+        self.last = event;
+    }
+
     /// A client or worker looks, and the board is as it was. Takes no memory.
     pub fn look(&mut self, actor: usize)
         ensures looked { self.new ≡ looked actor self.old }
         ensures stands { (h : List (Event T)) → Stands T.below T.least self.old h → Stands T.below T.least self.new (self.new.last ∷ h) }
     {
-        self.last = Event::Look { actor };
+        self.note(Event::Look { actor });
     }
 }
 

@@ -1,7 +1,7 @@
 //! The events of clients: changes of the inputs' tables, and the inputs' frontiers. A change that may not be fed, or a
 //! frontier that would go back, is refused, and then the event is a look: whoever reads the history later sees that the
 //! client was there, and that it did nothing.
-ghost use Rattle.std.specs.Prelude.{◌≡◌, ◌<◌, ◌++◌, List, [], ◌∷◌, None, not, IfErr, IfOk, OnErr, OnOk, eqb, length};
+ghost use Rattle.std.specs.Prelude.{◌≡◌, ◌<◌, ◌+◌, ◌++◌, List, [], ◌∷◌, None, not, IfErr, IfOk, OnErr, OnOk, eqb, get_or, length, set};
 ghost use Rattle.std.specs.List.{filter};
 ghost use Rattle.lattice.specs.Frontiers.{is_beyond, all_beyond};
 ghost use Rattle.update.specs.declared.refusal.Refusal.TheVariants.{OutOfMemory};
@@ -73,18 +73,12 @@ impl<T: Minimum> Board<T> {
         ensures board { OnOk result (IsBoard self.old) }
         ensures unchanged { OnErr result (self.new ≡ looked client self.old) }
     {
-        let taken = self.accepted[input.number()];
-        if let Some(refusal) = feed_refusal(&self.plan, &self.openings, taken, input, &update) {
-            self.look(client);
-            return Err(refusal);
-        }
-        match self.send_change(input, &update) {
+        match self.accept(input, &update) {
             Ok(()) => {
-                self.accepted[input.number()] += 1;
-                self.last = Event::Feed {
+                self.note(Event::Feed {
                     client,
                     fed: Fed { input, update },
-                };
+                });
                 Ok(())
             }
             Err(refusal) => {
@@ -92,6 +86,27 @@ impl<T: Minimum> Board<T> {
                 Err(refusal)
             }
         }
+    }
+
+    // The same but for the last event.
+    fn accept(&mut self, input: NodeId, update: &Update<T>) -> Result<(), Refusal>
+        requires { IsInput self.old.dataflow input }
+        ensures fed { OnOk result (self.new ≡ record self.old {
+          in_flight = self.old.in_flight ++ record { place = home self.old.dataflow (record { input = input; update = update.now }); updates = update.now ∷ [] } ∷ [];
+          accepted = set self.old.accepted input (get_or self.old.accepted input 0 + 1);
+        }) }
+        ensures accepted { OnOk result (feed_refusal T.below self.old (record { input = input; update = update.now }) ≡ None) }
+        ensures refused { IfErr result (λ refusal. IsRefusalBy (feed_refusal T.below self.old (record { input = input; update = update.now })) refusal) }
+        ensures board { IsBoard self.old }
+        ensures unchanged { OnErr result (self.new ≡ self.old) }
+    {
+        let taken = self.accepted[input.number()];
+        if let Some(refusal) = feed_refusal(&self.plan, &self.openings, taken, input, update) {
+            return Err(refusal);
+        }
+        self.send_change(input, update)?;
+        self.accepted[input.number()] = taken + 1;
+        Ok(())
     }
 
     // A bundle of the one change is in flight at its input.
@@ -141,19 +156,13 @@ impl<T: Minimum> Board<T> {
         ensures refused { IfErr result (λ refusal. IsRefusalBy (advance_refusal T.below self.old input times) refusal) }
         ensures unchanged { OnErr result (self.new ≡ looked client self.old) }
     {
-        if let Some(refusal) = advance_refusal(&self.openings, input, times.as_slice()) {
-            self.look(client);
-            return Err(refusal);
-        }
-        let alloc = *self.openings.allocator();
-        match openings_with(alloc, &self.openings, input, times.as_slice()) {
-            Ok(openings) => {
-                self.openings = openings;
-                self.last = Event::Advance {
+        match self.move_frontier(input, times.as_slice()) {
+            Ok(()) => {
+                self.note(Event::Advance {
                     client,
                     input,
                     times,
-                };
+                });
                 Ok(())
             }
             Err(refusal) => {
@@ -161,6 +170,21 @@ impl<T: Minimum> Board<T> {
                 Err(refusal)
             }
         }
+    }
+
+    // The same but for the last event.
+    fn move_frontier(&mut self, input: NodeId, times: &[T]) -> Result<(), Refusal>
+        ensures moved { OnOk result (self.new ≡ record self.old { openings = opening input times.now ++ filter (λ o. not (eqb o.input input)) self.old.openings }) }
+        ensures accepted { OnOk result (advance_refusal T.below self.old input times.now ≡ None) }
+        ensures refused { IfErr result (λ refusal. IsRefusalBy (advance_refusal T.below self.old input times.now) refusal) }
+        ensures unchanged { OnErr result (self.new ≡ self.old) }
+    {
+        if let Some(refusal) = advance_refusal(&self.openings, input, times) {
+            return Err(refusal);
+        }
+        let alloc = *self.openings.allocator();
+        self.openings = openings_with(alloc, &self.openings, input, times)?;
+        Ok(())
     }
 }
 

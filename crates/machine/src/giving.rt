@@ -154,11 +154,11 @@ impl<T: Minimum> Board<T> {
     {
         match self.try_give(&emission, held.as_slice(), &sent) {
             Ok(()) => {
-                self.last = Event::Give {
+                self.note(Event::Give {
                     given: emission,
                     held,
                     sent,
-                };
+                });
                 Ok(())
             }
             Err(_refused) => {

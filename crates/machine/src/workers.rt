@@ -175,11 +175,11 @@ impl<T: Minimum> Board<T> {
         let bundle = self.in_flight.remove(position);
         self.held = held;
         self.hand[place.worker] = Some(place.node);
-        self.last = Event::Take {
+        self.note(Event::Take {
             place,
             number,
             updates: copy.into(),
-        };
+        });
         let Bundle { place: _, updates } = bundle;
         updates
     }
@@ -221,6 +221,6 @@ impl<T: Minimum> Board<T> {
         ensures board { IsBoard self.old }
     {
         self.hand[worker] = Some(node);
-        self.last = Event::TakeHeld { worker, node };
+        self.note(Event::TakeHeld { worker, node });
     }
 }
