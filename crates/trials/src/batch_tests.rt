@@ -76,3 +76,43 @@ fn merging_takes_memory(rt: HostRuntime) -> Result<(), Fail> {
     assert_eq!(rt; both.len(), 4);
     Ok(())
 }
+
+// What is pushed and taken back leaves nothing behind.
+#[test]
+fn what_takes_itself_back_is_gone(rt: HostRuntime) -> Result<(), Fail> {
+    let pushed = list(
+        rt.alloc(),
+        &[((0, 3), &[7], 1), ((3, 0), &[7], 1), ((0, 3), &[7], -1)],
+    )?;
+    let batch = sealed(rt.alloc(), (0, 0), (4, 4), &pushed)?;
+    assert_reads(&rt, &batch, &list(rt.alloc(), &[((3, 0), &[7], 1)])?);
+    Ok(())
+}
+
+// (3, 9) is neither before (0, 0) nor at or after (4, 4); (4, 4) is outside. Nor is there a batch of a total that is no
+// number of 64 bits.
+#[test]
+fn strays_and_large_totals_are_refused(rt: HostRuntime) -> Result<(), Fail> {
+    let inside = list(rt.alloc(), &[((3, 9), &[7], 1)])?;
+    assert!(rt; sealed(rt.alloc(), (0, 0), (4, 4), &inside).is_ok());
+    let outside = list(rt.alloc(), &[((4, 4), &[7], 1)])?;
+    let refused = sealed(rt.alloc(), (0, 0), (4, 4), &outside);
+    assert!(rt; matches!(refused, Err(Refusal::Stray)));
+    let large = list(
+        rt.alloc(),
+        &[((0, 0), &[7], 9223372036854775807), ((0, 0), &[7], 1)],
+    )?;
+    let refused = sealed(rt.alloc(), (0, 0), (4, 4), &large);
+    assert!(rt; matches!(refused, Err(Refusal::Overflow)));
+    Ok(())
+}
+
+// Between (4, 4) and (4, 5) something may have happened.
+#[test]
+fn batches_with_a_gap_are_not_merged(rt: HostRuntime) -> Result<(), Fail> {
+    let first = sealed(rt.alloc(), (0, 0), (4, 4), &[])?;
+    let second = sealed(rt.alloc(), (4, 5), (9, 9), &[])?;
+    let since = Antichain::from_elem(rt.alloc(), at((0, 0)));
+    assert!(rt; matches!(merge(&first, &second, &since), Err(Refusal::Stray)));
+    Ok(())
+}

@@ -19,6 +19,8 @@ mod antichain_tests;
 #[cfg(test)]
 mod batch_tests;
 #[cfg(test)]
+mod difference_tests;
+#[cfg(test)]
 mod grammar_tests;
 #[cfg(test)]
 mod linear_tests;
