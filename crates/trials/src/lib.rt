@@ -10,8 +10,8 @@
 //! large crate's proof knows nothing of its tests: here they are proved once, over libraries that are finished. They are
 //! proved like all else, some for half a minute of a processor, and so there are few.
 //!
-//! There is nothing here to call, and so no wrong body to keep: a test that cannot fail would be one, and each of these
-//! compares an answer. The wrong bodies of what they call stand in the crates below.
+//! There is one function to call, [`at`], by which all tests name times. What the tests are about stands in the crates below,
+//! and so do its wrong bodies.
 #![tactic(auto)]
 
 #[cfg(test)]
@@ -34,5 +34,8 @@ mod plan_tests;
 mod script_tests;
 #[cfg(test)]
 mod sketches;
+mod times;
 #[cfg(test)]
 mod update_tests;
+
+pub use times::at;

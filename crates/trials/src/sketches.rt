@@ -1,15 +1,13 @@
 //! Short words for the nodes, plans and changes that tests make. Sources are plain numbers here, and a time is a pair of them.
-use lattice::{Bitime, Pair};
+use crate::times;
+use lattice::Bitime;
 use plan::{Items, Kind, Node, NodeId, Plan, PlanBuilder};
 use row::{Cmp, Item, Row, Test};
 use std::alloc::{AllocError, Global};
 use update::{Refusal, Update};
 
 pub(crate) fn at((valid, system): (u64, u64)) -> Bitime {
-    Pair {
-        first: valid,
-        second: system,
-    }
+    times::at(valid, system)
 }
 
 pub(crate) fn input(width: usize) -> Node {
