@@ -15,7 +15,7 @@ use std::marker::Model;
 
 /// A set of times of which no two can be compared, as timely dataflow has it. A contract sees the list of its elements,
 /// in `Ord` order, so that equal sets are equal lists. Up to four elements take no memory.
-#[derive(Debug, Drop)]
+#[derive(Drop)]
 pub struct Antichain<T: Lattice> {
     elements: SmallVec<T, 4>,
 }

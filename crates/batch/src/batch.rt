@@ -15,7 +15,7 @@ use update::Update;
 /// A sealed list of updates, with its description. It never changes. A contract sees the description and the list.
 ///
 /// Cost: each update is read by its index; a key's range is found by two binary searches.
-#[derive(Debug, Drop)]
+#[derive(Drop)]
 pub struct Batch<T: Lattice> {
     description: Description<T>,
     updates: Vec<Update<T>>,

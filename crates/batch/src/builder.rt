@@ -18,7 +18,7 @@ use update::{Refusal, Update};
 
 /// Updates of a worker at a node, which are to become a batch. A contract sees both names and the list of what was
 /// pushed, the latest last.
-#[derive(Debug, Drop)]
+#[derive(Drop)]
 pub struct Builder<T: Lattice> {
     worker: usize,
     node: usize,

@@ -17,7 +17,7 @@ use update::Refusal;
 
 /// Whose updates a batch has, and between which frontiers. A contract sees the names and the frontiers, each as the list
 /// of its elements in `Ord` order.
-#[derive(Debug, Drop)]
+#[derive(Drop)]
 pub struct Description<T: Lattice> {
     worker: usize,
     node: usize,

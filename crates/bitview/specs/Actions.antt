@@ -1,8 +1,8 @@
 -- What may be asked of the program, and what is then written.
 use Rattle.std.specs.Prelude.{◌≡◌, ℕ, List, [], ◌∷◌, ◌++◌, length, codes, decimal}
 use Rattle.grammar.specs.Told.{Told}
+use Rattle.script.specs.Ends.{IsTextBeforeOverflow}
 use Rattle.script.specs.Text.{text}
-use Rattle.script.specs.Weights.{IsLargeScript}
 use Rattle.bitview.specs.declared.command_line.Action.{Action}
 use Rattle.bitview.specs.declared.command_line.Action.TheVariants.{Run, Plain, Check}
 
@@ -22,8 +22,8 @@ asked_text (Run file workers) t = text t
 asked_text (Plain file) t = text t
 asked_text (Check file) t = check_text t
 
--- why a number may be too large: some node's weight is; to count nodes and commands none is
-abbrev pub asked_cause : Action → Told → Type 0
-asked_cause (Run file workers) t = IsLargeScript t
-asked_cause (Plain file) t = IsLargeScript t
-asked_cause (Check file) t = ⊥
+-- what is written where a number is too large: the text of the lines before; to count nodes and commands none is
+abbrev pub IsPartBeforeOverflow : Action → Told → List ℕ → Type 0
+IsPartBeforeOverflow (Run file workers) t part = IsTextBeforeOverflow t part
+IsPartBeforeOverflow (Plain file) t part = IsTextBeforeOverflow t part
+IsPartBeforeOverflow (Check file) t part = ⊥

@@ -17,14 +17,16 @@ status_of Write = 3
 abbrev pub fault_status : Fault → ℕ
 fault_status fault = if eqb fault.code 1 then 3 else 2
 
--- the bytes that the output took in this call, and how many of its calls failed, where this is to be written of a script, and
--- a number is too large only with this cause
-module _ (took : List ℕ → ℕ → Type 0) (wanted : Told → List ℕ) (cause : Told → Type 0) where
-  -- what is done with what the bytes are: of a script 0 says that exactly what is wanted was written, while after 3 and 4 a
-  -- beginning of it was; a fault writes nothing, and 2 says that the file is at fault
+-- the bytes that the output took in this call, and how many of its calls failed; what is to be written of a script; and which
+-- part of that is written where a number is too large
+module _ (took : List ℕ → ℕ → Type 0) (wanted : Told → List ℕ) (IsBeforeOverflow : Told → List ℕ → Type 0) where
+  -- what is done with what the bytes are: of a script 0 says that exactly what is wanted was written, 3 that a beginning of it
+  -- was, and 4 that exactly the part before a number that is too large was; a fault writes nothing, and 2 says that the file
+  -- is at fault
   abbrev pub IsDone : Result Told (ℕ × Refusal) → ℕ → Type 0
   IsDone (Ok t) status = ((status ≡ 0) × took (wanted t) 0)
-      ⊎ (((status ≡ 3) ⊎ ((status ≡ 4) × cause t)) × (part : List ℕ) × (failures : ℕ) × IsBeginning part (wanted t) × took part failures)
+      ⊎ (((status ≡ 3) × (part : List ℕ) × (failures : ℕ) × IsBeginning part (wanted t) × took part failures)
+      ⊎ ((status ≡ 4) × (part : List ℕ) × IsBeginning part (wanted t) × IsBeforeOverflow t part × took part 0))
   IsDone (Err fault) status = (status ≡ 2) × took [] 0
 
   -- where the file was not read, or memory was refused while it was, nothing is written, and the status is 3

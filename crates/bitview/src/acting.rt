@@ -2,9 +2,10 @@
 //!
 //! A failure of the second output, standard error, changes nothing: what went wrong is then told by the status alone.
 ghost use Rattle.std.specs.Prelude.{◌≡◌, ℕ, List, Ok, Some, IfErr, OnOk, option_map};
-ghost use Rattle.script.specs.Engines.{IsRunEnd, failures};
+ghost use Rattle.script.specs.Engines.{failures};
 ghost use Rattle.script.specs.Outs.{IsBeginning};
-ghost use Rattle.bitview.specs.Actions.{IsInRange, asked_cause, asked_text, check_text};
+ghost use Rattle.script.specs.declared.fault.RunFault.TheVariants.{Refused};
+ghost use Rattle.bitview.specs.Actions.{IsInRange, IsPartBeforeOverflow, asked_text, check_text};
 ghost use Rattle.bitview.specs.Acts.{Acts, IsDone, status_of, fault_status};
 
 use crate::command_line::Action;
@@ -21,7 +22,7 @@ use std::alloc::{AllocError, Global};
 /// | 0 | done, refused commands included | none |
 /// | 2 | the file is at fault | `fault line L code C` |
 /// | 3 | memory was refused; the file was not read; the output failed; no thread | `no memory`; `cannot read FILE`; `cannot write`; `no thread` |
-/// | 4 | a number is no 64-bit number, which needs changes that give some node a weight of 2 to the 63 or more | `overflow` |
+/// | 4 | a number is no 64-bit number, which needs changes that give some node a weight of 2 to the 63 or more; exactly the text of the lines before the one that asked for it was written | `overflow` |
 ///
 /// Cost: that of reading the script and of running it.
 pub fn act<W: Out, E: Out>(
@@ -32,7 +33,9 @@ pub fn act<W: Out, E: Out>(
     error: &mut E,
 ) -> u8
     requires { IsInRange action }
-    ensures { Acts (λ taken failures. W.took out.old taken failures out.new) (asked_text action.entry) (asked_cause action.entry) (option_map (λ b. b.now) bytes.entry) result }
+    ensures { Acts (λ taken failures. W.took out.old taken failures out.new)
+        (asked_text action.entry) (IsPartBeforeOverflow action.entry)
+        (option_map (λ b. b.now) bytes.entry) result }
 {
     match bytes {
         Some(bytes) => act_on(alloc, action, bytes, out, error),
@@ -53,7 +56,9 @@ fn act_on<W: Out, E: Out>(
     error: &mut E,
 ) -> u8
     requires { IsInRange action }
-    ensures { Acts (λ taken failures. W.took out.old taken failures out.new) (asked_text action.entry) (asked_cause action.entry) (Some bytes.now) result }
+    ensures { Acts (λ taken failures. W.took out.old taken failures out.new)
+        (asked_text action.entry) (IsPartBeforeOverflow action.entry)
+        (Some bytes.now) result }
 {
     match parse(alloc, bytes) {
         Ok(script) => carry_out(alloc, action, &script, out, error),
@@ -70,7 +75,9 @@ fn carry_out<W: Out, E: Out>(
     error: &mut E,
 ) -> u8
     requires { IsInRange action }
-    ensures { IsDone (λ taken failures. W.took out.old taken failures out.new) (asked_text action.entry) (asked_cause action.entry) (Ok script.now) result }
+    ensures { IsDone (λ taken failures. W.took out.old taken failures out.new)
+        (asked_text action.entry) (IsPartBeforeOverflow action.entry)
+        (Ok script.now) result }
 {
     match write_asked(alloc, action, script, out) {
         Ok(()) => 0,
@@ -88,7 +95,9 @@ fn write_asked<W: Out>(
     requires { IsInRange action }
     ensures written { OnOk result (W.took out.old (asked_text action.entry script.now) 0 out.new) }
     ensures beginning { IfErr result (λ fault. (part : List ℕ) × IsBeginning part (asked_text action.entry script.now) × W.took out.old part (failures fault) out.new) }
-    ensures known { IfErr result (IsRunEnd (asked_cause action.entry script.now)) }
+    ensures overflow { IfErr result (λ fault. fault ≡ Refused 10 → (part : List ℕ)
+        × IsBeginning part (asked_text action.entry script.now)
+        × IsPartBeforeOverflow action.entry script.now part × W.took out.old part 0 out.new) }
 {
     match action {
         Action::Run { workers, .. } => run_script(alloc, script, workers, out),
@@ -101,7 +110,7 @@ fn write_asked<W: Out>(
 fn write_size<W: Out>(alloc: Global, script: &Script, out: &mut W) -> Result<(), RunFault>
     ensures written { OnOk result (W.took out.old (check_text script.now) 0 out.new) }
     ensures beginning { IfErr result (λ fault. (part : List ℕ) × IsBeginning part (check_text script.now) × W.took out.old part (failures fault) out.new) }
-    ensures known { IfErr result (IsRunEnd ⊥) }
+    ensures overflow { IfErr result (λ fault. fault ≡ Refused 10 → ⊥) }
 {
     let nodes = script.nodes();
     let commands = script.commands();

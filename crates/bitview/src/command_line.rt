@@ -6,21 +6,49 @@ use clap::error::ErrorKind;
 use clap::{Arg, ArgAction, ArgMatches, Command, Error};
 use std::alloc::{AllocError, Global};
 
-// What stands below the options when help is asked for.
-const EXAMPLE: &str = "Example:
+// What stands below the options when help is asked for. `docs/SCRIPT.md` says the same at more length.
+const AFTER_HELP: &str = "Example:
   bitview run examples/late_correction.bv --workers 1
 
+FILE may be /dev/stdin. Nothing is written before the file ends. A line ends with a
+newline alone: a carriage return is part of the word before it.
+
 Statuses:
-  0  done, refused commands included
-  1  the command line was not understood
+  0  done, refused lines included
+  1  the command line was not understood, or help or the version was asked for
   2  the file is at fault: `fault line L code C` on standard error
   3  no memory, the file was not read, or the output failed
   4  overflow: a number is no 64-bit number
 
-docs/SCRIPT.md describes the lines of a file and the codes of faults and refusals.";
+Refusals: `refused LINE CODE` on standard output. The line changes nothing, and the
+run goes on.
+   2  the row's width is not the input's
+   3  the difference is 0
+   4  the difference is above 2147483647 or below -2147483647
+   5  the input's frontier has passed the time
+   6  the frontier would go back
+   7  the input has taken 1048576 changes
+   8  the view's frontier has not passed the time
+
+Faults: `fault line L code C` on standard error. Nothing is run.
+  13  the plan has 256 nodes
+  14  no such name, or a name of another sort
+  15  the name is taken
+  16  the source has no such column
+  17  the sources have different widths
+  20  a width that is not 1 to 8
+  31  an unknown command, kind or comparison
+  32  too few or too many words
+  33  not a number or an item
+  34  a line on the wrong side of `start`, a second `start`, or none
+  35  a line of more than 4096 bytes
+  36  a line that is not UTF-8
+  37  not a name: 1 to 32 letters, digits and _, a letter first
+
+docs/SCRIPT.md describes the lines of a file.";
 
 /// What the command line asks for.
-#[derive(Clone, Copy, Debug, PartialEq, Eq)]
+#[derive(Clone, Copy)]
 pub enum Action<'a> {
     /// To run the commands of a file by so many workers.
     Run {
@@ -93,7 +121,7 @@ fn command<'a>(alloc: Global) -> Result<Command<'a>, AllocError> {
     Command::new(alloc, "bitview")
         .about("Views of changing tables, right at every pair of valid time and system time")
         .version("0.1.0")
-        .after_help(EXAMPLE)
+        .after_help(AFTER_HELP)
         .arg_required_else_help(true)
         .subcommand(run(alloc)?)?
         .subcommand(plain(alloc)?)?
@@ -105,7 +133,7 @@ fn file<'a>(alloc: Global) -> Arg<'a> {
     Arg::new(alloc, "FILE")
         .required(true)
         .action(ArgAction::Set)
-        .help("The command file")
+        .help("The command file; /dev/stdin is one too")
 }
 
 // The words behind `run`.

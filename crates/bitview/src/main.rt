@@ -28,9 +28,25 @@ fn main(rt: HostRuntime) -> ExitCode {
     let alloc = rt.alloc();
     let status = match arguments(&rt, alloc) {
         Ok(given) => answer(&rt, alloc, given.as_slice()),
-        Err(_refused) => 3,
+        Err(unread) => misread(&rt, &unread),
     };
     ExitCode::from(status)
+}
+
+// Tells why the arguments were not read: one is not UTF-8, or memory was refused.
+fn misread<R: Eprint>(rt: &R, unread: &io::Error) -> u8 {
+    if unread.kind() == io::ErrorKind::InvalidData {
+        let _printed = rt.eprint("error: an argument is not UTF-8\n");
+        1
+    } else {
+        without_memory(rt)
+    }
+}
+
+// Tells that memory was refused before the file was read.
+fn without_memory<R: Eprint>(rt: &R) -> u8 {
+    let _printed = rt.eprint("no memory\n");
+    3
 }
 
 // The words that the program was given, its name first.
@@ -55,7 +71,7 @@ fn slices<'a>(alloc: Global, given: &'a [String]) -> Result<Vec<&'a str>, AllocE
 fn answer<R: Files + AllocGlobal + Print + Eprint>(rt: &R, alloc: Global, given: &[String]) -> u8 {
     match slices(alloc, given) {
         Ok(given) => obey(rt, alloc, given.as_slice()),
-        Err(_refused) => 3,
+        Err(_refused) => without_memory(rt),
     }
 }
 
@@ -87,10 +103,9 @@ fn perform<R: Files + AllocGlobal + Print + Eprint>(rt: &R, alloc: Global, actio
 
 // Prints what was not understood, or the help that was asked for.
 fn explain<R: Print + Eprint>(rt: &R, error: &Error) -> u8 {
-    let _printed = error.print(rt);
     if error.kind() == ErrorKind::OutOfMemory {
-        3
-    } else {
-        1
+        return without_memory(rt);
     }
+    let _printed = error.print(rt);
+    1
 }

@@ -3,7 +3,7 @@ use script::{Out, OutFault};
 use std::io::Write;
 
 /// A writer, as an output.
-#[derive(Debug, Drop)]
+#[derive(Drop)]
 pub(crate) struct Output<W> {
     pub(crate) writer: W,
 }

@@ -8,7 +8,7 @@ use row::Row;
 use std::marker::Model;
 
 /// The pairs of an `advance`, in the order of the line. A contract sees the list of them.
-#[derive(Debug, Drop)]
+#[derive(Drop)]
 pub struct Times {
     times: Vec<Bitime>,
 }
@@ -43,7 +43,7 @@ impl From<Vec<Bitime>> for Times {
 }
 
 /// What a line after `start` asks for.
-#[derive(Debug, Drop)]
+#[derive(Drop)]
 pub enum Command {
     /// Adds `diff` to the weight of the row from the time on.
     Change {
@@ -77,7 +77,7 @@ pub enum Command {
 }
 
 /// A command, and the line on which it stands, counted from 1, skipped lines too.
-#[derive(Debug, Drop)]
+#[derive(Drop)]
 pub struct CommandLine {
     pub line: u64,
     pub command: Command,

@@ -9,7 +9,7 @@ use update::Refusal;
 
 /// The first line that is at fault, counted from 1, and the number of what it is refused for. Number 1 is want of memory,
 /// at the line that met it.
-#[derive(Clone, Copy, Debug, PartialEq, Eq, Hash, Error)]
+#[derive(Clone, Copy, Debug, PartialEq, Eq, Error)]
 #[error("fault line {line} code {code}")]
 pub struct Fault {
     /// The line, counted from 1, skipped lines too.
@@ -19,7 +19,7 @@ pub struct Fault {
 }
 
 /// Why a line was not taken.
-#[derive(Clone, Copy, Debug, PartialEq, Eq)]
+#[derive(Clone, Copy)]
 pub(crate) enum LineError {
     Memory,
     Refused(Refusal),

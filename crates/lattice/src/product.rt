@@ -8,7 +8,7 @@ use crate::{Lattice, Minimum, PartialOrder};
 use std::fmt;
 
 /// A time with two axes. It sorts by its first component, then by its second.
-#[derive(Clone, Copy, Debug, Default, PartialEq, Eq, PartialOrd, Ord, Hash)]
+#[derive(Clone, Copy, Default, PartialEq, Eq, PartialOrd, Ord)]
 pub struct Pair<A, B> {
     /// The time along the first axis: of a [`Bitime`], the valid time.
     pub first: A,

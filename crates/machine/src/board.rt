@@ -23,7 +23,7 @@ use std::marker::Model;
 use update::Refusal;
 
 /// What lies between clients and workers. A contract sees what lies on it.
-#[derive(Debug, Drop)]
+#[derive(Drop)]
 pub struct Board<T> {
     pub(crate) plan: Plan,
     pub(crate) workers: usize,

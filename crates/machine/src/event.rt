@@ -5,7 +5,7 @@ use plan::NodeId;
 use update::Update;
 
 /// A place where bundles wait: a port of a node, on a worker.
-#[derive(Debug, Clone, Copy)]
+#[derive(Clone, Copy)]
 pub struct Place {
     /// The node.
     pub node: NodeId,
@@ -16,7 +16,7 @@ pub struct Place {
 }
 
 /// Updates on their way to a place, taken all at once.
-#[derive(Debug, Drop)]
+#[derive(Drop)]
 pub struct Bundle<T> {
     /// Where they wait.
     pub place: Place,
@@ -25,7 +25,7 @@ pub struct Bundle<T> {
 }
 
 /// A change of an input's table.
-#[derive(Debug, Drop)]
+#[derive(Drop)]
 pub struct Fed<T> {
     /// The input.
     pub input: NodeId,
@@ -34,7 +34,7 @@ pub struct Fed<T> {
 }
 
 /// What a worker gave at a node, at one time.
-#[derive(Debug, Drop)]
+#[derive(Drop)]
 pub struct Emission<T> {
     /// The node.
     pub node: NodeId,
@@ -45,7 +45,7 @@ pub struct Emission<T> {
 }
 
 /// A time that a worker holds at a node: it may still give updates from it on.
-#[derive(Debug, Clone, Copy)]
+#[derive(Clone, Copy)]
 pub struct Held<T> {
     /// The node.
     pub node: NodeId,
@@ -56,7 +56,7 @@ pub struct Held<T> {
 }
 
 /// An element of an input's frontier: changes may still be fed from it on.
-#[derive(Debug, Clone, Copy)]
+#[derive(Clone, Copy)]
 pub struct Open<T> {
     /// The input.
     pub input: NodeId,
@@ -65,7 +65,7 @@ pub struct Open<T> {
 }
 
 /// Bundles that were sent together. A contract sees the list of them.
-#[derive(Debug, Drop)]
+#[derive(Drop)]
 pub struct Bundles<T> {
     pub(crate) items: Vec<Bundle<T>>,
 }
@@ -91,7 +91,7 @@ impl<T> From<Vec<Bundle<T>>> for Bundles<T> {
 }
 
 /// What happens on a board, one at a time.
-#[derive(Debug, Drop)]
+#[derive(Drop)]
 pub enum Event<T> {
     /// A client changes an input's table.
     Feed {

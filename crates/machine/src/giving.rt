@@ -15,7 +15,7 @@ use std::alloc::Global;
 use update::{Refusal, Update};
 
 /// What could not be given for want of memory: all that was to be.
-#[derive(Debug, Drop)]
+#[derive(Drop)]
 pub struct Ungiven<T> {
     /// What a worker computed.
     pub emission: Emission<T>,

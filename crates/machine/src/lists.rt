@@ -8,7 +8,7 @@ use std::marker::Model;
 use update::{Refusal, Update};
 
 /// Updates that travel together. A contract sees the list of them.
-#[derive(Debug, Drop)]
+#[derive(Drop)]
 pub struct Updates<T> {
     items: Vec<Update<T>>,
 }
@@ -88,7 +88,7 @@ impl<T> From<Vec<Update<T>>> for Updates<T> {
 }
 
 /// Times, as the elements of a frontier. A contract sees the list of them.
-#[derive(Debug, Drop)]
+#[derive(Drop)]
 pub struct Times<T> {
     items: Vec<T>,
 }

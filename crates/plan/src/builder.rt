@@ -11,7 +11,7 @@ use update::Refusal;
 
 /// A plan in the making. Each of its states is a plan, so there is nothing to be tested at the end. A contract sees the
 /// list of its nodes.
-#[derive(Debug, Drop)]
+#[derive(Drop)]
 pub struct PlanBuilder {
     plan: Plan,
 }

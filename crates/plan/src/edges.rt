@@ -15,7 +15,7 @@ use std::alloc::Global;
 use update::Refusal;
 
 /// An edge of a plan, named by its end: the node that reads, and the port at which it reads, counted from 0.
-#[derive(Clone, Copy, Debug, PartialEq, Eq, Hash)]
+#[derive(Clone, Copy, PartialEq, Eq)]
 pub struct Edge {
     pub reader: NodeId,
     pub port: usize,

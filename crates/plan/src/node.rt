@@ -12,7 +12,7 @@ use row::Test;
 use std::marker::Model;
 
 /// The number of a node in its plan, counted from 0 in the order in which nodes were added.
-#[derive(Clone, Copy, Debug, PartialEq, Eq, PartialOrd, Ord, Hash)]
+#[derive(Clone, Copy, PartialEq, Eq, PartialOrd, Ord)]
 pub struct NodeId {
     number: usize,
 }
@@ -44,7 +44,7 @@ impl NodeId {
 }
 
 /// Which reduction: what is answered for each key of its rows.
-#[derive(Clone, Copy, Debug, PartialEq, Eq, Hash)]
+#[derive(Clone, Copy, PartialEq, Eq)]
 pub enum Kind {
     /// How many rows, each as often as it counts: the key and that number, where it is not 0.
     Count,
@@ -58,7 +58,7 @@ pub enum Kind {
 
 /// What a node does, and which nodes it reads: `source`, or `left` and `right`. Any numbers may stand here: what a plan
 /// accepts is said at [`PlanBuilder::add`](crate::PlanBuilder::add).
-#[derive(Clone, Debug, Drop)]
+#[derive(Clone, Drop)]
 pub enum Node {
     /// Rows of `width` columns, which come from outside.
     Input { width: usize },

@@ -16,7 +16,7 @@ use std::marker::Model;
 use update::Refusal;
 
 /// A node of a plan, and the width of its rows.
-#[derive(Debug, Drop)]
+#[derive(Drop)]
 pub(crate) struct Stage {
     pub(crate) node: Node,
     pub(crate) width: usize,
@@ -24,7 +24,7 @@ pub(crate) struct Stage {
 
 /// A query graph: nodes, each of which reads nodes with smaller numbers. A contract sees the list of its nodes, in the
 /// order of their numbers.
-#[derive(Debug, Drop)]
+#[derive(Drop)]
 pub struct Plan {
     stages: Vec<Stage>,
 }

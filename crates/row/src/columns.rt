@@ -8,7 +8,7 @@ use std::alloc::{AllocError, Global};
 use std::marker::Model;
 
 /// A list of 1 to 8 columns. A contract sees the list.
-#[derive(Debug, Drop)]
+#[derive(Drop)]
 pub struct Row {
     columns: SmallVec<i64, 8>,
 }

@@ -10,7 +10,7 @@ ghost use Rattle.row.specs.Projection.{item_value, is_within, projected};
 use crate::Row;
 
 /// Where a column comes from.
-#[derive(Clone, Copy, Debug, PartialEq, Eq, Hash)]
+#[derive(Clone, Copy, PartialEq, Eq)]
 pub enum Item {
     /// The column of this number, counted from 0.
     Column(usize),

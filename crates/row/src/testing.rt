@@ -6,7 +6,7 @@ ghost use Rattle.row.specs.Testing.{compares, passes};
 use crate::{Item, Row};
 
 /// How two numbers are compared.
-#[derive(Clone, Copy, Debug, PartialEq, Eq, Hash)]
+#[derive(Clone, Copy, PartialEq, Eq)]
 pub enum Cmp {
     /// They are equal.
     Eq,
@@ -39,7 +39,7 @@ impl Cmp {
 }
 
 /// A comparison of two items of a row.
-#[derive(Clone, Copy, Debug, PartialEq, Eq, Hash)]
+#[derive(Clone, Copy, PartialEq, Eq)]
 pub struct Test {
     /// The first of the two items.
     pub left: Item,

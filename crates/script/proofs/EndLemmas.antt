@@ -1,5 +1,5 @@
 -- How a run ends early: an overflow has its cause on whatever way it came.
-use Rattle.std.proofs.Common.{◌≡◌, Bool, true, false, List, ◌∷◌, [], Option, Some, None, Result, Ok, Err, ◌⊎◌, inl, inr, sym, ◌∙◌, ap}
+use Rattle.std.proofs.Common.{◌≡◌, Bool, true, false, ◌∷◌, [], Option, Some, None, Result, Ok, Err, ◌⊎◌, inl, inr, sym, ◌∙◌, ap}
 use Rattle.std.specs.Prelude.{IfErr}
 use Rattle.update.specs.declared.refusal.Refusal.{Refusal}
 use Rattle.update.specs.declared.refusal.Refusal.TheVariants.{OutOfMemory, Overflow, NotPassed}
@@ -18,6 +18,12 @@ end_weaker h fault.Write u = u
 pub ends_weaker : {A B X : Type 0} → (A → B) → (r : Result X RunFault) → IfErr r (IsRunEnd A) → IfErr r (IsRunEnd B)
 ends_weaker h (Ok x) e = tt
 ends_weaker h (Err f) e = end_weaker h f e
+
+-- where a number was too large, there is the cause
+pub cause_of_end : {Large : Type 0} (f : RunFault) → IsRunEnd Large f → f ≡ fault.Refused 10 → Large
+cause_of_end (fault.Refused code) (inl memory) is = absurd cc
+cause_of_end (fault.Refused code) (inr large) is = large.1
+cause_of_end fault.Write e is = absurd cc
 
 -- an answer that a number is too large, where the session refuses nothing so, has the engine's cause
 pub overflow_cause : {L S : Type 0} (o : Option Refusal) (r : Refusal) → (o ≡ Some Overflow → ⊥) → ((o ≡ Some r) × S) ⊎ IsRefusal L r → r ≡ Overflow → L

@@ -1,6 +1,9 @@
 -- Writing in turn.
-use Rattle.std.proofs.Common.{◌≡◌, ℕ, ◌+◌, List, [], ◌++◌, refl, sym, ◌∙◌, ap, subst, append_assoc, arith}
+use Rattle.std.proofs.Common.{◌≡◌, ℕ, ◌+◌, List, [], ◌++◌, Result, Ok, Err, refl, sym, ◌∙◌, ap, subst, append_assoc, arith}
+use Rattle.std.specs.Prelude.{IfErr}
+use Rattle.script.specs.Engines.{failures}
 use Rattle.script.specs.Outs.{IsBeginning, Wrote, Broke}
+use Rattle.script.specs.declared.fault.RunFault.{RunFault}
 
 joined : (waiting xs part left ys more rest : List ℕ) → waiting ++ xs ≡ part ++ left → left ++ ys ≡ more ++ rest → waiting ++ (xs ++ ys) ≡ (part ++ more) ++ rest
 joined waiting xs part left ys more rest e f =
@@ -44,6 +47,11 @@ module _ {W : Type 0} (took : W → List ℕ → ℕ → W → Type 0) where
     beginning = (b.beginning.0 ++ ys, sym (append_assoc b.part b.beginning.0 ys) ∙ ap (λ zs. zs ++ ys) b.beginning.1 ∙ append_assoc waiting xs ys);
   }
 
+  pub breaks_before : {X : Type 0} (s u : W) (waiting bytes : List ℕ) (r : Result X RunFault)
+      → IfErr r (λ fault. Broke took s waiting [] (failures fault) u) → IfErr r (λ fault. Broke took s waiting bytes (failures fault) u)
+  breaks_before s u waiting bytes (Ok x) b = tt
+  breaks_before s u waiting bytes (Err fault) b = broke_before s u waiting [] bytes (failures fault) b
+
   -- the same bytes, found otherwise
   pub wrote_as : (s t : W) (waiting left xs ys : List ℕ) → xs ≡ ys → Wrote took s waiting xs t left → Wrote took s waiting ys t left
   wrote_as s t waiting left xs ys e a = subst (λ (bytes : List ℕ). Wrote took s waiting bytes t left) e a
@@ -59,8 +67,8 @@ module _ {W : Type 0} (took : W → List ℕ → ℕ → W → Type 0) where
   broke_more in_turn s t u waiting xs left ys later all n e a b = broke_as s u waiting ((xs ++ ys) ++ later) all n e (broke_before s u waiting (xs ++ ys) later n (broke_in_turn in_turn s t u waiting xs left ys n a b))
 
   -- what waits in the end is put
-  pub wrote_all : InTurn → (s t u : W) (bytes left : List ℕ) → Wrote took s [] bytes t left → took t left 0 u → took s bytes 0 u
-  wrote_all in_turn s t u bytes left a b = subst (λ (all : List ℕ). took s all 0 u) (sym a.in_order) (in_turn s t u a.part left 0 0 a.taken b)
+  pub wrote_all : InTurn → (s t u : W) (waiting bytes left : List ℕ) → Wrote took s waiting bytes t left → took t left 0 u → took s (waiting ++ bytes) 0 u
+  wrote_all in_turn s t u waiting bytes left a b = subst (λ (all : List ℕ). took s all 0 u) (sym a.in_order) (in_turn s t u a.part left 0 0 a.taken b)
 
   pub broke_last : InTurn → (s t u : W) (bytes left : List ℕ) → Wrote took s [] bytes t left → (part : List ℕ) × IsBeginning part left × took t part 1 u → Broke took s [] bytes 1 u
   broke_last in_turn s t u bytes left a b = record {

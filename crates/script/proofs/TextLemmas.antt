@@ -4,6 +4,8 @@ use Rattle.std.proofs.lemmas.List.{append-nil, take_more}
 use Rattle.plan.specs.declared.node.Node.{Node}
 use Rattle.grammar.specs.declared.command.CommandLine.{CommandLine}
 use Rattle.grammar.specs.Told.{Told}
+use Rattle.script.specs.Ends.{IsTextBefore}
+use Rattle.script.specs.Outs.{IsBeginning}
 use Rattle.script.specs.Text.{Sitting, after, piece, after_lines, lines_text}
 
 module _ (p : List Node) where
@@ -18,12 +20,20 @@ module _ (t : Told) where
       ap (λ text. piece t s x ++ text) (text_both (after t.plan s x.command) xs ys)
       ∙ sym (append_assoc (piece t s x) (lines_text t (after t.plan s x.command) xs) (lines_text t (after_lines t.plan (after t.plan s x.command) xs) ys))
 
+-- the text of the lines before one is a beginning of all
+pub before_begins : (t : Told) (s : Sitting) (lines : List CommandLine) (part : List ℕ) → IsTextBefore t s lines part → IsBeginning part (lines_text t s lines)
+before_begins t s lines part b =
+    let rest = lines_text t (after_lines t.plan s b.before) (b.line ∷ b.behind) in (
+      rest,
+      ap (λ text. text ++ rest) b.written ∙ sym (text_both t s b.before (b.line ∷ b.behind)) ∙ ap (lines_text t s) b.in_order,
+    )
+
 -- the line of a number, between those before it and those behind it
 module _ (lines : List CommandLine) (i : ℕ) (line : CommandLine) (h : i < length lines) (e : line ≡ get_or lines i line) where
   up_to : take (i + 1) lines ≡ take i lines ++ line ∷ []
   up_to = take_more lines i line h ∙ ap (λ (x : CommandLine). take i lines ++ x ∷ []) (sym e)
 
-  all_lines : lines ≡ take i lines ++ line ∷ drop (suc i) lines
+  pub all_lines : lines ≡ take i lines ++ line ∷ drop (suc i) lines
   all_lines = sym (take-append-drop i lines) ∙ ap (λ (rest : List CommandLine). take i lines ++ rest) (drop-cons lines i line h ∙ ap (λ (x : CommandLine). x ∷ drop (suc i) lines) (sym e))
 
   pub after_more : (p : List Node) (s : Sitting) → after p (after_lines p s (take i lines)) line.command ≡ after_lines p s (take (i + 1) lines)

@@ -1,28 +1,27 @@
 -- Where a number is too large, the weight of some node is. A plan of linear nodes has at each of them a list of updates that
 -- sums to the query at every time, and is no larger than the node's weight. So no count of a row is, at any time, and no
 -- total of a view's changes.
-use Rattle.std.proofs.Common.{◌≡◌, ℕ, ◌+◌, ◌<◌, ◌≤◌, ◌^◌, Bool, true, false, cond, ◌&&◌, List, [], ◌∷◌, ◌++◌, map, length, Option, Some, None, slice_get, IsTrue, ◌⊎◌, inl, inr, ⊎_elim, refl, sym, ◌∙◌, ap, ap₂, subst, arith, w64, FitsSigned}
+use Rattle.std.proofs.Common.{◌≡◌, ℕ, ◌+◌, ◌<◌, ◌≤◌, ◌^◌, Bool, true, false, cond, ◌&&◌, List, [], ◌∷◌, ◌++◌, map, length, Option, Some, None, slice_get, IsTrue, ⊎_elim, refl, sym, ◌∙◌, ap, ap₂, subst, arith, w64, FitsSigned}
 use Rattle.std.specs.Prelude.{ℤ, pos, neg_ℤ, ◌+ℤ◌, unsigned_abs}
 use Rattle.std.specs.List.{All, AllByRecursion, filter}
 use Rattle.std.specs.declared.cmp.Ordering.{Ordering}
-use Rattle.std.proofs.lemmas.Bool.{cases_lt, and_parts, and_from, true≢false}
+use Rattle.std.proofs.lemmas.Bool.{cases_lt, and_parts, true≢false}
 use Rattle.std.proofs.lemmas.Int.{ints, fits_signed_from_abs}
 use Rattle.std.proofs.lemmas.List.{append-nil}
 use Rattle.std.proofs.lemmas.Option.{unwrap_or-slice_get}
 use Rattle.lattice.specs.Order.{PartialOrderLaws}
-use Rattle.update.specs.Bags.{Entry, Alike, HasLargeCount, count_of, same_row, total_by}
-use Rattle.update.specs.Updates.{as_of, entry, size, total_at, total_where, HasLargeTotal}
+use Rattle.update.specs.Bags.{Entry, Alike, HasLargeCount, count_of, same_row}
+use Rattle.update.specs.Updates.{as_of, size, total_at, total_where, HasLargeTotal}
 use Rattle.update.specs.declared.change.Update.{Update}
 use Rattle.update.proofs.ConsolidatedLemmas.{weight, weight_is}
 use Rattle.update.proofs.SumLemmas.{total_where-filter, total_by-append, total_by-zero}
 use Rattle.update.proofs.UniqueLemmas.{count_as_of, same_totals, at_each}
-use Rattle.plan.specs.Ancestors.{is_above}
 use Rattle.plan.specs.Changes.{query_at}
 use Rattle.plan.specs.Nodes.{node_at, sources, key_width}
 use Rattle.plan.specs.Operators.{given, is_linear, negated}
-use Rattle.plan.specs.Queries.{query, handed}
+use Rattle.plan.specs.Queries.{handed}
 use Rattle.plan.specs.Rules.{IsPlan}
-use Rattle.plan.specs.Weights.{load, weight_by, AreOwn}
+use Rattle.plan.specs.Weights.{load, weight_by}
 use Rattle.plan.specs.declared.node.Kind.{Kind}
 use Rattle.plan.specs.declared.node.Node.{Node}
 use Rattle.plan.specs.declared.node.Node.TheVariants.{Input, Map, Filter, Concat, Negate, Arrange, Join, Reduce, Output}

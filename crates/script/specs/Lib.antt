@@ -8,6 +8,7 @@ pub mod Sessions
 pub mod Text
 pub mod Weights
 pub mod Engines
+pub mod Ends
 pub mod Standing
 pub mod PlainStanding
 pub mod Relays

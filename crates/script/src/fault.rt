@@ -6,7 +6,8 @@ use std::alloc::AllocError;
 use thiserror::Error;
 use update::Refusal;
 
-/// Why a run ended early. What was written until then is a beginning of the script's text.
+/// Why a run ended early. What was written until then is a beginning of the script's text; where a number was too large, it
+/// is the whole text of the lines before.
 #[derive(Clone, Copy, Debug, PartialEq, Eq, Error)]
 pub enum RunFault {
     /// Refused, with the number of [`Refusal::code`]: 1 where memory was, 10 where a number was no 64-bit number, 23 where

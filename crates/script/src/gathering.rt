@@ -18,7 +18,7 @@ use update::{Refusal, Update};
 const PIECE: usize = 65_536;
 
 /// Text that waits for an output. A contract sees its bytes.
-#[derive(Debug, Drop)]
+#[derive(Drop)]
 pub(crate) struct Gathered {
     pub(crate) text: String,
 }

@@ -6,7 +6,7 @@ use std::alloc::Global;
 use std::marker::Model;
 
 /// An output in memory. A contract sees the bytes that it took. It fails where memory is refused, and only there.
-#[derive(Debug, Drop)]
+#[derive(Drop)]
 pub struct MemoryOut {
     bytes: Vec<u8>,
 }

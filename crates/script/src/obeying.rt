@@ -1,5 +1,5 @@
 //! One line of a script: its command goes to the engine, and what it answers is printed.
-ghost use Rattle.std.specs.Prelude.{◌≡◌, ◌++◌, true, false, IfErr, IfOk, OnOk};
+ghost use Rattle.std.specs.Prelude.{◌≡◌, [], true, false, IfErr, IfOk, OnOk};
 ghost use Rattle.update.specs.Refusals.{code_of};
 ghost use Rattle.update.specs.declared.refusal.Refusal.TheVariants.{Overflow};
 ghost use Rattle.grammar.specs.Commands.{IsAbout};
@@ -74,35 +74,55 @@ fn hand_over<E: Engine>(alloc: Global, engine: &mut E, command: &Command) -> Res
     }
 }
 
-// Prints what a command was refused for, unless that ends the run.
-fn print_refusal(gathered: &mut Gathered, line: u64, refusal: Refusal) -> Result<(), RunFault>
-    ensures printed { OnOk result ((gathered.new ≡ gathered.old ++ refused_text line refusal) × (EndsRun refusal → ⊥)) }
-    ensures ends { IfErr result (λ fault. failures fault ≡ 0) }
+// Prints what a command was refused for. If that ends the run, the text of the lines before is put first, whole.
+fn refuse<W: Out>(
+    gathered: &mut Gathered,
+    out: &mut W,
+    line: u64,
+    refusal: Refusal,
+) -> Result<(), RunFault>
+    ensures goes_on { OnOk result (EndsRun refusal → ⊥) }
+    ensures wrote { OnOk result
+        (Wrote W.took out.old gathered.old (refused_text line refusal) out.new gathered.new) }
+    ensures broke { IfErr result
+        (λ fault. Broke W.took out.old gathered.old [] (failures fault) out.new) }
+    ensures overflow { IfErr result
+        (λ fault. fault ≡ Refused 10 → W.took out.old gathered.old 0 out.new) }
     ensures known { IfErr result (IsRunEnd (refusal ≡ Overflow)) }
 {
-    let refusal = settled(refusal)?;
-    gathered.print_refused(line, refusal)?;
-    Ok(())
+    match settled(refusal) {
+        Ok(refusal) => {
+            gathered.print_refused(line, refusal)?;
+            Ok(())
+        }
+        Err(fault) => {
+            gathered.flush(out)?;
+            Err(fault)
+        }
+    }
 }
 
 // A line that writes nothing where its command is accepted.
-fn tell<E: Engine>(
+fn tell<E: Engine, W: Out>(
     alloc: Global,
     engine: &mut E,
     line: &CommandLine,
     gathered: &mut Gathered,
+    out: &mut W,
 ) -> Result<(), RunFault>
     requires about { IsAbout (E.plan engine.old) line.now.command }
     requires writes_nothing { is_reading line.now.command ≡ false }
     ensures plan { E.plan engine.new ≡ E.plan engine.old }
     ensures ran { (t : Told) (s : Sitting) → t.plan ≡ E.plan engine.old → E.stands engine.old s
-        → OnOk result (E.stands engine.new (after t.plan s line.now.command) × (gathered.new ≡ gathered.old ++ piece t s line.now)) }
-    ensures ends { IfErr result (λ fault. failures fault ≡ 0) }
+        → OnOk result (E.stands engine.new (after t.plan s line.now.command)
+        × Wrote W.took out.old gathered.old (piece t s line.now) out.new gathered.new) }
+    ensures broke { IfErr result
+        (λ fault. Broke W.took out.old gathered.old [] (failures fault) out.new) }
     ensures known { (s : Sitting) → E.stands engine.old s → IfErr result (IsRunEnd ⊥) }
 {
     match hand_over(alloc, engine, &line.command) {
         Ok(()) => Ok(()),
-        Err(refusal) => print_refusal(gathered, line.line, refusal),
+        Err(refusal) => refuse(gathered, out, line.line, refusal),
     }
 }
 
@@ -123,20 +143,22 @@ fn ask<E: Engine, W: Out>(
         → OnOk result (E.stands engine.new (after script.now.plan s line.now.command) × Wrote W.took out.old gathered.old (piece script.now s line.now) out.new gathered.new) }
     ensures broke { (s : Sitting) → E.stands engine.old s
         → IfErr result (λ fault. Broke W.took out.old gathered.old (piece script.now s line.now) (failures fault) out.new) }
+    ensures overflow { IfErr result
+        (λ fault. fault ≡ Refused 10 → W.took out.old gathered.old 0 out.new) }
     ensures known { (s : Sitting) → E.stands engine.old s → IfErr result (IsRunEnd (IsLarge script.now.plan s)) }
 {
     match &line.command {
         Command::Read { view, time } => match engine.read(alloc, *view, *time) {
             Ok(rows) => print_rows(gathered, out, script.name(*view), *time, &rows),
-            Err(refusal) => print_refusal(gathered, line.line, refusal),
+            Err(refusal) => refuse(gathered, out, line.line, refusal),
         },
         Command::Changes { view } => match engine.changes(alloc, *view) {
             Ok(changes) => print_changes(gathered, out, script.name(*view), changes.as_slice()),
-            Err(refusal) => print_refusal(gathered, line.line, refusal),
+            Err(refusal) => refuse(gathered, out, line.line, refusal),
         },
         Command::Frontier { view } => match engine.frontier(alloc, *view) {
             Ok(frontier) => print_frontier(gathered, out, script.name(*view), frontier.elements()),
-            Err(refusal) => print_refusal(gathered, line.line, refusal),
+            Err(refusal) => refuse(gathered, out, line.line, refusal),
         },
         Command::Change { .. } | Command::Advance { .. } | Command::Close { .. } => unreachable!(),
     }
@@ -158,12 +180,15 @@ pub(crate) fn obey<E: Engine, W: Out>(
         → OnOk result (E.stands engine.new (after script.now.plan s line.now.command) × Wrote W.took out.old gathered.old (piece script.now s line.now) out.new gathered.new) }
     ensures broke { (s : Sitting) → E.stands engine.old s
         → IfErr result (λ fault. Broke W.took out.old gathered.old (piece script.now s line.now) (failures fault) out.new) }
+    ensures overflow { (s : Sitting) → E.stands engine.old s
+        → IfErr result (λ fault. fault ≡ Refused 10
+        → (is_reading line.now.command ≡ true) × W.took out.old gathered.old 0 out.new) }
     ensures known { (s : Sitting) → E.stands engine.old s → IfErr result (IsRunEnd (IsLarge script.now.plan s)) }
 {
     if is_reading(&line.command) {
         return ask(alloc, engine, script, line, gathered, out);
     }
-    tell(alloc, engine, line, gathered)?;
+    tell(alloc, engine, line, gathered, out)?;
     gathered.pass_on(out)?;
     Ok(())
 }

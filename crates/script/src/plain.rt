@@ -17,7 +17,9 @@ ghost use Rattle.plan.specs.Rules.{IsRefusalBy};
 ghost use Rattle.machine.specs.Worlds.{open_at};
 ghost use Rattle.grammar.specs.Commands.{is_input_of, is_view_of};
 ghost use Rattle.oracle.specs.Evaluation.{inputs_before};
+ghost use Rattle.script.specs.Ends.{IsTextBeforeOverflow};
 ghost use Rattle.script.specs.Engines.{IsAnswer, IsRunEnd, failures};
+ghost use Rattle.script.specs.declared.fault.RunFault.TheVariants.{Refused};
 ghost use Rattle.script.specs.Outs.{IsBeginning};
 ghost use Rattle.script.specs.PlainStanding.{IsRegister, Records, AreFrontiers, with_entry, with_openings, entry_refusal, openings_refusal};
 ghost use Rattle.script.specs.Sessions.{read_refusal, rows_at, changes_at, frontier_at};
@@ -39,7 +41,7 @@ use std::marker::Model;
 use update::{Bag, Refusal, Update};
 
 /// All that was accepted, and nothing that follows from it. A contract sees the plan, the changes and the openings.
-#[derive(Debug, Drop)]
+#[derive(Drop)]
 pub(crate) struct Plain {
     plan: Plan,
     // The changes of each input, the oldest first, in the order of the inputs' numbers.
@@ -306,7 +308,8 @@ impl Engine for Plain {
 
 /// Runs a script without workers, and puts what it writes: every view is worked out from scratch whenever it is asked for.
 ///
-/// Where it answers Ok, exactly the script's text was taken. After a fault a beginning of it was:
+/// Where it answers Ok, exactly the script's text was taken. After a fault a beginning of it was; after `Refused(10)` this is
+/// the text of the lines before the one that met it, whole:
 ///
 /// | Fault | Where |
 /// |---|---|
@@ -321,6 +324,8 @@ impl Engine for Plain {
 pub fn plain_script<W: Out>(alloc: Global, script: &Script, out: &mut W) -> Result<(), RunFault>
     ensures written { OnOk result (W.took out.old (text script.now) 0 out.new) }
     ensures beginning { IfErr result (λ fault. (part : List ℕ) × IsBeginning part (text script.now) × W.took out.old part (failures fault) out.new) }
+    ensures overflow { IfErr result (λ fault. fault ≡ Refused 10
+        → (part : List ℕ) × IsTextBeforeOverflow script.now part × W.took out.old part 0 out.new) }
     ensures known { IfErr result (IsRunEnd (IsLargeScript script.now)) }
 {
     let mut engine = Plain::open(alloc, script.plan())?;

@@ -1,5 +1,6 @@
 //! The lines of a script, one after another.
-ghost use Rattle.std.specs.Prelude.{◌≡◌, ◌≢◌, ◌⊎◌, ◌↔◌, ℕ, List, [], IfErr, OnOk, IsErrOf};
+ghost use Rattle.std.specs.Prelude.{◌≡◌, ◌≢◌, ◌⊎◌, ◌↔◌, ◌++◌, ℕ, List, [], IfErr, OnOk, IsErrOf};
+ghost use Rattle.script.specs.Ends.{IsTextBefore, IsTextBeforeOverflow};
 ghost use Rattle.script.specs.Engines.{IsRunEnd, failures};
 ghost use Rattle.script.specs.Outs.{IsBeginning, Wrote, Broke};
 ghost use Rattle.script.specs.Text.{Sitting, lines_text, text};
@@ -29,6 +30,10 @@ fn obey_all<E: Engine, W: Out>(
         → OnOk result (Wrote W.took out.old gathered.old (lines_text script.now s script.now.commands) out.new gathered.new) }
     ensures broke { (s : Sitting) → E.stands engine.old s
         → IfErr result (λ fault. Broke W.took out.old gathered.old (lines_text script.now s script.now.commands) (failures fault) out.new) }
+    ensures overflow { (s : Sitting) → E.stands engine.old s
+        → IfErr result (λ fault. fault ≡ Refused 10 → (part : List ℕ)
+        × IsTextBefore script.now s script.now.commands part
+        × W.took out.old (gathered.old ++ part) 0 out.new) }
     ensures known { (s : Sitting) → E.stands engine.old s → IfErr result (IsRunEnd (IsLargeAlong script.now.plan s script.now.commands)) }
 {
     for line in script.command_lines() {
@@ -50,6 +55,10 @@ pub(crate) fn run<E: Engine, W: Out>(
         → OnOk result (W.took out.old (lines_text script.now s script.now.commands) 0 out.new) }
     ensures broke { (s : Sitting) → E.stands engine.old s
         → IfErr result (λ fault. Broke W.took out.old [] (lines_text script.now s script.now.commands) (failures fault) out.new) }
+    ensures overflow { (s : Sitting) → E.stands engine.old s
+        → IfErr result (λ fault. fault ≡ Refused 10 → (part : List ℕ)
+        × IsTextBefore script.now s script.now.commands part
+        × W.took out.old part 0 out.new) }
     ensures known { (s : Sitting) → E.stands engine.old s → IfErr result (IsRunEnd (IsLargeAlong script.now.plan s script.now.commands)) }
 {
     let mut gathered = Gathered::new(alloc);
@@ -60,7 +69,8 @@ pub(crate) fn run<E: Engine, W: Out>(
 
 /// Runs a script, and puts what it writes.
 ///
-/// Where it answers Ok, exactly the script's text was taken. After a fault a beginning of it was:
+/// Where it answers Ok, exactly the script's text was taken. After a fault a beginning of it was; after `Refused(10)` this is
+/// the text of the lines before the one that met it, whole:
 ///
 /// | Fault | Where |
 /// |---|---|
@@ -80,6 +90,8 @@ pub fn run_script<W: Out>(
 ) -> Result<(), RunFault>
     ensures written { OnOk result (W.took out.old (text script.now) 0 out.new) }
     ensures beginning { IfErr result (λ fault. (part : List ℕ) × IsBeginning part (text script.now) × W.took out.old part (failures fault) out.new) }
+    ensures overflow { IfErr result (λ fault. fault ≡ Refused 10
+        → (part : List ℕ) × IsTextBeforeOverflow script.now part × W.took out.old part 0 out.new) }
     ensures workers { IsErrOf result (Refused 23) ↔ (workers ≢ 1) }
     ensures known { IfErr result (λ fault. IsRunEnd (IsLargeScript script.now) fault ⊎ (fault ≡ Refused 23)) }
 {

@@ -31,7 +31,7 @@ const BACKLOG: usize = 64;
 const CLIENT: usize = 0;
 
 /// A board whose one worker carries on what waits where rows are asked for. A contract sees what lies on the board.
-#[derive(Debug, Drop)]
+#[derive(Drop)]
 pub(crate) struct Solo {
     board: Board<Bitime>,
     // Want of memory, if the worker met it: then it may have a piece in hand.

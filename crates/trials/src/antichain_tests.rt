@@ -1,7 +1,8 @@
-//! The calls of antichains that take memory, where an allocation is refused.
+//! Antichains: the calls that take memory, where an allocation is refused, and joined antichains worked out by hand.
 use crate::sketches::at;
 use antichain::{Antichain, NoMemory};
 use lattice::Bitime;
+use std::alloc::Global;
 
 // A copy, and what is beyond both it and the antichain, which is the antichain again.
 fn joined_with_copy(frontier: &Antichain<Bitime>) -> Result<Antichain<Bitime>, NoMemory> {
@@ -28,4 +29,27 @@ fn fifth_elements_take_memory(rt: HostRuntime) {
         done => done,
     };
     assert!(rt; joined.is_ok_and(|joined| joined == frontier));
+}
+
+// The antichain of these times.
+fn antichain(alloc: Global, times: &[Bitime]) -> Result<Antichain<Bitime>, NoMemory> {
+    let mut antichain = Antichain::new(alloc);
+    for time in times {
+        antichain.insert(*time)?;
+    }
+    Ok(antichain)
+}
+
+// A time is beyond the joined antichain exactly where it is beyond both, which a union or an intersection of the elements
+// would miss.
+#[test]
+fn joined_antichains(rt: HostRuntime) -> Result<(), NoMemory> {
+    let corner = antichain(rt.alloc(), &[at((0, 3)), at((3, 0))])?;
+    let middle = corner.joined(&antichain(rt.alloc(), &[at((1, 1))])?)?;
+    assert!(rt; middle.elements() == [at((1, 3)), at((3, 1))].as_slice());
+    let above = corner.joined(&antichain(rt.alloc(), &[at((2, 4))])?)?;
+    assert!(rt; above.elements() == [at((2, 4))].as_slice());
+    let none = corner.joined(&antichain(rt.alloc(), &[])?)?;
+    assert!(rt; none.is_empty());
+    Ok(())
 }

@@ -23,6 +23,8 @@ mod difference_tests;
 #[cfg(test)]
 mod grammar_tests;
 #[cfg(test)]
+mod lattice_tests;
+#[cfg(test)]
 mod linear_tests;
 #[cfg(test)]
 mod machine_tests;
@@ -30,6 +32,8 @@ mod machine_tests;
 mod oracle_tests;
 #[cfg(test)]
 mod plan_tests;
+#[cfg(test)]
+mod row_tests;
 #[cfg(test)]
 mod script_tests;
 #[cfg(test)]

@@ -12,6 +12,6 @@ fn maps_make_images(rt: HostRuntime) -> Result<(), Fail> {
     let want = list(rt.alloc(), &[((5, 0), &[-5, 3], 2), ((5, 0), &[-5, 3], -2)])?;
     assert!(rt; is_linear(&node));
     assert!(rt; takes_rows(&node, &given));
-    assert_eq!(rt; apply(&node, given), Ok(want));
+    assert!(rt; apply(&node, given) == Ok(want));
     Ok(())
 }

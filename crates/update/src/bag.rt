@@ -16,7 +16,7 @@ use std::marker::Model;
 /// Rows, each with how often it counts, which is never 0. A contract sees the list of its entries, in the order of rows,
 /// so that equal bags are equal lists. To go through a bag, ask for [`Bag::row`] and [`Bag::count`] of each number below
 /// [`Bag::len`].
-#[derive(Debug, Drop)]
+#[derive(Drop)]
 pub struct Bag {
     entries: Vec<Update<Moment>>,
 }

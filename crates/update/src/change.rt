@@ -7,7 +7,7 @@ use lattice::Lattice;
 use row::Row;
 
 /// A row whose weight changes by `diff` from `time` on. Updates sort by time, then by row, then by difference.
-#[derive(Debug, Drop, PartialEq, Eq, PartialOrd, Ord, Hash)]
+#[derive(Drop, PartialEq, Eq, PartialOrd, Ord)]
 pub struct Update<T> {
     /// From when on the row counts.
     pub time: T,

@@ -4,7 +4,7 @@
 use lattice::{Lattice, PartialOrder};
 
 /// The one time.
-#[derive(Clone, Copy, Debug, Default, PartialEq, Eq, PartialOrd, Ord, Hash)]
+#[derive(Clone, Copy, Default, PartialEq, Eq, PartialOrd, Ord)]
 pub(crate) struct Moment;
 
 impl PartialOrder for Moment {

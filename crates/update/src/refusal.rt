@@ -6,72 +6,42 @@ ghost use Rattle.std.specs.Prelude.{◌≡◌};
 use antichain::NoMemory;
 use row::WidthRefused;
 use std::alloc::{AllocError, AllocFailed};
-use thiserror::Error;
+use std::error::Error;
+use std::fmt;
 
 /// Why a call was refused. Its number is that of [`Refusal::code`].
-#[derive(Clone, Copy, Debug, PartialEq, Eq, Hash, Error)]
+#[derive(Clone, Copy, Debug, PartialEq, Eq)]
 pub enum Refusal {
-    #[error("no memory")]
     OutOfMemory = 1,
-    #[error("the row has not the width that it needs")]
     WrongWidth = 2,
-    #[error("a difference of 0")]
     ZeroWeight = 3,
-    #[error("a difference above 2147483647 or below -2147483647")]
     WeightTooLarge = 4,
-    #[error("the time is passed")]
     TimePassed = 5,
-    #[error("the frontier would go back")]
     NotForward = 6,
-    #[error("the input has taken 1048576 changes")]
     InputFull = 7,
-    #[error("the view may still change at the time")]
     NotPassed = 8,
-    #[error("the time was given up")]
     GivenUp = 9,
-    #[error("a weight is no 64-bit number")]
     Overflow = 10,
-    #[error("the board is away")]
     Busy = 11,
-    #[error("the worker has failed before")]
     Failed = 12,
-    #[error("the plan has 256 nodes")]
     TooManyNodes = 13,
-    #[error("no such name, or one of another sort")]
     UnknownName = 14,
-    #[error("the name is taken")]
     DuplicateName = 15,
-    #[error("the source has no such column")]
     BadColumn = 16,
-    #[error("the sources have two widths")]
     WidthMismatch = 17,
-    #[error("the source is not arranged")]
     NotArranged = 18,
-    #[error("the sources are arranged by different keys")]
     KeyMismatch = 19,
-    #[error("a width that is not 1 to 8")]
     BadWidth = 20,
-    #[error("a key of no column, or of more than the source has")]
     BadKey = 21,
-    #[error("the batch or group does not fit here")]
     Stray = 22,
-    #[error("workers or clients that are not 1 to 16")]
     BadWorkers = 23,
-    #[error("a thread could not be started")]
     NoThread = 24,
-    #[error("an unknown command, kind or comparison")]
     UnknownCommand = 31,
-    #[error("too few or too many words")]
     WrongWordCount = 32,
-    #[error("not a number or an item")]
     BadNumber = 33,
-    #[error("on the wrong side of `start`")]
     BadOrder = 34,
-    #[error("a line of more than 4096 bytes")]
     LineTooLong = 35,
-    #[error("a line that is not UTF-8")]
     NotUtf8 = 36,
-    #[error("not a name")]
     BadName = 37,
 }
 
@@ -84,7 +54,53 @@ impl Refusal {
     {
         self as u8
     }
+
+    // What the refusal says.
+    fn text(self) -> &'static str {
+        match self {
+            Refusal::OutOfMemory => "no memory",
+            Refusal::WrongWidth => "the row has the wrong number of columns",
+            Refusal::ZeroWeight => "the difference is 0",
+            Refusal::WeightTooLarge => "the difference is above 2147483647 or below -2147483647",
+            Refusal::TimePassed => "the frontier has passed the time",
+            Refusal::NotForward => "the frontier would go back",
+            Refusal::InputFull => "the input has taken 1048576 changes",
+            Refusal::NotPassed => "the view's frontier has not passed the time",
+            Refusal::GivenUp => "the time was given up",
+            Refusal::Overflow => "a weight is no 64-bit number",
+            Refusal::Busy => "the board is away",
+            Refusal::Failed => "the worker failed before",
+            Refusal::TooManyNodes => "the plan has 256 nodes",
+            Refusal::UnknownName => "no such name, or a name of another sort",
+            Refusal::DuplicateName => "the name is taken",
+            Refusal::BadColumn => "the source has no such column",
+            Refusal::WidthMismatch => "the sources have different widths",
+            Refusal::NotArranged => "the source is not arranged",
+            Refusal::KeyMismatch => "the sources are arranged by different keys",
+            Refusal::BadWidth => "a width that is not 1 to 8",
+            Refusal::BadKey => "a key of no columns, or of more than the source has",
+            Refusal::Stray => "the batch or group does not fit here",
+            Refusal::BadWorkers => "the number of workers or clients is not 1 to 16",
+            Refusal::NoThread => "a thread could not be started",
+            Refusal::UnknownCommand => "an unknown command, kind or comparison",
+            Refusal::WrongWordCount => "too few or too many words",
+            Refusal::BadNumber => "not a number or an item",
+            Refusal::BadOrder => "on the wrong side of `start`",
+            Refusal::LineTooLong => "a line of more than 4096 bytes",
+            Refusal::NotUtf8 => "a line that is not UTF-8",
+            Refusal::BadName => "not a name",
+        }
+    }
 }
+
+// The texts are written by hand: a derive for so many variants takes eight seconds to prove, and says no more.
+impl fmt::Display for Refusal {
+    fn fmt<W: fmt::Write>(&self, f: &mut fmt::Formatter<W>) -> fmt::Result {
+        f.write_str(self.text())
+    }
+}
+
+impl Error for Refusal {}
 
 impl From<AllocError> for Refusal {
     ghost use Rattle.std.specs.Prelude.{◌≡◌};

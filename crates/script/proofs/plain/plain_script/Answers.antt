@@ -22,3 +22,9 @@ returns-clause-known g c =
     let t = c.args.script.now in
     let stands = subst (λ (p : List Node). Records c.in_ok-engine.engine (first_sitting p)) c.plan.ensures.plan c.in_ok-engine.ensures.stands in
     c.run.ensures.known (first_sitting t.plan) stands
+
+pub returns-clause-overflow : goal.returns-clause-overflow
+returns-clause-overflow g c =
+    let t = c.args.script.now in
+    let stands = subst (λ (p : List Node). Records c.in_ok-engine.engine (first_sitting p)) c.plan.ensures.plan c.in_ok-engine.ensures.stands in
+    c.run.ensures.overflow (first_sitting t.plan) stands

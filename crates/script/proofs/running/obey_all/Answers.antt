@@ -1,11 +1,11 @@
-use Rattle.std.proofs.Common.{◌≡◌, suc, ◌+◌, ◌<◌, List, length, get_or, take, drop, take-append-drop, subst, arith}
+use Rattle.std.proofs.Common.{◌≡◌, suc, ◌+◌, ◌<◌, List, length, get_or, take, drop, take-append-drop, refl, sym, subst, arith}
 use Rattle.std.proofs.lemmas.Result.{err_from_is_err_and}
 use Rattle.grammar.specs.declared.command.CommandLine.{CommandLine}
 use Rattle.script.specs.Text.{Sitting, after, after_lines, piece, lines_text}
 use Rattle.script.specs.Weights.{IsLarge}
-use Rattle.script.proofs.EndLemmas.{end_weaker}
-use Rattle.script.proofs.OutLemmas.{wrote_more, broke_more}
-use Rattle.script.proofs.TextLemmas.{after_more, text_more, text_all}
+use Rattle.script.proofs.EndLemmas.{end_weaker, cause_of_end}
+use Rattle.script.proofs.OutLemmas.{wrote_more, broke_more, wrote_all}
+use Rattle.script.proofs.TextLemmas.{all_lines, after_more, text_more, text_all}
 use Rattle.script.proofs.running.obey_all.Goals as goal
 
 pub loop-line-preserved : goal.loop-line-preserved
@@ -53,3 +53,31 @@ returns-in_err-obey-clause-known g c =
     (end_weaker
     (λ (large : IsLarge t.plan (after_lines t.plan s (take i t.commands))). (take i t.commands, drop i t.commands, take-append-drop i t.commands, large))
     _ (c.in_err-obey.ensures.known (after_lines t.plan s (take i t.commands)) (c.loop-line.invariant.stands s h)))
+
+pub returns-in_err-obey-clause-overflow : goal.returns-in_err-obey-clause-overflow
+returns-in_err-obey-clause-overflow g c =
+    let t = c.args.script.now in
+    let i = c.loop-line.line-index in
+    let line = c.line-item.result in
+    let same = c.command_lines-line-items.ensures.lines in
+    let within : i < length t.commands = subst (λ (lines : List CommandLine). i < length lines) same c.loop-line-test.true in
+    let is : line ≡ get_or t.commands i line = subst (λ (lines : List CommandLine). line ≡ get_or lines i line) same c.line-item.is in
+    let before = λ (s : Sitting). after_lines t.plan s (take i t.commands) in
+    let p = err_from_is_err_and c.from_residual.result c.from_residual.ensures.1 in
+    λ s h. rw (p.1, p.2)
+    (λ ten.
+    let stands = c.loop-line.invariant.stands s h in
+    let met = c.in_err-obey.ensures.overflow (before s) stands ten in
+    let text = lines_text t s (take i t.commands) in (
+      text,
+      record {
+        before = take i t.commands;
+        line = line;
+        behind = drop (suc i) t.commands;
+        in_order = sym (all_lines t.commands i line within is);
+        asks = met.0;
+        large = cause_of_end _ (c.in_err-obey.ensures.known (before s) stands) ten;
+        written = refl;
+      },
+      wrote_all g.W.Out.took g.met.W.Out.in_turn c.args.out.now c.loop-line.out c.obey.new.out c.args.gathered.now text c.loop-line.gathered (c.loop-line.invariant.wrote s h) met.1,
+    ))

@@ -1,4 +1,4 @@
-use Rattle.std.proofs.Common.{ℕ, List, subst}
+use Rattle.std.proofs.Common.{ℕ, List, [], subst}
 use Rattle.std.proofs.lemmas.Result.{err_from_is_err_and}
 use Rattle.script.specs.Outs.{Wrote}
 use Rattle.script.specs.Text.{lines_text}
@@ -8,7 +8,7 @@ use Rattle.script.proofs.running.run.Goals as goal
 pub returns-clause-wrote : goal.returns-clause-wrote
 returns-clause-wrote g c s h =
     let t = c.args.script.now in
-    wrote_all g.W.Out.took g.met.W.Out.in_turn c.args.out.now c.obey_all.new.out c.flush.new.out (lines_text t s t.commands) c.obey_all.new.gathered
+    wrote_all g.W.Out.took g.met.W.Out.in_turn c.args.out.now c.obey_all.new.out c.flush.new.out [] (lines_text t s t.commands) c.obey_all.new.gathered
     (subst (λ (waiting : List ℕ). Wrote g.W.Out.took c.args.out.now waiting (lines_text t s t.commands) c.obey_all.new.out c.obey_all.new.gathered) c.new-gathered.ensures (c.in_ok-obey_all.ensures.wrote s h)) c.in_ok-flush.ensures.all
 
 pub returns-in_err-flush-clause-broke : goal.returns-in_err-flush-clause-broke

@@ -1,4 +1,4 @@
-use Rattle.std.proofs.Common.{◌≡◌, ◌⊎◌, ℕ, List, inl, subst}
+use Rattle.std.proofs.Common.{◌≡◌, ◌⊎◌, List, inl, subst}
 use Rattle.std.proofs.lemmas.Result.{IfErr-weaker}
 use Rattle.lattice.specs.Pairs.{make_pair}
 use Rattle.plan.specs.declared.node.Node.{Node}
@@ -14,3 +14,9 @@ returns-clause-known g c =
     let t = c.args.script.now in
     let stands = subst (λ (p : List Node). StandsAs at_or_below (make_pair 0 0) c.in_ok-engine.engine (first_sitting p)) c.plan.ensures.plan c.in_ok-engine.ensures.stands in
     IfErr-weaker c.run.result (IsRunEnd (IsLargeScript t)) (λ fault. IsRunEnd (IsLargeScript t) fault ⊎ (fault ≡ Refused 23)) (λ fault e. inl e) (c.run.ensures.known (first_sitting t.plan) stands)
+
+pub returns-clause-overflow : goal.returns-clause-overflow
+returns-clause-overflow g c =
+    let t = c.args.script.now in
+    let stands = subst (λ (p : List Node). StandsAs at_or_below (make_pair 0 0) c.in_ok-engine.engine (first_sitting p)) c.plan.ensures.plan c.in_ok-engine.ensures.stands in
+    c.run.ensures.overflow (first_sitting t.plan) stands

@@ -1,6 +1,5 @@
-use Rattle.std.proofs.Common.{◌≡◌, ℕ, List, None, ap, subst}
+use Rattle.std.proofs.Common.{◌≡◌, List, None, ap, subst}
 use Rattle.lattice.specs.Pairs.{make_pair}
-use Rattle.lattice.specs.declared.product.Pair.{Pair}
 use Rattle.plan.specs.declared.node.Node.{Node}
 use Rattle.machine.specs.Dataflows.{Dataflow}
 use Rattle.script.specs.Engines.{IsAnswer}
