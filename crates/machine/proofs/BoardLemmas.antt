@@ -1,5 +1,5 @@
 -- What each event makes of the histories that a board may stand for: the events of clients.
-use Rattle.std.proofs.Common.{◌≡◌, ℕ, zero, suc, ◌<◌, ◌≤◌, Bool, true, false, cond, not, ◌&&◌, ◌||◌, List, [], ◌∷◌, ◌++◌, length, set, get_or, sym, refl, ap, ◌∙◌, subst, None, eqb, arith, unsigned_abs, nat_lt, nat_le}
+use Rattle.std.proofs.Common.{◌≡◌, ℕ, zero, suc, ◌+◌, ◌<◌, ◌≤◌, Bool, true, false, cond, not, ◌&&◌, ◌||◌, List, [], ◌∷◌, ◌++◌, length, set, get_or, sym, refl, ap, ◌∙◌, subst, None, eqb, arith, unsigned_abs, nat_lt, nat_le}
 use Rattle.std.specs.List.{filter, list_any}
 use Rattle.std.specs.Ordering.{int_eq}
 use Rattle.std.proofs.lemmas.Bool.{eqb-true, eq-eqb, false≢true, true≢false}
@@ -17,12 +17,14 @@ use Rattle.machine.specs.declared.event.Open.{Open}
 use Rattle.machine.specs.declared.event.Event.{Event}
 use Rattle.machine.specs.declared.event.Event.TheVariants.{Feed, Advance}
 use Rattle.machine.specs.Worlds.{World, fed_to, open_at}
-use Rattle.machine.specs.Histories.{IsInput, IsFeed, IsAdvance, world}
+use Rattle.machine.specs.Histories.{IsInput, IsFeed, world}
 use Rattle.std.specs.Result.{IfOk, OnOk, OnErr}
 use Rattle.std.specs.Prelude.{Result, Ok, Err}
 use Rattle.std.specs.Prelude.{replicate}
 use Rattle.update.specs.Bags.{count_of}
-use Rattle.update.specs.Updates.{as_of}
+use Rattle.update.specs.Updates.{as_of, size}
+use Rattle.update.proofs.ConsolidatedLemmas.{weight_is}
+use Rattle.machine.proofs.SizeLemmas.{size-append}
 use Rattle.machine.specs.Dataflows.{Dataflow}
 use Rattle.std.specs.List.{slice_get}
 use Rattle.std.specs.Prelude.{IsTrue, Option, Some}
@@ -33,7 +35,7 @@ use Rattle.machine.specs.declared.event.Event.TheVariants.{Take}
 use Rattle.machine.specs.Dataflows.{node_of}
 use Rattle.machine.specs.Worlds.{queue}
 use Rattle.machine.specs.Outstanding.{stamp}
-use Rattle.machine.specs.Histories.{with_at, without, holding}
+use Rattle.machine.specs.Histories.{with_at, holding}
 use Rattle.std.proofs.Math.IntN.{ℤ, ◌+ℤ◌}
 use Rattle.std.proofs.lemmas.Int.{ints}
 use Rattle.plan.specs.Rules.{is_output}
@@ -43,8 +45,9 @@ use Rattle.machine.specs.declared.event.Event.TheVariants.{Give}
 use Rattle.machine.specs.declared.view.View.{View}
 use Rattle.machine.specs.Worlds.{emitted_at}
 use Rattle.machine.specs.Histories.{is_held_by, IsGive}
-use Rattle.machine.specs.Boards.{capturing, given}
+use Rattle.machine.specs.Boards.{capturing, given, is_from_start}
 use Rattle.machine.proofs.FlowLemmas.{sum_at-append}
+use Rattle.machine.proofs.SiteLemmas.{queued_more, queued_less, held_more, held_others, open_instead}
 use Rattle.machine.specs.Boards.{taken, turned}
 use Rattle.machine.specs.Histories.{IsTakeHeld}
 use Rattle.machine.specs.Boards.{no_view, first_board, Shown, IsBoard, Stands, looked, fed, advanced, feed_refusal, advance_refusal}
@@ -84,7 +87,7 @@ module _ {T : Type 0} (below : T → T → Bool) (minimum : T) where
         width = eqb-true (length f.update.row) (width_of b.dataflow.nodes f.input) (unfaulted _ no.0);
         some = λ z. false≢true (sym no.1 ∙ (Decides-int_eq f.update.diff (pos 0)).1 z);
         small = small (unsigned_abs f.update.diff) (unfaulted _ no.2);
-        not_passed = subst (λ os. is_beyond below (open_at f.input os) f.update.time ≡ true) s.openings (unfaulted _ no.3);
+        not_passed = subst (λ ts. is_beyond below ts f.update.time ≡ true) (s.openings f.input) (unfaulted _ no.3);
         room = subst (λ n. n < 1048576) (s.accepted f.input i.0) (room (get_or b.accepted f.input 0) (unfaulted _ no.4));
       }
     where
@@ -97,7 +100,7 @@ module _ {T : Type 0} (below : T → T → Bool) (minimum : T) where
   pub stands_fed : (b : Shown T) → IsBoard b → (h : List (Event T)) (client : ℕ) (f : Fed T) → feed_refusal below b f ≡ None → IsInput b.dataflow f.input → Stands below minimum b h → Stands below minimum (fed client f b) (Feed client f ∷ h)
   stands_fed b board h client f e i s = record {
     legal = (allowed_feed b h f e i s, s.legal);
-    in_flight = ap (λ z. z ++ record { place = Rattle.machine.specs.Shares.home b.dataflow f; updates = f.update ∷ [] } ∷ []) s.in_flight;
+    queues = queued_more b.in_flight w.in_flight (record { place = Rattle.machine.specs.Shares.home b.dataflow f; updates = f.update ∷ [] } ∷ []) s.queues;
     held = s.held;
     openings = s.openings;
     hand = s.hand;
@@ -120,10 +123,10 @@ module _ {T : Type 0} (below : T → T → Bool) (minimum : T) where
 
   pub stands_advanced : (b : Shown T) (h : List (Event T)) (client i : ℕ) (ts : List T) → advance_refusal below b i ts ≡ None → IsInput b.dataflow i → Stands below minimum b h → Stands below minimum (advanced client i ts b) (Advance client i ts ∷ h)
   stands_advanced b h client i ts e n s = record {
-    legal = (record { input = n; onward = subst (λ os. all_beyond below (open_at i os) ts ≡ true) s.openings (unfaulted _ (no_first (not (all_beyond below (open_at i b.openings) ts)) NotForward [] e).0) }, s.legal);
-    in_flight = s.in_flight;
+    legal = (record { input = n; onward = subst (λ os. all_beyond below os ts ≡ true) (s.openings i) (unfaulted _ (no_first (not (all_beyond below (open_at i b.openings) ts)) NotForward [] e).0) }, s.legal);
+    queues = s.queues;
     held = s.held;
-    openings = ap (λ z. Rattle.machine.specs.Histories.opening i ts ++ filter (λ o. not (eqb o.input i)) z) s.openings;
+    openings = open_instead b.openings (world below minimum b.dataflow h).openings i ts s.openings;
     hand = s.hand;
     accepted = s.accepted;
     since = s.since;
@@ -139,7 +142,7 @@ module _ {T : Type 0} (below : T → T → Bool) (minimum : T) where
   pub stands_looked : (b c : Shown T) (h : List (Event T)) (actor : ℕ) → c ≡ looked actor b → Stands below minimum b h → Stands below minimum c (c.last ∷ h)
   stands_looked b c h actor e s = subst (λ z. Stands below minimum z (z.last ∷ h)) (sym e) (record {
     legal = (tt, s.legal);
-    in_flight = s.in_flight;
+    queues = s.queues;
     held = s.held;
     openings = s.openings;
     hand = s.hand;
@@ -158,13 +161,15 @@ repeated (suc n) (suc k) x d l = repeated n k x d (omega arith)
 pub stands_first : {T : Type 0} (below : T → T → Bool) (minimum : T) (p : Dataflow) → Stands below minimum (first_board minimum p) []
 stands_first below minimum p = record {
   legal = tt;
-  in_flight = refl;
-  held = refl;
-  openings = refl;
+  queues = λ site. refl;
+  held = λ n k. refl;
+  openings = λ i. refl;
   hand = λ k l. repeated p.workers k None None l;
   accepted = λ i l. repeated (length p.nodes) i 0 0 l;
   since = λ v l. ap (λ z. z.since) (repeated (length p.nodes) v (record { since = minimum ∷ []; captured = [] }) no_view l);
-  captured = λ v l o t r. ap (λ z. count_of (as_of below t z.captured) r) (repeated (length p.nodes) v (record { since = minimum ∷ []; captured = [] }) no_view l);
+  captured = λ v l o.
+      let none = repeated (length p.nodes) v (record { since = minimum ∷ []; captured = [] }) no_view l in
+      record { sums = λ t k r. ap (λ z. count_of (as_of below t z.captured) r) none; small = let e = ap (λ z. size z.captured) none in omega (arith, e) };
   last = tt;
 }
 
@@ -190,9 +195,9 @@ module _ {T : Type 0} (below : T → T → Bool) (minimum : T) where
       → slice_get (queue site b.in_flight) number ≡ Some us → (arranged_by (node_of b.dataflow site.node) ≡ None → number ≡ 0)
       → Stands below minimum b h → Stands below minimum (taken below site number us b) (Take site number us ∷ h)
   stands_taken b board h site number us l free waits turn s = record {
-    legal = (record { worker = l; free = sym (s.hand site.worker l) ∙ free; waits = subst (λ q. slice_get (queue site q) number ≡ Some us) s.in_flight waits; turn = turn }, s.legal);
-    in_flight = ap (λ q. without site q number) s.in_flight;
-    held = ap (λ z. holding site.node site.worker (stamp below us) ++ z) s.held;
+    legal = (record { worker = l; free = sym (s.hand site.worker l) ∙ free; waits = subst (λ q. slice_get q number ≡ Some us) (s.queues site) waits; turn = turn }, s.legal);
+    queues = queued_less b.in_flight (world below minimum b.dataflow h).in_flight site number s.queues;
+    held = held_more b.held (world below minimum b.dataflow h).held (holding site.node site.worker (stamp below us)) s.held;
     openings = s.openings;
     hand = hand_set b.hand (world below minimum b.dataflow h).hand b.dataflow.workers site.worker (Some site.node) board.hand l s.hand;
     accepted = s.accepted;
@@ -205,7 +210,7 @@ module _ {T : Type 0} (below : T → T → Bool) (minimum : T) where
       → c ≡ turned k n b → Stands below minimum b h → Stands below minimum c (c.last ∷ h)
   stands_turned b c board h k n l legal e s = subst (λ z. Stands below minimum z (z.last ∷ h)) (sym e) (record {
     legal = (legal, s.legal);
-    in_flight = s.in_flight;
+    queues = s.queues;
     held = s.held;
     openings = s.openings;
     hand = hand_set b.hand (world below minimum b.dataflow h).hand b.dataflow.workers k (Some n) board.hand l s.hand;
@@ -222,18 +227,24 @@ module _ {T : Type 0} (below : T → T → Bool) (minimum : T) where
   stands_after_take (Ok us) b c h site number board l free turn waits e err s = subst (λ z. Stands below minimum z (z.last ∷ h)) (sym e) (stands_taken b board h site number us l free waits turn s)
   stands_after_take (Err r) b c h site number board l free turn waits e err s = stands_looked below minimum b c h site.worker err s
 
+size_both : {T : Type 0} (a c : List (Update T)) → size (a ++ c) ≡ size a + size c
+size_both a c = let x = weight_is a in let y = weight_is c in let z = weight_is (a ++ c) in let h = size-append a c in omega (arith, x, y, z, h)
+
 module _ {T : Type 0} (below : T → T → Bool) (minimum : T) where
   pub stands_given : (b : Shown T) → IsBoard b → (h : List (Event T)) (g : Emission T) (ts : List T) (sent : List (Bundle T)) → g.worker < b.dataflow.workers → g.node < length b.dataflow.nodes
       → IsGive below b.dataflow (world below minimum b.dataflow h) g ts sent → Stands below minimum b h → Stands below minimum (given g ts sent b) (Give g ts sent ∷ h)
   stands_given b board h g ts sent l within legal s = record {
     legal = (legal, s.legal);
-    in_flight = ap (λ z. z ++ sent) s.in_flight;
-    held = ap (λ z. holding g.node g.worker ts ++ filter (λ m. not (is_held_by g.node g.worker m)) z) s.held;
+    queues = queued_more b.in_flight w.in_flight sent s.queues;
+    held = held_more (filter (λ m. not (is_held_by g.node g.worker m)) b.held) (filter (λ m. not (is_held_by g.node g.worker m)) w.held) (holding g.node g.worker ts) (held_others b.held w.held g.node g.worker s.held);
     openings = s.openings;
     hand = hand_set below minimum b.hand w.hand b.dataflow.workers g.worker None board.hand l s.hand;
     accepted = s.accepted;
     since = λ v m. since v m (is_output (node_of b.dataflow g.node));
-    captured = λ v m o t r. captured v m o t r (is_output (node_of b.dataflow g.node)) refl (eqb g.node v) refl;
+    captured = λ v m o. record {
+      sums = λ t k r. captured v m o t k r (is_output (node_of b.dataflow g.node)) refl (eqb g.node v) refl;
+      small = small v m o (is_output (node_of b.dataflow g.node)) refl (eqb g.node v) refl;
+    };
     last = refl;
   }
     where
@@ -257,19 +268,33 @@ module _ {T : Type 0} (below : T → T → Bool) (minimum : T) where
       swapped : (x y : ℤ) → x +ℤ y ≡ y +ℤ x
       swapped x y = omega (arith, ints)
 
-      captured : (v : ℕ) → v < length b.dataflow.nodes → IsTrue (is_output (node_of b.dataflow v)) → (t : T) (r : List ℤ) → (c : Bool) → is_output (node_of b.dataflow g.node) ≡ c → (d : Bool) → eqb g.node v ≡ d
+      captured : (v : ℕ) → v < length b.dataflow.nodes → IsTrue (is_output (node_of b.dataflow v)) → (t : T) → IsTrue (is_from_start below minimum (w.since v) || is_beyond below (w.since v) t) → (r : List ℤ) → (c : Bool) → is_output (node_of b.dataflow g.node) ≡ c → (d : Bool) → eqb g.node v ≡ d
           → count_of (as_of below t (get_or (cond c (set b.views g.node viewed) b.views) v no_view).captured) r ≡ count_of (as_of below t (cond d g.updates [] ++ emitted_at v w.emitted)) r
-      captured v m o t r true f true e =
+      captured v m o t k r true f true e =
           let here = ap (λ z. count_of (as_of below t z.captured) r) (ap (λ n. get_or (set b.views g.node viewed) n no_view) (sym (eqb-true g.node v e)) ∙ get_or-set_same b.views g.node viewed no_view long) in
           let old = get_or b.views g.node no_view in
           here
           ∙ (sum_at-append below t old.captured g.updates r
           ∙ (swapped (count_of (as_of below t old.captured) r) (count_of (as_of below t g.updates) r)
-          ∙ (ap (λ z. count_of (as_of below t g.updates) r +ℤ z) (s.captured g.node within f t r ∙ ap (λ n. count_of (as_of below t (emitted_at n w.emitted)) r) (eqb-true g.node v e))
+          ∙ (ap (λ z. count_of (as_of below t g.updates) r +ℤ z) ((s.captured g.node within f).sums t (subst (λ n. IsTrue (is_from_start below minimum (w.since n) || is_beyond below (w.since n) t)) (sym (eqb-true g.node v e)) k) r ∙ ap (λ n. count_of (as_of below t (emitted_at n w.emitted)) r) (eqb-true g.node v e))
           ∙ sym (sum_at-append below t g.updates (emitted_at v w.emitted) r))))
-      captured v m o t r true f false e = ap (λ z. count_of (as_of below t z.captured) r) (get_or-set_other b.views g.node v viewed no_view (λ z. false≢true (sym e ∙ eq-eqb g.node v (sym z)))) ∙ s.captured v m o t r
-      captured v m o t r false f true e = absurd (false≢true (sym f ∙ ap (λ n. is_output (node_of b.dataflow n)) (eqb-true g.node v e) ∙ o))
-      captured v m o t r false f false e = s.captured v m o t r
+      captured v m o t k r true f false e = ap (λ z. count_of (as_of below t z.captured) r) (get_or-set_other b.views g.node v viewed no_view (λ z. false≢true (sym e ∙ eq-eqb g.node v (sym z)))) ∙ (s.captured v m o).sums t k r
+      captured v m o t k r false f true e = absurd (false≢true (sym f ∙ ap (λ n. is_output (node_of b.dataflow n)) (eqb-true g.node v e) ∙ o))
+      captured v m o t k r false f false e = (s.captured v m o).sums t k r
+
+      small : (v : ℕ) → v < length b.dataflow.nodes → IsTrue (is_output (node_of b.dataflow v)) → (c : Bool) → is_output (node_of b.dataflow g.node) ≡ c → (d : Bool) → eqb g.node v ≡ d
+          → size (get_or (cond c (set b.views g.node viewed) b.views) v no_view).captured ≤ size (cond d g.updates [] ++ emitted_at v w.emitted)
+      small v m o true f true e =
+          let old = get_or b.views g.node no_view in
+          let here = ap (λ z. size z.captured) (ap (λ n. get_or (set b.views g.node viewed) n no_view) (sym (eqb-true g.node v e)) ∙ get_or-set_same b.views g.node viewed no_view long) in
+          let was = subst (λ n. size old.captured ≤ size (emitted_at n w.emitted)) (eqb-true g.node v e) (s.captured g.node within f).small in
+          omega (arith, here, was, size_both old.captured g.updates, size_both g.updates (emitted_at v w.emitted))
+      small v m o true f false e =
+          let here = ap (λ z. size z.captured) (get_or-set_other b.views g.node v viewed no_view (λ z. false≢true (sym e ∙ eq-eqb g.node v (sym z)))) in
+          let was = (s.captured v m o).small in
+          omega (arith, here, was)
+      small v m o false f true e = absurd (false≢true (sym f ∙ ap (λ n. is_output (node_of b.dataflow n)) (eqb-true g.node v e) ∙ o))
+      small v m o false f false e = (s.captured v m o).small
 
   pub stands_after_give : {A E : Type 0} (r : Result A E) (b c : Shown T) (h : List (Event T)) (g : Emission T) (ts : List T) (sent : List (Bundle T)) → OnOk r (IsBoard b) → g.worker < b.dataflow.workers → g.node < length b.dataflow.nodes
       → OnOk r (c ≡ given g ts sent b) → OnErr r (c ≡ looked g.worker b)

@@ -5,8 +5,8 @@ use Rattle.std.proofs.lemmas.Bool.{and_parts, or_parts, or_from, eqb-true}
 use Rattle.std.proofs.lemmas.List.Folds.{list_any-append}
 use Rattle.lattice.specs.Order.{PartialOrderLaws}
 use Rattle.lattice.specs.Frontiers.{is_beyond}
-use Rattle.antichain.specs.Antichains.{least}
 use Rattle.update.specs.Updates.{as_of}
+use Rattle.machine.proofs.StampLemmas.{stamp_passed}
 use Rattle.machine.specs.declared.event.Bundle.{Bundle}
 use Rattle.machine.specs.declared.event.Held.{Held}
 use Rattle.machine.specs.Worlds.{World, place, same_place, times, updates_at, held_at}
@@ -28,20 +28,20 @@ pub record IsClear {T : Type 0} (leq : T → T → Bool) (w : World T) (t : T) (
   pub held : (k : ℕ) → is_beyond leq (held_at n k w.held) t ≡ false
 
 module _ {T : Type 0} (leq : T → T → Bool) (o : PartialOrderLaws leq) (t : T) (test : ℕ → Bool) (m : ℕ) (there : test m ≡ true) where
-  pub clear_flight : (qs : List (Bundle T)) → is_beyond leq (flat_map (λ q. cond (test q.place.node) (least leq (times q.updates)) []) qs) t ≡ false → (port k : ℕ) → as_of leq t (updates_at (place m port k) qs) ≡ []
+  pub clear_flight : (qs : List (Bundle T)) → is_beyond leq (flat_map (λ q. cond (test q.place.node) (stamp leq q.updates) []) qs) t ≡ false → (port k : ℕ) → as_of leq t (updates_at (place m port k) qs) ≡ []
   clear_flight [] h port k = refl
   clear_flight (q ∷ qs) h port k =
-      let b = or_parts (is_beyond leq (cond (test q.place.node) (least leq (times q.updates)) []) t) (is_beyond leq (flat_map (λ q. cond (test q.place.node) (least leq (times q.updates)) []) qs) t)
-      (sym (list_any-append (λ f. leq f t) (cond (test q.place.node) (least leq (times q.updates)) []) (flat_map (λ q. cond (test q.place.node) (least leq (times q.updates)) []) qs)) ∙ h) in
+      let b = or_parts (is_beyond leq (cond (test q.place.node) (stamp leq q.updates) []) t) (is_beyond leq (flat_map (λ q. cond (test q.place.node) (stamp leq q.updates) []) qs) t)
+      (sym (list_any-append (λ f. leq f t) (cond (test q.place.node) (stamp leq q.updates) []) (flat_map (λ q. cond (test q.place.node) (stamp leq q.updates) []) qs)) ∙ h) in
       as_of-append leq t (cond (same_place q.place (place m port k)) q.updates []) (updates_at (place m port k) qs)
       ∙ rw (clear_flight qs b.1 port k, head (same_place q.place (place m port k)) refl b.0) refl
     where
-      head : (c : Bool) → same_place q.place (place m port k) ≡ c → is_beyond leq (cond (test q.place.node) (least leq (times q.updates)) []) t ≡ false → as_of leq t (cond c q.updates []) ≡ []
+      head : (c : Bool) → same_place q.place (place m port k) ≡ c → is_beyond leq (cond (test q.place.node) (stamp leq q.updates) []) t ≡ false → as_of leq t (cond c q.updates []) ≡ []
       head false e g = refl
       head true e g =
           let n = eqb-true q.place.node m (and_parts (eqb q.place.node m) (eqb q.place.port port && eqb q.place.worker k) e).0 in
           let passes : test q.place.node ≡ true = ap test n ∙ there in
-          as_of-passed leq t q.updates (passed-least leq o (times q.updates) t (subst (λ b. is_beyond leq (cond b (least leq (times q.updates)) []) t ≡ false) passes g))
+          as_of-passed leq t q.updates (stamp_passed leq o q.updates t (subst (λ b. is_beyond leq (cond b (stamp leq q.updates) []) t ≡ false) passes g))
 
   pub clear_held : (ms : List (Held T)) → is_beyond leq (flat_map (λ x. cond (test x.node) (x.time ∷ []) []) ms) t ≡ false → (k : ℕ) → is_beyond leq (held_at m k ms) t ≡ false
   clear_held [] h k = refl
@@ -93,7 +93,7 @@ module _ {T : Type 0} (leq : T → T → Bool) (o : PartialOrderLaws leq) (t : T
       and_from (not (there b.place.node) || list_all (λ u. not (leq u.time t)) b.updates) (list_all (λ b. not (there b.place.node) || list_all (λ u. not (leq u.time t)) b.updates) qs) (one (there b.place.node) g.0) (no_bundle there qs g.1)
     where
       one : (c : Bool) → is_beyond leq (cond c (stamp leq b.updates) []) t ≡ false → (not c || list_all (λ u. not (leq u.time t)) b.updates) ≡ true
-      one true k = none_before b.updates (passed-least leq o (times b.updates) t k)
+      one true k = none_before b.updates (stamp_passed leq o b.updates t k)
       one false k = refl
 
   -- so it is of held times, and of the elements of frontiers

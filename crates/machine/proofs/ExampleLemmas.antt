@@ -5,7 +5,7 @@ use Rattle.std.proofs.lemmas.Bool.{false≢true, true≢false}
 use Rattle.std.proofs.lemmas.Bool.Decides.{Decides-int_eq, nat_tests}
 use Rattle.antichain.specs.Antichains.{least}
 use Rattle.antichain.proofs.Lists.{contains_among}
-use Rattle.update.specs.Bags.{Entry}
+use Rattle.update.specs.Bags.{Entry, total_by}
 use Rattle.update.specs.declared.change.Update.{Update}
 use Rattle.plan.specs.Ancestors.{is_above}
 use Rattle.plan.specs.Widths.{width_of}
@@ -25,6 +25,7 @@ use Rattle.std.specs.List.{slice_get}
 use Rattle.machine.specs.Histories.{world, gave, IsAllowed, IsLegal}
 use Rattle.machine.specs.Cuts.{cut}
 use Rattle.machine.specs.Examples.{IsExample}
+use Rattle.machine.specs.Outstanding.{stamp}
 use Rattle.machine.proofs.CuttingLemmas.{cut_whole, cut_filled}
 
 abbrev nodes : List Node
@@ -120,7 +121,7 @@ allowed_give n us ts h hand onward law load = record {
   onward = onward;
   law = law;
   load = load;
-  whole = cut_whole p (by n us) is_dataflow (omega (arith));
+  whole = λ s f. ap (total_by f) (cut_whole p (by n us) is_dataflow (omega (arith)) s);
   filled = cut_filled p (by n us);
 }
 
@@ -128,25 +129,25 @@ light : (n : ℕ) (w : World ℕ) → is_reduction (node_of p n) ≡ false → I
 light n w e l = record { within = λ _. l; settled = λ f. absurd (false≢true (sym e ∙ f)) }
 
 first_give : IsAllowed nat_le p (world nat_le 0 p arranged_next) (give 0 (five ∷ []) [])
-unfolding least
+unfolding stamp least
 first_give = allowed_give 0 (five ∷ []) [] arranged_next refl refl (λ t e row. rw (from_start t) refl) (light 0 _ refl (at_most refl))
 
 arranged_give : IsAllowed nat_le p (world nat_le 0 p arranged) (give 1 (five ∷ []) [])
-unfolding least
+unfolding stamp least
 arranged_give = allowed_give 1 (five ∷ []) [] arranged refl refl (λ t e row. rw (from_start t) refl) (light 1 _ refl (at_most refl))
 
 -- the join gives nothing while the other side has nothing
 joined_give : IsAllowed nat_le p (world nat_le 0 p joined_next) (give 2 [] [])
-unfolding least
+unfolding stamp least
 joined_give = allowed_give 2 [] [] joined_next refl refl (λ t e row. rw (from_start t) refl) (light 2 _ refl (at_most refl))
 
 joined_again_give : IsAllowed nat_le p (world nat_le 0 p joined_again) (give 2 (five ∷ []) [])
-unfolding least
+unfolding stamp least
 joined_again_give = allowed_give 2 (five ∷ []) [] joined_again refl refl (λ t e row. rw (from_start t) refl) (light 2 _ refl (at_most refl))
 
 -- the count holds its time until no more can come
 count_give : IsAllowed nat_le p (world nat_le 0 p count_next) (give 3 [] (0 ∷ []))
-unfolding least
+unfolding stamp least
 count_give = allowed_give 3 [] (0 ∷ []) count_next refl refl (λ t e row. absurd (false≢true (ap (λ b. not (b || false)) (sym (from_start t)) ∙ e)))
     (record { within = λ f. absurd (true≢false f); settled = λ _. record { apart = tt; held = refl; left = refl } })
 
@@ -154,16 +155,16 @@ allowed_advance : IsAllowed nat_le p (world nat_le 0 p (give 3 [] (0 ∷ []) ∷
 allowed_advance = record { input = (omega (arith), refl); onward = refl }
 
 allowed_turn : IsAllowed nat_le p (world nat_le 0 p waiting) (TakeHeld 1 3)
-unfolding least is_above
+unfolding stamp least is_above
 allowed_turn = record { worker = omega (arith); within = omega (arith); free = refl; held = 0; holds = contains_among 0 (0 ∷ []) (inl refl); passed = refl }
 
 counted_give : IsAllowed nat_le p (world nat_le 0 p turned) (give 3 (counted ∷ []) [])
-unfolding least is_above
+unfolding stamp least is_above
 counted_give = allowed_give 3 (counted ∷ []) [] turned refl refl (λ t e row. rw (from_start t) refl)
     (record { within = λ f. absurd (true≢false f); settled = λ _. record { apart = (refl, tt); held = refl; left = refl } })
 
 seen_give : IsAllowed nat_le p (world nat_le 0 p counted_next) (give 5 (counted ∷ []) [])
-unfolding least
+unfolding stamp least
 seen_give = allowed_give 5 (counted ∷ []) [] counted_next refl refl (λ t e row. rw (from_start t) refl) (light 5 _ refl (at_most refl))
 
 fed_legal : IsLegal nat_le 0 p fed
@@ -182,7 +183,7 @@ all_legal : IsLegal nat_le 0 p all
 all_legal = (record { within = omega (arith); view = refl; onward = refl }, (seen_give, (allowed_take 5 0 (counted ∷ []) (give 3 (counted ∷ []) [] ∷ turned) refl refl, (counted_give, (allowed_turn, waiting_legal)))))
 
 pub example : (q : Dataflow) × (h : List (Event ℕ)) × (v : ℕ) × (us : List (Update ℕ)) × (front : List ℕ) × (since : List ℕ) × (t : ℕ) × IsExample q h v us front since t
-unfolding least is_above
+unfolding stamp least is_above
 example = (
   p,
   all,

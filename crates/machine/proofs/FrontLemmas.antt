@@ -1,5 +1,5 @@
 -- What is found on a board from scratch is what the definitions say of the histories that it may stand for.
-use Rattle.std.proofs.Common.{◌≡◌, ℕ, zero, suc, ◌<◌, Bool, true, false, cond, not, ◌&&◌, ◌||◌, List, [], ◌∷◌, ◌++◌, length, get_or, sym, refl, ap, ap₂, ◌∙◌, subst, Option, Some, None, arith, append_assoc, nat_lt, inl, inr}
+use Rattle.std.proofs.Common.{◌≡◌, ℕ, zero, suc, ◌<◌, Bool, true, false, cond, not, ◌&&◌, ◌||◌, List, [], ◌∷◌, ◌++◌, length, get_or, sym, refl, ap, ap₂, ◌∙◌, subst, Option, Some, None, arith, append_assoc, nat_lt}
 use Rattle.std.specs.List.{flat_map, list_any, list_all}
 use Rattle.std.specs.Result.{IfOk}
 use Rattle.std.specs.Prelude.{Result, Ok, Err}
@@ -10,14 +10,15 @@ use Rattle.lattice.specs.Order.{PartialOrderLaws}
 use Rattle.lattice.specs.Frontiers.{is_beyond}
 use Rattle.antichain.specs.Antichains.{least, SameElements}
 use Rattle.antichain.proofs.InsertionLemmas.{least_beyond}
-use Rattle.antichain.proofs.Lists.{Among, contains_among, all_at, all_from}
+use Rattle.antichain.proofs.Lists.{contains_among, all_at, all_from}
 use Rattle.plan.specs.Changes.{has_passed}
+use Rattle.machine.proofs.StampLemmas.{stamp_beyond}
 use Rattle.machine.specs.declared.event.Bundle.{Bundle}
 use Rattle.machine.specs.declared.event.Held.{Held}
 use Rattle.machine.specs.declared.event.Open.{Open}
 use Rattle.machine.specs.declared.event.Event.{Event}
 use Rattle.machine.specs.Dataflows.{above}
-use Rattle.machine.specs.Worlds.{World, times, held_at}
+use Rattle.machine.specs.Worlds.{World, times, queue, held_at}
 use Rattle.machine.specs.Outstanding.{stamp, stamps, held_where, open_where, counted, outstanding, frontier, strictly_above, input_frontier}
 use Rattle.machine.specs.Histories.{world, IsTakeHeld}
 use Rattle.machine.specs.Promises.{IsInPlace}
@@ -25,6 +26,7 @@ use Rattle.machine.specs.Readings.{IsQuiet}
 use Rattle.machine.specs.Boards.{Shown, Stands}
 use Rattle.machine.specs.Reads.{on_board, front, input_front, is_ready, is_none, is_free, is_quiet_board}
 use Rattle.machine.proofs.QuietLemmas.{least_same}
+use Rattle.machine.proofs.SiteLemmas.{AreQueued, AreHeld, AreOpen, any_among, queued_any, none_queued, held_any_like, held_all_like, open_any_like}
 
 or_nothing : (b : Bool) → (b || false) ≡ b
 or_nothing true = refl
@@ -38,7 +40,7 @@ module _ {T : Type 0} (below : T → T → Bool) (o : PartialOrderLaws below) wh
       ∙ ap₂ (λ x y. x || y) (step (test b.place.node)) (stamps_any test t bs)
     where
       step : (c : Bool) → is_beyond below (cond c (stamp below b.updates) []) t ≡ (c && is_beyond below (times b.updates) t)
-      step true = least_beyond o (times b.updates) t
+      step true = stamp_beyond below o b.updates t
       step false = refl
 
   -- the same, where all times of the bundles are listed
@@ -77,6 +79,16 @@ module _ {T : Type 0} (below : T → T → Bool) (o : PartialOrderLaws below) wh
   counted_any w there holds t =
       list_any-append (λ f. below f t) (stamps below (λ site. there site.node) w.in_flight) (held_where holds w.held ++ open_where there w.openings)
       ∙ ap₂ (λ x y. x || y) (stamps_any there t w.in_flight) (list_any-append (λ f. below f t) (held_where holds w.held) (open_where there w.openings) ∙ ap₂ (λ x y. x || y) (held_any holds t w.held) (opened_any there t w.openings))
+
+  -- what is alike at each place is counted alike
+  pub counted_like : (v w : World T) (there holds : ℕ → Bool) → AreQueued v.in_flight w.in_flight → AreHeld v.held w.held → AreOpen v.openings w.openings
+      → (t : T) → is_beyond below (least below (counted below v there holds)) t ≡ is_beyond below (least below (counted below w there holds)) t
+  counted_like v w there holds queued held opened t =
+      least_beyond o (counted below v there holds) t
+      ∙ (counted_any v there holds t
+      ∙ (ap₂ (λ x y. x || y) (queued_any (λ site us. there site.node && is_beyond below (times us) t) v.in_flight w.in_flight queued)
+      (ap₂ (λ x y. x || y) (held_any_like (λ n u. holds n && below u t) v.held w.held held) (open_any_like (λ i u. there i && below u t) v.openings w.openings opened))
+      ∙ (sym (counted_any w there holds t) ∙ sym (least_beyond o (counted below w there holds) t))))
 
   or_thrice : (a b c : Bool) → ((a || b) || c) ≡ (a || (b || c))
   or_thrice true b c = refl
@@ -117,13 +129,20 @@ pub on_ok : {A E : Type 0} (r : Result A E) (P Q : A → Type 0) → ((x : A) �
 on_ok (Ok x) P Q f p = f x p
 on_ok (Err e) P Q f p = p
 
-module _ {T : Type 0} (below : T → T → Bool) (minimum : T) where
-  -- what a board shows of frontiers is what its history leaves
-  pub front_stands : (b : Shown T) (h : List (Event T)) → Stands below minimum b h → (n : ℕ) → front below b n ≡ frontier below b.dataflow (world below minimum b.dataflow h) n
-  front_stands b h s n = λ i. least below (stamps below (λ site. above b.dataflow n site.node) (s.in_flight i) ++ (held_where (above b.dataflow n) (s.held i) ++ open_where (above b.dataflow n) (s.openings i)))
+module _ {T : Type 0} (below : T → T → Bool) (o : PartialOrderLaws below) (minimum : T) where
+  -- what a board shows of frontiers is what its history leaves: the same times are beyond them
+  pub front_stands : (b : Shown T) (h : List (Event T)) → Stands below minimum b h → (n : ℕ) (t : T) → is_beyond below (front below b n) t ≡ is_beyond below (frontier below b.dataflow (world below minimum b.dataflow h) n) t
+  front_stands b h s n t = counted_like below o (on_board b) (world below minimum b.dataflow h) (above b.dataflow n) (above b.dataflow n) s.queues s.held s.openings t
 
-  pub input_front_stands : (b : Shown T) (h : List (Event T)) → Stands below minimum b h → (n : ℕ) → input_front below b n ≡ input_frontier below b.dataflow (world below minimum b.dataflow h) n
-  input_front_stands b h s n = λ i. least below (stamps below (λ site. above b.dataflow n site.node) (s.in_flight i) ++ (held_where (strictly_above b.dataflow n) (s.held i) ++ open_where (above b.dataflow n) (s.openings i)))
+  -- and so they have the same elements
+  pub front_elements : (b : Shown T) (h : List (Event T)) → Stands below minimum b h → (n : ℕ) → SameElements (front below b n) (frontier below b.dataflow (world below minimum b.dataflow h) n)
+  front_elements b h s n =
+      let found = outstanding below b.dataflow (on_board b) n in
+      let left = outstanding below b.dataflow (world below minimum b.dataflow h) n in
+      least_same below o found left (λ t. sym (least_beyond o found t) ∙ (front_stands b h s n t ∙ least_beyond o left t))
+
+  pub input_front_stands : (b : Shown T) (h : List (Event T)) → Stands below minimum b h → (n : ℕ) (t : T) → is_beyond below (input_front below b n) t ≡ is_beyond below (input_frontier below b.dataflow (world below minimum b.dataflow h) n) t
+  input_front_stands b h s n t = counted_like below o (on_board b) (world below minimum b.dataflow h) (above b.dataflow n) (strictly_above b.dataflow n) s.queues s.held s.openings t
 
   is_empty : {A : Type 0} (xs : List A) → is_none xs ≡ true → xs ≡ []
   is_empty [] e = refl
@@ -153,36 +172,29 @@ module _ {T : Type 0} (below : T → T → Bool) (minimum : T) where
       let f = and_parts (is_none b.in_flight) (is_free b.hand && list_all waits b.held) q in
       let g = and_parts (is_free b.hand) (list_all waits b.held) f.1 in
       record {
-        in_flight = sym s.in_flight ∙ is_empty b.in_flight f.0;
+        in_flight = none_queued (world below minimum b.dataflow h).in_flight (λ site. sym (s.queues site) ∙ ap (queue site) (is_empty b.in_flight f.0));
         hand = λ k l. sym (s.hand k l) ∙ free_at b.hand g.0 k;
-        held = subst (λ ms. list_all (λ m. is_beyond below (input_frontier below b.dataflow (world below minimum b.dataflow h) m.node) m.time) ms ≡ true) s.held
-            (all_from (λ m. is_beyond below (input_frontier below b.dataflow (world below minimum b.dataflow h) m.node) m.time) b.held
-            (λ m a. subst (λ front. is_beyond below front m.time ≡ true) (input_front_stands b h s m.node) (and_parts (nat_lt m.node (length b.dataflow.nodes)) (is_beyond below (input_front below b m.node) m.time) (all_at waits b.held m g.1 a)).1));
+        held =
+            sym (held_all_like (λ n t. is_beyond below (input_frontier below b.dataflow (world below minimum b.dataflow h) n) t) b.held (world below minimum b.dataflow h).held s.held)
+            ∙ (all_from (λ m. is_beyond below (input_frontier below b.dataflow (world below minimum b.dataflow h) m.node) m.time) b.held
+            (λ m a. sym (input_front_stands b h s m.node m.time) ∙ (and_parts (nat_lt m.node (length b.dataflow.nodes)) (is_beyond below (input_front below b m.node) m.time) (all_at waits b.held m g.1 a)).1));
       }
 
   pub quiet_back : (b : Shown T) → length b.hand ≡ b.dataflow.workers → (h : List (Event T)) → Stands below minimum b h → IsInPlace b.dataflow (world below minimum b.dataflow h) → IsQuiet below b.dataflow (world below minimum b.dataflow h) → is_quiet_board below b ≡ true
   quiet_back b len h s place q =
       let w = world below minimum b.dataflow h in
       let waits = λ (m : Held T). nat_lt m.node (length b.dataflow.nodes) && is_beyond below (input_front below b m.node) m.time in
-      and_from (is_none b.in_flight) (is_free b.hand && list_all waits b.held) (empty_is b.in_flight (s.in_flight ∙ q.in_flight))
+      and_from (is_none b.in_flight) (is_free b.hand && list_all waits b.held) (empty_is b.in_flight (none_queued b.in_flight (λ site. s.queues site ∙ ap (queue site) q.in_flight)))
       (and_from (is_free b.hand) (list_all waits b.held) (free_from b.hand (λ k l. let m : k < b.dataflow.workers = subst (λ z. k < z) len l in s.hand k m ∙ q.hand k m))
-      (subst (λ ms. list_all waits ms ≡ true) (sym s.held) (all_from waits w.held (λ m a.
+      (held_all_like (λ n t. nat_lt n (length b.dataflow.nodes) && is_beyond below (input_front below b n) t) b.held w.held s.held ∙ (all_from waits w.held (λ m a.
       and_from (nat_lt m.node (length b.dataflow.nodes)) (is_beyond below (input_front below b m.node) m.time)
       (within m.node (length b.dataflow.nodes) (place.held m (contains_among m w.held a)).0)
-      (subst (λ front. is_beyond below front m.time ≡ true) (sym (input_front_stands b h s m.node)) (all_at (λ m. is_beyond below (input_frontier below b.dataflow w m.node) m.time) w.held m q.held a))))))
+      (input_front_stands b h s m.node m.time ∙ (all_at (λ m. is_beyond below (input_frontier below b.dataflow w m.node) m.time) w.held m q.held a))))))
     where
       within : (m n : ℕ) → m < n → nat_lt m n ≡ true
       within m n l = grind (arith, nat_tests)
 
   -- where a worker is ready it may turn to what it holds
-  any_among : {A : Type 0} (f : A → Bool) (xs : List A) → list_any f xs ≡ true → (x : A) × Among x xs × (f x ≡ true)
-  any_among {A} f [] e = absurd (false≢true e)
-  any_among {A} f (x ∷ xs) e = step (f x) refl e (any_among f xs)
-    where
-      step : (c : Bool) → f x ≡ c → (c || list_any f xs) ≡ true → (list_any f xs ≡ true → (y : A) × Among y xs × (f y ≡ true)) → (y : A) × Among y (x ∷ xs) × (f y ≡ true)
-      step true g k rest = (x, inl refl, g)
-      step false g k rest = let r = rest k in (r.0, inr r.1, r.2)
-
   pub may_turn : (b : Shown T) (h : List (Event T)) → Stands below minimum b h → (k n : ℕ) → k < b.dataflow.workers → n < length b.dataflow.nodes → get_or b.hand k None ≡ None → is_ready below b k n ≡ true
       → IsTakeHeld below b.dataflow (world below minimum b.dataflow h) k n
   may_turn b h s k n l m free ready =
@@ -193,6 +205,6 @@ module _ {T : Type 0} (below : T → T → Bool) (minimum : T) where
         within = m;
         free = sym (s.hand k l) ∙ free;
         held = r.0;
-        holds = subst (λ ms. Rattle.std.specs.Prelude.Contains (held_at n k ms) r.0) s.held (contains_among r.0 (held_at n k b.held) r.1);
-        passed = subst (λ front. has_passed below front r.0 ≡ true) (input_front_stands b h s n) r.2;
+        holds = subst (λ ms. Rattle.std.specs.Prelude.Contains ms r.0) (s.held n k) (contains_among r.0 (held_at n k b.held) r.1);
+        passed = ap not (sym (input_front_stands b h s n r.0)) ∙ r.2;
       }

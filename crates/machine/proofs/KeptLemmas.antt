@@ -1,5 +1,5 @@
 -- What each event keeps: what came to a site is there or was received; each node meets its law.
-use Rattle.std.proofs.Common.{◌≡◌, ℕ, ◌<◌, Bool, true, false, cond, not, ◌&&◌, List, [], ◌∷◌, ◌++◌, sym, refl, ap, ◌∙◌, subst, Some, eqb, arith, IsTrue}
+use Rattle.std.proofs.Common.{◌≡◌, ℕ, ◌+◌, ◌<◌, Bool, true, false, cond, not, ◌&&◌, List, [], ◌∷◌, ◌++◌, sym, refl, ap, ◌∙◌, subst, Some, eqb, arith, IsTrue}
 use Rattle.std.specs.List.{flat_map, filter, slice_get}
 use Rattle.std.proofs.lemmas.Int.{ints}
 use Rattle.std.proofs.lemmas.Bool.{and_parts, and_from, or_parts, eqb-true}
@@ -9,10 +9,11 @@ use Rattle.std.proofs.Math.IntN.{ℤ, pos, ◌+ℤ◌}
 use mathlib.Core.Path.{fun_ext}
 use Rattle.lattice.specs.Order.{PartialOrderLaws}
 use Rattle.lattice.specs.Frontiers.{is_beyond}
-use Rattle.antichain.specs.Antichains.{least}
 use Rattle.update.specs.Bags.{count_of, total_by}
 use Rattle.update.specs.Updates.{as_of}
 use Rattle.update.specs.declared.change.Update.{Update}
+use Rattle.machine.proofs.StampLemmas.{stamp_passed}
+use Rattle.machine.specs.Outstanding.{stamp}
 use Rattle.machine.specs.declared.event.Place.{Place}
 use Rattle.machine.specs.declared.event.Bundle.{Bundle}
 use Rattle.machine.specs.declared.event.Fed.{Fed}
@@ -26,10 +27,55 @@ use Rattle.machine.specs.Shares.{home, share, share_fed}
 use Rattle.machine.specs.NodeLaws.{NodeLaw}
 use Rattle.machine.specs.Histories.{without, holding, first_world, took, gave, after, IsGive, IsAllowed, world, IsLegal}
 use Rattle.update.proofs.SumLemmas.{total_by-append}
-use Rattle.machine.proofs.FlowLemmas.{as_of-append, measure_place-append, taken, passed-least, is_passed, not_beyond}
+use Rattle.machine.proofs.FlowLemmas.{as_of-append, measure_place-append, taken, is_passed, not_beyond}
 use Rattle.plan.proofs.OperatorLemmas.{given_nothing}
 use Rattle.plan.specs.Ancestors.{is_input}
 use Rattle.plan.specs.Nodes.{key_width}
+
+-- how many of the updates pass a test
+abbrev marked : {T : Type 0} → (Update T → Bool) → List (Update T) → ℕ
+marked test [] = 0
+marked test (u ∷ us) = cond (test u) 1 0 + marked test us
+
+marked_is : {T : Type 0} (test : Update T → Bool) (us : List (Update T)) → total_by (λ u. cond (test u) (pos 1) (pos 0)) us ≡ pos (marked test us)
+marked_is test [] = refl
+marked_is test (u ∷ us) = step (test u) (marked_is test us)
+  where
+    step : (b : Bool) → total_by (λ v. cond (test v) (pos 1) (pos 0)) us ≡ pos (marked test us) → cond b (pos 1) (pos 0) +ℤ total_by (λ v. cond (test v) (pos 1) (pos 0)) us ≡ pos (cond b 1 0 + marked test us)
+    step true h = rw h refl
+    step false h = rw h refl
+
+marked_same : {T : Type 0} (test : Update T → Bool) (us vs : List (Update T)) → ((f : Update T → ℤ) → total_by f us ≡ total_by f vs) → marked test us ≡ marked test vs
+marked_same test us vs h =
+    let a = marked_is test us in
+    let b = marked_is test vs in
+    let e = h (λ u. cond (test u) (pos 1) (pos 0)) in
+    omega (arith, ints)
+
+marked_passed : {T : Type 0} (leq : T → T → Bool) (t : T) (us : List (Update T)) → is_beyond leq (times us) t ≡ false → marked (λ u. leq u.time t) us ≡ 0
+marked_passed leq t [] h = refl
+marked_passed leq t (u ∷ us) h =
+    let b = or_parts (leq u.time t) (is_beyond leq (times us) t) h in
+    let i = marked_passed leq t us b.1 in
+    rw b.0 (omega arith)
+
+passed_marked : {T : Type 0} (leq : T → T → Bool) (t : T) (us : List (Update T)) → marked (λ u. leq u.time t) us ≡ 0 → is_beyond leq (times us) t ≡ false
+passed_marked leq t [] h = refl
+passed_marked {T} leq t (u ∷ us) h = step (leq u.time t) refl h (passed_marked leq t us)
+  where
+    step : (b : Bool) → leq u.time t ≡ b → cond b 1 0 + marked (λ v. leq v.time t) us ≡ 0 → (marked (λ v. leq v.time t) us ≡ 0 → is_beyond leq (times us) t ≡ false) → is_beyond leq (times (u ∷ us)) t ≡ false
+    step true e h ih = absurd (omega arith)
+    step false e h ih = rw e (ih (omega arith))
+
+-- lists of equal totals are passed alike, and are empty alike
+pub passed_totals : {T : Type 0} (leq : T → T → Bool) (t : T) (us vs : List (Update T)) → ((f : Update T → ℤ) → total_by f us ≡ total_by f vs) → is_beyond leq (times vs) t ≡ false → is_beyond leq (times us) t ≡ false
+passed_totals leq t us vs h p = passed_marked leq t us (marked_same (λ u. leq u.time t) us vs h ∙ marked_passed leq t vs p)
+
+pub no_totals : {T : Type 0} (us vs : List (Update T)) → ((f : Update T → ℤ) → total_by f us ≡ total_by f vs) → vs ≡ [] → us ≡ []
+no_totals [] vs h e = refl
+no_totals (u ∷ us) vs h e =
+    let a = marked_same (λ x. true) (u ∷ us) vs h ∙ ap (marked (λ x. true)) e in
+    absurd (omega arith)
 
 abbrev pub coming : {T : Type 0} → Dataflow → Place → List (Emission T) → List (Fed T) → List (Update T)
 coming p site gs fs = flat_map (share p site) gs ++ flat_map (share_fed p site) fs
@@ -91,7 +137,7 @@ module _ {T : Type 0} (leq : T → T → Bool) (o : PartialOrderLaws leq) (p : D
       (sym (list_any-append (λ f. leq f t) (held_at n k xs) (held_at n k ys)) ∙ (ap (λ z. is_beyond leq z t) (sym (flat_map-append (λ (m : Held T). cond (eqb m.node n && eqb m.worker k) (m.time ∷ []) []) xs ys)) ∙ h))
 
   -- at a time that the stamp has passed, a bundle is nothing at any site
-  not_there : (site : Place) (us : List (Update T)) (n m port : ℕ) (t : T) → is_beyond leq (held_at n m (holding site.node site.worker (least leq (times us)))) t ≡ false → as_of leq t (cond (same_place site (place n port m)) us []) ≡ []
+  not_there : (site : Place) (us : List (Update T)) (n m port : ℕ) (t : T) → is_beyond leq (held_at n m (holding site.node site.worker (stamp leq us))) t ≡ false → as_of leq t (cond (same_place site (place n port m)) us []) ≡ []
   not_there site us n m port t h = step (same_place site (place n port m)) refl
     where
       step : (b : Bool) → same_place site (place n port m) ≡ b → as_of leq t (cond b us []) ≡ []
@@ -99,8 +145,8 @@ module _ {T : Type 0} (leq : T → T → Bool) (o : PartialOrderLaws leq) (p : D
       step true e =
           let q = and_parts (eqb site.node n) (eqb site.port port && eqb site.worker m) e in
           let q1 = and_parts (eqb site.port port) (eqb site.worker m) q.1 in
-          let there = held_marked n m site.node site.worker (least leq (times us)) (and_from (eqb site.node n) (eqb site.worker m) q.0 q1.1) in
-          as_of-passed leq t us (passed-least leq o (times us) t (subst (λ z. is_beyond leq z t ≡ false) there h))
+          let there = held_marked n m site.node site.worker (stamp leq us) (and_from (eqb site.node n) (eqb site.worker m) q.0 q1.1) in
+          as_of-passed leq t us (stamp_passed leq o us t (subst (λ z. is_beyond leq z t ≡ false) there h))
 
   kept_feed : (w : World T) (c : ℕ) (f : Fed T) → IsTrue (is_input (node_of p f.input)) → IsKept leq p w → IsKept leq p (after leq p w (Feed c f))
   kept_feed w c f i k = record { conserved = conserved; law = k.law; workers = k.workers; inputs = (i, k.inputs) }
@@ -133,7 +179,7 @@ module _ {T : Type 0} (leq : T → T → Bool) (o : PartialOrderLaws leq) (p : D
 
       law : (n m : ℕ) → NodeLaw leq p (took leq p w site j us) n m
       law n m t h r =
-          let hp = held_parts n m (holding site.node site.worker (least leq (times us))) w.held t (not_beyond _ h) in
+          let hp = held_parts n m (holding site.node site.worker (stamp leq us)) w.held t (not_beyond _ h) in
           let same : (port : ℕ) → as_of leq t (updates_at (place n port m) w.received) ≡ as_of leq t (updates_at (place n port m) (record { place = site; updates = us } ∷ w.received)) =
           λ port. sym (as_of-append leq t (cond (same_place site (place n port m)) us []) (updates_at (place n port m) w.received) ∙ ap (λ z. z ++ as_of leq t (updates_at (place n port m) w.received)) (not_there site us n m port t hp.0)) in
           k.law n m t (is_passed _ hp.1) r ∙ ap (λ z. count_of (given_at p n z) r) (fun_ext same)
@@ -148,7 +194,7 @@ module _ {T : Type 0} (leq : T → T → Bool) (o : PartialOrderLaws leq) (p : D
           let before = k.conserved site v ∙ total_by-append v es fs in
           rw (
             measure_place-append v site w.in_flight sent,
-            a.whole site,
+            a.whole site v,
             total_by-append v (share p site g ++ es) fs,
             total_by-append v (share p site g) es,
           )

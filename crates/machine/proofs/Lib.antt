@@ -1,3 +1,4 @@
+pub mod StampLemmas
 pub mod FlowLemmas
 pub mod KeptLemmas
 pub mod WorkerLemmas
@@ -14,10 +15,10 @@ pub mod QuietLemmas
 pub mod PlaceLemmas
 pub mod BoardLemmas
 pub mod MeetsLemmas
+pub mod SiteLemmas
 pub mod TakingLemmas
 pub mod FrontLemmas
 pub mod PutLemmas
-pub mod CaptureLemmas
 pub mod PartLemmas
 pub mod AcceptLemmas
 pub mod FirstLemmas

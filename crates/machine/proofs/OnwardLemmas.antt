@@ -11,6 +11,7 @@ use Rattle.antichain.specs.Antichains.{least}
 use Rattle.update.specs.declared.change.Update.{Update}
 use Rattle.plan.specs.Nodes.{arranged_by}
 use Rattle.plan.specs.Ancestors.{is_input}
+use Rattle.machine.proofs.StampLemmas.{stamp_beyond}
 use Rattle.machine.specs.declared.event.Place.{Place}
 use Rattle.machine.specs.declared.event.Bundle.{Bundle}
 use Rattle.machine.specs.declared.event.Fed.{Fed}
@@ -27,6 +28,7 @@ use Rattle.machine.specs.Histories.{without, is_held_by, holding, opening, took,
 use Rattle.machine.proofs.ClaimLemmas.{no_source}
 use Rattle.lattice.proofs.FrontierLemmas.{beyond_up}
 use Rattle.machine.proofs.FlowLemmas.{passed-least, place_same}
+use Rattle.machine.proofs.KeptLemmas.{passed_totals}
 use Rattle.antichain.proofs.InsertionLemmas.{least_beyond}
 use Rattle.plan.proofs.PlanLemmas.{source_smaller}
 use Rattle.plan.proofs.StandLemmas.{above_itself, above_from_source, above_earlier, above_transitive}
@@ -58,6 +60,9 @@ module _ {T : Type 0} (leq : T → T → Bool) (o : PartialOrderLaws leq) (t : T
 
   passed_least : (F : List T) → IsPassed F → IsPassed (least leq F)
   passed_least F h = least_beyond o F t ∙ h
+
+  passed_stamp : (us : List (Update T)) → IsPassed (times us) → IsPassed (stamp leq us)
+  passed_stamp us h = stamp_beyond leq o us t ∙ h
 
   passed_updates : (keep : Update T → Bool) (us : List (Update T)) → IsPassed (times us) → IsPassed (times (filter keep us))
   passed_updates keep [] h = h
@@ -128,37 +133,37 @@ module _ {T : Type 0} (leq : T → T → Bool) (o : PartialOrderLaws leq) (t : T
 
   module _ (test : Place → Bool) where
     -- what is taken, and what is left
-    passed_taken : (site : Place) (qs : List (Bundle T)) (j : ℕ) (us : List (Update T)) → slice_get (queue site qs) j ≡ Some us → test site ≡ true → IsPassed (stamps leq test qs) → IsPassed (least leq (times us))
+    passed_taken : (site : Place) (qs : List (Bundle T)) (j : ℕ) (us : List (Update T)) → slice_get (queue site qs) j ≡ Some us → test site ≡ true → IsPassed (stamps leq test qs) → IsPassed (stamp leq us)
     passed_taken site [] j us e a h = cc
     passed_taken site (q ∷ qs) zero us e a h =
-        let g = passed_parts (cond (test q.place) (least leq (times q.updates)) []) (stamps leq test qs) h in
+        let g = passed_parts (cond (test q.place) (stamp leq q.updates) []) (stamps leq test qs) h in
         step (same_place q.place site) refl e g.0 (λ f. passed_taken site qs zero us f a g.1)
       where
-        step : (b : Bool) → same_place q.place site ≡ b → slice_get (cond b (q.updates ∷ []) [] ++ queue site qs) zero ≡ Some us → IsPassed (cond (test q.place) (least leq (times q.updates)) []) → (slice_get (queue site qs) zero ≡ Some us → IsPassed (least leq (times us))) → IsPassed (least leq (times us))
+        step : (b : Bool) → same_place q.place site ≡ b → slice_get (cond b (q.updates ∷ []) [] ++ queue site qs) zero ≡ Some us → IsPassed (cond (test q.place) (stamp leq q.updates) []) → (slice_get (queue site qs) zero ≡ Some us → IsPassed (stamp leq us)) → IsPassed (stamp leq us)
         step true s f x ih =
             let here : test q.place ≡ true = ap (λ (z : Place). test z) (place_same q.place site s) ∙ a in
-            subst (λ z. IsPassed (least leq (times z))) (same_Some q.updates us f) (subst (λ b. IsPassed (cond b (least leq (times q.updates)) [])) here x)
+            subst (λ z. IsPassed (stamp leq z)) (same_Some q.updates us f) (subst (λ b. IsPassed (cond b (stamp leq q.updates) [])) here x)
         step false s f x ih = ih f
     passed_taken site (q ∷ qs) (suc j) us e a h =
-        let g = passed_parts (cond (test q.place) (least leq (times q.updates)) []) (stamps leq test qs) h in
+        let g = passed_parts (cond (test q.place) (stamp leq q.updates) []) (stamps leq test qs) h in
         step (same_place q.place site) e (λ f. passed_taken site qs j us f a g.1) (λ f. passed_taken site qs (suc j) us f a g.1)
       where
-        step : (b : Bool) → slice_get (cond b (q.updates ∷ []) [] ++ queue site qs) (suc j) ≡ Some us → (slice_get (queue site qs) j ≡ Some us → IsPassed (least leq (times us))) → (slice_get (queue site qs) (suc j) ≡ Some us → IsPassed (least leq (times us))) → IsPassed (least leq (times us))
+        step : (b : Bool) → slice_get (cond b (q.updates ∷ []) [] ++ queue site qs) (suc j) ≡ Some us → (slice_get (queue site qs) j ≡ Some us → IsPassed (stamp leq us)) → (slice_get (queue site qs) (suc j) ≡ Some us → IsPassed (stamp leq us)) → IsPassed (stamp leq us)
         step true f ih jh = ih f
         step false f ih jh = jh f
 
     passed_without : (site : Place) (qs : List (Bundle T)) (j : ℕ) → IsPassed (stamps leq test qs) → IsPassed (stamps leq test (without site qs j))
     passed_without site [] j h = h
     passed_without site (q ∷ qs) zero h =
-        let g = passed_parts (cond (test q.place) (least leq (times q.updates)) []) (stamps leq test qs) h in
+        let g = passed_parts (cond (test q.place) (stamp leq q.updates) []) (stamps leq test qs) h in
         step (same_place q.place site) g.0 g.1 (passed_without site qs zero g.1)
       where
-        step : (b : Bool) → IsPassed (cond (test q.place) (least leq (times q.updates)) []) → IsPassed (stamps leq test qs) → IsPassed (stamps leq test (without site qs zero)) → IsPassed (stamps leq test (cond b qs (q ∷ without site qs zero)))
+        step : (b : Bool) → IsPassed (cond (test q.place) (stamp leq q.updates) []) → IsPassed (stamps leq test qs) → IsPassed (stamps leq test (without site qs zero)) → IsPassed (stamps leq test (cond b qs (q ∷ without site qs zero)))
         step true x y z = y
-        step false x y z = passed_both (cond (test q.place) (least leq (times q.updates)) []) (stamps leq test (without site qs zero)) x z
+        step false x y z = passed_both (cond (test q.place) (stamp leq q.updates) []) (stamps leq test (without site qs zero)) x z
     passed_without site (q ∷ qs) (suc j) h =
-        let g = passed_parts (cond (test q.place) (least leq (times q.updates)) []) (stamps leq test qs) h in
-        passed_both (cond (test q.place) (least leq (times q.updates)) []) (stamps leq test (cond (same_place q.place site) (without site qs j) (without site qs (suc j)))) g.0 (step (same_place q.place site) (passed_without site qs j g.1) (passed_without site qs (suc j) g.1))
+        let g = passed_parts (cond (test q.place) (stamp leq q.updates) []) (stamps leq test qs) h in
+        passed_both (cond (test q.place) (stamp leq q.updates) []) (stamps leq test (cond (same_place q.place site) (without site qs j) (without site qs (suc j)))) g.0 (step (same_place q.place site) (passed_without site qs j g.1) (passed_without site qs (suc j) g.1))
       where
         step : (b : Bool) → IsPassed (stamps leq test (without site qs j)) → IsPassed (stamps leq test (without site qs (suc j))) → IsPassed (stamps leq test (cond b (without site qs j) (without site qs (suc j))))
         step true x y = x
@@ -168,16 +173,16 @@ module _ {T : Type 0} (leq : T → T → Bool) (o : PartialOrderLaws leq) (t : T
     passed_places : (qs : List (Bundle T)) → ((site : Place) → test site ≡ true → IsPassed (times (updates_at site qs))) → IsPassed (stamps leq test qs)
     passed_places [] h = refl
     passed_places (q ∷ qs) h =
-        passed_both (cond (test q.place) (least leq (times q.updates)) []) (stamps leq test qs)
+        passed_both (cond (test q.place) (stamp leq q.updates) []) (stamps leq test qs)
         (head (test q.place) refl)
         (passed_places qs (λ site e. (passed_times (cond (same_place q.place site) q.updates []) (updates_at site qs) (h site e)).1))
       where
         self : same_place q.place q.place ≡ true
         self = and_from (eqb q.place.node q.place.node) (eqb q.place.port q.place.port && eqb q.place.worker q.place.worker) (eq-eqb q.place.node q.place.node refl) (and_from (eqb q.place.port q.place.port) (eqb q.place.worker q.place.worker) (eq-eqb q.place.port q.place.port refl) (eq-eqb q.place.worker q.place.worker refl))
 
-        head : (b : Bool) → test q.place ≡ b → IsPassed (cond b (least leq (times q.updates)) [])
+        head : (b : Bool) → test q.place ≡ b → IsPassed (cond b (stamp leq q.updates) [])
         head false e = refl
-        head true e = passed_least (times q.updates) (passed_times q.updates (updates_at q.place qs) (subst (λ b. IsPassed (times (cond b q.updates [] ++ updates_at q.place qs))) self (h q.place e))).0
+        head true e = passed_stamp q.updates (passed_times q.updates (updates_at q.place qs) (subst (λ b. IsPassed (times (cond b q.updates [] ++ updates_at q.place qs))) self (h q.place e))).0
 
   module _ (test : ℕ → Bool) where
     passed_share : (p : Dataflow) (site : Place) (g : Emission T) → ((s : ℕ) → source_of p site.node site.port ≡ Some s → test s ≡ true) → (test g.node ≡ true → IsPassed (times g.updates)) → IsPassed (times (share p site g))
@@ -209,24 +214,24 @@ module _ {T : Type 0} (leq : T → T → Bool) (o : PartialOrderLaws leq) (t : T
     IsCountPassed w = IsPassed (stamps leq there w.in_flight) × IsPassed (held_where holds w.held) × IsPassed (open_where opens w.openings)
 
     onward_feed : (w : World T) (f : Fed T) → IsFeed leq p w f → IsCountPassed w → IsPassed (stamps leq there (record { place = home p f; updates = f.update ∷ [] } ∷ []))
-    onward_feed w f a h = passed_both (cond (there (home p f)) (least leq (f.update.time ∷ [])) []) [] (step (there (home p f)) refl) refl
+    onward_feed w f a h = passed_both (cond (there (home p f)) (stamp leq (f.update ∷ [])) []) [] (step (there (home p f)) refl) refl
       where
-        step : (b : Bool) → there (home p f) ≡ b → IsPassed (cond b (least leq (f.update.time ∷ [])) [])
+        step : (b : Bool) → there (home p f) ≡ b → IsPassed (cond b (stamp leq (f.update ∷ [])) [])
         step false e = refl
-        step true e = passed_least (f.update.time ∷ []) (passed_onward (open_at f.input w.openings) (f.update.time ∷ []) (and_from (is_beyond leq (open_at f.input w.openings) f.update.time) true a.not_passed refl) (passed_edge opens f.input (of_inputs f.input (route p f.update.row) a.input.1 e) w.openings h.2))
+        step true e = passed_stamp (f.update ∷ []) (passed_onward (open_at f.input w.openings) (f.update.time ∷ []) (and_from (is_beyond leq (open_at f.input w.openings) f.update.time) true a.not_passed refl) (passed_edge opens f.input (of_inputs f.input (route p f.update.row) a.input.1 e) w.openings h.2))
 
     onward_took : (w : World T) (site : Place) (j : ℕ) (us : List (Update T)) → slice_get (queue site w.in_flight) j ≡ Some us → IsCountPassed w → IsCountPassed (took leq p w site j us)
     onward_took w site j us e h = (
       passed_without there site w.in_flight j h.0,
-      subst IsPassed (sym (flat_map-append (λ (m : Held T). cond (holds m.node) (m.time ∷ []) []) (holding site.node site.worker (least leq (times us))) w.held))
-          (passed_both (held_where holds (holding site.node site.worker (least leq (times us)))) (held_where holds w.held) (passed_marked holds site.node site.worker (least leq (times us)) (λ a. passed_taken there site w.in_flight j us e (of_places site a) h.0)) h.1),
+      subst IsPassed (sym (flat_map-append (λ (m : Held T). cond (holds m.node) (m.time ∷ []) []) (holding site.node site.worker (stamp leq us)) w.held))
+          (passed_both (held_where holds (holding site.node site.worker (stamp leq us))) (held_where holds w.held) (passed_marked holds site.node site.worker (stamp leq us) (λ a. passed_taken there site w.in_flight j us e (of_places site a) h.0)) h.1),
       h.2,
     )
 
     onward_gave : (w : World T) (g : Emission T) (held : List T) (sent : List (Bundle T)) → IsGive leq p w g held sent → IsCountPassed w → IsCountPassed (gave leq p w g held sent)
     onward_gave w g held sent a h = (
-      subst IsPassed (sym (flat_map-append (λ (q : Bundle T). cond (there q.place) (least leq (times q.updates)) []) w.in_flight sent))
-          (passed_both (stamps leq there w.in_flight) (stamps leq there sent) h.0 (passed_places there sent (λ site e. subst (λ us. IsPassed (times us)) (sym (a.whole site)) (passed_share holds p site g (of_sources site e) (λ f. (later f).0))))),
+      subst IsPassed (sym (flat_map-append (λ (q : Bundle T). cond (there q.place) (stamp leq q.updates) []) w.in_flight sent))
+          (passed_both (stamps leq there w.in_flight) (stamps leq there sent) h.0 (passed_places there sent (λ site e. passed_totals leq t (updates_at site sent) (share p site g) (a.whole site) (passed_share holds p site g (of_sources site e) (λ f. (later f).0))))),
       subst IsPassed (sym (flat_map-append (λ (m : Held T). cond (holds m.node) (m.time ∷ []) []) (holding g.node g.worker held) (filter (λ m. not (is_held_by g.node g.worker m)) w.held)))
           (passed_both (held_where holds (holding g.node g.worker held)) (held_where holds (filter (λ m. not (is_held_by g.node g.worker m)) w.held)) (passed_marked holds g.node g.worker held (λ f. (later f).1)) (passed_some (λ (m : Held T). cond (holds m.node) (m.time ∷ []) []) (λ m. not (is_held_by g.node g.worker m)) w.held h.1)),
       h.2,
@@ -237,7 +242,7 @@ module _ {T : Type 0} (leq : T → T → Bool) (o : PartialOrderLaws leq) (t : T
 
     pub onward : (w : World T) (e : Event T) → IsAllowed leq p w e → IsCountPassed w → IsCountPassed (after leq p w e)
     onward w (Feed c f) a h = (
-      subst IsPassed (sym (flat_map-append (λ (q : Bundle T). cond (there q.place) (least leq (times q.updates)) []) w.in_flight (record { place = home p f; updates = f.update ∷ [] } ∷ [])))
+      subst IsPassed (sym (flat_map-append (λ (q : Bundle T). cond (there q.place) (stamp leq q.updates) []) w.in_flight (record { place = home p f; updates = f.update ∷ [] } ∷ [])))
           (passed_both (stamps leq there w.in_flight) (stamps leq there (record { place = home p f; updates = f.update ∷ [] } ∷ [])) h.0 (onward_feed w f a h)),
       h.1,
       h.2,
@@ -297,7 +302,7 @@ module _ {T : Type 0} (leq : T → T → Bool) (o : PartialOrderLaws leq) (t : T
         (onward p site_above (strictly_above p n) (above p n) source_strict (λ i k b x. x) (λ site x. (and_parts (above p n site.node) (not (eqb site.node n)) x).0) w e a (in_passed w h)))
 
     -- what waits at a node is beyond its input frontier
-    pub taken_later : (w : World T) (site : Place) (j : ℕ) (us : List (Update T)) → slice_get (queue site w.in_flight) j ≡ Some us → site.node ≡ n → IsPassed (input_frontier leq p w n) → IsPassed (least leq (times us))
+    pub taken_later : (w : World T) (site : Place) (j : ℕ) (us : List (Update T)) → slice_get (queue site w.in_flight) j ≡ Some us → site.node ≡ n → IsPassed (input_frontier leq p w n) → IsPassed (stamp leq us)
     taken_later w site j us e i h = passed_taken site_above site w.in_flight j us e (ap (above p n) i ∙ above_itself p.nodes q.plan n) (in_passed w h).0
 
   -- bundles at the places that pass one of two tests

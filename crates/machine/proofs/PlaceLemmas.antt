@@ -1,5 +1,5 @@
 -- Whatever waits, waits at a place that there is.
-use Rattle.std.proofs.Common.{◌≡◌, ◌≢◌, ℕ, zero, suc, ◌<◌, Bool, true, false, cond, not, ◌&&◌, List, [], ◌∷◌, ◌++◌, map, take, length, sym, refl, ◌∙◌, subst, Option, Some, None, eqb, arith, IsTrue, inl, inr, ⊎_elim}
+use Rattle.std.proofs.Common.{◌≡◌, ◌≢◌, ℕ, zero, suc, ◌<◌, Bool, true, false, cond, not, ◌&&◌, List, [], ◌∷◌, ◌++◌, map, take, length, sym, refl, subst, Option, Some, None, eqb, arith, IsTrue, inl, inr, ⊎_elim}
 use Rattle.std.specs.List.{flat_map, filter, slice_get, list_all}
 use Rattle.std.proofs.lemmas.Bool.{and_parts, and_from, eqb-true, eq-eqb, false≢true}
 use Rattle.std.proofs.lemmas.Option.{same_Some}
@@ -24,6 +24,7 @@ use Rattle.machine.specs.Histories.{with_at, without, is_held_by, holding, openi
 use Rattle.machine.specs.Promises.{IsPlace, IsInPlace}
 use Rattle.machine.proofs.ClaimLemmas.{routed}
 use Rattle.machine.proofs.FlowLemmas.{place_same}
+use Rattle.machine.proofs.KeptLemmas.{no_totals}
 
 -- what holds of each element
 abbrev Each : {X : Type 0} → (X → Type 0) → List X → Type 0
@@ -170,7 +171,7 @@ module _ {T : Type 0} (p : Dataflow) (q : IsDataflow p) where
         let here = s.hand g.worker g.node a.in_hand in
         let some = filled_some sent a.filled in
         record {
-          bundles = each_both IsBundle w.in_flight sent s.bundles (λ b m. (shared b.place g a.worker (λ e. there_some sent b m (some b m) (a.whole b.place ∙ e)), some b m));
+          bundles = each_both IsBundle w.in_flight sent s.bundles (λ b m. (shared b.place g a.worker (λ e. there_some sent b m (some b m) (no_totals (updates_at b.place sent) (share p b.place g) (a.whole b.place) e)), some b m));
           held = each_both IsHeld (holding g.node g.worker ts) (filter (λ m. not (is_held_by g.node g.worker m)) w.held) (each_map IsHeld (λ t. record { node = g.node; worker = g.worker; time = t }) ts (λ t. here)) (each_filter IsHeld (λ m. not (is_held_by g.node g.worker m)) w.held s.held);
           inputs = s.inputs;
           hand = hand_with p w.hand g.worker None s.hand (λ n e. cc);

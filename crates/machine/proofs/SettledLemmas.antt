@@ -7,7 +7,6 @@ use Rattle.std.proofs.lemmas.List.Concat.{flat_map-append}
 use Rattle.std.proofs.lemmas.List.Folds.{list_any-append}
 use Rattle.lattice.specs.Order.{PartialOrderLaws}
 use Rattle.lattice.specs.Frontiers.{is_beyond}
-use Rattle.antichain.specs.Antichains.{least}
 use Rattle.update.specs.declared.change.Update.{Update}
 use Rattle.plan.specs.Nodes.{sources}
 use Rattle.plan.specs.Weights.{load}
@@ -15,6 +14,7 @@ use Rattle.plan.specs.declared.node.Node.{Node}
 use Rattle.plan.specs.declared.node.Node.TheVariants.{Input, Map, Filter, Concat, Negate, Arrange, Join, Reduce, Output}
 use Rattle.update.specs.Updates.{size}
 use mathlib.Core.Path.{fun_ext}
+use Rattle.machine.specs.Outstanding.{stamp}
 use Rattle.machine.specs.declared.event.Place.{Place}
 use Rattle.machine.specs.declared.event.Bundle.{Bundle}
 use Rattle.machine.specs.declared.event.Emission.{Emission}
@@ -22,7 +22,7 @@ use Rattle.machine.specs.declared.event.Held.{Held}
 use Rattle.machine.specs.declared.event.Event.{Event}
 use Rattle.machine.specs.declared.event.Event.TheVariants.{Feed, Advance, Allow, Look, Take, TakeHeld, Give}
 use Rattle.machine.specs.Dataflows.{Dataflow, IsDataflow, node_of}
-use Rattle.machine.specs.Worlds.{World, Passage, place, same_place, times, updates_at, queue, emitted_by, held_at}
+use Rattle.machine.specs.Worlds.{World, Passage, place, same_place, updates_at, queue, emitted_by, held_at}
 use Rattle.machine.specs.Outstanding.{input_frontier}
 use Rattle.machine.specs.NodeLaws.{received_at, AreApart, was_passed, IsSettled, IsWithinLoad, LoadRule}
 use Rattle.machine.specs.Histories.{with_at, holding, first_world, turned_to, took, gave, after, IsGive, IsAllowed, world, IsLegal}
@@ -126,13 +126,13 @@ module _ {T : Type 0} (leq : T → T → Bool) (o : PartialOrderLaws leq) (p : D
 
       held : (t : T) → was_passed leq n k w.left t ≡ true → is_beyond leq (held_at n k w.held) t ≡ false → is_beyond leq (held_at n k v.held) t ≡ false
       held t h f =
-          ap (λ z. is_beyond leq z t) (flat_map-append (λ (m : Held T). cond (eqb m.node n && eqb m.worker k) (m.time ∷ []) []) (holding site.node site.worker (least leq (times us))) w.held)
-          ∙ (list_any-append (λ x. leq x t) (held_at n k (holding site.node site.worker (least leq (times us)))) (held_at n k w.held)
-          ∙ or_from (is_beyond leq (held_at n k (holding site.node site.worker (least leq (times us)))) t) (is_beyond leq (held_at n k w.held) t) (new (eqb site.node n && eqb site.worker k) refl) f)
+          ap (λ z. is_beyond leq z t) (flat_map-append (λ (m : Held T). cond (eqb m.node n && eqb m.worker k) (m.time ∷ []) []) (holding site.node site.worker (stamp leq us)) w.held)
+          ∙ (list_any-append (λ x. leq x t) (held_at n k (holding site.node site.worker (stamp leq us))) (held_at n k w.held)
+          ∙ or_from (is_beyond leq (held_at n k (holding site.node site.worker (stamp leq us))) t) (is_beyond leq (held_at n k w.held) t) (new (eqb site.node n && eqb site.worker k) refl) f)
         where
-          new : (b : Bool) → (eqb site.node n && eqb site.worker k) ≡ b → is_beyond leq (held_at n k (holding site.node site.worker (least leq (times us)))) t ≡ false
-          new true e = ap (λ z. is_beyond leq z t) (held_marked n k site.node site.worker (least leq (times us)) e) ∙ taken_later leq o t p q n w site j us waits (eqb-true site.node n (and_parts (eqb site.node n) (eqb site.worker k) e).0) (l.left n k t h)
-          new false e = ap (λ z. is_beyond leq z t) (held_unmarked n k site.node site.worker (least leq (times us)) e)
+          new : (b : Bool) → (eqb site.node n && eqb site.worker k) ≡ b → is_beyond leq (held_at n k (holding site.node site.worker (stamp leq us))) t ≡ false
+          new true e = ap (λ z. is_beyond leq z t) (held_marked n k site.node site.worker (stamp leq us) e) ∙ taken_later leq o t p q n w site j us waits (eqb-true site.node n (and_parts (eqb site.node n) (eqb site.worker k) e).0) (l.left n k t h)
+          new false e = ap (λ z. is_beyond leq z t) (held_unmarked n k site.node site.worker (stamp leq us) e)
 
   given_still : (w : World T) (g : Emission T) (held : List T) (sent : List (Bundle T)) → IsGive leq p w g held sent → IsLoaded w → (n k : ℕ) → LoadRule leq p (gave leq p w g held sent) n k
   given_still w g held sent a l n k = step (eqb g.node n && eqb g.worker k) refl

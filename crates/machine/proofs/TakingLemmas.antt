@@ -70,20 +70,20 @@ module _ {T : Type 0} (site : Place) where
       step false l ih jh = let r = jh l in (r.0, ap (λ z. b ∷ z) r.1, let x = r.2 in omega arith)
 
 -- the board after a bundle was handed over is the board after it was taken
-pub taken_after : {T : Type 0} (below : T → T → Bool) (b c : Shown T) (site : Place) (number position : ℕ) (us seen copy : List (Update T)) (held : List (Held T))
+pub taken_after : {T : Type 0} (below : T → T → Bool) (b c : Shown T) (site : Place) (number position : ℕ) (us seen : List (Update T)) (held : List (Held T))
     → position ≡ position_in site b.in_flight number → number < length (queue site b.in_flight)
     → ((d : Bundle T) → us ≡ (get_or b.in_flight position d).updates) → (d : Bundle T) → seen ≡ (get_or b.in_flight position d).updates
-    → copy ≡ seen → held ≡ holding site.node site.worker (stamp below seen) ++ b.held
-    → c ≡ record b { in_flight = remove b.in_flight position; held = held; hand = set b.hand site.worker (Some site.node); last = Take site number copy }
+    → held ≡ holding site.node site.worker (stamp below seen) ++ b.held
+    → c ≡ record b { in_flight = remove b.in_flight position; held = held; hand = set b.hand site.worker (Some site.node); last = Take site number us }
     → (slice_get (queue site b.in_flight) number ≡ Some us) × (c ≡ taken below site number us b)
-taken_after {T} below b c site number position us seen copy held e l u d s f h k =
+taken_after {T} below b c site number position us seen held e l u d s h k =
     let r = is_there site b.in_flight number d l in
     let same : seen ≡ us = s ∙ sym (u d) in
     let there : (get_or b.in_flight (position_in site b.in_flight number) d).updates ≡ us = ap (λ i. (get_or b.in_flight i d).updates) (sym e) ∙ sym (u d) in (
       r.0 ∙ ap (λ z. Some z) there,
-      k ∙ made (ap (λ i. remove b.in_flight i) e ∙ sym r.1) (h ∙ ap (λ z. holding site.node site.worker (stamp below z) ++ b.held) same) (f ∙ same),
+      k ∙ made (ap (λ i. remove b.in_flight i) e ∙ sym r.1) (h ∙ ap (λ z. holding site.node site.worker (stamp below z) ++ b.held) same),
     )
   where
-    made : remove b.in_flight position ≡ without site b.in_flight number → held ≡ holding site.node site.worker (stamp below us) ++ b.held → copy ≡ us
-        → record b { in_flight = remove b.in_flight position; held = held; hand = set b.hand site.worker (Some site.node); last = Take site number copy } ≡ taken below site number us b
-    made x y z = λ i. record b { in_flight = x i; held = y i; hand = set b.hand site.worker (Some site.node); last = Take site number (z i) }
+    made : remove b.in_flight position ≡ without site b.in_flight number → held ≡ holding site.node site.worker (stamp below us) ++ b.held
+        → record b { in_flight = remove b.in_flight position; held = held; hand = set b.hand site.worker (Some site.node); last = Take site number us } ≡ taken below site number us b
+    made x y = λ i. record b { in_flight = x i; held = y i; hand = set b.hand site.worker (Some site.node); last = Take site number us }

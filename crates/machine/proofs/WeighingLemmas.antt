@@ -1,12 +1,13 @@
 -- What a node gave on all workers is within its weight.
 use Rattle.update.proofs.ConsolidatedLemmas.{weight, weight_is}
-use Rattle.std.proofs.Common.{◌≡◌, ℕ, ◌+◌, ◌<◌, ◌≤◌, Bool, true, false, cond, ◌&&◌, List, [], ◌∷◌, ◌++◌, take, length, sym, refl, ap, ◌∙◌, subst, Option, Some, None, eqb, arith, IsTrue, ◌⊎◌, inl, inr}
+use Rattle.std.proofs.Common.{◌≡◌, ℕ, zero, suc, slice_get, ⊎_elim, ◌+◌, ◌<◌, ◌≤◌, Bool, true, false, cond, ◌&&◌, List, [], ◌∷◌, ◌++◌, take, length, sym, refl, ap, ◌∙◌, subst, Option, Some, None, eqb, arith, IsTrue, ◌⊎◌, inl, inr}
 use Rattle.std.specs.List.{flat_map, filter}
 use Rattle.std.specs.declared.cmp.Ordering.{Ordering}
-use Rattle.std.proofs.lemmas.Bool.{or_from, or_parts, and_parts, eqb-true, false≢true, true≢false}
+use Rattle.std.proofs.lemmas.Bool.{or_from, or_parts, and_parts, eqb-true, false≢true, true≢false, cases_lt}
 use Rattle.std.proofs.lemmas.Int.{ints}
 use Rattle.std.proofs.lemmas.List.Folds.{list_any-append}
 use Rattle.std.proofs.Math.IntN.{ℤ, pos, ◌+ℤ◌}
+use Rattle.std.proofs.lemmas.Option.{slice_get_within}
 use Rattle.lattice.specs.Order.{PartialOrderLaws}
 use Rattle.lattice.specs.Frontiers.{is_beyond}
 use Rattle.antichain.proofs.Lists.{Among, contains_among}
@@ -32,7 +33,7 @@ use Rattle.machine.specs.Shares.{home, share_from, share, share_fed}
 use Rattle.machine.specs.Outstanding.{input_frontier}
 use Rattle.machine.specs.NodeLaws.{received_at, is_reduction}
 use Rattle.machine.specs.Histories.{world, IsLegal}
-use Rattle.machine.specs.Promises.{changes_in, AreOwed, KeepsWeight, OwesWithinWeight}
+use Rattle.machine.specs.Promises.{changes_in, AreOwed, KeepsWeight, OwesWithinWeight, TakesWithinWeight, LoadsWithinWeight}
 use Rattle.machine.proofs.ClaimLemmas.{no_source, some_within}
 use Rattle.machine.proofs.WorkerLemmas.{sum_at-filter}
 use Rattle.plan.specs.Ancestors.{is_input}
@@ -94,6 +95,29 @@ nothing_fed p site (f ∷ fs) a d = step (same_place (home p f) site) refl (noth
 nothing_shared : {T : Type 0} (p : Dataflow) (c : Option ℕ) (k : ℕ) (gs : List (Emission T)) → flat_map (share_from p None c k) gs ≡ []
 nothing_shared p c k [] = refl
 nothing_shared p c k (g ∷ gs) = nothing_shared p c k gs
+
+-- one of the numbers that are added up
+all-one : (n : ℕ) (f : ℕ → ℕ) (k : ℕ) → k < n → f k ≤ all n f
+all-one zero f k l = omega (arith, l)
+all-one (suc n) f k l =
+    ⊎_elim (λ less. let h = all-one n f k less in omega (arith, h))
+    (λ equal. let same : k ≡ n = omega (arith, l, equal) in rw same (omega arith))
+    (cases_lt k n)
+
+some_port : (xs : List ℕ) (port s : ℕ) → slice_get xs port ≡ Some s → port < length xs
+some_port xs port s e = slice_get_within xs port s e
+
+-- only a reduction has a weight of its own
+own_free : (node : Node) (x : ℕ) (b : ℕ → ℕ) → is_reduction node ≡ false → load node 0 b ≡ load node x b
+own_free (Input width) x b e = refl
+own_free (Map source items) x b e = refl
+own_free (Filter source test) x b e = refl
+own_free (Concat left right) x b e = refl
+own_free (Negate source) x b e = refl
+own_free (Arrange source key) x b e = refl
+own_free (Join left right) x b e = refl
+own_free (Reduce kind source) x b e = absurd (true≢false e)
+own_free (Output source) x b e = refl
 
 module _ {T : Type 0} (leq : T → T → Bool) (o : PartialOrderLaws leq) (p : Dataflow) (q : IsDataflow p) (w : World T) (kept : IsKept leq p w) where
   abbrev got : ℕ → ℕ → ℕ → ℕ
@@ -219,16 +243,44 @@ module _ {T : Type 0} (leq : T → T → Bool) (o : PartialOrderLaws leq) (p : D
       pub bound : (n : ℕ) → gave_at n ≤ limit n
       bound = by_smaller (λ n. gave_at n ≤ limit n) bound_step
 
+      -- what one worker received at a port
+      pub from_source : (n port s k : ℕ) → k < p.workers → source_of p n port ≡ Some s → got n port k ≤ limit s
+      from_source n port s k l e =
+          let one = all-one p.workers (got n port) k l in
+          let all_got = received n port (inr (some_port (sources (node_of p n)) port s e)) (Some s) e in
+          let b = bound s in
+          omega (arith, one, all_got, b)
+
+      -- what a node may make of it
+      pub loads : (n k : ℕ) → k < p.workers → is_reduction (node_of p n) ≡ false → load (node_of p n) 0 (λ port. got n port k) ≤ limit n
+      loads n k l e =
+          let z = weight_by_sources p.nodes q.plan own ins n in
+          let same = own_free (node_of p n) (own n) (λ port. got n port k) e in
+          let c = load-le (node_of p n) (own n) (λ port. got n port k) (λ port. handed (ins n) limit (source_of p n port)) (λ port m. port_le port m) in
+          omega (arith, z, same, c)
+        where
+          handed_le : (port : ℕ) (x : Option ℕ) → source_of p n port ≡ x → handed (came_in n) gave_at x ≤ handed (ins n) limit x
+          handed_le port None e = let z = weight_is (fed_to n w.fed) in omega arith
+          handed_le port (Some s) e = bound s
+
+          port_le : (port : ℕ) → (port ≡ 0) ⊎ (port < length (sources (node_of p n))) → got n port k ≤ handed (ins n) limit (source_of p n port)
+          port_le port m =
+              let one = all-one p.workers (got n port) k l in
+              let a = received n port m (source_of p n port) refl in
+              let b = handed_le port (source_of p n port) refl in
+              omega (arith, one, a, b)
+
     -- a reduction's outputs so far
     partly : (n : ℕ) (kind : Kind) (source : ℕ) → node_of p n ≡ Reduce kind source → (k : ℕ)
         → ((t : T) → is_beyond leq (input_frontier leq p w n) t ≡ false → (r : List ℤ) → count_of (given_at p n (λ port. as_of leq t (received_at w n k port))) r ≡ cond (eqb (route p (take (key_width p.nodes (node_of p n)) r)) k) (count_of (query_at leq p.nodes (changes_in w) n t) r) (pos 0))
-        → (us : List (Update T)) → AreOwed leq p w n k us → weight us ≤ own n
-    partly n kind source e k due us a =
+        → (test : List ℤ → Bool) (us : List (Update T)) → AreOwed leq p w n test k us → weight us ≤ own n
+    partly n kind source e k due test us a =
         let d = differences n source kind e in
         let f = d.2 in
         let g = weight_is d.0 in
-        let x = fewest_below leq o us (filter (by n k) d.0) a.apart (agree d.0 d.1 us (each_passed leq (input_frontier leq p w n) us a.passed) (λ u m. m)) in
+        let x = fewest_below leq o us (filter (λ u. test u.row) (filter (by n k) d.0)) a.apart (agree d.0 d.1 us (each_passed leq (input_frontier leq p w n) us a.passed) (λ u m. m)) in
         let y = fewer (by n k) d.0 in
+        let z = fewer (λ u. test u.row) (filter (by n k) d.0) in
         omega arith
       where
         fewer : (test : Update T → Bool) (vs : List (Update T)) → weight (filter test vs) ≤ weight vs
@@ -239,41 +291,63 @@ module _ {T : Type 0} (leq : T → T → Bool) (o : PartialOrderLaws leq) (p : D
             step true h = omega arith
             step false h = omega arith
 
-        agree : (ds : List (Update T)) → AreDifferences leq cmp p.nodes (changes_in w) [] n ds → (xs : List (Update T)) → AllPassed leq (input_frontier leq p w n) xs → ((u : Update T) → Among u xs → Among u us) → AgreeBelow leq o us (filter (by n k) ds) xs
+        agree : (ds : List (Update T)) → AreDifferences leq cmp p.nodes (changes_in w) [] n ds → (xs : List (Update T)) → AllPassed leq (input_frontier leq p w n) xs → ((u : Update T) → Among u xs → Among u us) → AgreeBelow leq o us (filter (λ u. test u.row) (filter (by n k) ds)) xs
         agree ds d [] b m = tt
         agree ds d (x ∷ xs) b m = (
-          (λ s l r. a.sums x (contains_among x us (m x (inl refl))) s l r ∙ (due s (passed_down leq o (input_frontier leq p w n) s x.time l b.0) r ∙ (ap (λ z. cond (eqb (route p (take (key_width p.nodes (node_of p n)) r)) k) z (pos 0)) (sym (d.sums s refl r)) ∙ sym (sum_at-filter leq s (λ y. eqb (route p (take (key_width p.nodes (node_of p n)) y)) k) ds r)))),
+          (λ s l r.
+              a.sums x (contains_among x us (m x (inl refl))) s l r
+              ∙ (count_of-filter test (given_at p n (λ port. as_of leq s (received_at w n k port))) r
+              ∙ (ap (λ z. cond (test r) z (pos 0)) (due s (passed_down leq o (input_frontier leq p w n) s x.time l b.0) r ∙ (ap (λ z. cond (eqb (route p (take (key_width p.nodes (node_of p n)) r)) k) z (pos 0)) (sym (d.sums s refl r)) ∙ sym (sum_at-filter leq s (λ y. eqb (route p (take (key_width p.nodes (node_of p n)) y)) k) ds r)))
+              ∙ sym (sum_at-filter leq s test (filter (by n k) ds) r)))),
           agree ds d xs b.1 (λ u i. m u (inr i)),
         )
 
-module _ {T : Type 0} (leq : T → T → Bool) (minimum : T) (o : PartialOrderLaws leq) (p : Dataflow) (q : IsDataflow p) (cmp : T → T → Ordering) (h : List (Event T)) (l : IsLegal leq minimum p h) (n : ℕ) where
+module _ {T : Type 0} (leq : T → T → Bool) (minimum : T) (o : PartialOrderLaws leq) (p : Dataflow) (q : IsDataflow p) (cmp : T → T → Ordering) (h : List (Event T)) (l-h : IsLegal leq minimum p h) (n : ℕ) where
   abbrev w : World T
   w = world leq minimum p h
 
+  reduced_at : (kept : IsKept leq p w) (loaded : IsLoaded leq o p q w) (own : ℕ → ℕ) (d : AreOwn leq cmp p.nodes (changes_in w) own) (m : ℕ) (kind : Kind) (source : ℕ) → node_of p m ≡ Reduce kind source → all p.workers (λ k. weight (emitted_by m k w.emitted)) ≤ own m
+  reduced_at kept loaded own d m kind source e =
+      reduced leq o p q w kept loaded cmp own d m
+      (λ k t f g r. part_lem leq minimum o p q h l-h m k (linear_not (node_of p m) (ap is_reduction e)) t (is_passed _ f) (is_passed _ g) r
+      ∙ count_of-filter (λ x. eqb (route p (take (key_width p.nodes (node_of p m)) x)) k) (query_at leq p.nodes (changes_in w) m t) r)
+      kind source e
+
   pub weight_lem : KeepsWeight leq p w n cmp
   weight_lem limit is =
-      let kept = kept_world leq o p minimum h l in
-      let loaded = loaded_world leq o p q minimum h l in
+      let kept = kept_world leq o p minimum h l-h in
+      let loaded = loaded_world leq o p q minimum h l-h in
       let x = bound leq o p q w kept loaded cmp is.0 is.1 (reduced_at kept loaded is.0 is.1) n in
       let e = weight_is (emitted_at n w.emitted) in
       let f = is.2 in
       omega arith
-    where
-      reduced_at : (kept : IsKept leq p w) (loaded : IsLoaded leq o p q w) (own : ℕ → ℕ) (d : AreOwn leq cmp p.nodes (changes_in w) own) (m : ℕ) (kind : Kind) (source : ℕ) → node_of p m ≡ Reduce kind source → all p.workers (λ k. weight (emitted_by m k w.emitted)) ≤ own m
-      reduced_at kept loaded own d m kind source e =
-          reduced leq o p q w kept loaded cmp own d m
-          (λ k t f g r. part_lem leq minimum o p q h l m k (linear_not (node_of p m) (ap is_reduction e)) t (is_passed _ f) (is_passed _ g) r
-          ∙ count_of-filter (λ x. eqb (route p (take (key_width p.nodes (node_of p m)) x)) k) (query_at leq p.nodes (changes_in w) m t) r)
-          kind source e
 
   pub owed_lem : OwesWithinWeight leq p w n cmp
-  owed_lem source kind e k us a limit is =
-      let kept = kept_world leq o p minimum h l in
-      let loaded = loaded_world leq o p q minimum h l in
+  owed_lem source kind e test k us a limit is =
+      let kept = kept_world leq o p minimum h l-h in
+      let loaded = loaded_world leq o p q minimum h l-h in
       let lin = linear_not (node_of p n) (ap is_reduction e) in
-      let x = partly leq o p q w kept loaded cmp is.0 is.1 n kind source e k (λ t f r. due_lem leq minimum o p q h l n lin k t f r) us a in
+      let x = partly leq o p q w kept loaded cmp is.0 is.1 n kind source e k (λ t f r. due_lem leq minimum o p q h l-h n lin k t f r) test us a in
       let y = weight_by_sources p.nodes q.plan is.0 (λ i. size (changes_in w i)) n in
       let z = ap (λ node. load node (is.0 n) (λ port. handed (size (changes_in w n)) (weight_by p.nodes is.0 (λ i. size (changes_in w i))) (source_of p n port))) e in
       let v = weight_is us in
       let f = is.2 in
       omega arith
+
+  pub takes_lem : TakesWithinWeight leq p w n cmp
+  takes_lem port source e k l limit is =
+      let kept = kept_world leq o p minimum h l-h in
+      let loaded = loaded_world leq o p q minimum h l-h in
+      let x = from_source leq o p q w kept loaded cmp is.0 is.1 (reduced_at kept loaded is.0 is.1) n port source k l e in
+      let v = weight_is (received_at w n k port) in
+      let f = is.2 in
+      omega (arith, x, v, f)
+
+  pub loads_lem : LoadsWithinWeight leq p w n cmp
+  loads_lem e k l limit is =
+      let kept = kept_world leq o p minimum h l-h in
+      let loaded = loaded_world leq o p q minimum h l-h in
+      let x = loads leq o p q w kept loaded cmp is.0 is.1 (reduced_at kept loaded is.0 is.1) n k l e in
+      let c = load-le (node_of p n) 0 (λ port. size (received_at w n k port)) (λ port. weight (received_at w n k port)) (λ port m. let v = weight_is (received_at w n k port) in omega (arith, v)) in
+      let f = is.2 in
+      omega (arith, x, c, f)

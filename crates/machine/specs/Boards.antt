@@ -1,10 +1,10 @@
 -- What a contract sees of a board, what each event makes of it, and which histories it may stand for.
-use Rattle.std.specs.Prelude.{◌≡◌, ℕ, zero, suc, ◌<◌, Bool, not, eqb, if◌then◌else◌, List, [], ◌∷◌, ◌++◌, length, set, get_or, replicate, Option, Some, None, IsTrue, ⊤, nat_lt, nat_le, pos, unsigned_abs}
+use Rattle.std.specs.Prelude.{◌≡◌, ℕ, zero, suc, ◌<◌, ◌≤◌, Bool, not, ◌||◌, eqb, if◌then◌else◌, List, [], ◌∷◌, ◌++◌, length, set, get_or, replicate, Option, Some, None, IsTrue, ⊤, nat_lt, nat_le, pos, unsigned_abs}
 use Rattle.std.specs.List.{filter, flat_map}
 use Rattle.std.specs.Ordering.{int_eq}
 use Rattle.lattice.specs.Frontiers.{is_beyond, all_beyond}
 use Rattle.update.specs.Bags.{Alike}
-use Rattle.update.specs.Updates.{as_of}
+use Rattle.update.specs.Updates.{as_of, size}
 use Rattle.update.specs.declared.change.Update.{Update}
 use Rattle.update.specs.declared.refusal.Refusal.{Refusal}
 use Rattle.update.specs.declared.refusal.Refusal.TheVariants.{WrongWidth, ZeroWeight, WeightTooLarge, TimePassed, NotForward, InputFull}
@@ -23,7 +23,7 @@ use Rattle.machine.specs.declared.event.Event.{Event}
 use Rattle.machine.specs.declared.event.Event.TheVariants.{Feed, Advance, Look, Take, TakeHeld, Give}
 use Rattle.machine.specs.declared.view.View.{View}
 use Rattle.machine.specs.Dataflows.{Dataflow, node_of}
-use Rattle.machine.specs.Worlds.{same_place, emitted_at, fed_to, open_at}
+use Rattle.machine.specs.Worlds.{same_place, queue, held_at, emitted_at, fed_to, open_at}
 use Rattle.machine.specs.Shares.{home}
 use Rattle.machine.specs.Histories.{without, is_held_by, holding, opening, world, IsLegal}
 use Rattle.machine.specs.Outstanding.{stamp}
@@ -147,15 +147,26 @@ module _ {T : Type 0} (below : T → T → Bool) (minimum : T) where
   IsLast b [] = ⊤
   IsLast b (e ∷ h) = b.last ≡ e
 
-  -- the board may stand after a history: the history is legal, and what lies on the board is what it leaves
+  -- the least time is beyond the frontier, so that nothing was given up
+  abbrev pub is_from_start : List T → Bool
+  is_from_start since = is_beyond below since minimum
+
+  -- what a view keeps of what it captured: at the times at which it may still be read, and where nothing was given up at
+  -- every time, the same sums; and the diffs add to no more
+  pub record IsKeptOf (since : List T) (captured emitted : List (Update T)) : Type 0 where
+    pub sums : (t : T) → IsTrue (is_from_start since || is_beyond below since t) → Alike (as_of below t captured) (as_of below t emitted)
+    pub small : size captured ≤ size emitted
+
+  -- the board may stand after a history: the history is legal, and what lies on the board is what it leaves at each place,
+  -- whatever order the board keeps between places
   pub record Stands (b : Shown T) (h : List (Event T)) : Type 0 where
     pub legal : IsLegal below minimum b.dataflow h
-    pub in_flight : b.in_flight ≡ (world below minimum b.dataflow h).in_flight
-    pub held : b.held ≡ (world below minimum b.dataflow h).held
-    pub openings : b.openings ≡ (world below minimum b.dataflow h).openings
+    pub queues : (site : Place) → queue site b.in_flight ≡ queue site (world below minimum b.dataflow h).in_flight
+    pub held : (n k : ℕ) → held_at n k b.held ≡ held_at n k (world below minimum b.dataflow h).held
+    pub openings : (i : ℕ) → open_at i b.openings ≡ open_at i (world below minimum b.dataflow h).openings
     pub hand : (k : ℕ) → k < b.dataflow.workers → get_or b.hand k None ≡ (world below minimum b.dataflow h).hand k
     pub accepted : (i : ℕ) → i < length b.dataflow.nodes → get_or b.accepted i 0 ≡ length (fed_to i (world below minimum b.dataflow h).fed)
     pub since : (v : ℕ) → v < length b.dataflow.nodes → (get_or b.views v no_view).since ≡ (world below minimum b.dataflow h).since v
     pub captured : (v : ℕ) → v < length b.dataflow.nodes → IsTrue (is_output (node_of b.dataflow v))
-        → (t : T) → Alike (as_of below t (get_or b.views v no_view).captured) (as_of below t (emitted_at v (world below minimum b.dataflow h).emitted))
+        → IsKeptOf ((world below minimum b.dataflow h).since v) (get_or b.views v no_view).captured (emitted_at v (world below minimum b.dataflow h).emitted)
     pub last : IsLast b h

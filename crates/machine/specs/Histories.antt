@@ -1,8 +1,9 @@
 -- Histories: lists of events, the newest first. What each event leaves, and when it is allowed.
-use Rattle.std.specs.Prelude.{◌≡◌, ℕ, zero, suc, ◌<◌, ◌≤◌, ◌≢◌, Bool, not, ◌&&◌, eqb, if◌then◌else◌, List, [], ◌∷◌, ◌++◌, map, length, Some, None, IsTrue, Contains, ⊤, pos, unsigned_abs, slice_get}
+use Rattle.std.specs.Prelude.{◌≡◌, ℕ, zero, suc, ◌<◌, ◌≤◌, ◌≢◌, Bool, not, ◌&&◌, eqb, if◌then◌else◌, List, [], ◌∷◌, ◌++◌, map, length, Some, None, IsTrue, Contains, ⊤, pos, unsigned_abs, slice_get, ℤ}
 use Rattle.std.specs.List.{filter, list_all, flat_map}
 use Rattle.lattice.specs.Frontiers.{is_beyond, all_beyond}
 use Rattle.update.specs.declared.change.Update.{Update}
+use Rattle.update.specs.Bags.{total_by}
 use Rattle.plan.specs.Ancestors.{is_input}
 use Rattle.plan.specs.Changes.{has_passed}
 use Rattle.plan.specs.Edges.{numbers_where}
@@ -129,7 +130,7 @@ module _ {T : Type 0} (below : T → T → Bool) (p : Dataflow) where
     pub onward : IsTrue (all_beyond below (held_at g.node g.worker w.held) (times g.updates ++ ts))
     pub law : NodeLaw below p (gave w g ts sent) g.node g.worker
     pub load : LoadRule below p (gave w g ts sent) g.node g.worker
-    pub whole : (site : Place) → updates_at site sent ≡ share p site g
+    pub whole : (site : Place) (f : Update T → ℤ) → total_by f (updates_at site sent) ≡ total_by f (share p site g)
     pub filled : IsTrue (list_all (λ b. not (eqb (length b.updates) 0)) sent)
 
   -- the event may happen

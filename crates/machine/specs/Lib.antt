@@ -15,3 +15,4 @@ pub mod Reads
 pub mod Cuts
 pub mod Waiting
 pub mod Examples
+pub mod Remembered

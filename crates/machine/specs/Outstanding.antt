@@ -2,7 +2,8 @@
 -- the times that are held, and the elements of the inputs' frontiers, at the node and above it, on every worker
 -- (Murray et al., Naiad, SOSP 2013, section 2.3).
 use Rattle.std.specs.Prelude.{ℕ, Bool, not, ◌&&◌, eqb, if◌then◌else◌, List, [], ◌∷◌, ◌++◌, Option, Some, None}
-use Rattle.std.specs.List.{flat_map}
+use Rattle.std.specs.List.{flat_map, filter}
+use Rattle.lattice.specs.Frontiers.{is_beyond}
 use Rattle.antichain.specs.Antichains.{least}
 use Rattle.update.specs.declared.change.Update.{Update}
 use Rattle.machine.specs.declared.event.Place.{Place}
@@ -13,9 +14,18 @@ use Rattle.machine.specs.Dataflows.{Dataflow, source_of, above}
 use Rattle.machine.specs.Worlds.{World, times, open_at}
 
 module _ {T : Type 0} (below : T → T → Bool) where
-  -- a bundle's stamp: the least of its times
-  abbrev pub stamp : List (Update T) → List T
-  stamp us = least below (times us)
+  -- a frontier with one time more: where the time is not beyond it the time comes in, and what is beyond the time goes out
+  abbrev pub with_time : List T → T → List T
+  with_time front t = if is_beyond below front t then front else filter (λ f. not (below t f)) front ++ t ∷ []
+
+  -- a frontier with these times more, one by one
+  abbrev pub with_times : List T → List T → List T
+  with_times front [] = front
+  with_times front (t ∷ ts) = with_times (with_time front t) ts
+
+  -- the frontier of a bundle's times: the least of them, each once
+  unfoldable pub stamp : List (Update T) → List T
+  stamp us = with_times [] (times us)
 
   -- the stamps of the bundles at the places that pass a test
   abbrev pub stamps : (Place → Bool) → List (Bundle T) → List T

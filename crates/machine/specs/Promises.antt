@@ -8,16 +8,16 @@ use Rattle.update.specs.declared.change.Update.{Update}
 use Rattle.plan.specs.Changes.{has_passed, query_at, AreDifferences}
 use Rattle.plan.specs.Nodes.{key_width, sources}
 use Rattle.plan.specs.Operators.{is_linear}
-use Rattle.plan.specs.Weights.{IsWeight}
+use Rattle.plan.specs.Weights.{IsWeight, load}
 use Rattle.plan.specs.declared.node.Kind.{Kind}
 use Rattle.plan.specs.declared.node.Node.TheVariants.{Reduce}
 use Rattle.machine.specs.declared.event.Bundle.{Bundle}
 use Rattle.machine.specs.declared.event.Held.{Held}
 use Rattle.machine.specs.declared.event.Open.{Open}
-use Rattle.machine.specs.Dataflows.{Dataflow, node_of, given_at, above, route}
+use Rattle.machine.specs.Dataflows.{Dataflow, node_of, source_of, given_at, above, route}
 use Rattle.machine.specs.Worlds.{World, emitted_at, emitted_by, fed_to, held_at}
 use Rattle.machine.specs.Outstanding.{frontier, input_frontier}
-use Rattle.machine.specs.NodeLaws.{received_at, AreApart}
+use Rattle.machine.specs.NodeLaws.{received_at, AreApart, is_reduction}
 use Rattle.machine.specs.Histories.{IsInput}
 use Rattle.machine.specs.declared.event.Place.{Place}
 
@@ -61,17 +61,27 @@ module _ {T : Type 0} (below : T → T → Bool) (p : Dataflow) (w : World T) (n
   abbrev pub KeepsWeight : (T → T → Ordering) → Type 0
   KeepsWeight cmp = (weight : ℕ) → IsWeight below cmp p.nodes (changes_in w) n weight → size (emitted_at n w.emitted) ≤ weight
 
-  -- a reduction's updates up to some step of a computation, each at a time that the input frontier has passed: at or before
-  -- each of their times they sum to what the worker owes
-  pub record AreOwed (k : ℕ) (us : List (Update T)) : Type 0 where
+  -- a reduction's updates of the rows that pass a test, up to some step of a computation, each at a time that the input
+  -- frontier has passed: at or before each of their times they sum to what the worker owes of such rows
+  pub record AreOwed (test : List ℤ → Bool) (k : ℕ) (us : List (Update T)) : Type 0 where
     pub apart : AreApart below us
     pub passed : IsTrue (list_all (λ u. has_passed below (input_frontier below p w n) u.time) us)
-    pub sums : (u : Update T) → Contains us u → (t : T) → IsTrue (below t u.time) → Alike (as_of below t us) (given_at p n (λ port. as_of below t (received_at w n k port)))
+    pub sums : (u : Update T) → Contains us u → (t : T) → IsTrue (below t u.time) → Alike (as_of below t us) (filter (λ e. test e.row) (given_at p n (λ port. as_of below t (received_at w n k port))))
 
   -- so where a reduction is about to answer that a number is too large, its weight is
   abbrev pub OwesWithinWeight : (T → T → Ordering) → Type 0
-  OwesWithinWeight cmp = (source : ℕ) (kind : Kind) → node_of p n ≡ Reduce kind source → (k : ℕ) (us : List (Update T)) → AreOwed k us
+  OwesWithinWeight cmp = (source : ℕ) (kind : Kind) → node_of p n ≡ Reduce kind source → (test : List ℤ → Bool) (k : ℕ) (us : List (Update T)) → AreOwed test k us
       → (weight : ℕ) → IsWeight below cmp p.nodes (changes_in w) n weight → size us ≤ weight
+
+  -- what a worker received at a port is within the weight of the node that is read there
+  abbrev pub TakesWithinWeight : (T → T → Ordering) → Type 0
+  TakesWithinWeight cmp = (port source : ℕ) → source_of p n port ≡ Some source → (k : ℕ) → k < p.workers
+      → (weight : ℕ) → IsWeight below cmp p.nodes (changes_in w) source weight → size (received_at w n k port) ≤ weight
+
+  -- and what a node may make of it, at a join the product of both ports, is within the node's own
+  abbrev pub LoadsWithinWeight : (T → T → Ordering) → Type 0
+  LoadsWithinWeight cmp = is_reduction (node_of p n) ≡ false → (k : ℕ) → k < p.workers
+      → (weight : ℕ) → IsWeight below cmp p.nodes (changes_in w) n weight → load (node_of p n) 0 (λ port. size (received_at w n k port)) ≤ weight
 
 -- what a frontier has passed it has passed after any later events
 abbrev pub GoesOn : {T : Type 0} → (T → T → Bool) → List T → List T → Type 0

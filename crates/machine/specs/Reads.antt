@@ -9,7 +9,7 @@ use Rattle.plan.specs.Changes.{has_passed}
 use Rattle.plan.specs.Rules.{first_refusal}
 use Rattle.machine.specs.Worlds.{World, held_at}
 use Rattle.machine.specs.Outstanding.{frontier, input_frontier}
-use Rattle.machine.specs.Boards.{Shown, no_view}
+use Rattle.machine.specs.Boards.{Shown, no_view, is_from_start}
 
 -- what lies on a board, as what a history leaves: its logs of what is past are not there
 abbrev pub on_board : {T : Type 0} → Shown T → World T
@@ -68,12 +68,6 @@ module _ {T : Type 0} (below : T → T → Bool) where
   abbrev pub read_refusal : Shown T → ℕ → T → Option Refusal
   read_refusal b v t = first_refusal ((is_beyond below (front b v) t, NotPassed) ∷ (not (is_beyond below (since_of b v) t), GivenUp) ∷ [])
 
-  -- the list is of the least time alone
-  abbrev pub is_from_start : T → List T → Bool
-  is_from_start minimum [] = false
-  is_from_start minimum (t ∷ []) = below t minimum
-  is_from_start minimum (t ∷ u ∷ ts) = false
-
   -- what refuses the changes of a view
   abbrev pub changes_refusal : T → Shown T → ℕ → Option Refusal
-  changes_refusal minimum b v = first_refusal ((not (is_from_start minimum (since_of b v)), GivenUp) ∷ [])
+  changes_refusal minimum b v = first_refusal ((not (is_from_start below minimum (since_of b v)), GivenUp) ∷ [])

@@ -20,6 +20,7 @@ use lattice::Minimum;
 use plan::{NodeId, Plan};
 use std::alloc::Global;
 use std::marker::Model;
+use std::snapshot::Snapshot;
 use update::Refusal;
 
 /// What lies between clients and workers. A contract sees what lies on it.
@@ -33,7 +34,8 @@ pub struct Board<T> {
     pub(crate) hand: Vec<Option<NodeId>>,
     pub(crate) accepted: Vec<usize>,
     pub(crate) views: Vec<View<T>>,
-    pub(crate) last: Event<T>,
+    // For clauses alone: it has no bytes, so that nothing is copied for it.
+    pub(crate) last: Snapshot<Event<T>>,
 }
 
 impl<T> Model for Board<T> {
@@ -49,7 +51,7 @@ impl<T> Model for Board<T> {
       hand = b.hand.items;
       accepted = b.accepted.items;
       views = b.views.items;
-      last = b.last;
+      last = b.last.value;
     } };
 
     ghost invariant = { λ b. IsBoard (record {
@@ -60,7 +62,7 @@ impl<T> Model for Board<T> {
       hand = b.hand.items;
       accepted = b.accepted.items;
       views = b.views.items;
-      last = b.last;
+      last = b.last.value;
     }) };
 }
 
@@ -98,7 +100,7 @@ impl<T: Minimum> Board<T> {
             hand,
             accepted,
             views,
-            last: Event::Look { actor: 0 },
+            last: Snapshot::of(&Event::Look { actor: 0 }),
         })
     }
 
@@ -119,8 +121,8 @@ impl<T: Minimum> Board<T> {
     }
 
     // An event is the board's last.
-    pub(crate) fn note(&mut self, event: Event<T>)
-        ensures noted { self.new ≡ record self.old { last = event } }
+    pub(crate) fn note(&mut self, event: Snapshot<Event<T>>)
+        ensures noted { self.new ≡ record self.old { last = event.value } }
         ensures board { IsBoard self.old }
     {
         self.last = event;
@@ -131,7 +133,7 @@ impl<T: Minimum> Board<T> {
         ensures looked { self.new ≡ looked actor self.old }
         ensures stands { (h : List (Event T)) → Stands T.below T.least self.old h → Stands T.below T.least self.new (self.new.last ∷ h) }
     {
-        self.note(Event::Look { actor });
+        self.note(Snapshot::of(&Event::Look { actor }));
     }
 }
 

@@ -18,6 +18,7 @@ use crate::lists::Times;
 use lattice::Minimum;
 use plan::{NodeId, Plan};
 use std::alloc::Global;
+use std::snapshot::Snapshot;
 use update::{Refusal, Update};
 
 /// The most changes that an input takes.
@@ -75,10 +76,10 @@ impl<T: Minimum> Board<T> {
     {
         match self.accept(input, &update) {
             Ok(()) => {
-                self.note(Event::Feed {
+                self.note(Snapshot::of(&Event::Feed {
                     client,
                     fed: Fed { input, update },
-                });
+                }));
                 Ok(())
             }
             Err(refusal) => {
@@ -158,11 +159,11 @@ impl<T: Minimum> Board<T> {
     {
         match self.move_frontier(input, times.as_slice()) {
             Ok(()) => {
-                self.note(Event::Advance {
+                self.note(Snapshot::of(&Event::Advance {
                     client,
                     input,
                     times,
-                });
+                }));
                 Ok(())
             }
             Err(refusal) => {

@@ -1,7 +1,12 @@
 //! What may happen on a board, and the entries of the logs that it leaves. Each event names who did it and all that it
 //! did, so that a history is a list of events and nothing else.
+ghost use Rattle.std.specs.Prelude.{◌≡◌};
+ghost use Rattle.machine.specs.declared.event.Event.TheVariants.{Take, Give};
+ghost use Rattle.machine.specs.Remembered.{IsTaking, HasTaken, IsGiving, HasGiven};
+
 use crate::lists::{Times, Updates};
 use plan::NodeId;
+use std::snapshot::Snapshot;
 use update::Update;
 
 /// A place where bundles wait: a port of a node, on a worker.
@@ -131,4 +136,59 @@ pub enum Event<T> {
         held: Times<T>,
         sent: Bundles<T>,
     },
+}
+
+// The event of a take, for clauses alone, and what is taken: it moves through.
+pub(crate) fn remembered_take<T>(
+    place: Place,
+    number: usize,
+    updates: Updates<T>,
+) -> (Updates<T>, Snapshot<Event<T>>)
+    ensures same { result.0 ≡ updates }
+    ensures event { result.1.value ≡ Take place number updates }
+{
+    let event = Event::Take {
+        place,
+        number,
+        updates,
+    };
+    let last = Snapshot::of(&event);
+    (taken_in(event), last)
+}
+
+fn taken_in<T>(event: Event<T>) -> Updates<T>
+    requires { IsTaking event }
+    ensures { HasTaken event result }
+{
+    match event {
+        Event::Take { updates, .. } => updates,
+        _ => unreachable!(),
+    }
+}
+
+// The event of a give, for clauses alone, and what is given: it moves through.
+pub(crate) fn remembered_give<T>(
+    given: Emission<T>,
+    held: Times<T>,
+    sent: Bundles<T>,
+) -> (Emission<T>, Times<T>, Bundles<T>, Snapshot<Event<T>>)
+    ensures given { result.0 ≡ given }
+    ensures held { result.1 ≡ held }
+    ensures sent { result.2 ≡ sent }
+    ensures event { result.3.value ≡ Give given held sent }
+{
+    let event = Event::Give { given, held, sent };
+    let last = Snapshot::of(&event);
+    let (given, held, sent) = given_in(event);
+    (given, held, sent, last)
+}
+
+fn given_in<T>(event: Event<T>) -> (Emission<T>, Times<T>, Bundles<T>)
+    requires { IsGiving event }
+    ensures { HasGiven event result.0 result.1 result.2 }
+{
+    match event {
+        Event::Give { given, held, sent } => (given, held, sent),
+        _ => unreachable!(),
+    }
 }

@@ -1,6 +1,6 @@
 //! Frontiers, found on a board from scratch: from what is in flight, what is held and what the inputs leave open, at a node
 //! or above it, on every worker. Nothing is kept between two questions, so nothing can be out of date.
-ghost use Rattle.std.specs.Prelude.{◌≡◌, ◌<◌, ◌++◌, ◌&&◌, not, eqb, if◌then◌else◌, [], ◌∷◌, IfErr, IfOk, OnOk, length, map};
+ghost use Rattle.std.specs.Prelude.{List, ◌≡◌, ◌<◌, ◌++◌, ◌&&◌, not, eqb, if◌then◌else◌, [], ◌∷◌, IfErr, IfOk, OnOk, length, map};
 ghost use Rattle.std.specs.List.{flat_map, list_any};
 ghost use Rattle.lattice.specs.Frontiers.{is_beyond};
 ghost use Rattle.antichain.specs.Antichains.{SameElements, least};
@@ -8,7 +8,10 @@ ghost use Rattle.update.specs.declared.refusal.Refusal.TheVariants.{OutOfMemory}
 ghost use Rattle.plan.specs.Ancestors.{is_above};
 ghost use Rattle.plan.specs.Changes.{has_passed};
 ghost use Rattle.machine.specs.Worlds.{times, held_at};
-ghost use Rattle.machine.specs.Outstanding.{held_where, open_where, outstanding};
+ghost use Rattle.machine.specs.Outstanding.{held_where, open_where, outstanding, frontier, input_frontier};
+ghost use Rattle.machine.specs.declared.event.Event.{Event};
+ghost use Rattle.machine.specs.Histories.{world};
+ghost use Rattle.machine.specs.Boards.{Stands};
 ghost use Rattle.machine.specs.Reads.{on_board, front, input_front, is_ready};
 
 use crate::board::Board;
@@ -169,7 +172,8 @@ impl<T: Minimum> Board<T> {
     /// Cost: linear in what is in flight, held and open, times the nodes.
     pub fn has_passed(&self, node: NodeId, t: &T) -> bool
         requires { node < length self.now.dataflow.nodes }
-        ensures { result ≡ has_passed T.below (front T.below self.now node) t.now }
+        ensures value { result ≡ has_passed T.below (front T.below self.now node) t.now }
+        ensures stands { (h : List (Event T)) → Stands T.below T.least self.now h → result ≡ has_passed T.below (frontier T.below self.now.dataflow (world T.below T.least self.now.dataflow h) node) t.now }
     {
         !(self.is_in_flight(node, t) | self.is_held(node, t) | self.is_open(node, t))
     }
@@ -180,7 +184,8 @@ impl<T: Minimum> Board<T> {
     /// Cost: linear in what is in flight, held and open, times the nodes.
     pub fn input_has_passed(&self, node: NodeId, t: &T) -> bool
         requires { node < length self.now.dataflow.nodes }
-        ensures { result ≡ has_passed T.below (input_front T.below self.now node) t.now }
+        ensures value { result ≡ has_passed T.below (input_front T.below self.now node) t.now }
+        ensures stands { (h : List (Event T)) → Stands T.below T.least self.now h → result ≡ has_passed T.below (input_frontier T.below self.now.dataflow (world T.below T.least self.now.dataflow h) node) t.now }
     {
         !(self.is_in_flight(node, t) | self.is_held_above(node, t) | self.is_open(node, t))
     }
@@ -226,6 +231,7 @@ impl<T: Minimum> Board<T> {
         requires { node < length self.now.dataflow.nodes }
         ensures least { IfOk result (λ frontier. SameElements frontier (front T.below self.now node)) }
         ensures beyond { IfOk result (λ frontier. (t : T) → is_beyond T.below frontier t ≡ is_beyond T.below (front T.below self.now node) t) }
+        ensures stands { (h : List (Event T)) → Stands T.below T.least self.now h → IfOk result (λ found. SameElements found (frontier T.below self.now.dataflow (world T.below T.least self.now.dataflow h) node)) }
         ensures refused { IfErr result (λ refusal. refusal ≡ OutOfMemory) }
     {
         let times = self.outstanding(node)?;

@@ -4,15 +4,16 @@ ghost use Rattle.std.specs.List.{filter};
 ghost use Rattle.update.specs.declared.refusal.Refusal.TheVariants.{OutOfMemory};
 ghost use Rattle.machine.specs.declared.event.Event.{Event};
 ghost use Rattle.machine.specs.Histories.{holding, is_held_by, world, IsGive};
-ghost use Rattle.machine.specs.Boards.{Shown, IsBoard, Stands, looked, given, captured_at};
+ghost use Rattle.machine.specs.Boards.{Shown, IsBoard, Stands, looked, given, captured_at, capturing, no_view};
 
 use crate::board::Board;
-use crate::event::{Bundle, Bundles, Emission, Event, Held};
-use crate::lists::{Times, Updates};
+use crate::event::{Bundles, Emission, Held, remembered_give};
+use crate::lists::Times;
+use crate::view::View;
 use lattice::Minimum;
 use plan::NodeId;
 use std::alloc::Global;
-use update::{Refusal, Update};
+use update::Refusal;
 
 /// What could not be given for want of memory: all that was to be.
 #[derive(Drop)]
@@ -42,7 +43,7 @@ fn held_with<T: Minimum>(
 }
 
 // The times, each as held by a worker at a node.
-fn holding<T: Minimum>(
+pub(crate) fn holding<T: Minimum>(
     alloc: Global,
     node: NodeId,
     worker: usize,
@@ -80,35 +81,6 @@ fn push_others<T: Minimum>(
     Ok(())
 }
 
-// A copy of a bundle.
-fn copied<T: Minimum>(alloc: Global, bundle: &Bundle<T>) -> Result<Bundle<T>, Refusal>
-    ensures copied { IfOk result (λ copy. copy ≡ bundle.now) }
-    ensures refused { IfErr result (λ refusal. refusal ≡ OutOfMemory) }
-{
-    let mut updates = Updates::from(Vec::new(alloc));
-    updates.extend(bundle.updates.as_slice())?;
-    Ok(Bundle {
-        place: bundle.place,
-        updates,
-    })
-}
-
-// Copies of the bundles, behind; where memory is refused some of them.
-fn push_copies<T: Minimum>(
-    alloc: Global,
-    bundles: &mut Vec<Bundle<T>>,
-    sent: &[Bundle<T>],
-) -> Result<(), Refusal>
-    ensures sent { OnOk result (bundles.new.items ≡ bundles.old.items ++ sent.now) }
-    ensures refused { IfErr result (λ refusal. refusal ≡ OutOfMemory) }
-    ensures first { take (length bundles.old.items) bundles.new.items ≡ bundles.old.items }
-{
-    for bundle in sent {
-        bundles.push(copied(alloc, bundle)?)?;
-    }
-    Ok(())
-}
-
 impl<T: Minimum> Board<T> {
     /// A worker gives what it computed at the node that it has in hand: the updates, the times that it holds there from
     /// then on, and the bundles that are sent. It then has nothing in hand. What is given at a view is captured.
@@ -119,7 +91,7 @@ impl<T: Minimum> Board<T> {
     ///
     /// Refused only for want of memory; then all comes back, the event is a look, and nothing else changed.
     ///
-    /// Cost: linear in the times held and in what is given and sent.
+    /// Cost: linear in the times held; what is given and sent moves.
     pub fn give(
         &mut self,
         emission: Emission<T>,
@@ -152,13 +124,10 @@ impl<T: Minimum> Board<T> {
         ensures unchanged { OnErr result (self.new ≡ looked emission.worker self.old) }
         ensures board { OnOk result (IsBoard self.old) }
     {
-        match self.try_give(&emission, held.as_slice(), &sent) {
+        let (mut emission, held, mut sent, event) = remembered_give(emission, held, sent);
+        match self.try_give(&mut emission, held.as_slice(), &mut sent) {
             Ok(()) => {
-                self.note(Event::Give {
-                    given: emission,
-                    held,
-                    sent,
-                });
+                self.note(event);
                 Ok(())
             }
             Err(_refused) => {
@@ -172,61 +141,55 @@ impl<T: Minimum> Board<T> {
         }
     }
 
-    // The same but for the last event.
+    // The same but for the last event. What is given moves to where it goes.
     fn try_give(
         &mut self,
-        emission: &Emission<T>,
+        emission: &mut Emission<T>,
         held: &[T],
-        sent: &Bundles<T>,
+        sent: &mut Bundles<T>,
     ) -> Result<(), Refusal>
-        requires worker { emission.now.worker < self.old.dataflow.workers }
-        requires within { emission.now.node < length self.old.dataflow.nodes }
+        requires worker { emission.old.worker < self.old.dataflow.workers }
+        requires within { emission.old.node < length self.old.dataflow.nodes }
         ensures given { OnOk result (self.new ≡ record self.old {
-          in_flight = self.old.in_flight ++ sent.now;
-          held = holding emission.now.node emission.now.worker held.now ++ filter (λ m. not (is_held_by emission.now.node emission.now.worker m)) self.old.held;
-          hand = set self.old.hand emission.now.worker None;
-          views = captured_at self.old.dataflow emission.now.node emission.now.updates self.old.views;
+          in_flight = self.old.in_flight ++ sent.old;
+          held = holding emission.old.node emission.old.worker held.now ++ filter (λ m. not (is_held_by emission.old.node emission.old.worker m)) self.old.held;
+          hand = set self.old.hand emission.old.worker None;
+          views = captured_at self.old.dataflow emission.old.node emission.old.updates self.old.views;
         }) }
         ensures unchanged { OnErr result (self.new ≡ self.old) }
+        ensures emission { OnErr result (emission.new ≡ emission.old) }
+        ensures sent { OnErr result (sent.new ≡ sent.old) }
     {
         let alloc = *self.held.allocator();
         let times = held_with(alloc, emission.node, emission.worker, held, &self.held)?;
-        let before = self.in_flight.len();
-        self.send(sent)?;
-        if let Err(refusal) = self.capture(emission.node, emission.updates.as_slice()) {
-            self.in_flight.truncate(before);
-            return Err(refusal);
-        }
+        let is_view = self.plan.node(emission.node).is_output();
+        self.in_flight.reserve(sent.items.len())?;
+        capture(&mut self.views, is_view, emission)?;
+        self.in_flight.append(&mut sent.items).unwrap();
         self.held = times;
         self.hand[emission.worker] = None;
         Ok(())
     }
+}
 
-    // Copies of the bundles are in flight.
-    fn send(&mut self, sent: &Bundles<T>) -> Result<(), Refusal>
-        ensures sent { OnOk result (self.new ≡ record self.old { in_flight = self.old.in_flight ++ sent.now }) }
-        ensures unchanged { OnErr result (self.new ≡ self.old) }
-    {
-        let alloc = *self.in_flight.allocator();
-        let before = self.in_flight.len();
-        match push_copies(alloc, &mut self.in_flight, &sent.items) {
-            Ok(()) => Ok(()),
-            Err(refusal) => {
-                self.in_flight.truncate(before);
-                Err(refusal)
-            }
-        }
+// What a node gave is captured where the node is a view.
+fn capture<T: Minimum>(
+    views: &mut Vec<View<T>>,
+    is_view: bool,
+    emission: &mut Emission<T>,
+) -> Result<(), Refusal>
+    requires { emission.old.node < length views.old.items }
+    ensures captured { OnOk result (views.new.items ≡ (if is_view then set views.old.items emission.old.node (capturing (get_or views.old.items emission.old.node no_view) emission.old.updates) else views.old.items)) }
+    ensures len { length views.new.items ≡ length views.old.items }
+    ensures node { emission.new.node ≡ emission.old.node }
+    ensures worker { emission.new.worker ≡ emission.old.worker }
+    ensures unchanged { OnErr result (views.new.items ≡ views.old.items) }
+    ensures kept { OnErr result (emission.new ≡ emission.old) }
+{
+    if !is_view {
+        return Ok(());
     }
-
-    // What a node gave is captured where the node is a view.
-    fn capture(&mut self, node: NodeId, updates: &[Update<T>]) -> Result<(), Refusal>
-        requires { node < length self.old.dataflow.nodes }
-        ensures captured { OnOk result (self.new ≡ record self.old { views = captured_at self.old.dataflow node updates.now self.old.views }) }
-        ensures unchanged { OnErr result (self.new ≡ self.old) }
-    {
-        if !self.plan.node(node).is_output() {
-            return Ok(());
-        }
-        self.views[node.number()].captured.extend(updates)
-    }
+    views[emission.node.number()]
+        .captured
+        .append(&mut emission.updates)
 }

@@ -45,6 +45,7 @@ pub use lists::{Times, Updates};
 pub use standing::meets;
 pub use theorems::{
     frontiers_do_not_go_back, headline, nothing_lurks, one_list, parts_of_workers,
-    premises_can_be_met, quiet_is_caught_up, weights_are_kept, what_waits_has_its_place,
+    premises_can_be_met, quiet_is_caught_up, stamps_are_frontiers, weights_are_kept,
+    what_waits_has_its_place,
 };
 pub use view::View;

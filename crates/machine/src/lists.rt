@@ -47,33 +47,16 @@ impl<T> Updates<T> {
 }
 
 impl<T: Lattice> Updates<T> {
-    /// Copies of these updates, behind. Refused only with `OutOfMemory`, and then nothing changed.
-    pub(crate) fn extend(&mut self, more: &[Update<T>]) -> Result<(), Refusal>
-        ensures more { OnOk result (self.new ≡ self.old ++ more.now) }
+    /// Takes over all of these updates, behind. Refused only with `OutOfMemory`, and then nothing changed.
+    pub(crate) fn append(&mut self, more: &mut Updates<T>) -> Result<(), Refusal>
+        ensures more { OnOk result (self.new ≡ self.old ++ more.old) }
         ensures refused { IfErr result (λ refusal. refusal ≡ OutOfMemory) }
         ensures unchanged { OnErr result (self.new ≡ self.old) }
+        ensures kept { OnErr result (more.new ≡ more.old) }
     {
-        let before = self.items.len();
-        match push_copies(&mut self.items, more) {
-            Ok(()) => Ok(()),
-            Err(refusal) => {
-                self.items.truncate(before);
-                Err(refusal)
-            }
-        }
+        self.items.append(&mut more.items)?;
+        Ok(())
     }
-}
-
-// Copies of these updates, behind; where memory is refused some of them.
-fn push_copies<T: Lattice>(updates: &mut Vec<Update<T>>, more: &[Update<T>]) -> Result<(), Refusal>
-    ensures more { OnOk result (updates.new.items ≡ updates.old.items ++ more.now) }
-    ensures refused { IfErr result (λ refusal. refusal ≡ OutOfMemory) }
-    ensures first { take (length updates.old.items) updates.new.items ≡ updates.old.items }
-{
-    for update in more {
-        updates.push(update.copy())?;
-    }
-    Ok(())
 }
 
 /// Takes no memory.

@@ -15,8 +15,8 @@ ghost use Rattle.machine.specs.Outstanding.{frontier};
 ghost use Rattle.machine.specs.Histories.{world};
 ghost use Rattle.machine.specs.Promises.{changes_in};
 ghost use Rattle.machine.specs.Readings.{IsQuiet};
-ghost use Rattle.machine.specs.Boards.{Stands, IsBoard};
-ghost use Rattle.machine.specs.Reads.{front, input_front, captured_of, since_of, is_free, is_quiet_board, is_from_start, read_refusal, changes_refusal, IsRefusalOr};
+ghost use Rattle.machine.specs.Boards.{Stands, IsBoard, is_from_start};
+ghost use Rattle.machine.specs.Reads.{front, input_front, captured_of, since_of, is_free, is_quiet_board, read_refusal, changes_refusal, IsRefusalOr};
 
 use crate::board::Board;
 use crate::event::Held;
@@ -38,11 +38,11 @@ fn are_free(hand: &[Option<NodeId>]) -> bool
     true
 }
 
-// Whether a frontier is of the least time alone.
+// Whether the least time is beyond a frontier.
 fn is_from_start<T: Minimum>(times: &[T]) -> bool
     ensures { result ≡ is_from_start T.below T.least times.now }
 {
-    times.len() == 1 && times[0].less_equal(&T::minimum())
+    is_beyond(times, &T::minimum())
 }
 
 // Copies of the updates that are at or after none of the times.

@@ -9,11 +9,14 @@ ghost use Rattle.plan.specs.Changes.{has_passed};
 ghost use Rattle.machine.specs.Dataflows.{Dataflow, IsDataflow};
 ghost use Rattle.machine.specs.declared.event.Event.{Event};
 ghost use Rattle.machine.specs.Worlds.{emitted_at};
-ghost use Rattle.machine.specs.Outstanding.{frontier, input_frontier, port_frontier};
+ghost use Rattle.lattice.specs.Frontiers.{is_beyond};
+ghost use Rattle.antichain.specs.Antichains.{is_antichain};
+ghost use Rattle.machine.specs.Worlds.{times};
+ghost use Rattle.machine.specs.Outstanding.{stamp, frontier, input_frontier, port_frontier};
 ghost use Rattle.machine.specs.Histories.{IsLegal, world};
 ghost use Rattle.machine.specs.Readings.{IsQuiet, IsCaughtUp};
 ghost use Rattle.machine.specs.Examples.{IsExample};
-ghost use Rattle.machine.specs.Promises.{IsInPlace, changes_in, MeetsQuery, MeetsDifferences, MeetsPart, NothingLurks, KeepsWeight, OwesWithinWeight, GoesOn};
+ghost use Rattle.machine.specs.Promises.{IsInPlace, changes_in, MeetsQuery, MeetsDifferences, MeetsPart, NothingLurks, KeepsWeight, OwesWithinWeight, TakesWithinWeight, LoadsWithinWeight, GoesOn};
 
 use lattice::Minimum;
 
@@ -69,6 +72,16 @@ pub fn weights_are_kept<T: Minimum>()
         → (n : ℕ) → KeepsWeight T.below p (world T.below T.least p h) n T.cmp }
     ensures owed { (p : Dataflow) → IsDataflow p → (h : List (Event T)) → IsLegal T.below T.least p h
         → (n : ℕ) → OwesWithinWeight T.below p (world T.below T.least p h) n T.cmp }
+    ensures received { (p : Dataflow) → IsDataflow p → (h : List (Event T)) → IsLegal T.below T.least p h
+        → (n : ℕ) → TakesWithinWeight T.below p (world T.below T.least p h) n T.cmp }
+    ensures loads { (p : Dataflow) → IsDataflow p → (h : List (Event T)) → IsLegal T.below T.least p h
+        → (n : ℕ) → LoadsWithinWeight T.below p (world T.below T.least p h) n T.cmp }
+{}
+
+/// A stamp stands for all times of its bundle, and has none of them twice: no two of its times can be compared.
+pub fn stamps_are_frontiers<T: Minimum>()
+    ensures apart { (us : List (Update T)) → IsTrue (is_antichain T.below (stamp T.below us)) }
+    ensures beyond { (us : List (Update T)) → (t : T) → is_beyond T.below (stamp T.below us) t ≡ is_beyond T.below (times us) t }
 {}
 
 /// Where a board is quiet it has caught up: each node's frontier, and so each view's, is the least of the frontiers of the

@@ -1,7 +1,6 @@
 //! The events of workers: a worker with nothing in hand takes a bundle that waits for it, or turns to times that it holds.
 ghost use Rattle.std.specs.Prelude.{◌≡◌, ◌<◌, ◌≤◌, ◌++◌, List, [], ◌∷◌, Some, None, IfErr, IfOk, OnErr, OnOk, IsTrue, length, get_or, slice_get, set, map, not, ◌||◌};
 ghost use Rattle.std.specs.List.{filter, list_all, remove};
-ghost use Rattle.antichain.specs.Antichains.{is_least, least};
 ghost use Rattle.update.specs.declared.refusal.Refusal.TheVariants.{OutOfMemory};
 ghost use Rattle.plan.specs.Nodes.{arranged_by};
 ghost use Rattle.machine.specs.declared.event.Bundle.{Bundle};
@@ -9,17 +8,20 @@ ghost use Rattle.machine.specs.declared.event.Event.{Event};
 ghost use Rattle.machine.specs.declared.event.Event.TheVariants.{Take};
 ghost use Rattle.machine.specs.Dataflows.{node_of};
 ghost use Rattle.machine.specs.Worlds.{queue, times, same_place};
-ghost use Rattle.machine.specs.Outstanding.{stamp};
+ghost use Rattle.machine.specs.Outstanding.{stamp, with_time};
 ghost use Rattle.machine.specs.Histories.{holding, without};
 ghost use Rattle.machine.specs.Boards.{Shown, IsBoard, Stands, looked, taken, turned, position_in};
 ghost use Rattle.machine.specs.Reads.{is_ready};
 
 use crate::board::Board;
-use crate::event::{Bundle, Event, Held, Place};
+use crate::event::{Bundle, Event, Held, Place, remembered_take};
+use crate::giving::holding;
 use crate::lists::Updates;
+use antichain::is_beyond;
 use lattice::Minimum;
 use plan::NodeId;
 use std::alloc::Global;
+use std::snapshot::Snapshot;
 use update::{Refusal, Update};
 
 impl Place {
@@ -49,18 +51,6 @@ fn position<T: Minimum>(bundles: &[Bundle<T>], place: &Place, number: usize) -> 
     0
 }
 
-// Whether none of the times is before this one: whichever is at or before it is it.
-fn is_least<T: Minimum>(updates: &[Update<T>], t: &T) -> bool
-    ensures { result ≡ is_least T.below (times updates.now) t.now }
-{
-    for update in updates {
-        if update.time.less_equal(t) && !t.less_equal(&update.time) {
-            return false;
-        }
-    }
-    true
-}
-
 // A copy of the updates.
 pub(crate) fn copied<T: Minimum>(
     alloc: Global,
@@ -76,27 +66,37 @@ pub(crate) fn copied<T: Minimum>(
     Ok(copy)
 }
 
-// The least times of a bundle, each as held at its place.
-#[tactic(auto, unfolding(antichain::specs::Antichains::least))]
-fn stamped<T: Minimum>(
-    alloc: Global,
-    place: &Place,
-    updates: &[Update<T>],
-) -> Result<Vec<Held<T>>, Refusal>
-    ensures stamped { IfOk result (λ held. held.items ≡ holding place.now.node place.now.worker (stamp T.below updates.now)) }
+// The frontier of a bundle's times.
+#[tactic(auto, unfolding(crate::specs::Outstanding::stamp))]
+fn stamp_of<T: Minimum>(alloc: Global, updates: &[Update<T>]) -> Result<Vec<T>, Refusal>
+    ensures stamp { IfOk result (λ front. front.items ≡ stamp T.below updates.now) }
     ensures refused { IfErr result (λ refusal. refusal ≡ OutOfMemory) }
 {
-    let mut held = Vec::new(alloc);
+    let mut stamp = Vec::new(alloc);
     for update in updates {
-        if is_least(updates, &update.time) {
-            held.push(Held {
-                node: place.node,
-                worker: place.worker,
-                time: update.time,
-            })?;
-        }
+        insert(&mut stamp, update.time)?;
     }
-    Ok(held)
+    Ok(stamp)
+}
+
+// A time comes into a frontier.
+fn insert<T: Minimum>(front: &mut Vec<T>, t: T) -> Result<(), Refusal>
+    ensures with { OnOk result (front.new.items ≡ with_time T.below front.old.items t) }
+    ensures refused { IfErr result (λ refusal. refusal ≡ OutOfMemory) }
+{
+    if is_beyond(front, &t) {
+        return Ok(());
+    }
+    leave(front, t);
+    front.push(t)?;
+    Ok(())
+}
+
+// What a time makes superfluous goes.
+fn leave<T: Minimum>(front: &mut Vec<T>, t: T)
+    ensures left { front.new.items ≡ filter (λ f. not (T.below t f)) front.old.items }
+{
+    front.retain(|f| !t.less_equal(f));
 }
 
 // What was held before, behind.
@@ -118,7 +118,7 @@ impl<T: Minimum> Board<T> {
     ///
     /// Refused only with `OutOfMemory`; then the event is a look, and nothing else changed.
     ///
-    /// Cost: linear in the bundles in flight and in the times held, quadratic in the updates of the bundle.
+    /// Cost: linear in the bundles in flight and in the times held, and in the updates times the elements of their stamp.
     pub fn take(&mut self, place: Place, number: usize) -> Result<Updates<T>, Refusal>
         requires worker { place.worker < self.old.dataflow.workers }
         requires free { get_or self.old.hand place.worker None ≡ None }
@@ -144,8 +144,8 @@ impl<T: Minimum> Board<T> {
         ensures board { OnOk result (IsBoard self.old) }
     {
         let position = position(&self.in_flight, &place, number);
-        match self.stamp_with(&place, self.in_flight[position].updates.as_slice()) {
-            Ok((copy, held)) => Ok(self.hand_over(place, number, position, copy, held)),
+        match self.held_with(&place, self.in_flight[position].updates.as_slice()) {
+            Ok(held) => Ok(self.hand_over(place, number, position, held)),
             Err(refusal) => {
                 self.look(place.worker);
                 Err(refusal)
@@ -159,7 +159,6 @@ impl<T: Minimum> Board<T> {
         place: Place,
         number: usize,
         position: usize,
-        copy: Vec<Update<T>>,
         held: Vec<Held<T>>,
     ) -> Updates<T>
         requires within { position < length self.old.in_flight }
@@ -169,36 +168,28 @@ impl<T: Minimum> Board<T> {
           in_flight = remove self.old.in_flight position;
           held = held.items;
           hand = set self.old.hand place.worker (Some place.node);
-          last = Take place number copy.items;
+          last = Take place number result;
         } }
     {
         let bundle = self.in_flight.remove(position);
         self.held = held;
         self.hand[place.worker] = Some(place.node);
-        self.note(Event::Take {
-            place,
-            number,
-            updates: copy.into(),
-        });
         let Bundle { place: _, updates } = bundle;
+        let (updates, event) = remembered_take(place, number, updates);
+        self.note(event);
         updates
     }
 
-    // A copy of a bundle's updates, and what is held once they are taken.
-    fn stamp_with(
-        &self,
-        place: &Place,
-        updates: &[Update<T>],
-    ) -> Result<(Vec<Update<T>>, Vec<Held<T>>), Refusal>
-        ensures copy { IfOk result (λ r. r.0.items ≡ updates.now) }
-        ensures held { IfOk result (λ r. r.1.items ≡ holding place.now.node place.now.worker (stamp T.below updates.now) ++ self.now.held) }
+    // What is held once a bundle's updates are taken.
+    fn held_with(&self, place: &Place, updates: &[Update<T>]) -> Result<Vec<Held<T>>, Refusal>
+        ensures held { IfOk result (λ held. held.items ≡ holding place.now.node place.now.worker (stamp T.below updates.now) ++ self.now.held) }
         ensures refused { IfErr result (λ refusal. refusal ≡ OutOfMemory) }
     {
         let alloc = *self.held.allocator();
-        let copy = copied(alloc, updates)?;
-        let mut held = stamped(alloc, place, updates)?;
+        let stamp = stamp_of(alloc, updates)?;
+        let mut held = holding(alloc, place.node, place.worker, stamp.as_slice())?;
         push_held(&mut held, &self.held)?;
-        Ok((copy, held))
+        Ok(held)
     }
 
     /// A worker with nothing in hand turns to the times that it holds at a node, where the node's input frontier has passed
@@ -221,6 +212,6 @@ impl<T: Minimum> Board<T> {
         ensures board { IsBoard self.old }
     {
         self.hand[worker] = Some(node);
-        self.note(Event::TakeHeld { worker, node });
+        self.note(Snapshot::of(&Event::TakeHeld { worker, node }));
     }
 }

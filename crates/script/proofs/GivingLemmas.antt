@@ -24,6 +24,8 @@ use Rattle.linear.specs.Applied.{applied}
 use Rattle.linear.specs.Ports.{is_port, more_at}
 use Rattle.linear.proofs.SumLemmas.{applied_goes_on}
 use Rattle.linear.proofs.SizeLemmas.{size_applied, times_applied}
+use Rattle.update.specs.Bags.{total_by}
+use Rattle.machine.proofs.StampLemmas.{stamp_beyond}
 use Rattle.machine.specs.declared.event.Place.{Place}
 use Rattle.machine.specs.declared.event.Bundle.{Bundle}
 use Rattle.machine.specs.declared.event.Emission.{Emission}
@@ -95,7 +97,7 @@ module _ {T : Type 0} (below : T → T → Bool) (o : PartialOrderLaws below) wh
       later false e = e
 
   beyond_stamp : (us : List (Update T)) → IsTrue (list_all (λ u. is_beyond below (stamp below us) u.time) us)
-  beyond_stamp us = all_from (λ u. is_beyond below (stamp below us) u.time) us (λ u m. least_beyond o (times us) u.time ∙ own_time us u m)
+  beyond_stamp us = all_from (λ u. is_beyond below (stamp below us) u.time) us (λ u m. stamp_beyond below o us u.time ∙ own_time us u m)
 
   module _ (minimum : T) (p : Dataflow) (q : IsDataflow p) (h : List (Event T)) (legal : IsLegal below minimum p h) (quiet : (world below minimum p h).held ≡ [])
       (site : Place) (us : List (Update T)) (take : IsTake below p (world below minimum p h) site 0 us)
@@ -181,6 +183,6 @@ module _ {T : Type 0} (below : T → T → Bool) (o : PartialOrderLaws below) wh
       onward = onward;
       law = law sent;
       load = record { within = λ e. from_weight below p (gave below p v emission [] sent) site.node site.worker (within sent); settled = λ e. absurd (true≢false (sym e ∙ not_reduction node linear)) };
-      whole = whole;
+      whole = λ s f. ap (total_by f) (whole s);
       filled = filled;
     }

@@ -20,21 +20,24 @@ use Rattle.plan.specs.Changes.{AreDifferences, has_passed, query_at, open_for}
 use Rattle.plan.specs.Operators.{is_linear}
 use Rattle.plan.specs.Rules.{first_refusal, is_output}
 use Rattle.plan.proofs.PlanLemmas.{no_first}
+use Rattle.machine.proofs.SiteLemmas.{none_queued, none_held}
 use Rattle.machine.specs.declared.event.Event.{Event}
 use Rattle.machine.specs.declared.event.Fed.{Fed}
 use Rattle.machine.specs.declared.event.Held.{Held}
 use Rattle.machine.specs.declared.event.Open.{Open}
 use Rattle.machine.specs.Dataflows.{IsDataflow, node_of}
-use Rattle.machine.specs.Worlds.{fed_to, open_at}
+use Rattle.machine.specs.Worlds.{fed_to, open_at, queue, held_at}
 use Rattle.machine.specs.Histories.{world}
 use Rattle.machine.specs.Outstanding.{frontier, input_frontier}
 use Rattle.machine.specs.Promises.{changes_in}
 use Rattle.machine.specs.Readings.{IsQuiet}
-use Rattle.machine.specs.Boards.{Shown, Stands}
+use Rattle.machine.specs.Boards.{Shown, Stands, is_from_start}
+use Rattle.std.proofs.Common.{true}
+use Rattle.std.proofs.lemmas.Bool.{or_left}
 use Rattle.machine.specs.Reads as reads
 use Rattle.machine.specs.Reads.{front, captured_of, since_of, IsRefusalOr}
 use Rattle.machine.proofs.FlowLemmas.{is_passed, not_beyond}
-use Rattle.machine.proofs.FrontLemmas.{front_stands}
+use Rattle.machine.proofs.FrontLemmas.{front_stands, front_elements}
 use Rattle.machine.proofs.HeadlineLemmas.{headline_lem}
 use Rattle.machine.proofs.PassedLemmas.{passed_down}
 use Rattle.machine.proofs.PlaceLemmas.{in_place_lem}
@@ -71,9 +74,9 @@ module _ {T : Type 0} (below : T → T → Bool) (minimum : T) where
 
   quiet_world : (b : Shown T) (h : List (Event T)) → Stands below minimum b h → IsIdle b → b.in_flight ≡ [] → IsQuiet below b.dataflow (world below minimum b.dataflow h)
   quiet_world b h s idle none = record {
-    in_flight = sym s.in_flight ∙ none;
+    in_flight = none_queued (world below minimum b.dataflow h).in_flight (λ site. sym (s.queues site) ∙ ap (queue site) none);
     hand = λ k l. sym (s.hand k l) ∙ free k (subst (λ n. k < n) idle.alone l);
-    held = subst (λ (ms : List (Held T)). IsTrue (list_all (λ m. is_beyond below (input_frontier below b.dataflow (world below minimum b.dataflow h) m.node) m.time) ms)) (sym idle.held ∙ s.held) refl;
+    held = subst (λ (ms : List (Held T)). IsTrue (list_all (λ m. is_beyond below (input_frontier below b.dataflow (world below minimum b.dataflow h) m.node) m.time) ms)) (sym (none_held (world below minimum b.dataflow h).held (λ n k. sym (s.held n k) ∙ ap (held_at n k) idle.held))) refl;
   }
     where
       free : (k : ℕ) → k < 1 → get_or b.hand k None ≡ None
@@ -87,7 +90,7 @@ module _ {T : Type 0} (below : T → T → Bool) (minimum : T) where
         let w = world below minimum b.dataflow a.history in
         let quiet = quiet_world b a.history a.stands idle none in
         let caught = caught_up_lem below o b.dataflow p w v (λ x m. (in_place_lem b.dataflow p below minimum a.history a.stands.legal).inputs x (contains_among x w.openings m)) quiet in
-        ap (λ (F : List T). is_beyond below F t) (front_stands below minimum b a.history a.stands v)
+        front_stands below o minimum b a.history a.stands v t
         ∙ beyond_elements below (frontier below b.dataflow w v) (least below (open_for below b.dataflow.nodes (λ i. open_at i w.openings) v)) caught t
         ∙ ap (λ (os : List (Open T)). is_beyond below (least below (open_for below b.dataflow.nodes (λ i. open_at i os) v)) t) a.openings
 
@@ -123,8 +126,8 @@ module _ {T : Type 0} (below : T → T → Bool) (minimum : T) where
     -- at a passed time what was captured sums to the query of the session
     captured_query : (t : T) → IsTrue (has_passed below (front below b v) t) → Alike (as_of below t (captured_of b v)) (query_at below b.dataflow.nodes (λ i. fed_to i s.fed) v t)
     captured_query t h row =
-        a.stands.captured v within view t row
-        ∙ (headline_lem below minimum o b.dataflow p a.history a.stands.legal v t (subst (λ (F : List T). IsTrue (has_passed below F t)) (front_stands below minimum b a.history a.stands v) h) row
+        (a.stands.captured v within view).sums t (or_left (is_from_start below minimum ((world below minimum b.dataflow a.history).since v)) _ (subst (λ ts. is_from_start below minimum ts ≡ true) (sym (a.since v)) (or_left (below minimum minimum) false (o.reflexive minimum)))) row
+        ∙ (headline_lem below minimum o b.dataflow p a.history a.stands.legal v t (ap not (sym (front_stands below o minimum b a.history a.stands v t)) ∙ h) row
         ∙ ap (λ (fs : List (Fed T)). count_of (query_at below b.dataflow.nodes (λ i. fed_to i fs) v t) row) a.fed)
 
     linear : (n : ℕ) → IsTrue (is_linear (node_of b.dataflow n))
@@ -153,7 +156,8 @@ module _ {T : Type 0} (below : T → T → Bool) (minimum : T) where
         → F ≡ frontier_at below b.dataflow.nodes s cmp v
     frontier_found {cmp} total exact F is same =
         let found = view_frontier below b.dataflow.nodes s v in
-        let stood : SameElements F (frontier below b.dataflow (world below minimum b.dataflow a.history) v) = subst (λ (G : List T). SameElements F G) (front_stands below minimum b a.history a.stands v) same in
+        let next = front_elements below o minimum b a.history a.stands v in
+        let stood : SameElements F (frontier below b.dataflow (world below minimum b.dataflow a.history) v) = record { into = λ t c. next.into t (same.into t c); back = λ t c. same.back t (next.back t c) } in
         sorted_same total F (in_order cmp found) is.ascending (in_order-sorted cmp total found)
         (λ t h. in_order-has cmp exact found t (among_contains t found (same_frontier.into t (stood.into t (contains_among t F h)))))
         (λ t h. among_contains t F (stood.back t (same_frontier.back t (contains_among t found (in_order-only cmp found t h)))))

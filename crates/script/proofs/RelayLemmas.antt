@@ -12,6 +12,7 @@ use Rattle.update.specs.declared.refusal.Refusal.{Refusal}
 use Rattle.linear.specs.Applied.{applied, Overflows}
 use Rattle.linear.specs.Widths.{takes_rows}
 use Rattle.plan.specs.Operators.{is_linear}
+use Rattle.machine.proofs.SiteLemmas.{none_queued, none_held}
 use Rattle.machine.specs.declared.event.Place.{Place}
 use Rattle.machine.specs.declared.event.Bundle.{Bundle}
 use Rattle.machine.specs.declared.event.Held.{Held}
@@ -19,7 +20,7 @@ use Rattle.machine.specs.declared.event.Emission.{Emission}
 use Rattle.machine.specs.declared.event.Event.{Event}
 use Rattle.machine.specs.declared.event.Event.TheVariants.{Take}
 use Rattle.machine.specs.Dataflows.{Dataflow, IsDataflow, node_of}
-use Rattle.machine.specs.Worlds.{World, queue}
+use Rattle.machine.specs.Worlds.{World, queue, held_at}
 use Rattle.machine.specs.Outstanding.{stamp, input_frontier}
 use Rattle.machine.specs.Readings.{IsQuiet}
 use Rattle.machine.specs.Histories.{holding, is_held_by, without, world, IsGive}
@@ -118,9 +119,9 @@ emptied hand k x e = subst (λ j. get_or (set (set hand j x) j None) 0 None ≡ 
 -- where a worker is idle and nothing is in flight, all is quiet
 pub quiet : {T : Type 0} (below : T → T → Bool) (minimum : T) (b : Shown T) → IsIdle b → b.in_flight ≡ [] → (h : List (Event T)) → Stands below minimum b h → IsQuiet below b.dataflow (world below minimum b.dataflow h)
 quiet below minimum b idle none h s = record {
-  in_flight = sym s.in_flight ∙ none;
+  in_flight = none_queued (world below minimum b.dataflow h).in_flight (λ site. sym (s.queues site) ∙ ap (queue site) none);
   hand = λ k l. subst (λ j. (world below minimum b.dataflow h).hand j ≡ None) (first k l idle.alone) (sym (s.hand 0 (let a = idle.alone in omega (arith, a))) ∙ idle.hand);
-  held = ap (list_all (λ m. is_beyond below (input_frontier below b.dataflow (world below minimum b.dataflow h) m.node) m.time)) (sym s.held ∙ idle.held);
+  held = ap (list_all (λ m. is_beyond below (input_frontier below b.dataflow (world below minimum b.dataflow h) m.node) m.time)) (none_held (world below minimum b.dataflow h).held (λ n k. sym (s.held n k) ∙ ap (held_at n k) idle.held));
 }
   where
     first : (k : ℕ) → k < b.dataflow.workers → b.dataflow.workers ≡ 1 → 0 ≡ k
@@ -153,7 +154,7 @@ module _ {T : Type 0} (below : T → T → Bool) (o : PartialOrderLaws below) (m
 
   pub gives : (h : List (Event T)) → Stands below minimum b h → Stands below minimum (taken below site 0 us b) (Take site 0 us ∷ h) → (sent : List (Bundle T)) → IsCut p emission sent
       → IsGive below p (world below minimum p (Take site 0 us ∷ h)) emission [] sent
-  gives h s after sent cut = may_give below o minimum p q h s.legal (sym s.held ∙ idle.held) site us after.legal.0 linear piece.port sent cut.whole cut.filled
+  gives h s after sent cut = may_give below o minimum p q h s.legal (none_held (world below minimum p h).held (λ n k. sym (s.held n k) ∙ ap (held_at n k) idle.held)) site us after.legal.0 linear piece.port sent cut.whole cut.filled
 
   module _ (sent : List (Bundle T)) (cut : IsCut p emission sent) where
     abbrev done : Shown T

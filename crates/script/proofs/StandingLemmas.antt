@@ -1,5 +1,5 @@
 -- A board that stands for a session, after the events of clients.
-use Rattle.std.proofs.Common.{◌≡◌, ℕ, ◌<◌, Bool, not, eqb, ltb-true, List, ◌∷◌, ◌++◌, length, get_or, Option, Some, None, Result, Ok, Err, IsTrue, refl, sym, ◌∙◌, ap, subst, inl, inr, ◌⊎◌}
+use Rattle.std.proofs.Common.{◌≡◌, ℕ, ◌<◌, Bool, not, eqb, ltb-true, nat_lt, nat_le, unsigned_abs, List, [], ◌∷◌, ◌++◌, length, get_or, Option, Some, None, Result, Ok, Err, IsTrue, refl, sym, ◌∙◌, ap, subst, inl, inr, ◌⊎◌}
 use Rattle.std.specs.Prelude.{IfErr, OnOk, OnErr}
 use Rattle.std.specs.List.{All, filter}
 use Rattle.std.proofs.lemmas.Bool.{and_parts}
@@ -8,6 +8,11 @@ use Rattle.plan.specs.Operators.{is_linear}
 use Rattle.plan.specs.declared.node.Node.TheVariants.{Input}
 use Rattle.std.proofs.lemmas.Result.{on_ok_weaker, on_err_weaker}
 use Rattle.update.specs.declared.refusal.Refusal.{Refusal}
+use Rattle.std.proofs.Math.IntN.{pos}
+use Rattle.std.specs.Ordering.{int_eq}
+use Rattle.lattice.specs.Frontiers.{is_beyond, all_beyond}
+use Rattle.update.specs.declared.refusal.Refusal.TheVariants.{WrongWidth, ZeroWeight, WeightTooLarge, TimePassed, NotForward, InputFull}
+use Rattle.plan.specs.Widths.{width_of}
 use Rattle.plan.specs.Rules.{IsRefusalBy, first_refusal}
 use Rattle.plan.specs.declared.node.Node.{Node}
 use Rattle.machine.specs.declared.event.Event.{Event}
@@ -16,7 +21,7 @@ use Rattle.machine.specs.declared.event.Fed.{Fed}
 use Rattle.machine.specs.declared.event.Open.{Open}
 use Rattle.machine.specs.Dataflows.{Dataflow, IsDataflow}
 use Rattle.machine.specs.Histories.{opening, IsInput}
-use Rattle.machine.specs.Worlds.{fed_to}
+use Rattle.machine.specs.Worlds.{fed_to, open_at}
 use Rattle.machine.specs.Boards as boards
 use Rattle.machine.specs.Boards.{Shown, Stands, looked, fed, advanced}
 use Rattle.grammar.specs.Commands.{is_input_of}
@@ -60,16 +65,21 @@ module _ {T : Type 0} (below : T → T → Bool) (minimum : T) where
 
   -- the board refuses what the session refuses
   pub same_change_refusal : (b : Shown T) (s : Session T) (f : Fed T) → f.input < length b.dataflow.nodes → StandsAs below minimum b s → boards.feed_refusal below b f ≡ change_refusal below b.dataflow.nodes s f
-  same_change_refusal b s f within a = λ j. first_refusal (boards.feed_faults below b.dataflow.nodes (openings j) (taken j) f)
+  same_change_refusal b s f within a = λ j. first_refusal ((not (eqb (length f.update.row) (width_of b.dataflow.nodes f.input)), WrongWidth)
+      ∷ (int_eq f.update.diff (pos 0), ZeroWeight)
+      ∷ (not (nat_le (unsigned_abs f.update.diff) 2147483647), WeightTooLarge)
+      ∷ (not (is_beyond below (front j) f.update.time), TimePassed)
+      ∷ (not (nat_lt (taken j) 1048576), InputFull)
+      ∷ [])
     where
-      openings : b.openings ≡ s.openings
-      openings = a.stands.openings ∙ a.openings
+      front : open_at f.input b.openings ≡ open_at f.input s.openings
+      front = a.stands.openings f.input ∙ ap (λ (os : List (Open T)). open_at f.input os) a.openings
 
       taken : get_or b.accepted f.input 0 ≡ length (fed_to f.input s.fed)
       taken = a.stands.accepted f.input within ∙ ap (λ (fs : List (Fed T)). length (fed_to f.input fs)) a.fed
 
   pub same_frontier_refusal : (b : Shown T) (s : Session T) (i : ℕ) (ts : List T) → StandsAs below minimum b s → boards.advance_refusal below b i ts ≡ frontier_refusal below b.dataflow.nodes s i ts
-  same_frontier_refusal b s i ts a = ap (λ (os : List (Open T)). first_refusal (boards.advance_faults below os i ts)) (a.stands.openings ∙ a.openings)
+  same_frontier_refusal b s i ts a = ap (λ (front : List T). first_refusal ((not (all_beyond below front ts), NotForward) ∷ [])) (a.stands.openings i ∙ ap (λ (os : List (Open T)). open_at i os) a.openings)
 
   -- a change is answered as the session does
   pub change_answered : (b c : Shown T) (client : ℕ) (f : Fed T) (s : Session T) (r : Result (Unit {0}) Refusal) → f.input < length b.dataflow.nodes

@@ -1,4 +1,4 @@
-use Rattle.machine.proofs.WeighingLemmas.{weight_lem, owed_lem}
+use Rattle.machine.proofs.WeighingLemmas.{weight_lem, owed_lem, takes_lem, loads_lem}
 use Rattle.machine.proofs.theorems.weights_are_kept.Goals as goal
 
 pub returns : goal.returns
@@ -7,4 +7,6 @@ returns g c =
     record {
       emitted = λ p q h l n. weight_lem _ _ order p q _ h l n;
       owed = λ p q h l n. owed_lem _ _ order p q _ h l n;
+      received = λ p q h l n. takes_lem _ _ order p q _ h l n;
+      loads = λ p q h l n. loads_lem _ _ order p q _ h l n;
     }

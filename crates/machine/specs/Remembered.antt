@@ -1,0 +1,26 @@
+-- What an event of a worker has in it, so that it can be remembered for clauses and its parts move on.
+use Rattle.std.specs.Prelude.{◌≡◌, List, ⊤}
+use Rattle.update.specs.declared.change.Update.{Update}
+use Rattle.machine.specs.declared.event.Bundle.{Bundle}
+use Rattle.machine.specs.declared.event.Emission.{Emission}
+use Rattle.machine.specs.declared.event.Event.{Event}
+use Rattle.machine.specs.declared.event.Event.TheVariants.{Take, Give}
+
+module _ {T : Type 0} where
+  abbrev pub IsTaking : Event T → Type 0
+  IsTaking (Take site number us) = ⊤
+  IsTaking e = ⊥
+
+  -- what the event has taken
+  abbrev pub HasTaken : Event T → List (Update T) → Type 0
+  HasTaken (Take site number us) vs = vs ≡ us
+  HasTaken e vs = ⊥
+
+  abbrev pub IsGiving : Event T → Type 0
+  IsGiving (Give g ts sent) = ⊤
+  IsGiving e = ⊥
+
+  -- what the event has given
+  abbrev pub HasGiven : Event T → Emission T → List T → List (Bundle T) → Type 0
+  HasGiven (Give g ts sent) f us bundles = (f ≡ g) × (us ≡ ts) × (bundles ≡ sent)
+  HasGiven e f us bundles = ⊥
