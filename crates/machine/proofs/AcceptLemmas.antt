@@ -38,4 +38,4 @@ one_accepted {T} b sent e more n k t put s c =
     ∙ ap (λ c. record b { in_flight = b.in_flight ++ more ∷ []; accepted = set b.accepted n (c + 1) }) c)
 
 pub board_accepting : {T : Type 0} (b : Shown T) (k t : ℕ) → IsBoard b → IsBoard (record b { accepted = set b.accepted k t })
-board_accepting b k t is = record { dataflow = is.dataflow; hand = is.hand; accepted = length-set b.accepted k t ∙ is.accepted; views = is.views }
+board_accepting b k t is = record { dataflow = is.dataflow; hand = is.hand; accepted = length-set b.accepted k t ∙ is.accepted; views = is.views; inputs = is.inputs }

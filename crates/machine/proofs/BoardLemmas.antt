@@ -17,7 +17,7 @@ use Rattle.machine.specs.declared.event.Open.{Open}
 use Rattle.machine.specs.declared.event.Event.{Event}
 use Rattle.machine.specs.declared.event.Event.TheVariants.{Feed, Advance}
 use Rattle.machine.specs.Worlds.{World, fed_to, open_at}
-use Rattle.machine.specs.Histories.{IsInput, IsFeed, world}
+use Rattle.machine.specs.Histories.{IsInput, IsFeed, opening, world}
 use Rattle.std.specs.Result.{IfOk, OnOk, OnErr}
 use Rattle.std.specs.Prelude.{Result, Ok, Err}
 use Rattle.std.specs.Prelude.{replicate}
@@ -47,7 +47,9 @@ use Rattle.machine.specs.Worlds.{emitted_at}
 use Rattle.machine.specs.Histories.{is_held_by, IsGive}
 use Rattle.machine.specs.Boards.{capturing, given, is_from_start}
 use Rattle.machine.proofs.FlowLemmas.{sum_at-append}
-use Rattle.machine.proofs.SiteLemmas.{queued_more, queued_less, held_more, held_others, open_instead}
+use Rattle.machine.proofs.SiteLemmas.{queued_more, queued_less, held_more, held_others}
+use Rattle.machine.proofs.OpenLemmas.{first_front, open_set}
+use Rattle.machine.specs.Inputs.{front_at}
 use Rattle.machine.specs.Boards.{taken, turned}
 use Rattle.machine.specs.Histories.{IsTakeHeld}
 use Rattle.machine.specs.Boards.{no_view, first_board, Shown, IsBoard, Stands, looked, fed, advanced, feed_refusal, advance_refusal}
@@ -81,7 +83,7 @@ module _ {T : Type 0} (below : T → T → Bool) (minimum : T) where
   pub allowed_feed : (b : Shown T) (h : List (Event T)) (f : Fed T) → feed_refusal below b f ≡ None → IsInput b.dataflow f.input → Stands below minimum b h → IsFeed below b.dataflow (world below minimum b.dataflow h) f
   allowed_feed b h f e i s =
       let w = world below minimum b.dataflow h in
-      let no = none_of_five (not (eqb (length f.update.row) (width_of b.dataflow.nodes f.input))) (int_eq f.update.diff (pos 0)) (not (nat_le (unsigned_abs f.update.diff) 2147483647)) (not (is_beyond below (open_at f.input b.openings) f.update.time)) (not (nat_lt (get_or b.accepted f.input 0) 1048576)) WrongWidth ZeroWeight WeightTooLarge TimePassed InputFull e in
+      let no = none_of_five (not (eqb (length f.update.row) (width_of b.dataflow.nodes f.input))) (int_eq f.update.diff (pos 0)) (not (nat_le (unsigned_abs f.update.diff) 2147483647)) (not (is_beyond below (front_at f.input b.inputs) f.update.time)) (not (nat_lt (get_or b.accepted f.input 0) 1048576)) WrongWidth ZeroWeight WeightTooLarge TimePassed InputFull e in
       record {
         input = i;
         width = eqb-true (length f.update.row) (width_of b.dataflow.nodes f.input) (unfaulted _ no.0);
@@ -121,12 +123,12 @@ module _ {T : Type 0} (below : T → T → Bool) (minimum : T) where
           (get_or-set_same b.accepted f.input (suc (get_or b.accepted f.input 0)) 0 n ∙ ap suc (s.accepted f.input i.0))
       counted j l false g = get_or-set_other b.accepted f.input j (suc (get_or b.accepted f.input 0)) 0 (λ m. false≢true (sym g ∙ eq-eqb f.input j (sym m))) ∙ s.accepted j l
 
-  pub stands_advanced : (b : Shown T) (h : List (Event T)) (client i : ℕ) (ts : List T) → advance_refusal below b i ts ≡ None → IsInput b.dataflow i → Stands below minimum b h → Stands below minimum (advanced client i ts b) (Advance client i ts ∷ h)
-  stands_advanced b h client i ts e n s = record {
-    legal = (record { input = n; onward = subst (λ os. all_beyond below os ts ≡ true) (s.openings i) (unfaulted _ (no_first (not (all_beyond below (open_at i b.openings) ts)) NotForward [] e).0) }, s.legal);
+  pub stands_advanced : (b : Shown T) → IsBoard b → (h : List (Event T)) (client i : ℕ) (ts : List T) → advance_refusal below b i ts ≡ None → IsInput b.dataflow i → Stands below minimum b h → Stands below minimum (advanced client i ts b) (Advance client i ts ∷ h)
+  stands_advanced b board h client i ts e n s = record {
+    legal = (record { input = n; onward = subst (λ os. all_beyond below os ts ≡ true) (s.openings i) (unfaulted _ (no_first (not (all_beyond below (front_at i b.inputs) ts)) NotForward [] e).0) }, s.legal);
     queues = s.queues;
     held = s.held;
-    openings = open_instead b.openings (world below minimum b.dataflow h).openings i ts s.openings;
+    openings = open_set b.inputs i ts (world below minimum b.dataflow h).openings (subst (λ z. i < z) (sym board.inputs) n.0) s.openings;
     hand = s.hand;
     accepted = s.accepted;
     since = s.since;
@@ -163,7 +165,7 @@ stands_first below minimum p = record {
   legal = tt;
   queues = λ site. refl;
   held = λ n k. refl;
-  openings = λ i. refl;
+  openings = first_front minimum p.nodes;
   hand = λ k l. repeated p.workers k None None l;
   accepted = λ i l. repeated (length p.nodes) i 0 0 l;
   since = λ v l. ap (λ z. z.since) (repeated (length p.nodes) v (record { since = minimum ∷ []; captured = [] }) no_view l);

@@ -23,9 +23,12 @@ use Rattle.machine.specs.Outstanding.{stamp, stamps, held_where, open_where, cou
 use Rattle.machine.specs.Histories.{world, IsTakeHeld}
 use Rattle.machine.specs.Promises.{IsInPlace}
 use Rattle.machine.specs.Readings.{IsQuiet}
-use Rattle.machine.specs.Boards.{Shown, Stands}
-use Rattle.machine.specs.Reads.{on_board, front, input_front, is_ready, is_none, is_free, is_quiet_board}
+use Rattle.machine.specs.Boards.{Shown, IsBoard, Stands}
+use Rattle.machine.specs.Reads.{on_board, open_on, front, input_front, is_ready, is_none, is_free, is_quiet_board}
 use Rattle.machine.proofs.QuietLemmas.{least_same}
+use Rattle.machine.proofs.OpenLemmas.{open_on_at, where_spread}
+use Rattle.machine.specs.Inputs.{front_at}
+use Rattle.plan.specs.Ancestors.{numbers_below}
 use Rattle.machine.proofs.SiteLemmas.{AreQueued, AreHeld, AreOpen, any_among, queued_any, none_queued, held_any_like, held_all_like, open_any_like}
 
 or_nothing : (b : Bool) → (b || false) ≡ b
@@ -102,25 +105,38 @@ module _ {T : Type 0} (below : T → T → Bool) (o : PartialOrderLaws below) wh
       ap not (or_thrice a b c ∙ ap₂ (λ x y. x || y) e (ap₂ (λ x y. x || y) f g) ∙ sym (counted_any w there holds t) ∙ sym (least_beyond o (counted below w there holds) t))
 
   -- the least of all times that were collected are the frontier
-  collected_any : (b : Shown T) (n : ℕ) (t : T) → is_beyond below (flat_map (λ q. cond (above b.dataflow n q.place.node) (times q.updates) []) b.in_flight ++ (held_where (above b.dataflow n) b.held ++ open_where (above b.dataflow n) b.openings)) t
+  collected_any : (b : Shown T) (n : ℕ) (t : T) → is_beyond below (flat_map (λ q. cond (above b.dataflow n q.place.node) (times q.updates) []) b.in_flight ++ (held_where (above b.dataflow n) b.held ++ open_where (above b.dataflow n) (open_on b))) t
       ≡ is_beyond below (outstanding below b.dataflow (on_board b) n) t
   collected_any b n t =
       let there = above b.dataflow n in
-      list_any-append (λ f. below f t) (flat_map (λ q. cond (there q.place.node) (times q.updates) []) b.in_flight) (held_where there b.held ++ open_where there b.openings)
-      ∙ ap (λ x. x || is_beyond below (held_where there b.held ++ open_where there b.openings) t) (all_any there t b.in_flight ∙ sym (stamps_any there t b.in_flight))
-      ∙ sym (list_any-append (λ f. below f t) (stamps below (λ site. there site.node) b.in_flight) (held_where there b.held ++ open_where there b.openings))
+      list_any-append (λ f. below f t) (flat_map (λ q. cond (there q.place.node) (times q.updates) []) b.in_flight) (held_where there b.held ++ open_where there (open_on b))
+      ∙ ap (λ x. x || is_beyond below (held_where there b.held ++ open_where there (open_on b)) t) (all_any there t b.in_flight ∙ sym (stamps_any there t b.in_flight))
+      ∙ sym (list_any-append (λ f. below f t) (stamps below (λ site. there site.node) b.in_flight) (held_where there b.held ++ open_where there (open_on b)))
 
-  collected : (b : Shown T) (n : ℕ) → ((flat_map (λ q. cond (above b.dataflow n q.place.node) (times q.updates) []) b.in_flight ++ held_where (above b.dataflow n) b.held) ++ open_where (above b.dataflow n) b.openings)
-      ≡ flat_map (λ q. cond (above b.dataflow n q.place.node) (times q.updates) []) b.in_flight ++ (held_where (above b.dataflow n) b.held ++ open_where (above b.dataflow n) b.openings)
-  collected b n = append_assoc (flat_map (λ q. cond (above b.dataflow n q.place.node) (times q.updates) []) b.in_flight) (held_where (above b.dataflow n) b.held) (open_where (above b.dataflow n) b.openings)
+  -- what was collected part by part is all of it
+  pub all_collected : (b : Shown T) {v : Shown T} → v ≡ b → (n : ℕ) (none flight some all : List T) (bundles : List (Bundle T)) (held : List (Held T))
+      → none ≡ [] → bundles ≡ v.in_flight → held ≡ v.held
+      → flight ≡ none ++ flat_map (λ q. cond (above v.dataflow n q.place.node) (times q.updates) []) bundles → some ≡ flight ++ held_where (above v.dataflow n) held
+      → all ≡ some ++ flat_map (λ i. cond (above v.dataflow n i) (front_at i v.inputs) []) (numbers_below (length v.dataflow.nodes))
+      → all ≡ (flat_map (λ q. cond (above b.dataflow n q.place.node) (times q.updates) []) b.in_flight ++ held_where (above b.dataflow n) b.held) ++ open_where (above b.dataflow n) (open_on b)
+  all_collected b {v} e n none flight some all bundles held x y z f s a =
+      a
+      ∙ (ap (λ ts. ts ++ flat_map (λ i. cond (above v.dataflow n i) (front_at i v.inputs) []) (numbers_below (length v.dataflow.nodes)))
+          (s ∙ ap₂ (λ ts ms. ts ++ held_where (above v.dataflow n) ms) (f ∙ ap₂ (λ ts qs. ts ++ flat_map (λ q. cond (above v.dataflow n q.place.node) (times q.updates) []) qs) x y) z)
+      ∙ (ap (λ ts. (flat_map (λ q. cond (above v.dataflow n q.place.node) (times q.updates) []) v.in_flight ++ held_where (above v.dataflow n) v.held) ++ ts) (sym (where_spread (above v.dataflow n) (λ i. front_at i v.inputs) (length v.dataflow.nodes)))
+      ∙ ap (λ (w : Shown T). (flat_map (λ q. cond (above w.dataflow n q.place.node) (times q.updates) []) w.in_flight ++ held_where (above w.dataflow n) w.held) ++ open_where (above w.dataflow n) (open_on w)) e))
 
-  pub front_found : (b : Shown T) (n : ℕ) (all found : List T) → all ≡ (flat_map (λ q. cond (above b.dataflow n q.place.node) (times q.updates) []) b.in_flight ++ held_where (above b.dataflow n) b.held) ++ open_where (above b.dataflow n) b.openings
+  collected : (b : Shown T) (n : ℕ) → ((flat_map (λ q. cond (above b.dataflow n q.place.node) (times q.updates) []) b.in_flight ++ held_where (above b.dataflow n) b.held) ++ open_where (above b.dataflow n) (open_on b))
+      ≡ flat_map (λ q. cond (above b.dataflow n q.place.node) (times q.updates) []) b.in_flight ++ (held_where (above b.dataflow n) b.held ++ open_where (above b.dataflow n) (open_on b))
+  collected b n = append_assoc (flat_map (λ q. cond (above b.dataflow n q.place.node) (times q.updates) []) b.in_flight) (held_where (above b.dataflow n) b.held) (open_where (above b.dataflow n) (open_on b))
+
+  pub front_found : (b : Shown T) (n : ℕ) (all found : List T) → all ≡ (flat_map (λ q. cond (above b.dataflow n q.place.node) (times q.updates) []) b.in_flight ++ held_where (above b.dataflow n) b.held) ++ open_where (above b.dataflow n) (open_on b)
       → SameElements found (least below all) → SameElements found (front below b n)
   front_found b n all found e same =
       let next = least_same below o all (outstanding below b.dataflow (on_board b) n) (λ t. ap (λ ts. is_beyond below ts t) (e ∙ collected b n) ∙ collected_any b n t) in
       record { into = λ t c. next.into t (same.into t c); back = λ t c. same.back t (next.back t c) }
 
-  pub beyond_found : (b : Shown T) (n : ℕ) (all found : List T) → all ≡ (flat_map (λ q. cond (above b.dataflow n q.place.node) (times q.updates) []) b.in_flight ++ held_where (above b.dataflow n) b.held) ++ open_where (above b.dataflow n) b.openings
+  pub beyond_found : (b : Shown T) (n : ℕ) (all found : List T) → all ≡ (flat_map (λ q. cond (above b.dataflow n q.place.node) (times q.updates) []) b.in_flight ++ held_where (above b.dataflow n) b.held) ++ open_where (above b.dataflow n) (open_on b)
       → ((t : T) → is_beyond below found t ≡ is_beyond below all t) → (t : T) → is_beyond below found t ≡ is_beyond below (front below b n) t
   beyond_found b n all found e same t = same t ∙ (ap (λ ts. is_beyond below ts t) (e ∙ collected b n) ∙ (collected_any b n t ∙ sym (least_beyond o (outstanding below b.dataflow (on_board b) n) t)))
 
@@ -130,19 +146,22 @@ on_ok (Ok x) P Q f p = f x p
 on_ok (Err e) P Q f p = p
 
 module _ {T : Type 0} (below : T → T → Bool) (o : PartialOrderLaws below) (minimum : T) where
+  opened : (b : Shown T) → IsBoard b → (h : List (Event T)) → Stands below minimum b h → AreOpen (open_on b) (world below minimum b.dataflow h).openings
+  opened b board h s i = open_on_at b.inputs (length b.dataflow.nodes) i board.inputs ∙ s.openings i
+
   -- what a board shows of frontiers is what its history leaves: the same times are beyond them
-  pub front_stands : (b : Shown T) (h : List (Event T)) → Stands below minimum b h → (n : ℕ) (t : T) → is_beyond below (front below b n) t ≡ is_beyond below (frontier below b.dataflow (world below minimum b.dataflow h) n) t
-  front_stands b h s n t = counted_like below o (on_board b) (world below minimum b.dataflow h) (above b.dataflow n) (above b.dataflow n) s.queues s.held s.openings t
+  pub front_stands : (b : Shown T) → IsBoard b → (h : List (Event T)) → Stands below minimum b h → (n : ℕ) (t : T) → is_beyond below (front below b n) t ≡ is_beyond below (frontier below b.dataflow (world below minimum b.dataflow h) n) t
+  front_stands b board h s n t = counted_like below o (on_board b) (world below minimum b.dataflow h) (above b.dataflow n) (above b.dataflow n) s.queues s.held (opened b board h s) t
 
   -- and so they have the same elements
-  pub front_elements : (b : Shown T) (h : List (Event T)) → Stands below minimum b h → (n : ℕ) → SameElements (front below b n) (frontier below b.dataflow (world below minimum b.dataflow h) n)
-  front_elements b h s n =
+  pub front_elements : (b : Shown T) → IsBoard b → (h : List (Event T)) → Stands below minimum b h → (n : ℕ) → SameElements (front below b n) (frontier below b.dataflow (world below minimum b.dataflow h) n)
+  front_elements b board h s n =
       let found = outstanding below b.dataflow (on_board b) n in
       let left = outstanding below b.dataflow (world below minimum b.dataflow h) n in
-      least_same below o found left (λ t. sym (least_beyond o found t) ∙ (front_stands b h s n t ∙ least_beyond o left t))
+      least_same below o found left (λ t. sym (least_beyond o found t) ∙ (front_stands b board h s n t ∙ least_beyond o left t))
 
-  pub input_front_stands : (b : Shown T) (h : List (Event T)) → Stands below minimum b h → (n : ℕ) (t : T) → is_beyond below (input_front below b n) t ≡ is_beyond below (input_frontier below b.dataflow (world below minimum b.dataflow h) n) t
-  input_front_stands b h s n t = counted_like below o (on_board b) (world below minimum b.dataflow h) (above b.dataflow n) (strictly_above b.dataflow n) s.queues s.held s.openings t
+  pub input_front_stands : (b : Shown T) → IsBoard b → (h : List (Event T)) → Stands below minimum b h → (n : ℕ) (t : T) → is_beyond below (input_front below b n) t ≡ is_beyond below (input_frontier below b.dataflow (world below minimum b.dataflow h) n) t
+  input_front_stands b board h s n t = counted_like below o (on_board b) (world below minimum b.dataflow h) (above b.dataflow n) (strictly_above b.dataflow n) s.queues s.held (opened b board h s) t
 
   is_empty : {A : Type 0} (xs : List A) → is_none xs ≡ true → xs ≡ []
   is_empty [] e = refl
@@ -166,8 +185,8 @@ module _ {T : Type 0} (below : T → T → Bool) (o : PartialOrderLaws below) (m
       taken (Some n) = true
       taken None = false
 
-  pub quiet_into : (b : Shown T) (h : List (Event T)) → Stands below minimum b h → is_quiet_board below b ≡ true → IsQuiet below b.dataflow (world below minimum b.dataflow h)
-  quiet_into b h s q =
+  pub quiet_into : (b : Shown T) → IsBoard b → (h : List (Event T)) → Stands below minimum b h → is_quiet_board below b ≡ true → IsQuiet below b.dataflow (world below minimum b.dataflow h)
+  quiet_into b board h s q =
       let waits = λ (m : Held T). nat_lt m.node (length b.dataflow.nodes) && is_beyond below (input_front below b m.node) m.time in
       let f = and_parts (is_none b.in_flight) (is_free b.hand && list_all waits b.held) q in
       let g = and_parts (is_free b.hand) (list_all waits b.held) f.1 in
@@ -177,27 +196,27 @@ module _ {T : Type 0} (below : T → T → Bool) (o : PartialOrderLaws below) (m
         held =
             sym (held_all_like (λ n t. is_beyond below (input_frontier below b.dataflow (world below minimum b.dataflow h) n) t) b.held (world below minimum b.dataflow h).held s.held)
             ∙ (all_from (λ m. is_beyond below (input_frontier below b.dataflow (world below minimum b.dataflow h) m.node) m.time) b.held
-            (λ m a. sym (input_front_stands b h s m.node m.time) ∙ (and_parts (nat_lt m.node (length b.dataflow.nodes)) (is_beyond below (input_front below b m.node) m.time) (all_at waits b.held m g.1 a)).1));
+            (λ m a. sym (input_front_stands b board h s m.node m.time) ∙ (and_parts (nat_lt m.node (length b.dataflow.nodes)) (is_beyond below (input_front below b m.node) m.time) (all_at waits b.held m g.1 a)).1));
       }
 
-  pub quiet_back : (b : Shown T) → length b.hand ≡ b.dataflow.workers → (h : List (Event T)) → Stands below minimum b h → IsInPlace b.dataflow (world below minimum b.dataflow h) → IsQuiet below b.dataflow (world below minimum b.dataflow h) → is_quiet_board below b ≡ true
-  quiet_back b len h s place q =
+  pub quiet_back : (b : Shown T) → IsBoard b → (h : List (Event T)) → Stands below minimum b h → IsInPlace b.dataflow (world below minimum b.dataflow h) → IsQuiet below b.dataflow (world below minimum b.dataflow h) → is_quiet_board below b ≡ true
+  quiet_back b board h s place q =
       let w = world below minimum b.dataflow h in
       let waits = λ (m : Held T). nat_lt m.node (length b.dataflow.nodes) && is_beyond below (input_front below b m.node) m.time in
       and_from (is_none b.in_flight) (is_free b.hand && list_all waits b.held) (empty_is b.in_flight (none_queued b.in_flight (λ site. s.queues site ∙ ap (queue site) q.in_flight)))
-      (and_from (is_free b.hand) (list_all waits b.held) (free_from b.hand (λ k l. let m : k < b.dataflow.workers = subst (λ z. k < z) len l in s.hand k m ∙ q.hand k m))
+      (and_from (is_free b.hand) (list_all waits b.held) (free_from b.hand (λ k l. let m : k < b.dataflow.workers = subst (λ z. k < z) board.hand l in s.hand k m ∙ q.hand k m))
       (held_all_like (λ n t. nat_lt n (length b.dataflow.nodes) && is_beyond below (input_front below b n) t) b.held w.held s.held ∙ (all_from waits w.held (λ m a.
       and_from (nat_lt m.node (length b.dataflow.nodes)) (is_beyond below (input_front below b m.node) m.time)
       (within m.node (length b.dataflow.nodes) (place.held m (contains_among m w.held a)).0)
-      (input_front_stands b h s m.node m.time ∙ (all_at (λ m. is_beyond below (input_frontier below b.dataflow w m.node) m.time) w.held m q.held a))))))
+      (input_front_stands b board h s m.node m.time ∙ (all_at (λ m. is_beyond below (input_frontier below b.dataflow w m.node) m.time) w.held m q.held a))))))
     where
       within : (m n : ℕ) → m < n → nat_lt m n ≡ true
       within m n l = grind (arith, nat_tests)
 
   -- where a worker is ready it may turn to what it holds
-  pub may_turn : (b : Shown T) (h : List (Event T)) → Stands below minimum b h → (k n : ℕ) → k < b.dataflow.workers → n < length b.dataflow.nodes → get_or b.hand k None ≡ None → is_ready below b k n ≡ true
+  pub may_turn : (b : Shown T) → IsBoard b → (h : List (Event T)) → Stands below minimum b h → (k n : ℕ) → k < b.dataflow.workers → n < length b.dataflow.nodes → get_or b.hand k None ≡ None → is_ready below b k n ≡ true
       → IsTakeHeld below b.dataflow (world below minimum b.dataflow h) k n
-  may_turn b h s k n l m free ready =
+  may_turn b board h s k n l m free ready =
       let w = world below minimum b.dataflow h in
       let r = any_among (has_passed below (input_front below b n)) (held_at n k b.held) ready in
       record {
@@ -206,5 +225,5 @@ module _ {T : Type 0} (below : T → T → Bool) (o : PartialOrderLaws below) (m
         free = sym (s.hand k l) ∙ free;
         held = r.0;
         holds = subst (λ ms. Rattle.std.specs.Prelude.Contains ms r.0) (s.held n k) (contains_among r.0 (held_at n k b.held) r.1);
-        passed = ap not (sym (input_front_stands b h s n r.0)) ∙ r.2;
+        passed = ap not (sym (input_front_stands b board h s n r.0)) ∙ r.2;
       }

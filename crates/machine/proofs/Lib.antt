@@ -15,6 +15,7 @@ pub mod QuietLemmas
 pub mod PlaceLemmas
 pub mod BoardLemmas
 pub mod MeetsLemmas
+pub mod OpenLemmas
 pub mod SiteLemmas
 pub mod TakingLemmas
 pub mod FrontLemmas

@@ -20,7 +20,7 @@ use Rattle.machine.specs.Dataflows.{IsDataflow, node_of}
 use Rattle.machine.specs.Outstanding.{frontier}
 use Rattle.machine.specs.Histories.{world}
 use Rattle.machine.specs.Promises.{changes_in}
-use Rattle.machine.specs.Boards.{Shown, Stands, is_from_start}
+use Rattle.machine.specs.Boards.{Shown, Stands, is_from_start, IsBoard}
 use Rattle.machine.specs.Reads.{front, captured_of, since_of, read_refusal, changes_refusal}
 use Rattle.machine.proofs.FlowLemmas.{is_passed, not_beyond}
 use Rattle.machine.proofs.PassedLemmas.{passed_down}
@@ -32,30 +32,30 @@ unrefused true h = refl
 unrefused false h = absurd (false≢true (sym h))
 
 module _ {T : Type 0} (below : T → T → Bool) (minimum : T) (o : PartialOrderLaws below) where
-  pub read_answers : (r : Result (List Entry) Refusal) (b : Shown T) (h : List (Event T)) (v : ℕ) (t : T) → IsDataflow b.dataflow → v < length b.dataflow.nodes → IsTrue (is_output (node_of b.dataflow v))
+  pub read_answers : (r : Result (List Entry) Refusal) (b : Shown T) (h : List (Event T)) (v : ℕ) (t : T) → IsBoard b → v < length b.dataflow.nodes → IsTrue (is_output (node_of b.dataflow v))
       → OnOk r (read_refusal below b v t ≡ None) → IfOk r (λ bag. Alike bag (as_of below t (captured_of b v))) → Stands below minimum b h
       → IfOk r (λ bag. Alike bag (query_at below b.dataflow.nodes (changes_in (world below minimum b.dataflow h)) v t))
   read_answers (Ok bag) b h v t p l m e same s =
       let f = no_first (is_beyond below (front below b v) t) NotPassed ((not (is_beyond below (since_of b v) t), GivenUp) ∷ []) e in
-      let passed = ap not (sym (front_stands below o minimum b h s v t)) ∙ ap not f.0 in
+      let passed = ap not (sym (front_stands below o minimum b p h s v t)) ∙ ap not f.0 in
       let second = no_first (not (is_beyond below (since_of b v) t)) GivenUp [] f.1 in
       let kept : is_beyond below ((world below minimum b.dataflow h).since v) t ≡ true = subst (λ ts. is_beyond below ts t ≡ true) (s.since v l) (unrefused _ second.0) in
-      λ row. same row ∙ ((s.captured v l m).sums t (or_right (is_from_start below minimum ((world below minimum b.dataflow h).since v)) _ kept) row ∙ headline_lem below minimum o b.dataflow p h s.legal v t passed row)
+      λ row. same row ∙ ((s.captured v l m).sums t (or_right (is_from_start below minimum ((world below minimum b.dataflow h).since v)) _ kept) row ∙ headline_lem below minimum o b.dataflow p.dataflow h s.legal v t passed row)
   read_answers (Err e) b h v t p l m f same s = tt
 
-  pub changes_answer : (us : List (Update T)) (b : Shown T) (h : List (Event T)) (v : ℕ) (cmp : T → T → Ordering) → IsDataflow b.dataflow → v < length b.dataflow.nodes → IsTrue (is_output (node_of b.dataflow v))
+  pub changes_answer : (us : List (Update T)) (b : Shown T) (h : List (Event T)) (v : ℕ) (cmp : T → T → Ordering) → IsBoard b → v < length b.dataflow.nodes → IsTrue (is_output (node_of b.dataflow v))
       → IsConsolidated cmp us → IsTrue (list_all (λ u. has_passed below (front below b v) u.time) us)
       → ((t : T) → IsTrue (has_passed below (front below b v) t) → Alike (as_of below t us) (as_of below t (captured_of b v)))
       → changes_refusal below minimum b v ≡ None → Stands below minimum b h → AreDifferences below cmp b.dataflow.nodes (changes_in (world below minimum b.dataflow h)) (frontier below b.dataflow (world below minimum b.dataflow h) v) v us
   changes_answer us b h v cmp p l m consolidated passed sums accepted s =
-      let e : (t : T) → is_beyond below (front below b v) t ≡ is_beyond below (frontier below b.dataflow (world below minimum b.dataflow h) v) t = front_stands below o minimum b h s v in
+      let e : (t : T) → is_beyond below (front below b v) t ≡ is_beyond below (frontier below b.dataflow (world below minimum b.dataflow h) v) t = front_stands below o minimum b p h s v in
       let first = no_first (not (is_from_start below minimum (since_of b v))) GivenUp [] accepted in
       let start : is_from_start below minimum ((world below minimum b.dataflow h).since v) ≡ true = subst (λ ts. is_from_start below minimum ts ≡ true) (s.since v l) (unrefused _ first.0) in
-      (differences_lem below minimum o b.dataflow p h s.legal v cmp).into us consolidated
+      (differences_lem below minimum o b.dataflow p.dataflow h s.legal v cmp).into us consolidated
       (ap (λ f. list_all f us) (λ i u. not (sym (e u.time) i)) ∙ passed)
       (λ t f row. sums t (ap not (e t) ∙ f) row ∙ (s.captured v l m).sums t (or_left (is_from_start below minimum ((world below minimum b.dataflow h).since v)) _ start) row)
 
-  pub changes_answers : {V : Type 0} (r : Result V Refusal) (list : V → List (Update T)) (b : Shown T) (h : List (Event T)) (v : ℕ) (cmp : T → T → Ordering) → IsDataflow b.dataflow → v < length b.dataflow.nodes → IsTrue (is_output (node_of b.dataflow v))
+  pub changes_answers : {V : Type 0} (r : Result V Refusal) (list : V → List (Update T)) (b : Shown T) (h : List (Event T)) (v : ℕ) (cmp : T → T → Ordering) → IsBoard b → v < length b.dataflow.nodes → IsTrue (is_output (node_of b.dataflow v))
       → IfOk r (λ us. IsConsolidated cmp (list us)) → IfOk r (λ us. IsTrue (list_all (λ u. has_passed below (front below b v) u.time) (list us)))
       → IfOk r (λ us. (t : T) → IsTrue (has_passed below (front below b v) t) → Alike (as_of below t (list us)) (as_of below t (captured_of b v)))
       → OnOk r (changes_refusal below minimum b v ≡ None) → Stands below minimum b h → IfOk r (λ us. AreDifferences below cmp b.dataflow.nodes (changes_in (world below minimum b.dataflow h)) (frontier below b.dataflow (world below minimum b.dataflow h) v) v (list us))

@@ -25,6 +25,7 @@ use Rattle.machine.specs.declared.view.View.{View}
 use Rattle.machine.specs.Dataflows.{Dataflow, node_of}
 use Rattle.machine.specs.Worlds.{same_place, queue, held_at, emitted_at, fed_to, open_at}
 use Rattle.machine.specs.Shares.{home}
+use Rattle.machine.specs.Inputs.{front_at, first_inputs, feed_faults, advance_faults}
 use Rattle.machine.specs.Histories.{without, is_held_by, holding, opening, world, IsLegal}
 use Rattle.machine.specs.Outstanding.{stamp}
 
@@ -33,7 +34,8 @@ pub record Shown (T : Type 0) : Type 0 where
   pub dataflow : Dataflow
   pub in_flight : List (Bundle T)
   pub held : List (Held T)
-  pub openings : List (Open T)
+  -- by node, the frontier of an input
+  pub inputs : List (List T)
   -- by worker, the node of the piece in hand
   pub hand : List (Option ℕ)
   -- by node, how many changes an input accepted
@@ -53,6 +55,7 @@ module _ {T : Type 0} where
     pub hand : length b.hand ≡ b.dataflow.workers
     pub accepted : length b.accepted ≡ length b.dataflow.nodes
     pub views : length b.views ≡ length b.dataflow.nodes
+    pub inputs : length b.inputs ≡ length b.dataflow.nodes
 
   -- a board on which nothing has happened: each input and each view stands at the least time
   abbrev pub first_board : T → Dataflow → Shown T
@@ -60,7 +63,7 @@ module _ {T : Type 0} where
     dataflow = p;
     in_flight = [];
     held = [];
-    openings = flat_map (λ i. opening i (minimum ∷ [])) (numbers_where is_input p.nodes);
+    inputs = first_inputs minimum p.nodes;
     hand = replicate p.workers None;
     accepted = replicate (length p.nodes) 0;
     views = replicate (length p.nodes) (record { since = minimum ∷ []; captured = [] });
@@ -86,7 +89,7 @@ module _ {T : Type 0} where
 
   abbrev pub advanced : ℕ → ℕ → List T → Shown T → Shown T
   advanced client i ts b = record b {
-    openings = opening i ts ++ filter (λ o. not (eqb o.input i)) b.openings;
+    inputs = set b.inputs i ts;
     last = Advance client i ts;
   }
 
@@ -122,24 +125,12 @@ module _ {T : Type 0} (below : T → T → Bool) where
     last = Take site number us;
   }
 
-  -- what refuses a change, in the order of testing, where these times are open and the input has taken so many changes
-  abbrev pub feed_faults : List Node → List (Open T) → ℕ → Fed T → List (Bool × Refusal)
-  feed_faults nodes openings taken f = (not (eqb (length f.update.row) (width_of nodes f.input)), WrongWidth)
-      ∷ (int_eq f.update.diff (pos 0), ZeroWeight)
-      ∷ (not (nat_le (unsigned_abs f.update.diff) 2147483647), WeightTooLarge)
-      ∷ (not (is_beyond below (open_at f.input openings) f.update.time), TimePassed)
-      ∷ (not (nat_lt taken 1048576), InputFull)
-      ∷ []
-
+  -- what refuses a change, and an input's frontier
   abbrev pub feed_refusal : Shown T → Fed T → Option Refusal
-  feed_refusal b f = first_refusal (feed_faults b.dataflow.nodes b.openings (get_or b.accepted f.input 0) f)
-
-  -- what refuses an input's frontier
-  abbrev pub advance_faults : List (Open T) → ℕ → List T → List (Bool × Refusal)
-  advance_faults openings i ts = (not (all_beyond below (open_at i openings) ts), NotForward) ∷ []
+  feed_refusal b f = first_refusal (feed_faults below b.dataflow.nodes (front_at f.input b.inputs) (get_or b.accepted f.input 0) f)
 
   abbrev pub advance_refusal : Shown T → ℕ → List T → Option Refusal
-  advance_refusal b i ts = first_refusal (advance_faults b.openings i ts)
+  advance_refusal b i ts = first_refusal (advance_faults below (front_at i b.inputs) ts)
 
 module _ {T : Type 0} (below : T → T → Bool) (minimum : T) where
   -- the event was the last one
@@ -163,7 +154,7 @@ module _ {T : Type 0} (below : T → T → Bool) (minimum : T) where
     pub legal : IsLegal below minimum b.dataflow h
     pub queues : (site : Place) → queue site b.in_flight ≡ queue site (world below minimum b.dataflow h).in_flight
     pub held : (n k : ℕ) → held_at n k b.held ≡ held_at n k (world below minimum b.dataflow h).held
-    pub openings : (i : ℕ) → open_at i b.openings ≡ open_at i (world below minimum b.dataflow h).openings
+    pub openings : (i : ℕ) → front_at i b.inputs ≡ open_at i (world below minimum b.dataflow h).openings
     pub hand : (k : ℕ) → k < b.dataflow.workers → get_or b.hand k None ≡ (world below minimum b.dataflow h).hand k
     pub accepted : (i : ℕ) → i < length b.dataflow.nodes → get_or b.accepted i 0 ≡ length (fed_to i (world below minimum b.dataflow h).fed)
     pub since : (v : ℕ) → v < length b.dataflow.nodes → (get_or b.views v no_view).since ≡ (world below minimum b.dataflow h).since v

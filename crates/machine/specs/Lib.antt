@@ -10,6 +10,7 @@ pub mod NodeLaws
 pub mod Histories
 pub mod Promises
 pub mod Readings
+pub mod Inputs
 pub mod Boards
 pub mod Reads
 pub mod Cuts

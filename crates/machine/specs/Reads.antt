@@ -1,15 +1,23 @@
 -- What is found on a board by whoever asks it: frontiers, a view's rows at a time, its changes, and whether it is quiet.
 use Rattle.std.specs.Prelude.{◌≡◌, ℕ, Bool, true, false, not, ◌&&◌, List, [], ◌∷◌, length, get_or, Option, Some, None, nat_lt, ◌⊎◌}
-use Rattle.std.specs.List.{list_all, list_any}
+use Rattle.std.specs.List.{list_all, list_any, flat_map}
 use Rattle.lattice.specs.Frontiers.{is_beyond}
 use Rattle.update.specs.declared.change.Update.{Update}
 use Rattle.update.specs.declared.refusal.Refusal.{Refusal}
 use Rattle.update.specs.declared.refusal.Refusal.TheVariants.{OutOfMemory, Overflow, NotPassed, GivenUp}
 use Rattle.plan.specs.Changes.{has_passed}
 use Rattle.plan.specs.Rules.{first_refusal}
+use Rattle.plan.specs.Ancestors.{numbers_below}
+use Rattle.machine.specs.declared.event.Open.{Open}
+use Rattle.machine.specs.Histories.{opening}
+use Rattle.machine.specs.Inputs.{front_at}
 use Rattle.machine.specs.Worlds.{World, held_at}
 use Rattle.machine.specs.Outstanding.{frontier, input_frontier}
 use Rattle.machine.specs.Boards.{Shown, no_view, is_from_start}
+
+-- the elements of the inputs' frontiers
+abbrev pub open_on : {T : Type 0} → Shown T → List (Open T)
+open_on b = flat_map (λ i. opening i (front_at i b.inputs)) (numbers_below (length b.dataflow.nodes))
 
 -- what lies on a board, as what a history leaves: its logs of what is past are not there
 abbrev pub on_board : {T : Type 0} → Shown T → World T
@@ -19,7 +27,7 @@ on_board b = record {
   received = [];
   emitted = [];
   held = b.held;
-  openings = b.openings;
+  openings = open_on b;
   hand = λ k. get_or b.hand k None;
   since = λ v. (get_or b.views v no_view).since;
   left = [];

@@ -1,12 +1,21 @@
--- What an event of a worker has in it, so that it can be remembered for clauses and its parts move on.
+-- What an event has in it, so that it can be remembered for clauses and its parts move on.
 use Rattle.std.specs.Prelude.{◌≡◌, List, ⊤}
 use Rattle.update.specs.declared.change.Update.{Update}
 use Rattle.machine.specs.declared.event.Bundle.{Bundle}
 use Rattle.machine.specs.declared.event.Emission.{Emission}
 use Rattle.machine.specs.declared.event.Event.{Event}
-use Rattle.machine.specs.declared.event.Event.TheVariants.{Take, Give}
+use Rattle.machine.specs.declared.event.Event.TheVariants.{Advance, Take, Give}
 
 module _ {T : Type 0} where
+  abbrev pub IsAdvancing : Event T → Type 0
+  IsAdvancing (Advance client input ts) = ⊤
+  IsAdvancing e = ⊥
+
+  -- the frontier that the event has moved on to
+  abbrev pub HasAdvanced : Event T → List T → Type 0
+  HasAdvanced (Advance client input ts) us = us ≡ ts
+  HasAdvanced e us = ⊥
+
   abbrev pub IsTaking : Event T → Type 0
   IsTaking (Take site number us) = ⊤
   IsTaking e = ⊥

@@ -5,16 +5,13 @@
 //! each input accepted. There is no list of the changes. Which histories it may stand for is said by `Stands`; every call
 //! says what it makes of them: whatever history the board stood for, it then stands for one event more.
 ghost use Rattle.std.specs.Prelude.{◌≡◌, ◌≤◌, List, [], ◌∷◌, None, IfErr, IfOk, length, replicate};
-ghost use Rattle.std.specs.List.{flat_map};
 ghost use Rattle.update.specs.declared.refusal.Refusal.TheVariants.{OutOfMemory};
-ghost use Rattle.plan.specs.Ancestors.{is_input};
-ghost use Rattle.plan.specs.Edges.{numbers_where};
-ghost use Rattle.machine.specs.Histories.{opening};
 ghost use Rattle.machine.specs.Dataflows.{IsDataflow};
 ghost use Rattle.machine.specs.declared.event.Event.{Event};
 ghost use Rattle.machine.specs.Boards.{Shown, IsBoard, Stands, first_board, looked};
 
-use crate::event::{Bundle, Event, Held, Open};
+use crate::event::{Bundle, Event, Held};
+use crate::inputs::InputFrontiers;
 use crate::view::View;
 use lattice::Minimum;
 use plan::{NodeId, Plan};
@@ -30,7 +27,7 @@ pub struct Board<T> {
     pub(crate) workers: usize,
     pub(crate) in_flight: Vec<Bundle<T>>,
     pub(crate) held: Vec<Held<T>>,
-    pub(crate) openings: Vec<Open<T>>,
+    pub(crate) inputs: InputFrontiers<T>,
     pub(crate) hand: Vec<Option<NodeId>>,
     pub(crate) accepted: Vec<usize>,
     pub(crate) views: Vec<View<T>>,
@@ -47,7 +44,7 @@ impl<T> Model for Board<T> {
       dataflow = record { nodes = b.plan; workers = b.workers };
       in_flight = b.in_flight.items;
       held = b.held.items;
-      openings = b.openings.items;
+      inputs = b.inputs;
       hand = b.hand.items;
       accepted = b.accepted.items;
       views = b.views.items;
@@ -58,7 +55,7 @@ impl<T> Model for Board<T> {
       dataflow = record { nodes = b.plan; workers = b.workers };
       in_flight = b.in_flight.items;
       held = b.held.items;
-      openings = b.openings.items;
+      inputs = b.inputs;
       hand = b.hand.items;
       accepted = b.accepted.items;
       views = b.views.items;
@@ -86,8 +83,7 @@ impl<T: Minimum> Board<T> {
         ensures first { IfOk result (λ board. board ≡ first_board T.least (record { nodes = plan; workers = workers })) }
         ensures refused { IfErr result (λ refusal. refusal ≡ OutOfMemory) }
     {
-        let inputs = plan.inputs(alloc)?;
-        let openings = first_openings(alloc, &inputs)?;
+        let inputs = InputFrontiers::first(alloc, &plan)?;
         let hand = empty_hands(alloc, workers)?;
         let accepted = no_changes(alloc, plan.len())?;
         let views = first_views(alloc, plan.len())?;
@@ -96,7 +92,7 @@ impl<T: Minimum> Board<T> {
             workers,
             in_flight: Vec::new(alloc),
             held: Vec::new(alloc),
-            openings,
+            inputs,
             hand,
             accepted,
             views,
@@ -109,6 +105,7 @@ impl<T: Minimum> Board<T> {
         ensures value { result ≡ self.now.dataflow.workers }
         ensures some { 1 ≤ result }
         ensures dataflow { IsDataflow self.now.dataflow }
+        ensures board { IsBoard self.now }
     {
         self.workers
     }
@@ -135,24 +132,6 @@ impl<T: Minimum> Board<T> {
     {
         self.note(Snapshot::of(&Event::Look { actor }));
     }
-}
-
-/// The elements of the inputs' frontiers before anything has happened: each input's is the least time. Refused only with
-/// `OutOfMemory`.
-///
-/// Cost: linear in the inputs.
-pub fn first_openings<T: Minimum>(alloc: Global, inputs: &[NodeId]) -> Result<Vec<Open<T>>, Refusal>
-    ensures first { IfOk result (λ openings. openings.items ≡ flat_map (λ i. opening i (T.least ∷ [])) inputs.now) }
-    ensures refused { IfErr result (λ refusal. refusal ≡ OutOfMemory) }
-{
-    let mut openings = Vec::new(alloc);
-    for input in inputs {
-        openings.push(Open {
-            input: *input,
-            time: T::minimum(),
-        })?;
-    }
-    Ok(openings)
 }
 
 // No worker has a piece in hand.

@@ -1,8 +1,8 @@
 //! What may happen on a board, and the entries of the logs that it leaves. Each event names who did it and all that it
 //! did, so that a history is a list of events and nothing else.
 ghost use Rattle.std.specs.Prelude.{◌≡◌};
-ghost use Rattle.machine.specs.declared.event.Event.TheVariants.{Take, Give};
-ghost use Rattle.machine.specs.Remembered.{IsTaking, HasTaken, IsGiving, HasGiven};
+ghost use Rattle.machine.specs.declared.event.Event.TheVariants.{Advance, Take, Give};
+ghost use Rattle.machine.specs.Remembered.{IsAdvancing, HasAdvanced, IsTaking, HasTaken, IsGiving, HasGiven};
 
 use crate::lists::{Times, Updates};
 use plan::NodeId;
@@ -162,6 +162,34 @@ fn taken_in<T>(event: Event<T>) -> Updates<T>
 {
     match event {
         Event::Take { updates, .. } => updates,
+        _ => unreachable!(),
+    }
+}
+
+// The event of a frontier, for clauses alone, and the frontier: it moves through.
+pub(crate) fn remembered_advance<T>(
+    client: usize,
+    input: NodeId,
+    times: Times<T>,
+) -> (Times<T>, Snapshot<Event<T>>)
+    ensures same { result.0 ≡ times }
+    ensures event { result.1.value ≡ Advance client input times }
+{
+    let event = Event::Advance {
+        client,
+        input,
+        times,
+    };
+    let last = Snapshot::of(&event);
+    (times_in(event), last)
+}
+
+fn times_in<T>(event: Event<T>) -> Times<T>
+    requires { IsAdvancing event }
+    ensures { HasAdvanced event result }
+{
+    match event {
+        Event::Advance { times, .. } => times,
         _ => unreachable!(),
     }
 }

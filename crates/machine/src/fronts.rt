@@ -5,17 +5,20 @@ ghost use Rattle.std.specs.List.{flat_map, list_any};
 ghost use Rattle.lattice.specs.Frontiers.{is_beyond};
 ghost use Rattle.antichain.specs.Antichains.{SameElements, least};
 ghost use Rattle.update.specs.declared.refusal.Refusal.TheVariants.{OutOfMemory};
-ghost use Rattle.plan.specs.Ancestors.{is_above};
+ghost use Rattle.plan.specs.Ancestors.{is_above, numbers_below};
 ghost use Rattle.plan.specs.Changes.{has_passed};
 ghost use Rattle.machine.specs.Worlds.{times, held_at};
 ghost use Rattle.machine.specs.Outstanding.{held_where, open_where, outstanding, frontier, input_frontier};
 ghost use Rattle.machine.specs.declared.event.Event.{Event};
 ghost use Rattle.machine.specs.Histories.{world};
 ghost use Rattle.machine.specs.Boards.{Stands};
-ghost use Rattle.machine.specs.Reads.{on_board, front, input_front, is_ready};
+ghost use Rattle.machine.specs.Boards.{IsBoard};
+ghost use Rattle.machine.specs.Inputs.{front_at};
+ghost use Rattle.machine.specs.Reads.{on_board, open_on, front, input_front, is_ready};
 
 use crate::board::Board;
-use crate::event::{Bundle, Held, Open};
+use crate::event::{Bundle, Held};
+use crate::inputs::InputFrontiers;
 use crate::lists::Updates;
 use antichain::Antichain;
 use lattice::Minimum;
@@ -75,12 +78,14 @@ fn are_held_above<T: Minimum>(plan: &Plan, held: &[Held<T>], node: NodeId, t: &T
 }
 
 // Whether an input at the node or above it is open at or before a time.
-fn are_open<T: Minimum>(plan: &Plan, openings: &[Open<T>], node: NodeId, t: &T) -> bool
-    requires { node < length plan.now }
-    ensures { result ≡ list_any (λ o. is_above plan.now o.input node && T.below o.time t.now) openings.now }
+fn are_open<T: Minimum>(plan: &Plan, inputs: &InputFrontiers<T>, node: NodeId, t: &T) -> bool
+    requires node { node < length plan.now }
+    requires inputs { length inputs.now ≡ length plan.now }
+    ensures { result ≡ list_any (λ i. is_above plan.now i node && is_beyond T.below (front_at i inputs.now) t.now) (numbers_below (length plan.now)) }
 {
-    for open in openings {
-        if plan.is_above(open.input, node) && open.time.less_equal(t) {
+    for n in 0..plan.len() {
+        let input = NodeId::new(n);
+        if plan.is_above(input, node) && inputs.is_open(input, t) {
             return true;
         }
     }
@@ -140,16 +145,18 @@ fn push_held<T: Minimum>(
 fn push_open<T: Minimum>(
     all: &mut Vec<T>,
     plan: &Plan,
-    openings: &[Open<T>],
+    inputs: &InputFrontiers<T>,
     node: NodeId,
 ) -> Result<(), Refusal>
-    requires { node < length plan.now }
-    ensures more { OnOk result (all.new.items ≡ all.old.items ++ open_where (λ m. is_above plan.now m node) openings.now) }
+    requires node { node < length plan.now }
+    requires inputs { length inputs.now ≡ length plan.now }
+    ensures more { OnOk result (all.new.items ≡ all.old.items ++ flat_map (λ i. if is_above plan.now i node then front_at i inputs.now else []) (numbers_below (length plan.now))) }
     ensures refused { IfErr result (λ refusal. refusal ≡ OutOfMemory) }
 {
-    for open in openings {
-        if plan.is_above(open.input, node) {
-            all.push(open.time)?;
+    for n in 0..plan.len() {
+        let input = NodeId::new(n);
+        if plan.is_above(input, node) {
+            all.extend_from_slice(inputs.of(input))?;
         }
     }
     Ok(())
@@ -217,9 +224,10 @@ impl<T: Minimum> Board<T> {
     // Whether an input at the node or above it is open at or before a time.
     fn is_open(&self, node: NodeId, t: &T) -> bool
         requires { node < length self.now.dataflow.nodes }
-        ensures { result ≡ list_any (λ o. is_above self.now.dataflow.nodes o.input node && T.below o.time t.now) self.now.openings }
+        ensures any { result ≡ list_any (λ o. is_above self.now.dataflow.nodes o.input node && T.below o.time t.now) (open_on self.now) }
+        ensures board { IsBoard self.now }
     {
-        are_open(&self.plan, &self.openings, node, t)
+        are_open(&self.plan, &self.inputs, node, t)
     }
 
     /// The frontier of a node: the least of the times that are in flight, held or open at the node or above it. Refused only
@@ -242,13 +250,14 @@ impl<T: Minimum> Board<T> {
     pub(crate) fn outstanding(&self, node: NodeId) -> Result<Vec<T>, Refusal>
         requires { node < length self.now.dataflow.nodes }
         ensures times { IfOk result (λ all. all.items ≡ (flat_map (λ b. if is_above self.now.dataflow.nodes b.place.node node then times b.updates else []) self.now.in_flight
-            ++ held_where (λ m. is_above self.now.dataflow.nodes m node) self.now.held) ++ open_where (λ m. is_above self.now.dataflow.nodes m node) self.now.openings) }
+            ++ held_where (λ m. is_above self.now.dataflow.nodes m node) self.now.held) ++ open_where (λ m. is_above self.now.dataflow.nodes m node) (open_on self.now)) }
         ensures refused { IfErr result (λ refusal. refusal ≡ OutOfMemory) }
+        ensures board { IsBoard self.now }
     {
         let mut times = Vec::new(*self.held.allocator());
         push_in_flight(&mut times, &self.plan, &self.in_flight, node)?;
         push_held(&mut times, &self.plan, &self.held, node)?;
-        push_open(&mut times, &self.plan, &self.openings, node)?;
+        push_open(&mut times, &self.plan, &self.inputs, node)?;
         Ok(times)
     }
 

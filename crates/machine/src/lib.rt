@@ -11,8 +11,9 @@
 //!
 //! The [`Board`] is what lies between clients and workers, in memory. Each of its calls is one event, and says so in one
 //! way: whatever history the board stood for, it then stands for that history with the board's last event on top. What is
-//! asked of a board, a view's rows among it, is answered for whatever history it stands for. What refuses a change or a
-//! frontier stands in functions beside it ([`feed_refusal`], [`advance_refusal`]), for whoever takes them without a board.
+//! asked of a board, a view's rows among it, is answered for whatever history it stands for. The inputs'
+//! frontiers, and what refuses a change or a frontier, are a type of their own ([`InputFrontiers`]), for whoever takes them
+//! without a board.
 //!
 //! A client calls `feed`, `advance` and `look`, and reads by `frontier`, `read`, `changes` and `is_quiet`. A worker finds what
 //! to do by `waiting_at` or `is_ready`, turns to it by `take` or `take_held`, computes, cuts what comes out by `cut`, and
@@ -29,6 +30,7 @@ mod cutting;
 mod event;
 mod fronts;
 mod giving;
+mod inputs;
 mod lists;
 mod reading;
 mod standing;
@@ -37,10 +39,10 @@ mod view;
 mod waiting;
 mod workers;
 
-pub use board::{Board, first_openings};
-pub use clients::{MAX_CHANGES, MAX_DIFFERENCE, advance_refusal, feed_refusal, openings_with};
+pub use board::Board;
 pub use event::{Bundle, Bundles, Emission, Event, Fed, Held, Open, Place};
 pub use giving::Ungiven;
+pub use inputs::{InputFrontiers, MAX_CHANGES, MAX_DIFFERENCE};
 pub use lists::{Times, Updates};
 pub use standing::meets;
 pub use theorems::{

@@ -112,7 +112,7 @@ impl<T: Minimum> Board<T> {
         ensures refused { IfErr result (IsRefusalOr (HasLargeCount (as_of T.below t (captured_of self.now view))) (read_refusal T.below self.now view t)) }
         ensures bag { IfOk result IsBag }
         ensures sum { IfOk result (λ bag. Alike bag (as_of T.below t (captured_of self.now view))) }
-        ensures dataflow { IsDataflow self.now.dataflow }
+        ensures board { IsBoard self.now }
     {
         let _count = self.workers();
         match self.read_refusal(view, &t) {
@@ -172,7 +172,7 @@ impl<T: Minimum> Board<T> {
         ensures consolidated { IfOk result (λ us. IsConsolidated T.cmp us.items) }
         ensures passed { IfOk result (λ us. IsTrue (list_all (λ u. has_passed T.below (front T.below self.now view) u.time) us.items)) }
         ensures sums { IfOk result (λ us. (t : T) → IsTrue (has_passed T.below (front T.below self.now view) t) → Alike (as_of T.below t us.items) (as_of T.below t (captured_of self.now view))) }
-        ensures dataflow { IsDataflow self.now.dataflow }
+        ensures board { IsBoard self.now }
     {
         let _count = self.workers();
         match self.changes_refusal(view) {

@@ -15,7 +15,7 @@ use Rattle.plan.specs.declared.node.Node.TheVariants.{Input, Map, Filter, Concat
 use Rattle.plan.proofs.PlanLemmas.{no_first}
 use Rattle.machine.specs.declared.event.Fed.{Fed}
 use Rattle.machine.specs.Dataflows.{IsDataflow, node_of}
-use Rattle.machine.specs.Worlds.{open_at}
+use Rattle.machine.specs.Inputs.{front_at}
 use Rattle.machine.specs.Shares.{home}
 use Rattle.machine.specs.Histories.{IsInput}
 use Rattle.machine.specs.Boards.{Shown, fed, feed_refusal}
@@ -43,11 +43,11 @@ module _ {T : Type 0} (below : T → T → Bool) where
       → IsDue b.dataflow 0 (record { place = home b.dataflow f; updates = f.update ∷ [] })
   fed_one b f e i q alone =
       let width = no_first (not (eqb (length f.update.row) (width_of b.dataflow.nodes f.input))) WrongWidth ((int_eq f.update.diff (pos 0), ZeroWeight)
-      ∷ (not (nat_le (unsigned_abs f.update.diff) 2147483647), WeightTooLarge) ∷ (not (is_beyond below (open_at f.input b.openings) f.update.time), TimePassed)
+      ∷ (not (nat_le (unsigned_abs f.update.diff) 2147483647), WeightTooLarge) ∷ (not (is_beyond below (front_at f.input b.inputs) f.update.time), TimePassed)
       ∷ (not (nat_lt (get_or b.accepted f.input 0) 1048576), InputFull) ∷ []) e in
-      let some = no_first (int_eq f.update.diff (pos 0)) ZeroWeight ((not (nat_le (unsigned_abs f.update.diff) 2147483647), WeightTooLarge) ∷ (not (is_beyond below (open_at f.input b.openings) f.update.time), TimePassed)
+      let some = no_first (int_eq f.update.diff (pos 0)) ZeroWeight ((not (nat_le (unsigned_abs f.update.diff) 2147483647), WeightTooLarge) ∷ (not (is_beyond below (front_at f.input b.inputs) f.update.time), TimePassed)
       ∷ (not (nat_lt (get_or b.accepted f.input 0) 1048576), InputFull) ∷ []) width.1 in
-      let small = no_first (not (nat_le (unsigned_abs f.update.diff) 2147483647)) WeightTooLarge ((not (is_beyond below (open_at f.input b.openings) f.update.time), TimePassed)
+      let small = no_first (not (nat_le (unsigned_abs f.update.diff) 2147483647)) WeightTooLarge ((not (is_beyond below (front_at f.input b.inputs) f.update.time), TimePassed)
       ∷ (not (nat_lt (get_or b.accepted f.input 0) 1048576), InputFull) ∷ []) some.1 in
       let r = routed b.dataflow q f.update.row in
       record {

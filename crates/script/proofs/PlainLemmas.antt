@@ -42,9 +42,9 @@ use Rattle.plan.proofs.StepLemmas.{query_by_sources}
 use Rattle.plan.proofs.WeighLemmas.{count_of-append}
 use Rattle.machine.specs.declared.event.Fed.{Fed}
 use Rattle.machine.specs.declared.event.Open.{Open}
-use Rattle.machine.specs.Boards.{feed_faults, advance_faults}
+use Rattle.machine.specs.Inputs.{front_at, feed_faults, advance_faults}
 use Rattle.machine.specs.Histories.{opening}
-use Rattle.machine.specs.Worlds.{fed_to, open_at}
+use Rattle.machine.specs.Worlds.{fed_to}
 use Rattle.grammar.specs.Commands.{is_input_of}
 use Rattle.oracle.specs.Entries.{IsRefusal}
 use Rattle.oracle.specs.Evaluation.{HasLargeAbove, HasLargeStep, given_at, inputs_before, list_of, ports, sums_at}
@@ -52,14 +52,14 @@ use Rattle.oracle.specs.Listing.{HasLargeDifference}
 use Rattle.oracle.proofs.EvaluationLemmas.{inputs_with, inputs_without}
 use Rattle.script.specs.Engines.{IsAnswer}
 use Rattle.script.specs.Orders.{in_order}
-use Rattle.script.specs.PlainStanding.{Register, IsRegister, Records, with_entry, with_openings, entry_refusal, openings_refusal, AreFrontiers}
+use Rattle.script.specs.PlainStanding.{Register, IsRegister, Records, with_entry, with_input, entry_refusal, input_refusal, AreFrontiers}
 use Rattle.script.specs.Weights.{HasLargeWeight}
 use Rattle.script.specs.Sessions.{Session, with_change, with_frontier, change_refusal, frontier_refusal, view_frontier, read_refusal, rows_at, frontier_at, changes_at}
 use Rattle.script.proofs.BagLemmas.{bag_of-only}
 use Rattle.script.proofs.ChangesLemmas.{changes_are, differences_only}
 use Rattle.script.proofs.InputLemmas.{query_at_inputs}
 use Rattle.script.proofs.OrderLemmas.{in_order-sorted, in_order-has, in_order-only}
-use Rattle.script.proofs.StandingLemmas.{answered}
+use Rattle.script.proofs.StandingLemmas.{answered, refused_by}
 use Rattle.script.proofs.WeightLemmas.{linear_at, large_count, large_gap}
 
 -- ---- the place of an input's list
@@ -141,6 +141,7 @@ module _ {T : Type 0} (r : Register T) (is : IsRegister r) (f : Fed T) (there : 
     linear = is.linear;
     lists = length-set r.changes (inputs_before r.plan f.input) (list_of r.plan r.changes f.input ++ f.update ∷ []) ∙ is.lists;
     wide = λ n l t. by n l t (eqb f.input n) refl;
+    inputs = is.inputs;
   }
     where
       own : IsTrue (wide_at r.plan f.input (list_of r.plan (with_entry f r).changes f.input))
@@ -155,7 +156,7 @@ module _ {T : Type 0} (r : Register T) (is : IsRegister r) (f : Fed T) (there : 
       by n l t false e = ap (wide_at r.plan n) (other_list n t (eqb-false f.input n e)) ∙ is.wide n l t
 
   pub entry_records : (s : Session T) → Records r s → Records (with_entry f r) (with_change f s)
-  entry_records s a = record { changes = λ i h. by i h (eqb f.input i) refl; openings = a.openings }
+  entry_records s a = record { changes = λ i h. by i h (eqb f.input i) refl; inputs = a.inputs }
     where
       own : list_of r.plan (with_entry f r).changes f.input ≡ reverse (f.update ∷ fed_to f.input s.fed)
       own =
@@ -173,31 +174,31 @@ module _ {T : Type 0} (below : T → T → Bool) where
   entry_wide r f e =
       no_fault (eqb (length f.update.row) (width_of r.plan f.input))
       (no_first (not (eqb (length f.update.row) (width_of r.plan f.input))) WrongWidth ((int_eq f.update.diff (pos 0), ZeroWeight)
-      ∷ (not (nat_le (unsigned_abs f.update.diff) 2147483647), WeightTooLarge) ∷ (not (is_beyond below (open_at f.input r.openings) f.update.time), TimePassed)
+      ∷ (not (nat_le (unsigned_abs f.update.diff) 2147483647), WeightTooLarge) ∷ (not (is_beyond below (front_at f.input r.inputs) f.update.time), TimePassed)
       ∷ (not (nat_lt (length (list_of r.plan r.changes f.input)) 1048576), InputFull) ∷ []) e).0
 
   -- what is asked of the openings and of the number of changes is asked of the register
-  pub same_faults : (r : Register T) (f : Fed T) (openings : List (Open T)) (taken : ℕ) → openings ≡ r.openings → taken ≡ length (list_of r.plan r.changes f.input) → first_refusal (feed_faults below r.plan openings taken f) ≡ entry_refusal below r f
-  same_faults r f openings taken e t = λ j. first_refusal (feed_faults below r.plan (e j) (t j) f)
+  pub same_faults : (r : Register T) (f : Fed T) (inputs : List (List T)) (taken : ℕ) → inputs ≡ r.inputs → taken ≡ length (list_of r.plan r.changes f.input) → first_refusal (feed_faults below r.plan (front_at f.input inputs) taken f) ≡ entry_refusal below r f
+  same_faults r f inputs taken e t = λ j. first_refusal (feed_faults below r.plan (front_at f.input (e j)) (t j) f)
 
   -- whatever came of a change, the register is one
   pub after_entry : (r : Register T) (lists : List (List (Update T))) (f : Fed T) (place : ℕ) (x : Result (Unit {0}) Refusal) → IsRegister r → IsTrue (is_input_of r.plan f.input) → entry_refusal below r f ≡ None
-      → place ≡ inputs_before r.plan f.input → OnOk x (lists ≡ set r.changes place (get_or r.changes place [] ++ f.update ∷ [])) → OnErr x (lists ≡ r.changes) → IsRegister (record { plan = r.plan; changes = lists; openings = r.openings })
+      → place ≡ inputs_before r.plan f.input → OnOk x (lists ≡ set r.changes place (get_or r.changes place [] ++ f.update ∷ [])) → OnErr x (lists ≡ r.changes) → IsRegister (record { plan = r.plan; changes = lists; inputs = r.inputs })
   after_entry r lists f place (Ok u) is there accepted at pushed stays =
       let whole : lists ≡ (with_entry f r).changes = pushed ∙ ap (λ k. set r.changes k (get_or r.changes k [] ++ f.update ∷ [])) at in
-      subst (λ (ls : List (List (Update T))). IsRegister (record { plan = r.plan; changes = ls; openings = r.openings })) (sym whole) (entry_register r is f there (entry_wide r f accepted))
+      subst (λ (ls : List (List (Update T))). IsRegister (record { plan = r.plan; changes = ls; inputs = r.inputs })) (sym whole) (entry_register r is f there (entry_wide r f accepted))
   after_entry r lists f place (Err e) is there accepted at pushed stays =
-      subst (λ (ls : List (List (Update T))). IsRegister (record { plan = r.plan; changes = ls; openings = r.openings })) (sym stays) (record { linear = is.linear; lists = is.lists; wide = is.wide })
+      subst (λ (ls : List (List (Update T))). IsRegister (record { plan = r.plan; changes = ls; inputs = r.inputs })) (sym stays) (record { linear = is.linear; lists = is.lists; wide = is.wide; inputs = is.inputs })
 
   -- what refuses a change or a frontier is what the session refuses
   same_entry_refusal : (r : Register T) (s : Session T) (f : Fed T) → IsTrue (is_input_of r.plan f.input) → Records r s → entry_refusal below r f ≡ change_refusal below r.plan s f
-  same_entry_refusal r s f there a = λ j. first_refusal (feed_faults below r.plan (a.openings j) (taken j) f)
+  same_entry_refusal r s f there a = λ j. first_refusal (feed_faults below r.plan (front_at f.input (a.inputs j)) (taken j) f)
     where
       taken : length (list_of r.plan r.changes f.input) ≡ length (fed_to f.input s.fed)
       taken = ap length (a.changes f.input there) ∙ length-reverse (fed_to f.input s.fed)
 
-  same_openings_refusal : (r : Register T) (s : Session T) (i : ℕ) (ts : List T) → Records r s → openings_refusal below r i ts ≡ frontier_refusal below r.plan s i ts
-  same_openings_refusal r s i ts a = ap (λ (os : List (Open T)). first_refusal (advance_faults below os i ts)) a.openings
+  same_input_refusal : (r : Register T) (s : Session T) (i : ℕ) (ts : List T) → Records r s → input_refusal below r i ts ≡ frontier_refusal below r.plan s i ts
+  same_input_refusal r s i ts a = ap (λ (fronts : List (List T)). first_refusal (advance_faults below (front_at i fronts) ts)) a.inputs
 
   pub entry_answered : (r c : Register T) (f : Fed T) (s : Session T) (x : Result (Unit {0}) Refusal) → IsTrue (is_input_of r.plan f.input) → IsRegister r
       → OnOk x (c ≡ with_entry f r) → OnOk x (entry_refusal below r f ≡ None) → IfErr x (IsRefusalBy (entry_refusal below r f)) → OnErr x (c ≡ r) → Records r s
@@ -212,17 +213,17 @@ module _ {T : Type 0} (below : T → T → Bool) where
   pub memory_alone : (o : Option Refusal) (x : Result (Unit {0}) Refusal) → o ≡ None → IfErr x (λ e. e ≡ OutOfMemory) → IfErr x (IsRefusalBy o)
   memory_alone o x e h = subst (λ (q : Option Refusal). IfErr x (IsRefusalBy q)) (sym e) h
 
-  pub openings_answered : (r c : Register T) (i : ℕ) (ts : List T) (s : Session T) (x : Result (Unit {0}) Refusal)
-      → OnOk x (c ≡ with_openings i ts r) → OnOk x (openings_refusal below r i ts ≡ None) → IfErr x (IsRefusalBy (openings_refusal below r i ts)) → OnErr x (c ≡ r) → Records r s
+  pub input_answered : (r c : Register T) (i : ℕ) (ts : List T) (s : Session T) (x : Result (Unit {0}) Refusal)
+      → OnOk x (c ≡ with_input i ts r) → OnOk x (input_refusal below r i ts ≡ None) → IfErr x (λ refusal. input_refusal below r i ts ≡ Some refusal) → OnErr x (c ≡ r) → Records r s
       → IsAnswer ⊥ (frontier_refusal below r.plan s i ts) (λ _. Records c (with_frontier i ts s)) (Records c s) x
-  openings_answered r c i ts s x taken accepted refused stays a =
-      subst (λ (o : Option Refusal). IsAnswer ⊥ o (λ _. Records c (with_frontier i ts s)) (Records c s) x) (same_openings_refusal r s i ts a)
-      (answered (openings_refusal below r i ts) (Records c (with_frontier i ts s)) (Records c s) x
-      (on_ok_weaker x (λ e. subst (λ (d : Register T). Records d (with_frontier i ts s)) (sym e) moved) taken) accepted refused
+  input_answered r c i ts s x taken accepted refused stays a =
+      subst (λ (o : Option Refusal). IsAnswer ⊥ o (λ _. Records c (with_frontier i ts s)) (Records c s) x) (same_input_refusal r s i ts a)
+      (answered (input_refusal below r i ts) (Records c (with_frontier i ts s)) (Records c s) x
+      (on_ok_weaker x (λ e. subst (λ (d : Register T). Records d (with_frontier i ts s)) (sym e) moved) taken) accepted (refused_by (input_refusal below r i ts) x refused)
       (on_err_weaker x (λ e. subst (λ (d : Register T). Records d s) (sym e) a) stays))
     where
-      moved : Records (with_openings i ts r) (with_frontier i ts s)
-      moved = record { changes = a.changes; openings = ap (λ (os : List (Open T)). opening i ts ++ filter (λ o. not (eqb o.input i)) os) a.openings }
+      moved : Records (with_input i ts r) (with_frontier i ts s)
+      moved = record { changes = a.changes; inputs = ap (λ (fronts : List (List T)). set fronts i ts) a.inputs }
 
 -- ---- a list sums to what it sums to backwards
 
@@ -276,18 +277,18 @@ module _ {T : Type 0} (below : T → T → Bool) where
           ∙ sym (split g m))
 
   -- the frontiers of the inputs, one after another
-  pub record AreSome (p : List Node) (openings : List (Open T)) (n : ℕ) (frontiers : List (List T)) : Type 0 where
+  pub record AreSome (p : List Node) (inputs : List (List T)) (n : ℕ) (frontiers : List (List T)) : Type 0 where
     pub count : length frontiers ≡ inputs_before p n
-    pub beyond : (i : ℕ) → i < n → is_input (node_at p i) ≡ true → (t : T) → is_beyond below (list_of p frontiers i) t ≡ is_beyond below (open_at i openings) t
+    pub beyond : (i : ℕ) → i < n → is_input (node_at p i) ≡ true → (t : T) → is_beyond below (list_of p frontiers i) t ≡ is_beyond below (front_at i inputs) t
 
-  pub some_more : (p : List Node) (openings : List (Open T)) (n : ℕ) (old new : List (List T)) (F : List T) → is_input (node_at p n) ≡ true → new ≡ old ++ F ∷ []
-      → ((t : T) → is_beyond below F t ≡ is_beyond below (open_at n openings) t) → AreSome p openings n old → AreSome p openings (n + 1) new
-  some_more p openings n old new F input e h so = subst (AreSome p openings (n + 1)) (sym e) (record { count = long; beyond = each })
+  pub some_more : (p : List Node) (inputs : List (List T)) (n : ℕ) (old new : List (List T)) (F : List T) → is_input (node_at p n) ≡ true → new ≡ old ++ F ∷ []
+      → ((t : T) → is_beyond below F t ≡ is_beyond below (front_at n inputs) t) → AreSome p inputs n old → AreSome p inputs (n + 1) new
+  some_more p inputs n old new F input e h so = subst (AreSome p inputs (n + 1)) (sym e) (record { count = long; beyond = each })
     where
       long : length (old ++ F ∷ []) ≡ inputs_before p (n + 1)
       long = let parts = length-append old (F ∷ []) in let count = so.count in let one = inputs_with p n input in omega (arith, parts, count, one)
 
-      each : (i : ℕ) → i < n + 1 → is_input (node_at p i) ≡ true → (t : T) → is_beyond below (list_of p (old ++ F ∷ []) i) t ≡ is_beyond below (open_at i openings) t
+      each : (i : ℕ) → i < n + 1 → is_input (node_at p i) ≡ true → (t : T) → is_beyond below (list_of p (old ++ F ∷ []) i) t ≡ is_beyond below (front_at i inputs) t
       each i l there t =
           ⊎_elim
           (λ k.
@@ -296,22 +297,22 @@ module _ {T : Type 0} (below : T → T → Bool) where
           ap (λ (ts : List T). is_beyond below ts t) (get_or_append_left old (F ∷ []) [] (inputs_before p i) (omega (arith, place, count))) ∙ so.beyond i k there t)
           (λ k.
           let same : n ≡ i = omega (arith, k, l) in
-          subst (λ (j : ℕ). is_beyond below (list_of p (old ++ F ∷ []) j) t ≡ is_beyond below (open_at j openings) t) same
+          subst (λ (j : ℕ). is_beyond below (list_of p (old ++ F ∷ []) j) t ≡ is_beyond below (front_at j inputs) t) same
           (ap (λ (ts : List T). is_beyond below ts t) (get_or_push old F [] (inputs_before p n) so.count) ∙ h t))
           (cases_lt i n)
 
-  pub some_same : (p : List Node) (openings : List (Open T)) (n : ℕ) (old : List (List T)) → is_input (node_at p n) ≡ false → AreSome p openings n old → AreSome p openings (n + 1) old
-  some_same p openings n old none so = record { count = so.count ∙ sym (inputs_without p n none); beyond = each }
+  pub some_same : (p : List Node) (inputs : List (List T)) (n : ℕ) (old : List (List T)) → is_input (node_at p n) ≡ false → AreSome p inputs n old → AreSome p inputs (n + 1) old
+  some_same p inputs n old none so = record { count = so.count ∙ sym (inputs_without p n none); beyond = each }
     where
-      each : (i : ℕ) → i < n + 1 → is_input (node_at p i) ≡ true → (t : T) → is_beyond below (list_of p old i) t ≡ is_beyond below (open_at i openings) t
+      each : (i : ℕ) → i < n + 1 → is_input (node_at p i) ≡ true → (t : T) → is_beyond below (list_of p old i) t ≡ is_beyond below (front_at i inputs) t
       each i l there t =
           ⊎_elim
           (λ k. so.beyond i k there t)
           (λ k. let same : n ≡ i = omega (arith, k, l) in absurd (true≢false (sym there ∙ (ap (λ j. is_input (node_at p j)) (sym same) ∙ none))))
           (cases_lt i n)
 
-  pub some_all : (p : List Node) (openings : List (Open T)) (n : ℕ) (all : List (List T)) → length p ≤ n → AreSome p openings n all → AreFrontiers below p openings all
-  some_all p openings n all long so i h t = let parts = and_parts _ _ h in let within : i < length p = ltb-true _ _ parts.0 in so.beyond i (omega (arith, within, long)) parts.1 t
+  pub some_all : (p : List Node) (inputs : List (List T)) (n : ℕ) (all : List (List T)) → length p ≤ n → AreSome p inputs n all → AreFrontiers below p inputs all
+  some_all p inputs n all long so i h t = let parts = and_parts _ _ h in let within : i < length p = ltb-true _ _ parts.0 in so.beyond i (omega (arith, within, long)) parts.1 t
 
 -- ---- what is asked
 
@@ -328,14 +329,14 @@ no_step k (Reduce kind source) l bags step = true≢false (sym l)
 no_step k (Output source) l bags step = step
 
 module _ {T : Type 0} {below : T → T → Bool} (o : PartialOrderLaws below) (r : Register T) (s : Session T) (a : Records r s) (v : ℕ) where
-  same_found : view_frontier below r.plan s v ≡ least below (open_for below r.plan (λ i. open_at i r.openings) v)
-  same_found = ap (λ (os : List (Open T)). least below (open_for below r.plan (λ i. open_at i os) v)) (sym a.openings)
+  same_found : view_frontier below r.plan s v ≡ least below (open_for below r.plan (λ i. front_at i r.inputs) v)
+  same_found = ap (λ (fronts : List (List T)). least below (open_for below r.plan (λ i. front_at i fronts) v)) (sym a.inputs)
 
   -- what is open for the view at a time is so in the session
-  pub same_passed : (times : List T) (t : T) → times ≡ open_for below r.plan (λ i. open_at i r.openings) v → is_beyond below (view_frontier below r.plan s v) t ≡ is_beyond below times t
+  pub same_passed : (times : List T) (t : T) → times ≡ open_for below r.plan (λ i. front_at i r.inputs) v → is_beyond below (view_frontier below r.plan s v) t ≡ is_beyond below times t
   same_passed times t e =
       ap (λ (ts : List T). is_beyond below ts t) same_found
-      ∙ (least_beyond o (open_for below r.plan (λ i. open_at i r.openings) v) t
+      ∙ (least_beyond o (open_for below r.plan (λ i. front_at i r.inputs) v) t
       ∙ ap (λ (ts : List T). is_beyond below ts t) (sym e))
 
   -- a time that is still open refuses a reading, and no other does
@@ -346,7 +347,7 @@ module _ {T : Type 0} {below : T → T → Bool} (o : PartialOrderLaws below) (r
   passed_reads t e = ap (λ b. first_refusal ((b, NotPassed) ∷ [])) e
 
   -- the least of what is open, in order
-  pub frontier_found : {cmp : T → T → Ordering} → IsTotalOrder cmp → ((t u : T) → cmp t u ≡ Equal → t ≡ u) → (times F : List T) → times ≡ open_for below r.plan (λ i. open_at i r.openings) v
+  pub frontier_found : {cmp : T → T → Ordering} → IsTotalOrder cmp → ((t u : T) → cmp t u ≡ Equal → t ≡ u) → (times F : List T) → times ≡ open_for below r.plan (λ i. front_at i r.inputs) v
       → IsFrontier below cmp F → SameElements F (least below times) → F ≡ frontier_at below r.plan s cmp v
   frontier_found {cmp} total exact times F e is same =
       let found = view_frontier below r.plan s v in
@@ -391,7 +392,7 @@ module _ {T : Type 0} {below : T → T → Bool} (o : PartialOrderLaws below) (r
     rows_answered cause Large found t (Err e) passed alike is refused = inr (⊎_elim (λ m. inl m) (λ l. inr (l.0, found l.1)) refused)
 
     -- what is listed of the inputs' changes and frontiers is the session's list
-    pub changes_found : {joined met : T → T → T} {cmp : T → T → Ordering} → LatticeLaws below joined met → ExtendsLaws below cmp → IsTotalOrder cmp → (frontiers : List (List T)) (us : List (Update T)) → AreFrontiers below r.plan r.openings frontiers
+    pub changes_found : {joined met : T → T → T} {cmp : T → T → Ordering} → LatticeLaws below joined met → ExtendsLaws below cmp → IsTotalOrder cmp → (frontiers : List (List T)) (us : List (Update T)) → AreFrontiers below r.plan r.inputs frontiers
         → AreDifferences below cmp r.plan (list_of r.plan r.changes) (open_for below r.plan (list_of r.plan frontiers) v) v us → us ≡ changes_at below r.plan s cmp joined v
     changes_found {joined} {met} {cmp} l x total frontiers us are d =
         let F = open_for below r.plan (list_of r.plan frontiers) v in
@@ -406,5 +407,5 @@ module _ {T : Type 0} {below : T → T → Bool} (o : PartialOrderLaws below) (r
       where
         same : (t : T) → is_beyond below (open_for below r.plan (list_of r.plan frontiers) v) t ≡ is_beyond below (view_frontier below r.plan s v) t
         same t =
-            same_open below r.plan (list_of r.plan frontiers) (λ i. open_at i r.openings) v t (λ i h. are i h t)
-            ∙ sym (same_passed (open_for below r.plan (λ i. open_at i r.openings) v) t refl)
+            same_open below r.plan (list_of r.plan frontiers) (λ i. front_at i r.inputs) v t (λ i h. are i h t)
+            ∙ sym (same_passed (open_for below r.plan (λ i. front_at i r.inputs) v) t refl)

@@ -25,13 +25,13 @@ use Rattle.machine.specs.declared.event.Event.{Event}
 use Rattle.machine.specs.declared.event.Fed.{Fed}
 use Rattle.machine.specs.declared.event.Held.{Held}
 use Rattle.machine.specs.declared.event.Open.{Open}
-use Rattle.machine.specs.Dataflows.{IsDataflow, node_of}
+use Rattle.machine.specs.Dataflows.{Dataflow, IsDataflow, node_of}
 use Rattle.machine.specs.Worlds.{fed_to, open_at, queue, held_at}
 use Rattle.machine.specs.Histories.{world}
 use Rattle.machine.specs.Outstanding.{frontier, input_frontier}
 use Rattle.machine.specs.Promises.{changes_in}
 use Rattle.machine.specs.Readings.{IsQuiet}
-use Rattle.machine.specs.Boards.{Shown, Stands, is_from_start}
+use Rattle.machine.specs.Boards.{Shown, IsBoard, Stands, is_from_start}
 use Rattle.std.proofs.Common.{true}
 use Rattle.std.proofs.lemmas.Bool.{or_left}
 use Rattle.machine.specs.Reads as reads
@@ -61,14 +61,15 @@ one_fault a b c e f = rw (e, f) refl
 
 module _ {T : Type 0} (below : T → T → Bool) (minimum : T) where
   -- a worker that carries on changes nothing for the session
-  pub stands_later : (b c : Shown T) (s : Session T) → GoesOn below minimum b c → StandsAs below minimum b s → StandsAs below minimum c s
-  stands_later b c s goes a =
+  pub stands_later : (b c : Shown T) (s : Session T) → c.dataflow ≡ b.dataflow → GoesOn below minimum b c → StandsAs below minimum b s → StandsAs below minimum c s
+  stands_later b c s same goes a =
       let on = goes a.history a.stands in
       record {
         history = on.0 ++ a.history;
         stands = on.1;
         fed = on.2.fed ∙ a.fed;
-        openings = on.2.openings ∙ a.openings;
+        inputs = λ i. ap (open_at i) on.2.openings ∙ a.inputs i;
+        nodes = a.nodes ∙ ap (λ (p : Dataflow). length p.nodes) (sym same);
         since = λ v. on.2.since v ∙ a.since v;
       }
 
@@ -83,16 +84,16 @@ module _ {T : Type 0} (below : T → T → Bool) (minimum : T) where
       free zero l = idle.hand
       free (suc k) l = absurd (omega (arith, l))
 
-  module _ (o : PartialOrderLaws below) (b : Shown T) (s : Session T) (v : ℕ) (t : T) (p : IsDataflow b.dataflow) (within : v < length b.dataflow.nodes) (idle : IsIdle b) (none : b.in_flight ≡ []) (a : StandsAs below minimum b s) where
+  module _ (o : PartialOrderLaws below) (b : Shown T) (s : Session T) (v : ℕ) (t : T) (board : IsBoard b) (within : v < length b.dataflow.nodes) (idle : IsIdle b) (none : b.in_flight ≡ []) (a : StandsAs below minimum b s) where
     -- the view's frontier is found to be that of the session
     same_front : is_beyond below (front below b v) t ≡ is_beyond below (view_frontier below b.dataflow.nodes s v) t
     same_front =
         let w = world below minimum b.dataflow a.history in
         let quiet = quiet_world b a.history a.stands idle none in
-        let caught = caught_up_lem below o b.dataflow p w v (λ x m. (in_place_lem b.dataflow p below minimum a.history a.stands.legal).inputs x (contains_among x w.openings m)) quiet in
-        front_stands below o minimum b a.history a.stands v t
+        let caught = caught_up_lem below o b.dataflow board.dataflow w v (λ x m. (in_place_lem b.dataflow board.dataflow below minimum a.history a.stands.legal).inputs x (contains_among x w.openings m)) quiet in
+        front_stands below o minimum b board a.history a.stands v t
         ∙ beyond_elements below (frontier below b.dataflow w v) (least below (open_for below b.dataflow.nodes (λ i. open_at i w.openings) v)) caught t
-        ∙ ap (λ (os : List (Open T)). is_beyond below (least below (open_for below b.dataflow.nodes (λ i. open_at i os) v)) t) a.openings
+        ∙ ap (λ (fronts : ℕ → List T). is_beyond below (least below (open_for below b.dataflow.nodes fronts v)) t) (λ j i. a.inputs i j)
 
     -- no time was given up
     all_held : IsTrue (below minimum t) → not (is_beyond below (since_of b v) t) ≡ false
@@ -121,13 +122,13 @@ module _ {T : Type 0} (below : T → T → Bool) (minimum : T) where
         by None own e (inr large) = inr (inr (large.0, found large.1 own))
 
   -- where what is read is too large, so is a weight
-  module _ (o : PartialOrderLaws below) (cmp : T → T → Ordering) (b : Shown T) (s : Session T) (v : ℕ) (p : IsDataflow b.dataflow) (within : v < length b.dataflow.nodes) (view : IsTrue (is_output (node_of b.dataflow v)))
+  module _ (o : PartialOrderLaws below) (cmp : T → T → Ordering) (b : Shown T) (s : Session T) (v : ℕ) (board : IsBoard b) (within : v < length b.dataflow.nodes) (view : IsTrue (is_output (node_of b.dataflow v)))
       (idle : IsIdle b) (a : StandsAs below minimum b s) where
     -- at a passed time what was captured sums to the query of the session
     captured_query : (t : T) → IsTrue (has_passed below (front below b v) t) → Alike (as_of below t (captured_of b v)) (query_at below b.dataflow.nodes (λ i. fed_to i s.fed) v t)
     captured_query t h row =
         (a.stands.captured v within view).sums t (or_left (is_from_start below minimum ((world below minimum b.dataflow a.history).since v)) _ (subst (λ ts. is_from_start below minimum ts ≡ true) (sym (a.since v)) (or_left (below minimum minimum) false (o.reflexive minimum)))) row
-        ∙ (headline_lem below minimum o b.dataflow p a.history a.stands.legal v t (ap not (sym (front_stands below o minimum b a.history a.stands v t)) ∙ h) row
+        ∙ (headline_lem below minimum o b.dataflow board.dataflow a.history a.stands.legal v t (ap not (sym (front_stands below o minimum b board a.history a.stands v t)) ∙ h) row
         ∙ ap (λ (fs : List (Fed T)). count_of (query_at below b.dataflow.nodes (λ i. fed_to i fs) v t) row) a.fed)
 
     linear : (n : ℕ) → IsTrue (is_linear (node_of b.dataflow n))
@@ -136,27 +137,27 @@ module _ {T : Type 0} (below : T → T → Bool) (minimum : T) where
     pub large_read : (t : T) → HasLargeCount (as_of below t (captured_of b v)) → reads.read_refusal below b v t ≡ None → HasLargeWeight below cmp b.dataflow.nodes s
     large_read t (row, large) e =
         let passed = no_first (is_beyond below (front below b v) t) NotPassed ((not (is_beyond below (since_of b v) t), GivenUp) ∷ []) e in
-        large_count o cmp b.dataflow.nodes p.plan linear s v within t (row, λ fits. large (subst (FitsSigned w64) (sym (captured_query t (ap not passed.0) row)) fits))
+        large_count o cmp b.dataflow.nodes board.dataflow.plan linear s v within t (row, λ fits. large (subst (FitsSigned w64) (sym (captured_query t (ap not passed.0) row)) fits))
 
     pub large_changes : HasLargeTotal below (filter (λ u. has_passed below (front below b v) u.time) (captured_of b v)) → HasLargeWeight below cmp b.dataflow.nodes s
     large_changes large =
-        large_listed o cmp b.dataflow.nodes p.plan linear s v within (has_passed below (front below b v)) (λ u t l h. is_passed _ (passed_down below o (front below b v) u t l (not_beyond _ h))) (captured_of b v) captured_query large
+        large_listed o cmp b.dataflow.nodes board.dataflow.plan linear s v within (has_passed below (front below b v)) (λ u t l h. is_passed _ (passed_down below o (front below b v) u t l (not_beyond _ h))) (captured_of b v) captured_query large
 
   -- what is asked of a view at all times
-  module _ (o : PartialOrderLaws below) (b : Shown T) (s : Session T) (v : ℕ) (p : IsDataflow b.dataflow) (within : v < length b.dataflow.nodes) (idle : IsIdle b) (none : b.in_flight ≡ []) (a : StandsAs below minimum b s) where
+  module _ (o : PartialOrderLaws below) (b : Shown T) (s : Session T) (v : ℕ) (board : IsBoard b) (within : v < length b.dataflow.nodes) (idle : IsIdle b) (none : b.in_flight ≡ []) (a : StandsAs below minimum b s) where
     -- the frontier of the history is that of the session
     same_frontier : SameElements (frontier below b.dataflow (world below minimum b.dataflow a.history) v) (view_frontier below b.dataflow.nodes s v)
     same_frontier =
         let w = world below minimum b.dataflow a.history in
         let quiet = quiet_world b a.history a.stands idle none in
-        let caught = caught_up_lem below o b.dataflow p w v (λ x m. (in_place_lem b.dataflow p below minimum a.history a.stands.legal).inputs x (contains_among x w.openings m)) quiet in
-        subst (λ (os : List (Open T)). SameElements (frontier below b.dataflow w v) (least below (open_for below b.dataflow.nodes (λ i. open_at i os) v))) a.openings caught
+        let caught = caught_up_lem below o b.dataflow board.dataflow w v (λ x m. (in_place_lem b.dataflow board.dataflow below minimum a.history a.stands.legal).inputs x (contains_among x w.openings m)) quiet in
+        subst (λ (fronts : ℕ → List T). SameElements (frontier below b.dataflow w v) (least below (open_for below b.dataflow.nodes fronts v))) (λ j i. a.inputs i j) caught
 
     pub frontier_found : {cmp : T → T → Ordering} → IsTotalOrder cmp → ((s t : T) → cmp s t ≡ Equal → s ≡ t) → (F : List T) → IsFrontier below cmp F → SameElements F (front below b v)
         → F ≡ frontier_at below b.dataflow.nodes s cmp v
     frontier_found {cmp} total exact F is same =
         let found = view_frontier below b.dataflow.nodes s v in
-        let next = front_elements below o minimum b a.history a.stands v in
+        let next = front_elements below o minimum b board a.history a.stands v in
         let stood : SameElements F (frontier below b.dataflow (world below minimum b.dataflow a.history) v) = record { into = λ t c. next.into t (same.into t c); back = λ t c. same.back t (next.back t c) } in
         sorted_same total F (in_order cmp found) is.ascending (in_order-sorted cmp total found)
         (λ t h. in_order-has cmp exact found t (among_contains t found (same_frontier.into t (stood.into t (contains_among t F h)))))
@@ -176,7 +177,7 @@ module _ {T : Type 0} (below : T → T → Bool) (minimum : T) where
           sums = λ t h row. d.sums t (subst (λ (test : T → Bool). IsTrue (test t)) (sym tests) h) row ∙ ap (λ (fs : List (Fed T)). count_of (query_at below b.dataflow.nodes (λ i. fed_to i fs) v t) row) a.fed;
         } in
         differences_only o total b.dataflow.nodes (λ i. fed_to i s.fed) G v us (changes_at below b.dataflow.nodes s cmp joined v) own
-        (changes_are o l x total b.dataflow.nodes s.fed p.plan v within G)
+        (changes_are o l x total b.dataflow.nodes s.fed board.dataflow.plan v within G)
 
     -- no time was given up, so nothing refuses that the changes are asked for
     pub nothing_given_up : IsTrue (below minimum minimum) → reads.changes_refusal below minimum b v ≡ None

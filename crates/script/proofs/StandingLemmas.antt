@@ -18,10 +18,12 @@ use Rattle.plan.specs.declared.node.Node.{Node}
 use Rattle.machine.specs.declared.event.Event.{Event}
 use Rattle.machine.specs.declared.event.Event.TheVariants.{Feed, Advance, Look}
 use Rattle.machine.specs.declared.event.Fed.{Fed}
-use Rattle.machine.specs.declared.event.Open.{Open}
 use Rattle.machine.specs.Dataflows.{Dataflow, IsDataflow}
-use Rattle.machine.specs.Histories.{opening, IsInput}
-use Rattle.machine.specs.Worlds.{fed_to, open_at}
+use Rattle.machine.specs.Histories.{IsInput, world}
+use Rattle.machine.specs.Worlds.{fed_to}
+use Rattle.machine.specs.Inputs.{front_at}
+use Rattle.machine.proofs.OpenLemmas.{open_set}
+use Rattle.std.proofs.lemmas.List.{length-set}
 use Rattle.machine.specs.Boards as boards
 use Rattle.machine.specs.Boards.{Shown, Stands, looked, fed, advanced}
 use Rattle.grammar.specs.Commands.{is_input_of}
@@ -40,6 +42,11 @@ answered o A S (Err r) a n e s = by o e
     by (Some x) e = inl (ap Some (sym e), s)
     by None e = inr (inl e)
 
+-- what a fault refuses
+pub refused_by : {A : Type 0} (o : Option Refusal) (r : Result A Refusal) → IfErr r (λ refusal. o ≡ Some refusal) → IfErr r (IsRefusalBy o)
+refused_by o (Ok x) h = h
+refused_by o (Err e) h = subst (λ (q : Option Refusal). IsRefusalBy q e) (sym h) refl
+
 module _ {T : Type 0} (below : T → T → Bool) (minimum : T) where
   -- what each history becomes
   abbrev pub Follows : Shown T → Shown T → Type 0
@@ -48,19 +55,19 @@ module _ {T : Type 0} (below : T → T → Bool) (minimum : T) where
   pub stands_looked : (b c : Shown T) (actor : ℕ) (s : Session T) → c ≡ looked actor b → Follows b c → StandsAs below minimum b s → StandsAs below minimum c s
   stands_looked b c actor s e follows a =
       subst (λ (d : Shown T). Follows b d → StandsAs below minimum d s) (sym e)
-      (λ follows. record { history = Look actor ∷ a.history; stands = follows a.history a.stands; fed = a.fed; openings = a.openings; since = a.since })
+      (λ follows. record { history = Look actor ∷ a.history; stands = follows a.history a.stands; fed = a.fed; inputs = a.inputs; nodes = a.nodes; since = a.since })
       follows
 
   pub stands_fed : (b c : Shown T) (client : ℕ) (f : Fed T) (s : Session T) → c ≡ fed client f b → Follows b c → StandsAs below minimum b s → StandsAs below minimum c (with_change f s)
   stands_fed b c client f s e follows a =
       subst (λ (d : Shown T). Follows b d → StandsAs below minimum d (with_change f s)) (sym e)
-      (λ follows. record { history = Feed client f ∷ a.history; stands = follows a.history a.stands; fed = ap (λ (fs : List (Fed T)). f ∷ fs) a.fed; openings = a.openings; since = a.since })
+      (λ follows. record { history = Feed client f ∷ a.history; stands = follows a.history a.stands; fed = ap (λ (fs : List (Fed T)). f ∷ fs) a.fed; inputs = a.inputs; nodes = a.nodes; since = a.since })
       follows
 
-  pub stands_advanced : (b c : Shown T) (client i : ℕ) (ts : List T) (s : Session T) → c ≡ advanced client i ts b → Follows b c → StandsAs below minimum b s → StandsAs below minimum c (with_frontier i ts s)
-  stands_advanced b c client i ts s e follows a =
+  pub stands_advanced : (b c : Shown T) (client i : ℕ) (ts : List T) (s : Session T) → i < length b.dataflow.nodes → c ≡ advanced client i ts b → Follows b c → StandsAs below minimum b s → StandsAs below minimum c (with_frontier i ts s)
+  stands_advanced b c client i ts s within e follows a =
       subst (λ (d : Shown T). Follows b d → StandsAs below minimum d (with_frontier i ts s)) (sym e)
-      (λ follows. record { history = Advance client i ts ∷ a.history; stands = follows a.history a.stands; fed = a.fed; openings = ap (λ (os : List (Open T)). opening i ts ++ filter (λ o. not (eqb o.input i)) os) a.openings; since = a.since })
+      (λ follows. record { history = Advance client i ts ∷ a.history; stands = follows a.history a.stands; fed = a.fed; inputs = λ j. sym (open_set s.inputs i ts (world below minimum b.dataflow a.history).openings (subst (λ (n : ℕ). i < n) (sym a.nodes) within) (λ k. sym (a.inputs k)) j); nodes = length-set s.inputs i ts ∙ a.nodes; since = a.since })
       follows
 
   -- the board refuses what the session refuses
@@ -72,14 +79,14 @@ module _ {T : Type 0} (below : T → T → Bool) (minimum : T) where
       ∷ (not (nat_lt (taken j) 1048576), InputFull)
       ∷ [])
     where
-      front : open_at f.input b.openings ≡ open_at f.input s.openings
-      front = a.stands.openings f.input ∙ ap (λ (os : List (Open T)). open_at f.input os) a.openings
+      front : front_at f.input b.inputs ≡ front_at f.input s.inputs
+      front = a.stands.openings f.input ∙ a.inputs f.input
 
       taken : get_or b.accepted f.input 0 ≡ length (fed_to f.input s.fed)
       taken = a.stands.accepted f.input within ∙ ap (λ (fs : List (Fed T)). length (fed_to f.input fs)) a.fed
 
   pub same_frontier_refusal : (b : Shown T) (s : Session T) (i : ℕ) (ts : List T) → StandsAs below minimum b s → boards.advance_refusal below b i ts ≡ frontier_refusal below b.dataflow.nodes s i ts
-  same_frontier_refusal b s i ts a = ap (λ (front : List T). first_refusal ((not (all_beyond below front ts), NotForward) ∷ [])) (a.stands.openings i ∙ ap (λ (os : List (Open T)). open_at i os) a.openings)
+  same_frontier_refusal b s i ts a = ap (λ (front : List T). first_refusal ((not (all_beyond below front ts), NotForward) ∷ [])) (a.stands.openings i ∙ a.inputs i)
 
   -- a change is answered as the session does
   pub change_answered : (b c : Shown T) (client : ℕ) (f : Fed T) (s : Session T) (r : Result (Unit {0}) Refusal) → f.input < length b.dataflow.nodes
@@ -93,14 +100,14 @@ module _ {T : Type 0} (below : T → T → Bool) (minimum : T) where
       (on_err_weaker r (λ e. stands_looked b c client s e follows a) looks))
 
   -- and so is a frontier
-  pub frontier_answered : (b c : Shown T) (client i : ℕ) (ts : List T) (s : Session T) (r : Result (Unit {0}) Refusal)
-      → OnOk r (c ≡ advanced client i ts b) → OnOk r (boards.advance_refusal below b i ts ≡ None) → IfErr r (IsRefusalBy (boards.advance_refusal below b i ts)) → OnErr r (c ≡ looked client b)
+  pub frontier_answered : (b c : Shown T) (client i : ℕ) (ts : List T) (s : Session T) (r : Result (Unit {0}) Refusal) → i < length b.dataflow.nodes
+      → OnOk r (c ≡ advanced client i ts b) → OnOk r (boards.advance_refusal below b i ts ≡ None) → IfErr r (λ refusal. boards.advance_refusal below b i ts ≡ Some refusal) → OnErr r (c ≡ looked client b)
       → Follows b c → StandsAs below minimum b s
       → IsAnswer ⊥ (frontier_refusal below b.dataflow.nodes s i ts) (λ _. StandsAs below minimum c (with_frontier i ts s)) (StandsAs below minimum c s) r
-  frontier_answered b c client i ts s r done accepted refused looks follows a =
+  frontier_answered b c client i ts s r within done accepted refused looks follows a =
       subst (λ (o : Option Refusal). IsAnswer ⊥ o (λ _. StandsAs below minimum c (with_frontier i ts s)) (StandsAs below minimum c s) r) (same_frontier_refusal b s i ts a)
       (answered (boards.advance_refusal below b i ts) (StandsAs below minimum c (with_frontier i ts s)) (StandsAs below minimum c s) r
-      (on_ok_weaker r (λ e. stands_advanced b c client i ts s e follows a) done) accepted refused
+      (on_ok_weaker r (λ e. stands_advanced b c client i ts s within e follows a) done) accepted (refused_by (boards.advance_refusal below b i ts) r refused)
       (on_err_weaker r (λ e. stands_looked b c client s e follows a) looks))
 
 -- an input of a plan, as the board asks for it

@@ -1,7 +1,6 @@
 -- A session by definition: which changes were accepted, and where the inputs' frontiers stand. It knows neither workers nor
 -- differences.
-use Rattle.std.specs.Prelude.{ℕ, Bool, not, List, [], ◌∷◌, ◌++◌, length, map, eqb, Option}
-use Rattle.std.specs.List.{filter, flat_map}
+use Rattle.std.specs.Prelude.{ℕ, Bool, not, List, [], ◌∷◌, length, map, set, Option}
 use Rattle.std.specs.declared.cmp.Ordering.{Ordering}
 use Rattle.lattice.specs.Frontiers.{is_beyond}
 use Rattle.antichain.specs.Antichains.{least}
@@ -9,16 +8,12 @@ use Rattle.update.specs.Bags.{Entry}
 use Rattle.update.specs.declared.change.Update.{Update}
 use Rattle.update.specs.declared.refusal.Refusal.{Refusal}
 use Rattle.update.specs.declared.refusal.Refusal.TheVariants.{NotPassed}
-use Rattle.plan.specs.Ancestors.{is_input}
 use Rattle.plan.specs.Changes.{query_at, open_for}
-use Rattle.plan.specs.Edges.{numbers_where}
 use Rattle.plan.specs.Rules.{first_refusal}
 use Rattle.plan.specs.declared.node.Node.{Node}
 use Rattle.machine.specs.declared.event.Fed.{Fed}
-use Rattle.machine.specs.declared.event.Open.{Open}
-use Rattle.machine.specs.Worlds.{fed_to, open_at}
-use Rattle.machine.specs.Histories.{opening}
-use Rattle.machine.specs.Boards.{feed_faults, advance_faults}
+use Rattle.machine.specs.Worlds.{fed_to}
+use Rattle.machine.specs.Inputs.{front_at, first_inputs, feed_faults, advance_faults}
 use Rattle.script.specs.Bags.{bag_of}
 use Rattle.script.specs.Changes.{changes_along}
 use Rattle.script.specs.Orders.{in_order}
@@ -26,34 +21,34 @@ use Rattle.script.specs.Orders.{in_order}
 pub record Session (T : Type 0) : Type 0 where
   -- the changes that were accepted, the newest first
   pub fed : List (Fed T)
-  -- the elements of the inputs' frontiers
-  pub openings : List (Open T)
+  -- by node, the frontier of an input
+  pub inputs : List (List T)
 
 module _ {T : Type 0} where
   -- before the first command nothing was accepted, and each input's frontier is the least time
   abbrev pub first_session : T → List Node → Session T
-  first_session minimum p = record { fed = []; openings = flat_map (λ i. opening i (minimum ∷ [])) (numbers_where is_input p) }
+  first_session minimum p = record { fed = []; inputs = first_inputs minimum p }
 
   -- a change is accepted
   abbrev pub with_change : Fed T → Session T → Session T
-  with_change f s = record { fed = f ∷ s.fed; openings = s.openings }
+  with_change f s = record { fed = f ∷ s.fed; inputs = s.inputs }
 
   -- an input's frontier moves on; with no time the input is closed
   abbrev pub with_frontier : ℕ → List T → Session T → Session T
-  with_frontier i ts s = record { fed = s.fed; openings = opening i ts ++ filter (λ o. not (eqb o.input i)) s.openings }
+  with_frontier i ts s = record { fed = s.fed; inputs = set s.inputs i ts }
 
 module _ {T : Type 0} (below : T → T → Bool) (p : List Node) (s : Session T) where
   -- what refuses a change
   abbrev pub change_refusal : Fed T → Option Refusal
-  change_refusal f = first_refusal (feed_faults below p s.openings (length (fed_to f.input s.fed)) f)
+  change_refusal f = first_refusal (feed_faults below p (front_at f.input s.inputs) (length (fed_to f.input s.fed)) f)
 
   -- what refuses an input's frontier: each of its times must be beyond the old one
   abbrev pub frontier_refusal : ℕ → List T → Option Refusal
-  frontier_refusal i ts = first_refusal (advance_faults below s.openings i ts)
+  frontier_refusal i ts = first_refusal (advance_faults below (front_at i s.inputs) ts)
 
   -- the frontier of a view: the least of those of all inputs that feed it
   abbrev pub view_frontier : ℕ → List T
-  view_frontier v = least below (open_for below p (λ i. open_at i s.openings) v)
+  view_frontier v = least below (open_for below p (λ i. front_at i s.inputs) v)
 
   -- what refuses a reading: the view may still change at the time
   abbrev pub read_refusal : ℕ → T → Option Refusal

@@ -1,9 +1,11 @@
 -- Which board stands for which session.
-use Rattle.std.specs.Prelude.{◌≡◌, ℕ, Bool, List, [], ◌∷◌, Option, Some, None, IsTrue}
+use Rattle.std.specs.Prelude.{◌≡◌, ℕ, Bool, List, [], ◌∷◌, length, Option, Some, None, IsTrue}
 use Rattle.update.specs.declared.refusal.Refusal.{Refusal}
 use Rattle.update.specs.declared.refusal.Refusal.TheVariants.{OutOfMemory}
 use Rattle.machine.specs.declared.event.Event.{Event}
 use Rattle.machine.specs.Histories.{world}
+use Rattle.machine.specs.Inputs.{front_at}
+use Rattle.machine.specs.Worlds.{open_at}
 use Rattle.machine.specs.Boards.{Shown, Stands}
 use Rattle.script.specs.Relays.{IsIdle, are_due}
 use Rattle.script.specs.Sessions.{Session}
@@ -21,5 +23,6 @@ module _ {T : Type 0} (below : T → T → Bool) (minimum : T) where
     pub history : List (Event T)
     pub stands : Stands below minimum b history
     pub fed : (world below minimum b.dataflow history).fed ≡ s.fed
-    pub openings : (world below minimum b.dataflow history).openings ≡ s.openings
+    pub inputs : (i : ℕ) → open_at i (world below minimum b.dataflow history).openings ≡ front_at i s.inputs
+    pub nodes : length s.inputs ≡ length b.dataflow.nodes
     pub since : (view : ℕ) → (world below minimum b.dataflow history).since view ≡ minimum ∷ []

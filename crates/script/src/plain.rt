@@ -6,7 +6,7 @@
 //! the order of the inputs, and the rows in it have the input's width. Nothing that was computed is kept, so there is nothing
 //! that could be out of date: this engine is slow, and right for plain reasons. What a command is refused for is asked where
 //! a board asks it (crate `machine`), so that both refuse alike.
-ghost use Rattle.std.specs.Prelude.{◌≡◌, ◌<◌, ◌++◌, ℕ, List, [], ◌∷◌, None, length, map, replicate, set, slice_index_or, IfErr, IfOk, IsTrue, OnErr, OnOk};
+ghost use Rattle.std.specs.Prelude.{◌≡◌, ◌<◌, ◌++◌, ℕ, List, [], ◌∷◌, None, Some, length, map, replicate, set, slice_index_or, IfErr, IfOk, IsTrue, OnErr, OnOk};
 ghost use Rattle.std.specs.List.{All};
 ghost use Rattle.lattice.specs.declared.product.Pair.{Pair};
 ghost use Rattle.lattice.specs.Frontiers.{is_beyond};
@@ -14,14 +14,14 @@ ghost use Rattle.update.specs.declared.refusal.Refusal.TheVariants.{OutOfMemory}
 ghost use Rattle.plan.specs.Changes.{open_for};
 ghost use Rattle.plan.specs.Operators.{is_linear};
 ghost use Rattle.plan.specs.Rules.{IsRefusalBy};
-ghost use Rattle.machine.specs.Worlds.{open_at};
+ghost use Rattle.machine.specs.Inputs.{front_at};
 ghost use Rattle.grammar.specs.Commands.{is_input_of, is_view_of};
 ghost use Rattle.oracle.specs.Evaluation.{inputs_before};
 ghost use Rattle.script.specs.Ends.{IsTextBeforeOverflow};
 ghost use Rattle.script.specs.Engines.{IsAnswer, IsRunEnd, failures};
 ghost use Rattle.script.specs.declared.fault.RunFault.TheVariants.{Refused};
 ghost use Rattle.script.specs.Outs.{IsBeginning};
-ghost use Rattle.script.specs.PlainStanding.{IsRegister, Records, AreFrontiers, with_entry, with_openings, entry_refusal, openings_refusal};
+ghost use Rattle.script.specs.PlainStanding.{IsRegister, Records, AreFrontiers, with_entry, with_input, entry_refusal, input_refusal};
 ghost use Rattle.script.specs.Sessions.{read_refusal, rows_at, changes_at, frontier_at};
 ghost use Rattle.script.specs.Text.{Sitting, at_or_below, in_print, join_of, first_sitting, text};
 ghost use Rattle.script.specs.Weights.{IsLarge, IsLargeScript};
@@ -33,21 +33,21 @@ use crate::running::run;
 use antichain::{Antichain, is_beyond};
 use grammar::Script;
 use lattice::Bitime;
-use machine::{Open, Times, Updates, advance_refusal, feed_refusal, first_openings, openings_with};
+use machine::{InputFrontiers, Times, Updates};
 use oracle::{differences, evaluate};
 use plan::{NodeId, Plan};
 use std::alloc::Global;
 use std::marker::Model;
 use update::{Bag, Refusal, Update};
 
-/// All that was accepted, and nothing that follows from it. A contract sees the plan, the changes and the openings.
+/// All that was accepted, and nothing that follows from it. A contract sees the plan, the changes and the inputs' frontiers.
 #[derive(Drop)]
 pub(crate) struct Plain {
     plan: Plan,
     // The changes of each input, the oldest first, in the order of the inputs' numbers.
     changes: Vec<Vec<Update<Bitime>>>,
-    // The elements of the inputs' frontiers.
-    openings: Vec<Open<Bitime>>,
+    // Where the inputs stand.
+    inputs: InputFrontiers<Bitime>,
 }
 
 impl Model for Plain {
@@ -57,9 +57,9 @@ impl Model for Plain {
 
     ghost Value = { Register (Pair ℕ ℕ) };
 
-    ghost view = { λ plain. record { plan = plain.plan; changes = map (λ v. v.items) plain.changes.items; openings = plain.openings.items } };
+    ghost view = { λ plain. record { plan = plain.plan; changes = map (λ v. v.items) plain.changes.items; inputs = plain.inputs } };
 
-    ghost invariant = { λ plain. IsRegister (record { plan = plain.plan; changes = map (λ v. v.items) plain.changes.items; openings = plain.openings.items }) };
+    ghost invariant = { λ plain. IsRegister (record { plan = plain.plan; changes = map (λ v. v.items) plain.changes.items; inputs = plain.inputs }) };
 }
 
 // How many inputs have smaller numbers: the place of an input's list.
@@ -103,71 +103,43 @@ fn push_change(
     Ok(())
 }
 
-// Adds the elements of an input's frontier.
-fn push_open(
-    times: &mut Vec<Bitime>,
-    openings: &[Open<Bitime>],
-    input: NodeId,
-) -> Result<(), Refusal>
-    ensures pushed { OnOk result (times.new.items ≡ times.old.items ++ open_at input openings.now) }
-    ensures refused { IfErr result (λ refusal. refusal ≡ OutOfMemory) }
-{
-    for open in openings {
-        if open.input == input {
-            times.push(open.time)?;
-        }
-    }
-    Ok(())
-}
-
 // What is open for a view: the elements of the frontiers of all inputs that feed it.
 fn open_for(
     alloc: Global,
     plan: &Plan,
-    openings: &[Open<Bitime>],
+    inputs: &InputFrontiers<Bitime>,
     view: NodeId,
 ) -> Result<Vec<Bitime>, Refusal>
-    requires { view < length plan.now }
-    ensures open { IfOk result (λ times. times.items ≡ open_for at_or_below plan.now (λ i. open_at i openings.now) view) }
+    requires view { view < length plan.now }
+    requires inputs { length inputs.now ≡ length plan.now }
+    ensures open { IfOk result (λ times. times.items ≡ open_for at_or_below plan.now (λ i. front_at i inputs.now) view) }
     ensures refused { IfErr result (λ refusal. refusal ≡ OutOfMemory) }
 {
     let mut times = Vec::new(alloc);
     for n in 0..plan.len() {
         let input = NodeId::new(n);
         if plan.node(input).is_input() && plan.is_above(input, view) {
-            push_open(&mut times, openings, input)?;
+            times.extend_from_slice(inputs.of(input))?;
         }
     }
     Ok(times)
-}
-
-// The frontier of an input.
-fn frontier_of(
-    alloc: Global,
-    openings: &[Open<Bitime>],
-    input: NodeId,
-) -> Result<Antichain<Bitime>, Refusal>
-    ensures beyond { IfOk result (λ frontier. (t : Pair ℕ ℕ) → is_beyond at_or_below frontier t ≡ is_beyond at_or_below (open_at input openings.now) t) }
-    ensures refused { IfErr result (λ refusal. refusal ≡ OutOfMemory) }
-{
-    let mut times = Vec::new(alloc);
-    push_open(&mut times, openings, input)?;
-    Ok(Antichain::least_of(alloc, &times)?)
 }
 
 // The frontier of each input, in the order of the inputs' numbers.
 fn frontiers(
     alloc: Global,
     plan: &Plan,
-    openings: &[Open<Bitime>],
+    inputs: &InputFrontiers<Bitime>,
 ) -> Result<Vec<Antichain<Bitime>>, Refusal>
-    ensures frontiers { IfOk result (λ all. AreFrontiers at_or_below plan.now openings.now all.items) }
+    requires { length inputs.now ≡ length plan.now }
+    ensures frontiers { IfOk result (λ all. AreFrontiers at_or_below plan.now inputs.now all.items) }
     ensures refused { IfErr result (λ refusal. refusal ≡ OutOfMemory) }
 {
     let mut all = Vec::new(alloc);
     for n in 0..plan.len() {
         if plan.node(NodeId::new(n)).is_input() {
-            all.push(frontier_of(alloc, openings, NodeId::new(n))?)?;
+            let frontier = Antichain::least_of(alloc, inputs.of(NodeId::new(n)))?;
+            all.push(frontier)?;
         }
     }
     Ok(all)
@@ -182,13 +154,12 @@ impl Plain {
         ensures refused { IfErr result (λ refusal. refusal ≡ OutOfMemory) }
     {
         let plan = plan.clone()?;
-        let inputs = plan.inputs(alloc)?;
-        let openings = first_openings(alloc, &inputs)?;
-        let changes = no_changes(alloc, inputs.len())?;
+        let inputs = InputFrontiers::first(alloc, &plan)?;
+        let changes = no_changes(alloc, plan.inputs(alloc)?.len())?;
         Ok(Plain {
             plan,
             changes,
-            openings,
+            inputs,
         })
     }
 
@@ -203,34 +174,21 @@ impl Plain {
     {
         let place = place_of(&self.plan, input);
         let taken = self.changes[place].len();
-        match feed_refusal(&self.plan, &self.openings, taken, input, &update) {
+        match self.inputs.feed_refusal(&self.plan, taken, input, &update) {
             Some(refusal) => Err(refusal),
             None => push_change(&mut self.changes, place, update),
         }
     }
 
     // Takes a frontier, or refuses it as a board does.
-    fn take_frontier(&mut self, input: NodeId, times: &[Bitime]) -> Result<(), Refusal>
-        ensures taken { OnOk result (self.new ≡ with_openings input times.now self.old) }
-        ensures accepted { OnOk result (openings_refusal at_or_below self.old input times.now ≡ None) }
-        ensures refused { IfErr result (λ refusal. IsRefusalBy (openings_refusal at_or_below self.old input times.now) refusal) }
+    fn take_frontier(&mut self, input: NodeId, times: Times<Bitime>) -> Result<(), Refusal>
+        requires { IsTrue (is_input_of self.old.plan input) }
+        ensures taken { OnOk result (self.new ≡ with_input input times self.old) }
+        ensures accepted { OnOk result (input_refusal at_or_below self.old input times ≡ None) }
+        ensures refused { IfErr result (λ refusal. input_refusal at_or_below self.old input times ≡ Some refusal) }
         ensures unchanged { OnErr result (self.new ≡ self.old) }
     {
-        match advance_refusal(&self.openings, input, times) {
-            Some(refusal) => Err(refusal),
-            None => self.stand_at(input, times),
-        }
-    }
-
-    // From now on an input's frontier has these times.
-    fn stand_at(&mut self, input: NodeId, times: &[Bitime]) -> Result<(), Refusal>
-        ensures taken { OnOk result (self.new ≡ with_openings input times.now self.old) }
-        ensures refused { IfErr result (λ refusal. refusal ≡ OutOfMemory) }
-        ensures unchanged { OnErr result (self.new ≡ self.old) }
-    {
-        let alloc = *self.openings.allocator();
-        self.openings = openings_with(alloc, &self.openings, input, times)?;
-        Ok(())
+        self.inputs.advance(input, times)
     }
 
     // The rows of a view at a time.
@@ -240,7 +198,7 @@ impl Plain {
             → IsAnswer (IsLarge self.now.plan s) (read_refusal at_or_below self.now.plan s view time) (λ bag. (bag ≡ rows_at at_or_below self.now.plan s view time) × Records self.now s) (Records self.now s) result }
     {
         let _count = self.plan.len();
-        let open = open_for(alloc, &self.plan, &self.openings, view)?;
+        let open = open_for(alloc, &self.plan, &self.inputs, view)?;
         if is_beyond(&open, &time) {
             return Err(Refusal::NotPassed);
         }
@@ -254,7 +212,7 @@ impl Plain {
             → IsAnswer (IsLarge self.now.plan s) None (λ changes. (changes ≡ changes_at at_or_below self.now.plan s in_print join_of view) × Records self.now s) (Records self.now s) result }
     {
         let _count = self.plan.len();
-        let frontiers = frontiers(alloc, &self.plan, &self.openings)?;
+        let frontiers = frontiers(alloc, &self.plan, &self.inputs)?;
         let changes = differences(alloc, &self.plan, view, &self.changes, &frontiers)?;
         Ok(Updates::from(changes))
     }
@@ -265,7 +223,7 @@ impl Plain {
         ensures answered { (s : Sitting) → Records self.now s
             → IsAnswer ⊥ None (λ frontier. (frontier ≡ frontier_at at_or_below self.now.plan s in_print view) × Records self.now s) (Records self.now s) result }
     {
-        let open = open_for(alloc, &self.plan, &self.openings, view)?;
+        let open = open_for(alloc, &self.plan, &self.inputs, view)?;
         let frontier = Antichain::least_of(alloc, &open)?;
         // What its elements promise is known from here on: they are in order.
         let _elements = frontier.elements();
@@ -290,7 +248,7 @@ impl Engine for Plain {
     }
 
     fn advance(&mut self, input: NodeId, times: Times<Bitime>) -> Result<(), Refusal> {
-        self.take_frontier(input, times.as_slice())
+        self.take_frontier(input, times)
     }
 
     fn read(&mut self, alloc: Global, view: NodeId, time: Bitime) -> Result<Bag, Refusal> {

@@ -1,13 +1,18 @@
-use Rattle.std.proofs.Common.{◌&&◌}
+use Rattle.std.proofs.Common.{◌≡◌, ◌&&◌, true, ap, sym, subst, ◌∙◌, ◌<◌, length}
+use Rattle.lattice.specs.Frontiers.{is_beyond}
 use Rattle.plan.specs.Ancestors.{is_above}
-use Rattle.machine.specs.declared.event.Open.{Open}
-use Rattle.machine.proofs.FoundLemmas.{found, both_pass}
+use Rattle.machine.specs.Inputs.{front_at}
+use Rattle.machine.proofs.FoundLemmas.{both_pass}
+use Rattle.machine.proofs.OpenLemmas.{any_below}
 use Rattle.machine.proofs.fronts.are_open.Goals as goal
 
-pub returns-then-less_equal : goal.returns-then-less_equal
-returns-then-less_equal g c =
-    let i = c.loop-open in
-    let x = c.open-item.result in
+pub returns-then-is_open : goal.returns-then-is_open
+returns-then-is_open g c =
     let below = g.T.PartialOrder.below in
-    found (λ (m : Open g.row.T.Denot). is_above c.args.plan.now m.input c.args.node && below m.time c.args.t.now) c.args.openings.now i.open-index x c.loop-open-test.true c.open-item.is i.invariant
-    (both_pass (is_above c.args.plan.now x.input c.args.node) (below x.time c.args.t.now) c.is_above.result c.less_equal.result c.is_above.ensures c.if-is_above.true c.less_equal.ensures c.if-less_equal.true)
+    let p = c.args.plan.now in
+    let inputs = c.args.inputs.now in
+    let n = c.loop-n.n in
+    sym
+    (any_below (λ i. is_above p i c.args.node && is_beyond below (front_at i inputs) c.args.t.now) n (length p) (subst (λ k. n < k) c.len-n-end.ensures.len c.loop-n-test.true)
+    (both_pass (is_above p n c.args.node) (is_beyond below (front_at n inputs) c.args.t.now) c.is_above.result c.is_open.result (c.is_above.ensures ∙ ap (λ i. is_above p i c.args.node) c.new-input.ensures) c.if-is_above.true
+    (c.is_open.ensures ∙ ap (λ i. is_beyond below (front_at i inputs) c.args.t.now) c.new-input.ensures) c.if-is_open.true))

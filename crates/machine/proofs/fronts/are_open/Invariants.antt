@@ -1,9 +1,10 @@
-use Rattle.std.proofs.Common.{◌≡◌, ◌&&◌, drop}
+use Rattle.std.proofs.Common.{◌≡◌, ◌&&◌, false}
 use Rattle.std.specs.List.{list_any}
-use Rattle.plan.specs.Ancestors.{is_above}
+use Rattle.lattice.specs.Frontiers.{is_beyond}
+use Rattle.plan.specs.Ancestors.{is_above, numbers_below}
+use Rattle.machine.specs.Inputs.{front_at}
 use Rattle.machine.proofs.fronts.are_open.Given as goal
 
-abbrev pub invariant-loop-open : goal.invariant-loop-open
-invariant-loop-open g l =
-    let below = g.T.PartialOrder.below in
-    list_any (λ o. is_above l.plan o.input l.node && below o.time l.t) (drop l.open-index l.openings) ≡ list_any (λ o. is_above l.plan o.input l.node && below o.time l.t) l.openings
+-- none of the nodes so far
+abbrev pub invariant-loop-n : goal.invariant-loop-n
+invariant-loop-n g l = list_any (λ i. is_above l.plan i l.node && is_beyond g.T.PartialOrder.below (front_at i l.inputs) l.t) (numbers_below l.n) ≡ false

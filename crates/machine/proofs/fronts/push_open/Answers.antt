@@ -1,22 +1,24 @@
-use Rattle.std.proofs.Common.{◌∷◌, [], ◌∙◌, sym}
+use Rattle.std.proofs.Common.{◌≡◌, ℕ, List, ◌++◌, cond, [], ap, sym, ◌∙◌}
 use Rattle.plan.specs.Ancestors.{is_above}
-use Rattle.machine.specs.declared.event.Open.{Open}
-use Rattle.machine.specs.Outstanding.{open_where}
-use Rattle.machine.proofs.PutLemmas.{put_if, put_else, put_all}
+use Rattle.std.proofs.lemmas.List.{append-nil}
+use Rattle.machine.specs.Inputs.{front_at}
+use Rattle.machine.proofs.OpenLemmas.{give_next}
 use Rattle.machine.proofs.fronts.push_open.Goals as goal
-use Rattle.machine.proofs.fronts.push_open.Goals.{then-is_above+in_ok-push, else-is_above}
+use Rattle.machine.proofs.fronts.push_open.Goals.{then-is_above+in_ok-extend_from_slice, else-is_above}
 
-pub loop-open-preserved : goal.loop-open-preserved
-loop-open-preserved g c =
-    let i = c.loop-open in
-    let test = λ (m : Open g.row.T.Denot). is_above c.args.plan.now m.input c.args.node in
-    let image = λ (m : Open g.row.T.Denot). m.time ∷ [] in
+pub loop-n-preserved : goal.loop-n-preserved
+loop-n-preserved g c =
+    let p = c.args.plan.now in
+    let inputs = c.args.inputs.now in
+    let old = c.args.all.now.items in
+    let n = c.loop-n.n in
+    let here : c.is_above.result ≡ is_above p n c.args.node = c.is_above.ensures ∙ ap (λ i. is_above p i c.args.node) c.new-input.ensures in
+    let all : ℕ → List g.row.T.Denot = λ i. cond (is_above p i c.args.node) (front_at i inputs) [] in
     elim c.if-is_above.branch [
-      | then-is_above+in_ok-push w ↦ put_if test image c.args.all.now.items i.all.items c.if-is_above.all.items c.args.openings.now i.open-index c.open-item.result c.loop-open-test.true c.open-item.is w.push.new.self.items (sym c.is_above.ensures ∙ w.if-is_above.true) i.invariant w.in_ok-push.ensures.items (λ j. (w.all-is j).items)
-      | else-is_above w ↦ put_else test image c.args.all.now.items i.all.items c.if-is_above.all.items c.args.openings.now i.open-index c.open-item.result c.loop-open-test.true c.open-item.is (sym c.is_above.ensures ∙ w.if-is_above.false) i.invariant (λ j. (w.all-is j).items)
+      | then-is_above+in_ok-extend_from_slice w ↦
+          give_next all old c.loop-n.all.items c.if-is_above.all.items n c.loop-n.invariant
+          ((λ j. (w.all-is j).items) ∙ (w.in_ok-extend_from_slice.ensures.items ∙ (ap (λ ts. c.loop-n.all.items ++ ts) (w.of.ensures ∙ ap (λ i. front_at i inputs) c.new-input.ensures) ∙ ap (λ b. c.loop-n.all.items ++ cond b (front_at n inputs) []) (sym w.if-is_above.true ∙ here))))
+      | else-is_above w ↦
+          give_next all old c.loop-n.all.items c.if-is_above.all.items n c.loop-n.invariant
+          ((λ j. (w.all-is j).items) ∙ (sym (append-nil c.loop-n.all.items) ∙ ap (λ b. c.loop-n.all.items ++ cond b (front_at n inputs) []) (sym w.if-is_above.false ∙ here)))
     ]
-
-pub returns-clause-more : goal.returns-clause-more
-returns-clause-more g c =
-    let i = c.loop-open in
-    put_all (open_where (λ m. is_above c.args.plan.now m c.args.node)) c.args.all.now.items i.all.items c.args.openings.now i.open-index c.loop-open-test.false i.invariant

@@ -4,4 +4,4 @@ use Rattle.script.proofs.plain.frontiers.Given as goal
 
 -- the frontiers of the inputs so far
 abbrev pub invariant-loop-n : goal.invariant-loop-n
-invariant-loop-n l = AreSome at_or_below l.plan l.openings l.n l.all.items
+invariant-loop-n l = AreSome at_or_below l.plan l.inputs l.n l.all.items

@@ -9,5 +9,5 @@ returns-clause-beyond g c = on_ok c.least_of.result _ _ (λ found. beyond_found 
 
 pub returns-clause-stands : goal.returns-clause-stands
 returns-clause-stands g c h s =
-    let next = front_elements _ g.met.T.PartialOrder.order _ c.args.self.now h s c.args.node in
+    let next = front_elements _ g.met.T.PartialOrder.order _ c.args.self.now c.outstanding.ensures.board h s c.args.node in
     on_ok c.least_of.result _ _ (λ found same. record { into = λ t a. next.into t (same.into t a); back = λ t a. same.back t (next.back t a) }) (returns-clause-least g c)

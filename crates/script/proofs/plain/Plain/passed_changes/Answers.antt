@@ -25,20 +25,20 @@ returns c = record {
       let p = c.self.inside.plan in
       let v = c.args.view in
       let items = λ (v : Vec (Update (Pair ℕ ℕ)) Global). v.items in
-      let r : Register (Pair ℕ ℕ) = record { plan = c.self.inside.plan; changes = map items c.self.inside.changes.items; openings = c.self.inside.openings.items } in
+      let r : Register (Pair ℕ ℕ) = record { plan = c.self.inside.plan; changes = map items c.self.inside.changes.items; inputs = c.self.inside.inputs } in
       let own : Records r s = subst (λ (r : Register (Pair ℕ ℕ)). Records r s) (sym c.self.view_is) a in
       let there = subst (λ (r : Register (Pair ℕ ℕ)). IsTrue (is_view_of r.plan v)) (sym c.self.view_is) c.requires in
       let within : v < length p = ltb-true v (length p) (and_parts _ _ there).0 in
       let total = then_total (on_total (λ (t : Pair ℕ ℕ). t.first) nat_cmp_total) (on_total (λ (t : Pair ℕ ℕ). t.second) nat_cmp_total) in
       let listed = c.in_ok-changes.changes.items in
-      let are : AreFrontiers at_or_below p c.self.inside.openings.items c.deref-3.result.now =
-      subst (λ (fs : List (List (Pair ℕ ℕ))). AreFrontiers at_or_below p c.self.inside.openings.items fs) (sym c.deref-3.ensures.value)
-      (subst (λ (os : List (Open (Pair ℕ ℕ))). AreFrontiers at_or_below p os c.in_ok-frontiers.frontiers.items) c.deref.ensures.value c.in_ok-frontiers.ensures.frontiers) in
-      let d = subst (λ (ls : List (Vec (Update (Pair ℕ ℕ)) Global)). AreDifferences at_or_below in_print p (list_of p (map items ls)) (open_for at_or_below p (list_of p c.deref-3.result.now) v) v listed) c.deref-2.ensures.value c.in_ok-changes.ensures.differences in (
+      let are : AreFrontiers at_or_below p c.self.inside.inputs c.deref-2.result.now =
+      subst (λ (fs : List (List (Pair ℕ ℕ))). AreFrontiers at_or_below p c.self.inside.inputs fs) (sym c.deref-2.ensures.value)
+      c.in_ok-frontiers.ensures.frontiers in
+      let d = subst (λ (ls : List (Vec (Update (Pair ℕ ℕ)) Global)). AreDifferences at_or_below in_print p (list_of p (map items ls)) (open_for at_or_below p (list_of p c.deref-2.result.now) v) v listed) c.deref.ensures.value c.in_ok-changes.ensures.differences in (
         refl,
         (
           c.from.ensures
-              ∙ (changes_found (pair_order nat_order nat_order) r s own v c.len-count.ensures.plan within (pair_bounds nat_bounds nat_bounds) (pair_extends nat_extends nat_extends) total c.deref-3.result.now listed are d
+              ∙ (changes_found (pair_order nat_order nat_order) r s own v c.len-count.ensures.plan within (pair_bounds nat_bounds nat_bounds) (pair_extends nat_extends nat_extends) total c.deref-2.result.now listed are d
               ∙ ap (λ (r : Register (Pair ℕ ℕ)). changes_at at_or_below r.plan s in_print join_of v) c.self.view_is),
           a,
         ),
@@ -51,7 +51,7 @@ returns-in_err-changes c = record {
       let p = c.self.inside.plan in
       let v = c.args.view in
       let items = λ (v : Vec (Update (Pair ℕ ℕ)) Global). v.items in
-      let r : Register (Pair ℕ ℕ) = record { plan = c.self.inside.plan; changes = map items c.self.inside.changes.items; openings = c.self.inside.openings.items } in
+      let r : Register (Pair ℕ ℕ) = record { plan = c.self.inside.plan; changes = map items c.self.inside.changes.items; inputs = c.self.inside.inputs } in
       let own : Records r s = subst (λ (r : Register (Pair ℕ ℕ)). Records r s) (sym c.self.view_is) a in
       let there = subst (λ (r : Register (Pair ℕ ℕ)). IsTrue (is_view_of r.plan v)) (sym c.self.view_is) c.requires in
       let within : v < length p = ltb-true v (length p) (and_parts _ _ there).0 in
@@ -60,7 +60,7 @@ returns-in_err-changes c = record {
       rw (is.1, is.2)
       (inr (refusal_weaker
       (λ large. subst (λ (r : Register (Pair ℕ ℕ)). IsLarge r.plan s) c.self.view_is
-      (large_changes o r s own v c.len-count.ensures.plan within in_print c.self.invariant.linear (open_for at_or_below p (list_of p c.deref-3.result.now) v)
-      (subst (λ (ls : List (Vec (Update (Pair ℕ ℕ)) Global)). HasLargeDifference at_or_below p (map items ls) (open_for at_or_below p (list_of p c.deref-3.result.now) v) v) c.deref-2.ensures.value large)))
+      (large_changes o r s own v c.len-count.ensures.plan within in_print c.self.invariant.linear (open_for at_or_below p (list_of p c.deref-2.result.now) v)
+      (subst (λ (ls : List (Vec (Update (Pair ℕ ℕ)) Global)). HasLargeDifference at_or_below p (map items ls) (open_for at_or_below p (list_of p c.deref-2.result.now) v) v) c.deref.ensures.value large)))
       _ c.in_err-changes.ensures.refused));
 }

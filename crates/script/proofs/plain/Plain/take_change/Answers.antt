@@ -24,11 +24,11 @@ pub returns-in-Some-clause-refused : goal.returns-in-Some-clause-refused
 returns-in-Some-clause-refused c =
     let f : Fed (Pair ℕ ℕ) = record { input = c.args.input; update = c.args.update } in
     let items = λ (v : Vec (Update (Pair ℕ ℕ)) Global). v.items in
-    let r : Register (Pair ℕ ℕ) = record { plan = c.self.inside.plan; changes = map items c.self.inside.changes.items; openings = c.self.inside.openings.items } in
+    let r : Register (Pair ℕ ℕ) = record { plan = c.self.inside.plan; changes = map items c.self.inside.changes.items; inputs = c.self.inside.inputs } in
     let there = subst (λ (r : Register (Pair ℕ ℕ)). IsTrue (is_input_of r.plan c.args.input)) (sym c.self.view_is) c.requires in
     let within = in_lists items c.self.inside.changes.items c.self.inside.plan c.args.input c.place_of-place.result there c.self.invariant.lists c.place_of-place.ensures in
     let taken = taken_is items c.self.inside.changes.items c.self.inside.plan c.args.input c.place_of-place.result c.len-taken.result c.index.result.now within c.place_of-place.ensures c.index.ensures (c.len-taken.ensures ∙ c.index.result.now.ok.0) in
-    let same = same_faults at_or_below r f c.deref.result.now c.len-taken.result c.deref.ensures.value taken in
+    let same = same_faults at_or_below r f c.self.inside.inputs c.len-taken.result refl taken in
     let is : entry_refusal at_or_below c.args.self.now f ≡ Some c.in-Some.refusal = ap (λ (r : Register (Pair ℕ ℕ)). entry_refusal at_or_below r f) (sym c.self.view_is) ∙ (sym same ∙ (sym c.feed_refusal.ensures ∙ c.in-Some.is)) in
     subst (λ o. IsRefusalBy o c.in-Some.refusal) (sym is) refl
 
@@ -36,10 +36,10 @@ pub invariant_of-self : goal.invariant_of-self
 invariant_of-self c =
     let f : Fed (Pair ℕ ℕ) = record { input = c.args.input; update = c.args.update } in
     let items = λ (v : Vec (Update (Pair ℕ ℕ)) Global). v.items in
-    let r : Register (Pair ℕ ℕ) = record { plan = c.self.inside.plan; changes = map items c.self.inside.changes.items; openings = c.self.inside.openings.items } in
+    let r : Register (Pair ℕ ℕ) = record { plan = c.self.inside.plan; changes = map items c.self.inside.changes.items; inputs = c.self.inside.inputs } in
     let there = subst (λ (r : Register (Pair ℕ ℕ)). IsTrue (is_input_of r.plan c.args.input)) (sym c.self.view_is) c.requires in
     let within = in_lists items c.self.inside.changes.items c.self.inside.plan c.args.input c.place_of-place.result there c.self.invariant.lists c.place_of-place.ensures in
     let taken = taken_is items c.self.inside.changes.items c.self.inside.plan c.args.input c.place_of-place.result c.len-taken.result c.index.result.now within c.place_of-place.ensures c.index.ensures (c.len-taken.ensures ∙ c.index.result.now.ok.0) in
-    let same = same_faults at_or_below r f c.deref.result.now c.len-taken.result c.deref.ensures.value taken in
+    let same = same_faults at_or_below r f c.self.inside.inputs c.len-taken.result refl taken in
     let none : entry_refusal at_or_below r f ≡ None = sym same ∙ (sym c.feed_refusal.ensures ∙ c.in-None.is) in
     after_entry at_or_below r (map items c.push_change.new.lists.items) f c.place_of-place.result c.push_change.result c.self.invariant there none c.place_of-place.ensures c.push_change.ensures.pushed c.push_change.ensures.unchanged

@@ -5,7 +5,7 @@ use Rattle.lattice.specs.Pairs.{pair_order, pair_extends}
 use Rattle.lattice.specs.declared.product.Pair.{Pair}
 use Rattle.update.specs.declared.change.Update.{Update}
 use Rattle.plan.specs.Changes.{open_for}
-use Rattle.machine.specs.Worlds.{open_at}
+use Rattle.machine.specs.Inputs.{front_at}
 use Rattle.machine.specs.declared.event.Open.{Open}
 use Rattle.script.specs.PlainStanding.{Register, Records}
 use Rattle.script.specs.Sessions.{frontier_at}
@@ -18,14 +18,14 @@ returns c = record {
   answered = λ s a.
       let v = c.args.view in
       let items = λ (v : Vec (Update (Pair ℕ ℕ)) Global). v.items in
-      let r : Register (Pair ℕ ℕ) = record { plan = c.self.inside.plan; changes = map items c.self.inside.changes.items; openings = c.self.inside.openings.items } in
+      let r : Register (Pair ℕ ℕ) = record { plan = c.self.inside.plan; changes = map items c.self.inside.changes.items; inputs = c.self.inside.inputs } in
       let own : Records r s = subst (λ (r : Register (Pair ℕ ℕ)). Records r s) (sym c.self.view_is) a in
-      let found : c.deref-2.result.now ≡ open_for at_or_below c.self.inside.plan (λ i. open_at i c.self.inside.openings.items) v =
-      c.deref-2.ensures.value ∙ (c.in_ok-open.ensures.open ∙ ap (λ (os : List (Open (Pair ℕ ℕ))). open_for at_or_below c.self.inside.plan (λ i. open_at i os) v) c.deref.ensures.value) in
+      let found : c.deref.result.now ≡ open_for at_or_below c.self.inside.plan (λ i. front_at i c.self.inside.inputs) v =
+      c.deref.ensures.value ∙ c.in_ok-open.ensures.open in
       let total = then_total (on_total (λ (t : Pair ℕ ℕ). t.first) nat_cmp_total) (on_total (λ (t : Pair ℕ ℕ). t.second) nat_cmp_total) in (
         refl,
         (
-          frontier_found (pair_order nat_order nat_order) r s own v total (pair_extends nat_extends nat_extends).exact c.deref-2.result.now c.in_ok-frontier.frontier found c.elements-elements.ensures.frontier c.in_ok-frontier.ensures.least
+          frontier_found (pair_order nat_order nat_order) r s own v total (pair_extends nat_extends nat_extends).exact c.deref.result.now c.in_ok-frontier.frontier found c.elements-elements.ensures.frontier c.in_ok-frontier.ensures.least
               ∙ ap (λ (r : Register (Pair ℕ ℕ)). frontier_at at_or_below r.plan s in_print v) c.self.view_is,
           a,
         ),

@@ -1,12 +1,13 @@
-use Rattle.std.proofs.Common.{ℕ, subst}
+use Rattle.std.proofs.Common.{ℕ, IsTrue, sym, subst}
 use Rattle.lattice.specs.Pairs.{make_pair}
 use Rattle.lattice.specs.declared.product.Pair.{Pair}
 use Rattle.machine.specs.Boards.{Shown}
+use Rattle.grammar.specs.Commands.{is_input_of}
 use Rattle.script.specs.Engines.{IsAnswer}
 use Rattle.script.specs.Sessions.{with_frontier, frontier_refusal}
 use Rattle.script.specs.Standing.{StandsAs}
 use Rattle.script.specs.Text.{at_or_below}
-use Rattle.script.proofs.StandingLemmas.{frontier_answered}
+use Rattle.script.proofs.StandingLemmas.{frontier_answered, input_there}
 use Rattle.script.proofs.solo.Solo.move_on.Goals as goal
 
 pub returns-clause-answered : goal.returns-clause-answered
@@ -14,9 +15,10 @@ returns-clause-answered c s =
     let i = c.args.input in
     let ts = c.args.times in
     let new = c.advance.new.self in
+    let there = subst (λ (b : Shown (Pair ℕ ℕ)). IsTrue (is_input_of b.dataflow.nodes i)) (sym c.self.view_is) c.requires in
     subst
     (λ (b : Shown (Pair ℕ ℕ)). StandsAs at_or_below (make_pair 0 0) b s
     → IsAnswer ⊥ (frontier_refusal at_or_below b.dataflow.nodes s i ts) (λ _. StandsAs at_or_below (make_pair 0 0) new (with_frontier i ts s)) (StandsAs at_or_below (make_pair 0 0) new s) c.advance.result)
     c.self.view_is
-    (frontier_answered at_or_below (make_pair 0 0) c.self.inside.board new 0 i ts s c.advance.result
+    (frontier_answered at_or_below (make_pair 0 0) c.self.inside.board new 0 i ts s c.advance.result (input_there c.self.inside.board.dataflow i there).0
     c.advance.ensures.advanced c.advance.ensures.accepted c.advance.ensures.refused c.advance.ensures.unchanged c.advance.ensures.stands)

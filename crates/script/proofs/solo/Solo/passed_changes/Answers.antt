@@ -35,7 +35,7 @@ returns-in-Ok c = record {
       (λ (d : Shown (Pair ℕ ℕ)). StandsAs at_or_below (make_pair 0 0) d s
       → IsAnswer (IsLarge d.dataflow.nodes s) None (λ changes. (changes ≡ changes_at at_or_below d.dataflow.nodes s in_print join_of v) × StandsAs at_or_below (make_pair 0 0) d s) (StandsAs at_or_below (make_pair 0 0) d s) (Ok c.from.result))
       c.self.view_is
-      (λ d. (refl, (c.from.ensures ∙ changes_found at_or_below (make_pair 0 0) (pair_order nat_order nat_order) b s v c.workers-workers.ensures.dataflow within idle none d (pair_bounds nat_bounds nat_bounds) (pair_extends nat_extends nat_extends) (then_total (on_total (λ (t : Pair ℕ ℕ). t.first) nat_cmp_total) (on_total (λ (t : Pair ℕ ℕ). t.second) nat_cmp_total)) c.in-Ok.changes.items (c.in-Ok.ensures.differences d.history d.stands), d)));
+      (λ d. (refl, (c.from.ensures ∙ changes_found at_or_below (make_pair 0 0) (pair_order nat_order nat_order) b s v c.workers-workers.ensures.board within idle none d (pair_bounds nat_bounds nat_bounds) (pair_extends nat_extends nat_extends) (then_total (on_total (λ (t : Pair ℕ ℕ). t.first) nat_cmp_total) (on_total (λ (t : Pair ℕ ℕ). t.second) nat_cmp_total)) c.in-Ok.changes.items (c.in-Ok.ensures.differences d.history d.stands), d)));
 }
 
 pub returns-in-Err : goal.returns-in-Err
@@ -48,7 +48,7 @@ returns-in-Err c = record {
       let idle = subst IsIdle (sym c.self.view_is) c.requires.idle in
       let none = subst (λ (d : Shown (Pair ℕ ℕ)). d.in_flight ≡ []) (sym c.self.view_is) c.requires.done in
       let o = pair_order nat_order nat_order in
-      let plan = c.workers-workers.ensures.dataflow in
+      let plan = c.workers-workers.ensures.board in
       subst
       (λ (d : Shown (Pair ℕ ℕ)). StandsAs at_or_below (make_pair 0 0) d s
       → IsAnswer (IsLarge d.dataflow.nodes s) None (λ changes. (changes ≡ changes_at at_or_below d.dataflow.nodes s in_print join_of v) × StandsAs at_or_below (make_pair 0 0) d s) (StandsAs at_or_below (make_pair 0 0) d s) (Err c.in-Err.refusal))

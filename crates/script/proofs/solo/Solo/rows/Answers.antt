@@ -31,8 +31,8 @@ returns c = record {
       (λ (d : Shown (Pair ℕ ℕ)). StandsAs at_or_below (make_pair 0 0) d s
       → IsAnswer (IsLarge d.dataflow.nodes s) (read_refusal at_or_below d.dataflow.nodes s v t) (λ bag. (bag ≡ rows_at at_or_below d.dataflow.nodes s v t) × StandsAs at_or_below (make_pair 0 0) d s) (StandsAs at_or_below (make_pair 0 0) d s) c.read.result)
       c.self.view_is
-      (λ a. read_answered at_or_below (make_pair 0 0) (pair_order nat_order nat_order) b s v t c.workers-workers.ensures.dataflow within idle none a
+      (λ a. read_answered at_or_below (make_pair 0 0) (pair_order nat_order nat_order) b s v t c.workers-workers.ensures.board within idle none a
       (HasLargeCount (as_of at_or_below t (captured_of b v))) (IsLarge b.dataflow.nodes s) c.read.result
-      (large_read at_or_below (make_pair 0 0) (pair_order nat_order nat_order) in_print b s v c.workers-workers.ensures.dataflow within (and_parts _ _ there).1 idle a t) (and_from _ _ (nat_lowest t.first) (nat_lowest t.second))
+      (large_read at_or_below (make_pair 0 0) (pair_order nat_order nat_order) in_print b s v c.workers-workers.ensures.board within (and_parts _ _ there).1 idle a t) (and_from _ _ (nat_lowest t.first) (nat_lowest t.second))
       c.read.ensures.accepted c.read.ensures.refused c.read.ensures.bag (c.read.ensures.query a.history a.stands));
 }

@@ -27,5 +27,5 @@ returns-in-Ok c = record {
       (λ (d : Shown (Pair ℕ ℕ)). StandsAs at_or_below (make_pair 0 0) d s
       → IsAnswer ⊥ None (λ frontier. (frontier ≡ frontier_at at_or_below d.dataflow.nodes s in_print v) × StandsAs at_or_below (make_pair 0 0) d s) (StandsAs at_or_below (make_pair 0 0) d s) (Ok c.in-Ok.frontier))
       c.self.view_is
-      (λ d. (refl, (frontier_found at_or_below (make_pair 0 0) (pair_order nat_order nat_order) b s v c.workers-workers.ensures.dataflow within idle none d (then_total (on_total (λ (t : Pair ℕ ℕ). t.first) nat_cmp_total) (on_total (λ (t : Pair ℕ ℕ). t.second) nat_cmp_total)) (pair_extends nat_extends nat_extends).exact c.in-Ok.frontier c.elements-elements.ensures.frontier c.in-Ok.ensures.least, d)));
+      (λ d. (refl, (frontier_found at_or_below (make_pair 0 0) (pair_order nat_order nat_order) b s v c.workers-workers.ensures.board within idle none d (then_total (on_total (λ (t : Pair ℕ ℕ). t.first) nat_cmp_total) (on_total (λ (t : Pair ℕ ℕ). t.second) nat_cmp_total)) (pair_extends nat_extends nat_extends).exact c.in-Ok.frontier c.elements-elements.ensures.frontier c.in-Ok.ensures.least, d)));
 }

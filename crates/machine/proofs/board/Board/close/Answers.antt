@@ -1,0 +1,11 @@
+use Rattle.std.proofs.Common.{◌∷◌, [], subst, sym, refl}
+use Rattle.machine.specs.Boards.{Stands}
+use Rattle.machine.proofs.BoardLemmas.{stands_advanced}
+use Rattle.machine.proofs.board.Board.close.Goals as goal
+
+pub returns-clause-stands : goal.returns-clause-stands
+returns-clause-stands g c h s =
+    let below = g.T.PartialOrder.below in
+    let least = g.T.Minimum.least in
+    let r = c.try_close in
+    subst (λ z. Stands below least z (z.last ∷ h)) (sym r.ensures.closed) (stands_advanced below least c.args.self.now r.ensures.board h c.args.client c.args.input [] refl c.requires s)
