@@ -34,8 +34,7 @@ use Rattle.machine.specs.declared.event.Place.{Place}
 use Rattle.machine.specs.declared.event.Event.TheVariants.{Take}
 use Rattle.machine.specs.Dataflows.{node_of}
 use Rattle.machine.specs.Worlds.{queue}
-use Rattle.machine.specs.Outstanding.{stamp}
-use Rattle.machine.specs.Histories.{with_at, holding}
+use Rattle.machine.specs.Histories.{alone, with_at, holding}
 use Rattle.std.proofs.Math.IntN.{ℤ, ◌+ℤ◌}
 use Rattle.std.proofs.lemmas.Int.{ints}
 use Rattle.plan.specs.Rules.{is_output}
@@ -47,7 +46,7 @@ use Rattle.machine.specs.Worlds.{emitted_at}
 use Rattle.machine.specs.Histories.{is_held_by, IsGive}
 use Rattle.machine.specs.Boards.{capturing, given, is_from_start}
 use Rattle.machine.proofs.FlowLemmas.{sum_at-append}
-use Rattle.machine.proofs.SiteLemmas.{queued_more, queued_less, held_more, held_others}
+use Rattle.machine.proofs.SiteLemmas.{queued_more, queued_less, held_more, held_behind, held_others}
 use Rattle.machine.proofs.OpenLemmas.{first_front, open_set}
 use Rattle.machine.specs.Inputs.{front_at}
 use Rattle.machine.specs.Boards.{taken, turned}
@@ -80,11 +79,12 @@ none_of_five a b c d e r s t u v h =
     (i.0, j.0, k.0, l.0, m.0)
 
 module _ {T : Type 0} (below : T → T → Bool) (minimum : T) where
-  pub allowed_feed : (b : Shown T) (h : List (Event T)) (f : Fed T) → feed_refusal below b f ≡ None → IsInput b.dataflow f.input → Stands below minimum b h → IsFeed below b.dataflow (world below minimum b.dataflow h) f
-  allowed_feed b h f e i s =
+  pub allowed_feed : (b : Shown T) (h : List (Event T)) (client : ℕ) (f : Fed T) → b.dataflow.workers ≤ client → feed_refusal below b f ≡ None → IsInput b.dataflow f.input → Stands below minimum b h → IsFeed below b.dataflow (world below minimum b.dataflow h) client f
+  allowed_feed b h client f m e i s =
       let w = world below minimum b.dataflow h in
       let no = none_of_five (not (eqb (length f.update.row) (width_of b.dataflow.nodes f.input))) (int_eq f.update.diff (pos 0)) (not (nat_le (unsigned_abs f.update.diff) 2147483647)) (not (is_beyond below (front_at f.input b.inputs) f.update.time)) (not (nat_lt (get_or b.accepted f.input 0) 1048576)) WrongWidth ZeroWeight WeightTooLarge TimePassed InputFull e in
       record {
+        client = m;
         input = i;
         width = eqb-true (length f.update.row) (width_of b.dataflow.nodes f.input) (unfaulted _ no.0);
         some = λ z. false≢true (sym no.1 ∙ (Decides-int_eq f.update.diff (pos 0)).1 z);
@@ -99,10 +99,10 @@ module _ {T : Type 0} (below : T → T → Bool) (minimum : T) where
       room : (n : ℕ) → nat_lt n 1048576 ≡ true → n < 1048576
       room n h = grind (arith, nat_tests)
 
-  pub stands_fed : (b : Shown T) → IsBoard b → (h : List (Event T)) (client : ℕ) (f : Fed T) → feed_refusal below b f ≡ None → IsInput b.dataflow f.input → Stands below minimum b h → Stands below minimum (fed client f b) (Feed client f ∷ h)
-  stands_fed b board h client f e i s = record {
-    legal = (allowed_feed b h f e i s, s.legal);
-    queues = queued_more b.in_flight w.in_flight (record { place = Rattle.machine.specs.Shares.home b.dataflow f; updates = f.update ∷ [] } ∷ []) s.queues;
+  pub stands_fed : (b : Shown T) → IsBoard b → (h : List (Event T)) (client : ℕ) (f : Fed T) → b.dataflow.workers ≤ client → feed_refusal below b f ≡ None → IsInput b.dataflow f.input → Stands below minimum b h → Stands below minimum (fed client f b) (Feed client f ∷ h)
+  stands_fed b board h client f m e i s = record {
+    legal = (allowed_feed b h client f m e i s, s.legal);
+    queues = queued_more b.in_flight w.in_flight (alone b.dataflow f ∷ []) s.queues;
     held = s.held;
     openings = s.openings;
     hand = s.hand;
@@ -123,9 +123,9 @@ module _ {T : Type 0} (below : T → T → Bool) (minimum : T) where
           (get_or-set_same b.accepted f.input (suc (get_or b.accepted f.input 0)) 0 n ∙ ap suc (s.accepted f.input i.0))
       counted j l false g = get_or-set_other b.accepted f.input j (suc (get_or b.accepted f.input 0)) 0 (λ m. false≢true (sym g ∙ eq-eqb f.input j (sym m))) ∙ s.accepted j l
 
-  pub stands_advanced : (b : Shown T) → IsBoard b → (h : List (Event T)) (client i : ℕ) (ts : List T) → advance_refusal below b i ts ≡ None → IsInput b.dataflow i → Stands below minimum b h → Stands below minimum (advanced client i ts b) (Advance client i ts ∷ h)
-  stands_advanced b board h client i ts e n s = record {
-    legal = (record { input = n; onward = subst (λ os. all_beyond below os ts ≡ true) (s.openings i) (unfaulted _ (no_first (not (all_beyond below (front_at i b.inputs) ts)) NotForward [] e).0) }, s.legal);
+  pub stands_advanced : (b : Shown T) → IsBoard b → (h : List (Event T)) (client i : ℕ) (ts : List T) → b.dataflow.workers ≤ client → advance_refusal below b i ts ≡ None → IsInput b.dataflow i → Stands below minimum b h → Stands below minimum (advanced client i ts b) (Advance client i ts ∷ h)
+  stands_advanced b board h client i ts m e n s = record {
+    legal = (record { client = m; input = n; onward = subst (λ os. all_beyond below os ts ≡ true) (s.openings i) (unfaulted _ (no_first (not (all_beyond below (front_at i b.inputs) ts)) NotForward [] e).0) }, s.legal);
     queues = s.queues;
     held = s.held;
     openings = open_set b.inputs i ts (world below minimum b.dataflow h).openings (subst (λ z. i < z) (sym board.inputs) n.0) s.openings;
@@ -193,20 +193,22 @@ module _ {T : Type 0} (below : T → T → Bool) (minimum : T) where
           subst (λ z. get_or (set hand worker node) z None ≡ node) (sym (eqb-true k worker g)) (get_or-set_same hand worker node None n)
       step false g = get_or-set_other hand worker k node None (λ z. false≢true (sym g ∙ eq-eqb k worker z)) ∙ h k m
 
-  pub stands_taken : (b : Shown T) → IsBoard b → (h : List (Event T)) (site : Place) (number : ℕ) (us : List (Update T)) → site.worker < b.dataflow.workers → get_or b.hand site.worker None ≡ None
-      → slice_get (queue site b.in_flight) number ≡ Some us → (arranged_by (node_of b.dataflow site.node) ≡ None → number ≡ 0)
-      → Stands below minimum b h → Stands below minimum (taken below site number us b) (Take site number us ∷ h)
-  stands_taken b board h site number us l free waits turn s = record {
-    legal = (record { worker = l; free = sym (s.hand site.worker l) ∙ free; waits = subst (λ q. slice_get q number ≡ Some us) (s.queues site) waits; turn = turn }, s.legal);
-    queues = queued_less b.in_flight (world below minimum b.dataflow h).in_flight site number s.queues;
-    held = held_more b.held (world below minimum b.dataflow h).held (holding site.node site.worker (stamp below us)) s.held;
-    openings = s.openings;
-    hand = hand_set b.hand (world below minimum b.dataflow h).hand b.dataflow.workers site.worker (Some site.node) board.hand l s.hand;
-    accepted = s.accepted;
-    since = s.since;
-    captured = s.captured;
-    last = refl;
-  }
+  pub stands_taken : (b : Shown T) → IsBoard b → (h : List (Event T)) (number : ℕ) (bundle : Bundle T) → bundle.place.worker < b.dataflow.workers → get_or b.hand bundle.place.worker None ≡ None
+      → slice_get (queue bundle.place b.in_flight) number ≡ Some bundle → (arranged_by (node_of b.dataflow bundle.place.node) ≡ None → number ≡ 0)
+      → Stands below minimum b h → Stands below minimum (taken number bundle b) (Take number bundle ∷ h)
+  stands_taken b board h number bundle l free waits turn s =
+      let site = bundle.place in
+      record {
+        legal = (record { worker = l; free = sym (s.hand site.worker l) ∙ free; waits = subst (λ q. slice_get q number ≡ Some bundle) (s.queues site) waits; turn = turn }, s.legal);
+        queues = queued_less b.in_flight (world below minimum b.dataflow h).in_flight site number s.queues;
+        held = held_behind b.held (world below minimum b.dataflow h).held (holding site.node site.worker bundle.stamp) s.held;
+        openings = s.openings;
+        hand = hand_set b.hand (world below minimum b.dataflow h).hand b.dataflow.workers site.worker (Some site.node) board.hand l s.hand;
+        accepted = s.accepted;
+        since = s.since;
+        captured = s.captured;
+        last = refl;
+      }
 
   pub stands_turned : (b c : Shown T) → IsBoard b → (h : List (Event T)) (k n : ℕ) → k < b.dataflow.workers → IsTakeHeld below b.dataflow (world below minimum b.dataflow h) k n
       → c ≡ turned k n b → Stands below minimum b h → Stands below minimum c (c.last ∷ h)
@@ -222,12 +224,19 @@ module _ {T : Type 0} (below : T → T → Bool) (minimum : T) where
     last = refl;
   })
 
-  pub stands_after_take : (r : Result (List (Update T)) Refusal) (b c : Shown T) (h : List (Event T)) (site : Place) (number : ℕ) → OnOk r (IsBoard b) → site.worker < b.dataflow.workers → get_or b.hand site.worker None ≡ None
+  pub stands_after_take : (r : Result (Bundle T) Refusal) (b c : Shown T) (h : List (Event T)) (site : Place) (number : ℕ) → OnOk r (IsBoard b) → site.worker < b.dataflow.workers → get_or b.hand site.worker None ≡ None
       → (arranged_by (node_of b.dataflow site.node) ≡ None → number ≡ 0)
-      → IfOk r (λ us. slice_get (queue site b.in_flight) number ≡ Some us) → IfOk r (λ us. c ≡ taken below site number us b) → OnErr r (c ≡ looked site.worker b)
+      → IfOk r (λ x. slice_get (queue site b.in_flight) number ≡ Some x) → IfOk r (λ x. x.place ≡ site) → IfOk r (λ x. c ≡ taken number x b) → OnErr r (c ≡ looked site.worker b)
       → Stands below minimum b h → Stands below minimum c (c.last ∷ h)
-  stands_after_take (Ok us) b c h site number board l free turn waits e err s = subst (λ z. Stands below minimum z (z.last ∷ h)) (sym e) (stands_taken b board h site number us l free waits turn s)
-  stands_after_take (Err r) b c h site number board l free turn waits e err s = stands_looked below minimum b c h site.worker err s
+  stands_after_take (Ok x) b c h site number board l free turn waits there e err s =
+      subst (λ z. Stands below minimum z (z.last ∷ h)) (sym e)
+      (stands_taken b board h number x
+      (subst (λ (z : Place). z.worker < b.dataflow.workers) (sym there) l)
+      (subst (λ (z : Place). get_or b.hand z.worker None ≡ None) (sym there) free)
+      (subst (λ (z : Place). slice_get (queue z b.in_flight) number ≡ Some x) (sym there) waits)
+      (subst (λ (z : Place). arranged_by (node_of b.dataflow z.node) ≡ None → number ≡ 0) (sym there) turn)
+      s)
+  stands_after_take (Err r) b c h site number board l free turn waits there e err s = stands_looked below minimum b c h site.worker err s
 
 size_both : {T : Type 0} (a c : List (Update T)) → size (a ++ c) ≡ size a + size c
 size_both a c = let x = weight_is a in let y = weight_is c in let z = weight_is (a ++ c) in let h = size-append a c in omega (arith, x, y, z, h)

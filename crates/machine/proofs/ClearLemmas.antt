@@ -6,18 +6,19 @@ use Rattle.std.proofs.lemmas.List.Folds.{list_any-append}
 use Rattle.lattice.specs.Order.{PartialOrderLaws}
 use Rattle.lattice.specs.Frontiers.{is_beyond}
 use Rattle.update.specs.Updates.{as_of}
-use Rattle.machine.proofs.StampLemmas.{stamp_passed}
+use Rattle.machine.proofs.StampLemmas.{beyond_passed}
 use Rattle.machine.specs.declared.event.Bundle.{Bundle}
 use Rattle.machine.specs.declared.event.Held.{Held}
 use Rattle.machine.specs.Worlds.{World, place, same_place, times, updates_at, held_at}
-use Rattle.machine.specs.Outstanding.{stamp, stamps, held_where, open_where, counted}
+use Rattle.machine.specs.Outstanding.{stamps, held_where, open_where, counted}
 use Rattle.std.specs.List.{list_all}
 use Rattle.std.proofs.lemmas.Bool.{and_from}
-use Rattle.update.specs.declared.change.Update.{Update}
+use Rattle.antichain.specs.Antichains.{least}
+use Rattle.plan.specs.Changes.{has_passed}
 use Rattle.machine.specs.Dataflows.{Dataflow, above}
-use Rattle.machine.specs.Promises.{NothingLurks}
-use Rattle.machine.proofs.FlowLemmas.{as_of-append, passed-least, not_beyond}
-use Rattle.machine.proofs.KeptLemmas.{as_of-passed}
+use Rattle.machine.specs.Promises.{IsClearAt}
+use Rattle.machine.proofs.FlowLemmas.{as_of-append, passed-least}
+use Rattle.machine.proofs.KeptLemmas.{as_of-passed, is_stamped}
 
 -- nothing that came to a node and counts at t is still in flight
 pub record IsArrived {T : Type 0} (leq : T → T → Bool) (w : World T) (t : T) (n : ℕ) : Type 0 where
@@ -28,20 +29,21 @@ pub record IsClear {T : Type 0} (leq : T → T → Bool) (w : World T) (t : T) (
   pub held : (k : ℕ) → is_beyond leq (held_at n k w.held) t ≡ false
 
 module _ {T : Type 0} (leq : T → T → Bool) (o : PartialOrderLaws leq) (t : T) (test : ℕ → Bool) (m : ℕ) (there : test m ≡ true) where
-  pub clear_flight : (qs : List (Bundle T)) → is_beyond leq (flat_map (λ q. cond (test q.place.node) (stamp leq q.updates) []) qs) t ≡ false → (port k : ℕ) → as_of leq t (updates_at (place m port k) qs) ≡ []
-  clear_flight [] h port k = refl
-  clear_flight (q ∷ qs) h port k =
-      let b = or_parts (is_beyond leq (cond (test q.place.node) (stamp leq q.updates) []) t) (is_beyond leq (flat_map (λ q. cond (test q.place.node) (stamp leq q.updates) []) qs) t)
-      (sym (list_any-append (λ f. leq f t) (cond (test q.place.node) (stamp leq q.updates) []) (flat_map (λ q. cond (test q.place.node) (stamp leq q.updates) []) qs)) ∙ h) in
+  pub clear_flight : (qs : List (Bundle T)) → list_all (is_stamped leq) qs ≡ true → is_beyond leq (flat_map (λ q. cond (test q.place.node) q.stamp []) qs) t ≡ false → (port k : ℕ) → as_of leq t (updates_at (place m port k) qs) ≡ []
+  clear_flight [] a h port k = refl
+  clear_flight (q ∷ qs) a h port k =
+      let s = and_parts (is_stamped leq q) (list_all (is_stamped leq) qs) a in
+      let b = or_parts (is_beyond leq (cond (test q.place.node) q.stamp []) t) (is_beyond leq (flat_map (λ q. cond (test q.place.node) q.stamp []) qs) t)
+      (sym (list_any-append (λ f. leq f t) (cond (test q.place.node) q.stamp []) (flat_map (λ q. cond (test q.place.node) q.stamp []) qs)) ∙ h) in
       as_of-append leq t (cond (same_place q.place (place m port k)) q.updates []) (updates_at (place m port k) qs)
-      ∙ rw (clear_flight qs b.1 port k, head (same_place q.place (place m port k)) refl b.0) refl
+      ∙ rw (clear_flight qs s.1 b.1 port k, head s.0 (same_place q.place (place m port k)) refl b.0) refl
     where
-      head : (c : Bool) → same_place q.place (place m port k) ≡ c → is_beyond leq (cond (test q.place.node) (stamp leq q.updates) []) t ≡ false → as_of leq t (cond c q.updates []) ≡ []
-      head false e g = refl
-      head true e g =
+      head : is_stamped leq q ≡ true → (c : Bool) → same_place q.place (place m port k) ≡ c → is_beyond leq (cond (test q.place.node) q.stamp []) t ≡ false → as_of leq t (cond c q.updates []) ≡ []
+      head s false e g = refl
+      head s true e g =
           let n = eqb-true q.place.node m (and_parts (eqb q.place.node m) (eqb q.place.port port && eqb q.place.worker k) e).0 in
           let passes : test q.place.node ≡ true = ap test n ∙ there in
-          as_of-passed leq t q.updates (stamp_passed leq o q.updates t (subst (λ b. is_beyond leq (cond b (stamp leq q.updates) []) t ≡ false) passes g))
+          as_of-passed leq t q.updates (beyond_passed leq o q.stamp (times q.updates) t s (subst (λ b. is_beyond leq (cond b q.stamp []) t ≡ false) passes g))
 
   pub clear_held : (ms : List (Held T)) → is_beyond leq (flat_map (λ x. cond (test x.node) (x.time ∷ []) []) ms) t ≡ false → (k : ℕ) → is_beyond leq (held_at m k ms) t ≡ false
   clear_held [] h k = refl
@@ -60,41 +62,39 @@ module _ {T : Type 0} (leq : T → T → Bool) (o : PartialOrderLaws leq) (t : T
 
 module _ {T : Type 0} (leq : T → T → Bool) (o : PartialOrderLaws leq) (t : T) (there holding : ℕ → Bool) (w : World T) where
   -- what is counted, in its three parts
-  pub counted_parts : is_beyond leq (counted leq w there holding) t ≡ false
-      → (is_beyond leq (stamps leq (λ site. there site.node) w.in_flight) t ≡ false) × (is_beyond leq (held_where holding w.held) t ≡ false) × (is_beyond leq (open_where there w.openings) t ≡ false)
+  pub counted_parts : is_beyond leq (counted w there holding) t ≡ false
+      → (is_beyond leq (stamps (λ site. there site.node) w.in_flight) t ≡ false) × (is_beyond leq (held_where holding w.held) t ≡ false) × (is_beyond leq (open_where there w.openings) t ≡ false)
   counted_parts h =
-      let a = stamps leq (λ site. there site.node) w.in_flight in
+      let a = stamps (λ site. there site.node) w.in_flight in
       let b = held_where holding w.held in
       let c = open_where there w.openings in
       let f = or_parts (is_beyond leq a t) (is_beyond leq (b ++ c) t) (sym (list_any-append (λ f. leq f t) a (b ++ c)) ∙ h) in
       let g = or_parts (is_beyond leq b t) (is_beyond leq c t) (sym (list_any-append (λ f. leq f t) b c) ∙ f.1) in
       (f.0, g.0, g.1)
 
-  pub arrived_passed : is_beyond leq (counted leq w there holding) t ≡ false → (m : ℕ) → there m ≡ true → IsArrived leq w t m
-  arrived_passed h m e = record { flight = clear_flight leq o t there m e w.in_flight (counted_parts h).0 }
+  pub arrived_passed : list_all (is_stamped leq) w.in_flight ≡ true → is_beyond leq (counted w there holding) t ≡ false → (m : ℕ) → there m ≡ true → IsArrived leq w t m
+  arrived_passed a h m e = record { flight = clear_flight leq o t there m e w.in_flight a (counted_parts h).0 }
 
-  pub clear_passed : is_beyond leq (counted leq w there holding) t ≡ false → (m : ℕ) → there m ≡ true → holding m ≡ true → IsClear leq w t m
-  clear_passed h m e f = record { arrived = arrived_passed h m e; held = clear_held leq o t holding m f w.held (counted_parts h).1 }
+  pub clear_passed : list_all (is_stamped leq) w.in_flight ≡ true → is_beyond leq (counted w there holding) t ≡ false → (m : ℕ) → there m ≡ true → holding m ≡ true → IsClear leq w t m
+  clear_passed a h m e f = record { arrived = arrived_passed a h m e; held = clear_held leq o t holding m f w.held (counted_parts h).1 }
 
 -- Nothing is outstanding at or before a passed time
 
 module _ {T : Type 0} (leq : T → T → Bool) (o : PartialOrderLaws leq) (t : T) where
-  none_before : (us : List (Update T)) → is_beyond leq (times us) t ≡ false → list_all (λ u. not (leq u.time t)) us ≡ true
-  none_before [] h = refl
-  none_before (u ∷ us) h =
-      let g = or_parts (leq u.time t) (is_beyond leq (times us) t) h in
-      and_from (not (leq u.time t)) (list_all (λ u. not (leq u.time t)) us) (ap not g.0) (none_before us g.1)
+  abbrev is_clear : (ℕ → Bool) → Bundle T → Bool
+  is_clear there b = not (there b.place.node) || (has_passed leq b.stamp t && has_passed leq (times b.updates) t)
 
-  no_bundle : (there : ℕ → Bool) (qs : List (Bundle T)) → is_beyond leq (stamps leq (λ site. there site.node) qs) t ≡ false → list_all (λ b. not (there b.place.node) || list_all (λ u. not (leq u.time t)) b.updates) qs ≡ true
-  no_bundle there [] h = refl
-  no_bundle there (b ∷ qs) h =
-      let g = or_parts (is_beyond leq (cond (there b.place.node) (stamp leq b.updates) []) t) (is_beyond leq (stamps leq (λ site. there site.node) qs) t)
-      (sym (list_any-append (λ f. leq f t) (cond (there b.place.node) (stamp leq b.updates) []) (stamps leq (λ site. there site.node) qs)) ∙ h) in
-      and_from (not (there b.place.node) || list_all (λ u. not (leq u.time t)) b.updates) (list_all (λ b. not (there b.place.node) || list_all (λ u. not (leq u.time t)) b.updates) qs) (one (there b.place.node) g.0) (no_bundle there qs g.1)
+  no_bundle : (there : ℕ → Bool) (qs : List (Bundle T)) → list_all (is_stamped leq) qs ≡ true → is_beyond leq (stamps (λ site. there site.node) qs) t ≡ false → list_all (is_clear there) qs ≡ true
+  no_bundle there [] a h = refl
+  no_bundle there (b ∷ qs) a h =
+      let s = and_parts (is_stamped leq b) (list_all (is_stamped leq) qs) a in
+      let g = or_parts (is_beyond leq (cond (there b.place.node) b.stamp []) t) (is_beyond leq (stamps (λ site. there site.node) qs) t)
+      (sym (list_any-append (λ f. leq f t) (cond (there b.place.node) b.stamp []) (stamps (λ site. there site.node) qs)) ∙ h) in
+      and_from (is_clear there b) (list_all (is_clear there) qs) (one s.0 (there b.place.node) g.0) (no_bundle there qs s.1 g.1)
     where
-      one : (c : Bool) → is_beyond leq (cond c (stamp leq b.updates) []) t ≡ false → (not c || list_all (λ u. not (leq u.time t)) b.updates) ≡ true
-      one true k = none_before b.updates (stamp_passed leq o b.updates t k)
-      one false k = refl
+      one : is_stamped leq b ≡ true → (c : Bool) → is_beyond leq (cond c b.stamp []) t ≡ false → (not c || (has_passed leq b.stamp t && has_passed leq (times b.updates) t)) ≡ true
+      one s true k = and_from (has_passed leq b.stamp t) (has_passed leq (times b.updates) t) (ap not k) (ap not (beyond_passed leq o b.stamp (times b.updates) t s k))
+      one s false k = refl
 
   -- so it is of held times, and of the elements of frontiers
   none_of : {X : Type 0} (there : X → Bool) (time : X → T) (xs : List X) → is_beyond leq (flat_map (λ x. cond (there x) (time x ∷ []) []) xs) t ≡ false → list_all (λ x. not (there x && leq (time x) t)) xs ≡ true
@@ -108,11 +108,12 @@ module _ {T : Type 0} (leq : T → T → Bool) (o : PartialOrderLaws leq) (t : T
       one true k = ap not (or_parts (leq (time x) t) false k).0
       one false k = refl
 
-pub lurks_lem : {T : Type 0} (leq : T → T → Bool) → PartialOrderLaws leq → (p : Dataflow) (w : World T) (n : ℕ) → NothingLurks leq p w n
-lurks_lem leq o p w n t h =
-    let c = counted_parts leq o t (above p n) (above p n) w (passed-least leq o (counted leq w (above p n) (above p n)) t (not_beyond _ h)) in
+pub lurks_lem : {T : Type 0} (leq : T → T → Bool) → PartialOrderLaws leq → (p : Dataflow) (w : World T) (n : ℕ) (holding : ℕ → Bool) (t : T) → list_all (is_stamped leq) w.in_flight ≡ true
+    → is_beyond leq (least leq (counted w (above p n) holding)) t ≡ false → IsClearAt leq p w n holding t
+lurks_lem leq o p w n holding t a h =
+    let c = counted_parts leq o t (above p n) holding w (passed-least leq o (counted w (above p n) holding) t h) in
     record {
-      in_flight = no_bundle leq o t (above p n) w.in_flight c.0;
-      held = none_of leq o t (λ m. above p n m.node) (λ m. m.time) w.held c.1;
+      in_flight = no_bundle leq o t (above p n) w.in_flight a c.0;
+      held = none_of leq o t (λ m. holding m.node) (λ m. m.time) w.held c.1;
       inputs = none_of leq o t (λ e. above p n e.input) (λ e. e.time) w.openings c.2;
     }

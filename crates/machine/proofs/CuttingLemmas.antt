@@ -1,11 +1,13 @@
 -- A cut gives each place its share, in bundles none of which is empty.
-use Rattle.std.proofs.Common.{◌≡◌, ℕ, zero, suc, ◌<◌, ◌≤◌, ◌+◌, Bool, true, false, cond, not, ◌&&◌, List, [], ◌∷◌, ◌++◌, length, sym, refl, ap, ◌∙◌, Option, Some, None, eqb, arith, ◌⊎◌, inl, inr}
-use Rattle.std.specs.List.{flat_map, list_all}
+use Rattle.std.proofs.Common.{◌≡◌, ℕ, zero, suc, ◌<◌, ◌≤◌, ◌+◌, Bool, true, false, cond, not, ◌&&◌, List, [], ◌∷◌, ◌++◌, take, length, sym, refl, ap, ◌∙◌, Option, Some, None, eqb, arith, ◌⊎◌, inl, inr}
+use Rattle.std.specs.List.{flat_map, filter, list_all}
 use mathlib.Core.Path.{fun_ext}
-use Rattle.std.proofs.lemmas.Bool.{eqb-true, eqb-false, eq-eqb, ne_eqb, and_from}
+use Rattle.std.proofs.lemmas.Bool.{eqb-true, eqb-false, eq-eqb, ne_eqb, and_parts, and_from}
 use Rattle.std.proofs.lemmas.List.{append-nil, flat_map_more}
 use Rattle.std.proofs.lemmas.List.Concat.{flat_map-append}
 use Rattle.std.proofs.lemmas.List.Folds.{list_all-append}
+use Rattle.lattice.specs.Order.{PartialOrderLaws}
+use Rattle.lattice.specs.Frontiers.{is_beyond, all_beyond}
 use Rattle.update.specs.declared.change.Update.{Update}
 use Rattle.plan.specs.Ancestors.{numbers_below}
 use Rattle.plan.specs.Nodes.{sources, arranged_by}
@@ -14,11 +16,13 @@ use Rattle.plan.specs.declared.node.Node.TheVariants.{Input, Map, Filter, Concat
 use Rattle.machine.specs.declared.event.Place.{Place}
 use Rattle.machine.specs.declared.event.Bundle.{Bundle}
 use Rattle.machine.specs.declared.event.Emission.{Emission}
-use Rattle.machine.specs.Dataflows.{Dataflow, IsDataflow, node_of, source_of}
-use Rattle.machine.specs.Worlds.{place, same_place, updates_at}
+use Rattle.machine.specs.Dataflows.{Dataflow, IsDataflow, node_of, source_of, route}
+use Rattle.machine.specs.Worlds.{place, same_place, times, updates_at}
+use Rattle.machine.specs.Outstanding.{stamp}
 use Rattle.machine.specs.Shares.{part, share, share_from}
 use Rattle.machine.specs.Cuts.{bundled, cut_at, cut}
 use Rattle.machine.proofs.FlowLemmas.{place_same}
+use Rattle.machine.proofs.StampLemmas.{stamp_before, all_stamp}
 use Rattle.machine.proofs.PlaceLemmas.{shared}
 
 -- Over the numbers below one, at most one of which gives something
@@ -55,25 +59,36 @@ updates_over {T} site f (n ∷ ns) = flat_map-append (λ (b : Bundle T). cond (s
 abbrev pub is_filled : {T : Type 0} → List (Bundle T) → Bool
 is_filled bundles = list_all (λ b. not (eqb (length b.updates) 0)) bundles
 
-filled_over : {T : Type 0} (f : ℕ → List (Bundle T)) → ((n : ℕ) → is_filled (f n) ≡ true) → (ns : List ℕ) → is_filled (flat_map f ns) ≡ true
-filled_over f h [] = refl
-filled_over {T} f h (n ∷ ns) = list_all-append (λ (b : Bundle T). not (eqb (length b.updates) 0)) (f n) (flat_map f ns) ∙ and_from (is_filled (f n)) (is_filled (flat_map f ns)) (h n) (filled_over f h ns)
+all_both : {T : Type 0} (test : Bundle T → Bool) (xs ys : List (Bundle T)) → list_all test xs ≡ true → list_all test ys ≡ true → list_all test (xs ++ ys) ≡ true
+all_both test xs ys a b = list_all-append test xs ys ∙ and_from (list_all test xs) (list_all test ys) a b
 
-filled_both : {T : Type 0} (xs ys : List (Bundle T)) → is_filled xs ≡ true → is_filled ys ≡ true → is_filled (xs ++ ys) ≡ true
-filled_both {T} xs ys a b = list_all-append (λ (b : Bundle T). not (eqb (length b.updates) 0)) xs ys ∙ and_from (is_filled xs) (is_filled ys) a b
+all_over : {T : Type 0} (test : Bundle T → Bool) (f : ℕ → List (Bundle T)) → ((n : ℕ) → list_all test (f n) ≡ true) → (ns : List ℕ) → list_all test (flat_map f ns) ≡ true
+all_over test f h [] = refl
+all_over test f h (n ∷ ns) = all_both test (f n) (flat_map f ns) (h n) (all_over test f h ns)
 
-filled_bundle : {T : Type 0} (site : Place) (us : List (Update T)) → is_filled (bundled site us) ≡ true
-filled_bundle site [] = refl
-filled_bundle site (u ∷ us) = rw (ne_eqb (suc (length us)) 0 (λ z. absurd (omega (arith, z)))) refl
+filled_bundle : {T : Type 0} (leq : T → T → Bool) (site : Place) (us : List (Update T)) → is_filled (bundled leq site us) ≡ true
+filled_bundle leq site [] = refl
+filled_bundle leq site (u ∷ us) = rw (ne_eqb (suc (length us)) 0 (λ z. absurd (omega (arith, z)))) refl
+
+-- a stamp that nothing of the bundle is before, and that is not before a frontier
+abbrev pub is_between : {T : Type 0} → (T → T → Bool) → List T → Bundle T → Bool
+is_between leq F b = all_beyond leq F b.stamp && all_beyond leq b.stamp (times b.updates)
+
+between_bundle : {T : Type 0} (leq : T → T → Bool) → PartialOrderLaws leq → (F : List T) (site : Place) (us : List (Update T)) → all_beyond leq F (times us) ≡ true → list_all (is_between leq F) (bundled leq site us) ≡ true
+between_bundle leq o F site [] h = refl
+between_bundle leq o F site (u ∷ us) h =
+    and_from (all_beyond leq F (stamp leq (u ∷ us)) && all_beyond leq (stamp leq (u ∷ us)) (times (u ∷ us))) true
+    (and_from (all_beyond leq F (stamp leq (u ∷ us))) (all_beyond leq (stamp leq (u ∷ us)) (times (u ∷ us))) (all_stamp leq o (is_beyond leq F) (u ∷ us) h) (stamp_before leq o (u ∷ us)))
+    refl
 
 nothing : {A : Type 0} (b : Bool) (xs : List A) → xs ≡ [] → cond b xs [] ≡ []
 nothing true xs e = e
 nothing false xs e = refl
 
 -- a bundle is where it is, and nowhere else
-bundle_there : {T : Type 0} (site other : Place) (us : List (Update T)) → updates_at site (bundled other us) ≡ cond (same_place other site) us []
-bundle_there site other [] = sym (nothing (same_place other site) [] refl)
-bundle_there site other (u ∷ us) = append-nil (cond (same_place other site) (u ∷ us) [])
+bundle_there : {T : Type 0} (leq : T → T → Bool) (site other : Place) (us : List (Update T)) → updates_at site (bundled leq other us) ≡ cond (same_place other site) us []
+bundle_there leq site other [] = sym (nothing (same_place other site) [] refl)
+bundle_there leq site other (u ∷ us) = append-nil (cond (same_place other site) (u ∷ us) [])
 
 few_sources : (node : Node) → length (sources node) ≤ 2
 few_sources (Input width) = omega arith
@@ -100,50 +115,81 @@ share_none {T} p site g d = step (source_of p site.node site.port) refl
     step None e = refl
     step (Some s) e = ap (λ b. cond b (part p (arranged_by (node_of p site.node)) g.worker site.worker g.updates) []) (ne_eqb g.node s (λ z. d (e ∙ ap Some (sym z))))
 
-module _ {T : Type 0} (p : Dataflow) (g : Emission T) where
-  pub no_cut : (n port : ℕ) → (source_of p n port ≡ Some g.node → ⊥) → cut_at p g n port ≡ []
-  no_cut n port d = none_below p.workers (λ k. bundled (place n port k) (share p (place n port k) g)) (λ k l. ap (bundled (place n port k)) (share_none p (place n port k) g d))
+module _ {T : Type 0} (leq : T → T → Bool) (p : Dataflow) (g : Emission T) where
+  pub no_cut : (n port : ℕ) → (source_of p n port ≡ Some g.node → ⊥) → cut_at leq p g n port ≡ []
+  no_cut n port d = none_below p.workers (λ k. bundled leq (place n port k) (share p (place n port k) g)) (λ k l. ap (bundled leq (place n port k)) (share_none p (place n port k) g d))
 
-  pub no_more : (n port : ℕ) (before : List (Bundle T)) → (source_of p n port ≡ Some g.node → ⊥) → before ≡ before ++ cut_at p g n port
+  pub no_more : (n port : ℕ) (before : List (Bundle T)) → (source_of p n port ≡ Some g.node → ⊥) → before ≡ before ++ cut_at leq p g n port
   no_more n port before d = sym (ap (λ z. before ++ z) (no_cut n port d) ∙ append-nil before)
 
-  pub cut_filled : is_filled (cut p g) ≡ true
-  cut_filled = filled_over (λ n. cut_at p g n 0 ++ cut_at p g n 1) (λ n. filled_both (cut_at p g n 0) (cut_at p g n 1) (port n 0) (port n 1)) (numbers_below (length p.nodes))
+  -- what holds of each bundle
+  cut_all : (test : Bundle T → Bool) → ((site : Place) → list_all test (bundled leq site (share p site g)) ≡ true) → list_all test (cut leq p g) ≡ true
+  cut_all test h = all_over test (λ n. cut_at leq p g n 0 ++ cut_at leq p g n 1) (λ n. all_both test (cut_at leq p g n 0) (cut_at leq p g n 1) (port n 0) (port n 1)) (numbers_below (length p.nodes))
     where
-      port : (n i : ℕ) → is_filled (cut_at p g n i) ≡ true
-      port n i = filled_over (λ k. bundled (place n i k) (share p (place n i k) g)) (λ k. filled_bundle (place n i k) (share p (place n i k) g)) (numbers_below p.workers)
+      port : (n i : ℕ) → list_all test (cut_at leq p g n i) ≡ true
+      port n i = all_over test (λ k. bundled leq (place n i k) (share p (place n i k) g)) (λ k. h (place n i k)) (numbers_below p.workers)
+
+  pub cut_filled : is_filled (cut leq p g) ≡ true
+  cut_filled = cut_all (λ b. not (eqb (length b.updates) 0)) (λ site. filled_bundle leq site (share p site g))
+
+  -- what holds of all times that were given holds of those that a place gets
+  share_all : (test : T → Bool) → list_all test (times g.updates) ≡ true → (site : Place) → list_all test (times (share p site g)) ≡ true
+  share_all test h site = step (source_of p site.node site.port) (arranged_by (node_of p site.node))
+    where
+      chosen : (keep : Update T → Bool) (us : List (Update T)) → list_all test (times us) ≡ true → list_all test (times (filter keep us)) ≡ true
+      chosen keep [] h = h
+      chosen keep (u ∷ us) h = let g = and_parts (test u.time) (list_all test (times us)) h in one (keep u) g.0 (chosen keep us g.1)
+        where
+          one : (b : Bool) → test u.time ≡ true → list_all test (times (filter keep us)) ≡ true → list_all test (times (cond b (u ∷ filter keep us) (filter keep us))) ≡ true
+          one true x y = and_from (test u.time) (list_all test (times (filter keep us))) x y
+          one false x y = y
+
+      either : (b : Bool) (us : List (Update T)) → list_all test (times us) ≡ true → list_all test (times (cond b us [])) ≡ true
+      either true us h = h
+      either false us h = refl
+
+      parted : (c : Option ℕ) → list_all test (times (part p c g.worker site.worker g.updates)) ≡ true
+      parted None = either (eqb g.worker site.worker) g.updates h
+      parted (Some c) = chosen (λ u. eqb (route p (take c u.row)) site.worker) g.updates h
+
+      step : (x c : Option ℕ) → list_all test (times (share_from p x c site.worker g)) ≡ true
+      step None c = refl
+      step (Some s) c = either (eqb g.node s) (part p c g.worker site.worker g.updates) (parted c)
+
+  pub cut_stamped : PartialOrderLaws leq → (F : List T) → all_beyond leq F (times g.updates) ≡ true → list_all (is_between leq F) (cut leq p g) ≡ true
+  cut_stamped o F h = cut_all (is_between leq F) (λ site. between_bundle leq o F site (share p site g) (share_all (is_beyond leq F) h site))
 
   module _ (site : Place) where
     abbrev mine : List (Update T)
     mine = share p site g
 
     -- what the bundle for one place has for this one
-    one_place : (other : Place) → updates_at site (bundled other (share p other g)) ≡ cond (same_place other site) mine []
-    one_place other = bundle_there site other (share p other g) ∙ step (same_place other site) refl
+    one_place : (other : Place) → updates_at site (bundled leq other (share p other g)) ≡ cond (same_place other site) mine []
+    one_place other = bundle_there leq site other (share p other g) ∙ step (same_place other site) refl
       where
         step : (b : Bool) → same_place other site ≡ b → cond b (share p other g) [] ≡ cond b mine []
         step true e = ap (λ z. share p z g) (place_same other site e)
         step false e = refl
 
     abbrev from_port : ℕ → ℕ → List (Update T)
-    from_port n port = updates_at site (cut_at p g n port)
+    from_port n port = updates_at site (cut_at leq p g n port)
 
-    over_workers : (n port : ℕ) → from_port n port ≡ flat_map (λ k. updates_at site (bundled (place n port k) (share p (place n port k) g))) (numbers_below p.workers)
-    over_workers n port = updates_over site (λ k. bundled (place n port k) (share p (place n port k) g)) (numbers_below p.workers)
+    over_workers : (n port : ℕ) → from_port n port ≡ flat_map (λ k. updates_at site (bundled leq (place n port k) (share p (place n port k) g))) (numbers_below p.workers)
+    over_workers n port = updates_over site (λ k. bundled leq (place n port k) (share p (place n port k) g)) (numbers_below p.workers)
 
-    over_nodes : updates_at site (cut p g) ≡ flat_map (λ n. from_port n 0 ++ from_port n 1) (numbers_below (length p.nodes))
+    over_nodes : updates_at site (cut leq p g) ≡ flat_map (λ n. from_port n 0 ++ from_port n 1) (numbers_below (length p.nodes))
     over_nodes =
-        updates_over site (λ n. cut_at p g n 0 ++ cut_at p g n 1) (numbers_below (length p.nodes))
-        ∙ ap (λ f. flat_map f (numbers_below (length p.nodes))) (fun_ext (λ n. flat_map-append (λ (b : Bundle T). cond (same_place b.place site) b.updates []) (cut_at p g n 0) (cut_at p g n 1)))
+        updates_over site (λ n. cut_at leq p g n 0 ++ cut_at leq p g n 1) (numbers_below (length p.nodes))
+        ∙ ap (λ f. flat_map f (numbers_below (length p.nodes))) (fun_ext (λ n. flat_map-append (λ (b : Bundle T). cond (same_place b.place site) b.updates []) (cut_at leq p g n 0) (cut_at leq p g n 1)))
 
     -- what comes of a port, where no worker gets anything but perhaps one
     port_none : mine ≡ [] → (n port : ℕ) → from_port n port ≡ []
-    port_none e n port = over_workers n port ∙ none_below p.workers (λ k. updates_at site (bundled (place n port k) (share p (place n port k) g))) (λ k l. one_place (place n port k) ∙ nothing (same_place (place n port k) site) mine e)
+    port_none e n port = over_workers n port ∙ none_below p.workers (λ k. updates_at site (bundled leq (place n port k) (share p (place n port k) g))) (λ k l. one_place (place n port k) ∙ nothing (same_place (place n port k) site) mine e)
 
     port_some : site.worker < p.workers → (n port : ℕ) → from_port n port ≡ cond (eqb n site.node && eqb port site.port) mine []
     port_some l n port =
         over_workers n port
-        ∙ (one_below p.workers site.worker (λ k. updates_at site (bundled (place n port k) (share p (place n port k) g)))
+        ∙ (one_below p.workers site.worker (λ k. updates_at site (bundled leq (place n port k) (share p (place n port k) g)))
         (λ k d. one_place (place n port k) ∙ ap (λ b. cond b mine []) (other (eqb n site.node) (eqb port site.port) (eqb k site.worker) (ne_eqb k site.worker d))) l
         ∙ (one_place (place n port site.worker) ∙ ap (λ b. cond b mine []) (same (eqb n site.node) (eqb port site.port) (eqb site.worker site.worker) (eq-eqb site.worker site.worker refl))))
       where
@@ -157,7 +203,7 @@ module _ {T : Type 0} (p : Dataflow) (g : Emission T) where
         same true false c e = refl
         same false b c e = refl
 
-  pub cut_whole : IsDataflow p → g.worker < p.workers → (site : Place) → updates_at site (cut p g) ≡ share p site g
+  pub cut_whole : IsDataflow p → g.worker < p.workers → (site : Place) → updates_at site (cut leq p g) ≡ share p site g
   cut_whole q l site = over_nodes site ∙ step (share p site g) refl
     where
       from : ℕ → List (Update T)

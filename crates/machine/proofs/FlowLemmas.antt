@@ -1,5 +1,5 @@
 -- What one event changes: sums at a time, of what is at a site, and of what was to come there.
-use Rattle.std.proofs.Common.{◌≡◌, ℕ, zero, suc, Bool, true, false, cond, not, ◌&&◌, List, [], ◌∷◌, ◌++◌, map, sym, refl, ap, ◌∙◌, Some, eqb, arith}
+use Rattle.std.proofs.Common.{◌≡◌, ℕ, zero, suc, Bool, true, false, cond, not, ◌&&◌, List, [], ◌∷◌, ◌++◌, map, sym, refl, ap, ◌∙◌, Some, eqb, arith, inl, inr, ⊎_elim}
 use Rattle.std.specs.List.{filter, slice_get}
 use Rattle.std.proofs.lemmas.Int.{ints}
 use Rattle.std.proofs.lemmas.Bool.{and_parts, eqb-true, false≢true}
@@ -9,6 +9,7 @@ use Rattle.std.proofs.Math.IntN.{ℤ, pos, ◌+ℤ◌, +ℤ_idl}
 use Rattle.lattice.specs.Order.{PartialOrderLaws}
 use Rattle.lattice.specs.Frontiers.{is_beyond}
 use Rattle.antichain.specs.Antichains.{least}
+use Rattle.antichain.proofs.Lists.{Among}
 use Rattle.update.specs.Bags.{count_of, same_row, total_by}
 use Rattle.update.specs.Updates.{as_of, entry}
 use Rattle.update.specs.declared.change.Update.{Update}
@@ -72,23 +73,52 @@ module _ {T : Type 0} (f : Update T → ℤ) where
       swap_first x y z = omega (arith, ints)
 
   -- what is taken from a site is no longer there, and each other site is as it was
-  pub taken : (site : Place) (qs : List (Bundle T)) (j : ℕ) (us : List (Update T)) → slice_get (queue site qs) j ≡ Some us → (other : Place) → total_by f (updates_at other qs) ≡ total_by f (cond (same_place site other) us []) +ℤ total_by f (updates_at other (without site qs j))
-  taken site [] j us h other = cc
-  taken site (q ∷ qs) zero us h other = step (same_place q.place site) refl h (taken site qs zero us)
+  pub taken : (site : Place) (qs : List (Bundle T)) (j : ℕ) (b : Bundle T) → slice_get (queue site qs) j ≡ Some b → (other : Place) → total_by f (updates_at other qs) ≡ total_by f (cond (same_place site other) b.updates []) +ℤ total_by f (updates_at other (without site qs j))
+  taken site [] j b h other = cc
+  taken site (q ∷ qs) zero b h other = step (same_place q.place site) refl h (taken site qs zero b)
     where
-      step : (b : Bool) → same_place q.place site ≡ b → slice_get (cond b (q.updates ∷ []) [] ++ queue site qs) zero ≡ Some us
-          → (slice_get (queue site qs) zero ≡ Some us → (other : Place) → total_by f (updates_at other qs) ≡ total_by f (cond (same_place site other) us []) +ℤ total_by f (updates_at other (without site qs zero)))
-          → total_by f (updates_at other (q ∷ qs)) ≡ total_by f (cond (same_place site other) us []) +ℤ total_by f (updates_at other (cond b qs (q ∷ without site qs zero)))
-      step true s e ih = rw (place_same q.place site s, same_Some q.updates us e) (total_by-append f (cond (same_place site other) us []) (updates_at other qs))
-      step false s e ih = past (cond (same_place q.place other) q.updates []) (updates_at other qs) (updates_at other (without site qs zero)) (total_by f (cond (same_place site other) us [])) (ih e other)
-  taken site (q ∷ qs) (suc j) us h other = step (same_place q.place site) h (taken site qs j us) (taken site qs (suc j) us)
+      step : (c : Bool) → same_place q.place site ≡ c → slice_get (cond c (q ∷ []) [] ++ queue site qs) zero ≡ Some b
+          → (slice_get (queue site qs) zero ≡ Some b → (other : Place) → total_by f (updates_at other qs) ≡ total_by f (cond (same_place site other) b.updates []) +ℤ total_by f (updates_at other (without site qs zero)))
+          → total_by f (updates_at other (q ∷ qs)) ≡ total_by f (cond (same_place site other) b.updates []) +ℤ total_by f (updates_at other (cond c qs (q ∷ without site qs zero)))
+      step true s e ih = rw (place_same q.place site s, ap (λ z. z.updates) (same_Some q b e)) (total_by-append f (cond (same_place site other) b.updates []) (updates_at other qs))
+      step false s e ih = past (cond (same_place q.place other) q.updates []) (updates_at other qs) (updates_at other (without site qs zero)) (total_by f (cond (same_place site other) b.updates [])) (ih e other)
+  taken site (q ∷ qs) (suc j) b h other = step (same_place q.place site) h (taken site qs j b) (taken site qs (suc j) b)
     where
-      step : (b : Bool) → slice_get (cond b (q.updates ∷ []) [] ++ queue site qs) (suc j) ≡ Some us
-          → (slice_get (queue site qs) j ≡ Some us → (other : Place) → total_by f (updates_at other qs) ≡ total_by f (cond (same_place site other) us []) +ℤ total_by f (updates_at other (without site qs j)))
-          → (slice_get (queue site qs) (suc j) ≡ Some us → (other : Place) → total_by f (updates_at other qs) ≡ total_by f (cond (same_place site other) us []) +ℤ total_by f (updates_at other (without site qs (suc j))))
-          → total_by f (updates_at other (q ∷ qs)) ≡ total_by f (cond (same_place site other) us []) +ℤ total_by f (updates_at other (q ∷ cond b (without site qs j) (without site qs (suc j))))
-      step true e ih jh = past (cond (same_place q.place other) q.updates []) (updates_at other qs) (updates_at other (without site qs j)) (total_by f (cond (same_place site other) us [])) (ih e other)
-      step false e ih jh = past (cond (same_place q.place other) q.updates []) (updates_at other qs) (updates_at other (without site qs (suc j))) (total_by f (cond (same_place site other) us [])) (jh e other)
+      step : (c : Bool) → slice_get (cond c (q ∷ []) [] ++ queue site qs) (suc j) ≡ Some b
+          → (slice_get (queue site qs) j ≡ Some b → (other : Place) → total_by f (updates_at other qs) ≡ total_by f (cond (same_place site other) b.updates []) +ℤ total_by f (updates_at other (without site qs j)))
+          → (slice_get (queue site qs) (suc j) ≡ Some b → (other : Place) → total_by f (updates_at other qs) ≡ total_by f (cond (same_place site other) b.updates []) +ℤ total_by f (updates_at other (without site qs (suc j))))
+          → total_by f (updates_at other (q ∷ qs)) ≡ total_by f (cond (same_place site other) b.updates []) +ℤ total_by f (updates_at other (q ∷ cond c (without site qs j) (without site qs (suc j))))
+      step true e ih jh = past (cond (same_place q.place other) q.updates []) (updates_at other qs) (updates_at other (without site qs j)) (total_by f (cond (same_place site other) b.updates [])) (ih e other)
+      step false e ih jh = past (cond (same_place q.place other) q.updates []) (updates_at other qs) (updates_at other (without site qs (suc j))) (total_by f (cond (same_place site other) b.updates [])) (jh e other)
+
+-- A bundle that waits at a place is one of those in flight, and the others are those that are left
+
+module _ {T : Type 0} where
+  pub queued : (site : Place) (qs : List (Bundle T)) (j : ℕ) (b : Bundle T) → slice_get (queue site qs) j ≡ Some b → Among b qs × (b.place ≡ site)
+  queued site [] j b e = cc
+  queued site (q ∷ qs) zero b e = step (same_place q.place site) refl e (queued site qs zero b)
+    where
+      step : (c : Bool) → same_place q.place site ≡ c → slice_get (cond c (q ∷ []) [] ++ queue site qs) zero ≡ Some b → (slice_get (queue site qs) zero ≡ Some b → Among b qs × (b.place ≡ site)) → Among b (q ∷ qs) × (b.place ≡ site)
+      step true s f ih = let same = same_Some q b f in (inl same, sym (ap (λ z. z.place) same) ∙ place_same q.place site s)
+      step false s f ih = let r = ih f in (inr r.0, r.1)
+  queued site (q ∷ qs) (suc j) b e = step (same_place q.place site) e (queued site qs j b) (queued site qs (suc j) b)
+    where
+      step : (c : Bool) → slice_get (cond c (q ∷ []) [] ++ queue site qs) (suc j) ≡ Some b → (slice_get (queue site qs) j ≡ Some b → Among b qs × (b.place ≡ site)) → (slice_get (queue site qs) (suc j) ≡ Some b → Among b qs × (b.place ≡ site)) → Among b (q ∷ qs) × (b.place ≡ site)
+      step true f ih jh = let r = ih f in (inr r.0, r.1)
+      step false f ih jh = let r = jh f in (inr r.0, r.1)
+
+  pub among_left : (site : Place) (qs : List (Bundle T)) (j : ℕ) (b : Bundle T) → Among b (without site qs j) → Among b qs
+  among_left site [] j b m = m
+  among_left site (q ∷ qs) zero b m = step (same_place q.place site) m (among_left site qs zero b)
+    where
+      step : (c : Bool) → Among b (cond c qs (q ∷ without site qs zero)) → (Among b (without site qs zero) → Among b qs) → Among b (q ∷ qs)
+      step true m ih = inr m
+      step false m ih = ⊎_elim (λ e. inl e) (λ n. inr (ih n)) m
+  among_left site (q ∷ qs) (suc j) b m = ⊎_elim (λ e. inl e) (λ n. inr (step (same_place q.place site) n (among_left site qs j b) (among_left site qs (suc j) b))) m
+    where
+      step : (c : Bool) → Among b (cond c (without site qs j) (without site qs (suc j))) → (Among b (without site qs j) → Among b qs) → (Among b (without site qs (suc j)) → Among b qs) → Among b qs
+      step true m ih jh = ih m
+      step false m ih jh = jh m
 
 -- What the least elements have passed, all have
 

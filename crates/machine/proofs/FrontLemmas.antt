@@ -12,14 +12,13 @@ use Rattle.antichain.specs.Antichains.{least, SameElements}
 use Rattle.antichain.proofs.InsertionLemmas.{least_beyond}
 use Rattle.antichain.proofs.Lists.{contains_among, all_at, all_from}
 use Rattle.plan.specs.Changes.{has_passed}
-use Rattle.machine.proofs.StampLemmas.{stamp_beyond}
 use Rattle.machine.specs.declared.event.Bundle.{Bundle}
 use Rattle.machine.specs.declared.event.Held.{Held}
 use Rattle.machine.specs.declared.event.Open.{Open}
 use Rattle.machine.specs.declared.event.Event.{Event}
 use Rattle.machine.specs.Dataflows.{above}
-use Rattle.machine.specs.Worlds.{World, times, queue, held_at}
-use Rattle.machine.specs.Outstanding.{stamp, stamps, held_where, open_where, counted, outstanding, frontier, strictly_above, input_frontier}
+use Rattle.machine.specs.Worlds.{World, queue, held_at}
+use Rattle.machine.specs.Outstanding.{stamps, held_where, open_where, counted, outstanding, frontier, strictly_above, input_frontier}
 use Rattle.machine.specs.Histories.{world, IsTakeHeld}
 use Rattle.machine.specs.Promises.{IsInPlace}
 use Rattle.machine.specs.Readings.{IsQuiet}
@@ -36,24 +35,13 @@ or_nothing true = refl
 or_nothing false = refl
 
 module _ {T : Type 0} (below : T → T → Bool) (o : PartialOrderLaws below) where
-  stamps_any : (test : ℕ → Bool) (t : T) (bs : List (Bundle T)) → is_beyond below (stamps below (λ site. test site.node) bs) t ≡ list_any (λ b. test b.place.node && is_beyond below (times b.updates) t) bs
+  stamps_any : (test : ℕ → Bool) (t : T) (bs : List (Bundle T)) → is_beyond below (stamps (λ site. test site.node) bs) t ≡ list_any (λ b. test b.place.node && is_beyond below b.stamp t) bs
   stamps_any test t [] = refl
   stamps_any test t (b ∷ bs) =
-      list_any-append (λ f. below f t) (cond (test b.place.node) (stamp below b.updates) []) (stamps below (λ site. test site.node) bs)
+      list_any-append (λ f. below f t) (cond (test b.place.node) b.stamp []) (stamps (λ site. test site.node) bs)
       ∙ ap₂ (λ x y. x || y) (step (test b.place.node)) (stamps_any test t bs)
     where
-      step : (c : Bool) → is_beyond below (cond c (stamp below b.updates) []) t ≡ (c && is_beyond below (times b.updates) t)
-      step true = stamp_beyond below o b.updates t
-      step false = refl
-
-  -- the same, where all times of the bundles are listed
-  all_any : (test : ℕ → Bool) (t : T) (bs : List (Bundle T)) → is_beyond below (flat_map (λ b. cond (test b.place.node) (times b.updates) []) bs) t ≡ list_any (λ b. test b.place.node && is_beyond below (times b.updates) t) bs
-  all_any test t [] = refl
-  all_any test t (b ∷ bs) =
-      list_any-append (λ f. below f t) (cond (test b.place.node) (times b.updates) []) (flat_map (λ b. cond (test b.place.node) (times b.updates) []) bs)
-      ∙ ap₂ (λ x y. x || y) (step (test b.place.node)) (all_any test t bs)
-    where
-      step : (c : Bool) → is_beyond below (cond c (times b.updates) []) t ≡ (c && is_beyond below (times b.updates) t)
+      step : (c : Bool) → is_beyond below (cond c b.stamp []) t ≡ (c && is_beyond below b.stamp t)
       step true = refl
       step false = refl
 
@@ -77,21 +65,21 @@ module _ {T : Type 0} (below : T → T → Bool) (o : PartialOrderLaws below) wh
       step true = or_nothing (below x.time t)
       step false = refl
 
-  counted_any : (w : World T) (there holds : ℕ → Bool) (t : T) → is_beyond below (counted below w there holds) t
-      ≡ (list_any (λ b. there b.place.node && is_beyond below (times b.updates) t) w.in_flight || (list_any (λ m. holds m.node && below m.time t) w.held || list_any (λ x. there x.input && below x.time t) w.openings))
+  counted_any : (w : World T) (there holds : ℕ → Bool) (t : T) → is_beyond below (counted w there holds) t
+      ≡ (list_any (λ b. there b.place.node && is_beyond below b.stamp t) w.in_flight || (list_any (λ m. holds m.node && below m.time t) w.held || list_any (λ x. there x.input && below x.time t) w.openings))
   counted_any w there holds t =
-      list_any-append (λ f. below f t) (stamps below (λ site. there site.node) w.in_flight) (held_where holds w.held ++ open_where there w.openings)
+      list_any-append (λ f. below f t) (stamps (λ site. there site.node) w.in_flight) (held_where holds w.held ++ open_where there w.openings)
       ∙ ap₂ (λ x y. x || y) (stamps_any there t w.in_flight) (list_any-append (λ f. below f t) (held_where holds w.held) (open_where there w.openings) ∙ ap₂ (λ x y. x || y) (held_any holds t w.held) (opened_any there t w.openings))
 
   -- what is alike at each place is counted alike
   pub counted_like : (v w : World T) (there holds : ℕ → Bool) → AreQueued v.in_flight w.in_flight → AreHeld v.held w.held → AreOpen v.openings w.openings
-      → (t : T) → is_beyond below (least below (counted below v there holds)) t ≡ is_beyond below (least below (counted below w there holds)) t
+      → (t : T) → is_beyond below (least below (counted v there holds)) t ≡ is_beyond below (least below (counted w there holds)) t
   counted_like v w there holds queued held opened t =
-      least_beyond o (counted below v there holds) t
+      least_beyond o (counted v there holds) t
       ∙ (counted_any v there holds t
-      ∙ (ap₂ (λ x y. x || y) (queued_any (λ site us. there site.node && is_beyond below (times us) t) v.in_flight w.in_flight queued)
+      ∙ (ap₂ (λ x y. x || y) (queued_any (λ b. there b.place.node && is_beyond below b.stamp t) v.in_flight w.in_flight queued)
       (ap₂ (λ x y. x || y) (held_any_like (λ n u. holds n && below u t) v.held w.held held) (open_any_like (λ i u. there i && below u t) v.openings w.openings opened))
-      ∙ (sym (counted_any w there holds t) ∙ sym (least_beyond o (counted below w there holds) t))))
+      ∙ (sym (counted_any w there holds t) ∙ sym (least_beyond o (counted w there holds) t))))
 
   or_thrice : (a b c : Bool) → ((a || b) || c) ≡ (a || (b || c))
   or_thrice true b c = refl
@@ -99,46 +87,35 @@ module _ {T : Type 0} (below : T → T → Bool) (o : PartialOrderLaws below) wh
 
   -- three tests tell whether a frontier has passed a time
   pub passed_found : (w : World T) (there holds : ℕ → Bool) (t : T) (a b c : Bool)
-      → a ≡ list_any (λ b. there b.place.node && is_beyond below (times b.updates) t) w.in_flight → b ≡ list_any (λ m. holds m.node && below m.time t) w.held → c ≡ list_any (λ x. there x.input && below x.time t) w.openings
-      → not ((a || b) || c) ≡ has_passed below (least below (counted below w there holds)) t
+      → a ≡ list_any (λ b. there b.place.node && is_beyond below b.stamp t) w.in_flight → b ≡ list_any (λ m. holds m.node && below m.time t) w.held → c ≡ list_any (λ x. there x.input && below x.time t) w.openings
+      → not ((a || b) || c) ≡ has_passed below (least below (counted w there holds)) t
   passed_found w there holds t a b c e f g =
-      ap not (or_thrice a b c ∙ ap₂ (λ x y. x || y) e (ap₂ (λ x y. x || y) f g) ∙ sym (counted_any w there holds t) ∙ sym (least_beyond o (counted below w there holds) t))
+      ap not (or_thrice a b c ∙ ap₂ (λ x y. x || y) e (ap₂ (λ x y. x || y) f g) ∙ sym (counted_any w there holds t) ∙ sym (least_beyond o (counted w there holds) t))
 
   -- the least of all times that were collected are the frontier
-  collected_any : (b : Shown T) (n : ℕ) (t : T) → is_beyond below (flat_map (λ q. cond (above b.dataflow n q.place.node) (times q.updates) []) b.in_flight ++ (held_where (above b.dataflow n) b.held ++ open_where (above b.dataflow n) (open_on b))) t
-      ≡ is_beyond below (outstanding below b.dataflow (on_board b) n) t
-  collected_any b n t =
-      let there = above b.dataflow n in
-      list_any-append (λ f. below f t) (flat_map (λ q. cond (there q.place.node) (times q.updates) []) b.in_flight) (held_where there b.held ++ open_where there (open_on b))
-      ∙ ap (λ x. x || is_beyond below (held_where there b.held ++ open_where there (open_on b)) t) (all_any there t b.in_flight ∙ sym (stamps_any there t b.in_flight))
-      ∙ sym (list_any-append (λ f. below f t) (stamps below (λ site. there site.node) b.in_flight) (held_where there b.held ++ open_where there (open_on b)))
-
   -- what was collected part by part is all of it
   pub all_collected : (b : Shown T) {v : Shown T} → v ≡ b → (n : ℕ) (none flight some all : List T) (bundles : List (Bundle T)) (held : List (Held T))
       → none ≡ [] → bundles ≡ v.in_flight → held ≡ v.held
-      → flight ≡ none ++ flat_map (λ q. cond (above v.dataflow n q.place.node) (times q.updates) []) bundles → some ≡ flight ++ held_where (above v.dataflow n) held
+      → flight ≡ none ++ stamps (λ site. above v.dataflow n site.node) bundles → some ≡ flight ++ held_where (above v.dataflow n) held
       → all ≡ some ++ flat_map (λ i. cond (above v.dataflow n i) (front_at i v.inputs) []) (numbers_below (length v.dataflow.nodes))
-      → all ≡ (flat_map (λ q. cond (above b.dataflow n q.place.node) (times q.updates) []) b.in_flight ++ held_where (above b.dataflow n) b.held) ++ open_where (above b.dataflow n) (open_on b)
+      → all ≡ (stamps (λ site. above b.dataflow n site.node) b.in_flight ++ held_where (above b.dataflow n) b.held) ++ open_where (above b.dataflow n) (open_on b)
   all_collected b {v} e n none flight some all bundles held x y z f s a =
       a
       ∙ (ap (λ ts. ts ++ flat_map (λ i. cond (above v.dataflow n i) (front_at i v.inputs) []) (numbers_below (length v.dataflow.nodes)))
-          (s ∙ ap₂ (λ ts ms. ts ++ held_where (above v.dataflow n) ms) (f ∙ ap₂ (λ ts qs. ts ++ flat_map (λ q. cond (above v.dataflow n q.place.node) (times q.updates) []) qs) x y) z)
-      ∙ (ap (λ ts. (flat_map (λ q. cond (above v.dataflow n q.place.node) (times q.updates) []) v.in_flight ++ held_where (above v.dataflow n) v.held) ++ ts) (sym (where_spread (above v.dataflow n) (λ i. front_at i v.inputs) (length v.dataflow.nodes)))
-      ∙ ap (λ (w : Shown T). (flat_map (λ q. cond (above w.dataflow n q.place.node) (times q.updates) []) w.in_flight ++ held_where (above w.dataflow n) w.held) ++ open_where (above w.dataflow n) (open_on w)) e))
+          (s ∙ ap₂ (λ ts ms. ts ++ held_where (above v.dataflow n) ms) (f ∙ ap₂ (λ ts qs. ts ++ stamps (λ site. above v.dataflow n site.node) qs) x y) z)
+      ∙ (ap (λ ts. (stamps (λ site. above v.dataflow n site.node) v.in_flight ++ held_where (above v.dataflow n) v.held) ++ ts) (sym (where_spread (above v.dataflow n) (λ i. front_at i v.inputs) (length v.dataflow.nodes)))
+      ∙ ap (λ (w : Shown T). (stamps (λ site. above w.dataflow n site.node) w.in_flight ++ held_where (above w.dataflow n) w.held) ++ open_where (above w.dataflow n) (open_on w)) e))
 
-  collected : (b : Shown T) (n : ℕ) → ((flat_map (λ q. cond (above b.dataflow n q.place.node) (times q.updates) []) b.in_flight ++ held_where (above b.dataflow n) b.held) ++ open_where (above b.dataflow n) (open_on b))
-      ≡ flat_map (λ q. cond (above b.dataflow n q.place.node) (times q.updates) []) b.in_flight ++ (held_where (above b.dataflow n) b.held ++ open_where (above b.dataflow n) (open_on b))
-  collected b n = append_assoc (flat_map (λ q. cond (above b.dataflow n q.place.node) (times q.updates) []) b.in_flight) (held_where (above b.dataflow n) b.held) (open_where (above b.dataflow n) (open_on b))
+  collected : (b : Shown T) (n : ℕ) (all : List T) → all ≡ (stamps (λ site. above b.dataflow n site.node) b.in_flight ++ held_where (above b.dataflow n) b.held) ++ open_where (above b.dataflow n) (open_on b) → all ≡ outstanding b.dataflow (on_board b) n
+  collected b n all e = e ∙ append_assoc (stamps (λ site. above b.dataflow n site.node) b.in_flight) (held_where (above b.dataflow n) b.held) (open_where (above b.dataflow n) (open_on b))
 
-  pub front_found : (b : Shown T) (n : ℕ) (all found : List T) → all ≡ (flat_map (λ q. cond (above b.dataflow n q.place.node) (times q.updates) []) b.in_flight ++ held_where (above b.dataflow n) b.held) ++ open_where (above b.dataflow n) (open_on b)
+  pub front_found : (b : Shown T) (n : ℕ) (all found : List T) → all ≡ (stamps (λ site. above b.dataflow n site.node) b.in_flight ++ held_where (above b.dataflow n) b.held) ++ open_where (above b.dataflow n) (open_on b)
       → SameElements found (least below all) → SameElements found (front below b n)
-  front_found b n all found e same =
-      let next = least_same below o all (outstanding below b.dataflow (on_board b) n) (λ t. ap (λ ts. is_beyond below ts t) (e ∙ collected b n) ∙ collected_any b n t) in
-      record { into = λ t c. next.into t (same.into t c); back = λ t c. same.back t (next.back t c) }
+  front_found b n all found e same = subst (λ ts. SameElements found (least below ts)) (collected b n all e) same
 
-  pub beyond_found : (b : Shown T) (n : ℕ) (all found : List T) → all ≡ (flat_map (λ q. cond (above b.dataflow n q.place.node) (times q.updates) []) b.in_flight ++ held_where (above b.dataflow n) b.held) ++ open_where (above b.dataflow n) (open_on b)
+  pub beyond_found : (b : Shown T) (n : ℕ) (all found : List T) → all ≡ (stamps (λ site. above b.dataflow n site.node) b.in_flight ++ held_where (above b.dataflow n) b.held) ++ open_where (above b.dataflow n) (open_on b)
       → ((t : T) → is_beyond below found t ≡ is_beyond below all t) → (t : T) → is_beyond below found t ≡ is_beyond below (front below b n) t
-  beyond_found b n all found e same t = same t ∙ (ap (λ ts. is_beyond below ts t) (e ∙ collected b n) ∙ (collected_any b n t ∙ sym (least_beyond o (outstanding below b.dataflow (on_board b) n) t)))
+  beyond_found b n all found e same t = same t ∙ (ap (λ ts. is_beyond below ts t) (collected b n all e) ∙ sym (least_beyond o (outstanding b.dataflow (on_board b) n) t))
 
 -- what holds of an answer holds of what follows from it
 pub on_ok : {A E : Type 0} (r : Result A E) (P Q : A → Type 0) → ((x : A) → P x → Q x) → IfOk r P → IfOk r Q
@@ -156,8 +133,8 @@ module _ {T : Type 0} (below : T → T → Bool) (o : PartialOrderLaws below) (m
   -- and so they have the same elements
   pub front_elements : (b : Shown T) → IsBoard b → (h : List (Event T)) → Stands below minimum b h → (n : ℕ) → SameElements (front below b n) (frontier below b.dataflow (world below minimum b.dataflow h) n)
   front_elements b board h s n =
-      let found = outstanding below b.dataflow (on_board b) n in
-      let left = outstanding below b.dataflow (world below minimum b.dataflow h) n in
+      let found = outstanding b.dataflow (on_board b) n in
+      let left = outstanding b.dataflow (world below minimum b.dataflow h) n in
       least_same below o found left (λ t. sym (least_beyond o found t) ∙ (front_stands b board h s n t ∙ least_beyond o left t))
 
   pub input_front_stands : (b : Shown T) → IsBoard b → (h : List (Event T)) → Stands below minimum b h → (n : ℕ) (t : T) → is_beyond below (input_front below b n) t ≡ is_beyond below (input_frontier below b.dataflow (world below minimum b.dataflow h) n) t

@@ -3,6 +3,7 @@ use Rattle.std.proofs.Common.{◌≡◌, ℕ, ◌<◌, Bool, true, false, cond, 
 use Rattle.std.proofs.Math.IntN.{ℤ, pos}
 use Rattle.std.proofs.lemmas.Bool.{and_from, ne_eqb}
 use Rattle.std.specs.declared.cmp.Ordering.{Ordering}
+use Rattle.std.specs.List.{list_all}
 use Rattle.lattice.specs.Order.{PartialOrderLaws}
 use Rattle.lattice.specs.Frontiers.{is_beyond}
 use Rattle.update.specs.Bags.{count_of, Alike}
@@ -20,11 +21,11 @@ use Rattle.machine.specs.Worlds.{World, emitted_at}
 use Rattle.machine.specs.NodeLaws.{received_at}
 use Rattle.machine.specs.Outstanding.{outstanding, counted, frontier, strictly_above, input_frontier, port_frontier}
 use Rattle.machine.specs.Histories.{IsLegal, world}
-use Rattle.machine.specs.Promises.{changes_in, MeetsQuery, MeetsDifferences, MeetsPart, GoesOn}
+use Rattle.machine.specs.Promises.{changes_in, MeetsQuery, MeetsDifferences, MeetsPart, IsClearAt, NothingLurks, GoesOn}
 use Rattle.machine.proofs.ClaimLemmas.{claim, part_claim, due_claim}
-use Rattle.machine.proofs.ClearLemmas.{IsClear, IsArrived, arrived_passed, clear_passed}
+use Rattle.machine.proofs.ClearLemmas.{IsClear, IsArrived, arrived_passed, clear_passed, lurks_lem}
 use Rattle.machine.proofs.FlowLemmas.{passed-least, is_passed, not_beyond}
-use Rattle.machine.proofs.KeptLemmas.{kept_world}
+use Rattle.machine.proofs.KeptLemmas.{is_stamped, kept_world}
 use Rattle.machine.proofs.OnwardLemmas.{frontier_onward, input_onward, port_onward}
 use Rattle.machine.proofs.PassedLemmas.{passed_down}
 
@@ -33,9 +34,13 @@ module _ {T : Type 0} (leq : T → T → Bool) (minimum : T) (o : PartialOrderLa
     abbrev w : World T
     w = world leq minimum p h
 
+    -- each update in flight is beyond its bundle's stamp
+    stamped : list_all (is_stamped leq) w.in_flight ≡ true
+    stamped = (kept_world leq o p minimum h l).stamped
+
     pub headline_lem : MeetsQuery leq p w n
     headline_lem t e r =
-        (claim leq p q w (kept_world leq o p minimum h l) t n (λ m a. clear_passed leq o t (above p n) (above p n) w (passed-least leq o (outstanding leq p w n) t (not_beyond _ e)) m a a)).all r
+        (claim leq p q w (kept_world leq o p minimum h l) t n (λ m a. clear_passed leq o t (above p n) (above p n) w stamped (passed-least leq o (outstanding p w n) t (not_beyond _ e)) m a a)).all r
 
     pub differences_lem : (cmp : T → T → Ordering) → MeetsDifferences leq p w n cmp
     differences_lem cmp = record {
@@ -44,10 +49,13 @@ module _ {T : Type 0} (leq : T → T → Bool) (minimum : T) (o : PartialOrderLa
     }
 
     arrived : (t : T) → is_beyond leq (input_frontier leq p w n) t ≡ false → IsArrived leq w t n
-    arrived t f = arrived_passed leq o t (above p n) (strictly_above p n) w (passed-least leq o (counted leq w (above p n) (strictly_above p n)) t f) n (above_itself p.nodes q.plan n)
+    arrived t f = arrived_passed leq o t (above p n) (strictly_above p n) w stamped (passed-least leq o (counted w (above p n) (strictly_above p n)) t f) n (above_itself p.nodes q.plan n)
 
     others : (t : T) → is_beyond leq (input_frontier leq p w n) t ≡ false → (m : ℕ) → above p n m ≡ true → m < n → IsClear leq w t m
-    others t f m a b = clear_passed leq o t (above p n) (strictly_above p n) w (passed-least leq o (counted leq w (above p n) (strictly_above p n)) t f) m a (and_from (above p n m) (not (eqb m n)) a (ap not (ne_eqb m n (λ x. absurd (omega arith)))))
+    others t f m a b = clear_passed leq o t (above p n) (strictly_above p n) w stamped (passed-least leq o (counted w (above p n) (strictly_above p n)) t f) m a (and_from (above p n m) (not (eqb m n)) a (ap not (ne_eqb m n (λ x. absurd (omega arith)))))
+
+    pub lurks : NothingLurks leq p w n
+    lurks t e = lurks_lem leq o p w n (above p n) t stamped (not_beyond _ e)
 
     pub part_lem : (k : ℕ) → MeetsPart leq p w n k
     part_lem k e t f g r =
@@ -72,6 +80,10 @@ module _ {T : Type 0} (leq : T → T → Bool) (minimum : T) (o : PartialOrderLa
         on : (es : List (Event T)) → IsLegal leq minimum p (es ++ h) → (n : ℕ) → GoesOn leq (input_frontier leq p (world leq minimum p h) n) (input_frontier leq p (world leq minimum p (es ++ h)) n)
         on [] l n t k = k
         on (e ∷ es) l n t k = is_passed _ (input_onward leq o t p q n (world leq minimum p (es ++ h)) e l.0 (not_beyond _ (on es l.1 n t k)))
+
+    -- so what comes to a node later is beyond what its input frontier has passed now
+    pub lurks_later : IsLegal leq minimum p (later ++ h) → (n : ℕ) (t : T) → IsTrue (has_passed leq (input_frontier leq p (world leq minimum p h) n) t) → IsClearAt leq p (world leq minimum p (later ++ h)) n (strictly_above p n) t
+    lurks_later l n t k = lurks_lem leq o p (world leq minimum p (later ++ h)) n (strictly_above p n) t (kept_world leq o p minimum (later ++ h) l).stamped (not_beyond _ (inputs_lem l n t k))
 
     pub ports_lem : IsLegal leq minimum p (later ++ h) → (n port : ℕ) → GoesOn leq (port_frontier leq p (world leq minimum p h) n port) (port_frontier leq p (world leq minimum p (later ++ h)) n port)
     ports_lem = on later

@@ -1,19 +1,20 @@
 -- What each event keeps: what came to a site is there or was received; each node meets its law.
 use Rattle.std.proofs.Common.{◌≡◌, ℕ, ◌+◌, ◌<◌, Bool, true, false, cond, not, ◌&&◌, List, [], ◌∷◌, ◌++◌, sym, refl, ap, ◌∙◌, subst, Some, eqb, arith, IsTrue}
-use Rattle.std.specs.List.{flat_map, filter, slice_get}
+use Rattle.std.specs.List.{flat_map, filter, list_all, slice_get}
 use Rattle.std.proofs.lemmas.Int.{ints}
 use Rattle.std.proofs.lemmas.Bool.{and_parts, and_from, or_parts, eqb-true}
 use Rattle.std.proofs.lemmas.List.Concat.{flat_map-append}
-use Rattle.std.proofs.lemmas.List.Folds.{list_any-append}
+use Rattle.std.proofs.lemmas.List.Folds.{list_any-append, list_all-append}
 use Rattle.std.proofs.Math.IntN.{ℤ, pos, ◌+ℤ◌}
 use mathlib.Core.Path.{fun_ext}
 use Rattle.lattice.specs.Order.{PartialOrderLaws}
-use Rattle.lattice.specs.Frontiers.{is_beyond}
+use Rattle.lattice.specs.Frontiers.{is_beyond, all_beyond}
+use Rattle.lattice.proofs.FrontierLemmas.{beyond_itself}
+use Rattle.antichain.proofs.Lists.{all_at, all_from}
 use Rattle.update.specs.Bags.{count_of, total_by}
 use Rattle.update.specs.Updates.{as_of}
 use Rattle.update.specs.declared.change.Update.{Update}
-use Rattle.machine.proofs.StampLemmas.{stamp_passed}
-use Rattle.machine.specs.Outstanding.{stamp}
+use Rattle.machine.proofs.StampLemmas.{beyond_passed}
 use Rattle.machine.specs.declared.event.Place.{Place}
 use Rattle.machine.specs.declared.event.Bundle.{Bundle}
 use Rattle.machine.specs.declared.event.Fed.{Fed}
@@ -23,11 +24,11 @@ use Rattle.machine.specs.declared.event.Event.{Event}
 use Rattle.machine.specs.declared.event.Event.TheVariants.{Feed, Advance, Allow, Look, Take, TakeHeld, Give}
 use Rattle.machine.specs.Dataflows.{Dataflow, node_of, given_at}
 use Rattle.machine.specs.Worlds.{World, place, same_place, times, updates_at, queue, emitted_by, held_at}
-use Rattle.machine.specs.Shares.{home, share, share_fed}
+use Rattle.machine.specs.Shares.{share, share_fed}
 use Rattle.machine.specs.NodeLaws.{NodeLaw}
-use Rattle.machine.specs.Histories.{without, holding, first_world, took, gave, after, IsGive, IsAllowed, world, IsLegal}
+use Rattle.machine.specs.Histories.{alone, without, holding, first_world, took, gave, after, IsGive, IsAllowed, world, IsLegal}
 use Rattle.update.proofs.SumLemmas.{total_by-append}
-use Rattle.machine.proofs.FlowLemmas.{as_of-append, measure_place-append, taken, is_passed, not_beyond}
+use Rattle.machine.proofs.FlowLemmas.{as_of-append, measure_place-append, taken, queued, among_left, is_passed, not_beyond}
 use Rattle.plan.proofs.OperatorLemmas.{given_nothing}
 use Rattle.plan.specs.Ancestors.{is_input}
 use Rattle.plan.specs.Nodes.{key_width}
@@ -52,25 +53,7 @@ marked_same test us vs h =
     let e = h (λ u. cond (test u) (pos 1) (pos 0)) in
     omega (arith, ints)
 
-marked_passed : {T : Type 0} (leq : T → T → Bool) (t : T) (us : List (Update T)) → is_beyond leq (times us) t ≡ false → marked (λ u. leq u.time t) us ≡ 0
-marked_passed leq t [] h = refl
-marked_passed leq t (u ∷ us) h =
-    let b = or_parts (leq u.time t) (is_beyond leq (times us) t) h in
-    let i = marked_passed leq t us b.1 in
-    rw b.0 (omega arith)
-
-passed_marked : {T : Type 0} (leq : T → T → Bool) (t : T) (us : List (Update T)) → marked (λ u. leq u.time t) us ≡ 0 → is_beyond leq (times us) t ≡ false
-passed_marked leq t [] h = refl
-passed_marked {T} leq t (u ∷ us) h = step (leq u.time t) refl h (passed_marked leq t us)
-  where
-    step : (b : Bool) → leq u.time t ≡ b → cond b 1 0 + marked (λ v. leq v.time t) us ≡ 0 → (marked (λ v. leq v.time t) us ≡ 0 → is_beyond leq (times us) t ≡ false) → is_beyond leq (times (u ∷ us)) t ≡ false
-    step true e h ih = absurd (omega arith)
-    step false e h ih = rw e (ih (omega arith))
-
--- lists of equal totals are passed alike, and are empty alike
-pub passed_totals : {T : Type 0} (leq : T → T → Bool) (t : T) (us vs : List (Update T)) → ((f : Update T → ℤ) → total_by f us ≡ total_by f vs) → is_beyond leq (times vs) t ≡ false → is_beyond leq (times us) t ≡ false
-passed_totals leq t us vs h p = passed_marked leq t us (marked_same (λ u. leq u.time t) us vs h ∙ marked_passed leq t vs p)
-
+-- lists of equal totals are empty alike
 pub no_totals : {T : Type 0} (us vs : List (Update T)) → ((f : Update T → ℤ) → total_by f us ≡ total_by f vs) → vs ≡ [] → us ≡ []
 no_totals [] vs h e = refl
 no_totals (u ∷ us) vs h e =
@@ -88,12 +71,18 @@ abbrev pub AreInputs : {T : Type 0} → Dataflow → List (Fed T) → Type 0
 AreInputs p [] = Unit {0}
 AreInputs p (f ∷ fs) = IsTrue (is_input (node_of p f.input)) × AreInputs p fs
 
+-- no update of the bundle is before its stamp
+abbrev pub is_stamped : {T : Type 0} → (T → T → Bool) → Bundle T → Bool
+is_stamped leq b = all_beyond leq b.stamp (times b.updates)
+
 pub record IsKept {T : Type 0} (leq : T → T → Bool) (p : Dataflow) (w : World T) : Type 0 where
   -- what was received at a site and what is in flight there are what came
   pub conserved : (site : Place) (f : Update T → ℤ) → total_by f (updates_at site w.received) +ℤ total_by f (updates_at site w.in_flight) ≡ total_by f (coming p site w.emitted w.fed)
   pub law : (n k : ℕ) → NodeLaw leq p w n k
   pub workers : AreWorkers p.workers w.emitted
   pub inputs : AreInputs p w.fed
+  -- each update in flight is beyond its bundle's stamp
+  pub stamped : IsTrue (list_all (is_stamped leq) w.in_flight)
 
 -- at a time that is passed, no update counts
 pub as_of-passed : {T : Type 0} (leq : T → T → Bool) (t : T) (us : List (Update T)) → is_beyond leq (times us) t ≡ false → as_of leq t us ≡ []
@@ -137,55 +126,64 @@ module _ {T : Type 0} (leq : T → T → Bool) (o : PartialOrderLaws leq) (p : D
       (sym (list_any-append (λ f. leq f t) (held_at n k xs) (held_at n k ys)) ∙ (ap (λ z. is_beyond leq z t) (sym (flat_map-append (λ (m : Held T). cond (eqb m.node n && eqb m.worker k) (m.time ∷ []) []) xs ys)) ∙ h))
 
   -- at a time that the stamp has passed, a bundle is nothing at any site
-  not_there : (site : Place) (us : List (Update T)) (n m port : ℕ) (t : T) → is_beyond leq (held_at n m (holding site.node site.worker (stamp leq us))) t ≡ false → as_of leq t (cond (same_place site (place n port m)) us []) ≡ []
-  not_there site us n m port t h = step (same_place site (place n port m)) refl
+  not_there : (b : Bundle T) → is_stamped leq b ≡ true → (n m port : ℕ) (t : T) → is_beyond leq (held_at n m (holding b.place.node b.place.worker b.stamp)) t ≡ false → as_of leq t (cond (same_place b.place (place n port m)) b.updates []) ≡ []
+  not_there b a n m port t h = step (same_place b.place (place n port m)) refl
     where
-      step : (b : Bool) → same_place site (place n port m) ≡ b → as_of leq t (cond b us []) ≡ []
+      step : (c : Bool) → same_place b.place (place n port m) ≡ c → as_of leq t (cond c b.updates []) ≡ []
       step false e = refl
       step true e =
-          let q = and_parts (eqb site.node n) (eqb site.port port && eqb site.worker m) e in
-          let q1 = and_parts (eqb site.port port) (eqb site.worker m) q.1 in
-          let there = held_marked n m site.node site.worker (stamp leq us) (and_from (eqb site.node n) (eqb site.worker m) q.0 q1.1) in
-          as_of-passed leq t us (stamp_passed leq o us t (subst (λ z. is_beyond leq z t ≡ false) there h))
+          let q = and_parts (eqb b.place.node n) (eqb b.place.port port && eqb b.place.worker m) e in
+          let q1 = and_parts (eqb b.place.port port) (eqb b.place.worker m) q.1 in
+          let there = held_marked n m b.place.node b.place.worker b.stamp (and_from (eqb b.place.node n) (eqb b.place.worker m) q.0 q1.1) in
+          as_of-passed leq t b.updates (beyond_passed leq o b.stamp (times b.updates) t a (subst (λ z. is_beyond leq z t ≡ false) there h))
+
+  -- what is added in flight is stamped
+  stamped_more : (xs ys : List (Bundle T)) → list_all (is_stamped leq) xs ≡ true → list_all (is_stamped leq) ys ≡ true → list_all (is_stamped leq) (xs ++ ys) ≡ true
+  stamped_more xs ys a b = list_all-append (is_stamped leq) xs ys ∙ and_from (list_all (is_stamped leq) xs) (list_all (is_stamped leq) ys) a b
+
+  stamped_alone : (f : Fed T) → list_all (is_stamped leq) (alone p f ∷ []) ≡ true
+  stamped_alone f = and_from (all_beyond leq (f.update.time ∷ []) (f.update.time ∷ [])) true (beyond_itself o (f.update.time ∷ [])) refl
+
+  stamped_sent : (F : List T) (sent : List (Bundle T)) → list_all (λ b. all_beyond leq F b.stamp && all_beyond leq b.stamp (times b.updates)) sent ≡ true → list_all (is_stamped leq) sent ≡ true
+  stamped_sent F sent a = all_from (is_stamped leq) sent (λ b m. (and_parts (all_beyond leq F b.stamp) (is_stamped leq b) (all_at (λ b. all_beyond leq F b.stamp && all_beyond leq b.stamp (times b.updates)) sent b a m)).1)
 
   kept_feed : (w : World T) (c : ℕ) (f : Fed T) → IsTrue (is_input (node_of p f.input)) → IsKept leq p w → IsKept leq p (after leq p w (Feed c f))
-  kept_feed w c f i k = record { conserved = conserved; law = k.law; workers = k.workers; inputs = (i, k.inputs) }
+  kept_feed w c f i k = record { conserved = conserved; law = k.law; workers = k.workers; inputs = (i, k.inputs); stamped = stamped_more w.in_flight (alone p f ∷ []) k.stamped (stamped_alone f) }
     where
-      conserved : (site : Place) (v : Update T → ℤ) → total_by v (updates_at site w.received) +ℤ total_by v (updates_at site (w.in_flight ++ record { place = home p f; updates = f.update ∷ [] } ∷ [])) ≡ total_by v (coming p site w.emitted (f ∷ w.fed))
+      conserved : (site : Place) (v : Update T → ℤ) → total_by v (updates_at site w.received) +ℤ total_by v (updates_at site (w.in_flight ++ alone p f ∷ [])) ≡ total_by v (coming p site w.emitted (f ∷ w.fed))
       conserved site v =
-          let parcel : Bundle T = record { place = home p f; updates = f.update ∷ [] } in
           let es = flat_map (share p site) w.emitted in
           let fs = flat_map (share_fed p site) w.fed in
           let before = k.conserved site v ∙ total_by-append v es fs in
           rw (
-            measure_place-append v site w.in_flight (parcel ∷ []),
+            measure_place-append v site w.in_flight (alone p f ∷ []),
             total_by-append v (share_fed p site f) [],
             total_by-append v es (share_fed p site f ++ fs),
             total_by-append v (share_fed p site f) fs,
           )
           (feed_sum (total_by v (updates_at site w.received)) (total_by v (updates_at site w.in_flight)) (total_by v (share_fed p site f)) (total_by v es) (total_by v fs) before)
 
-  kept_took : (w : World T) (site : Place) (j : ℕ) (us : List (Update T)) → slice_get (queue site w.in_flight) j ≡ Some us → IsKept leq p w → IsKept leq p (took leq p w site j us)
-  kept_took w site j us e k = record { conserved = conserved; law = law; workers = k.workers; inputs = k.inputs }
+  kept_took : (w : World T) (j : ℕ) (b : Bundle T) → slice_get (queue b.place w.in_flight) j ≡ Some b → IsKept leq p w → IsKept leq p (took leq p w j b)
+  kept_took w j b e k = record { conserved = conserved; law = law; workers = k.workers; inputs = k.inputs; stamped = all_from (is_stamped leq) (without b.place w.in_flight j) (λ x m. all_at (is_stamped leq) w.in_flight x k.stamped (among_left b.place w.in_flight j x m)) }
     where
-      parcel : Bundle T
-      parcel = record { place = site; updates = us }
-
-      conserved : (other : Place) (v : Update T → ℤ) → total_by v (updates_at other (record { place = site; updates = us } ∷ w.received)) +ℤ total_by v (updates_at other (without site w.in_flight j)) ≡ total_by v (coming p other w.emitted w.fed)
+      conserved : (other : Place) (v : Update T → ℤ) → total_by v (updates_at other (b ∷ w.received)) +ℤ total_by v (updates_at other (without b.place w.in_flight j)) ≡ total_by v (coming p other w.emitted w.fed)
       conserved other v =
-          rw (total_by-append v (cond (same_place site other) us []) (updates_at other w.received))
-          (take_sum (total_by v (updates_at other w.received)) (total_by v (updates_at other w.in_flight)) (total_by v (cond (same_place site other) us [])) (total_by v (updates_at other (without site w.in_flight j))) (total_by v (coming p other w.emitted w.fed))
-          (k.conserved other v) (taken v site w.in_flight j us e other))
+          rw (total_by-append v (cond (same_place b.place other) b.updates []) (updates_at other w.received))
+          (take_sum (total_by v (updates_at other w.received)) (total_by v (updates_at other w.in_flight)) (total_by v (cond (same_place b.place other) b.updates [])) (total_by v (updates_at other (without b.place w.in_flight j))) (total_by v (coming p other w.emitted w.fed))
+          (k.conserved other v) (taken v b.place w.in_flight j b e other))
 
-      law : (n m : ℕ) → NodeLaw leq p (took leq p w site j us) n m
+      stamped : is_stamped leq b ≡ true
+      stamped = all_at (is_stamped leq) w.in_flight b k.stamped (queued b.place w.in_flight j b e).0
+
+      law : (n m : ℕ) → NodeLaw leq p (took leq p w j b) n m
       law n m t h r =
-          let hp = held_parts n m (holding site.node site.worker (stamp leq us)) w.held t (not_beyond _ h) in
-          let same : (port : ℕ) → as_of leq t (updates_at (place n port m) w.received) ≡ as_of leq t (updates_at (place n port m) (record { place = site; updates = us } ∷ w.received)) =
-          λ port. sym (as_of-append leq t (cond (same_place site (place n port m)) us []) (updates_at (place n port m) w.received) ∙ ap (λ z. z ++ as_of leq t (updates_at (place n port m) w.received)) (not_there site us n m port t hp.0)) in
-          k.law n m t (is_passed _ hp.1) r ∙ ap (λ z. count_of (given_at p n z) r) (fun_ext same)
+          let hp = held_parts n m w.held (holding b.place.node b.place.worker b.stamp) t (not_beyond _ h) in
+          let same : (port : ℕ) → as_of leq t (updates_at (place n port m) w.received) ≡ as_of leq t (updates_at (place n port m) (b ∷ w.received)) =
+          λ port. sym (as_of-append leq t (cond (same_place b.place (place n port m)) b.updates []) (updates_at (place n port m) w.received) ∙ ap (λ z. z ++ as_of leq t (updates_at (place n port m) w.received)) (not_there b stamped n m port t hp.1)) in
+          k.law n m t (is_passed _ hp.0) r ∙ ap (λ z. count_of (given_at p n z) r) (fun_ext same)
 
   kept_gave : (w : World T) (g : Emission T) (held : List T) (sent : List (Bundle T)) → IsGive leq p w g held sent → IsKept leq p w → IsKept leq p (gave leq p w g held sent)
-  kept_gave w g held sent a k = record { conserved = conserved; law = law; workers = (a.worker, k.workers); inputs = k.inputs }
+  kept_gave w g held sent a k = record { conserved = conserved; law = law; workers = (a.worker, k.workers); inputs = k.inputs; stamped = stamped_more w.in_flight sent k.stamped (stamped_sent (held_at g.node g.worker w.held) sent a.stamped) }
     where
       conserved : (site : Place) (v : Update T → ℤ) → total_by v (updates_at site w.received) +ℤ total_by v (updates_at site (w.in_flight ++ sent)) ≡ total_by v (coming p site (g ∷ w.emitted) w.fed)
       conserved site v =
@@ -214,15 +212,15 @@ module _ {T : Type 0} (leq : T → T → Bool) (o : PartialOrderLaws leq) (p : D
 
   pub kept_after : (w : World T) (e : Event T) → IsAllowed leq p w e → IsKept leq p w → IsKept leq p (after leq p w e)
   kept_after w (Feed c f) a k = kept_feed w c f a.input.1 k
-  kept_after w (Advance c i ts) a k = record { conserved = k.conserved; law = k.law; workers = k.workers; inputs = k.inputs }
-  kept_after w (Allow c v ts) a k = record { conserved = k.conserved; law = k.law; workers = k.workers; inputs = k.inputs }
+  kept_after w (Advance c i ts) a k = record { conserved = k.conserved; law = k.law; workers = k.workers; inputs = k.inputs; stamped = k.stamped }
+  kept_after w (Allow c v ts) a k = record { conserved = k.conserved; law = k.law; workers = k.workers; inputs = k.inputs; stamped = k.stamped }
   kept_after w (Look c) a k = k
-  kept_after w (Take site j us) a k = let x = kept_took w site j us a.waits k in record { conserved = x.conserved; law = x.law; workers = x.workers; inputs = x.inputs }
-  kept_after w (TakeHeld m n) a k = record { conserved = k.conserved; law = k.law; workers = k.workers; inputs = k.inputs }
+  kept_after w (Take j b) a k = let x = kept_took w j b a.waits k in record { conserved = x.conserved; law = x.law; workers = x.workers; inputs = x.inputs; stamped = x.stamped }
+  kept_after w (TakeHeld m n) a k = record { conserved = k.conserved; law = k.law; workers = k.workers; inputs = k.inputs; stamped = k.stamped }
   kept_after w (Give g held sent) a k = kept_gave w g held sent a k
 
   pub kept_first : (minimum : T) → IsKept leq p (first_world leq minimum p)
-  kept_first minimum = record { conserved = λ site v. refl; law = λ n k t h r. sym (given_nothing (key_width p.nodes (node_of p n)) (node_of p n) r); workers = tt; inputs = tt }
+  kept_first minimum = record { conserved = λ site v. refl; law = λ n k t h r. sym (given_nothing (key_width p.nodes (node_of p n)) (node_of p n) r); workers = tt; inputs = tt; stamped = refl }
 
   pub kept_world : (minimum : T) (h : List (Event T)) → IsLegal leq minimum p h → IsKept leq p (world leq minimum p h)
   kept_world minimum [] l = kept_first minimum

@@ -12,6 +12,7 @@ pub mod FewestLemmas
 pub mod SettledLemmas
 pub mod WeighingLemmas
 pub mod QuietLemmas
+pub mod PortLemmas
 pub mod PlaceLemmas
 pub mod BoardLemmas
 pub mod MeetsLemmas
@@ -28,4 +29,6 @@ pub mod FoundLemmas
 pub mod ReadLemmas
 pub mod CuttingLemmas
 pub mod WaitingLemmas
+pub mod ActorLemmas
 pub mod ExampleLemmas
+pub mod WitnessLemmas

@@ -1,17 +1,15 @@
 -- No frontier goes back.
-use Rattle.std.proofs.Common.{◌≡◌, ℕ, zero, suc, Bool, true, false, cond, not, ◌&&◌, ◌||◌, List, [], ◌∷◌, ◌++◌, take, sym, refl, ap, ◌∙◌, subst, Option, Some, None, eqb, arith}
+use Rattle.std.proofs.Common.{◌≡◌, ℕ, Bool, true, false, cond, not, ◌&&◌, ◌||◌, List, [], ◌∷◌, ◌++◌, sym, refl, ap, ◌∙◌, subst, Option, Some, None, eqb, arith, inl, inr, ⊎_elim}
 use Rattle.std.specs.List.{flat_map, filter, slice_get}
-use Rattle.std.proofs.lemmas.Bool.{and_parts, and_from, or_parts, or_from, or_right, eqb-true, eq-eqb, ne_eqb, false_from_ne_true, false≢true}
+use Rattle.std.proofs.lemmas.Bool.{and_parts, and_from, or_parts, or_from, or_right, eqb-true, ne_eqb, false≢true}
 use Rattle.std.proofs.lemmas.Option.{same_Some}
 use Rattle.std.proofs.lemmas.List.Concat.{flat_map-append}
 use Rattle.std.proofs.lemmas.List.Folds.{list_any-append}
 use Rattle.lattice.specs.Order.{PartialOrderLaws}
 use Rattle.lattice.specs.Frontiers.{is_beyond, all_beyond}
 use Rattle.antichain.specs.Antichains.{least}
-use Rattle.update.specs.declared.change.Update.{Update}
-use Rattle.plan.specs.Nodes.{arranged_by}
 use Rattle.plan.specs.Ancestors.{is_input}
-use Rattle.machine.proofs.StampLemmas.{stamp_beyond}
+use Rattle.machine.proofs.StampLemmas.{beyond_passed}
 use Rattle.machine.specs.declared.event.Place.{Place}
 use Rattle.machine.specs.declared.event.Bundle.{Bundle}
 use Rattle.machine.specs.declared.event.Fed.{Fed}
@@ -21,33 +19,30 @@ use Rattle.machine.specs.declared.event.Open.{Open}
 use Rattle.machine.specs.declared.event.Event.{Event}
 use Rattle.machine.specs.declared.event.Event.TheVariants.{Feed, Advance, Allow, Look, Take, TakeHeld, Give}
 use Rattle.machine.specs.Dataflows.{Dataflow, IsDataflow, node_of, source_of, above, route}
-use Rattle.machine.specs.Worlds.{World, place, same_place, times, updates_at, queue, held_at, open_at}
-use Rattle.machine.specs.Shares.{home, part, share_from, share}
-use Rattle.machine.specs.Outstanding.{stamp, stamps, held_where, open_where, counted, frontier, strictly_above, input_frontier, port_frontier, outstanding_from}
-use Rattle.machine.specs.Histories.{without, is_held_by, holding, opening, took, gave, after, IsFeed, IsGive, IsAllowed}
+use Rattle.machine.specs.Worlds.{World, place, times, queue, held_at, open_at}
+use Rattle.machine.specs.Shares.{home}
+use Rattle.machine.specs.Outstanding.{stamps, held_where, open_where, counted, frontier, strictly_above, input_frontier, port_frontier, outstanding_from}
+use Rattle.machine.specs.Histories.{alone, without, is_held_by, holding, opening, took, gave, after, IsFeed, IsGive, IsAllowed}
 use Rattle.machine.proofs.ClaimLemmas.{no_source}
-use Rattle.lattice.proofs.FrontierLemmas.{beyond_up}
-use Rattle.machine.proofs.FlowLemmas.{passed-least, place_same}
-use Rattle.machine.proofs.KeptLemmas.{passed_totals}
+use Rattle.antichain.proofs.Lists.{Among, all_at}
+use Rattle.machine.proofs.FlowLemmas.{passed-least, queued, among_left}
+use Rattle.machine.proofs.PlaceLemmas.{sent_from}
 use Rattle.antichain.proofs.InsertionLemmas.{least_beyond}
 use Rattle.plan.proofs.PlanLemmas.{source_smaller}
 use Rattle.plan.proofs.StandLemmas.{above_itself, above_from_source, above_earlier, above_transitive}
 
 module _ {T : Type 0} (leq : T → T → Bool) (o : PartialOrderLaws leq) (t : T) where
-  abbrev IsPassed : List T → Type 0
+  abbrev pub IsPassed : List T → Type 0
   IsPassed F = is_beyond leq F t ≡ false
 
-  passed_parts : (F G : List T) → IsPassed (F ++ G) → IsPassed F × IsPassed G
+  pub passed_parts : (F G : List T) → IsPassed (F ++ G) → IsPassed F × IsPassed G
   passed_parts F G h = or_parts (is_beyond leq F t) (is_beyond leq G t) (sym (list_any-append (λ f. leq f t) F G) ∙ h)
 
-  passed_both : (F G : List T) → IsPassed F → IsPassed G → IsPassed (F ++ G)
+  pub passed_both : (F G : List T) → IsPassed F → IsPassed G → IsPassed (F ++ G)
   passed_both F G f g = list_any-append (λ x. leq x t) F G ∙ or_from (is_beyond leq F t) (is_beyond leq G t) f g
 
   passed_onward : (F G : List T) → all_beyond leq F G ≡ true → IsPassed F → IsPassed G
-  passed_onward F [] a f = refl
-  passed_onward F (g ∷ G) a f =
-      let h = and_parts (is_beyond leq F g) (all_beyond leq F G) a in
-      or_from (leq g t) (is_beyond leq G t) (false_from_ne_true (leq g t) (λ l. false≢true (sym f ∙ beyond_up o F g t h.0 l))) (passed_onward F G h.1 f)
+  passed_onward F G a f = beyond_passed leq o F G t a f
 
   -- a list made of parts: each part's
   passed_some : {X : Type 0} (part : X → List T) (keep : X → Bool) (xs : List X) → IsPassed (flat_map part xs) → IsPassed (flat_map part (filter keep xs))
@@ -58,26 +53,27 @@ module _ {T : Type 0} (leq : T → T → Bool) (o : PartialOrderLaws leq) (t : T
       step true f g = passed_both (part x) (flat_map part (filter keep xs)) f g
       step false f g = g
 
-  passed_least : (F : List T) → IsPassed F → IsPassed (least leq F)
-  passed_least F h = least_beyond o F t ∙ h
-
-  passed_stamp : (us : List (Update T)) → IsPassed (times us) → IsPassed (stamp leq us)
-  passed_stamp us h = stamp_beyond leq o us t ∙ h
-
-  passed_updates : (keep : Update T → Bool) (us : List (Update T)) → IsPassed (times us) → IsPassed (times (filter keep us))
-  passed_updates keep [] h = h
-  passed_updates keep (u ∷ us) h = let g = or_parts (leq u.time t) (is_beyond leq (times us) t) h in step (keep u) g.0 (passed_updates keep us g.1)
+  -- the parts that count, each of which is passed
+  pub passed_all : {X : Type 0} (test : X → Bool) (part : X → List T) (xs : List X) → ((x : X) → Among x xs → test x ≡ true → IsPassed (part x)) → IsPassed (flat_map (λ x. cond (test x) (part x) []) xs)
+  passed_all test part [] h = refl
+  passed_all {X} test part (y ∷ xs) h = passed_both (cond (test y) (part y) []) (flat_map (λ x. cond (test x) (part x) []) xs) (head (test y) refl) (passed_all test part xs (λ x m. h x (inr m)))
     where
-      step : (b : Bool) → leq u.time t ≡ false → IsPassed (times (filter keep us)) → IsPassed (times (cond b (u ∷ filter keep us) (filter keep us)))
-      step true k i = or_from (leq u.time t) (is_beyond leq (times (filter keep us)) t) k i
-      step false k i = i
+      head : (c : Bool) → test y ≡ c → IsPassed (cond c (part y) [])
+      head false e = refl
+      head true e = h y (inl refl) e
 
-  times-append : (xs ys : List (Update T)) → times (xs ++ ys) ≡ times xs ++ times ys
-  times-append [] ys = refl
-  times-append (x ∷ xs) ys = ap (λ z. x.time ∷ z) (times-append xs ys)
+  -- and back
+  pub passed_one : {X : Type 0} (test : X → Bool) (part : X → List T) (xs : List X) → IsPassed (flat_map (λ x. cond (test x) (part x) []) xs) → (x : X) → Among x xs → test x ≡ true → IsPassed (part x)
+  passed_one test part [] h x m a = absurd m
+  passed_one {X} test part (y ∷ xs) h x m a =
+      let g = passed_parts (cond (test y) (part y) []) (flat_map (λ x. cond (test x) (part x) []) xs) h in
+      ⊎_elim
+      (λ e. subst (λ c. IsPassed (cond c (part x) [])) a (subst (λ (z : X). IsPassed (cond (test z) (part z) [])) e g.0))
+      (λ n. passed_one test part xs g.1 x n a)
+      m
 
-  passed_times : (xs ys : List (Update T)) → IsPassed (times (xs ++ ys)) → IsPassed (times xs) × IsPassed (times ys)
-  passed_times xs ys h = passed_parts (times xs) (times ys) (subst IsPassed (times-append xs ys) h)
+  pub passed_least : (F : List T) → IsPassed F → IsPassed (least leq F)
+  passed_least F h = least_beyond o F t ∙ h
 
   module _ (test : ℕ → Bool) where
     -- what is held, or an edge, at a node that passes
@@ -132,118 +128,58 @@ module _ {T : Type 0} (leq : T → T → Bool) (o : PartialOrderLaws leq) (t : T
         step false e = subst IsPassed (sym (off ts e)) refl
 
   module _ (test : Place → Bool) where
-    -- what is taken, and what is left
-    passed_taken : (site : Place) (qs : List (Bundle T)) (j : ℕ) (us : List (Update T)) → slice_get (queue site qs) j ≡ Some us → test site ≡ true → IsPassed (stamps leq test qs) → IsPassed (stamp leq us)
-    passed_taken site [] j us e a h = cc
-    passed_taken site (q ∷ qs) zero us e a h =
-        let g = passed_parts (cond (test q.place) (stamp leq q.updates) []) (stamps leq test qs) h in
-        step (same_place q.place site) refl e g.0 (λ f. passed_taken site qs zero us f a g.1)
-      where
-        step : (b : Bool) → same_place q.place site ≡ b → slice_get (cond b (q.updates ∷ []) [] ++ queue site qs) zero ≡ Some us → IsPassed (cond (test q.place) (stamp leq q.updates) []) → (slice_get (queue site qs) zero ≡ Some us → IsPassed (stamp leq us)) → IsPassed (stamp leq us)
-        step true s f x ih =
-            let here : test q.place ≡ true = ap (λ (z : Place). test z) (place_same q.place site s) ∙ a in
-            subst (λ z. IsPassed (stamp leq z)) (same_Some q.updates us f) (subst (λ b. IsPassed (cond b (stamp leq q.updates) [])) here x)
-        step false s f x ih = ih f
-    passed_taken site (q ∷ qs) (suc j) us e a h =
-        let g = passed_parts (cond (test q.place) (stamp leq q.updates) []) (stamps leq test qs) h in
-        step (same_place q.place site) e (λ f. passed_taken site qs j us f a g.1) (λ f. passed_taken site qs (suc j) us f a g.1)
-      where
-        step : (b : Bool) → slice_get (cond b (q.updates ∷ []) [] ++ queue site qs) (suc j) ≡ Some us → (slice_get (queue site qs) j ≡ Some us → IsPassed (stamp leq us)) → (slice_get (queue site qs) (suc j) ≡ Some us → IsPassed (stamp leq us)) → IsPassed (stamp leq us)
-        step true f ih jh = ih f
-        step false f ih jh = jh f
+    -- what is left, and what is taken
+    passed_without : (site : Place) (qs : List (Bundle T)) (j : ℕ) → IsPassed (stamps test qs) → IsPassed (stamps test (without site qs j))
+    passed_without site qs j h = passed_all (λ b. test b.place) (λ b. b.stamp) (without site qs j) (λ b m a. passed_one (λ b. test b.place) (λ b. b.stamp) qs h b (among_left site qs j b m) a)
 
-    passed_without : (site : Place) (qs : List (Bundle T)) (j : ℕ) → IsPassed (stamps leq test qs) → IsPassed (stamps leq test (without site qs j))
-    passed_without site [] j h = h
-    passed_without site (q ∷ qs) zero h =
-        let g = passed_parts (cond (test q.place) (stamp leq q.updates) []) (stamps leq test qs) h in
-        step (same_place q.place site) g.0 g.1 (passed_without site qs zero g.1)
-      where
-        step : (b : Bool) → IsPassed (cond (test q.place) (stamp leq q.updates) []) → IsPassed (stamps leq test qs) → IsPassed (stamps leq test (without site qs zero)) → IsPassed (stamps leq test (cond b qs (q ∷ without site qs zero)))
-        step true x y z = y
-        step false x y z = passed_both (cond (test q.place) (stamp leq q.updates) []) (stamps leq test (without site qs zero)) x z
-    passed_without site (q ∷ qs) (suc j) h =
-        let g = passed_parts (cond (test q.place) (stamp leq q.updates) []) (stamps leq test qs) h in
-        passed_both (cond (test q.place) (stamp leq q.updates) []) (stamps leq test (cond (same_place q.place site) (without site qs j) (without site qs (suc j)))) g.0 (step (same_place q.place site) (passed_without site qs j g.1) (passed_without site qs (suc j) g.1))
-      where
-        step : (b : Bool) → IsPassed (stamps leq test (without site qs j)) → IsPassed (stamps leq test (without site qs (suc j))) → IsPassed (stamps leq test (cond b (without site qs j) (without site qs (suc j))))
-        step true x y = x
-        step false x y = y
-
-    -- from each place, each bundle
-    passed_places : (qs : List (Bundle T)) → ((site : Place) → test site ≡ true → IsPassed (times (updates_at site qs))) → IsPassed (stamps leq test qs)
-    passed_places [] h = refl
-    passed_places (q ∷ qs) h =
-        passed_both (cond (test q.place) (stamp leq q.updates) []) (stamps leq test qs)
-        (head (test q.place) refl)
-        (passed_places qs (λ site e. (passed_times (cond (same_place q.place site) q.updates []) (updates_at site qs) (h site e)).1))
-      where
-        self : same_place q.place q.place ≡ true
-        self = and_from (eqb q.place.node q.place.node) (eqb q.place.port q.place.port && eqb q.place.worker q.place.worker) (eq-eqb q.place.node q.place.node refl) (and_from (eqb q.place.port q.place.port) (eqb q.place.worker q.place.worker) (eq-eqb q.place.port q.place.port refl) (eq-eqb q.place.worker q.place.worker refl))
-
-        head : (b : Bool) → test q.place ≡ b → IsPassed (cond b (stamp leq q.updates) [])
-        head false e = refl
-        head true e = passed_stamp q.updates (passed_times q.updates (updates_at q.place qs) (subst (λ b. IsPassed (times (cond b q.updates [] ++ updates_at q.place qs))) self (h q.place e))).0
-
-  module _ (test : ℕ → Bool) where
-    passed_share : (p : Dataflow) (site : Place) (g : Emission T) → ((s : ℕ) → source_of p site.node site.port ≡ Some s → test s ≡ true) → (test g.node ≡ true → IsPassed (times g.updates)) → IsPassed (times (share p site g))
-    passed_share p site g a h = step (source_of p site.node site.port) refl (arranged_by (node_of p site.node))
-      where
-        parted : (c : Option ℕ) → IsPassed (times g.updates) → IsPassed (times (part p c g.worker site.worker g.updates))
-        parted None k = one (eqb g.worker site.worker)
-          where
-            one : (b : Bool) → IsPassed (times (cond b g.updates []))
-            one true = k
-            one false = refl
-        parted (Some c) k = passed_updates (λ u. eqb (route p (take c u.row)) site.worker) g.updates k
-
-        step : (x : Option ℕ) → source_of p site.node site.port ≡ x → (c : Option ℕ) → IsPassed (times (share_from p x c site.worker g))
-        step None e c = refl
-        step (Some s) e c = one (eqb g.node s) refl
-          where
-            one : (b : Bool) → eqb g.node s ≡ b → IsPassed (times (cond b (part p c g.worker site.worker g.updates) []))
-            one false f = refl
-            one true f = parted c (h (ap test (eqb-true g.node s f) ∙ a s e))
+    passed_taken : (qs : List (Bundle T)) (j : ℕ) (b : Bundle T) → slice_get (queue b.place qs) j ≡ Some b → test b.place ≡ true → IsPassed (stamps test qs) → IsPassed b.stamp
+    passed_taken qs j b e a h = passed_one (λ b. test b.place) (λ b. b.stamp) qs h b (queued b.place qs j b e).0 a
 
   -- What is counted: bundles at some places, times held at some nodes, frontiers of some inputs. It may be any such choice
   -- with the source of each place, with the input of each fed place, and with the places of each node that it counts at.
-  module _ (p : Dataflow) (there : Place → Bool) (holds opens : ℕ → Bool)
+  module _ (p : Dataflow) (q : IsDataflow p) (there : Place → Bool) (holds opens : ℕ → Bool)
       (of_sources : (site : Place) → there site ≡ true → (s : ℕ) → source_of p site.node site.port ≡ Some s → holds s ≡ true)
       (of_inputs : (i k : ℕ) → is_input (node_of p i) ≡ true → there (place i 0 k) ≡ true → opens i ≡ true)
       (of_places : (site : Place) → holds site.node ≡ true → there site ≡ true) where
     abbrev pub IsCountPassed : World T → Type 0
-    IsCountPassed w = IsPassed (stamps leq there w.in_flight) × IsPassed (held_where holds w.held) × IsPassed (open_where opens w.openings)
+    IsCountPassed w = IsPassed (stamps there w.in_flight) × IsPassed (held_where holds w.held) × IsPassed (open_where opens w.openings)
 
-    onward_feed : (w : World T) (f : Fed T) → IsFeed leq p w f → IsCountPassed w → IsPassed (stamps leq there (record { place = home p f; updates = f.update ∷ [] } ∷ []))
-    onward_feed w f a h = passed_both (cond (there (home p f)) (stamp leq (f.update ∷ [])) []) [] (step (there (home p f)) refl) refl
+    onward_feed : (w : World T) (c : ℕ) (f : Fed T) → IsFeed leq p w c f → IsCountPassed w → IsPassed (stamps there (alone p f ∷ []))
+    onward_feed w c f a h = passed_both (cond (there (home p f)) (f.update.time ∷ []) []) [] (step (there (home p f)) refl) refl
       where
-        step : (b : Bool) → there (home p f) ≡ b → IsPassed (cond b (stamp leq (f.update ∷ [])) [])
+        step : (b : Bool) → there (home p f) ≡ b → IsPassed (cond b (f.update.time ∷ []) [])
         step false e = refl
-        step true e = passed_stamp (f.update ∷ []) (passed_onward (open_at f.input w.openings) (f.update.time ∷ []) (and_from (is_beyond leq (open_at f.input w.openings) f.update.time) true a.not_passed refl) (passed_edge opens f.input (of_inputs f.input (route p f.update.row) a.input.1 e) w.openings h.2))
+        step true e = passed_onward (open_at f.input w.openings) (f.update.time ∷ []) (and_from (is_beyond leq (open_at f.input w.openings) f.update.time) true a.not_passed refl) (passed_edge opens f.input (of_inputs f.input (route p f.update.row) a.input.1 e) w.openings h.2)
 
-    onward_took : (w : World T) (site : Place) (j : ℕ) (us : List (Update T)) → slice_get (queue site w.in_flight) j ≡ Some us → IsCountPassed w → IsCountPassed (took leq p w site j us)
-    onward_took w site j us e h = (
-      passed_without there site w.in_flight j h.0,
-      subst IsPassed (sym (flat_map-append (λ (m : Held T). cond (holds m.node) (m.time ∷ []) []) (holding site.node site.worker (stamp leq us)) w.held))
-          (passed_both (held_where holds (holding site.node site.worker (stamp leq us))) (held_where holds w.held) (passed_marked holds site.node site.worker (stamp leq us) (λ a. passed_taken there site w.in_flight j us e (of_places site a) h.0)) h.1),
+    onward_took : (w : World T) (j : ℕ) (b : Bundle T) → slice_get (queue b.place w.in_flight) j ≡ Some b → IsCountPassed w → IsCountPassed (took leq p w j b)
+    onward_took w j b e h = (
+      passed_without there b.place w.in_flight j h.0,
+      subst IsPassed (sym (flat_map-append (λ (m : Held T). cond (holds m.node) (m.time ∷ []) []) w.held (holding b.place.node b.place.worker b.stamp)))
+          (passed_both (held_where holds w.held) (held_where holds (holding b.place.node b.place.worker b.stamp)) h.1 (passed_marked holds b.place.node b.place.worker b.stamp (λ a. passed_taken there w.in_flight j b e (of_places b.place a) h.0))),
       h.2,
     )
+
+    -- what is sent comes from the sources of its places, and is beyond what was held there
+    onward_sent : (w : World T) (g : Emission T) (held : List T) (sent : List (Bundle T)) → IsGive leq p w g held sent → IsCountPassed w → IsPassed (stamps there sent)
+    onward_sent w g held sent a h = passed_all (λ b. there b.place) (λ b. b.stamp) sent (λ b m e.
+        let before = held_at g.node g.worker w.held in
+        let s = and_parts (all_beyond leq before b.stamp) (all_beyond leq b.stamp (times b.updates)) (all_at (λ b. all_beyond leq before b.stamp && all_beyond leq b.stamp (times b.updates)) sent b a.stamped m) in
+        passed_onward before b.stamp s.0 (passed_held holds g.node g.worker (of_sources b.place e g.node (sent_from p q g sent a.whole a.filled b m)) w.held h.1))
 
     onward_gave : (w : World T) (g : Emission T) (held : List T) (sent : List (Bundle T)) → IsGive leq p w g held sent → IsCountPassed w → IsCountPassed (gave leq p w g held sent)
     onward_gave w g held sent a h = (
-      subst IsPassed (sym (flat_map-append (λ (q : Bundle T). cond (there q.place) (stamp leq q.updates) []) w.in_flight sent))
-          (passed_both (stamps leq there w.in_flight) (stamps leq there sent) h.0 (passed_places there sent (λ site e. passed_totals leq t (updates_at site sent) (share p site g) (a.whole site) (passed_share holds p site g (of_sources site e) (λ f. (later f).0))))),
+      subst IsPassed (sym (flat_map-append (λ (q : Bundle T). cond (there q.place) q.stamp []) w.in_flight sent)) (passed_both (stamps there w.in_flight) (stamps there sent) h.0 (onward_sent w g held sent a h)),
       subst IsPassed (sym (flat_map-append (λ (m : Held T). cond (holds m.node) (m.time ∷ []) []) (holding g.node g.worker held) (filter (λ m. not (is_held_by g.node g.worker m)) w.held)))
-          (passed_both (held_where holds (holding g.node g.worker held)) (held_where holds (filter (λ m. not (is_held_by g.node g.worker m)) w.held)) (passed_marked holds g.node g.worker held (λ f. (later f).1)) (passed_some (λ (m : Held T). cond (holds m.node) (m.time ∷ []) []) (λ m. not (is_held_by g.node g.worker m)) w.held h.1)),
+          (passed_both (held_where holds (holding g.node g.worker held)) (held_where holds (filter (λ m. not (is_held_by g.node g.worker m)) w.held)) (passed_marked holds g.node g.worker held later) (passed_some (λ (m : Held T). cond (holds m.node) (m.time ∷ []) []) (λ m. not (is_held_by g.node g.worker m)) w.held h.1)),
       h.2,
     )
       where
-        later : holds g.node ≡ true → IsPassed (times g.updates) × IsPassed held
-        later f = passed_parts (times g.updates) held (passed_onward (held_at g.node g.worker w.held) (times g.updates ++ held) a.onward (passed_held holds g.node g.worker f w.held h.1))
+        later : holds g.node ≡ true → IsPassed held
+        later f = (passed_parts (times g.updates) held (passed_onward (held_at g.node g.worker w.held) (times g.updates ++ held) a.onward (passed_held holds g.node g.worker f w.held h.1))).1
 
     pub onward : (w : World T) (e : Event T) → IsAllowed leq p w e → IsCountPassed w → IsCountPassed (after leq p w e)
     onward w (Feed c f) a h = (
-      subst IsPassed (sym (flat_map-append (λ (q : Bundle T). cond (there q.place) (stamp leq q.updates) []) w.in_flight (record { place = home p f; updates = f.update ∷ [] } ∷ [])))
-          (passed_both (stamps leq there w.in_flight) (stamps leq there (record { place = home p f; updates = f.update ∷ [] } ∷ [])) h.0 (onward_feed w f a h)),
+      subst IsPassed (sym (flat_map-append (λ (q : Bundle T). cond (there q.place) q.stamp []) w.in_flight (alone p f ∷ []))) (passed_both (stamps there w.in_flight) (stamps there (alone p f ∷ [])) h.0 (onward_feed w c f a h)),
       h.1,
       h.2,
     )
@@ -255,19 +191,19 @@ module _ {T : Type 0} (leq : T → T → Bool) (o : PartialOrderLaws leq) (t : T
     )
     onward w (Allow c v ts) a h = h
     onward w (Look c) a h = h
-    onward w (Take site j us) a h = onward_took w site j us a.waits h
+    onward w (Take j b) a h = onward_took w j b a.waits h
     onward w (TakeHeld m k) a h = h
     onward w (Give g held sent) a h = onward_gave w g held sent a h
 
   -- what is counted, in its three parts, and back
-  pub passed_counts : (there holds : ℕ → Bool) (w : World T) → IsPassed (counted leq w there holds) → IsPassed (stamps leq (λ site. there site.node) w.in_flight) × IsPassed (held_where holds w.held) × IsPassed (open_where there w.openings)
+  pub passed_counts : (there holds : ℕ → Bool) (w : World T) → IsPassed (counted w there holds) → IsPassed (stamps (λ site. there site.node) w.in_flight) × IsPassed (held_where holds w.held) × IsPassed (open_where there w.openings)
   passed_counts there holds w h =
-      let a = passed_parts (stamps leq (λ site. there site.node) w.in_flight) (held_where holds w.held ++ open_where there w.openings) h in
+      let a = passed_parts (stamps (λ site. there site.node) w.in_flight) (held_where holds w.held ++ open_where there w.openings) h in
       let b = passed_parts (held_where holds w.held) (open_where there w.openings) a.1 in
       (a.0, b.0, b.1)
 
-  pub counts_passed : (there holds : ℕ → Bool) (w : World T) → IsPassed (stamps leq (λ site. there site.node) w.in_flight) × IsPassed (held_where holds w.held) × IsPassed (open_where there w.openings) → IsPassed (counted leq w there holds)
-  counts_passed there holds w h = passed_both (stamps leq (λ site. there site.node) w.in_flight) (held_where holds w.held ++ open_where there w.openings) h.0 (passed_both (held_where holds w.held) (open_where there w.openings) h.1 h.2)
+  pub counts_passed : (there holds : ℕ → Bool) (w : World T) → IsPassed (stamps (λ site. there site.node) w.in_flight) × IsPassed (held_where holds w.held) × IsPassed (open_where there w.openings) → IsPassed (counted w there holds)
+  counts_passed there holds w h = passed_both (stamps (λ site. there site.node) w.in_flight) (held_where holds w.held ++ open_where there w.openings) h.0 (passed_both (held_where holds w.held) (open_where there w.openings) h.1 h.2)
 
   module _ (p : Dataflow) (q : IsDataflow p) (n : ℕ) where
     -- a source of what is above is above
@@ -286,46 +222,46 @@ module _ {T : Type 0} (leq : T → T → Bool) (o : PartialOrderLaws leq) (t : T
     -- what a frontier has passed it has passed after each event
     pub frontier_onward : (w : World T) (e : Event T) → IsAllowed leq p w e → IsPassed (frontier leq p w n) → IsPassed (frontier leq p (after leq p w e) n)
     frontier_onward w e a h =
-        passed_least (counted leq (after leq p w e) (above p n) (above p n))
+        passed_least (counted (after leq p w e) (above p n) (above p n))
         (counts_passed (above p n) (above p n) (after leq p w e)
-        (onward p site_above (above p n) (above p n) upward (λ i k b x. x) (λ site x. x) w e a
-        (passed_counts (above p n) (above p n) w (passed-least leq o (counted leq w (above p n) (above p n)) t h))))
+        (onward p q site_above (above p n) (above p n) upward (λ i k b x. x) (λ site x. x) w e a
+        (passed_counts (above p n) (above p n) w (passed-least leq o (counted w (above p n) (above p n)) t h))))
 
-    pub in_passed : (w : World T) → IsPassed (input_frontier leq p w n) → IsPassed (stamps leq site_above w.in_flight) × IsPassed (held_where (strictly_above p n) w.held) × IsPassed (open_where (above p n) w.openings)
-    in_passed w h = passed_counts (above p n) (strictly_above p n) w (passed-least leq o (counted leq w (above p n) (strictly_above p n)) t h)
+    pub in_passed : (w : World T) → IsPassed (input_frontier leq p w n) → IsPassed (stamps site_above w.in_flight) × IsPassed (held_where (strictly_above p n) w.held) × IsPassed (open_where (above p n) w.openings)
+    in_passed w h = passed_counts (above p n) (strictly_above p n) w (passed-least leq o (counted w (above p n) (strictly_above p n)) t h)
 
     -- what an input frontier has passed it has passed after each event
     pub input_onward : (w : World T) (e : Event T) → IsAllowed leq p w e → IsPassed (input_frontier leq p w n) → IsPassed (input_frontier leq p (after leq p w e) n)
     input_onward w e a h =
-        passed_least (counted leq (after leq p w e) (above p n) (strictly_above p n))
+        passed_least (counted (after leq p w e) (above p n) (strictly_above p n))
         (counts_passed (above p n) (strictly_above p n) (after leq p w e)
-        (onward p site_above (strictly_above p n) (above p n) source_strict (λ i k b x. x) (λ site x. (and_parts (above p n site.node) (not (eqb site.node n)) x).0) w e a (in_passed w h)))
+        (onward p q site_above (strictly_above p n) (above p n) source_strict (λ i k b x. x) (λ site x. (and_parts (above p n site.node) (not (eqb site.node n)) x).0) w e a (in_passed w h)))
 
     -- what waits at a node is beyond its input frontier
-    pub taken_later : (w : World T) (site : Place) (j : ℕ) (us : List (Update T)) → slice_get (queue site w.in_flight) j ≡ Some us → site.node ≡ n → IsPassed (input_frontier leq p w n) → IsPassed (stamp leq us)
-    taken_later w site j us e i h = passed_taken site_above site w.in_flight j us e (ap (above p n) i ∙ above_itself p.nodes q.plan n) (in_passed w h).0
+    pub taken_later : (w : World T) (j : ℕ) (b : Bundle T) → slice_get (queue b.place w.in_flight) j ≡ Some b → b.place.node ≡ n → IsPassed (input_frontier leq p w n) → IsPassed b.stamp
+    taken_later w j b e i h = passed_taken site_above w.in_flight j b e (ap (above p n) i ∙ above_itself p.nodes q.plan n) (in_passed w h).0
 
   -- bundles at the places that pass one of two tests
-  passed_either : (f g : Place → Bool) (qs : List (Bundle T)) → IsPassed (stamps leq f qs) → IsPassed (stamps leq g qs) → IsPassed (stamps leq (λ site. f site || g site) qs)
+  passed_either : (f g : Place → Bool) (qs : List (Bundle T)) → IsPassed (stamps f qs) → IsPassed (stamps g qs) → IsPassed (stamps (λ site. f site || g site) qs)
   passed_either f g [] h k = refl
   passed_either f g (x ∷ qs) h k =
-      let a = passed_parts (cond (f x.place) (stamp leq x.updates) []) (stamps leq f qs) h in
-      let b = passed_parts (cond (g x.place) (stamp leq x.updates) []) (stamps leq g qs) k in
-      passed_both (cond (f x.place || g x.place) (stamp leq x.updates) []) (stamps leq (λ site. f site || g site) qs) (one (f x.place) a.0 b.0) (passed_either f g qs a.1 b.1)
+      let a = passed_parts (cond (f x.place) x.stamp []) (stamps f qs) h in
+      let b = passed_parts (cond (g x.place) x.stamp []) (stamps g qs) k in
+      passed_both (cond (f x.place || g x.place) x.stamp []) (stamps (λ site. f site || g site) qs) (one (f x.place) a.0 b.0) (passed_either f g qs a.1 b.1)
     where
-      one : (b : Bool) → IsPassed (cond b (stamp leq x.updates) []) → IsPassed (cond (g x.place) (stamp leq x.updates) []) → IsPassed (cond (b || g x.place) (stamp leq x.updates) [])
+      one : (b : Bool) → IsPassed (cond b x.stamp []) → IsPassed (cond (g x.place) x.stamp []) → IsPassed (cond (b || g x.place) x.stamp [])
       one true y z = y
       one false y z = z
 
-  passed_each : (f g : Place → Bool) (qs : List (Bundle T)) → IsPassed (stamps leq (λ site. f site || g site) qs) → IsPassed (stamps leq f qs) × IsPassed (stamps leq g qs)
+  passed_each : (f g : Place → Bool) (qs : List (Bundle T)) → IsPassed (stamps (λ site. f site || g site) qs) → IsPassed (stamps f qs) × IsPassed (stamps g qs)
   passed_each f g [] h = (refl, refl)
   passed_each f g (x ∷ qs) h =
-      let a = passed_parts (cond (f x.place || g x.place) (stamp leq x.updates) []) (stamps leq (λ site. f site || g site) qs) h in
+      let a = passed_parts (cond (f x.place || g x.place) x.stamp []) (stamps (λ site. f site || g site) qs) h in
       let b = one (f x.place) (g x.place) a.0 in
       let r = passed_each f g qs a.1 in
-      (passed_both (cond (f x.place) (stamp leq x.updates) []) (stamps leq f qs) b.0 r.0, passed_both (cond (g x.place) (stamp leq x.updates) []) (stamps leq g qs) b.1 r.1)
+      (passed_both (cond (f x.place) x.stamp []) (stamps f qs) b.0 r.0, passed_both (cond (g x.place) x.stamp []) (stamps g qs) b.1 r.1)
     where
-      one : (b c : Bool) → IsPassed (cond (b || c) (stamp leq x.updates) []) → IsPassed (cond b (stamp leq x.updates) []) × IsPassed (cond c (stamp leq x.updates) [])
+      one : (b c : Bool) → IsPassed (cond (b || c) x.stamp []) → IsPassed (cond b x.stamp []) × IsPassed (cond c x.stamp [])
       one true true y = (y, y)
       one true false y = (y, refl)
       one false true y = (refl, y)
@@ -340,10 +276,10 @@ module _ {T : Type 0} (leq : T → T → Bool) (o : PartialOrderLaws leq) (t : T
 
     -- at an input a port has nothing above it but the input's own frontier
     input_port : (w : World T) (e : Event T) → IsAllowed leq p w e → source_of p n port ≡ None
-        → IsPassed (stamps leq at_port w.in_flight) → IsPassed (open_at n w.openings)
-        → IsPassed (stamps leq at_port (after leq p w e).in_flight) × IsPassed (open_at n (after leq p w e).openings)
+        → IsPassed (stamps at_port w.in_flight) → IsPassed (open_at n w.openings)
+        → IsPassed (stamps at_port (after leq p w e).in_flight) × IsPassed (open_at n (after leq p w e).openings)
     input_port w e a none h k =
-        let r = onward p at_port (λ m. false) (λ i. eqb i n) sources (λ i k b x. (and_parts (eqb i n) (eqb 0 port) x).0) (λ site x. absurd (false≢true x)) w e a (h, no_held w.held, k) in
+        let r = onward p q at_port (λ m. false) (λ i. eqb i n) sources (λ i k b x. (and_parts (eqb i n) (eqb 0 port) x).0) (λ site x. absurd (false≢true x)) w e a (h, no_held w.held, k) in
         (r.0, r.2)
       where
         no_held : (ms : List (Held T)) → IsPassed (held_where (λ m. false) ms)
@@ -359,11 +295,11 @@ module _ {T : Type 0} (leq : T → T → Bool) (o : PartialOrderLaws leq) (t : T
             clash g = cc (none, g)
 
     source_port : (s : ℕ) (w : World T) (e : Event T) → IsAllowed leq p w e → source_of p n port ≡ Some s
-        → IsPassed (stamps leq at_port w.in_flight) → IsPassed (counted leq w (above p s) (above p s))
-        → IsPassed (stamps leq at_port (after leq p w e).in_flight) × IsPassed (counted leq (after leq p w e) (above p s) (above p s))
+        → IsPassed (stamps at_port w.in_flight) → IsPassed (counted w (above p s) (above p s))
+        → IsPassed (stamps at_port (after leq p w e).in_flight) × IsPassed (counted (after leq p w e) (above p s) (above p s))
     source_port s w e a some h k =
         let c = passed_counts (above p s) (above p s) w k in
-        let r = onward p (or_above s) (above p s) (above p s) sources inputs (λ site x. or_right (at_port site) (above p s site.node) x) w e a (passed_either at_port (λ site. above p s site.node) w.in_flight h c.0, c.1, c.2) in
+        let r = onward p q (or_above s) (above p s) (above p s) sources inputs (λ site x. or_right (at_port site) (above p s site.node) x) w e a (passed_either at_port (λ site. above p s site.node) w.in_flight h c.0, c.1, c.2) in
         let y = passed_each at_port (λ site. above p s site.node) (after leq p w e).in_flight r.0 in
         (y.0, counts_passed (above p s) (above p s) (after leq p w e) (y.1, r.1, r.2))
       where
@@ -386,15 +322,15 @@ module _ {T : Type 0} (leq : T → T → Bool) (o : PartialOrderLaws leq) (t : T
 
     -- what the frontier of a port has passed it has passed after each event
     pub port_onward : (w : World T) (e : Event T) → IsAllowed leq p w e → IsPassed (port_frontier leq p w n port) → IsPassed (port_frontier leq p (after leq p w e) n port)
-    port_onward w e a h = step (source_of p n port) refl (passed_parts (stamps leq at_port w.in_flight) (outstanding_from leq p w n (source_of p n port)) (passed-least leq o (stamps leq at_port w.in_flight ++ outstanding_from leq p w n (source_of p n port)) t h))
+    port_onward w e a h = step (source_of p n port) refl (passed_parts (stamps at_port w.in_flight) (outstanding_from p w n (source_of p n port)) (passed-least leq o (stamps at_port w.in_flight ++ outstanding_from p w n (source_of p n port)) t h))
       where
         z : World T
         z = after leq p w e
 
-        step : (s : Option ℕ) → source_of p n port ≡ s → IsPassed (stamps leq at_port w.in_flight) × IsPassed (outstanding_from leq p w n (source_of p n port)) → IsPassed (port_frontier leq p z n port)
+        step : (s : Option ℕ) → source_of p n port ≡ s → IsPassed (stamps at_port w.in_flight) × IsPassed (outstanding_from p w n (source_of p n port)) → IsPassed (port_frontier leq p z n port)
         step None f x =
-            let r = input_port w e a f x.0 (subst (λ s. IsPassed (outstanding_from leq p w n s)) f x.1) in
-            passed_least (stamps leq at_port z.in_flight ++ outstanding_from leq p z n (source_of p n port)) (passed_both (stamps leq at_port z.in_flight) (outstanding_from leq p z n (source_of p n port)) r.0 (subst (λ s. IsPassed (outstanding_from leq p z n s)) (sym f) r.1))
+            let r = input_port w e a f x.0 (subst (λ s. IsPassed (outstanding_from p w n s)) f x.1) in
+            passed_least (stamps at_port z.in_flight ++ outstanding_from p z n (source_of p n port)) (passed_both (stamps at_port z.in_flight) (outstanding_from p z n (source_of p n port)) r.0 (subst (λ s. IsPassed (outstanding_from p z n s)) (sym f) r.1))
         step (Some s) f x =
-            let r = source_port s w e a f x.0 (subst (λ s. IsPassed (outstanding_from leq p w n s)) f x.1) in
-            passed_least (stamps leq at_port z.in_flight ++ outstanding_from leq p z n (source_of p n port)) (passed_both (stamps leq at_port z.in_flight) (outstanding_from leq p z n (source_of p n port)) r.0 (subst (λ s. IsPassed (outstanding_from leq p z n s)) (sym f) r.1))
+            let r = source_port s w e a f x.0 (subst (λ s. IsPassed (outstanding_from p w n s)) f x.1) in
+            passed_least (stamps at_port z.in_flight ++ outstanding_from p z n (source_of p n port)) (passed_both (stamps at_port z.in_flight) (outstanding_from p z n (source_of p n port)) r.0 (subst (λ s. IsPassed (outstanding_from p z n s)) (sym f) r.1))

@@ -1,6 +1,8 @@
 -- Whatever waits, waits at a place that there is.
-use Rattle.std.proofs.Common.{◌≡◌, ◌≢◌, ℕ, zero, suc, ◌<◌, Bool, true, false, cond, not, ◌&&◌, List, [], ◌∷◌, ◌++◌, map, take, length, sym, refl, subst, Option, Some, None, eqb, arith, IsTrue, inl, inr, ⊎_elim}
+use Rattle.std.proofs.Common.{◌≡◌, ◌≢◌, ℕ, zero, suc, ◌<◌, Bool, true, false, cond, not, ◌&&◌, List, [], ◌∷◌, ◌++◌, map, take, length, sym, refl, ap, ◌∙◌, subst, Option, Some, None, eqb, arith, IsTrue, inl, inr, ⊎_elim}
 use Rattle.std.specs.List.{flat_map, filter, slice_get, list_all}
+use Rattle.std.proofs.Math.IntN.{ℤ}
+use Rattle.update.specs.Bags.{total_by}
 use Rattle.std.proofs.lemmas.Bool.{and_parts, and_from, eqb-true, eq-eqb, false≢true}
 use Rattle.std.proofs.lemmas.Option.{same_Some}
 use Rattle.antichain.proofs.Lists.{Among, among_contains, filter_has}
@@ -17,13 +19,12 @@ use Rattle.machine.specs.declared.event.Open.{Open}
 use Rattle.machine.specs.declared.event.Event.{Event}
 use Rattle.machine.specs.declared.event.Event.TheVariants.{Feed, Advance, Allow, Look, Take, TakeHeld, Give}
 use Rattle.machine.specs.Dataflows.{Dataflow, IsDataflow, node_of, source_of, route}
-use Rattle.machine.specs.Worlds.{World, same_place, updates_at, queue}
-use Rattle.machine.specs.Shares.{home, part, share_from, share}
-use Rattle.machine.specs.Outstanding.{stamp}
-use Rattle.machine.specs.Histories.{with_at, without, is_held_by, holding, opening, gave, after, IsInput, IsGive, IsAllowed, first_world, world, IsLegal}
+use Rattle.machine.specs.Worlds.{World, same_place, updates_at}
+use Rattle.machine.specs.Shares.{part, share_from, share}
+use Rattle.machine.specs.Histories.{alone, with_at, is_held_by, holding, opening, gave, after, IsInput, IsGive, IsAllowed, first_world, world, IsLegal}
 use Rattle.machine.specs.Promises.{IsPlace, IsInPlace}
 use Rattle.machine.proofs.ClaimLemmas.{routed}
-use Rattle.machine.proofs.FlowLemmas.{place_same}
+use Rattle.machine.proofs.FlowLemmas.{queued, among_left}
 use Rattle.machine.proofs.KeptLemmas.{no_totals}
 
 -- what holds of each element
@@ -48,40 +49,15 @@ each_flat P f (x ∷ xs) h = each_both P (f x) (flat_map f xs) (h x (inl refl)) 
 each_filter : {X : Type 0} (P : X → Type 0) (keep : X → Bool) (xs : List X) → Each P xs → Each P (filter keep xs)
 each_filter P keep xs h x m = h x (filter_has keep xs x m).0
 
+pub number_below : (n i : ℕ) → Among i (numbers_below n) → i < n
+number_below zero i m = absurd m
+number_below (suc n) i m = parts (numbers_below n) (number_below n i) m
+  where
+    parts : (xs : List ℕ) → (Among i xs → i < n) → Among i (xs ++ n ∷ []) → i < suc n
+    parts [] h m = ⊎_elim (λ e. omega arith) (λ k. absurd k) m
+    parts (x ∷ xs) h m = ⊎_elim (λ e. let r = h (inl e) in omega arith) (λ k. parts xs (λ j. h (inr j)) k) m
+
 module _ {T : Type 0} where
-  each_without : (P : Bundle T → Type 0) (site : Place) (qs : List (Bundle T)) (j : ℕ) → Each P qs → Each P (without site qs j)
-  each_without P site [] j h = h
-  each_without P site (q ∷ qs) zero h = step (same_place q.place site) (each_without P site qs zero (λ x i. h x (inr i)))
-    where
-      step : (b : Bool) → Each P (without site qs zero) → Each P (cond b qs (q ∷ without site qs zero))
-      step true ih x m = h x (inr m)
-      step false ih x m = ⊎_elim (λ e. h x (inl e)) (λ n. ih x n) m
-  each_without P site (q ∷ qs) (suc j) h = step (same_place q.place site) (each_without P site qs j (λ x i. h x (inr i))) (each_without P site qs (suc j) (λ x i. h x (inr i)))
-    where
-      step : (b : Bool) → Each P (without site qs j) → Each P (without site qs (suc j)) → Each P (q ∷ cond b (without site qs j) (without site qs (suc j)))
-      step true ih jh x m = ⊎_elim (λ e. h x (inl e)) (λ n. ih x n) m
-      step false ih jh x m = ⊎_elim (λ e. h x (inl e)) (λ n. jh x n) m
-
-  -- a bundle that waits at a place is one of those in flight
-  pub queued : (site : Place) (qs : List (Bundle T)) (j : ℕ) (us : List (Update T)) → slice_get (queue site qs) j ≡ Some us → (b : Bundle T) × Among b qs × (b.place ≡ site) × (b.updates ≡ us)
-  queued site [] j us e = cc
-  queued site (q ∷ qs) zero us e = step (same_place q.place site) refl e (queued site qs zero us)
-    where
-      more : (b : Bundle T) × Among b qs × (b.place ≡ site) × (b.updates ≡ us) → (b : Bundle T) × Among b (q ∷ qs) × (b.place ≡ site) × (b.updates ≡ us)
-      more r = (r.0, inr r.1, r.2, r.3)
-
-      step : (c : Bool) → same_place q.place site ≡ c → slice_get (cond c (q.updates ∷ []) [] ++ queue site qs) zero ≡ Some us → (slice_get (queue site qs) zero ≡ Some us → (b : Bundle T) × Among b qs × (b.place ≡ site) × (b.updates ≡ us)) → (b : Bundle T) × Among b (q ∷ qs) × (b.place ≡ site) × (b.updates ≡ us)
-      step true s f ih = (q, inl refl, place_same q.place site s, same_Some q.updates us f)
-      step false s f ih = more (ih f)
-  queued site (q ∷ qs) (suc j) us e = step (same_place q.place site) e (queued site qs j us) (queued site qs (suc j) us)
-    where
-      more : (b : Bundle T) × Among b qs × (b.place ≡ site) × (b.updates ≡ us) → (b : Bundle T) × Among b (q ∷ qs) × (b.place ≡ site) × (b.updates ≡ us)
-      more r = (r.0, inr r.1, r.2, r.3)
-
-      step : (c : Bool) → slice_get (cond c (q.updates ∷ []) [] ++ queue site qs) (suc j) ≡ Some us → (slice_get (queue site qs) j ≡ Some us → (b : Bundle T) × Among b qs × (b.place ≡ site) × (b.updates ≡ us)) → (slice_get (queue site qs) (suc j) ≡ Some us → (b : Bundle T) × Among b qs × (b.place ≡ site) × (b.updates ≡ us)) → (b : Bundle T) × Among b (q ∷ qs) × (b.place ≡ site) × (b.updates ≡ us)
-      step true f ih jh = more (ih f)
-      step false f ih jh = more (jh f)
-
   -- what is at a place of the bundles, some of it where one of them is there
   pub there_some : (qs : List (Bundle T)) (b : Bundle T) → Among b qs → b.updates ≢ [] → updates_at b.place qs ≢ []
   there_some [] b m h e = absurd m
@@ -149,6 +125,27 @@ module _ {T : Type 0} (p : Dataflow) (q : IsDataflow p) where
           one true k = record { node = has_source p.nodes site.node site.port s e; port = inr (within (sources (node_of p site.node)) site.port s e); worker = to_worker c g.updates k }
           one false k = absurd (k refl)
 
+  -- and only from the node that is read there
+  shared_from : (site : Place) (g : Emission T) → share p site g ≢ [] → source_of p site.node site.port ≡ Some g.node
+  shared_from site g h = step (source_of p site.node site.port) refl (arranged_by (node_of p site.node)) h
+    where
+      step : (x : Option ℕ) → source_of p site.node site.port ≡ x → (c : Option ℕ) → share_from p x c site.worker g ≢ [] → source_of p site.node site.port ≡ Some g.node
+      step None e c k = absurd (k refl)
+      step (Some s) e c k = one (eqb g.node s) refl k
+        where
+          one : (b : Bool) → eqb g.node s ≡ b → cond b (part p c g.worker site.worker g.updates) [] ≢ [] → source_of p site.node site.port ≡ Some g.node
+          one true f k = e ∙ ap (λ z. Some z) (sym (eqb-true g.node s f))
+          one false f k = absurd (k refl)
+
+  -- so a bundle that is sent has a share in it, and its place reads the giver's node
+  pub sent_some : (g : Emission T) (sent : List (Bundle T)) → ((site : Place) (f : Update T → ℤ) → total_by f (updates_at site sent) ≡ total_by f (share p site g)) → IsTrue (list_all (λ b. not (eqb (length b.updates) 0)) sent)
+      → (b : Bundle T) → Among b sent → share p b.place g ≢ []
+  sent_some g sent whole filled b m e = there_some sent b m (filled_some sent filled b m) (no_totals (updates_at b.place sent) (share p b.place g) (whole b.place) e)
+
+  pub sent_from : (g : Emission T) (sent : List (Bundle T)) → ((site : Place) (f : Update T → ℤ) → total_by f (updates_at site sent) ≡ total_by f (share p site g)) → IsTrue (list_all (λ b. not (eqb (length b.updates) 0)) sent)
+      → (b : Bundle T) → Among b sent → source_of p b.place.node b.place.port ≡ Some g.node
+  sent_from g sent whole filled b m = shared_from b.place g (sent_some g sent whole filled b m)
+
   abbrev IsBundle : Bundle T → Type 0
   IsBundle b = IsPlace p b.place × (b.updates ≢ [])
 
@@ -171,7 +168,7 @@ module _ {T : Type 0} (p : Dataflow) (q : IsDataflow p) where
         let here = s.hand g.worker g.node a.in_hand in
         let some = filled_some sent a.filled in
         record {
-          bundles = each_both IsBundle w.in_flight sent s.bundles (λ b m. (shared b.place g a.worker (λ e. there_some sent b m (some b m) (no_totals (updates_at b.place sent) (share p b.place g) (a.whole b.place) e)), some b m));
+          bundles = each_both IsBundle w.in_flight sent s.bundles (λ b m. (shared b.place g a.worker (sent_some g sent a.whole a.filled b m), some b m));
           held = each_both IsHeld (holding g.node g.worker ts) (filter (λ m. not (is_held_by g.node g.worker m)) w.held) (each_map IsHeld (λ t. record { node = g.node; worker = g.worker; time = t }) ts (λ t. here)) (each_filter IsHeld (λ m. not (is_held_by g.node g.worker m)) w.held s.held);
           inputs = s.inputs;
           hand = hand_with p w.hand g.worker None s.hand (λ n e. cc);
@@ -179,8 +176,8 @@ module _ {T : Type 0} (p : Dataflow) (q : IsDataflow p) where
 
     sited_after : (w : World T) (e : Event T) → IsAllowed leq p w e → IsSited w → IsSited (after leq p w e)
     sited_after w (Feed c f) a s = record {
-      bundles = each_both IsBundle w.in_flight (record { place = home p f; updates = f.update ∷ [] } ∷ []) s.bundles
-          (each_one IsBundle (record { place = home p f; updates = f.update ∷ [] }) (record { node = a.input.0; port = inl refl; worker = routed p q f.update.row }, λ e. cc));
+      bundles = each_both IsBundle w.in_flight (alone p f ∷ []) s.bundles
+          (each_one IsBundle (alone p f) (record { node = a.input.0; port = inl refl; worker = routed p q f.update.row }, λ e. cc));
       held = s.held;
       inputs = s.inputs;
       hand = s.hand;
@@ -193,15 +190,13 @@ module _ {T : Type 0} (p : Dataflow) (q : IsDataflow p) where
     }
     sited_after w (Allow c v ts) a s = record { bundles = s.bundles; held = s.held; inputs = s.inputs; hand = s.hand }
     sited_after w (Look c) a s = s
-    sited_after w (Take site j us) a s =
-        let b = queued site w.in_flight j us a.waits in
-        let h = s.bundles b.0 b.1 in
-        let here : site.node < length p.nodes = subst (λ (z : Place). z.node < length p.nodes) b.2 h.0.node in
+    sited_after w (Take j b) a s =
+        let here = (s.bundles b (queued b.place w.in_flight j b a.waits).0).0.node in
         record {
-          bundles = each_without IsBundle site w.in_flight j s.bundles;
-          held = each_both IsHeld (holding site.node site.worker (stamp leq us)) w.held (each_map IsHeld (λ t. record { node = site.node; worker = site.worker; time = t }) (stamp leq us) (λ t. (here, a.worker))) s.held;
+          bundles = λ x m. s.bundles x (among_left b.place w.in_flight j x m);
+          held = each_both IsHeld w.held (holding b.place.node b.place.worker b.stamp) s.held (each_map IsHeld (λ t. record { node = b.place.node; worker = b.place.worker; time = t }) b.stamp (λ t. (here, a.worker)));
           inputs = s.inputs;
-          hand = hand_with p w.hand site.worker (Some site.node) s.hand (λ n e. (subst (λ z. z < length p.nodes) (same_Some site.node n e) here, a.worker));
+          hand = hand_with p w.hand b.place.worker (Some b.place.node) s.hand (λ n e. (subst (λ z. z < length p.nodes) (same_Some b.place.node n e) here, a.worker));
         }
     sited_after w (TakeHeld k n) a s = record { bundles = s.bundles; held = s.held; inputs = s.inputs; hand = hand_with p w.hand k (Some n) s.hand (λ m e. (subst (λ z. z < length p.nodes) (same_Some n m e) a.within, a.worker)) }
     sited_after w (Give g ts sent) a s = sited_gave w g ts sent a s
@@ -210,17 +205,9 @@ module _ {T : Type 0} (p : Dataflow) (q : IsDataflow p) where
     sited_first minimum = record {
       bundles = λ b m. absurd m;
       held = λ x m. absurd m;
-      inputs = each_flat IsOpen (λ i. opening i (minimum ∷ [])) (numbers_where is_input p.nodes) (λ i m. each_one IsOpen (record { input = i; time = minimum }) (let r = filter_has (λ n. is_input (node_at p.nodes n)) (numbers_below (length p.nodes)) i m in (below (length p.nodes) i r.0, r.1)));
+      inputs = each_flat IsOpen (λ i. opening i (minimum ∷ [])) (numbers_where is_input p.nodes) (λ i m. each_one IsOpen (record { input = i; time = minimum }) (let r = filter_has (λ n. is_input (node_at p.nodes n)) (numbers_below (length p.nodes)) i m in (number_below (length p.nodes) i r.0, r.1)));
       hand = λ k n e. cc;
     }
-      where
-        below : (n i : ℕ) → Among i (numbers_below n) → i < n
-        below zero i m = absurd m
-        below (suc n) i m = parts (numbers_below n) (below n i) m
-          where
-            parts : (xs : List ℕ) → (Among i xs → i < n) → Among i (xs ++ n ∷ []) → i < suc n
-            parts [] h m = ⊎_elim (λ e. omega arith) (λ k. absurd k) m
-            parts (x ∷ xs) h m = ⊎_elim (λ e. let r = h (inl e) in omega arith) (λ k. parts xs (λ j. h (inr j)) k) m
 
     sited_world : (minimum : T) (h : List (Event T)) → IsLegal leq minimum p h → IsSited (world leq minimum p h)
     sited_world minimum [] l = sited_first minimum

@@ -54,7 +54,7 @@ module _ {T : Type 0} (below : T → T → Bool) (o : PartialOrderLaws below) wh
   }
 
 -- the numbers below n
-numbered : (n i : ℕ) → i < n → Among i (numbers_below n)
+pub numbered : (n i : ℕ) → i < n → Among i (numbers_below n)
 numbered zero i l = absurd (omega arith)
 numbered (suc n) i l = step (eqb i n) refl (numbered n i)
   where
@@ -179,9 +179,9 @@ module _ {T : Type 0} (leq : T → T → Bool) (o : PartialOrderLaws leq) (p : D
             list_any-append (λ f. leq f t) (cond (above p n x.input) (x.time ∷ []) []) (open_where (above p n) os)
             ∙ or_right (is_beyond leq (cond (above p n x.input) (x.time ∷ []) []) t) (is_beyond leq (open_where (above p n) os) t) (ih k)
 
-    split : (there holding : ℕ → Bool) (t : T) → is_beyond leq (counted leq w there holding) t ≡ true → (is_beyond leq (held_where holding w.held) t ≡ true) ⊎ (is_beyond leq (open_where there w.openings) t ≡ true)
+    split : (there holding : ℕ → Bool) (t : T) → is_beyond leq (counted w there holding) t ≡ true → (is_beyond leq (held_where holding w.held) t ≡ true) ⊎ (is_beyond leq (open_where there w.openings) t ≡ true)
     split there holding t h = either (is_beyond leq (held_where holding w.held) t) refl
-        (sym (list_any-append (λ f. leq f t) (held_where holding w.held) (open_where there w.openings)) ∙ subst (λ bs. is_beyond leq (flat_map (λ (b : Rattle.machine.specs.declared.event.Bundle.Bundle T). cond (there b.place.node) (Rattle.machine.specs.Outstanding.stamp leq b.updates) []) bs ++ (held_where holding w.held ++ open_where there w.openings)) t ≡ true) quiet.in_flight h)
+        (sym (list_any-append (λ f. leq f t) (held_where holding w.held) (open_where there w.openings)) ∙ subst (λ bs. is_beyond leq (flat_map (λ (b : Rattle.machine.specs.declared.event.Bundle.Bundle T). cond (there b.place.node) b.stamp []) bs ++ (held_where holding w.held ++ open_where there w.openings)) t ≡ true) quiet.in_flight h)
       where
         either : (b : Bool) → is_beyond leq (held_where holding w.held) t ≡ b → (b || is_beyond leq (open_where there w.openings) t) ≡ true → (is_beyond leq (held_where holding w.held) t ≡ true) ⊎ (is_beyond leq (open_where there w.openings) t ≡ true)
         either true e k = inl e
@@ -190,7 +190,7 @@ module _ {T : Type 0} (leq : T → T → Bool) (o : PartialOrderLaws leq) (p : D
     held_open : (a : ℕ) → above p n a ≡ true → (m : Held T) → Among m w.held → m.node ≡ a → is_beyond leq (open_where (above p n) w.openings) m.time ≡ true
     held_open = by_smaller (λ a. above p n a ≡ true → (m : Held T) → Among m w.held → m.node ≡ a → is_beyond leq (open_where (above p n) w.openings) m.time ≡ true) (λ a rest e m i f.
         let x = all_at (λ m. is_beyond leq (input_frontier leq p w m.node) m.time) w.held m quiet.held i in
-        let y = subst (λ z. is_beyond leq (counted leq w (above p z) (strictly_above p z)) m.time ≡ true) f (sym (least_beyond o (counted leq w (above p m.node) (strictly_above p m.node)) m.time) ∙ x) in
+        let y = subst (λ z. is_beyond leq (counted w (above p z) (strictly_above p z)) m.time ≡ true) f (sym (least_beyond o (counted w (above p m.node) (strictly_above p m.node)) m.time) ∙ x) in
         ⊎_elim
         (λ h.
         let r = held_of (strictly_above p a) m.time w.held h in
@@ -206,9 +206,9 @@ module _ {T : Type 0} (leq : T → T → Bool) (o : PartialOrderLaws leq) (p : D
         differs i j h e = false≢true (sym (ap not (eq-eqb i j e)) ∙ h)
 
     pub caught_up_lem : IsCaughtUp leq p w n
-    caught_up_lem = least_same leq o (outstanding leq p w n) fronts (λ t. same_test (is_beyond leq (outstanding leq p w n) t) (is_beyond leq fronts t) (into t) (back t))
+    caught_up_lem = least_same leq o (outstanding p w n) fronts (λ t. same_test (is_beyond leq (outstanding p w n) t) (is_beyond leq fronts t) (into t) (back t))
       where
-        into : (t : T) → is_beyond leq (outstanding leq p w n) t ≡ true → is_beyond leq fronts t ≡ true
+        into : (t : T) → is_beyond leq (outstanding p w n) t ≡ true → is_beyond leq fronts t ≡ true
         into t h =
             ⊎_elim
             (λ k.
@@ -218,11 +218,11 @@ module _ {T : Type 0} (leq : T → T → Bool) (o : PartialOrderLaws leq) (p : D
             (λ k. open_into t w.openings (λ x a. a) k)
             (split (above p n) (above p n) t h)
 
-        back : (t : T) → is_beyond leq fronts t ≡ true → is_beyond leq (outstanding leq p w n) t ≡ true
+        back : (t : T) → is_beyond leq fronts t ≡ true → is_beyond leq (outstanding p w n) t ≡ true
         back t h =
             let k = open_back t (feeders p.nodes n) (λ i a. (and_parts (is_input (node_of p i)) (above p n i) (filter_has (λ j. feeds p.nodes j n) (numbers_below (length p.nodes)) i a).1).1) h in
-            list_any-append (λ f. leq f t) (Rattle.machine.specs.Outstanding.stamps leq (λ site. above p n site.node) w.in_flight) (held_where (above p n) w.held ++ open_where (above p n) w.openings)
-            ∙ or_right (is_beyond leq (Rattle.machine.specs.Outstanding.stamps leq (λ site. above p n site.node) w.in_flight) t) (is_beyond leq (held_where (above p n) w.held ++ open_where (above p n) w.openings) t)
+            list_any-append (λ f. leq f t) (Rattle.machine.specs.Outstanding.stamps (λ site. above p n site.node) w.in_flight) (held_where (above p n) w.held ++ open_where (above p n) w.openings)
+            ∙ or_right (is_beyond leq (Rattle.machine.specs.Outstanding.stamps (λ site. above p n site.node) w.in_flight) t) (is_beyond leq (held_where (above p n) w.held ++ open_where (above p n) w.openings) t)
             (list_any-append (λ f. leq f t) (held_where (above p n) w.held) (open_where (above p n) w.openings)
             ∙ or_right (is_beyond leq (held_where (above p n) w.held) t) (is_beyond leq (open_where (above p n) w.openings) t) k)
 

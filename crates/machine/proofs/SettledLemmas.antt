@@ -14,8 +14,6 @@ use Rattle.plan.specs.declared.node.Node.{Node}
 use Rattle.plan.specs.declared.node.Node.TheVariants.{Input, Map, Filter, Concat, Negate, Arrange, Join, Reduce, Output}
 use Rattle.update.specs.Updates.{size}
 use mathlib.Core.Path.{fun_ext}
-use Rattle.machine.specs.Outstanding.{stamp}
-use Rattle.machine.specs.declared.event.Place.{Place}
 use Rattle.machine.specs.declared.event.Bundle.{Bundle}
 use Rattle.machine.specs.declared.event.Emission.{Emission}
 use Rattle.machine.specs.declared.event.Held.{Held}
@@ -114,25 +112,28 @@ module _ {T : Type 0} (leq : T → T → Bool) (o : PartialOrderLaws leq) (p : D
   same_still w v a b c d h n k =
       carried w v n k (record { emitted = ap (emitted_by n k) (sym a); received = λ port. (let e = ap (λ z. weight (updates_at (place n port k) z)) b in omega arith); held = λ t x y. ap (λ z. is_beyond leq (held_at n k z) t) c ∙ y; left = d n k }) (h n k)
 
-  taken_still : (w : World T) (site : Place) (j : ℕ) (us : List (Update T)) → slice_get (queue site w.in_flight) j ≡ Some us → IsLoaded w → (n k : ℕ) → LoadRule leq p (turned_to leq p (took leq p w site j us) site.node site.worker) n k
-  taken_still w site j us waits l n k =
-      carried w v n k (record { emitted = refl; received = received; held = held; left = λ t h. or_right ((eqb site.node n && eqb site.worker k) && not (is_beyond leq (input_frontier leq p (took leq p w site j us) site.node) t)) (was_passed leq n k w.left t) h }) (l.rule n k)
+  taken_still : (w : World T) (j : ℕ) (b : Bundle T) → slice_get (queue b.place w.in_flight) j ≡ Some b → IsLoaded w → (n k : ℕ) → LoadRule leq p (turned_to leq p (took leq p w j b) b.place.node b.place.worker) n k
+  taken_still w j b waits l n k =
+      carried w v n k (record { emitted = refl; received = received; held = held; left = λ t h. or_right ((eqb b.place.node n && eqb b.place.worker k) && not (is_beyond leq (input_frontier leq p (took leq p w j b) b.place.node) t)) (was_passed leq n k w.left t) h }) (l.rule n k)
     where
       v : World T
-      v = turned_to leq p (took leq p w site j us) site.node site.worker
+      v = turned_to leq p (took leq p w j b) b.place.node b.place.worker
+
+      more : List (Held T)
+      more = holding b.place.node b.place.worker b.stamp
 
       received : (port : ℕ) → weight (updates_at (place n port k) w.received) ≤ weight (updates_at (place n port k) v.received)
-      received port = let e = size-append (cond (same_place site (place n port k)) us []) (updates_at (place n port k) w.received) in omega arith
+      received port = let e = size-append (cond (same_place b.place (place n port k)) b.updates []) (updates_at (place n port k) w.received) in omega arith
 
       held : (t : T) → was_passed leq n k w.left t ≡ true → is_beyond leq (held_at n k w.held) t ≡ false → is_beyond leq (held_at n k v.held) t ≡ false
       held t h f =
-          ap (λ z. is_beyond leq z t) (flat_map-append (λ (m : Held T). cond (eqb m.node n && eqb m.worker k) (m.time ∷ []) []) (holding site.node site.worker (stamp leq us)) w.held)
-          ∙ (list_any-append (λ x. leq x t) (held_at n k (holding site.node site.worker (stamp leq us))) (held_at n k w.held)
-          ∙ or_from (is_beyond leq (held_at n k (holding site.node site.worker (stamp leq us))) t) (is_beyond leq (held_at n k w.held) t) (new (eqb site.node n && eqb site.worker k) refl) f)
+          ap (λ z. is_beyond leq z t) (flat_map-append (λ (m : Held T). cond (eqb m.node n && eqb m.worker k) (m.time ∷ []) []) w.held more)
+          ∙ (list_any-append (λ x. leq x t) (held_at n k w.held) (held_at n k more)
+          ∙ or_from (is_beyond leq (held_at n k w.held) t) (is_beyond leq (held_at n k more) t) f (new (eqb b.place.node n && eqb b.place.worker k) refl))
         where
-          new : (b : Bool) → (eqb site.node n && eqb site.worker k) ≡ b → is_beyond leq (held_at n k (holding site.node site.worker (stamp leq us))) t ≡ false
-          new true e = ap (λ z. is_beyond leq z t) (held_marked n k site.node site.worker (stamp leq us) e) ∙ taken_later leq o t p q n w site j us waits (eqb-true site.node n (and_parts (eqb site.node n) (eqb site.worker k) e).0) (l.left n k t h)
-          new false e = ap (λ z. is_beyond leq z t) (held_unmarked n k site.node site.worker (stamp leq us) e)
+          new : (c : Bool) → (eqb b.place.node n && eqb b.place.worker k) ≡ c → is_beyond leq (held_at n k more) t ≡ false
+          new true e = ap (λ z. is_beyond leq z t) (held_marked n k b.place.node b.place.worker b.stamp e) ∙ taken_later leq o t p q n w j b waits (eqb-true b.place.node n (and_parts (eqb b.place.node n) (eqb b.place.worker k) e).0) (l.left n k t h)
+          new false e = ap (λ z. is_beyond leq z t) (held_unmarked n k b.place.node b.place.worker b.stamp e)
 
   given_still : (w : World T) (g : Emission T) (held : List T) (sent : List (Bundle T)) → IsGive leq p w g held sent → IsLoaded w → (n k : ℕ) → LoadRule leq p (gave leq p w g held sent) n k
   given_still w g held sent a l n k = step (eqb g.node n && eqb g.worker k) refl
@@ -157,7 +158,7 @@ module _ {T : Type 0} (leq : T → T → Bool) (o : PartialOrderLaws leq) (p : D
   loaded_after w (Advance c i ts) a l = record { rule = same_still w (after leq p w (Advance c i ts)) refl refl refl (λ n k t h. h) l.rule; left = λ n k t h. input_onward leq o t p q n w (Advance c i ts) a (l.left n k t h) }
   loaded_after w (Allow c v ts) a l = record { rule = same_still w (after leq p w (Allow c v ts)) refl refl refl (λ n k t h. h) l.rule; left = λ n k t h. input_onward leq o t p q n w (Allow c v ts) a (l.left n k t h) }
   loaded_after w (Look c) a l = l
-  loaded_after w (Take site j us) a l = record { rule = taken_still w site j us a.waits l; left = left_now (took leq p w site j us) site.node site.worker (λ m i t h. input_onward leq o t p q m w (Take site j us) a (l.left m i t h)) }
+  loaded_after w (Take j b) a l = record { rule = taken_still w j b a.waits l; left = left_now (took leq p w j b) b.place.node b.place.worker (λ m i t h. input_onward leq o t p q m w (Take j b) a (l.left m i t h)) }
   loaded_after w (TakeHeld k n) a l =
       let v : World T = record w { hand = with_at w.hand k (Some n) } in
       record {

@@ -5,7 +5,6 @@ use Rattle.std.proofs.lemmas.Bool.{and_parts, and_from, or_left, or_right, eqb-t
 use Rattle.std.proofs.lemmas.List.Concat.{flat_map-append}
 use Rattle.lattice.proofs.BoundLemmas.{same_test}
 use Rattle.antichain.proofs.Lists.{Among, all_at, all_from}
-use Rattle.update.specs.declared.change.Update.{Update}
 use Rattle.machine.specs.declared.event.Place.{Place}
 use Rattle.machine.specs.declared.event.Bundle.{Bundle}
 use Rattle.machine.specs.declared.event.Held.{Held}
@@ -117,41 +116,40 @@ module _ {T : Type 0} where
   AreQueued xs ys = (site : Place) → queue site xs ≡ queue site ys
 
   -- bundles that wait alike are tested alike
-  module _ (f : Place → List (Update T) → Bool) (xs ys : List (Bundle T)) (same : AreQueued xs ys) where
-    pub queued_any : list_any (λ b. f b.place b.updates) xs ≡ list_any (λ b. f b.place b.updates) ys
-    queued_any = any_like (λ b. same_place b.place) (λ b. b.place) (λ b. b.updates) one_site (λ b. f b.place b.updates) (λ x y e v. ap₂ f (place_same y.place x.place e) v) xs ys same
+  pub queued_any : (f : Bundle T → Bool) (xs ys : List (Bundle T)) → AreQueued xs ys → list_any f xs ≡ list_any f ys
+  queued_any f xs ys same = any_like (λ b. same_place b.place) (λ b. b.place) (λ b. b) one_site f (λ x y e v. ap f v) xs ys same
 
   pub none_queued : (xs : List (Bundle T)) → AreQueued xs [] → xs ≡ []
-  none_queued xs e = nothing_at (λ b. same_place b.place) (λ b. b.place) (λ b. b.updates) one_site xs e
+  none_queued xs e = nothing_at (λ b. same_place b.place) (λ b. b.place) (λ b. b) one_site xs e
 
   pub queued_more : (xs ys more : List (Bundle T)) → AreQueued xs ys → AreQueued (xs ++ more) (ys ++ more)
   queued_more xs ys more same site =
-      flat_map-append (λ b. cond (same_place b.place site) (b.updates ∷ []) []) xs more
+      flat_map-append (λ b. cond (same_place b.place site) (b ∷ []) []) xs more
       ∙ (ap (λ q. q ++ queue site more) (same site)
-      ∙ sym (flat_map-append (λ b. cond (same_place b.place site) (b.updates ∷ []) []) ys more))
+      ∙ sym (flat_map-append (λ b. cond (same_place b.place site) (b ∷ []) []) ys more))
 
   queue_less : (site : Place) (xs : List (Bundle T)) (n : ℕ) → queue site (without site xs n) ≡ less (queue site xs) n
   queue_less site [] n = refl
   queue_less site (x ∷ xs) zero = step (same_place x.place site) refl (queue_less site xs zero)
     where
-      step : (c : Bool) → same_place x.place site ≡ c → queue site (without site xs zero) ≡ less (queue site xs) zero → queue site (cond c xs (x ∷ without site xs zero)) ≡ less (cond c (x.updates ∷ []) [] ++ queue site xs) zero
+      step : (c : Bool) → same_place x.place site ≡ c → queue site (without site xs zero) ≡ less (queue site xs) zero → queue site (cond c xs (x ∷ without site xs zero)) ≡ less (cond c (x ∷ []) [] ++ queue site xs) zero
       step true e h = refl
       step false e h = rw e h
   queue_less site (x ∷ xs) (suc n) = step (same_place x.place site) refl (queue_less site xs n) (queue_less site xs (suc n))
     where
       step : (c : Bool) → same_place x.place site ≡ c → queue site (without site xs n) ≡ less (queue site xs) n → queue site (without site xs (suc n)) ≡ less (queue site xs) (suc n)
-          → queue site (x ∷ cond c (without site xs n) (without site xs (suc n))) ≡ less (cond c (x.updates ∷ []) [] ++ queue site xs) (suc n)
-      step true e h k = rw e (ap (λ q. x.updates ∷ q) h)
+          → queue site (x ∷ cond c (without site xs n) (without site xs (suc n))) ≡ less (cond c (x ∷ []) [] ++ queue site xs) (suc n)
+      step true e h k = rw e (ap (λ q. x ∷ q) h)
       step false e h k = rw e k
 
   queue_other : (site other : Place) → ((p : Place) → same_place p site ≡ true → same_place p other ≡ false) → (xs : List (Bundle T)) (n : ℕ) → queue other (without site xs n) ≡ queue other xs
   queue_other site other apart [] n = refl
   queue_other site other apart (x ∷ xs) zero = step (same_place x.place site) refl (queue_other site other apart xs zero)
     where
-      step : (c : Bool) → same_place x.place site ≡ c → queue other (without site xs zero) ≡ queue other xs → queue other (cond c xs (x ∷ without site xs zero)) ≡ cond (same_place x.place other) (x.updates ∷ []) [] ++ queue other xs
+      step : (c : Bool) → same_place x.place site ≡ c → queue other (without site xs zero) ≡ queue other xs → queue other (cond c xs (x ∷ without site xs zero)) ≡ cond (same_place x.place other) (x ∷ []) [] ++ queue other xs
       step true e h = rw (apart x.place e) refl
-      step false e h = ap (λ q. cond (same_place x.place other) (x.updates ∷ []) [] ++ q) h
-  queue_other site other apart (x ∷ xs) (suc n) = ap (λ q. cond (same_place x.place other) (x.updates ∷ []) [] ++ q) (step (same_place x.place site) (queue_other site other apart xs n) (queue_other site other apart xs (suc n)))
+      step false e h = ap (λ q. cond (same_place x.place other) (x ∷ []) [] ++ q) h
+  queue_other site other apart (x ∷ xs) (suc n) = ap (λ q. cond (same_place x.place other) (x ∷ []) [] ++ q) (step (same_place x.place site) (queue_other site other apart xs n) (queue_other site other apart xs (suc n)))
     where
       step : (c : Bool) → queue other (without site xs n) ≡ queue other xs → queue other (without site xs (suc n)) ≡ queue other xs → queue other (cond c (without site xs n) (without site xs (suc n))) ≡ queue other xs
       step true h k = h
@@ -196,6 +194,12 @@ module _ {T : Type 0} where
       flat_map-append (λ m. cond (is_held_by n k m) (m.time ∷ []) []) more xs
       ∙ (ap (λ q. held_at n k more ++ q) (same n k)
       ∙ sym (flat_map-append (λ m. cond (is_held_by n k m) (m.time ∷ []) []) more ys))
+
+  pub held_behind : (xs ys more : List (Held T)) → AreHeld xs ys → AreHeld (xs ++ more) (ys ++ more)
+  held_behind xs ys more same n k =
+      flat_map-append (λ m. cond (is_held_by n k m) (m.time ∷ []) []) xs more
+      ∙ (ap (λ q. q ++ held_at n k more) (same n k)
+      ∙ sym (flat_map-append (λ m. cond (is_held_by n k m) (m.time ∷ []) []) ys more))
 
   pub held_others : (xs ys : List (Held T)) (n k : ℕ) → AreHeld xs ys → AreHeld (filter (λ m. not (is_held_by n k m)) xs) (filter (λ m. not (is_held_by n k m)) ys)
   held_others xs ys n k same m j = at_others holds_at (λ m. (m.node, m.worker)) (λ m. m.time) one_holder (m, j) (n, k) (step (eqb m n) refl (eqb j k) refl) xs ys (same m j)

@@ -1,12 +1,14 @@
 -- A stamp stands for the times that it was made from, and has none of them twice.
 use Rattle.std.proofs.Common.{◌≡◌, Bool, true, false, cond, not, ◌||◌, List, [], ◌∷◌, ◌++◌, sym, refl, ap, ap₂, ◌∙◌}
 use Rattle.std.specs.List.{filter, list_all}
-use Rattle.std.proofs.lemmas.Bool.{and_parts, and_from, or_parts, true≢false}
-use Rattle.std.proofs.lemmas.List.Folds.{list_any-append}
+use Rattle.std.proofs.lemmas.Bool.{and_parts, and_from, or_parts, true≢false, false_from_ne_true}
+use Rattle.std.proofs.lemmas.List.Folds.{list_any-append, list_all-append}
 use Rattle.lattice.specs.Order.{PartialOrderLaws}
-use Rattle.lattice.specs.Frontiers.{is_beyond}
+use Rattle.lattice.specs.Frontiers.{is_beyond, all_beyond}
+use Rattle.lattice.proofs.FrontierLemmas.{beyond_later, all_beyond_from}
 use Rattle.antichain.specs.Antichains.{is_incomparable, is_antichain}
 use Rattle.antichain.proofs.InsertionLemmas.{beyond_already}
+use Rattle.antichain.proofs.Lists.{all_filter}
 use Rattle.update.specs.declared.change.Update.{Update}
 use Rattle.machine.specs.Worlds.{times}
 use Rattle.machine.specs.Outstanding.{with_time, with_times, stamp}
@@ -61,8 +63,30 @@ module _ {T : Type 0} (below : T → T → Bool) (o : PartialOrderLaws below) wh
   unfolding stamp
   stamp_beyond us s = with_times_beyond [] (times us) s
 
-  pub stamp_passed : (us : List (Update T)) (s : T) → is_beyond below (stamp below us) s ≡ false → is_beyond below (times us) s ≡ false
-  stamp_passed us s h = sym (stamp_beyond us s) ∙ h
+  -- each of the times is beyond the stamp
+  pub stamp_before : (us : List (Update T)) → all_beyond below (stamp below us) (times us) ≡ true
+  stamp_before us = all_beyond_from o (stamp below us) (times us) (λ t h. stamp_beyond us t ∙ h)
+
+  -- where a frontier has passed a time, so have the times that are beyond it
+  pub beyond_passed : (F G : List T) (t : T) → all_beyond below F G ≡ true → is_beyond below F t ≡ false → is_beyond below G t ≡ false
+  beyond_passed F G t a h = false_from_ne_true (is_beyond below G t) (λ b. true≢false (sym (beyond_later o F G t a b) ∙ h))
+
+  -- What holds of all times holds of their stamp
+
+  all_with_time : (p : T → Bool) (F : List T) (t : T) → list_all p F ≡ true → p t ≡ true → list_all p (with_time below F t) ≡ true
+  all_with_time p F t a h = step (is_beyond below F t)
+    where
+      step : (c : Bool) → list_all p (cond c F (filter (λ f. not (below t f)) F ++ t ∷ [])) ≡ true
+      step true = a
+      step false = list_all-append p (filter (λ f. not (below t f)) F) (t ∷ []) ∙ and_from (list_all p (filter (λ f. not (below t f)) F)) (list_all p (t ∷ [])) (all_filter p (λ f. not (below t f)) F a) (and_from (p t) true h refl)
+
+  all_with_times : (p : T → Bool) (F ts : List T) → list_all p F ≡ true → list_all p ts ≡ true → list_all p (with_times below F ts) ≡ true
+  all_with_times p F [] a h = a
+  all_with_times p F (t ∷ ts) a h = let g = and_parts (p t) (list_all p ts) h in all_with_times p (with_time below F t) ts (all_with_time p F t a g.0) g.1
+
+  pub all_stamp : (p : T → Bool) (us : List (Update T)) → list_all p (times us) ≡ true → list_all p (stamp below us) ≡ true
+  unfolding stamp
+  all_stamp p us h = all_with_times p [] (times us) refl h
 
   -- No two of its times can be compared
 

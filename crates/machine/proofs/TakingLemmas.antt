@@ -1,15 +1,14 @@
 -- Where a bundle stands among all, and what is left once it is taken.
-use Rattle.std.proofs.Common.{◌≡◌, ℕ, zero, suc, ◌+◌, ◌<◌, Bool, true, false, cond, List, [], ◌∷◌, ◌++◌, drop, length, get_or, sym, refl, ap, ◌∙◌, Some, arith, add-one, drop-cons}
+use Rattle.std.proofs.Common.{◌≡◌, ℕ, zero, suc, ◌+◌, ◌<◌, true, false, cond, Bool, List, [], ◌∷◌, ◌++◌, drop, length, get_or, sym, refl, ap, ◌∙◌, Some, arith, add-one, drop-cons}
 use Rattle.std.specs.List.{slice_get, remove}
 use Rattle.machine.specs.declared.event.Place.{Place}
 use Rattle.machine.specs.declared.event.Bundle.{Bundle}
 use Rattle.machine.specs.Worlds.{same_place, queue}
 use Rattle.machine.specs.Histories.{without, holding}
 use Rattle.std.proofs.Common.{set}
-use Rattle.update.specs.declared.change.Update.{Update}
 use Rattle.machine.specs.declared.event.Held.{Held}
 use Rattle.machine.specs.declared.event.Event.TheVariants.{Take}
-use Rattle.machine.specs.Outstanding.{stamp}
+use Rattle.machine.proofs.FlowLemmas.{queued}
 use Rattle.machine.specs.Boards.{Shown, position_in, taken}
 
 module _ {T : Type 0} (site : Place) where
@@ -28,7 +27,7 @@ module _ {T : Type 0} (site : Place) where
       → (less < length (queue site (drop (i + 1) bs))) × (i + 1 + position_in site (drop (i + 1) bs) less ≡ position_in site bs number)
   one_less bs i left less number b l e s z q h =
       let d = first_of bs i b l e in
-      let f : length (queue site (drop i bs)) ≡ suc (length (queue site (drop (i + 1) bs))) = ap (λ ds. length (queue site ds)) d ∙ ap (λ c. length (cond c (b.updates ∷ []) [] ++ queue site (drop (i + 1) bs))) s in
+      let f : length (queue site (drop i bs)) ≡ suc (length (queue site (drop (i + 1) bs))) = ap (λ ds. length (queue site ds)) d ∙ ap (λ c. length (cond c (b ∷ []) [] ++ queue site (drop (i + 1) bs))) s in
       let k : position_in site (drop i bs) left ≡ suc (position_in site (drop (i + 1) bs) less) = ap (position_in site (drop i bs)) z ∙ (ap (λ ds. position_in site ds (suc less)) d ∙ ap (λ c. suc (cond c (position_in site (drop (i + 1) bs) less) (position_in site (drop (i + 1) bs) (suc less)))) s) in
       (omega arith, omega arith)
 
@@ -37,7 +36,7 @@ module _ {T : Type 0} (site : Place) where
       → (left < length (queue site (drop (i + 1) bs))) × (i + 1 + position_in site (drop (i + 1) bs) left ≡ position_in site bs number)
   passed_by bs i left number b l e s q h =
       let d = first_of bs i b l e in
-      let f : length (queue site (drop i bs)) ≡ length (queue site (drop (i + 1) bs)) = ap (λ ds. length (queue site ds)) d ∙ ap (λ c. length (cond c (b.updates ∷ []) [] ++ queue site (drop (i + 1) bs))) s in
+      let f : length (queue site (drop i bs)) ≡ length (queue site (drop (i + 1) bs)) = ap (λ ds. length (queue site ds)) d ∙ ap (λ c. length (cond c (b ∷ []) [] ++ queue site (drop (i + 1) bs))) s in
       let k : position_in site (drop i bs) left ≡ suc (position_in site (drop (i + 1) bs) left) = ap (λ ds. position_in site ds left) d ∙ on left in
       (omega arith, omega arith)
     where
@@ -47,43 +46,54 @@ module _ {T : Type 0} (site : Place) where
 
   -- the bundle there is the one that is sought, and the rest are the others
   pub is_there : (bs : List (Bundle T)) (number : ℕ) (d : Bundle T) → number < length (queue site bs)
-      → (slice_get (queue site bs) number ≡ Some (get_or bs (position_in site bs number) d).updates)
+      → (slice_get (queue site bs) number ≡ Some (get_or bs (position_in site bs number) d))
       × (without site bs number ≡ remove bs (position_in site bs number)) × (position_in site bs number < length bs)
   is_there [] number d l = absurd (omega arith)
   is_there (b ∷ bs) zero d l = step (same_place b.place site) l (is_there bs zero d)
     where
-      step : (c : Bool) → 0 < length (cond c (b.updates ∷ []) [] ++ queue site bs)
-          → (0 < length (queue site bs) → (slice_get (queue site bs) 0 ≡ Some (get_or bs (position_in site bs 0) d).updates) × (without site bs 0 ≡ remove bs (position_in site bs 0)) × (position_in site bs 0 < length bs))
-          → (slice_get (cond c (b.updates ∷ []) [] ++ queue site bs) 0 ≡ Some (get_or (b ∷ bs) (cond c 0 (suc (position_in site bs 0))) d).updates)
+      step : (c : Bool) → 0 < length (cond c (b ∷ []) [] ++ queue site bs)
+          → (0 < length (queue site bs) → (slice_get (queue site bs) 0 ≡ Some (get_or bs (position_in site bs 0) d)) × (without site bs 0 ≡ remove bs (position_in site bs 0)) × (position_in site bs 0 < length bs))
+          → (slice_get (cond c (b ∷ []) [] ++ queue site bs) 0 ≡ Some (get_or (b ∷ bs) (cond c 0 (suc (position_in site bs 0))) d))
           × (cond c bs (b ∷ without site bs 0) ≡ remove (b ∷ bs) (cond c 0 (suc (position_in site bs 0)))) × (cond c 0 (suc (position_in site bs 0)) < length (b ∷ bs))
       step true l ih = (refl, refl, omega arith)
       step false l ih = let r = ih l in (r.0, ap (λ z. b ∷ z) r.1, let x = r.2 in omega arith)
   is_there (b ∷ bs) (suc number) d l = step (same_place b.place site) l (is_there bs number d) (is_there bs (suc number) d)
     where
-      step : (c : Bool) → suc number < length (cond c (b.updates ∷ []) [] ++ queue site bs)
-          → (number < length (queue site bs) → (slice_get (queue site bs) number ≡ Some (get_or bs (position_in site bs number) d).updates) × (without site bs number ≡ remove bs (position_in site bs number)) × (position_in site bs number < length bs))
-          → (suc number < length (queue site bs) → (slice_get (queue site bs) (suc number) ≡ Some (get_or bs (position_in site bs (suc number)) d).updates) × (without site bs (suc number) ≡ remove bs (position_in site bs (suc number))) × (position_in site bs (suc number) < length bs))
-          → (slice_get (cond c (b.updates ∷ []) [] ++ queue site bs) (suc number) ≡ Some (get_or bs (cond c (position_in site bs number) (position_in site bs (suc number))) d).updates)
+      step : (c : Bool) → suc number < length (cond c (b ∷ []) [] ++ queue site bs)
+          → (number < length (queue site bs) → (slice_get (queue site bs) number ≡ Some (get_or bs (position_in site bs number) d)) × (without site bs number ≡ remove bs (position_in site bs number)) × (position_in site bs number < length bs))
+          → (suc number < length (queue site bs) → (slice_get (queue site bs) (suc number) ≡ Some (get_or bs (position_in site bs (suc number)) d)) × (without site bs (suc number) ≡ remove bs (position_in site bs (suc number))) × (position_in site bs (suc number) < length bs))
+          → (slice_get (cond c (b ∷ []) [] ++ queue site bs) (suc number) ≡ Some (get_or bs (cond c (position_in site bs number) (position_in site bs (suc number))) d))
           × ((b ∷ cond c (without site bs number) (without site bs (suc number))) ≡ remove (b ∷ bs) (suc (cond c (position_in site bs number) (position_in site bs (suc number)))))
           × (suc (cond c (position_in site bs number) (position_in site bs (suc number))) < length (b ∷ bs))
       step true l ih jh = let r = ih (omega arith) in (r.0, ap (λ z. b ∷ z) r.1, let x = r.2 in omega arith)
       step false l ih jh = let r = jh l in (r.0, ap (λ z. b ∷ z) r.1, let x = r.2 in omega arith)
 
 -- the board after a bundle was handed over is the board after it was taken
-pub taken_after : {T : Type 0} (below : T → T → Bool) (b c : Shown T) (site : Place) (number position : ℕ) (us seen : List (Update T)) (held : List (Held T))
+pub taken_after : {T : Type 0} (b c : Shown T) (site : Place) (number position : ℕ) (bundle : Bundle T) (stamp : List T) (held : List (Held T))
     → position ≡ position_in site b.in_flight number → number < length (queue site b.in_flight)
-    → ((d : Bundle T) → us ≡ (get_or b.in_flight position d).updates) → (d : Bundle T) → seen ≡ (get_or b.in_flight position d).updates
-    → held ≡ holding site.node site.worker (stamp below seen) ++ b.held
-    → c ≡ record b { in_flight = remove b.in_flight position; held = held; hand = set b.hand site.worker (Some site.node); last = Take site number us }
-    → (slice_get (queue site b.in_flight) number ≡ Some us) × (c ≡ taken below site number us b)
-taken_after {T} below b c site number position us seen held e l u d s h k =
-    let r = is_there site b.in_flight number d l in
-    let same : seen ≡ us = s ∙ sym (u d) in
-    let there : (get_or b.in_flight (position_in site b.in_flight number) d).updates ≡ us = ap (λ i. (get_or b.in_flight i d).updates) (sym e) ∙ sym (u d) in (
-      r.0 ∙ ap (λ z. Some z) there,
-      k ∙ made (ap (λ i. remove b.in_flight i) e ∙ sym r.1) (h ∙ ap (λ z. holding site.node site.worker (stamp below z) ++ b.held) same),
-    )
+    → ((d : Bundle T) → bundle ≡ get_or b.in_flight position d) → (d : Bundle T) → stamp ≡ (get_or b.in_flight position d).stamp
+    → held ≡ b.held ++ holding site.node site.worker stamp
+    → c ≡ record b { in_flight = remove b.in_flight position; held = held; hand = set b.hand site.worker (Some site.node); last = Take number bundle }
+    → (slice_get (queue site b.in_flight) number ≡ Some bundle) × (bundle.place ≡ site) × (c ≡ taken number bundle b)
+taken_after {T} b c site number position bundle stamp held e l u d s h k = (waits, there, k ∙ made)
   where
-    made : remove b.in_flight position ≡ without site b.in_flight number → held ≡ holding site.node site.worker (stamp below us) ++ b.held
-        → record b { in_flight = remove b.in_flight position; held = held; hand = set b.hand site.worker (Some site.node); last = Take site number us } ≡ taken below site number us b
-    made x y = λ i. record b { in_flight = x i; held = y i; hand = set b.hand site.worker (Some site.node); last = Take site number us }
+    found : (slice_get (queue site b.in_flight) number ≡ Some (get_or b.in_flight (position_in site b.in_flight number) d)) × (without site b.in_flight number ≡ remove b.in_flight (position_in site b.in_flight number)) × (position_in site b.in_flight number < length b.in_flight)
+    found = is_there site b.in_flight number d l
+
+    waits : slice_get (queue site b.in_flight) number ≡ Some bundle
+    waits = found.0 ∙ ap (λ z. Some z) (ap (λ i. get_or b.in_flight i d) (sym e) ∙ sym (u d))
+
+    there : bundle.place ≡ site
+    there = (queued site b.in_flight number bundle waits).1
+
+    flight : remove b.in_flight position ≡ without site b.in_flight number
+    flight = ap (λ i. remove b.in_flight i) e ∙ sym found.1
+
+    behind : held ≡ b.held ++ holding site.node site.worker bundle.stamp
+    behind = h ∙ ap (λ ts. b.held ++ holding site.node site.worker ts) (s ∙ sym (ap (λ (z : Bundle T). z.stamp) (u d)))
+
+    at_site : record b { in_flight = without site b.in_flight number; held = b.held ++ holding site.node site.worker bundle.stamp; hand = set b.hand site.worker (Some site.node); last = Take number bundle } ≡ taken number bundle b
+    at_site = ap (λ (z : Place). record b { in_flight = without z b.in_flight number; held = b.held ++ holding z.node z.worker bundle.stamp; hand = set b.hand z.worker (Some z.node); last = Take number bundle }) (sym there)
+
+    made : record b { in_flight = remove b.in_flight position; held = held; hand = set b.hand site.worker (Some site.node); last = Take number bundle } ≡ taken number bundle b
+    made = (λ i. record b { in_flight = flight i; held = behind i; hand = set b.hand site.worker (Some site.node); last = Take number bundle }) ∙ at_site

@@ -22,7 +22,7 @@ module _ {T : Type 0} (n k : ℕ) where
   found_first [] site e = cc
   found_first (b ∷ bs) site e = step (eqb b.place.node n && eqb b.place.worker k) refl e (found_first bs site)
     where
-      longer : (c : Bool) → 0 < length (queue site bs) → 0 < length (cond c (b.updates ∷ []) [] ++ queue site bs)
+      longer : (c : Bool) → 0 < length (queue site bs) → 0 < length (cond c (b ∷ []) [] ++ queue site bs)
       longer true l = omega arith
       longer false l = l
 
@@ -32,7 +32,7 @@ module _ {T : Type 0} (n k : ℕ) where
           let q = and_parts (eqb b.place.node n) (eqb b.place.worker k) f in (
             ap (λ (z : Place). z.node) (sym same) ∙ eqb-true b.place.node n q.0,
             ap (λ (z : Place). z.worker) (sym same) ∙ eqb-true b.place.worker k q.1,
-            subst (λ z. 0 < length (queue z (b ∷ bs))) same (subst (λ c. 0 < length (cond c (b.updates ∷ []) [] ++ queue b.place bs)) (sym (itself b.place)) (omega arith)),
+            subst (λ z. 0 < length (queue z (b ∷ bs))) same (subst (λ c. 0 < length (cond c (b ∷ []) [] ++ queue b.place bs)) (sym (itself b.place)) (omega arith)),
           )
       step false f e ih = let r = ih e in (r.0, r.1, longer (same_place b.place site) r.2)
 

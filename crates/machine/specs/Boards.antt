@@ -24,10 +24,8 @@ use Rattle.machine.specs.declared.event.Event.TheVariants.{Feed, Advance, Look, 
 use Rattle.machine.specs.declared.view.View.{View}
 use Rattle.machine.specs.Dataflows.{Dataflow, node_of}
 use Rattle.machine.specs.Worlds.{same_place, queue, held_at, emitted_at, fed_to, open_at}
-use Rattle.machine.specs.Shares.{home}
 use Rattle.machine.specs.Inputs.{front_at, first_inputs, feed_faults, advance_faults}
-use Rattle.machine.specs.Histories.{without, is_held_by, holding, opening, world, IsLegal}
-use Rattle.machine.specs.Outstanding.{stamp}
+use Rattle.machine.specs.Histories.{alone, without, is_held_by, holding, opening, world, IsLegal}
 
 -- what lies on a board
 pub record Shown (T : Type 0) : Type 0 where
@@ -82,7 +80,7 @@ module _ {T : Type 0} where
 
   abbrev pub fed : ℕ → Fed T → Shown T → Shown T
   fed client f b = record b {
-    in_flight = b.in_flight ++ record { place = home b.dataflow f; updates = f.update ∷ [] } ∷ [];
+    in_flight = b.in_flight ++ alone b.dataflow f ∷ [];
     accepted = set b.accepted f.input (suc (get_or b.accepted f.input 0));
     last = Feed client f;
   }
@@ -115,16 +113,16 @@ module _ {T : Type 0} where
   abbrev pub turned : ℕ → ℕ → Shown T → Shown T
   turned worker n b = record b { hand = set b.hand worker (Some n); last = TakeHeld worker n }
 
-module _ {T : Type 0} (below : T → T → Bool) where
   -- the board after a worker took a bundle
-  abbrev pub taken : Place → ℕ → List (Update T) → Shown T → Shown T
-  taken site number us b = record b {
-    in_flight = without site b.in_flight number;
-    held = holding site.node site.worker (stamp below us) ++ b.held;
-    hand = set b.hand site.worker (Some site.node);
-    last = Take site number us;
+  abbrev pub taken : ℕ → Bundle T → Shown T → Shown T
+  taken number bundle b = record b {
+    in_flight = without bundle.place b.in_flight number;
+    held = b.held ++ holding bundle.place.node bundle.place.worker bundle.stamp;
+    hand = set b.hand bundle.place.worker (Some bundle.place.node);
+    last = Take number bundle;
   }
 
+module _ {T : Type 0} (below : T → T → Bool) where
   -- what refuses a change, and an input's frontier
   abbrev pub feed_refusal : Shown T → Fed T → Option Refusal
   feed_refusal b f = first_refusal (feed_faults below b.dataflow.nodes (front_at f.input b.inputs) (get_or b.accepted f.input 0) f)

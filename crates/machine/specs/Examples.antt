@@ -33,7 +33,7 @@ kind_of (Feed client f) = 0
 kind_of (Advance client i ts) = 1
 kind_of (Allow client v ts) = 2
 kind_of (Look actor) = 3
-kind_of (Take site number us) = 4
+kind_of (Take number bundle) = 4
 kind_of (TakeHeld k n) = 5
 kind_of (Give g ts sent) = 6
 

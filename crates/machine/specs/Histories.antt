@@ -21,7 +21,7 @@ use Rattle.machine.specs.declared.event.Event.TheVariants.{Feed, Advance, Allow,
 use Rattle.machine.specs.Dataflows.{Dataflow, node_of}
 use Rattle.machine.specs.Worlds.{World, times, same_place, updates_at, queue, fed_to, held_at, open_at}
 use Rattle.machine.specs.Shares.{home, share}
-use Rattle.machine.specs.Outstanding.{stamp, input_frontier}
+use Rattle.machine.specs.Outstanding.{input_frontier}
 use Rattle.machine.specs.NodeLaws.{NodeLaw, LoadRule}
 
 -- the function, with another value at one place
@@ -46,9 +46,23 @@ module _ {T : Type 0} where
   abbrev pub opening : ℕ → List T → List (Open T)
   opening i ts = map (λ t. record { input = i; time = t }) ts
 
+-- who does an event: the workers are numbered from 0, and the clients from the number of workers on
+abbrev pub actor_of : {T : Type 0} → Event T → ℕ
+actor_of (Feed client f) = client
+actor_of (Advance client i ts) = client
+actor_of (Allow client v ts) = client
+actor_of (Look actor) = actor
+actor_of (Take number bundle) = bundle.place.worker
+actor_of (TakeHeld k n) = k
+actor_of (Give g ts sent) = g.worker
+
 -- an input of the plan
 abbrev pub IsInput : Dataflow → ℕ → Type 0
 IsInput p n = (n < length p.nodes) × IsTrue (is_input (node_of p n))
+
+-- a change, as the bundle in which it comes to its input
+abbrev pub alone : {T : Type 0} → Dataflow → Fed T → Bundle T
+alone p f = record { place = home p f; updates = f.update ∷ []; stamp = f.update.time ∷ [] }
 
 module _ {T : Type 0} (below : T → T → Bool) (p : Dataflow) where
   -- a worker has a node's piece in hand, and the input frontier that it found there is noted
@@ -59,11 +73,11 @@ module _ {T : Type 0} (below : T → T → Bool) (p : Dataflow) where
   }
 
   -- a bundle is received: it is in flight no more, and from then on its stamp is held
-  abbrev pub took : World T → Place → ℕ → List (Update T) → World T
-  took w site number us = record w {
-    in_flight = without site w.in_flight number;
-    received = record { place = site; updates = us } ∷ w.received;
-    held = holding site.node site.worker (stamp below us) ++ w.held;
+  abbrev pub took : World T → ℕ → Bundle T → World T
+  took w number bundle = record w {
+    in_flight = without bundle.place w.in_flight number;
+    received = bundle ∷ w.received;
+    held = w.held ++ holding bundle.place.node bundle.place.worker bundle.stamp;
   }
 
   -- what a worker computed is given: it holds these times there from then on, and no other, and what is sent is in flight
@@ -77,17 +91,18 @@ module _ {T : Type 0} (below : T → T → Bool) (p : Dataflow) where
 
   -- what an event leaves
   abbrev pub after : World T → Event T → World T
-  after w (Feed client f) = record w { fed = f ∷ w.fed; in_flight = w.in_flight ++ record { place = home p f; updates = f.update ∷ [] } ∷ [] }
+  after w (Feed client f) = record w { fed = f ∷ w.fed; in_flight = w.in_flight ++ alone p f ∷ [] }
   after w (Advance client i ts) = record w { openings = opening i ts ++ filter (λ o. not (eqb o.input i)) w.openings }
   after w (Allow client v ts) = record w { since = with_at w.since v ts }
   after w (Look actor) = w
-  after w (Take site number us) = turned_to (took w site number us) site.node site.worker
+  after w (Take number bundle) = turned_to (took w number bundle) bundle.place.node bundle.place.worker
   after w (TakeHeld k n) = turned_to w n k
   after w (Give g ts sent) = gave w g ts sent
 
-  -- a change may be fed: the row has the input's width, the diff is some number of at most 31 bits, the time is open, and
-  -- the input has room for it
-  pub record IsFeed (w : World T) (f : Fed T) : Type 0 where
+  -- a change may be fed by a client: the row has the input's width, the diff is some number of at most 31 bits, the time is
+  -- open, and the input has room for it
+  pub record IsFeed (w : World T) (actor : ℕ) (f : Fed T) : Type 0 where
+    pub client : p.workers ≤ actor
     pub input : IsInput p f.input
     pub width : length f.update.row ≡ width_of p.nodes f.input
     pub some : f.update.diff ≢ pos 0
@@ -96,22 +111,24 @@ module _ {T : Type 0} (below : T → T → Bool) (p : Dataflow) where
     pub room : length (fed_to f.input w.fed) < 1048576
 
   -- an input's frontier may only move on
-  pub record IsAdvance (w : World T) (i : ℕ) (ts : List T) : Type 0 where
+  pub record IsAdvance (w : World T) (actor i : ℕ) (ts : List T) : Type 0 where
+    pub client : p.workers ≤ actor
     pub input : IsInput p i
     pub onward : IsTrue (all_beyond below (open_at i w.openings) ts)
 
   -- so may the frontier beyond which a view is read
-  pub record IsAllow (w : World T) (v : ℕ) (ts : List T) : Type 0 where
+  pub record IsAllow (w : World T) (actor v : ℕ) (ts : List T) : Type 0 where
+    pub client : p.workers ≤ actor
     pub within : v < length p.nodes
     pub view : IsTrue (is_output (node_of p v))
     pub onward : IsTrue (all_beyond below (w.since v) ts)
 
   -- a worker with nothing in hand takes a bundle that waits: the first one of its place, but into an arrange node any
-  pub record IsTake (w : World T) (site : Place) (number : ℕ) (us : List (Update T)) : Type 0 where
-    pub worker : site.worker < p.workers
-    pub free : w.hand site.worker ≡ None
-    pub waits : slice_get (queue site w.in_flight) number ≡ Some us
-    pub turn : arranged_by (node_of p site.node) ≡ None → number ≡ 0
+  pub record IsTake (w : World T) (number : ℕ) (bundle : Bundle T) : Type 0 where
+    pub worker : bundle.place.worker < p.workers
+    pub free : w.hand bundle.place.worker ≡ None
+    pub waits : slice_get (queue bundle.place w.in_flight) number ≡ Some bundle
+    pub turn : arranged_by (node_of p bundle.place.node) ≡ None → number ≡ 0
 
   -- or it turns to times that it holds, where the node's input frontier has passed one
   pub record IsTakeHeld (w : World T) (k n : ℕ) : Type 0 where
@@ -123,7 +140,8 @@ module _ {T : Type 0} (below : T → T → Bool) (p : Dataflow) where
     pub passed : IsTrue (has_passed below (input_frontier below p w n) held)
 
   -- a worker gives at the node of its piece in hand: nothing before the times that it held, and such that it then keeps the
-  -- node law and the load rule, and each place is sent exactly its share, in bundles none of which is empty
+  -- node law and the load rule, and each place is sent exactly its share, in bundles none of which is empty; each bundle's
+  -- stamp is nothing before the times that were held, and none of its updates is before the stamp
   pub record IsGive (w : World T) (g : Emission T) (ts : List T) (sent : List (Bundle T)) : Type 0 where
     pub worker : g.worker < p.workers
     pub in_hand : w.hand g.worker ≡ Some g.node
@@ -132,14 +150,15 @@ module _ {T : Type 0} (below : T → T → Bool) (p : Dataflow) where
     pub load : LoadRule below p (gave w g ts sent) g.node g.worker
     pub whole : (site : Place) (f : Update T → ℤ) → total_by f (updates_at site sent) ≡ total_by f (share p site g)
     pub filled : IsTrue (list_all (λ b. not (eqb (length b.updates) 0)) sent)
+    pub stamped : IsTrue (list_all (λ b. all_beyond below (held_at g.node g.worker w.held) b.stamp && all_beyond below b.stamp (times b.updates)) sent)
 
   -- the event may happen
   abbrev pub IsAllowed : World T → Event T → Type 0
-  IsAllowed w (Feed client f) = IsFeed w f
-  IsAllowed w (Advance client i ts) = IsAdvance w i ts
-  IsAllowed w (Allow client v ts) = IsAllow w v ts
+  IsAllowed w (Feed client f) = IsFeed w client f
+  IsAllowed w (Advance client i ts) = IsAdvance w client i ts
+  IsAllowed w (Allow client v ts) = IsAllow w client v ts
   IsAllowed w (Look actor) = ⊤
-  IsAllowed w (Take site number us) = IsTake w site number us
+  IsAllowed w (Take number bundle) = IsTake w number bundle
   IsAllowed w (TakeHeld k n) = IsTakeHeld w k n
   IsAllowed w (Give g ts sent) = IsGive w g ts sent
 

@@ -7,6 +7,7 @@ pub mod Worlds
 pub mod Shares
 pub mod Outstanding
 pub mod NodeLaws
+pub mod Actors
 pub mod Histories
 pub mod Promises
 pub mod Readings
@@ -16,4 +17,5 @@ pub mod Reads
 pub mod Cuts
 pub mod Waiting
 pub mod Examples
+pub mod Witnesses
 pub mod Remembered

@@ -1,4 +1,4 @@
--- Frontiers: from which times on a node may still give. Counted are the bundles in flight, by the least of their times,
+-- Frontiers: from which times on a node may still give. Counted are the bundles in flight, by the stamps that they carry,
 -- the times that are held, and the elements of the inputs' frontiers, at the node and above it, on every worker
 -- (Murray et al., Naiad, SOSP 2013, section 2.3).
 use Rattle.std.specs.Prelude.{ℕ, Bool, not, ◌&&◌, eqb, if◌then◌else◌, List, [], ◌∷◌, ◌++◌, Option, Some, None}
@@ -23,17 +23,17 @@ module _ {T : Type 0} (below : T → T → Bool) where
   with_times front [] = front
   with_times front (t ∷ ts) = with_times (with_time front t) ts
 
-  -- the frontier of a bundle's times: the least of them, each once
+  -- the frontier of the times of updates: the least of them, each once
   unfoldable pub stamp : List (Update T) → List T
   stamp us = with_times [] (times us)
-
-  -- the stamps of the bundles at the places that pass a test
-  abbrev pub stamps : (Place → Bool) → List (Bundle T) → List T
-  stamps test bundles = flat_map (λ b. if test b.place then stamp b.updates else []) bundles
 
 -- m is an ancestor of n
 abbrev pub strictly_above : Dataflow → ℕ → ℕ → Bool
 strictly_above p n m = above p n m && not (eqb m n)
+
+-- the stamps of the bundles at the places that pass a test
+abbrev pub stamps : {T : Type 0} → (Place → Bool) → List (Bundle T) → List T
+stamps test bundles = flat_map (λ b. if test b.place then b.stamp else []) bundles
 
 -- the times held at the nodes that pass a test
 abbrev pub held_where : {T : Type 0} → (ℕ → Bool) → List (Held T) → List T
@@ -43,15 +43,20 @@ held_where test held = flat_map (λ m. if test m.node then m.time ∷ [] else []
 abbrev pub open_where : {T : Type 0} → (ℕ → Bool) → List (Open T) → List T
 open_where test openings = flat_map (λ o. if test o.input then o.time ∷ [] else []) openings
 
+-- what is outstanding where bundles and inputs are counted at some nodes, and held times at some
+abbrev pub counted : {T : Type 0} → World T → (ℕ → Bool) → (ℕ → Bool) → List T
+counted w there holding = stamps (λ site. there site.node) w.in_flight ++ (held_where holding w.held ++ open_where there w.openings)
+
+-- what is outstanding at a node or above it
+abbrev pub outstanding : {T : Type 0} → Dataflow → World T → ℕ → List T
+outstanding p w n = counted w (above p n) (above p n)
+
+-- what is outstanding at the source of a port; at an input it is its own frontier
+abbrev pub outstanding_from : {T : Type 0} → Dataflow → World T → ℕ → Option ℕ → List T
+outstanding_from p w n None = open_at n w.openings
+outstanding_from p w n (Some source) = outstanding p w source
+
 module _ {T : Type 0} (below : T → T → Bool) where
-  -- what is outstanding where bundles and inputs are counted at some nodes, and held times at some
-  abbrev pub counted : World T → (ℕ → Bool) → (ℕ → Bool) → List T
-  counted w there holding = stamps below (λ site. there site.node) w.in_flight ++ (held_where holding w.held ++ open_where there w.openings)
-
-  -- what is outstanding at a node or above it
-  abbrev pub outstanding : Dataflow → World T → ℕ → List T
-  outstanding p w n = counted w (above p n) (above p n)
-
   abbrev pub frontier : Dataflow → World T → ℕ → List T
   frontier p w n = least below (outstanding p w n)
 
@@ -59,11 +64,6 @@ module _ {T : Type 0} (below : T → T → Bool) where
   abbrev pub input_frontier : Dataflow → World T → ℕ → List T
   input_frontier p w n = least below (counted w (above p n) (strictly_above p n))
 
-  -- what is outstanding at the source of a port; at an input it is its own frontier
-  abbrev pub outstanding_from : Dataflow → World T → ℕ → Option ℕ → List T
-  outstanding_from p w n None = open_at n w.openings
-  outstanding_from p w n (Some source) = outstanding p w source
-
   -- the same for one port: what is in flight there, and what is outstanding at its source
   abbrev pub port_frontier : Dataflow → World T → ℕ → ℕ → List T
-  port_frontier p w n port = least below (stamps below (λ site. eqb site.node n && eqb site.port port) w.in_flight ++ outstanding_from p w n (source_of p n port))
+  port_frontier p w n port = least below (stamps (λ site. eqb site.node n && eqb site.port port) w.in_flight ++ outstanding_from p w n (source_of p n port))

@@ -5,6 +5,7 @@ use Rattle.std.specs.declared.cmp.Ordering.{Ordering}
 use Rattle.update.specs.Bags.{Alike}
 use Rattle.update.specs.Updates.{as_of, size, total_at, IsConsolidated}
 use Rattle.update.specs.declared.change.Update.{Update}
+use Rattle.plan.specs.Ancestors.{numbers_below}
 use Rattle.plan.specs.Changes.{has_passed, query_at, AreDifferences}
 use Rattle.plan.specs.Nodes.{key_width, sources}
 use Rattle.plan.specs.Operators.{is_linear}
@@ -15,8 +16,8 @@ use Rattle.machine.specs.declared.event.Bundle.{Bundle}
 use Rattle.machine.specs.declared.event.Held.{Held}
 use Rattle.machine.specs.declared.event.Open.{Open}
 use Rattle.machine.specs.Dataflows.{Dataflow, node_of, source_of, given_at, above, route}
-use Rattle.machine.specs.Worlds.{World, emitted_at, emitted_by, fed_to, held_at}
-use Rattle.machine.specs.Outstanding.{frontier, input_frontier}
+use Rattle.machine.specs.Worlds.{World, times, emitted_at, emitted_by, fed_to, held_at}
+use Rattle.machine.specs.Outstanding.{frontier, input_frontier, port_frontier}
 use Rattle.machine.specs.NodeLaws.{received_at, AreApart, is_reduction}
 use Rattle.machine.specs.Histories.{IsInput}
 use Rattle.machine.specs.declared.event.Place.{Place}
@@ -47,15 +48,21 @@ module _ {T : Type 0} (below : T → T → Bool) (p : Dataflow) (w : World T) (n
   MeetsPart k = is_linear (node_of p n) ≡ false → (t : T) → IsTrue (has_passed below (input_frontier below p w n) t) → IsTrue (has_passed below (held_at n k w.held) t)
       → Alike (as_of below t (emitted_by n k w.emitted)) (filter (λ e. eqb (route p (take (key_width p.nodes (node_of p n)) e.row)) k) (query_at below p.nodes (changes_in w) n t))
 
-  -- nothing is outstanding at a passed time or before it, at the node or above it: no update in flight, no held time and no
-  -- element of an input's frontier
-  pub record IsClearAt (t : T) : Type 0 where
-    pub in_flight : IsTrue (list_all (λ b. not (above p n b.place.node) || list_all (λ u. not (below u.time t)) b.updates) w.in_flight)
-    pub held : IsTrue (list_all (λ m. not (above p n m.node && below m.time t)) w.held)
+  -- nothing is outstanding at a time or before it, at the node or above it: no stamp and no update of a bundle in flight, no
+  -- element of an input's frontier, and no time that is held at the nodes that pass a test
+  pub record IsClearAt (holding : ℕ → Bool) (t : T) : Type 0 where
+    pub in_flight : IsTrue (list_all (λ b. not (above p n b.place.node) || (has_passed below b.stamp t && has_passed below (times b.updates) t)) w.in_flight)
+    pub held : IsTrue (list_all (λ m. not (holding m.node && below m.time t)) w.held)
     pub inputs : IsTrue (list_all (λ o. not (above p n o.input && below o.time t)) w.openings)
 
+  -- nothing is, where the node's frontier has passed the time
   abbrev pub NothingLurks : Type 0
-  NothingLurks = (t : T) → IsTrue (has_passed below (frontier below p w n) t) → IsClearAt t
+  NothingLurks = (t : T) → IsTrue (has_passed below (frontier below p w n) t) → IsClearAt (above p n) t
+
+  -- a node that reads others may be sent something from those times on from which something may come to one of its ports
+  abbrev pub PortsAreInput : Type 0
+  PortsAreInput = 1 ≤ length (sources (node_of p n)) → (t : T)
+      → has_passed below (input_frontier below p w n) t ≡ list_all (λ port. has_passed below (port_frontier below p w n port) t) (numbers_below (length (sources (node_of p n))))
 
   -- what the node gave, on all workers, is within its weight
   abbrev pub KeepsWeight : (T → T → Ordering) → Type 0

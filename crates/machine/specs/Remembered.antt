@@ -1,6 +1,5 @@
 -- What an event has in it, so that it can be remembered for clauses and its parts move on.
 use Rattle.std.specs.Prelude.{◌≡◌, List, ⊤}
-use Rattle.update.specs.declared.change.Update.{Update}
 use Rattle.machine.specs.declared.event.Bundle.{Bundle}
 use Rattle.machine.specs.declared.event.Emission.{Emission}
 use Rattle.machine.specs.declared.event.Event.{Event}
@@ -17,13 +16,13 @@ module _ {T : Type 0} where
   HasAdvanced e us = ⊥
 
   abbrev pub IsTaking : Event T → Type 0
-  IsTaking (Take site number us) = ⊤
+  IsTaking (Take number bundle) = ⊤
   IsTaking e = ⊥
 
   -- what the event has taken
-  abbrev pub HasTaken : Event T → List (Update T) → Type 0
-  HasTaken (Take site number us) vs = vs ≡ us
-  HasTaken e vs = ⊥
+  abbrev pub HasTaken : Event T → Bundle T → Type 0
+  HasTaken (Take number bundle) taken = taken ≡ bundle
+  HasTaken e taken = ⊥
 
   abbrev pub IsGiving : Event T → Type 0
   IsGiving (Give g ts sent) = ⊤

@@ -52,8 +52,8 @@ module _ {T : Type 0} where
   updates_at site bundles = flat_map (λ b. if same_place b.place site then b.updates else []) bundles
 
   -- the bundles of a place, in their order
-  abbrev pub queue : Place → List (Bundle T) → List (List (Update T))
-  queue site bundles = flat_map (λ b. if same_place b.place site then b.updates ∷ [] else []) bundles
+  abbrev pub queue : Place → List (Bundle T) → List (Bundle T)
+  queue site bundles = flat_map (λ b. if same_place b.place site then b ∷ [] else []) bundles
 
   -- what a worker gave at a node
   abbrev pub emitted_by : ℕ → ℕ → List (Emission T) → List (Update T)

@@ -1,13 +1,12 @@
 //! The events of clients: changes of the inputs' tables, and the inputs' frontiers. A change that may not be fed, or a
 //! frontier that would go back, is refused, and then the event is a look: whoever reads the history later sees that the
 //! client was there, and that it did nothing.
-ghost use Rattle.std.specs.Prelude.{◌≡◌, ◌<◌, ◌+◌, ◌++◌, List, [], ◌∷◌, None, Some, IfErr, OnErr, OnOk, get_or, length, set};
+ghost use Rattle.std.specs.Prelude.{◌≡◌, ◌<◌, ◌≤◌, ◌+◌, ◌++◌, List, [], ◌∷◌, None, Some, IfErr, OnErr, OnOk, get_or, length, set};
 ghost use Rattle.update.specs.declared.refusal.Refusal.TheVariants.{OutOfMemory};
 ghost use Rattle.plan.specs.Rules.{IsRefusalBy};
 ghost use Rattle.machine.specs.declared.event.Event.{Event};
 ghost use Rattle.machine.specs.Worlds.{place};
-ghost use Rattle.machine.specs.Shares.{home};
-ghost use Rattle.machine.specs.Histories.{IsInput};
+ghost use Rattle.machine.specs.Histories.{IsInput, alone};
 ghost use Rattle.machine.specs.Boards.{Shown, IsBoard, Stands, looked, fed, advanced, feed_refusal, advance_refusal};
 
 use crate::board::Board;
@@ -35,7 +34,8 @@ impl<T: Minimum> Board<T> {
     ///
     /// Cost: linear in the elements of the inputs' frontiers.
     pub fn feed(&mut self, client: usize, input: NodeId, update: Update<T>) -> Result<(), Refusal>
-        requires { IsInput self.old.dataflow input }
+        requires client { self.old.dataflow.workers ≤ client }
+        requires input { IsInput self.old.dataflow input }
         ensures fed { OnOk result (self.new ≡ fed client (record { input = input; update = update }) self.old) }
         ensures accepted { OnOk result (feed_refusal T.below self.old (record { input = input; update = update }) ≡ None) }
         ensures refused { IfErr result (λ refusal. IsRefusalBy (feed_refusal T.below self.old (record { input = input; update = update })) refusal) }
@@ -73,7 +73,7 @@ impl<T: Minimum> Board<T> {
     fn accept(&mut self, input: NodeId, update: &Update<T>) -> Result<(), Refusal>
         requires { IsInput self.old.dataflow input }
         ensures fed { OnOk result (self.new ≡ record self.old {
-          in_flight = self.old.in_flight ++ record { place = home self.old.dataflow (record { input = input; update = update.now }); updates = update.now ∷ [] } ∷ [];
+          in_flight = self.old.in_flight ++ alone self.old.dataflow (record { input = input; update = update.now }) ∷ [];
           accepted = set self.old.accepted input (get_or self.old.accepted input 0 + 1);
         }) }
         ensures accepted { OnOk result (feed_refusal T.below self.old (record { input = input; update = update.now }) ≡ None) }
@@ -95,13 +95,15 @@ impl<T: Minimum> Board<T> {
 
     // A bundle of the one change is in flight at its input.
     fn send_change(&mut self, input: NodeId, update: &Update<T>) -> Result<(), Refusal>
-        ensures sent { OnOk result (self.new ≡ record self.old { in_flight = self.old.in_flight ++ record { place = home self.old.dataflow (record { input = input; update = update.now }); updates = update.now ∷ [] } ∷ [] }) }
+        ensures sent { OnOk result (self.new ≡ record self.old { in_flight = self.old.in_flight ++ alone self.old.dataflow (record { input = input; update = update.now }) ∷ [] }) }
         ensures refused { IfErr result (λ refusal. refusal ≡ OutOfMemory) }
         ensures unchanged { OnErr result (self.new ≡ self.old) }
     {
         let worker = row::route(update.row.columns(), self.workers);
         let mut updates = Vec::new(*self.in_flight.allocator());
         updates.push(update.copy())?;
+        let mut stamp = Vec::new(*self.in_flight.allocator());
+        stamp.push(update.time)?;
         let place = Place {
             node: input,
             port: 0,
@@ -110,6 +112,7 @@ impl<T: Minimum> Board<T> {
         self.in_flight.push(Bundle {
             place,
             updates: updates.into(),
+            stamp: stamp.into(),
         })?;
         Ok(())
     }
@@ -122,7 +125,8 @@ impl<T: Minimum> Board<T> {
     ///
     /// Cost: the product of the times and the elements of the input's old frontier.
     pub fn advance(&mut self, client: usize, input: NodeId, times: Times<T>) -> Result<(), Refusal>
-        requires { IsInput self.old.dataflow input }
+        requires client { self.old.dataflow.workers ≤ client }
+        requires input { IsInput self.old.dataflow input }
         ensures advanced { OnOk result (self.new ≡ advanced client input times self.old) }
         ensures accepted { OnOk result (advance_refusal T.below self.old input times ≡ None) }
         ensures refused { IfErr result (λ refusal. advance_refusal T.below self.old input times ≡ Some refusal) }
@@ -156,7 +160,8 @@ impl<T: Minimum> Board<T> {
 
     /// A client closes an input: no change may be fed there any more. This is never refused, and takes no memory.
     pub fn close(&mut self, client: usize, input: NodeId)
-        requires { IsInput self.old.dataflow input }
+        requires client { self.old.dataflow.workers ≤ client }
+        requires input { IsInput self.old.dataflow input }
         ensures closed { self.new ≡ advanced client input [] self.old }
         ensures stands { (h : List (Event T)) → Stands T.below T.least self.old h → Stands T.below T.least self.new (self.new.last ∷ h) }
     {

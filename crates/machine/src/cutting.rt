@@ -4,19 +4,20 @@
 //! A bundle is never empty, so that whoever waits for one gets something, and what waits for nobody is never sent. Which
 //! bundles there are is said by `cut`, in the order in which they are made; what a giver needs of them is that each place
 //! gets exactly its share.
-ghost use Rattle.std.specs.Prelude.{◌≡◌, ◌<◌, ◌≤◌, ◌++◌, IfErr, IfOk, OnOk, IsTrue, length, take, eqb, not};
+ghost use Rattle.std.specs.Prelude.{◌≡◌, ◌<◌, ◌≤◌, ◌++◌, ◌&&◌, List, IfErr, IfOk, OnOk, IsTrue, length, take, eqb, not};
 ghost use Rattle.std.specs.List.{filter, flat_map, list_all};
+ghost use Rattle.lattice.specs.Frontiers.{all_beyond};
 ghost use Rattle.row.specs.Routing.{route_of};
 ghost use Rattle.update.specs.declared.refusal.Refusal.TheVariants.{OutOfMemory};
 ghost use Rattle.plan.specs.Ancestors.{numbers_below};
 ghost use Rattle.machine.specs.declared.event.Place.{Place};
-ghost use Rattle.machine.specs.Worlds.{updates_at};
+ghost use Rattle.machine.specs.Worlds.{times, updates_at};
 ghost use Rattle.machine.specs.Shares.{part, share};
 ghost use Rattle.machine.specs.Cuts.{bundled, cut_at, cut};
 
 use crate::board::Board;
 use crate::event::{Bundle, Bundles, Emission, Place};
-use crate::workers::copied;
+use crate::workers::{copied, stamp_of};
 use lattice::Minimum;
 use plan::NodeId;
 use row::Row;
@@ -25,7 +26,8 @@ use update::{Refusal, Update};
 
 impl<T: Minimum> Board<T> {
     /// What a worker gave, cut into bundles: each place gets exactly its share, in one bundle, and where that is nothing
-    /// none. Whoever gives the emission may send them.
+    /// none. A bundle's stamp is the frontier of its times, so that where no time of the emission is before the times that
+    /// the giver held, no stamp is. Whoever gives the emission may send them.
     ///
     /// Refused only with `OutOfMemory`.
     ///
@@ -35,6 +37,8 @@ impl<T: Minimum> Board<T> {
         requires { emission.now.worker < self.now.dataflow.workers }
         ensures whole { IfOk result (λ sent. (site : Place) → updates_at site sent ≡ share self.now.dataflow site emission.now) }
         ensures filled { IfOk result (λ sent. IsTrue (list_all (λ b. not (eqb (length b.updates) 0)) sent)) }
+        ensures stamped { IfOk result (λ sent. (held : List T) → IsTrue (all_beyond T.below held (times emission.now.updates))
+            → IsTrue (list_all (λ b. all_beyond T.below held b.stamp && all_beyond T.below b.stamp (times b.updates)) sent)) }
         ensures refused { IfErr result (λ refusal. refusal ≡ OutOfMemory) }
     {
         let _plan = &self.plan;
@@ -44,7 +48,7 @@ impl<T: Minimum> Board<T> {
 
     // The bundles for all nodes.
     fn cut_for_all(&self, emission: &Emission<T>) -> Result<Vec<Bundle<T>>, Refusal>
-        ensures cut { IfOk result (λ sent. sent.items ≡ cut self.now.dataflow emission.now) }
+        ensures cut { IfOk result (λ sent. sent.items ≡ cut T.below self.now.dataflow emission.now) }
         ensures refused { IfErr result (λ refusal. refusal ≡ OutOfMemory) }
     {
         let mut sent = Vec::new(*self.in_flight.allocator());
@@ -62,7 +66,7 @@ impl<T: Minimum> Board<T> {
         emission: &Emission<T>,
     ) -> Result<(), Refusal>
         requires { node < length self.now.dataflow.nodes }
-        ensures more { OnOk result (sent.new.items ≡ sent.old.items ++ (cut_at self.now.dataflow emission.now node 0 ++ cut_at self.now.dataflow emission.now node 1)) }
+        ensures more { OnOk result (sent.new.items ≡ sent.old.items ++ (cut_at T.below self.now.dataflow emission.now node 0 ++ cut_at T.below self.now.dataflow emission.now node 1)) }
         ensures refused { IfErr result (λ refusal. refusal ≡ OutOfMemory) }
     {
         self.push_for(sent, node, 0, emission)?;
@@ -79,7 +83,7 @@ impl<T: Minimum> Board<T> {
         emission: &Emission<T>,
     ) -> Result<(), Refusal>
         requires { node < length self.now.dataflow.nodes }
-        ensures more { OnOk result (sent.new.items ≡ sent.old.items ++ cut_at self.now.dataflow emission.now node port) }
+        ensures more { OnOk result (sent.new.items ≡ sent.old.items ++ cut_at T.below self.now.dataflow emission.now node port) }
         ensures refused { IfErr result (λ refusal. refusal ≡ OutOfMemory) }
     {
         if self.plan.node(node).source(port) == Some(emission.node) {
@@ -97,7 +101,7 @@ impl<T: Minimum> Board<T> {
         emission: &Emission<T>,
     ) -> Result<(), Refusal>
         requires { node < length self.now.dataflow.nodes }
-        ensures more { OnOk result (sent.new.items ≡ sent.old.items ++ cut_at self.now.dataflow emission.now node port) }
+        ensures more { OnOk result (sent.new.items ≡ sent.old.items ++ cut_at T.below self.now.dataflow emission.now node port) }
         ensures refused { IfErr result (λ refusal. refusal ≡ OutOfMemory) }
     {
         for worker in 0..self.workers {
@@ -148,12 +152,16 @@ fn push_bundle<T: Minimum>(
     place: Place,
     updates: Vec<Update<T>>,
 ) -> Result<(), Refusal>
-    ensures more { OnOk result (sent.new.items ≡ sent.old.items ++ bundled place updates.items) }
+    ensures more { OnOk result (sent.new.items ≡ sent.old.items ++ bundled T.below place updates.items) }
     ensures refused { IfErr result (λ refusal. refusal ≡ OutOfMemory) }
 {
     if !updates.is_empty() {
-        let updates = updates.into();
-        sent.push(Bundle { place, updates })?;
+        let stamp = stamp_of(*sent.allocator(), &updates)?;
+        sent.push(Bundle {
+            place,
+            updates: updates.into(),
+            stamp: stamp.into(),
+        })?;
     }
     Ok(())
 }

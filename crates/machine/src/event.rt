@@ -27,6 +27,8 @@ pub struct Bundle<T> {
     pub place: Place,
     /// What they are.
     pub updates: Updates<T>,
+    /// A frontier at or before each of their times; found once, by who sends.
+    pub stamp: Times<T>,
 }
 
 /// A change of an input's table.
@@ -119,11 +121,10 @@ pub enum Event<T> {
     Look {
         actor: usize,
     },
-    /// A worker takes the bundle of this number, from 0, among those that wait at a place.
+    /// A worker takes a bundle: of those that wait at its place the one of this number, from 0.
     Take {
-        place: Place,
         number: usize,
-        updates: Updates<T>,
+        bundle: Bundle<T>,
     },
     /// A worker turns to the times that it holds at a node.
     TakeHeld {
@@ -140,28 +141,23 @@ pub enum Event<T> {
 
 // The event of a take, for clauses alone, and what is taken: it moves through.
 pub(crate) fn remembered_take<T>(
-    place: Place,
     number: usize,
-    updates: Updates<T>,
-) -> (Updates<T>, Snapshot<Event<T>>)
-    ensures same { result.0 ≡ updates }
-    ensures event { result.1.value ≡ Take place number updates }
+    bundle: Bundle<T>,
+) -> (Bundle<T>, Snapshot<Event<T>>)
+    ensures same { result.0 ≡ bundle }
+    ensures event { result.1.value ≡ Take number bundle }
 {
-    let event = Event::Take {
-        place,
-        number,
-        updates,
-    };
+    let event = Event::Take { number, bundle };
     let last = Snapshot::of(&event);
     (taken_in(event), last)
 }
 
-fn taken_in<T>(event: Event<T>) -> Updates<T>
+fn taken_in<T>(event: Event<T>) -> Bundle<T>
     requires { IsTaking event }
     ensures { HasTaken event result }
 {
     match event {
-        Event::Take { updates, .. } => updates,
+        Event::Take { bundle, .. } => bundle,
         _ => unreachable!(),
     }
 }

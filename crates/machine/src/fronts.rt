@@ -1,14 +1,14 @@
 //! Frontiers, found on a board from scratch: from what is in flight, what is held and what the inputs leave open, at a node
 //! or above it, on every worker. Nothing is kept between two questions, so nothing can be out of date.
-ghost use Rattle.std.specs.Prelude.{List, ◌≡◌, ◌<◌, ◌++◌, ◌&&◌, not, eqb, if◌then◌else◌, [], ◌∷◌, IfErr, IfOk, OnOk, length, map};
+ghost use Rattle.std.specs.Prelude.{List, ◌≡◌, ◌<◌, ◌++◌, ◌&&◌, not, eqb, if◌then◌else◌, [], ◌∷◌, IfErr, IfOk, OnOk, length};
 ghost use Rattle.std.specs.List.{flat_map, list_any};
 ghost use Rattle.lattice.specs.Frontiers.{is_beyond};
 ghost use Rattle.antichain.specs.Antichains.{SameElements, least};
 ghost use Rattle.update.specs.declared.refusal.Refusal.TheVariants.{OutOfMemory};
 ghost use Rattle.plan.specs.Ancestors.{is_above, numbers_below};
 ghost use Rattle.plan.specs.Changes.{has_passed};
-ghost use Rattle.machine.specs.Worlds.{times, held_at};
-ghost use Rattle.machine.specs.Outstanding.{held_where, open_where, outstanding, frontier, input_frontier};
+ghost use Rattle.machine.specs.Worlds.{held_at};
+ghost use Rattle.machine.specs.Outstanding.{stamps, held_where, open_where, outstanding, frontier, input_frontier};
 ghost use Rattle.machine.specs.declared.event.Event.{Event};
 ghost use Rattle.machine.specs.Histories.{world};
 ghost use Rattle.machine.specs.Boards.{Stands};
@@ -20,31 +20,19 @@ use crate::board::Board;
 use crate::event::{Bundle, Held};
 use crate::inputs::InputFrontiers;
 use crate::lists::Updates;
-use antichain::Antichain;
+use antichain::{Antichain, is_beyond};
 use lattice::Minimum;
 use plan::{NodeId, Plan};
 use std::alloc::Global;
-use update::{Refusal, Update};
+use update::Refusal;
 
-// Whether some update is at or before a time.
-fn reach<T: Minimum>(updates: &[Update<T>], t: &T) -> bool
-    ensures { result ≡ is_beyond T.below (times updates.now) t.now }
-{
-    for update in updates {
-        if update.time.less_equal(t) {
-            return true;
-        }
-    }
-    false
-}
-
-// Whether a bundle at the node or above it has an update at or before a time.
+// Whether the stamp of a bundle at the node or above it is at or before a time.
 fn are_in_flight<T: Minimum>(plan: &Plan, bundles: &[Bundle<T>], node: NodeId, t: &T) -> bool
     requires { node < length plan.now }
-    ensures { result ≡ list_any (λ b. is_above plan.now b.place.node node && is_beyond T.below (times b.updates) t.now) bundles.now }
+    ensures { result ≡ list_any (λ b. is_above plan.now b.place.node node && is_beyond T.below b.stamp t.now) bundles.now }
 {
     for bundle in bundles {
-        if plan.is_above(bundle.place.node, node) && reach(bundle.updates.as_slice(), t) {
+        if plan.is_above(bundle.place.node, node) && is_beyond(bundle.stamp.as_slice(), t) {
             return true;
         }
     }
@@ -92,18 +80,18 @@ fn are_open<T: Minimum>(plan: &Plan, inputs: &InputFrontiers<T>, node: NodeId, t
     false
 }
 
-// The times of updates, behind.
-fn push_times<T: Minimum>(all: &mut Vec<T>, updates: &[Update<T>]) -> Result<(), Refusal>
-    ensures more { OnOk result (all.new.items ≡ all.old.items ++ times updates.now) }
+// Times, behind.
+fn push_times<T: Minimum>(all: &mut Vec<T>, times: &[T]) -> Result<(), Refusal>
+    ensures more { OnOk result (all.new.items ≡ all.old.items ++ times.now) }
     ensures refused { IfErr result (λ refusal. refusal ≡ OutOfMemory) }
 {
-    for update in updates {
-        all.push(update.time)?;
+    for time in times {
+        all.push(*time)?;
     }
     Ok(())
 }
 
-// The times of the bundles at the node or above it, behind.
+// The stamps of the bundles at the node or above it, behind.
 fn push_in_flight<T: Minimum>(
     all: &mut Vec<T>,
     plan: &Plan,
@@ -111,12 +99,12 @@ fn push_in_flight<T: Minimum>(
     node: NodeId,
 ) -> Result<(), Refusal>
     requires { node < length plan.now }
-    ensures more { OnOk result (all.new.items ≡ all.old.items ++ flat_map (λ b. if is_above plan.now b.place.node node then times b.updates else []) bundles.now) }
+    ensures more { OnOk result (all.new.items ≡ all.old.items ++ stamps (λ site. is_above plan.now site.node node) bundles.now) }
     ensures refused { IfErr result (λ refusal. refusal ≡ OutOfMemory) }
 {
     for bundle in bundles {
         if plan.is_above(bundle.place.node, node) {
-            push_times(all, bundle.updates.as_slice())?;
+            push_times(all, bundle.stamp.as_slice())?;
         }
     }
     Ok(())
@@ -197,10 +185,10 @@ impl<T: Minimum> Board<T> {
         !(self.is_in_flight(node, t) | self.is_held_above(node, t) | self.is_open(node, t))
     }
 
-    // Whether a bundle at the node or above it has an update at or before a time.
+    // Whether the stamp of a bundle at the node or above it is at or before a time.
     fn is_in_flight(&self, node: NodeId, t: &T) -> bool
         requires { node < length self.now.dataflow.nodes }
-        ensures { result ≡ list_any (λ b. is_above self.now.dataflow.nodes b.place.node node && is_beyond T.below (times b.updates) t.now) self.now.in_flight }
+        ensures { result ≡ list_any (λ b. is_above self.now.dataflow.nodes b.place.node node && is_beyond T.below b.stamp t.now) self.now.in_flight }
     {
         are_in_flight(&self.plan, &self.in_flight, node, t)
     }
@@ -249,7 +237,7 @@ impl<T: Minimum> Board<T> {
     // All times that are in flight, held or open at the node or above it.
     pub(crate) fn outstanding(&self, node: NodeId) -> Result<Vec<T>, Refusal>
         requires { node < length self.now.dataflow.nodes }
-        ensures times { IfOk result (λ all. all.items ≡ (flat_map (λ b. if is_above self.now.dataflow.nodes b.place.node node then times b.updates else []) self.now.in_flight
+        ensures times { IfOk result (λ all. all.items ≡ (stamps (λ site. is_above self.now.dataflow.nodes site.node node) self.now.in_flight
             ++ held_where (λ m. is_above self.now.dataflow.nodes m node) self.now.held) ++ open_where (λ m. is_above self.now.dataflow.nodes m node) (open_on self.now)) }
         ensures refused { IfErr result (λ refusal. refusal ≡ OutOfMemory) }
         ensures board { IsBoard self.now }

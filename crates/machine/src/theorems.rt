@@ -1,7 +1,7 @@
 //! What holds of every legal history, at every lattice: the theorems of this crate. The functions do nothing. Who holds a
 //! board calls [`crate::meets`]; the theorems are stated here of histories alone, so that they can be read without any
 //! code.
-ghost use Rattle.std.specs.Prelude.{◌≡◌, ℕ, ◌++◌, ◌∷◌, List, IsTrue};
+ghost use Rattle.std.specs.Prelude.{◌≡◌, ◌≢◌, ℕ, ◌<◌, ◌++◌, ◌∷◌, List, IsTrue};
 ghost use Rattle.update.specs.Bags.{Alike};
 ghost use Rattle.update.specs.Updates.{as_of};
 ghost use Rattle.update.specs.declared.change.Update.{Update};
@@ -12,11 +12,12 @@ ghost use Rattle.machine.specs.Worlds.{emitted_at};
 ghost use Rattle.lattice.specs.Frontiers.{is_beyond};
 ghost use Rattle.antichain.specs.Antichains.{is_antichain};
 ghost use Rattle.machine.specs.Worlds.{times};
-ghost use Rattle.machine.specs.Outstanding.{stamp, frontier, input_frontier, port_frontier};
-ghost use Rattle.machine.specs.Histories.{IsLegal, world};
+ghost use Rattle.machine.specs.Outstanding.{stamp, strictly_above, frontier, input_frontier, port_frontier};
+ghost use Rattle.machine.specs.Histories.{IsLegal, world, actor_of};
+ghost use Rattle.machine.specs.Actors.{IsSameOfWorker, IsSameOfClients};
 ghost use Rattle.machine.specs.Readings.{IsQuiet, IsCaughtUp};
 ghost use Rattle.machine.specs.Examples.{IsExample};
-ghost use Rattle.machine.specs.Promises.{IsInPlace, changes_in, MeetsQuery, MeetsDifferences, MeetsPart, NothingLurks, KeepsWeight, OwesWithinWeight, TakesWithinWeight, LoadsWithinWeight, GoesOn};
+ghost use Rattle.machine.specs.Promises.{IsInPlace, changes_in, MeetsQuery, MeetsDifferences, MeetsPart, IsClearAt, NothingLurks, PortsAreInput, KeepsWeight, OwesWithinWeight, TakesWithinWeight, LoadsWithinWeight, GoesOn};
 
 use lattice::Minimum;
 
@@ -59,9 +60,22 @@ pub fn frontiers_do_not_go_back<T: Minimum>()
         → (n port : ℕ) → GoesOn T.below (port_frontier T.below p (world T.below T.least p h) n port) (port_frontier T.below p (world T.below T.least p (later ++ h)) n port) }
 {}
 
-/// No time that a node's frontier has passed has anything outstanding at it or before it, at the node or above it.
+/// No time that a node's frontier has passed has anything outstanding at it or before it, at the node or above it. And what
+/// comes to a node is beyond what its input frontier had passed: then and ever after, nothing is in flight to the node at
+/// such a time or before it, and nothing above the node from which it could come.
 pub fn nothing_lurks<T: Minimum>()
-    ensures { (p : Dataflow) → (h : List (Event T)) → (n : ℕ) → NothingLurks T.below p (world T.below T.least p h) n }
+    ensures frontiers { (p : Dataflow) → IsDataflow p → (h : List (Event T)) → IsLegal T.below T.least p h
+        → (n : ℕ) → NothingLurks T.below p (world T.below T.least p h) n }
+    ensures inputs { (p : Dataflow) → IsDataflow p → (h later : List (Event T)) → IsLegal T.below T.least p (later ++ h)
+        → (n : ℕ) (t : T) → IsTrue (has_passed T.below (input_frontier T.below p (world T.below T.least p h) n) t)
+        → IsClearAt T.below p (world T.below T.least p (later ++ h)) n (strictly_above p n) t }
+{}
+
+/// A node that reads others is sent nothing more at a time where that holds of each of its ports: its input frontier has
+/// passed just what the frontiers of all its ports have.
+pub fn port_frontiers_are_the_input_frontier<T: Minimum>()
+    ensures { (p : Dataflow) → IsDataflow p → (h : List (Event T)) → IsLegal T.below T.least p h
+        → (n : ℕ) → PortsAreInput T.below p (world T.below T.least p h) n }
 {}
 
 /// What a node gave on all workers is within its weight, which is found from the plan and the changes fed alone; and so is
@@ -78,7 +92,8 @@ pub fn weights_are_kept<T: Minimum>()
         → (n : ℕ) → LoadsWithinWeight T.below p (world T.below T.least p h) n T.cmp }
 {}
 
-/// A stamp stands for all times of its bundle, and has none of them twice: no two of its times can be compared.
+/// The stamp that is found of updates stands for all their times, and has none of them twice: no two of its times can be
+/// compared.
 pub fn stamps_are_frontiers<T: Minimum>()
     ensures apart { (us : List (Update T)) → IsTrue (is_antichain T.below (stamp T.below us)) }
     ensures beyond { (us : List (Update T)) → (t : T) → is_beyond T.below (stamp T.below us) t ≡ is_beyond T.below (times us) t }
@@ -94,6 +109,20 @@ pub fn quiet_is_caught_up<T: Minimum>()
 /// Whatever waits, waits at a place that there is: so a worker that goes through its places finds it.
 pub fn what_waits_has_its_place<T: Minimum>()
     ensures { (p : Dataflow) → IsDataflow p → (h : List (Event T)) → IsLegal T.below T.least p h → IsInPlace p (world T.below T.least p h) }
+{}
+
+/// An event leaves what another worker has as it was: what it received and gave, the times that it holds, its piece in hand,
+/// and the input frontiers that its takes left. So a worker knows these without a look at the board.
+pub fn workers_are_apart<T: Minimum>()
+    ensures { (p : Dataflow) → (h : List (Event T)) (e : Event T) → (k : ℕ) → actor_of e ≢ k
+        → IsSameOfWorker k (world T.below T.least p h) (world T.below T.least p (e ∷ h)) }
+{}
+
+/// An event of a worker leaves what clients did as it was: the changes that they fed, the inputs' frontiers, and the sinces
+/// of the views. Only numbers from the number of workers on are clients'.
+pub fn clients_are_apart<T: Minimum>()
+    ensures { (p : Dataflow) → (h : List (Event T)) (e : Event T) → IsLegal T.below T.least p (e ∷ h) → actor_of e < p.workers
+        → IsSameOfClients (world T.below T.least p h) (world T.below T.least p (e ∷ h)) }
 {}
 
 /// The premises of all this can be met: there are a plan with a join and a reduction, a legal history of it on two workers in

@@ -16,7 +16,6 @@ ghost use Rattle.machine.specs.Reads.{is_ready};
 use crate::board::Board;
 use crate::event::{Bundle, Event, Held, Place, remembered_take};
 use crate::giving::holding;
-use crate::lists::Updates;
 use antichain::is_beyond;
 use lattice::Minimum;
 use plan::NodeId;
@@ -66,9 +65,9 @@ pub(crate) fn copied<T: Minimum>(
     Ok(copy)
 }
 
-// The frontier of a bundle's times.
+// The frontier of the times of updates.
 #[tactic(auto, unfolding(crate::specs::Outstanding::stamp))]
-fn stamp_of<T: Minimum>(alloc: Global, updates: &[Update<T>]) -> Result<Vec<T>, Refusal>
+pub(crate) fn stamp_of<T: Minimum>(alloc: Global, updates: &[Update<T>]) -> Result<Vec<T>, Refusal>
     ensures stamp { IfOk result (λ front. front.items ≡ stamp T.below updates.now) }
     ensures refused { IfErr result (λ refusal. refusal ≡ OutOfMemory) }
 {
@@ -99,7 +98,7 @@ fn leave<T: Minimum>(front: &mut Vec<T>, t: T)
     front.retain(|f| !t.less_equal(f));
 }
 
-// What was held before, behind.
+// Times that are held, behind.
 fn push_held<T: Minimum>(held: &mut Vec<Held<T>>, more: &[Held<T>]) -> Result<(), Refusal>
     ensures more { OnOk result (held.new.items ≡ held.old.items ++ more.now) }
     ensures refused { IfErr result (λ refusal. refusal ≡ OutOfMemory) }
@@ -119,13 +118,14 @@ impl<T: Minimum> Board<T> {
     /// Refused only with `OutOfMemory`; then the event is a look, and nothing else changed.
     ///
     /// Cost: linear in the bundles in flight and in the times held, and in the updates times the elements of their stamp.
-    pub fn take(&mut self, place: Place, number: usize) -> Result<Updates<T>, Refusal>
+    pub fn take(&mut self, place: Place, number: usize) -> Result<Bundle<T>, Refusal>
         requires worker { place.worker < self.old.dataflow.workers }
         requires free { get_or self.old.hand place.worker None ≡ None }
         requires waits { number < length (queue place self.old.in_flight) }
         requires turn { arranged_by (node_of self.old.dataflow place.node) ≡ None → number ≡ 0 }
-        ensures waited { IfOk result (λ us. slice_get (queue place self.old.in_flight) number ≡ Some us) }
-        ensures taken { IfOk result (λ us. self.new ≡ taken T.below place number us self.old) }
+        ensures waited { IfOk result (λ bundle. slice_get (queue place self.old.in_flight) number ≡ Some bundle) }
+        ensures place { IfOk result (λ bundle. bundle.place ≡ place) }
+        ensures taken { IfOk result (λ bundle. self.new ≡ taken number bundle self.old) }
         ensures refused { IfErr result (λ refusal. refusal ≡ OutOfMemory) }
         ensures unchanged { OnErr result (self.new ≡ looked place.worker self.old) }
         ensures stands { (h : List (Event T)) → Stands T.below T.least self.old h → Stands T.below T.least self.new (self.new.last ∷ h) }
@@ -134,17 +134,18 @@ impl<T: Minimum> Board<T> {
     }
 
     // The same, without the histories.
-    fn try_take(&mut self, place: Place, number: usize) -> Result<Updates<T>, Refusal>
+    fn try_take(&mut self, place: Place, number: usize) -> Result<Bundle<T>, Refusal>
         requires worker { place.worker < self.old.dataflow.workers }
         requires waits { number < length (queue place self.old.in_flight) }
-        ensures waited { IfOk result (λ us. slice_get (queue place self.old.in_flight) number ≡ Some us) }
-        ensures taken { IfOk result (λ us. self.new ≡ taken T.below place number us self.old) }
+        ensures waited { IfOk result (λ bundle. slice_get (queue place self.old.in_flight) number ≡ Some bundle) }
+        ensures place { IfOk result (λ bundle. bundle.place ≡ place) }
+        ensures taken { IfOk result (λ bundle. self.new ≡ taken number bundle self.old) }
         ensures refused { IfErr result (λ refusal. refusal ≡ OutOfMemory) }
         ensures unchanged { OnErr result (self.new ≡ looked place.worker self.old) }
         ensures board { OnOk result (IsBoard self.old) }
     {
         let position = position(&self.in_flight, &place, number);
-        match self.held_with(&place, self.in_flight[position].updates.as_slice()) {
+        match self.held_with(&place, self.in_flight[position].stamp.as_slice()) {
             Ok(held) => Ok(self.hand_over(place, number, position, held)),
             Err(refusal) => {
                 self.look(place.worker);
@@ -160,35 +161,35 @@ impl<T: Minimum> Board<T> {
         number: usize,
         position: usize,
         held: Vec<Held<T>>,
-    ) -> Updates<T>
+    ) -> Bundle<T>
         requires within { position < length self.old.in_flight }
         requires worker { place.worker < self.old.dataflow.workers }
-        ensures updates { (d : Bundle T) → result ≡ (get_or self.old.in_flight position d).updates }
+        ensures bundle { (d : Bundle T) → result ≡ get_or self.old.in_flight position d }
         ensures after { self.new ≡ record self.old {
           in_flight = remove self.old.in_flight position;
           held = held.items;
           hand = set self.old.hand place.worker (Some place.node);
-          last = Take place number result;
+          last = Take number result;
         } }
     {
         let bundle = self.in_flight.remove(position);
         self.held = held;
         self.hand[place.worker] = Some(place.node);
-        let Bundle { place: _, updates } = bundle;
-        let (updates, event) = remembered_take(place, number, updates);
+        let (bundle, event) = remembered_take(number, bundle);
         self.note(event);
-        updates
+        bundle
     }
 
     // What is held once a bundle's updates are taken.
-    fn held_with(&self, place: &Place, updates: &[Update<T>]) -> Result<Vec<Held<T>>, Refusal>
-        ensures held { IfOk result (λ held. held.items ≡ holding place.now.node place.now.worker (stamp T.below updates.now) ++ self.now.held) }
+    fn held_with(&self, place: &Place, stamp: &[T]) -> Result<Vec<Held<T>>, Refusal>
+        ensures held { IfOk result (λ held. held.items ≡ self.now.held ++ holding place.now.node place.now.worker stamp.now) }
         ensures refused { IfErr result (λ refusal. refusal ≡ OutOfMemory) }
     {
         let alloc = *self.held.allocator();
-        let stamp = stamp_of(alloc, updates)?;
-        let mut held = holding(alloc, place.node, place.worker, stamp.as_slice())?;
+        let more = holding(alloc, place.node, place.worker, stamp)?;
+        let mut held = Vec::new(alloc);
         push_held(&mut held, &self.held)?;
+        push_held(&mut held, &more)?;
         Ok(held)
     }
 

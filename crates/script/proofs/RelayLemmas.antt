@@ -26,7 +26,8 @@ use Rattle.machine.specs.Readings.{IsQuiet}
 use Rattle.machine.specs.Histories.{holding, is_held_by, without, world, IsGive}
 use Rattle.machine.specs.Boards.{Shown, Stands, looked, taken, given}
 use Rattle.machine.proofs.BoardLemmas.{stands_looked}
-use Rattle.script.specs.Relays.{are_due, waits_at, IsIdle, IsSameOfClients, IsCut, GoesOnFrom, GoesOn}
+use Rattle.machine.specs.Actors.{IsSameOfClients}
+use Rattle.script.specs.Relays.{are_due, waits_at, IsIdle, IsCut, GoesOnFrom, GoesOn}
 use Rattle.script.proofs.DueLemmas.{IsDue, waiting_due, widened, fitting, sent_due, one_less, no_more_wait, piece_due}
 use Rattle.script.proofs.GivingLemmas.{may_give}
 use Rattle.script.proofs.SmallLemmas.{small_applied, no_overflow}

@@ -11,9 +11,10 @@ use Rattle.machine.specs.declared.event.Bundle.{Bundle}
 use Rattle.machine.specs.declared.event.Emission.{Emission}
 use Rattle.machine.specs.declared.event.Event.{Event}
 use Rattle.machine.specs.Dataflows.{Dataflow, node_of, source_of}
-use Rattle.machine.specs.Worlds.{World, updates_at}
+use Rattle.machine.specs.Worlds.{updates_at}
 use Rattle.machine.specs.Shares.{share}
 use Rattle.machine.specs.Histories.{world}
+use Rattle.machine.specs.Actors.{IsSameOfClients}
 use Rattle.machine.specs.Boards.{Shown, Stands}
 
 -- the width of the rows that come to a place: that of the node that is read there, and at an input its own
@@ -44,12 +45,6 @@ module _ {T : Type 0} where
     pub linear : (n : ℕ) → n < length b.dataflow.nodes → IsTrue (is_linear (node_of b.dataflow n))
     pub held : b.held ≡ []
     pub hand : get_or b.hand 0 None ≡ None
-
-  -- what clients did is as it was
-  pub record IsSameOfClients (w v : World T) : Type 0 where
-    pub fed : v.fed ≡ w.fed
-    pub openings : v.openings ≡ w.openings
-    pub since : (view : ℕ) → v.since view ≡ w.since view
 
   -- what was given is sent whole, in bundles none of which is empty
   pub record IsCut (p : Dataflow) (g : Emission T) (sent : List (Bundle T)) : Type 0 where

@@ -11,10 +11,10 @@ use Rattle.script.specs.Relays.{IsIdle, are_due}
 use Rattle.script.specs.Sessions.{Session}
 
 module _ {T : Type 0} where
-  -- the worker may carry on what waits, unless it met what ends a run
+  -- there is one worker, and it may carry on what waits, unless it met what ends a run
   abbrev pub IsReadyUnless : Option Refusal → Shown T → Type 0
   IsReadyUnless None b = IsIdle b × IsTrue (are_due b.dataflow 0 b.in_flight)
-  IsReadyUnless (Some refusal) b = refusal ≡ OutOfMemory
+  IsReadyUnless (Some refusal) b = (refusal ≡ OutOfMemory) × (b.dataflow.workers ≡ 1)
 
 module _ {T : Type 0} (below : T → T → Bool) (minimum : T) where
   -- the board may stand after a history in which just these changes were fed and the inputs' frontiers came to stand so, and

@@ -27,8 +27,8 @@ use update::{Bag, Refusal, Update};
 // stays short, however many there are.
 const BACKLOG: usize = 64;
 
-// The number of the only client: that of the events which commands are.
-const CLIENT: usize = 0;
+// The number of the only client, beside worker 0: that of the events which commands are.
+const CLIENT: usize = 1;
 
 /// A board whose one worker carries on what waits where rows are asked for. A contract sees what lies on the board.
 #[derive(Drop)]

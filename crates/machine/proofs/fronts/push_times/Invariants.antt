@@ -1,7 +1,5 @@
 use Rattle.std.proofs.Common.{◌≡◌, ◌++◌, take}
-use Rattle.machine.specs.Worlds.{times}
 use Rattle.machine.proofs.fronts.push_times.Given as goal
 
-abbrev pub invariant-loop-update : goal.invariant-loop-update
-invariant-loop-update g l =
-    l.all.items ≡ l.fn.all.items ++ times (take l.update-index l.updates)
+abbrev pub invariant-loop-time : goal.invariant-loop-time
+invariant-loop-time g l = l.all.items ≡ l.fn.all.items ++ take l.time-index l.times

@@ -1,5 +1,10 @@
-use Rattle.machine.proofs.ClearLemmas.{lurks_lem}
+use Rattle.machine.proofs.HeadlineLemmas.{lurks, lurks_later}
 use Rattle.machine.proofs.theorems.nothing_lurks.Goals as goal
 
 pub returns : goal.returns
-returns g c p h n = lurks_lem _ g.met.T.PartialOrder.order p _ n
+returns g c =
+    let order = g.met.T.PartialOrder.order in
+    record {
+      frontiers = λ p q h l n. lurks _ _ order p q h l n;
+      inputs = λ p q. lurks_later _ _ order p q;
+    }

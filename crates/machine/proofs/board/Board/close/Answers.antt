@@ -8,4 +8,4 @@ returns-clause-stands g c h s =
     let below = g.T.PartialOrder.below in
     let least = g.T.Minimum.least in
     let r = c.try_close in
-    subst (λ z. Stands below least z (z.last ∷ h)) (sym r.ensures.closed) (stands_advanced below least c.args.self.now r.ensures.board h c.args.client c.args.input [] refl c.requires s)
+    subst (λ z. Stands below least z (z.last ∷ h)) (sym r.ensures.closed) (stands_advanced below least c.args.self.now r.ensures.board h c.args.client c.args.input [] c.requires.client refl c.requires.input s)

@@ -1,14 +1,20 @@
 use Rattle.std.proofs.Common.{ap, subst, ◌∙◌}
+use Rattle.std.specs.List.{list_all}
 use Rattle.machine.specs.Boards.{Shown}
 use Rattle.machine.specs.Dataflows.{IsDataflow}
 use Rattle.machine.specs.Worlds.{updates_at}
-use Rattle.machine.proofs.CuttingLemmas.{is_filled, cut_whole, cut_filled}
+use Rattle.machine.proofs.CuttingLemmas.{is_filled, is_between, cut_whole, cut_filled, cut_stamped}
 use Rattle.machine.proofs.board.Board.cut.Goals as goal
 
 pub returns-clause-whole : goal.returns-clause-whole
 returns-clause-whole g c site =
     ap (updates_at site) (c.into.ensures ∙ c.in_ok-sent.ensures.cut)
-    ∙ cut_whole c.args.self.now.dataflow c.args.emission.now (subst IsDataflow (ap (λ (z : Shown _). z.dataflow) c.self.view_is) c.self.invariant.dataflow) c.requires site
+    ∙ cut_whole _ c.args.self.now.dataflow c.args.emission.now (subst IsDataflow (ap (λ (z : Shown _). z.dataflow) c.self.view_is) c.self.invariant.dataflow) c.requires site
 
 pub returns-clause-filled : goal.returns-clause-filled
-returns-clause-filled g c = ap is_filled (c.into.ensures ∙ c.in_ok-sent.ensures.cut) ∙ cut_filled c.args.self.now.dataflow c.args.emission.now
+returns-clause-filled g c = ap is_filled (c.into.ensures ∙ c.in_ok-sent.ensures.cut) ∙ cut_filled _ c.args.self.now.dataflow c.args.emission.now
+
+pub returns-clause-stamped : goal.returns-clause-stamped
+returns-clause-stamped g c = λ held onward.
+    ap (list_all (is_between g.T.PartialOrder.below held)) (c.into.ensures ∙ c.in_ok-sent.ensures.cut)
+    ∙ cut_stamped _ c.args.self.now.dataflow c.args.emission.now g.met.T.PartialOrder.order held onward

@@ -12,7 +12,7 @@ returns-clause-stands g c h s =
     on_both below least r.result _ _ r.ensures.fed r.ensures.unchanged
     (λ e. on_both below least r.result _ _ r.ensures.accepted r.ensures.unchanged
     (λ a. on_both below least r.result _ _ r.ensures.board r.ensures.unchanged
-    (λ b. subst (λ z. Stands below least z (z.last ∷ h)) (sym e) (stands_fed below least c.args.self.now b h c.args.client _ a c.requires s))
+    (λ b. subst (λ z. Stands below least z (z.last ∷ h)) (sym e) (stands_fed below least c.args.self.now b h c.args.client _ c.requires.client a c.requires.input s))
     looked)
     looked)
     looked

@@ -8,4 +8,4 @@ use Rattle.machine.proofs.board.Board.push_for_workers.Given as goal
 
 -- the bundles for the workers so far
 abbrev pub invariant-loop-worker : goal.invariant-loop-worker
-invariant-loop-worker g l = l.sent.items ≡ l.fn.sent.items ++ flat_map (λ k. bundled (place l.node l.port k) (share l.self.dataflow (place l.node l.port k) l.emission)) (numbers_below l.worker)
+invariant-loop-worker g l = l.sent.items ≡ l.fn.sent.items ++ flat_map (λ k. bundled g.T.PartialOrder.below (place l.node l.port k) (share l.self.dataflow (place l.node l.port k) l.emission)) (numbers_below l.worker)

@@ -20,13 +20,13 @@ returns-clause-answered c s =
     (λ (b : Shown (Pair ℕ ℕ)). StandsAs at_or_below (make_pair 0 0) b s
     → IsAnswer ⊥ (change_refusal at_or_below b.dataflow.nodes s f) (λ _. StandsAs at_or_below (make_pair 0 0) new (with_change f s)) (StandsAs at_or_below (make_pair 0 0) new s) c.feed.result)
     c.self.view_is
-    (change_answered at_or_below (make_pair 0 0) c.self.inside.board new 0 f s c.feed.result (input_there c.self.inside.board.dataflow c.args.input there).0
+    (change_answered at_or_below (make_pair 0 0) c.self.inside.board new _ f s c.feed.result (input_there c.self.inside.board.dataflow c.args.input there).0
     c.feed.ensures.fed c.feed.ensures.accepted c.feed.ensures.refused c.feed.ensures.unchanged c.feed.ensures.stands)
 
 pub invariant_of-self : goal.invariant_of-self
 invariant_of-self c =
     let f : Fed (Pair ℕ ℕ) = record { input = c.args.input; update = c.args.update } in
     let there = subst (λ (b : Shown (Pair ℕ ℕ)). IsTrue (is_input_of b.dataflow.nodes c.args.input)) (sym c.self.view_is) c.requires in
-    ready_after_change at_or_below c.self.inside.board c.feed.new.self 0 f c.self.inside.ended c.feed.result
+    ready_after_change at_or_below c.self.inside.board c.feed.new.self _ f c.self.inside.ended c.feed.result
     c.workers-workers.ensures.dataflow (input_there c.self.inside.board.dataflow c.args.input there)
     c.feed.ensures.fed c.feed.ensures.accepted c.feed.ensures.unchanged c.self.invariant

@@ -20,5 +20,5 @@ returns-clause-answered c s =
     (λ (b : Shown (Pair ℕ ℕ)). StandsAs at_or_below (make_pair 0 0) b s
     → IsAnswer ⊥ (frontier_refusal at_or_below b.dataflow.nodes s i ts) (λ _. StandsAs at_or_below (make_pair 0 0) new (with_frontier i ts s)) (StandsAs at_or_below (make_pair 0 0) new s) c.advance.result)
     c.self.view_is
-    (frontier_answered at_or_below (make_pair 0 0) c.self.inside.board new 0 i ts s c.advance.result (input_there c.self.inside.board.dataflow i there).0
+    (frontier_answered at_or_below (make_pair 0 0) c.self.inside.board new _ i ts s c.advance.result (input_there c.self.inside.board.dataflow i there).0
     c.advance.ensures.advanced c.advance.ensures.accepted c.advance.ensures.refused c.advance.ensures.unchanged c.advance.ensures.stands)
