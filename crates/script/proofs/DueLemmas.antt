@@ -27,7 +27,8 @@ use Rattle.machine.specs.Worlds.{same_place, updates_at, queue}
 use Rattle.machine.specs.Shares.{part, share, share_from}
 use Rattle.machine.specs.Histories.{without}
 use Rattle.machine.proofs.FlowLemmas.{place_same}
-use Rattle.machine.proofs.PlaceLemmas.{queued, there_some, shared}
+use Rattle.machine.proofs.FlowLemmas.{queued}
+use Rattle.machine.proofs.PlaceLemmas.{there_some, shared}
 use Rattle.machine.proofs.WaitingLemmas.{itself}
 use Rattle.script.specs.Relays.{width_at, are_small, is_due, are_due, waits_at}
 
@@ -115,13 +116,8 @@ module _ {T : Type 0} where
       (and_from (is_port (node_of p b.place.node) b.place.port) (eqb b.place.worker 0) d.port (eq-eqb b.place.worker 0 d.worker)) (and_from (are_wide (width_at p b.place) b.updates) (are_small b.updates) d.wide d.small))
 
   -- a bundle that waits is due
-  pub waiting_due : (p : Dataflow) (n : ℕ) (site : Place) (us : List (Update T)) (bundles : List (Bundle T)) → are_due p n bundles ≡ true → slice_get (queue site bundles) 0 ≡ Some us → IsDue p n (record { place = site; updates = us })
-  waiting_due p n site us bundles due e =
-      let b = queued site bundles 0 us e in
-      due_parts p n (record { place = site; updates = us }) (subst (λ z. is_due p n z ≡ true) (made b.0 site us b.2 b.3) (all_at (is_due p n) bundles b.0 due b.1))
-    where
-      made : (b : Bundle T) (site : Place) (us : List (Update T)) → b.place ≡ site → b.updates ≡ us → b ≡ record { place = site; updates = us }
-      made b site us x y = λ i. record { place = x i; updates = y i }
+  pub waiting_due : (p : Dataflow) (n : ℕ) (site : Place) (bundle : Bundle T) (bundles : List (Bundle T)) → are_due p n bundles ≡ true → slice_get (queue site bundles) 0 ≡ Some bundle → IsDue p n bundle
+  waiting_due p n site bundle bundles due e = due_parts p n bundle (all_at (is_due p n) bundles bundle due (queued site bundles 0 bundle e).0)
 
   -- what is left is due
   left_due : (test : Bundle T → Bool) (site : Place) (bundles : List (Bundle T)) → list_all test bundles ≡ true → list_all test (without site bundles 0) ≡ true
@@ -241,9 +237,9 @@ module _ {T : Type 0} where
 
   -- How many wait at a node: one less where one is taken, and no more where what is sent is due later
 
-  pub one_less : (site : Place) (us : List (Update T)) (bundles : List (Bundle T)) → slice_get (queue site bundles) 0 ≡ Some us → suc (waits_at site.node (without site bundles 0)) ≡ waits_at site.node bundles
-  one_less site us [] e = cc
-  one_less site us (b ∷ bundles) e = step (same_place b.place site) refl e (one_less site us bundles)
+  pub one_less : (site : Place) (bundle : Bundle T) (bundles : List (Bundle T)) → slice_get (queue site bundles) 0 ≡ Some bundle → suc (waits_at site.node (without site bundles 0)) ≡ waits_at site.node bundles
+  one_less site bundle [] e = cc
+  one_less site bundle (b ∷ bundles) e = step (same_place b.place site) refl e (one_less site bundle bundles)
     where
       counted : (c : Bool) → suc (waits_at site.node (without site bundles 0)) ≡ waits_at site.node bundles
           → suc (length (cond c (b ∷ filter (λ (x : Bundle T). eqb x.place.node site.node) (without site bundles 0)) (filter (λ (x : Bundle T). eqb x.place.node site.node) (without site bundles 0))))
@@ -251,8 +247,8 @@ module _ {T : Type 0} where
       counted true h = ap suc h
       counted false h = h
 
-      step : (s : Bool) → same_place b.place site ≡ s → slice_get (cond s (b.updates ∷ []) [] ++ queue site bundles) 0 ≡ Some us
-          → (slice_get (queue site bundles) 0 ≡ Some us → suc (waits_at site.node (without site bundles 0)) ≡ waits_at site.node bundles)
+      step : (s : Bool) → same_place b.place site ≡ s → slice_get (cond s (b ∷ []) [] ++ queue site bundles) 0 ≡ Some bundle
+          → (slice_get (queue site bundles) 0 ≡ Some bundle → suc (waits_at site.node (without site bundles 0)) ≡ waits_at site.node bundles)
           → suc (waits_at site.node (cond s bundles (b ∷ without site bundles 0))) ≡ waits_at site.node (b ∷ bundles)
       step true f e ih = sym (ap (λ c. length (cond c (b ∷ filter (λ (x : Bundle T). eqb x.place.node site.node) bundles) (filter (λ (x : Bundle T). eqb x.place.node site.node) bundles))) (eq-eqb b.place.node site.node (ap (λ (z : Place). z.node) (place_same b.place site f))))
       step false f e ih = counted (eqb b.place.node site.node) (ih e)

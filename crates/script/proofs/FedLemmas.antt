@@ -17,7 +17,7 @@ use Rattle.machine.specs.declared.event.Fed.{Fed}
 use Rattle.machine.specs.Dataflows.{IsDataflow, node_of}
 use Rattle.machine.specs.Inputs.{front_at}
 use Rattle.machine.specs.Shares.{home}
-use Rattle.machine.specs.Histories.{IsInput}
+use Rattle.machine.specs.Histories.{IsInput, alone}
 use Rattle.machine.specs.Boards.{Shown, fed, feed_refusal}
 use Rattle.machine.proofs.ClaimLemmas.{routed}
 use Rattle.script.specs.Relays.{is_due, are_due}
@@ -40,8 +40,8 @@ passed false h = absurd (true≢false h)
 
 module _ {T : Type 0} (below : T → T → Bool) where
   fed_one : (b : Shown T) (f : Fed T) → feed_refusal below b f ≡ None → IsInput b.dataflow f.input → IsDataflow b.dataflow → b.dataflow.workers ≡ 1
-      → IsDue b.dataflow 0 (record { place = home b.dataflow f; updates = f.update ∷ [] })
-  fed_one b f e i q alone =
+      → IsDue b.dataflow 0 (alone b.dataflow f)
+  fed_one b f e i q single =
       let width = no_first (not (eqb (length f.update.row) (width_of b.dataflow.nodes f.input))) WrongWidth ((int_eq f.update.diff (pos 0), ZeroWeight)
       ∷ (not (nat_le (unsigned_abs f.update.diff) 2147483647), WeightTooLarge) ∷ (not (is_beyond below (front_at f.input b.inputs) f.update.time), TimePassed)
       ∷ (not (nat_lt (get_or b.accepted f.input 0) 1048576), InputFull) ∷ []) e in
@@ -54,7 +54,7 @@ module _ {T : Type 0} (below : T → T → Bool) where
         later = omega arith;
         within = i.0;
         port = refl;
-        worker = omega (arith, r, alone);
+        worker = omega (arith, r, single);
         wide = and_from (eqb (length f.update.row) (width_of b.dataflow.nodes (unwrap_or (slice_get (sources (node_of b.dataflow f.input)) 0) f.input))) true
             (ap (λ x. eqb (length f.update.row) (width_of b.dataflow.nodes (unwrap_or x f.input))) (reads_none (node_of b.dataflow f.input) i.1) ∙ passed (eqb (length f.update.row) (width_of b.dataflow.nodes f.input)) width.0) refl;
         small = and_from (nat_le (unsigned_abs f.update.diff) 2147483647) true (passed (nat_le (unsigned_abs f.update.diff) 2147483647) small.0) refl;
@@ -62,7 +62,7 @@ module _ {T : Type 0} (below : T → T → Bool) where
 
   pub fed_due : (b : Shown T) (client : ℕ) (f : Fed T) → feed_refusal below b f ≡ None → IsInput b.dataflow f.input → IsDataflow b.dataflow → b.dataflow.workers ≡ 1
       → IsTrue (are_due b.dataflow 0 b.in_flight) → IsTrue (are_due b.dataflow 0 (fed client f b).in_flight)
-  fed_due b client f e i q alone due =
-      list_all-append (is_due b.dataflow 0) b.in_flight (record { place = home b.dataflow f; updates = f.update ∷ [] } ∷ [])
-      ∙ and_from (are_due b.dataflow 0 b.in_flight) (are_due b.dataflow 0 (record { place = home b.dataflow f; updates = f.update ∷ [] } ∷ [])) due
-      (and_from (is_due b.dataflow 0 (record { place = home b.dataflow f; updates = f.update ∷ [] })) true (due_from b.dataflow 0 (record { place = home b.dataflow f; updates = f.update ∷ [] }) (fed_one b f e i q alone)) refl)
+  fed_due b client f e i q single due =
+      list_all-append (is_due b.dataflow 0) b.in_flight (alone b.dataflow f ∷ [])
+      ∙ and_from (are_due b.dataflow 0 b.in_flight) (are_due b.dataflow 0 (alone b.dataflow f ∷ [])) due
+      (and_from (is_due b.dataflow 0 (alone b.dataflow f)) true (due_from b.dataflow 0 (alone b.dataflow f) (fed_one b f e i q single)) refl)

@@ -8,8 +8,7 @@ use Rattle.std.proofs.lemmas.List.{append-nil}
 use Rattle.std.proofs.lemmas.List.Folds.{list_all-map}
 use Rattle.lattice.specs.Order.{PartialOrderLaws}
 use Rattle.lattice.specs.Frontiers.{is_beyond, all_beyond}
-use Rattle.antichain.proofs.Lists.{Among, all_from}
-use Rattle.antichain.proofs.InsertionLemmas.{least_beyond}
+use Rattle.antichain.proofs.Lists.{all_at}
 use Rattle.update.specs.Bags.{Alike, count_of}
 use Rattle.update.specs.Updates.{as_of}
 use Rattle.update.specs.declared.change.Update.{Update}
@@ -25,7 +24,7 @@ use Rattle.linear.specs.Ports.{is_port, more_at}
 use Rattle.linear.proofs.SumLemmas.{applied_goes_on}
 use Rattle.linear.proofs.SizeLemmas.{size_applied, times_applied}
 use Rattle.update.specs.Bags.{total_by}
-use Rattle.machine.proofs.StampLemmas.{stamp_beyond}
+use Rattle.machine.proofs.FlowLemmas.{queued}
 use Rattle.machine.specs.declared.event.Place.{Place}
 use Rattle.machine.specs.declared.event.Bundle.{Bundle}
 use Rattle.machine.specs.declared.event.Emission.{Emission}
@@ -34,10 +33,10 @@ use Rattle.machine.specs.declared.event.Event.TheVariants.{Take}
 use Rattle.machine.specs.Dataflows.{Dataflow, IsDataflow, node_of}
 use Rattle.machine.specs.Worlds.{World, place, same_place, times, updates_at, emitted_by, held_at}
 use Rattle.machine.specs.Shares.{share}
-use Rattle.machine.specs.Outstanding.{stamp}
 use Rattle.machine.specs.NodeLaws.{is_reduction, received_at, NodeLaw}
 use Rattle.machine.specs.Histories.{holding, gave, after, IsTake, IsGive, world, IsLegal}
-use Rattle.machine.proofs.KeptLemmas.{held_marked, kept_world}
+use Rattle.machine.proofs.KeptLemmas.{held_marked, is_stamped, kept_world}
+use Rattle.script.specs.Relays.{IsCut}
 use Rattle.machine.proofs.SettledLemmas.{to_weight, from_weight, loaded_world}
 use Rattle.machine.proofs.SizeLemmas.{size-append}
 
@@ -83,25 +82,15 @@ module _ (x : ℕ) (f g : ℕ → ℕ) where
   load_more (Output source) l port h m = one_source port h m
 
 module _ {T : Type 0} (below : T → T → Bool) (o : PartialOrderLaws below) where
-  -- each of the times is beyond the least of them
-  own_time : (us : List (Update T)) (u : Update T) → Among u us → is_beyond below (times us) u.time ≡ true
-  own_time [] u m = absurd m
-  own_time (v ∷ us) u m =
-      ⊎_elim
-      (λ e. subst (λ z. (below v.time z.time || is_beyond below (times us) z.time) ≡ true) e (ap (λ b. b || is_beyond below (times us) v.time) (o.reflexive v.time)))
-      (λ n. later (below v.time u.time) (own_time us u n))
-      m
-    where
-      later : (b : Bool) → is_beyond below (times us) u.time ≡ true → (b || is_beyond below (times us) u.time) ≡ true
-      later true e = refl
-      later false e = e
-
-  beyond_stamp : (us : List (Update T)) → IsTrue (list_all (λ u. is_beyond below (stamp below us) u.time) us)
-  beyond_stamp us = all_from (λ u. is_beyond below (stamp below us) u.time) us (λ u m. stamp_beyond below o us u.time ∙ own_time us u m)
-
   module _ (minimum : T) (p : Dataflow) (q : IsDataflow p) (h : List (Event T)) (legal : IsLegal below minimum p h) (quiet : (world below minimum p h).held ≡ [])
-      (site : Place) (us : List (Update T)) (take : IsTake below p (world below minimum p h) site 0 us)
-      (linear : IsTrue (is_linear (node_of p site.node))) (port : IsTrue (is_port (node_of p site.node) site.port)) where
+      (bundle : Bundle T) (take : IsTake below p (world below minimum p h) 0 bundle)
+      (linear : IsTrue (is_linear (node_of p bundle.place.node))) (port : IsTrue (is_port (node_of p bundle.place.node) bundle.place.port)) where
+    abbrev site : Place
+    site = bundle.place
+
+    abbrev us : List (Update T)
+    us = bundle.updates
+
     abbrev w : World T
     w = world below minimum p h
 
@@ -115,7 +104,7 @@ module _ {T : Type 0} (below : T → T → Bool) (o : PartialOrderLaws below) wh
     emission = record { node = site.node; worker = site.worker; updates = out }
 
     abbrev v : World T
-    v = after below p w (Take site 0 us)
+    v = after below p w (Take 0 bundle)
 
     -- what was received at a port before
     abbrev before : ℕ → List (Update T)
@@ -124,18 +113,25 @@ module _ {T : Type 0} (below : T → T → Bool) (o : PartialOrderLaws below) wh
     marked : (eqb site.node site.node && eqb site.worker site.worker) ≡ true
     marked = and_from (eqb site.node site.node) (eqb site.worker site.worker) (eq-eqb site.node site.node refl) (eq-eqb site.worker site.worker refl)
 
-    held_here : held_at site.node site.worker v.held ≡ stamp below us
+    held_here : held_at site.node site.worker v.held ≡ bundle.stamp
     held_here =
-        ap (λ z. held_at site.node site.worker (holding site.node site.worker (stamp below us) ++ z)) quiet
-        ∙ (ap (held_at site.node site.worker) (append-nil (holding site.node site.worker (stamp below us)))
-        ∙ held_marked site.node site.worker site.node site.worker (stamp below us) marked)
+        ap (λ z. held_at site.node site.worker (z ++ holding site.node site.worker bundle.stamp)) quiet
+        ∙ held_marked site.node site.worker site.node site.worker bundle.stamp marked
+
+    -- what is in flight is beyond its stamp
+    beyond_stamp : IsTrue (list_all (λ u. is_beyond below bundle.stamp u.time) us)
+    beyond_stamp =
+        sym (list_all-map (λ t. is_beyond below bundle.stamp t) (λ (u : Update T). u.time) us)
+        ∙ all_at (is_stamped below) w.in_flight bundle (kept_world below o p minimum h legal).stamped (queued site w.in_flight 0 bundle take.waits).0
+
+    out_onward : IsTrue (all_beyond below (held_at site.node site.worker v.held) (times out))
+    out_onward =
+        ap (λ f. all_beyond below f (times out)) held_here
+        ∙ (list_all-map (λ t. is_beyond below bundle.stamp t) (λ (u : Update T). u.time) out
+        ∙ times_applied node (is_beyond below bundle.stamp) us beyond_stamp)
 
     onward : IsTrue (all_beyond below (held_at site.node site.worker v.held) (times out ++ []))
-    onward =
-        ap (λ ts. all_beyond below (held_at site.node site.worker v.held) ts) (append-nil (times out))
-        ∙ (ap (λ f. all_beyond below f (times out)) held_here
-        ∙ (list_all-map (λ t. is_beyond below (stamp below us) t) (λ (u : Update T). u.time) out
-        ∙ times_applied node (is_beyond below (stamp below us)) us (beyond_stamp us)))
+    onward = ap (λ ts. all_beyond below (held_at site.node site.worker v.held) ts) (append-nil (times out)) ∙ out_onward
 
     emitted_is : emitted_by site.node site.worker (emission ∷ w.emitted) ≡ out ++ emitted_by site.node site.worker w.emitted
     emitted_is = ap (λ b. cond b out [] ++ emitted_by site.node site.worker w.emitted) marked
@@ -176,13 +172,14 @@ module _ {T : Type 0} (below : T → T → Bool) (o : PartialOrderLaws below) wh
         grown i true = size-append us (before i)
         grown i false = refl
 
-    pub may_give : (sent : List (Bundle T)) → ((other : Place) → updates_at other sent ≡ share p other emission) → IsTrue (list_all (λ b. not (eqb (length b.updates) 0)) sent) → IsGive below p v emission [] sent
-    may_give sent whole filled = record {
+    pub may_give : (sent : List (Bundle T)) → IsCut below p emission sent → IsGive below p v emission [] sent
+    may_give sent cut = record {
       worker = take.worker;
       in_hand = ap (λ b. cond b (Some site.node) (w.hand site.worker)) (eq-eqb site.worker site.worker refl);
       onward = onward;
       law = law sent;
       load = record { within = λ e. from_weight below p (gave below p v emission [] sent) site.node site.worker (within sent); settled = λ e. absurd (true≢false (sym e ∙ not_reduction node linear)) };
-      whole = λ s f. ap (total_by f) (whole s);
-      filled = filled;
+      whole = λ s f. ap (total_by f) (cut.whole s);
+      filled = cut.filled;
+      stamped = cut.stamped (held_at site.node site.worker v.held) out_onward;
     }

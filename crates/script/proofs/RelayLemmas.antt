@@ -75,12 +75,12 @@ module _ {T : Type 0} (below : T → T → Bool) (minimum : T) where
   )
 
   -- a take
-  same_taken : (b c : Shown T) (site : Place) (us : List (Update T)) → c ≡ taken below site 0 us b → (h : List (Event T)) → IsSameOfClients (world below minimum b.dataflow h) (world below minimum c.dataflow (c.last ∷ h))
-  same_taken b c site us e h = subst (λ (z : Shown T). IsSameOfClients (world below minimum b.dataflow h) (world below minimum z.dataflow (z.last ∷ h))) (sym e) (record { fed = refl; openings = refl; since = λ v. refl })
+  same_taken : (b c : Shown T) (bundle : Bundle T) → c ≡ taken 0 bundle b → (h : List (Event T)) → IsSameOfClients (world below minimum b.dataflow h) (world below minimum c.dataflow (c.last ∷ h))
+  same_taken b c bundle e h = subst (λ (z : Shown T). IsSameOfClients (world below minimum b.dataflow h) (world below minimum z.dataflow (z.last ∷ h))) (sym e) (record { fed = refl; openings = refl; since = λ v. refl })
 
-  pub goes_after_take : (r : Result (List (Update T)) Refusal) (b c : Shown T) (site : Place) → IfOk r (λ us. c ≡ taken below site 0 us b) → OnErr r (c ≡ looked site.worker b)
+  pub goes_after_take : (r : Result (Bundle T) Refusal) (b c : Shown T) (site : Place) → IfOk r (λ bundle. c ≡ taken 0 bundle b) → OnErr r (c ≡ looked site.worker b)
       → ((h : List (Event T)) → Stands below minimum b h → Stands below minimum c (c.last ∷ h)) → GoesOn below minimum b c
-  goes_after_take (Ok us) b c site e l stands = λ h s. (c.last ∷ [], stands h s, same_taken b c site us e h)
+  goes_after_take (Ok bundle) b c site e l stands = λ h s. (c.last ∷ [], stands h s, same_taken b c bundle e h)
   goes_after_take (Err r) b c site e l stands = goes_looked b c site.worker l
 
   -- a give
@@ -102,12 +102,15 @@ module _ {T : Type 0} (below : T → T → Bool) (minimum : T) where
   same_dataflow (Err x) b c P h actor e l = ap (λ (z : Shown T). z.dataflow) l
 
 -- what a worker holds where it gave the last of it
-none_left : {T : Type 0} (n k : ℕ) (ts : List T) (held : List (Held T)) → held ≡ [] → filter (λ m. not (is_held_by n k m)) (holding n k ts ++ held) ≡ []
-none_left n k [] held e = ap (filter (λ m. not (is_held_by n k m))) e
-none_left n k (t ∷ ts) held e =
-    ap (λ b. cond (not b) (record { node = n; worker = k; time = t } ∷ filter (λ m. not (is_held_by n k m)) (holding n k ts ++ held)) (filter (λ m. not (is_held_by n k m)) (holding n k ts ++ held)))
+none_held_on : {T : Type 0} (n k : ℕ) (ts : List T) → filter (λ m. not (is_held_by n k m)) (holding n k ts) ≡ []
+none_held_on n k [] = refl
+none_held_on n k (t ∷ ts) =
+    ap (λ b. cond (not b) (record { node = n; worker = k; time = t } ∷ filter (λ m. not (is_held_by n k m)) (holding n k ts)) (filter (λ m. not (is_held_by n k m)) (holding n k ts)))
     (and_from (eqb n n) (eqb k k) (eq-eqb n n refl) (eq-eqb k k refl))
-    ∙ none_left n k ts held e
+    ∙ none_held_on n k ts
+
+none_left : {T : Type 0} (n k : ℕ) (ts : List T) (held : List (Held T)) → held ≡ [] → filter (λ m. not (is_held_by n k m)) (held ++ holding n k ts) ≡ []
+none_left n k ts held e = ap (λ ms. filter (λ m. not (is_held_by n k m)) (ms ++ holding n k ts)) e ∙ none_held_on n k ts
 
 -- an empty hand
 emptied : (hand : List (Option ℕ)) (k : ℕ) (x : Option ℕ) → k ≡ 0 → get_or (set (set hand k x) k None) 0 None ≡ None
@@ -130,16 +133,22 @@ quiet below minimum b idle none h s = record {
 
 -- After a piece
 
-module _ {T : Type 0} (below : T → T → Bool) (o : PartialOrderLaws below) (minimum : T) (b : Shown T) (q : IsDataflow b.dataflow) (idle : IsIdle b) (site : Place) (us : List (Update T))
-    (worker : site.worker ≡ 0) (due : are_due b.dataflow site.node b.in_flight ≡ true) (waits : slice_get (queue site b.in_flight) 0 ≡ Some us) where
+module _ {T : Type 0} (below : T → T → Bool) (o : PartialOrderLaws below) (minimum : T) (b : Shown T) (q : IsDataflow b.dataflow) (idle : IsIdle b) (bundle : Bundle T)
+    (worker : bundle.place.worker ≡ 0) (due : are_due b.dataflow bundle.place.node b.in_flight ≡ true) (waits : slice_get (queue bundle.place b.in_flight) 0 ≡ Some bundle) where
+  abbrev site : Place
+  site = bundle.place
+
+  abbrev us : List (Update T)
+  us = bundle.updates
+
   abbrev p : Dataflow
   p = b.dataflow
 
   abbrev emission : Emission T
   emission = record { node = site.node; worker = site.worker; updates = applied (node_of p site.node) us }
 
-  piece : IsDue p site.node (record { place = site; updates = us })
-  piece = waiting_due p site.node site us b.in_flight due waits
+  piece : IsDue p site.node bundle
+  piece = waiting_due p site.node site bundle b.in_flight due waits
 
   pub within : site.node < length p.nodes
   within = piece.within
@@ -153,13 +162,13 @@ module _ {T : Type 0} (below : T → T → Bool) (o : PartialOrderLaws below) (m
   pub linear : IsTrue (is_linear (node_of p site.node))
   linear = idle.linear site.node piece.within
 
-  pub gives : (h : List (Event T)) → Stands below minimum b h → Stands below minimum (taken below site 0 us b) (Take site 0 us ∷ h) → (sent : List (Bundle T)) → IsCut p emission sent
-      → IsGive below p (world below minimum p (Take site 0 us ∷ h)) emission [] sent
-  gives h s after sent cut = may_give below o minimum p q h s.legal (none_held (world below minimum p h).held (λ n k. sym (s.held n k) ∙ ap (held_at n k) idle.held)) site us after.legal.0 linear piece.port sent cut.whole cut.filled
+  pub gives : (h : List (Event T)) → Stands below minimum b h → Stands below minimum (taken 0 bundle b) (Take 0 bundle ∷ h) → (sent : List (Bundle T)) → IsCut below p emission sent
+      → IsGive below p (world below minimum p (Take 0 bundle ∷ h)) emission [] sent
+  gives h s after sent cut = may_give below o minimum p q h s.legal (none_held (world below minimum p h).held (λ n k. sym (s.held n k) ∙ ap (held_at n k) idle.held)) bundle after.legal.0 linear piece.port sent cut
 
-  module _ (sent : List (Bundle T)) (cut : IsCut p emission sent) where
+  module _ (sent : List (Bundle T)) (cut : IsCut below p emission sent) where
     abbrev done : Shown T
-    done = given emission [] sent (taken below site 0 us b)
+    done = given emission [] sent (taken 0 bundle b)
 
     later_due : are_due p (suc site.node) sent ≡ true
     later_due = sent_due p q idle.alone emission (let a = idle.alone in omega (arith, worker, a)) (widened p q site us piece.port piece.wide linear) (small_applied (node_of p site.node) us piece.small) sent cut.whole cut.filled
@@ -168,7 +177,7 @@ module _ {T : Type 0} (below : T → T → Bool) (o : PartialOrderLaws below) (m
     piece_idle = record {
       alone = idle.alone;
       linear = idle.linear;
-      held = none_left site.node site.worker (stamp below us) b.held idle.held;
+      held = none_left site.node site.worker bundle.stamp b.held idle.held;
       hand = emptied b.hand site.worker (Some site.node) worker;
     }
 
@@ -176,7 +185,31 @@ module _ {T : Type 0} (below : T → T → Bool) (o : PartialOrderLaws below) (m
     done_due = piece_due p site b.in_flight sent due later_due
 
     pub done_fewer : suc (waits_at site.node done.in_flight) ≡ waits_at site.node b.in_flight
-    done_fewer = ap suc (no_more_wait p site.node (without site b.in_flight 0) sent later_due) ∙ one_less site us b.in_flight waits
+    done_fewer = ap suc (no_more_wait p site.node (without site b.in_flight 0) sent later_due) ∙ one_less site bundle b.in_flight waits
+
+-- The same, where the place is known by another name
+module _ {T : Type 0} (below : T → T → Bool) (o : PartialOrderLaws below) (minimum : T) (b : Shown T) (q : IsDataflow b.dataflow) (idle : IsIdle b) (site : Place)
+    (worker : site.worker ≡ 0) (due : are_due b.dataflow site.node b.in_flight ≡ true) (bundle : Bundle T) (there : bundle.place ≡ site) (waits : slice_get (queue site b.in_flight) 0 ≡ Some bundle) where
+  worker_there : bundle.place.worker ≡ 0
+  worker_there = ap (λ (z : Place). z.worker) there ∙ worker
+
+  due_there : are_due b.dataflow bundle.place.node b.in_flight ≡ true
+  due_there = ap (λ (z : Place). are_due b.dataflow z.node b.in_flight) there ∙ due
+
+  waits_there : slice_get (queue bundle.place b.in_flight) 0 ≡ Some bundle
+  waits_there = ap (λ (z : Place). slice_get (queue z b.in_flight) 0) there ∙ waits
+
+  pub within_there : bundle.place.node < length b.dataflow.nodes
+  within_there = within below o minimum b q idle bundle worker_there due_there waits_there
+
+  pub linear_there : IsTrue (is_linear (node_of b.dataflow bundle.place.node))
+  linear_there = linear below o minimum b q idle bundle worker_there due_there waits_there
+
+  pub takes_there : IsTrue (takes_rows (node_of b.dataflow bundle.place.node) bundle.updates)
+  takes_there = takes below o minimum b q idle bundle worker_there due_there waits_there
+
+  pub fits_there : Overflows (node_of b.dataflow bundle.place.node) bundle.updates → ⊥
+  fits_there = fits below o minimum b q idle bundle worker_there due_there waits_there
 
 -- Where a worker took a bundle and applied the node to it, and where it then gave what came out
 
@@ -184,44 +217,54 @@ module _ {T : Type 0} (below : T → T → Bool) (o : PartialOrderLaws below) (m
     (worker : site.worker ≡ 0) (due : are_due b.dataflow site.node b.in_flight ≡ true) where
   -- what it computed
   abbrev IsComputed : Shown T → Emission T → Type 0
-  IsComputed c e = (us : List (Update T)) × (slice_get (queue site b.in_flight) 0 ≡ Some us) × (c ≡ taken below site 0 us b)
-      × (e ≡ record { node = site.node; worker = site.worker; updates = applied (node_of b.dataflow site.node) us })
+  IsComputed c e = (bundle : Bundle T) × (slice_get (queue site b.in_flight) 0 ≡ Some bundle) × (bundle.place ≡ site) × (c ≡ taken 0 bundle b)
+      × (e ≡ record { node = bundle.place.node; worker = bundle.place.worker; updates = applied (node_of b.dataflow bundle.place.node) bundle.updates })
+
+  -- what is known of the place, of the bundle's own
+  own_worker : (c : Shown T) (e : Emission T) → (x : IsComputed c e) → x.0.place.worker ≡ 0
+  own_worker c e x = ap (λ (z : Place). z.worker) x.2 ∙ worker
+
+  own_due : (c : Shown T) (e : Emission T) → (x : IsComputed c e) → are_due b.dataflow x.0.place.node b.in_flight ≡ true
+  own_due c e x = ap (λ (z : Place). are_due b.dataflow z.node b.in_flight) x.2 ∙ due
+
+  own_waits : (c : Shown T) (e : Emission T) → (x : IsComputed c e) → slice_get (queue x.0.place b.in_flight) 0 ≡ Some x.0
+  own_waits c e x = ap (λ (z : Place). slice_get (queue z b.in_flight) 0) x.2 ∙ x.1
 
   -- and what it gave
   abbrev IsHandedOn : Shown T → Emission T → Shown T → Type 0
-  IsHandedOn c e d = (sent : List (Bundle T)) × IsCut c.dataflow e sent × (d ≡ given e [] sent c)
+  IsHandedOn c e d = (sent : List (Bundle T)) × IsCut below c.dataflow e sent × (d ≡ given e [] sent c)
 
   pub computed_within : (c : Shown T) (e : Emission T) → IsComputed c e → e.node < length c.dataflow.nodes
   computed_within c e x =
-      subst (λ (z : Shown T). e.node < length z.dataflow.nodes) (sym x.2)
-      (subst (λ (z : Emission T). z.node < length b.dataflow.nodes) (sym x.3) (within below o minimum b q idle site x.0 worker due x.1))
+      subst (λ (z : Shown T). e.node < length z.dataflow.nodes) (sym x.3)
+      (subst (λ (z : Emission T). z.node < length b.dataflow.nodes) (sym x.4) (within below o minimum b q idle x.0 (own_worker c e x) (own_due c e x) (own_waits c e x)))
 
   pub computed_goes : (c d : Shown T) (e : Emission T) → IsComputed c e → GoesOn below minimum b c → ((h : List (Event T)) → Stands below minimum b h → Stands below minimum c (c.last ∷ h))
-      → ((h : List (Event T)) → Stands below minimum c h → ((sent : List (Bundle T)) → IsCut c.dataflow e sent → IsGive below c.dataflow (world below minimum c.dataflow h) e [] sent) → GoesOnFrom below minimum h c d)
+      → ((h : List (Event T)) → Stands below minimum c h → ((sent : List (Bundle T)) → IsCut below c.dataflow e sent → IsGive below c.dataflow (world below minimum c.dataflow h) e [] sent) → GoesOnFrom below minimum h c d)
       → GoesOn below minimum b d
   computed_goes c d e x goes stands gave h s =
       let after = stands h s in
-      goes_further below minimum h b c d (c.last ∷ [], after, same_taken below minimum b c site x.0 x.2 h) (gave (c.last ∷ h) after (given_now after))
+      goes_further below minimum h b c d (c.last ∷ [], after, same_taken below minimum b c x.0 x.3 h) (gave (c.last ∷ h) after (given_now after))
     where
-      given_now : Stands below minimum c (c.last ∷ h) → (sent : List (Bundle T)) → IsCut c.dataflow e sent → IsGive below c.dataflow (world below minimum c.dataflow (c.last ∷ h)) e [] sent
+      given_now : Stands below minimum c (c.last ∷ h) → (sent : List (Bundle T)) → IsCut below c.dataflow e sent → IsGive below c.dataflow (world below minimum c.dataflow (c.last ∷ h)) e [] sent
       given_now after =
-          subst (λ (z : Shown T). Stands below minimum z (z.last ∷ h) → (sent : List (Bundle T)) → IsCut z.dataflow e sent → IsGive below z.dataflow (world below minimum z.dataflow (z.last ∷ h)) e [] sent) (sym x.2)
-          (subst (λ (y : Emission T). Stands below minimum (taken below site 0 x.0 b) (Take site 0 x.0 ∷ h) → (sent : List (Bundle T)) → IsCut b.dataflow y sent → IsGive below b.dataflow (world below minimum b.dataflow (Take site 0 x.0 ∷ h)) y [] sent) (sym x.3)
-          (gives below o minimum b q idle site x.0 worker due x.1 h s)) after
+          subst (λ (z : Shown T). Stands below minimum z (z.last ∷ h) → (sent : List (Bundle T)) → IsCut below z.dataflow e sent → IsGive below z.dataflow (world below minimum z.dataflow (z.last ∷ h)) e [] sent) (sym x.3)
+          (subst (λ (y : Emission T). Stands below minimum (taken 0 x.0 b) (Take 0 x.0 ∷ h) → (sent : List (Bundle T)) → IsCut below b.dataflow y sent → IsGive below b.dataflow (world below minimum b.dataflow (Take 0 x.0 ∷ h)) y [] sent) (sym x.4)
+          (gives below o minimum b q idle x.0 (own_worker c e x) (own_due c e x) (own_waits c e x) h s)) after
 
   -- the board after it
   after_both : (c d : Shown T) (e : Emission T) → (x : IsComputed c e) → (y : IsHandedOn c e d) → (P : Shown T → Type 0)
-      → ((sent : List (Bundle T)) → IsCut b.dataflow (emission below o minimum b q idle site x.0 worker due x.1) sent → P (given (emission below o minimum b q idle site x.0 worker due x.1) [] sent (taken below site 0 x.0 b))) → P d
+      → ((sent : List (Bundle T)) → IsCut below b.dataflow (emission below o minimum b q idle x.0 (own_worker c e x) (own_due c e x) (own_waits c e x)) sent → P (given (emission below o minimum b q idle x.0 (own_worker c e x) (own_due c e x) (own_waits c e x)) [] sent (taken 0 x.0 b))) → P d
   after_both c d e x y P f =
       subst P (sym y.2)
-      (subst (λ (z : Shown T). IsCut z.dataflow e y.0 → P (given e [] y.0 z)) (sym x.2)
-      (subst (λ (g : Emission T). IsCut b.dataflow g y.0 → P (given g [] y.0 (taken below site 0 x.0 b))) (sym x.3) (f y.0)) y.1)
+      (subst (λ (z : Shown T). IsCut below z.dataflow e y.0 → P (given e [] y.0 z)) (sym x.3)
+      (subst (λ (g : Emission T). IsCut below b.dataflow g y.0 → P (given g [] y.0 (taken 0 x.0 b))) (sym x.4) (f y.0)) y.1)
 
   pub both_idle : (c d : Shown T) (e : Emission T) → IsComputed c e → IsHandedOn c e d → IsIdle d
-  both_idle c d e x y = after_both c d e x y IsIdle (piece_idle below o minimum b q idle site x.0 worker due x.1)
+  both_idle c d e x y = after_both c d e x y IsIdle (piece_idle below o minimum b q idle x.0 (own_worker c e x) (own_due c e x) (own_waits c e x))
 
   pub both_due : (c d : Shown T) (e : Emission T) → IsComputed c e → IsHandedOn c e d → are_due d.dataflow site.node d.in_flight ≡ true
-  both_due c d e x y = after_both c d e x y (λ z. are_due z.dataflow site.node z.in_flight ≡ true) (done_due below o minimum b q idle site x.0 worker due x.1)
+  both_due c d e x y = subst (λ (z : Place). are_due d.dataflow z.node d.in_flight ≡ true) x.2 (after_both c d e x y (λ z. are_due z.dataflow x.0.place.node z.in_flight ≡ true) (done_due below o minimum b q idle x.0 (own_worker c e x) (own_due c e x) (own_waits c e x)))
 
   pub both_fewer : (c d : Shown T) (e : Emission T) → IsComputed c e → IsHandedOn c e d → suc (waits_at site.node d.in_flight) ≡ waits_at site.node b.in_flight
-  both_fewer c d e x y = after_both c d e x y (λ z. suc (waits_at site.node z.in_flight) ≡ waits_at site.node b.in_flight) (done_fewer below o minimum b q idle site x.0 worker due x.1)
+  both_fewer c d e x y = subst (λ (z : Place). suc (waits_at z.node d.in_flight) ≡ waits_at z.node b.in_flight) x.2 (after_both c d e x y (λ z. suc (waits_at x.0.place.node z.in_flight) ≡ waits_at x.0.place.node b.in_flight) (done_fewer below o minimum b q idle x.0 (own_worker c e x) (own_due c e x) (own_waits c e x)))

@@ -1,6 +1,7 @@
 -- One worker that carries bundles through a plan of linear nodes: what it finds on the board, and what it leaves.
 use Rattle.std.specs.Prelude.{◌≡◌, ℕ, ◌<◌, Bool, ◌&&◌, eqb, nat_le, nat_lt, not, List, [], ◌++◌, length, None, get_or, unwrap_or, unsigned_abs, IsTrue}
 use Rattle.std.specs.List.{filter, list_all}
+use Rattle.lattice.specs.Frontiers.{all_beyond}
 use Rattle.plan.specs.Operators.{is_linear}
 use Rattle.plan.specs.Widths.{width_of}
 use Rattle.linear.specs.Ports.{is_port}
@@ -11,7 +12,7 @@ use Rattle.machine.specs.declared.event.Bundle.{Bundle}
 use Rattle.machine.specs.declared.event.Emission.{Emission}
 use Rattle.machine.specs.declared.event.Event.{Event}
 use Rattle.machine.specs.Dataflows.{Dataflow, node_of, source_of}
-use Rattle.machine.specs.Worlds.{updates_at}
+use Rattle.machine.specs.Worlds.{times, updates_at}
 use Rattle.machine.specs.Shares.{share}
 use Rattle.machine.specs.Histories.{world}
 use Rattle.machine.specs.Actors.{IsSameOfClients}
@@ -46,10 +47,14 @@ module _ {T : Type 0} where
     pub held : b.held ≡ []
     pub hand : get_or b.hand 0 None ≡ None
 
-  -- what was given is sent whole, in bundles none of which is empty
+module _ {T : Type 0} (below : T → T → Bool) where
+  -- what was given is sent whole, in bundles none of which is empty, and with stamps that are beyond whatever is held, where
+  -- what was given is
   pub record IsCut (p : Dataflow) (g : Emission T) (sent : List (Bundle T)) : Type 0 where
     pub whole : (site : Place) → updates_at site sent ≡ share p site g
     pub filled : IsTrue (list_all (λ b. not (eqb (length b.updates) 0)) sent)
+    pub stamped : (held : List T) → IsTrue (all_beyond below held (times g.updates))
+        → IsTrue (list_all (λ b. all_beyond below held b.stamp && all_beyond below b.stamp (times b.updates)) sent)
 
 module _ {T : Type 0} (below : T → T → Bool) (minimum : T) where
   -- where the one board stands for this history, the other stands for it with later events, none of them of a client

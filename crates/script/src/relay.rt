@@ -18,7 +18,7 @@ ghost use Rattle.machine.specs.Boards.{Stands, taken, given};
 ghost use Rattle.script.specs.Relays.{are_due, waits_at, IsIdle, IsCut, GoesOnFrom, GoesOn};
 
 use lattice::Minimum;
-use machine::{Board, Emission, Place};
+use machine::{Board, Bundle, Emission, Place};
 use plan::NodeId;
 use std::alloc::Global;
 use update::Refusal;
@@ -87,17 +87,18 @@ fn compute<T: Minimum>(board: &mut Board<T>, place: Place) -> Result<Emission<T>
     requires due { IsTrue (are_due board.old.dataflow place.node board.old.in_flight) }
     requires worker { place.worker ≡ 0 }
     requires waits { 0 < length (queue place board.old.in_flight) }
-    ensures taken { IfOk result (λ emission. (us : List (Update T)) × (slice_get (queue place board.old.in_flight) 0 ≡ Some us) × (board.new ≡ taken T.below place 0 us board.old)
-        × (emission ≡ record { node = place.node; worker = place.worker; updates = applied (node_of board.old.dataflow place.node) us })) }
+    ensures taken { IfOk result (λ emission. (bundle : Bundle T) × (slice_get (queue place board.old.in_flight) 0 ≡ Some bundle) × (bundle.place ≡ place) × (board.new ≡ taken 0 bundle board.old)
+        × (emission ≡ record { node = bundle.place.node; worker = bundle.place.worker; updates = applied (node_of board.old.dataflow bundle.place.node) bundle.updates })) }
     ensures dataflow { board.new.dataflow ≡ board.old.dataflow }
     ensures stands { (h : List (Event T)) → Stands T.below T.least board.old h → OnOk result (Stands T.below T.least board.new (board.new.last ∷ h)) }
     ensures goes_on { GoesOn T.below T.least board.old board.new }
     ensures refused { IfErr result (λ refusal. refusal ≡ OutOfMemory) }
 {
     let _workers = board.workers();
-    let updates = board.take(place, 0)?.into_vec();
+    let bundle = board.take(place, 0)?;
+    let Bundle { place, updates, .. } = bundle;
     // No difference is too large to be negated, so this is not refused.
-    let updates = linear::apply(board.plan().node(place.node), updates).unwrap();
+    let updates = linear::apply(board.plan().node(place.node), updates.into_vec()).unwrap();
     Ok(Emission {
         node: place.node,
         worker: place.worker,
@@ -113,9 +114,9 @@ fn hand_on<T: Minimum>(
 ) -> Result<(), Refusal>
     requires worker { emission.worker < board.old.dataflow.workers }
     requires within { emission.node < length board.old.dataflow.nodes }
-    ensures given { OnOk result ((sent : List (Bundle T)) × IsCut board.old.dataflow emission sent × (board.new ≡ given emission [] sent board.old)) }
+    ensures given { OnOk result ((sent : List (Bundle T)) × IsCut T.below board.old.dataflow emission sent × (board.new ≡ given emission [] sent board.old)) }
     ensures goes_on { (h : List (Event T)) → Stands T.below T.least board.old h
-        → ((sent : List (Bundle T)) → IsCut board.old.dataflow emission sent → IsGive T.below board.old.dataflow (world T.below T.least board.old.dataflow h) emission [] sent)
+        → ((sent : List (Bundle T)) → IsCut T.below board.old.dataflow emission sent → IsGive T.below board.old.dataflow (world T.below T.least board.old.dataflow h) emission [] sent)
         → GoesOnFrom T.below T.least h board.old board.new }
     ensures dataflow { board.new.dataflow ≡ board.old.dataflow }
     ensures refused { IfErr result (λ refusal. refusal ≡ OutOfMemory) }
