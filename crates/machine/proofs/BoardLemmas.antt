@@ -41,7 +41,7 @@ use Rattle.plan.specs.Rules.{is_output}
 use Rattle.machine.specs.declared.event.Bundle.{Bundle}
 use Rattle.machine.specs.declared.event.Emission.{Emission}
 use Rattle.machine.specs.declared.event.Event.TheVariants.{Give}
-use Rattle.machine.specs.declared.view.View.{View}
+use Rattle.machine.specs.Views.{ViewState}
 use Rattle.machine.specs.Worlds.{emitted_at}
 use Rattle.machine.specs.Histories.{is_held_by, IsGive}
 use Rattle.machine.specs.Boards.{capturing, given, is_from_start}
@@ -262,7 +262,7 @@ module _ {T : Type 0} (below : T → T → Bool) (minimum : T) where
       w : World T
       w = world below minimum b.dataflow h
 
-      viewed : View T
+      viewed : ViewState T
       viewed = capturing (get_or b.views g.node no_view) g.updates
 
       long : g.node < length b.views

@@ -6,12 +6,12 @@ use Rattle.machine.specs.declared.event.Bundle.{Bundle}
 use Rattle.machine.specs.declared.event.Held.{Held}
 use Rattle.machine.specs.declared.event.Event.{Event}
 use Rattle.machine.specs.declared.event.Event.TheVariants.{Look}
-use Rattle.machine.specs.declared.view.View.{View}
+use Rattle.machine.specs.Views.{ViewState}
 use Rattle.machine.specs.Dataflows.{Dataflow, IsDataflow}
 use Rattle.machine.specs.Inputs.{first_inputs}
 use Rattle.machine.specs.Boards.{IsBoard, first_board}
 
-module _ {T : Type 0} (least : T) (p : Dataflow) (last : Event T) (look : last ≡ Look 0) (in_flight : List (Bundle T)) (held : List (Held T)) (inputs : List (List T)) (hand : List (Option ℕ)) (accepted : List ℕ) (views : List (View T))
+module _ {T : Type 0} (least : T) (p : Dataflow) (last : Event T) (look : last ≡ Look 0) (in_flight : List (Bundle T)) (held : List (Held T)) (inputs : List (List T)) (hand : List (Option ℕ)) (accepted : List ℕ) (views : List (ViewState T))
     (n m : ℕ) (a : in_flight ≡ []) (b : held ≡ []) (c : inputs ≡ first_inputs least p.nodes)
     (f : hand ≡ replicate p.workers None) (g : accepted ≡ replicate n 0) (h : n ≡ length p.nodes)
     (i : views ≡ replicate m (record { since = least ∷ []; captured = [] })) (k : m ≡ length p.nodes) where

@@ -117,6 +117,30 @@ module _ {T : Type 0} (below : T → T → Bool) (o : PartialOrderLaws below) wh
       → ((t : T) → is_beyond below found t ≡ is_beyond below all t) → (t : T) → is_beyond below found t ≡ is_beyond below (front below b n) t
   beyond_found b n all found e same t = same t ∙ (ap (λ ts. is_beyond below ts t) (collected b n all e) ∙ sym (least_beyond o (outstanding b.dataflow (on_board b) n) t))
 
+  -- the same without what is held at the node itself
+  pub input_collected : (b : Shown T) {v : Shown T} → v ≡ b → (n : ℕ) (none flight some all : List T) (bundles : List (Bundle T)) (held : List (Held T))
+      → none ≡ [] → bundles ≡ v.in_flight → held ≡ v.held
+      → flight ≡ none ++ stamps (λ site. above v.dataflow n site.node) bundles → some ≡ flight ++ held_where (strictly_above v.dataflow n) held
+      → all ≡ some ++ flat_map (λ i. cond (above v.dataflow n i) (front_at i v.inputs) []) (numbers_below (length v.dataflow.nodes))
+      → all ≡ (stamps (λ site. above b.dataflow n site.node) b.in_flight ++ held_where (strictly_above b.dataflow n) b.held) ++ open_where (above b.dataflow n) (open_on b)
+  input_collected b {v} e n none flight some all bundles held x y z f s a =
+      a
+      ∙ (ap (λ ts. ts ++ flat_map (λ i. cond (above v.dataflow n i) (front_at i v.inputs) []) (numbers_below (length v.dataflow.nodes)))
+          (s ∙ ap₂ (λ ts ms. ts ++ held_where (strictly_above v.dataflow n) ms) (f ∙ ap₂ (λ ts qs. ts ++ stamps (λ site. above v.dataflow n site.node) qs) x y) z)
+      ∙ (ap (λ ts. (stamps (λ site. above v.dataflow n site.node) v.in_flight ++ held_where (strictly_above v.dataflow n) v.held) ++ ts) (sym (where_spread (above v.dataflow n) (λ i. front_at i v.inputs) (length v.dataflow.nodes)))
+      ∙ ap (λ (w : Shown T). (stamps (λ site. above w.dataflow n site.node) w.in_flight ++ held_where (strictly_above w.dataflow n) w.held) ++ open_where (above w.dataflow n) (open_on w)) e))
+
+  input_all : (b : Shown T) (n : ℕ) (all : List T) → all ≡ (stamps (λ site. above b.dataflow n site.node) b.in_flight ++ held_where (strictly_above b.dataflow n) b.held) ++ open_where (above b.dataflow n) (open_on b) → all ≡ counted (on_board b) (above b.dataflow n) (strictly_above b.dataflow n)
+  input_all b n all e = e ∙ append_assoc (stamps (λ site. above b.dataflow n site.node) b.in_flight) (held_where (strictly_above b.dataflow n) b.held) (open_where (above b.dataflow n) (open_on b))
+
+  pub input_front_found : (b : Shown T) (n : ℕ) (all found : List T) → all ≡ (stamps (λ site. above b.dataflow n site.node) b.in_flight ++ held_where (strictly_above b.dataflow n) b.held) ++ open_where (above b.dataflow n) (open_on b)
+      → SameElements found (least below all) → SameElements found (input_front below b n)
+  input_front_found b n all found e same = subst (λ ts. SameElements found (least below ts)) (input_all b n all e) same
+
+  pub input_beyond_found : (b : Shown T) (n : ℕ) (all found : List T) → all ≡ (stamps (λ site. above b.dataflow n site.node) b.in_flight ++ held_where (strictly_above b.dataflow n) b.held) ++ open_where (above b.dataflow n) (open_on b)
+      → ((t : T) → is_beyond below found t ≡ is_beyond below all t) → (t : T) → is_beyond below found t ≡ is_beyond below (input_front below b n) t
+  input_beyond_found b n all found e same t = same t ∙ (ap (λ ts. is_beyond below ts t) (input_all b n all e) ∙ sym (least_beyond o (counted (on_board b) (above b.dataflow n) (strictly_above b.dataflow n)) t))
+
 -- what holds of an answer holds of what follows from it
 pub on_ok : {A E : Type 0} (r : Result A E) (P Q : A → Type 0) → ((x : A) → P x → Q x) → IfOk r P → IfOk r Q
 on_ok (Ok x) P Q f p = f x p
@@ -139,6 +163,19 @@ module _ {T : Type 0} (below : T → T → Bool) (o : PartialOrderLaws below) (m
 
   pub input_front_stands : (b : Shown T) → IsBoard b → (h : List (Event T)) → Stands below minimum b h → (n : ℕ) (t : T) → is_beyond below (input_front below b n) t ≡ is_beyond below (input_frontier below b.dataflow (world below minimum b.dataflow h) n) t
   input_front_stands b board h s n t = counted_like below o (on_board b) (world below minimum b.dataflow h) (above b.dataflow n) (strictly_above b.dataflow n) s.queues s.held (opened b board h s) t
+
+  pub input_front_elements : (b : Shown T) → IsBoard b → (h : List (Event T)) → Stands below minimum b h → (n : ℕ) → SameElements (input_front below b n) (input_frontier below b.dataflow (world below minimum b.dataflow h) n)
+  input_front_elements b board h s n =
+      let found = counted (on_board b) (above b.dataflow n) (strictly_above b.dataflow n) in
+      let left = counted (world below minimum b.dataflow h) (above b.dataflow n) (strictly_above b.dataflow n) in
+      least_same below o found left (λ t. sym (least_beyond o found t) ∙ (input_front_stands b board h s n t ∙ least_beyond o left t))
+
+  -- what a worker holds and may turn to is the same
+  pub ready_stands : (b : Shown T) → IsBoard b → (h : List (Event T)) → Stands below minimum b h → (k n : ℕ)
+      → is_ready below b k n ≡ list_any (has_passed below (input_frontier below b.dataflow (world below minimum b.dataflow h) n)) (held_at n k (world below minimum b.dataflow h).held)
+  ready_stands b board h s k n =
+      ap (λ (test : T → Bool). list_any test (held_at n k b.held)) (λ i t. not (input_front_stands b board h s n t i))
+      ∙ ap (λ ts. list_any (has_passed below (input_frontier below b.dataflow (world below minimum b.dataflow h) n)) ts) (s.held n k)
 
   is_empty : {A : Type 0} (xs : List A) → is_none xs ≡ true → xs ≡ []
   is_empty [] e = refl

@@ -8,7 +8,8 @@ use Rattle.plan.specs.Rules.{is_output}
 use Rattle.plan.specs.declared.node.Node.{Node}
 use Rattle.machine.specs.declared.event.Bundle.{Bundle}
 use Rattle.machine.specs.declared.event.Held.{Held}
-use Rattle.machine.specs.declared.view.View.{View}
+use Rattle.machine.specs.declared.event.Open.{Open}
+use Rattle.machine.specs.Views.{ViewState}
 use Rattle.machine.specs.Dataflows.{node_of}
 use Rattle.machine.specs.Boards.{Shown, captured_at, capturing, no_view}
 
@@ -19,7 +20,7 @@ put_there (Err x) new old more o e = absurd (false≢true o)
 
 module _ {T : Type 0} (b : Shown T) {v : Shown T} (e : v ≡ b) (n k : ℕ) where
   -- all that was given is there
-  pub all_given : (flight more : List (Bundle T)) (times mine held : List (Held T)) (p : Held T → Bool) (views seen : List (View T)) (us : List (Update T)) (node : Node) (is_view : Bool) (worker : ℕ)
+  pub all_given : (flight more : List (Bundle T)) (times mine held : List (Held T)) (p : Held T → Bool) (views seen : List (ViewState T)) (us : List (Update T)) (node : Node) (is_view : Bool) (worker : ℕ)
       → flight ≡ v.in_flight ++ more → times ≡ mine ++ filter p held → held ≡ v.held
       → views ≡ cond is_view (set seen n (capturing (get_or seen n no_view) us)) seen → seen ≡ v.views → is_view ≡ is_output node → node ≡ node_of v.dataflow n → worker ≡ k
       → record v { in_flight = flight; held = times; hand = set v.hand worker None; views = views } ≡ record b { in_flight = b.in_flight ++ more; held = mine ++ filter p b.held; hand = set b.hand k None; views = captured_at b.dataflow n us b.views }

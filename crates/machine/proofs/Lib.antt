@@ -32,3 +32,4 @@ pub mod WaitingLemmas
 pub mod ActorLemmas
 pub mod ExampleLemmas
 pub mod WitnessLemmas
+pub mod ViewLemmas

@@ -51,7 +51,7 @@ module _ {T : Type 0} (below : T → T → Bool) (o : PartialOrderLaws below) wh
       step false g true h = list_any-append (λ f. below f s) (filter (λ f. not (below t f)) F) (t ∷ []) ∙ (ap (λ b. is_beyond below (filter (λ f. not (below t f)) F) s || (b || false)) h ∙ (all_true (is_beyond below (filter (λ f. not (below t f)) F) s) ∙ sym (all_true (is_beyond below F s))))
       step false g false h = list_any-append (λ f. below f s) (filter (λ f. not (below t f)) F) (t ∷ []) ∙ ap₂ (λ x y. x || y) (beyond_left t s h F) (or_false (below t s) ∙ h)
 
-  with_times_beyond : (F ts : List T) (s : T) → is_beyond below (with_times below F ts) s ≡ (is_beyond below F s || is_beyond below ts s)
+  pub with_times_beyond : (F ts : List T) (s : T) → is_beyond below (with_times below F ts) s ≡ (is_beyond below F s || is_beyond below ts s)
   with_times_beyond F [] s = sym (or_false (is_beyond below F s))
   with_times_beyond F (t ∷ ts) s =
       with_times_beyond (with_time below F t) ts s

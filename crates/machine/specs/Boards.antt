@@ -21,11 +21,11 @@ use Rattle.machine.specs.declared.event.Held.{Held}
 use Rattle.machine.specs.declared.event.Open.{Open}
 use Rattle.machine.specs.declared.event.Event.{Event}
 use Rattle.machine.specs.declared.event.Event.TheVariants.{Feed, Advance, Look, Take, TakeHeld, Give}
-use Rattle.machine.specs.declared.view.View.{View}
+use Rattle.machine.specs.Views.{ViewState}
 use Rattle.machine.specs.Dataflows.{Dataflow, node_of}
-use Rattle.machine.specs.Worlds.{same_place, queue, held_at, emitted_at, fed_to, open_at}
+use Rattle.machine.specs.Worlds.{World, same_place, queue, held_at, emitted_at, fed_to, open_at}
 use Rattle.machine.specs.Inputs.{front_at, first_inputs, feed_faults, advance_faults}
-use Rattle.machine.specs.Histories.{alone, without, is_held_by, holding, opening, world, IsLegal}
+use Rattle.machine.specs.Histories.{alone, without, is_held_by, holding, opening, world, dataflow_after, IsLegal}
 
 -- what lies on a board
 pub record Shown (T : Type 0) : Type 0 where
@@ -39,12 +39,12 @@ pub record Shown (T : Type 0) : Type 0 where
   -- by node, how many changes an input accepted
   pub accepted : List ℕ
   -- by node, what a view captured and its since
-  pub views : List (View T)
+  pub views : List (ViewState T)
   -- the last event
   pub last : Event T
 
 module _ {T : Type 0} where
-  abbrev pub no_view : View T
+  abbrev pub no_view : ViewState T
   no_view = record { since = []; captured = [] }
 
   -- what every board keeps: a worker there is, and each list has its places
@@ -92,11 +92,11 @@ module _ {T : Type 0} where
   }
 
   -- what a view captured, and this
-  abbrev pub capturing : View T → List (Update T) → View T
+  abbrev pub capturing : ViewState T → List (Update T) → ViewState T
   capturing view us = record view { captured = view.captured ++ us }
 
   -- the views, where a node gave this: only a view captures it
-  abbrev pub captured_at : Dataflow → ℕ → List (Update T) → List (View T) → List (View T)
+  abbrev pub captured_at : Dataflow → ℕ → List (Update T) → List (ViewState T) → List (ViewState T)
   captured_at p n us views = if is_output (node_of p n) then set views n (capturing (get_or views n no_view) us) else views
 
   -- the board after a worker gave
@@ -130,7 +130,19 @@ module _ {T : Type 0} (below : T → T → Bool) where
   abbrev pub advance_refusal : Shown T → ℕ → List T → Option Refusal
   advance_refusal b i ts = first_refusal (advance_faults below (front_at i b.inputs) ts)
 
+-- the dataflow with which the board was opened: so far it stays as it was
+abbrev pub opened : {T : Type 0} → Shown T → Dataflow
+opened b = b.dataflow
+
+-- the dataflow after a history of the board
+abbrev pub plan_on : {T : Type 0} → Shown T → List (Event T) → Dataflow
+plan_on b h = dataflow_after (opened b) h
+
 module _ {T : Type 0} (below : T → T → Bool) (minimum : T) where
+  -- what a history leaves on the board
+  abbrev pub left_on : Shown T → List (Event T) → World T
+  left_on b h = world below minimum (opened b) h
+
   -- the event was the last one
   abbrev pub IsLast : Shown T → List (Event T) → Type 0
   IsLast b [] = ⊤
@@ -149,13 +161,13 @@ module _ {T : Type 0} (below : T → T → Bool) (minimum : T) where
   -- the board may stand after a history: the history is legal, and what lies on the board is what it leaves at each place,
   -- whatever order the board keeps between places
   pub record Stands (b : Shown T) (h : List (Event T)) : Type 0 where
-    pub legal : IsLegal below minimum b.dataflow h
-    pub queues : (site : Place) → queue site b.in_flight ≡ queue site (world below minimum b.dataflow h).in_flight
-    pub held : (n k : ℕ) → held_at n k b.held ≡ held_at n k (world below minimum b.dataflow h).held
-    pub openings : (i : ℕ) → front_at i b.inputs ≡ open_at i (world below minimum b.dataflow h).openings
-    pub hand : (k : ℕ) → k < b.dataflow.workers → get_or b.hand k None ≡ (world below minimum b.dataflow h).hand k
-    pub accepted : (i : ℕ) → i < length b.dataflow.nodes → get_or b.accepted i 0 ≡ length (fed_to i (world below minimum b.dataflow h).fed)
-    pub since : (v : ℕ) → v < length b.dataflow.nodes → (get_or b.views v no_view).since ≡ (world below minimum b.dataflow h).since v
+    pub legal : IsLegal below minimum (opened b) h
+    pub queues : (site : Place) → queue site b.in_flight ≡ queue site (left_on b h).in_flight
+    pub held : (n k : ℕ) → held_at n k b.held ≡ held_at n k (left_on b h).held
+    pub openings : (i : ℕ) → front_at i b.inputs ≡ open_at i (left_on b h).openings
+    pub hand : (k : ℕ) → k < b.dataflow.workers → get_or b.hand k None ≡ (left_on b h).hand k
+    pub accepted : (i : ℕ) → i < length b.dataflow.nodes → get_or b.accepted i 0 ≡ length (fed_to i (left_on b h).fed)
+    pub since : (v : ℕ) → v < length b.dataflow.nodes → (get_or b.views v no_view).since ≡ (left_on b h).since v
     pub captured : (v : ℕ) → v < length b.dataflow.nodes → IsTrue (is_output (node_of b.dataflow v))
-        → IsKeptOf ((world below minimum b.dataflow h).since v) (get_or b.views v no_view).captured (emitted_at v (world below minimum b.dataflow h).emitted)
+        → IsKeptOf ((left_on b h).since v) (get_or b.views v no_view).captured (emitted_at v (left_on b h).emitted)
     pub last : IsLast b h

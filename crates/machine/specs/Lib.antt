@@ -12,6 +12,7 @@ pub mod Histories
 pub mod Promises
 pub mod Readings
 pub mod Inputs
+pub mod Views
 pub mod Boards
 pub mod Reads
 pub mod Cuts

@@ -22,7 +22,7 @@ use update::Refusal;
 
 /// What lies between clients and workers. A contract sees what lies on it.
 #[derive(Drop)]
-pub struct Board<T> {
+pub struct Board<T: Minimum> {
     pub(crate) plan: Plan,
     pub(crate) workers: usize,
     pub(crate) in_flight: Vec<Bundle<T>>,
@@ -35,7 +35,7 @@ pub struct Board<T> {
     pub(crate) last: Snapshot<Event<T>>,
 }
 
-impl<T> Model for Board<T> {
+impl<T: Minimum> Model for Board<T> {
     ghost use Rattle.machine.specs.Boards.{Shown, IsBoard};
 
     ghost Value = { Shown T };
@@ -167,11 +167,7 @@ fn first_views<T: Minimum>(alloc: Global, nodes: usize) -> Result<Vec<View<T>>, 
     for _node in 0..nodes {
         let mut since = Vec::new(alloc);
         since.push(T::minimum())?;
-        let captured = Vec::new(alloc);
-        views.push(View {
-            since: since.into(),
-            captured: captured.into(),
-        })?;
+        views.push(View::new(alloc, since.into()))?;
     }
     Ok(views)
 }

@@ -8,10 +8,10 @@ ghost use Rattle.update.specs.declared.refusal.Refusal.TheVariants.{OutOfMemory}
 ghost use Rattle.plan.specs.Ancestors.{is_above, numbers_below};
 ghost use Rattle.plan.specs.Changes.{has_passed};
 ghost use Rattle.machine.specs.Worlds.{held_at};
-ghost use Rattle.machine.specs.Outstanding.{stamps, held_where, open_where, outstanding, frontier, input_frontier};
+ghost use Rattle.machine.specs.Outstanding.{stamps, held_where, open_where, outstanding, frontier, input_frontier, strictly_above};
 ghost use Rattle.machine.specs.declared.event.Event.{Event};
 ghost use Rattle.machine.specs.Histories.{world};
-ghost use Rattle.machine.specs.Boards.{Stands};
+ghost use Rattle.machine.specs.Boards.{left_on, plan_on, Stands};
 ghost use Rattle.machine.specs.Boards.{IsBoard};
 ghost use Rattle.machine.specs.Inputs.{front_at};
 ghost use Rattle.machine.specs.Reads.{on_board, open_on, front, input_front, is_ready};
@@ -129,6 +129,33 @@ fn push_held<T: Minimum>(
     Ok(())
 }
 
+// Whether a node is above another one.
+fn is_strictly_above(plan: &Plan, above: NodeId, node: NodeId) -> bool
+    requires { node < length plan.now }
+    ensures { result ≡ (is_above plan.now above node && not (eqb above node)) }
+{
+    plan.is_above(above, node) && above != node
+}
+
+// The times that are held above the node alone, behind.
+fn push_held_above<T: Minimum>(
+    all: &mut Vec<T>,
+    plan: &Plan,
+    held: &[Held<T>],
+    node: NodeId,
+) -> Result<(), Refusal>
+    requires { node < length plan.now }
+    ensures more { OnOk result (all.new.items ≡ all.old.items ++ held_where (λ m. is_above plan.now m node && not (eqb m node)) held.now) }
+    ensures refused { IfErr result (λ refusal. refusal ≡ OutOfMemory) }
+{
+    for hold in held {
+        if is_strictly_above(plan, hold.node, node) {
+            all.push(hold.time)?;
+        }
+    }
+    Ok(())
+}
+
 // The elements of the frontiers of the inputs at the node or above it, behind.
 fn push_open<T: Minimum>(
     all: &mut Vec<T>,
@@ -165,10 +192,20 @@ impl<T: Minimum> Board<T> {
     /// at or before the time. Takes no memory.
     ///
     /// Cost: linear in what is in flight, held and open, times the nodes.
-    pub fn has_passed(&self, node: NodeId, t: &T) -> bool
+    pub fn has_passed(&mut self, node: NodeId, t: &T) -> bool
+        requires { node < length self.old.dataflow.nodes }
+        ensures kept { self.new ≡ self.old }
+        ensures value { result ≡ has_passed T.below (front T.below self.old node) t.now }
+        ensures stands { (h : List (Event T)) → Stands T.below T.least self.old h → result ≡ has_passed T.below (frontier T.below (plan_on self.old h) (left_on T.below T.least self.old h) node) t.now }
+    {
+        self.is_passed(node, t)
+    }
+
+    // The same, for other questions.
+    pub(crate) fn is_passed(&self, node: NodeId, t: &T) -> bool
         requires { node < length self.now.dataflow.nodes }
         ensures value { result ≡ has_passed T.below (front T.below self.now node) t.now }
-        ensures stands { (h : List (Event T)) → Stands T.below T.least self.now h → result ≡ has_passed T.below (frontier T.below self.now.dataflow (world T.below T.least self.now.dataflow h) node) t.now }
+        ensures stands { (h : List (Event T)) → Stands T.below T.least self.now h → result ≡ has_passed T.below (frontier T.below (plan_on self.now h) (left_on T.below T.least self.now h) node) t.now }
     {
         !(self.is_in_flight(node, t) | self.is_held(node, t) | self.is_open(node, t))
     }
@@ -177,10 +214,20 @@ impl<T: Minimum> Board<T> {
     /// memory.
     ///
     /// Cost: linear in what is in flight, held and open, times the nodes.
-    pub fn input_has_passed(&self, node: NodeId, t: &T) -> bool
+    pub fn input_has_passed(&mut self, node: NodeId, t: &T) -> bool
+        requires { node < length self.old.dataflow.nodes }
+        ensures kept { self.new ≡ self.old }
+        ensures value { result ≡ has_passed T.below (input_front T.below self.old node) t.now }
+        ensures stands { (h : List (Event T)) → Stands T.below T.least self.old h → result ≡ has_passed T.below (input_frontier T.below (plan_on self.old h) (left_on T.below T.least self.old h) node) t.now }
+    {
+        self.is_input_passed(node, t)
+    }
+
+    // The same, for other questions.
+    pub(crate) fn is_input_passed(&self, node: NodeId, t: &T) -> bool
         requires { node < length self.now.dataflow.nodes }
         ensures value { result ≡ has_passed T.below (input_front T.below self.now node) t.now }
-        ensures stands { (h : List (Event T)) → Stands T.below T.least self.now h → result ≡ has_passed T.below (input_frontier T.below self.now.dataflow (world T.below T.least self.now.dataflow h) node) t.now }
+        ensures stands { (h : List (Event T)) → Stands T.below T.least self.now h → result ≡ has_passed T.below (input_frontier T.below (plan_on self.now h) (left_on T.below T.least self.now h) node) t.now }
     {
         !(self.is_in_flight(node, t) | self.is_held_above(node, t) | self.is_open(node, t))
     }
@@ -223,14 +270,53 @@ impl<T: Minimum> Board<T> {
     ///
     /// Cost: linear in what is in flight, held and open, times the nodes; each of its times is compared with the elements of
     /// the frontier.
-    pub fn frontier(&self, node: NodeId) -> Result<Antichain<T>, Refusal>
+    pub fn frontier(&mut self, node: NodeId) -> Result<Antichain<T>, Refusal>
+        requires { node < length self.old.dataflow.nodes }
+        ensures kept { self.new ≡ self.old }
+        ensures least { IfOk result (λ frontier. SameElements frontier (front T.below self.old node)) }
+        ensures beyond { IfOk result (λ frontier. (t : T) → is_beyond T.below frontier t ≡ is_beyond T.below (front T.below self.old node) t) }
+        ensures stands { (h : List (Event T)) → Stands T.below T.least self.old h → IfOk result (λ found. SameElements found (frontier T.below (plan_on self.old h) (left_on T.below T.least self.old h) node)) }
+        ensures refused { IfErr result (λ refusal. refusal ≡ OutOfMemory) }
+    {
+        self.front_of(node)
+    }
+
+    // The same, for other questions.
+    pub(crate) fn front_of(&self, node: NodeId) -> Result<Antichain<T>, Refusal>
         requires { node < length self.now.dataflow.nodes }
         ensures least { IfOk result (λ frontier. SameElements frontier (front T.below self.now node)) }
         ensures beyond { IfOk result (λ frontier. (t : T) → is_beyond T.below frontier t ≡ is_beyond T.below (front T.below self.now node) t) }
-        ensures stands { (h : List (Event T)) → Stands T.below T.least self.now h → IfOk result (λ found. SameElements found (frontier T.below self.now.dataflow (world T.below T.least self.now.dataflow h) node)) }
+        ensures stands { (h : List (Event T)) → Stands T.below T.least self.now h → IfOk result (λ found. SameElements found (frontier T.below (plan_on self.now h) (left_on T.below T.least self.now h) node)) }
         ensures refused { IfErr result (λ refusal. refusal ≡ OutOfMemory) }
     {
         let times = self.outstanding(node)?;
+        least_of(*self.held.allocator(), times)
+    }
+
+    /// The input frontier of a node: from which times on something may still come to it. It is the least of the times that
+    /// are in flight or open at the node or above it, or held above it. Refused only with `OutOfMemory`.
+    ///
+    /// Cost: that of [`Board::frontier`].
+    pub fn input_frontier(&mut self, node: NodeId) -> Result<Antichain<T>, Refusal>
+        requires { node < length self.old.dataflow.nodes }
+        ensures kept { self.new ≡ self.old }
+        ensures least { IfOk result (λ frontier. SameElements frontier (input_front T.below self.old node)) }
+        ensures beyond { IfOk result (λ frontier. (t : T) → is_beyond T.below frontier t ≡ is_beyond T.below (input_front T.below self.old node) t) }
+        ensures stands { (h : List (Event T)) → Stands T.below T.least self.old h → IfOk result (λ found. SameElements found (input_frontier T.below (plan_on self.old h) (left_on T.below T.least self.old h) node)) }
+        ensures refused { IfErr result (λ refusal. refusal ≡ OutOfMemory) }
+    {
+        self.input_front_of(node)
+    }
+
+    // The same, where the board is only lent.
+    fn input_front_of(&self, node: NodeId) -> Result<Antichain<T>, Refusal>
+        requires { node < length self.now.dataflow.nodes }
+        ensures least { IfOk result (λ frontier. SameElements frontier (input_front T.below self.now node)) }
+        ensures beyond { IfOk result (λ frontier. (t : T) → is_beyond T.below frontier t ≡ is_beyond T.below (input_front T.below self.now node) t) }
+        ensures stands { (h : List (Event T)) → Stands T.below T.least self.now h → IfOk result (λ found. SameElements found (input_frontier T.below (plan_on self.now h) (left_on T.below T.least self.now h) node)) }
+        ensures refused { IfErr result (λ refusal. refusal ≡ OutOfMemory) }
+    {
+        let times = self.outstanding_above(node)?;
         least_of(*self.held.allocator(), times)
     }
 
@@ -249,13 +335,40 @@ impl<T: Minimum> Board<T> {
         Ok(times)
     }
 
+    // The same times, but those that are held at the node itself.
+    fn outstanding_above(&self, node: NodeId) -> Result<Vec<T>, Refusal>
+        requires { node < length self.now.dataflow.nodes }
+        ensures times { IfOk result (λ all. all.items ≡ (stamps (λ site. is_above self.now.dataflow.nodes site.node node) self.now.in_flight
+            ++ held_where (strictly_above self.now.dataflow node) self.now.held) ++ open_where (λ m. is_above self.now.dataflow.nodes m node) (open_on self.now)) }
+        ensures refused { IfErr result (λ refusal. refusal ≡ OutOfMemory) }
+        ensures board { IsBoard self.now }
+    {
+        let mut times = Vec::new(*self.held.allocator());
+        push_in_flight(&mut times, &self.plan, &self.in_flight, node)?;
+        push_held_above(&mut times, &self.plan, &self.held, node)?;
+        push_open(&mut times, &self.plan, &self.inputs, node)?;
+        Ok(times)
+    }
+
     /// Whether a worker holds a time at a node that the node's input frontier has passed: then it may turn to it, by
     /// [`Board::take_held`]. Takes no memory.
     ///
     /// Cost: [`Board::input_has_passed`] for each time that is held at the node by the worker.
-    pub fn is_ready(&self, worker: usize, node: NodeId) -> bool
+    pub fn is_ready(&mut self, worker: usize, node: NodeId) -> bool
+        requires { node < length self.old.dataflow.nodes }
+        ensures kept { self.new ≡ self.old }
+        ensures value { result ≡ is_ready T.below self.old worker node }
+        ensures stands { (h : List (Event T)) → Stands T.below T.least self.old h
+            → result ≡ list_any (has_passed T.below (input_frontier T.below (plan_on self.old h) (left_on T.below T.least self.old h) node)) (held_at node worker (left_on T.below T.least self.old h).held) }
+    {
+        self.holds_passed(worker, node)
+    }
+
+    // The same, where the board is only lent.
+    fn holds_passed(&self, worker: usize, node: NodeId) -> bool
         requires { node < length self.now.dataflow.nodes }
-        ensures { result ≡ is_ready T.below self.now worker node }
+        ensures value { result ≡ is_ready T.below self.now worker node }
+        ensures board { IsBoard self.now }
     {
         self.any_ready(worker, node, &self.held)
     }
@@ -268,7 +381,7 @@ impl<T: Minimum> Board<T> {
         for hold in held {
             if hold.node == node
                 && hold.worker == worker
-                && self.input_has_passed(node, &hold.time)
+                && self.is_input_passed(node, &hold.time)
             {
                 return true;
             }

@@ -4,7 +4,7 @@ ghost use Rattle.std.specs.List.{filter};
 ghost use Rattle.update.specs.declared.refusal.Refusal.TheVariants.{OutOfMemory};
 ghost use Rattle.machine.specs.declared.event.Event.{Event};
 ghost use Rattle.machine.specs.Histories.{holding, is_held_by, world, IsGive};
-ghost use Rattle.machine.specs.Boards.{Shown, IsBoard, Stands, looked, given, captured_at, capturing, no_view};
+ghost use Rattle.machine.specs.Boards.{left_on, plan_on, Shown, IsBoard, Stands, looked, given, captured_at, capturing, no_view};
 
 use crate::board::Board;
 use crate::event::{Bundles, Emission, Held, remembered_give};
@@ -104,7 +104,7 @@ impl<T: Minimum> Board<T> {
         ensures returned { IfErr result (λ r. r ≡ record { emission = emission; held = held; sent = sent }) }
         ensures unchanged { OnErr result (self.new ≡ looked emission.worker self.old) }
         ensures stands { (h : List (Event T)) → Stands T.below T.least self.old h
-            → IsGive T.below self.old.dataflow (world T.below T.least self.old.dataflow h) emission held sent
+            → IsGive T.below (plan_on self.old h) (left_on T.below T.least self.old h) emission held sent
             → Stands T.below T.least self.new (self.new.last ∷ h) }
     {
         self.give_or_look(emission, held, sent)
@@ -189,7 +189,5 @@ fn capture<T: Minimum>(
     if !is_view {
         return Ok(());
     }
-    views[emission.node.number()]
-        .captured
-        .append(&mut emission.updates)
+    views[emission.node.number()].append(&mut emission.updates)
 }

@@ -1,7 +1,7 @@
 //! What a client reads on a board: a view's frontier is found in `fronts`; here are its rows at a time, its changes, and
 //! whether the board is quiet. Each is a function of what lies on the board at one moment, so that rows and frontier are of
 //! one history; and each says what it is of whatever history that is.
-ghost use Rattle.std.specs.Prelude.{◌≡◌, ◌<◌, ◌↔◌, ◌⊎◌, ◌&&◌, Bool, None, not, List, IfErr, IfOk, OnOk, IsTrue, length, nat_lt};
+ghost use Rattle.std.specs.Prelude.{◌≡◌, ◌<◌, ◌↔◌, ◌⊎◌, ◌&&◌, Bool, None, not, List, [], IfErr, IfOk, OnOk, IsTrue, length, nat_lt};
 ghost use Rattle.std.specs.List.{filter, list_all};
 ghost use Rattle.lattice.specs.Frontiers.{is_beyond};
 ghost use Rattle.update.specs.Bags.{Alike, IsBag, HasLargeCount};
@@ -11,20 +11,21 @@ ghost use Rattle.plan.specs.Changes.{has_passed, query_at, AreDifferences};
 ghost use Rattle.plan.specs.Rules.{is_output};
 ghost use Rattle.machine.specs.declared.event.Event.{Event};
 ghost use Rattle.machine.specs.Dataflows.{IsDataflow, node_of};
-ghost use Rattle.machine.specs.Outstanding.{frontier};
+ghost use Rattle.machine.specs.Outstanding.{frontier, with_times};
 ghost use Rattle.machine.specs.Histories.{world};
 ghost use Rattle.machine.specs.Promises.{changes_in};
 ghost use Rattle.machine.specs.Readings.{IsQuiet};
-ghost use Rattle.machine.specs.Boards.{Stands, IsBoard, is_from_start};
+ghost use Rattle.machine.specs.Boards.{left_on, plan_on, Stands, IsBoard, is_from_start};
 ghost use Rattle.machine.specs.Reads.{front, input_front, captured_of, since_of, is_free, is_quiet_board, read_refusal, changes_refusal, IsRefusalOr};
 
 use crate::board::Board;
 use crate::event::Held;
 use antichain::is_beyond;
+use crate::workers::insert;
 use lattice::Minimum;
 use plan::NodeId;
 use std::alloc::Global;
-use update::{Bag, Refusal, Update, consolidate, sum_at};
+use update::{Bag, Refusal, Update, consolidate};
 
 // Whether nobody has a piece in hand.
 fn are_free(hand: &[Option<NodeId>]) -> bool
@@ -63,13 +64,25 @@ fn passed_by<T: Minimum>(
     Ok(passed)
 }
 
+// The least of the times, each once.
+fn least_times<T: Minimum>(alloc: Global, times: &[T]) -> Result<Vec<T>, Refusal>
+    ensures least { IfOk result (λ least. least.items ≡ with_times T.below [] times.now) }
+    ensures refused { IfErr result (λ refusal. refusal ≡ OutOfMemory) }
+{
+    let mut least = Vec::new(alloc);
+    for t in times {
+        insert(&mut least, *t)?;
+    }
+    Ok(least)
+}
+
 impl<T: Minimum> Board<T> {
     /// The frontier beyond which a view may be read, as its elements. Takes no memory.
     pub fn since(&self, view: NodeId) -> &[T]
         requires { view < length self.now.dataflow.nodes }
         ensures { result.now ≡ since_of self.now view }
     {
-        self.views[view.number()].since.as_slice()
+        self.views[view.number()].since()
     }
 
     // What a view captured.
@@ -77,7 +90,7 @@ impl<T: Minimum> Board<T> {
         requires { view < length self.now.dataflow.nodes }
         ensures { result.now ≡ captured_of self.now view }
     {
-        self.views[view.number()].captured.as_slice()
+        self.views[view.number()].captured()
     }
 
     /// A view's rows at a time: the query, from scratch, on the changes fed up to that time.
@@ -91,28 +104,32 @@ impl<T: Minimum> Board<T> {
     /// | `OutOfMemory` | an allocation was refused |
     /// | `Overflow` | a row counts more often than a 64-bit number can say |
     ///
-    /// Cost: [`Board::has_passed`], one pass over what the view captured, and a sort of what is at or before the time.
-    pub fn read(&self, view: NodeId, t: T) -> Result<Bag, Refusal>
-        requires within { view < length self.now.dataflow.nodes }
-        requires view { IsTrue (is_output (node_of self.now.dataflow view)) }
-        ensures accepted { OnOk result (read_refusal T.below self.now view t ≡ None) }
-        ensures refused { IfErr result (IsRefusalOr (HasLargeCount (as_of T.below t (captured_of self.now view))) (read_refusal T.below self.now view t)) }
+    /// Cost: [`Board::has_passed`], and linear in the rows that count at the time. Besides, if the last read of the view was
+    /// at a time at or before this one, linear in what was captured since and in what that read knew and left out; else
+    /// linear in all that the view captured. What comes in is sorted.
+    pub fn read(&mut self, view: NodeId, t: T) -> Result<Bag, Refusal>
+        requires within { view < length self.old.dataflow.nodes }
+        requires view { IsTrue (is_output (node_of self.old.dataflow view)) }
+        ensures kept { self.new ≡ self.old }
+        ensures accepted { OnOk result (read_refusal T.below self.old view t ≡ None) }
+        ensures refused { IfErr result (IsRefusalOr (HasLargeCount (as_of T.below t (captured_of self.old view))) (read_refusal T.below self.old view t)) }
         ensures bag { IfOk result IsBag }
-        ensures sum { IfOk result (λ bag. Alike bag (as_of T.below t (captured_of self.now view))) }
-        ensures query { (h : List (Event T)) → Stands T.below T.least self.now h
-            → IfOk result (λ bag. Alike bag (query_at T.below self.now.dataflow.nodes (changes_in (world T.below T.least self.now.dataflow h)) view t)) }
+        ensures sum { IfOk result (λ bag. Alike bag (as_of T.below t (captured_of self.old view))) }
+        ensures query { (h : List (Event T)) → Stands T.below T.least self.old h
+            → IfOk result (λ bag. Alike bag (query_at T.below (plan_on self.old h).nodes (changes_in (left_on T.below T.least self.old h)) view t)) }
     {
         self.read_captured(view, t)
     }
 
     // The same, without the histories.
-    fn read_captured(&self, view: NodeId, t: T) -> Result<Bag, Refusal>
-        requires within { view < length self.now.dataflow.nodes }
-        ensures accepted { OnOk result (read_refusal T.below self.now view t ≡ None) }
-        ensures refused { IfErr result (IsRefusalOr (HasLargeCount (as_of T.below t (captured_of self.now view))) (read_refusal T.below self.now view t)) }
+    fn read_captured(&mut self, view: NodeId, t: T) -> Result<Bag, Refusal>
+        requires within { view < length self.old.dataflow.nodes }
+        ensures kept { self.new ≡ self.old }
+        ensures accepted { OnOk result (read_refusal T.below self.old view t ≡ None) }
+        ensures refused { IfErr result (IsRefusalOr (HasLargeCount (as_of T.below t (captured_of self.old view))) (read_refusal T.below self.old view t)) }
         ensures bag { IfOk result IsBag }
-        ensures sum { IfOk result (λ bag. Alike bag (as_of T.below t (captured_of self.now view))) }
-        ensures board { IsBoard self.now }
+        ensures sum { IfOk result (λ bag. Alike bag (as_of T.below t (captured_of self.old view))) }
+        ensures board { IsBoard self.old }
     {
         let _count = self.workers();
         match self.read_refusal(view, &t) {
@@ -122,13 +139,15 @@ impl<T: Minimum> Board<T> {
     }
 
     // What a view captured, summed to a time.
-    fn captured_at(&self, view: NodeId, t: T) -> Result<Bag, Refusal>
-        requires within { view < length self.now.dataflow.nodes }
-        ensures refused { IfErr result (λ refusal. (refusal ≡ OutOfMemory) ⊎ ((refusal ≡ Overflow) × HasLargeCount (as_of T.below t (captured_of self.now view)))) }
+    fn captured_at(&mut self, view: NodeId, t: T) -> Result<Bag, Refusal>
+        requires within { view < length self.old.dataflow.nodes }
+        ensures kept { self.new ≡ self.old }
+        ensures refused { IfErr result (λ refusal. (refusal ≡ OutOfMemory) ⊎ ((refusal ≡ Overflow) × HasLargeCount (as_of T.below t (captured_of self.old view)))) }
         ensures bag { IfOk result IsBag }
-        ensures sum { IfOk result (λ bag. Alike bag (as_of T.below t (captured_of self.now view))) }
+        ensures sum { IfOk result (λ bag. Alike bag (as_of T.below t (captured_of self.old view))) }
     {
-        sum_at(*self.held.allocator(), self.captured(view), t)
+        let alloc = *self.held.allocator();
+        self.views[view.number()].sum_at(alloc, t)
     }
 
     // What refuses a read, in the order of testing.
@@ -136,7 +155,7 @@ impl<T: Minimum> Board<T> {
         requires { view < length self.now.dataflow.nodes }
         ensures { result ≡ read_refusal T.below self.now view t.now }
     {
-        if !self.has_passed(view, t) {
+        if !self.is_passed(view, t) {
             Some(Refusal::NotPassed)
         } else if !is_beyond(self.since(view), t) {
             Some(Refusal::GivenUp)
@@ -153,13 +172,14 @@ impl<T: Minimum> Board<T> {
     /// number.
     ///
     /// Cost: [`Board::frontier`], one pass over what the view captured, and a sort of what is passed.
-    pub fn changes(&self, view: NodeId) -> Result<Vec<Update<T>>, Refusal>
-        requires within { view < length self.now.dataflow.nodes }
-        requires view { IsTrue (is_output (node_of self.now.dataflow view)) }
-        ensures accepted { OnOk result (changes_refusal T.below T.least self.now view ≡ None) }
-        ensures refused { IfErr result (IsRefusalOr (HasLargeTotal T.below (filter (λ u. has_passed T.below (front T.below self.now view) u.time) (captured_of self.now view))) (changes_refusal T.below T.least self.now view)) }
-        ensures differences { (h : List (Event T)) → Stands T.below T.least self.now h
-            → IfOk result (λ us. AreDifferences T.below T.cmp self.now.dataflow.nodes (changes_in (world T.below T.least self.now.dataflow h)) (frontier T.below self.now.dataflow (world T.below T.least self.now.dataflow h) view) view us.items) }
+    pub fn changes(&mut self, view: NodeId) -> Result<Vec<Update<T>>, Refusal>
+        requires within { view < length self.old.dataflow.nodes }
+        requires view { IsTrue (is_output (node_of self.old.dataflow view)) }
+        ensures kept { self.new ≡ self.old }
+        ensures accepted { OnOk result (changes_refusal T.below T.least self.old view ≡ None) }
+        ensures refused { IfErr result (IsRefusalOr (HasLargeTotal T.below (filter (λ u. has_passed T.below (front T.below self.old view) u.time) (captured_of self.old view))) (changes_refusal T.below T.least self.old view)) }
+        ensures differences { (h : List (Event T)) → Stands T.below T.least self.old h
+            → IfOk result (λ us. AreDifferences T.below T.cmp (plan_on self.old h).nodes (changes_in (left_on T.below T.least self.old h)) (frontier T.below (plan_on self.old h) (left_on T.below T.least self.old h) view) view us.items) }
     {
         self.passed_changes(view)
     }
@@ -212,7 +232,8 @@ impl<T: Minimum> Board<T> {
         ensures refused { IfErr result (λ refusal. refusal ≡ OutOfMemory) }
     {
         let times = self.outstanding(view)?;
-        self.captured_passed_by(view, times)
+        let least = least_times(*self.held.allocator(), times.as_slice())?;
+        self.captured_passed_by(view, least)
     }
 
     // Copies of what a view captured that are at or after none of the times.
@@ -232,10 +253,11 @@ impl<T: Minimum> Board<T> {
     /// what may still come to its node. Then every frontier stands where the inputs stand. Takes no memory.
     ///
     /// Cost: linear in the workers, and [`Board::input_has_passed`] for each time that is held.
-    pub fn is_quiet(&self) -> bool
-        ensures value { result ≡ is_quiet_board T.below self.now }
-        ensures quiet { (h : List (Event T)) → Stands T.below T.least self.now h
-            → (IsTrue result ↔ IsQuiet T.below self.now.dataflow (world T.below T.least self.now.dataflow h)) }
+    pub fn is_quiet(&mut self) -> bool
+        ensures kept { self.new ≡ self.old }
+        ensures value { result ≡ is_quiet_board T.below self.old }
+        ensures quiet { (h : List (Event T)) → Stands T.below T.least self.old h
+            → (IsTrue result ↔ IsQuiet T.below (plan_on self.old h) (left_on T.below T.least self.old h)) }
     {
         self.rests()
     }
@@ -264,6 +286,6 @@ impl<T: Minimum> Board<T> {
     fn waits(&self, hold: &Held<T>) -> bool
         ensures { result ≡ (nat_lt hold.now.node (length self.now.dataflow.nodes) && is_beyond T.below (input_front T.below self.now hold.now.node) hold.now.time) }
     {
-        hold.node.number() < self.plan.len() && !self.input_has_passed(hold.node, &hold.time)
+        hold.node.number() < self.plan.len() && !self.is_input_passed(hold.node, &hold.time)
     }
 }

@@ -13,7 +13,7 @@ ghost use Rattle.lattice.specs.Frontiers.{is_beyond};
 ghost use Rattle.antichain.specs.Antichains.{is_antichain};
 ghost use Rattle.machine.specs.Worlds.{times};
 ghost use Rattle.machine.specs.Outstanding.{stamp, strictly_above, frontier, input_frontier, port_frontier};
-ghost use Rattle.machine.specs.Histories.{IsLegal, world, actor_of};
+ghost use Rattle.machine.specs.Histories.{IsLegal, world, dataflow_after, actor_of};
 ghost use Rattle.machine.specs.Actors.{IsSameOfWorker, IsSameOfClients};
 ghost use Rattle.machine.specs.Readings.{IsQuiet, IsCaughtUp};
 ghost use Rattle.machine.specs.Examples.{IsExample};
@@ -26,19 +26,19 @@ use lattice::Minimum;
 /// from scratch on the changes fed, summed to that time.
 pub fn headline<T: Minimum>()
     ensures { (p : Dataflow) → IsDataflow p → (h : List (Event T)) → IsLegal T.below T.least p h
-        → (n : ℕ) → MeetsQuery T.below p (world T.below T.least p h) n }
+        → (n : ℕ) → MeetsQuery T.below (dataflow_after p h) (world T.below T.least p h) n }
 {}
 
 /// Consolidated at passed times, what a node gave is the one list of differences of its query, in which no worker occurs.
 /// So two legal histories of one plan with alike changes agree at what both have passed, whatever their workers.
 pub fn one_list<T: Minimum>()
     ensures differences { (p : Dataflow) → IsDataflow p → (h : List (Event T)) → IsLegal T.below T.least p h
-        → (n : ℕ) → MeetsDifferences T.below p (world T.below T.least p h) n T.cmp }
+        → (n : ℕ) → MeetsDifferences T.below (dataflow_after p h) (world T.below T.least p h) n T.cmp }
     ensures agree { (p q : Dataflow) → IsDataflow p → IsDataflow q → q.nodes ≡ p.nodes
         → (h k : List (Event T)) → IsLegal T.below T.least p h → IsLegal T.below T.least q k
         → ((input : ℕ) (t : T) → Alike (as_of T.below t (changes_in (world T.below T.least p h) input)) (as_of T.below t (changes_in (world T.below T.least q k) input)))
-        → (n : ℕ) (t : T) → IsTrue (has_passed T.below (frontier T.below p (world T.below T.least p h) n) t)
-        → IsTrue (has_passed T.below (frontier T.below q (world T.below T.least q k) n) t)
+        → (n : ℕ) (t : T) → IsTrue (has_passed T.below (frontier T.below (dataflow_after p h) (world T.below T.least p h) n) t)
+        → IsTrue (has_passed T.below (frontier T.below (dataflow_after q k) (world T.below T.least q k) n) t)
         → Alike (as_of T.below t (emitted_at n (world T.below T.least p h).emitted)) (as_of T.below t (emitted_at n (world T.below T.least q k).emitted)) }
 {}
 
@@ -46,18 +46,18 @@ pub fn one_list<T: Minimum>()
 /// frontier and the times that it still holds there have passed.
 pub fn parts_of_workers<T: Minimum>()
     ensures { (p : Dataflow) → IsDataflow p → (h : List (Event T)) → IsLegal T.below T.least p h
-        → (n k : ℕ) → MeetsPart T.below p (world T.below T.least p h) n k }
+        → (n k : ℕ) → MeetsPart T.below (dataflow_after p h) (world T.below T.least p h) n k }
 {}
 
 /// No frontier goes back: what it has passed it has passed in every legal continuation. So it is of the frontier of a node,
 /// of its input frontier, and of that of each of its ports.
 pub fn frontiers_do_not_go_back<T: Minimum>()
     ensures frontiers { (p : Dataflow) → IsDataflow p → (h later : List (Event T)) → IsLegal T.below T.least p (later ++ h)
-        → (n : ℕ) → GoesOn T.below (frontier T.below p (world T.below T.least p h) n) (frontier T.below p (world T.below T.least p (later ++ h)) n) }
+        → (n : ℕ) → GoesOn T.below (frontier T.below (dataflow_after p h) (world T.below T.least p h) n) (frontier T.below (dataflow_after p (later ++ h)) (world T.below T.least p (later ++ h)) n) }
     ensures inputs { (p : Dataflow) → IsDataflow p → (h later : List (Event T)) → IsLegal T.below T.least p (later ++ h)
-        → (n : ℕ) → GoesOn T.below (input_frontier T.below p (world T.below T.least p h) n) (input_frontier T.below p (world T.below T.least p (later ++ h)) n) }
+        → (n : ℕ) → GoesOn T.below (input_frontier T.below (dataflow_after p h) (world T.below T.least p h) n) (input_frontier T.below (dataflow_after p (later ++ h)) (world T.below T.least p (later ++ h)) n) }
     ensures ports { (p : Dataflow) → IsDataflow p → (h later : List (Event T)) → IsLegal T.below T.least p (later ++ h)
-        → (n port : ℕ) → GoesOn T.below (port_frontier T.below p (world T.below T.least p h) n port) (port_frontier T.below p (world T.below T.least p (later ++ h)) n port) }
+        → (n port : ℕ) → GoesOn T.below (port_frontier T.below (dataflow_after p h) (world T.below T.least p h) n port) (port_frontier T.below (dataflow_after p (later ++ h)) (world T.below T.least p (later ++ h)) n port) }
 {}
 
 /// No time that a node's frontier has passed has anything outstanding at it or before it, at the node or above it. And what
@@ -65,17 +65,17 @@ pub fn frontiers_do_not_go_back<T: Minimum>()
 /// such a time or before it, and nothing above the node from which it could come.
 pub fn nothing_lurks<T: Minimum>()
     ensures frontiers { (p : Dataflow) → IsDataflow p → (h : List (Event T)) → IsLegal T.below T.least p h
-        → (n : ℕ) → NothingLurks T.below p (world T.below T.least p h) n }
+        → (n : ℕ) → NothingLurks T.below (dataflow_after p h) (world T.below T.least p h) n }
     ensures inputs { (p : Dataflow) → IsDataflow p → (h later : List (Event T)) → IsLegal T.below T.least p (later ++ h)
-        → (n : ℕ) (t : T) → IsTrue (has_passed T.below (input_frontier T.below p (world T.below T.least p h) n) t)
-        → IsClearAt T.below p (world T.below T.least p (later ++ h)) n (strictly_above p n) t }
+        → (n : ℕ) (t : T) → IsTrue (has_passed T.below (input_frontier T.below (dataflow_after p h) (world T.below T.least p h) n) t)
+        → IsClearAt T.below (dataflow_after p (later ++ h)) (world T.below T.least p (later ++ h)) n (strictly_above p n) t }
 {}
 
 /// A node that reads others is sent nothing more at a time where that holds of each of its ports: its input frontier has
 /// passed just what the frontiers of all its ports have.
 pub fn port_frontiers_are_the_input_frontier<T: Minimum>()
     ensures { (p : Dataflow) → IsDataflow p → (h : List (Event T)) → IsLegal T.below T.least p h
-        → (n : ℕ) → PortsAreInput T.below p (world T.below T.least p h) n }
+        → (n : ℕ) → PortsAreInput T.below (dataflow_after p h) (world T.below T.least p h) n }
 {}
 
 /// What a node gave on all workers is within its weight, which is found from the plan and the changes fed alone; and so is
@@ -83,13 +83,13 @@ pub fn port_frontiers_are_the_input_frontier<T: Minimum>()
 /// weight is.
 pub fn weights_are_kept<T: Minimum>()
     ensures emitted { (p : Dataflow) → IsDataflow p → (h : List (Event T)) → IsLegal T.below T.least p h
-        → (n : ℕ) → KeepsWeight T.below p (world T.below T.least p h) n T.cmp }
+        → (n : ℕ) → KeepsWeight T.below (dataflow_after p h) (world T.below T.least p h) n T.cmp }
     ensures owed { (p : Dataflow) → IsDataflow p → (h : List (Event T)) → IsLegal T.below T.least p h
-        → (n : ℕ) → OwesWithinWeight T.below p (world T.below T.least p h) n T.cmp }
+        → (n : ℕ) → OwesWithinWeight T.below (dataflow_after p h) (world T.below T.least p h) n T.cmp }
     ensures received { (p : Dataflow) → IsDataflow p → (h : List (Event T)) → IsLegal T.below T.least p h
-        → (n : ℕ) → TakesWithinWeight T.below p (world T.below T.least p h) n T.cmp }
+        → (n : ℕ) → TakesWithinWeight T.below (dataflow_after p h) (world T.below T.least p h) n T.cmp }
     ensures loads { (p : Dataflow) → IsDataflow p → (h : List (Event T)) → IsLegal T.below T.least p h
-        → (n : ℕ) → LoadsWithinWeight T.below p (world T.below T.least p h) n T.cmp }
+        → (n : ℕ) → LoadsWithinWeight T.below (dataflow_after p h) (world T.below T.least p h) n T.cmp }
 {}
 
 /// The stamp that is found of updates stands for all their times, and has none of them twice: no two of its times can be
@@ -103,12 +103,12 @@ pub fn stamps_are_frontiers<T: Minimum>()
 /// inputs that feed it.
 pub fn quiet_is_caught_up<T: Minimum>()
     ensures { (p : Dataflow) → IsDataflow p → (h : List (Event T)) → IsLegal T.below T.least p h
-        → IsQuiet T.below p (world T.below T.least p h) → (n : ℕ) → IsCaughtUp T.below p (world T.below T.least p h) n }
+        → IsQuiet T.below (dataflow_after p h) (world T.below T.least p h) → (n : ℕ) → IsCaughtUp T.below (dataflow_after p h) (world T.below T.least p h) n }
 {}
 
 /// Whatever waits, waits at a place that there is: so a worker that goes through its places finds it.
 pub fn what_waits_has_its_place<T: Minimum>()
-    ensures { (p : Dataflow) → IsDataflow p → (h : List (Event T)) → IsLegal T.below T.least p h → IsInPlace p (world T.below T.least p h) }
+    ensures { (p : Dataflow) → IsDataflow p → (h : List (Event T)) → IsLegal T.below T.least p h → IsInPlace (dataflow_after p h) (world T.below T.least p h) }
 {}
 
 /// An event leaves what another worker has as it was: what it received and gave, the times that it holds, its piece in hand,

@@ -79,7 +79,7 @@ pub(crate) fn stamp_of<T: Minimum>(alloc: Global, updates: &[Update<T>]) -> Resu
 }
 
 // A time comes into a frontier.
-fn insert<T: Minimum>(front: &mut Vec<T>, t: T) -> Result<(), Refusal>
+pub(crate) fn insert<T: Minimum>(front: &mut Vec<T>, t: T) -> Result<(), Refusal>
     ensures with { OnOk result (front.new.items ≡ with_time T.below front.old.items t) }
     ensures refused { IfErr result (λ refusal. refusal ≡ OutOfMemory) }
 {

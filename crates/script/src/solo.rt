@@ -125,24 +125,26 @@ impl Solo {
     }
 
     // The rows of a view at a time, where nothing waits.
-    fn rows(&self, view: NodeId, time: Bitime) -> Result<Bag, Refusal>
-        requires view { IsTrue (is_view_of self.now.dataflow.nodes view) }
-        requires idle { IsIdle self.now }
-        requires done { self.now.in_flight ≡ [] }
-        ensures answered { (s : Sitting) → StandsAs at_or_below (make_pair 0 0) self.now s
-            → IsAnswer (IsLarge self.now.dataflow.nodes s) (read_refusal at_or_below self.now.dataflow.nodes s view time) (λ bag. (bag ≡ rows_at at_or_below self.now.dataflow.nodes s view time) × StandsAs at_or_below (make_pair 0 0) self.now s) (StandsAs at_or_below (make_pair 0 0) self.now s) result }
+    fn rows(&mut self, view: NodeId, time: Bitime) -> Result<Bag, Refusal>
+        requires view { IsTrue (is_view_of self.old.dataflow.nodes view) }
+        requires idle { IsIdle self.old }
+        requires done { self.old.in_flight ≡ [] }
+        ensures kept { self.new ≡ self.old }
+        ensures answered { (s : Sitting) → StandsAs at_or_below (make_pair 0 0) self.old s
+            → IsAnswer (IsLarge self.old.dataflow.nodes s) (read_refusal at_or_below self.old.dataflow.nodes s view time) (λ bag. (bag ≡ rows_at at_or_below self.old.dataflow.nodes s view time) × StandsAs at_or_below (make_pair 0 0) self.old s) (StandsAs at_or_below (make_pair 0 0) self.old s) result }
     {
         let _workers = self.board.workers();
         self.board.read(view, time)
     }
 
     // The changes of a view, where nothing waits.
-    fn passed_changes(&self, view: NodeId) -> Result<Updates<Bitime>, Refusal>
-        requires view { IsTrue (is_view_of self.now.dataflow.nodes view) }
-        requires idle { IsIdle self.now }
-        requires done { self.now.in_flight ≡ [] }
-        ensures answered { (s : Sitting) → StandsAs at_or_below (make_pair 0 0) self.now s
-            → IsAnswer (IsLarge self.now.dataflow.nodes s) None (λ changes. (changes ≡ changes_at at_or_below self.now.dataflow.nodes s in_print join_of view) × StandsAs at_or_below (make_pair 0 0) self.now s) (StandsAs at_or_below (make_pair 0 0) self.now s) result }
+    fn passed_changes(&mut self, view: NodeId) -> Result<Updates<Bitime>, Refusal>
+        requires view { IsTrue (is_view_of self.old.dataflow.nodes view) }
+        requires idle { IsIdle self.old }
+        requires done { self.old.in_flight ≡ [] }
+        ensures kept { self.new ≡ self.old }
+        ensures answered { (s : Sitting) → StandsAs at_or_below (make_pair 0 0) self.old s
+            → IsAnswer (IsLarge self.old.dataflow.nodes s) None (λ changes. (changes ≡ changes_at at_or_below self.old.dataflow.nodes s in_print join_of view) × StandsAs at_or_below (make_pair 0 0) self.old s) (StandsAs at_or_below (make_pair 0 0) self.old s) result }
     {
         let _workers = self.board.workers();
         match self.board.changes(view) {
@@ -152,12 +154,13 @@ impl Solo {
     }
 
     // The frontier of a view, where nothing waits.
-    fn view_frontier(&self, view: NodeId) -> Result<Antichain<Bitime>, Refusal>
-        requires view { IsTrue (is_view_of self.now.dataflow.nodes view) }
-        requires idle { IsIdle self.now }
-        requires done { self.now.in_flight ≡ [] }
-        ensures answered { (s : Sitting) → StandsAs at_or_below (make_pair 0 0) self.now s
-            → IsAnswer ⊥ None (λ frontier. (frontier ≡ frontier_at at_or_below self.now.dataflow.nodes s in_print view) × StandsAs at_or_below (make_pair 0 0) self.now s) (StandsAs at_or_below (make_pair 0 0) self.now s) result }
+    fn view_frontier(&mut self, view: NodeId) -> Result<Antichain<Bitime>, Refusal>
+        requires view { IsTrue (is_view_of self.old.dataflow.nodes view) }
+        requires idle { IsIdle self.old }
+        requires done { self.old.in_flight ≡ [] }
+        ensures kept { self.new ≡ self.old }
+        ensures answered { (s : Sitting) → StandsAs at_or_below (make_pair 0 0) self.old s
+            → IsAnswer ⊥ None (λ frontier. (frontier ≡ frontier_at at_or_below self.old.dataflow.nodes s in_print view) × StandsAs at_or_below (make_pair 0 0) self.old s) (StandsAs at_or_below (make_pair 0 0) self.old s) result }
     {
         let _workers = self.board.workers();
         match self.board.frontier(view) {

@@ -1,7 +1,8 @@
 -- Updates moved to the one time sum to what they did at the time up to which they were kept.
-use Rattle.std.proofs.Common.{◌≡◌, ℕ, ◌+◌, ◌≤◌, Bool, true, false, cond, ◌&&◌, List, [], ◌∷◌, map, filter, ℤ, pos, ◌+ℤ◌, refl, sym, ◌∙◌, ap, subst, arith, w64}
+use Rattle.std.proofs.Common.{◌≡◌, ℕ, ◌+◌, ◌≤◌, Bool, true, false, cond, ◌&&◌, List, [], ◌∷◌, ◌++◌, map, filter, ℤ, pos, ◌+ℤ◌, refl, sym, ◌∙◌, ap, subst, arith, w64}
 use Rattle.std.specs.Prelude.{FitsSigned, unsigned_abs}
 use Rattle.std.proofs.lemmas.List.Recursion.{is_sum_by}
+use Rattle.std.proofs.lemmas.List.{map-append}
 use Rattle.update.specs.declared.change.Update.{Update}
 use Rattle.update.specs.declared.moment.Moment.{Moment}
 use Rattle.update.specs.Bags.{Entry, same_row, count_of, HasLargeCount, Alike, bag_size}
@@ -83,3 +84,26 @@ module _ {T : Type 0} (below : T → T → Bool) (t : T) (us : List (Update T)) 
       let fewer = weight_moved (λ u. below u.time t) us in
       let all = weight_is us in
       omega (arith, less, bag, entries, left, moved, fewer, all)
+
+-- entries at the one time with updates moved to it behind them sum to their entries
+module _ {T : Type 0} (all : List (Update Moment)) (us : List (Update T)) (es : List Entry) (parts : map entry all ≡ es ++ map entry us) where
+  pub sum_both : (m : Moment) (out : List (Update Moment)) → Alike (as_of always m out) (as_of always m all) → Alike (map entry out) (es ++ map entry us)
+  sum_both m out same row =
+      ap (λ us. count_of (map entry us) row) (sym (all_pass out))
+      ∙ same row
+      ∙ ap (λ us. count_of (map entry us) row) (all_pass all)
+      ∙ ap (λ es. count_of es row) parts
+
+  total_both : (row : List ℤ) (m : Moment) → total_at always row m all ≡ count_of (es ++ map entry us) row
+  total_both row m = total_is_count row m all ∙ ap (λ es. count_of es row) parts
+
+  pub large_both : HasLargeTotal always all → HasLargeCount (es ++ map entry us)
+  large_both large = (large.0, λ fits. large.2 (subst (FitsSigned w64) (sym (total_both large.0 large.1)) fits))
+
+  pub large_there : (m : Moment) → HasLargeCount (es ++ map entry us) → HasLargeTotal always all
+  large_there m large = (large.0, m, λ fits. large.1 (subst (FitsSigned w64) (total_both large.0 m) fits))
+
+-- the entries, with updates moved behind them
+pub both_entries : {T : Type 0} (before all : List (Update Moment)) (us : List (Update T)) (es : List Entry) → map entry before ≡ es → all ≡ before ++ map at_moment us → map entry all ≡ es ++ map entry us
+both_entries before all us es e h =
+    ap (map entry) h ∙ map-append entry before (map at_moment us) ∙ ap (λ xs. xs ++ map entry (map at_moment us)) e ∙ ap (λ xs. es ++ xs) (entries_moved us)

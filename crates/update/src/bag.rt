@@ -1,13 +1,16 @@
 //! Bags: what updates sum to at a time. A bag is a consolidated list of updates at one moment, and that is its one
 //! invariant: each row stands there once, in order, and none that does not count. So equal bags are equal lists, and a
 //! row is found by a binary search.
-ghost use Rattle.std.specs.Prelude.{◌≡◌, ◌<◌, ◌↔◌, [], Some, map, length, slice_get, IsTrue, IsSomeAnd};
-ghost use Rattle.update.specs.Bags.{IsBag, count_of};
+ghost use Rattle.std.specs.Prelude.{◌≡◌, ◌<◌, ◌↔◌, ◌⊎◌, ◌++◌, [], Some, map, length, slice_get, IsTrue, IsSomeAnd, IfOk, IfErr, OnOk};
+ghost use Rattle.update.specs.Bags.{IsBag, Alike, HasLargeCount, count_of};
+ghost use Rattle.update.specs.Moments.{at_moment};
 ghost use Rattle.update.specs.Updates.{IsConsolidated, entry};
 ghost use Rattle.update.specs.Text.{bag_text};
 
-use crate::Update;
+use crate::consolidation::consolidate_behind;
 use crate::moment::Moment;
+use crate::{Refusal, Update};
+use lattice::Lattice;
 use row::Row;
 use std::alloc::AllocError;
 use std::fmt;
@@ -88,6 +91,51 @@ impl Bag {
     {
         self.entries[i].diff
     }
+
+    /// This bag with what the updates add to it, whatever their times. [`Refusal::Overflow`] only where a row then counts
+    /// more often than a 64-bit number can say, whatever the order of the updates, and no bag is given there;
+    /// [`Refusal::OutOfMemory`] only where memory for both was refused.
+    ///
+    /// Cost: linear in the bag, which is copied, and one sort of the updates.
+    pub fn with<T: Lattice>(&self, updates: &[Update<T>]) -> Result<Bag, Refusal>
+        ensures sum { IfOk result (λ bag. Alike bag (self.now ++ map entry updates.now)) }
+        ensures bag { IfOk result IsBag }
+        ensures fits { OnOk result (HasLargeCount (self.now ++ map entry updates.now) → ⊥) }
+        ensures refused { IfErr result (λ refused. (refused ≡ Refusal.OutOfMemory)
+            ⊎ ((refused ≡ Refusal.Overflow) × HasLargeCount (self.now ++ map entry updates.now))) }
+    {
+        let mut entries = self.copy_entries()?;
+        push_counts(&mut entries, updates)?;
+        let entries = consolidate_behind(entries)?;
+        Ok(Bag::from_consolidated(entries))
+    }
+
+    // Copies of the entries.
+    fn copy_entries(&self) -> Result<Vec<Update<Moment>>, Refusal>
+        ensures copied { IfOk result (λ entries. map entry entries.items ≡ self.now) }
+        ensures refused { IfErr result (λ refused. refused ≡ Refusal.OutOfMemory) }
+    {
+        let Bag { entries } = self.clone()?;
+        Ok(entries)
+    }
+}
+
+// Puts the rows and differences of updates behind the entries.
+fn push_counts<T: Lattice>(
+    entries: &mut Vec<Update<Moment>>,
+    updates: &[Update<T>],
+) -> Result<(), Refusal>
+    ensures more { OnOk result (entries.new.items ≡ entries.old.items ++ map at_moment updates.now) }
+    ensures refused { IfErr result (λ refused. refused ≡ Refusal.OutOfMemory) }
+{
+    for update in updates {
+        entries.push(Update {
+            time: Moment,
+            row: update.row.copy(),
+            diff: update.diff,
+        })?;
+    }
+    Ok(())
 }
 
 /// A copy. Refused only where memory is; that of no entries never.

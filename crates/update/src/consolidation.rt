@@ -8,7 +8,7 @@
 //!
 //! Totals are counted in 128 bits and brought to 64 only where a run ends. So what is refused depends on the totals alone,
 //! and not on the order in which they are added up.
-ghost use Rattle.std.specs.Prelude.{◌≡◌, ◌≤◌, ◌<◌, ◌+◌, ◌++◌, length, take, drop, List, ◌∷◌, ◌*◌, ◌^◌, unsigned_abs, FitsSigned, IfOk, IfErr, IsErr, OnOk, IsTrue, Bool, ℤ, ◌↔◌, slice_index_or};
+ghost use Rattle.std.specs.Prelude.{◌≡◌, ◌≤◌, ◌<◌, ◌+◌, ◌++◌, ◌⊎◌, length, take, drop, List, ◌∷◌, ◌*◌, ◌^◌, unsigned_abs, FitsSigned, IfOk, IfErr, IsErr, OnOk, IsTrue, Bool, ℤ, ◌↔◌, slice_index_or};
 ghost use Rattle.std.specs.List.{list_all};
 ghost use Rattle.std.specs.Int.{w64};
 ghost use Rattle.update.specs.Gathering.{is_same, settled, settled_runs, runs_of, runs_from, AllFit};
@@ -172,6 +172,24 @@ pub fn consolidate<T: Lattice>(mut updates: Vec<Update<T>>) -> Result<Vec<Update
     ensures only { IfErr result (λ refused. refused ≡ Refusal.Overflow) }
 {
     updates.sort_unstable();
+    keep_totals(&mut updates)?;
+    Ok(updates)
+}
+
+/// The same for a list that begins with a long run in order, as a bag with a few updates behind it: that run is found and
+/// not sorted again. [`Refusal::OutOfMemory`] only where memory for a second list of its length was refused.
+///
+/// Cost: linear in the updates, and n log n comparisons in the number of those behind the run.
+pub(crate) fn consolidate_behind<T: Lattice>(
+    mut updates: Vec<Update<T>>,
+) -> Result<Vec<Update<T>>, Refusal>
+    ensures consolidated { IfOk result (λ out. IsConsolidated T.cmp out.items) }
+    ensures sums { IfOk result (λ out. (t : T) → Alike (as_of T.below t out.items) (as_of T.below t updates.items)) }
+    ensures fits { OnOk result (HasLargeTotal T.below updates.items → ⊥) }
+    ensures refused { IfErr result (λ refused. (refused ≡ Refusal.OutOfMemory)
+        ⊎ ((refused ≡ Refusal.Overflow) × HasLargeTotal T.below updates.items)) }
+{
+    updates.sort()?;
     keep_totals(&mut updates)?;
     Ok(updates)
 }

@@ -1,15 +1,14 @@
 use Rattle.std.proofs.Common.{◌≡◌, ◌++◌, ◌∷◌, [], replicate, ap, ◌∙◌, arith}
-use Rattle.machine.specs.declared.view.View.{View}
+use Rattle.machine.specs.Views.{ViewState}
 use Rattle.machine.proofs.PutLemmas.{put_alike}
 use Rattle.machine.proofs.board.first_views.Goals as goal
 
 pub loop-node-preserved : goal.loop-node-preserved
 loop-node-preserved g c =
     let i = c.loop-node in
-    let first : View g.row.T.Denot = record { since = g.T.Minimum.least ∷ []; captured = [] } in
+    let first : ViewState g.row.T.Denot = record { since = g.T.Minimum.least ∷ []; captured = [] } in
     let since : c.into.result ≡ g.T.Minimum.least ∷ [] = c.into.ensures ∙ (c.in_ok-push.ensures.items ∙ (ap (λ ts. ts ++ c.minimum.result ∷ []) c.new-since.ensures.items ∙ ap (λ t. t ∷ []) c.minimum.ensures)) in
-    let captured : c.into-in-loop-node.result ≡ [] = c.into-in-loop-node.ensures ∙ c.new-captured.ensures.items in
-    put_alike i.views.items c.push-in-loop-node.new.self.items i._node first (record { since = c.into.result; captured = c.into-in-loop-node.result }) (λ j. record { since = since j; captured = captured j }) i.invariant c.in_ok-push-2.ensures.items
+    put_alike i.views.items c.push-in-loop-node.new.self.items i._node first c.new.result (c.new.ensures ∙ (λ j. record { since = since j; captured = [] })) i.invariant c.in_ok-push-2.ensures.items
 
 pub returns-clause-first : goal.returns-clause-first
 returns-clause-first g c =

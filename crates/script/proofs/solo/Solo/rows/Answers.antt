@@ -17,22 +17,20 @@ use Rattle.script.specs.Weights.{IsLarge}
 use Rattle.script.proofs.ReadingLemmas.{read_answered, large_read}
 use Rattle.script.proofs.solo.Solo.rows.Goals as goal
 
-pub returns : goal.returns
-returns c = record {
-  answered = λ s.
-      let b = c.self.inside.board in
-      let v = c.args.view in
-      let t = c.args.time in
-      let there = subst (λ (d : Shown (Pair ℕ ℕ)). IsTrue (is_view_of d.dataflow.nodes v)) (sym c.self.view_is) c.requires.view in
-      let within : v < length b.dataflow.nodes = ltb-true v (length b.dataflow.nodes) (and_parts _ _ there).0 in
-      let idle = subst IsIdle (sym c.self.view_is) c.requires.idle in
-      let none = subst (λ (d : Shown (Pair ℕ ℕ)). d.in_flight ≡ []) (sym c.self.view_is) c.requires.done in
-      subst
-      (λ (d : Shown (Pair ℕ ℕ)). StandsAs at_or_below (make_pair 0 0) d s
-      → IsAnswer (IsLarge d.dataflow.nodes s) (read_refusal at_or_below d.dataflow.nodes s v t) (λ bag. (bag ≡ rows_at at_or_below d.dataflow.nodes s v t) × StandsAs at_or_below (make_pair 0 0) d s) (StandsAs at_or_below (make_pair 0 0) d s) c.read.result)
-      c.self.view_is
-      (λ a. read_answered at_or_below (make_pair 0 0) (pair_order nat_order nat_order) b s v t c.workers-workers.ensures.board within idle none a
-      (HasLargeCount (as_of at_or_below t (captured_of b v))) (IsLarge b.dataflow.nodes s) c.read.result
-      (large_read at_or_below (make_pair 0 0) (pair_order nat_order nat_order) in_print b s v c.workers-workers.ensures.board within (and_parts _ _ there).1 idle a t) (and_from _ _ (nat_lowest t.first) (nat_lowest t.second))
-      c.read.ensures.accepted c.read.ensures.refused c.read.ensures.bag (c.read.ensures.query a.history a.stands));
-}
+pub returns-clause-answered : goal.returns-clause-answered
+returns-clause-answered c s =
+    let b = c.self.inside.board in
+    let v = c.args.view in
+    let t = c.args.time in
+    let there = subst (λ (d : Shown (Pair ℕ ℕ)). IsTrue (is_view_of d.dataflow.nodes v)) (sym c.self.view_is) c.requires.view in
+    let within : v < length b.dataflow.nodes = ltb-true v (length b.dataflow.nodes) (and_parts _ _ there).0 in
+    let idle = subst IsIdle (sym c.self.view_is) c.requires.idle in
+    let none = subst (λ (d : Shown (Pair ℕ ℕ)). d.in_flight ≡ []) (sym c.self.view_is) c.requires.done in
+    subst
+    (λ (d : Shown (Pair ℕ ℕ)). StandsAs at_or_below (make_pair 0 0) d s
+    → IsAnswer (IsLarge d.dataflow.nodes s) (read_refusal at_or_below d.dataflow.nodes s v t) (λ bag. (bag ≡ rows_at at_or_below d.dataflow.nodes s v t) × StandsAs at_or_below (make_pair 0 0) d s) (StandsAs at_or_below (make_pair 0 0) d s) c.read.result)
+    c.self.view_is
+    (λ a. read_answered at_or_below (make_pair 0 0) (pair_order nat_order nat_order) b s v t c.workers-workers.ensures.board within idle none a
+    (HasLargeCount (as_of at_or_below t (captured_of b v))) (IsLarge b.dataflow.nodes s) c.read.result
+    (large_read at_or_below (make_pair 0 0) (pair_order nat_order nat_order) in_print b s v c.workers-workers.ensures.board within (and_parts _ _ there).1 idle a t) (and_from _ _ (nat_lowest t.first) (nat_lowest t.second))
+    c.read.ensures.accepted c.read.ensures.refused c.read.ensures.bag (c.read.ensures.query a.history a.stands))

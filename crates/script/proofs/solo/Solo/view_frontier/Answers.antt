@@ -1,10 +1,12 @@
-use Rattle.std.proofs.Common.{◌≡◌, ℕ, ◌<◌, [], length, None, Ok, refl, IsTrue, ltb-true, sym, subst}
+use Rattle.std.proofs.Common.{◌≡◌, ℕ, ◌<◌, [], length, List, None, inl, inr, refl, IsTrue, ltb-true, sym, subst}
+use Rattle.std.specs.Prelude.{Result}
 use Rattle.std.proofs.lemmas.Bool.{and_parts}
 use Rattle.std.proofs.lemmas.Cmp.{then_total, on_total, nat_cmp_total}
 use Rattle.lattice.specs.Naturals.{nat_order, nat_extends}
 use Rattle.lattice.specs.Pairs.{make_pair, pair_order, pair_extends}
 use Rattle.lattice.specs.declared.product.Pair.{Pair}
 use Rattle.grammar.specs.Commands.{is_view_of}
+use Rattle.update.specs.declared.refusal.Refusal.{Refusal}
 use Rattle.machine.specs.Boards.{Shown}
 use Rattle.script.specs.Engines.{IsAnswer}
 use Rattle.script.specs.Relays.{IsIdle}
@@ -13,19 +15,22 @@ use Rattle.script.specs.Standing.{StandsAs}
 use Rattle.script.specs.Text.{at_or_below, in_print}
 use Rattle.script.proofs.ReadingLemmas.{frontier_found}
 use Rattle.script.proofs.solo.Solo.view_frontier.Goals as goal
+use Rattle.script.proofs.solo.Solo.view_frontier.Goals.{in-Ok, in-Err}
 
-pub returns-in-Ok : goal.returns-in-Ok
-returns-in-Ok c = record {
-  answered = λ s.
-      let b = c.self.inside.board in
-      let v = c.args.view in
-      let there = subst (λ (d : Shown (Pair ℕ ℕ)). IsTrue (is_view_of d.dataflow.nodes v)) (sym c.self.view_is) c.requires.view in
-      let within : v < length b.dataflow.nodes = ltb-true v (length b.dataflow.nodes) (and_parts _ _ there).0 in
-      let idle = subst IsIdle (sym c.self.view_is) c.requires.idle in
-      let none = subst (λ (d : Shown (Pair ℕ ℕ)). d.in_flight ≡ []) (sym c.self.view_is) c.requires.done in
-      subst
-      (λ (d : Shown (Pair ℕ ℕ)). StandsAs at_or_below (make_pair 0 0) d s
-      → IsAnswer ⊥ None (λ frontier. (frontier ≡ frontier_at at_or_below d.dataflow.nodes s in_print v) × StandsAs at_or_below (make_pair 0 0) d s) (StandsAs at_or_below (make_pair 0 0) d s) (Ok c.in-Ok.frontier))
-      c.self.view_is
-      (λ d. (refl, (frontier_found at_or_below (make_pair 0 0) (pair_order nat_order nat_order) b s v c.workers-workers.ensures.board within idle none d (then_total (on_total (λ (t : Pair ℕ ℕ). t.first) nat_cmp_total) (on_total (λ (t : Pair ℕ ℕ). t.second) nat_cmp_total)) (pair_extends nat_extends nat_extends).exact c.in-Ok.frontier c.elements-elements.ensures.frontier c.in-Ok.ensures.least, d)));
-}
+pub returns-clause-answered : goal.returns-clause-answered
+returns-clause-answered c s =
+    let b = c.self.inside.board in
+    let v = c.args.view in
+    let there = subst (λ (d : Shown (Pair ℕ ℕ)). IsTrue (is_view_of d.dataflow.nodes v)) (sym c.self.view_is) c.requires.view in
+    let within : v < length b.dataflow.nodes = ltb-true v (length b.dataflow.nodes) (and_parts _ _ there).0 in
+    let idle = subst IsIdle (sym c.self.view_is) c.requires.idle in
+    let none = subst (λ (d : Shown (Pair ℕ ℕ)). d.in_flight ≡ []) (sym c.self.view_is) c.requires.done in
+    let total = then_total (on_total (λ (t : Pair ℕ ℕ). t.first) nat_cmp_total) (on_total (λ (t : Pair ℕ ℕ). t.second) nat_cmp_total) in
+    let Answered : Shown (Pair ℕ ℕ) → Result (List (Pair ℕ ℕ)) Refusal → Type 0 = λ d r. StandsAs at_or_below (make_pair 0 0) d s
+        → IsAnswer ⊥ None (λ frontier. (frontier ≡ frontier_at at_or_below d.dataflow.nodes s in_print v) × StandsAs at_or_below (make_pair 0 0) d s) (StandsAs at_or_below (make_pair 0 0) d s) r in
+    subst (λ d. Answered d c.match-frontier.result) c.self.view_is
+    (elim c.match-frontier.branch [
+      | in-Ok w ↦ subst (Answered b) (sym w.result-is)
+          (λ d. (refl, (frontier_found at_or_below (make_pair 0 0) (pair_order nat_order nat_order) b s v c.workers-workers.ensures.board within idle none d total (pair_extends nat_extends nat_extends).exact w.in-Ok.frontier w.elements-elements.ensures.frontier w.in-Ok.ensures.least, d)))
+      | in-Err w ↦ subst (Answered b) (sym w.result-is) (λ d. inr (inl w.in-Err.ensures.refused))
+    ])

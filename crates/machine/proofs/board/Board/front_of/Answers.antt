@@ -1,5 +1,5 @@
 use Rattle.machine.proofs.FrontLemmas.{on_ok, front_found, beyond_found, front_elements}
-use Rattle.machine.proofs.board.Board.frontier.Goals as goal
+use Rattle.machine.proofs.board.Board.front_of.Goals as goal
 
 pub returns-clause-least : goal.returns-clause-least
 returns-clause-least g c = on_ok c.least_of.result _ _ (λ found. front_found _ g.met.T.PartialOrder.order c.args.self.now c.args.node _ found c.in_ok-times.ensures.times) c.least_of.ensures.least

@@ -2,7 +2,7 @@ use Rattle.std.proofs.Common.{not, ap, ◌∙◌}
 use Rattle.machine.specs.Dataflows.{above}
 use Rattle.machine.specs.Reads.{on_board}
 use Rattle.machine.proofs.FrontLemmas.{passed_found, front_stands}
-use Rattle.machine.proofs.board.Board.has_passed.Goals as goal
+use Rattle.machine.proofs.board.Board.is_passed.Goals as goal
 
 pub returns-clause-value : goal.returns-clause-value
 returns-clause-value g c =

@@ -3,7 +3,7 @@ use Rattle.machine.specs.Dataflows.{above}
 use Rattle.machine.specs.Outstanding.{strictly_above}
 use Rattle.machine.specs.Reads.{on_board}
 use Rattle.machine.proofs.FrontLemmas.{passed_found, input_front_stands}
-use Rattle.machine.proofs.board.Board.input_has_passed.Goals as goal
+use Rattle.machine.proofs.board.Board.is_input_passed.Goals as goal
 
 pub returns-clause-value : goal.returns-clause-value
 returns-clause-value g c =
