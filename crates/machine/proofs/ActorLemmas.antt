@@ -8,7 +8,6 @@ use Rattle.machine.specs.declared.event.Event.{Event}
 use Rattle.machine.specs.declared.event.Event.TheVariants.{Feed, Advance, Allow, Look, Take, TakeHeld, Give}
 use Rattle.machine.specs.Dataflows.{Dataflow}
 use Rattle.machine.specs.Worlds.{World, held_at}
-use Rattle.machine.specs.Outstanding.{stamp}
 use Rattle.machine.specs.Histories.{holding, after, actor_of, IsAllowed}
 use Rattle.machine.specs.Actors.{IsSameOfWorker, IsSameOfClients}
 use Rattle.machine.proofs.KeptLemmas.{held_unmarked, held_kept}

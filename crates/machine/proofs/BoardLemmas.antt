@@ -17,7 +17,7 @@ use Rattle.machine.specs.declared.event.Open.{Open}
 use Rattle.machine.specs.declared.event.Event.{Event}
 use Rattle.machine.specs.declared.event.Event.TheVariants.{Feed, Advance}
 use Rattle.machine.specs.Worlds.{World, fed_to, open_at}
-use Rattle.machine.specs.Histories.{IsInput, IsFeed, opening, world}
+use Rattle.machine.specs.Histories.{IsInput, IsFeed, world}
 use Rattle.std.specs.Result.{IfOk, OnOk, OnErr}
 use Rattle.std.specs.Prelude.{Result, Ok, Err}
 use Rattle.std.specs.Prelude.{replicate}

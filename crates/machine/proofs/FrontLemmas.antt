@@ -102,7 +102,7 @@ module _ {T : Type 0} (below : T → T → Bool) (o : PartialOrderLaws below) wh
   all_collected b {v} e n none flight some all bundles held x y z f s a =
       a
       ∙ (ap (λ ts. ts ++ flat_map (λ i. cond (above v.dataflow n i) (front_at i v.inputs) []) (numbers_below (length v.dataflow.nodes)))
-          (s ∙ ap₂ (λ ts ms. ts ++ held_where (above v.dataflow n) ms) (f ∙ ap₂ (λ ts qs. ts ++ stamps (λ site. above v.dataflow n site.node) qs) x y) z)
+      (s ∙ ap₂ (λ ts ms. ts ++ held_where (above v.dataflow n) ms) (f ∙ ap₂ (λ ts qs. ts ++ stamps (λ site. above v.dataflow n site.node) qs) x y) z)
       ∙ (ap (λ ts. (stamps (λ site. above v.dataflow n site.node) v.in_flight ++ held_where (above v.dataflow n) v.held) ++ ts) (sym (where_spread (above v.dataflow n) (λ i. front_at i v.inputs) (length v.dataflow.nodes)))
       ∙ ap (λ (w : Shown T). (stamps (λ site. above w.dataflow n site.node) w.in_flight ++ held_where (above w.dataflow n) w.held) ++ open_where (above w.dataflow n) (open_on w)) e))
 
@@ -126,7 +126,7 @@ module _ {T : Type 0} (below : T → T → Bool) (o : PartialOrderLaws below) wh
   input_collected b {v} e n none flight some all bundles held x y z f s a =
       a
       ∙ (ap (λ ts. ts ++ flat_map (λ i. cond (above v.dataflow n i) (front_at i v.inputs) []) (numbers_below (length v.dataflow.nodes)))
-          (s ∙ ap₂ (λ ts ms. ts ++ held_where (strictly_above v.dataflow n) ms) (f ∙ ap₂ (λ ts qs. ts ++ stamps (λ site. above v.dataflow n site.node) qs) x y) z)
+      (s ∙ ap₂ (λ ts ms. ts ++ held_where (strictly_above v.dataflow n) ms) (f ∙ ap₂ (λ ts qs. ts ++ stamps (λ site. above v.dataflow n site.node) qs) x y) z)
       ∙ (ap (λ ts. (stamps (λ site. above v.dataflow n site.node) v.in_flight ++ held_where (strictly_above v.dataflow n) v.held) ++ ts) (sym (where_spread (above v.dataflow n) (λ i. front_at i v.inputs) (length v.dataflow.nodes)))
       ∙ ap (λ (w : Shown T). (stamps (λ site. above w.dataflow n site.node) w.in_flight ++ held_where (strictly_above w.dataflow n) w.held) ++ open_where (above w.dataflow n) (open_on w)) e))
 

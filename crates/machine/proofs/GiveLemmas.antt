@@ -8,7 +8,6 @@ use Rattle.plan.specs.Rules.{is_output}
 use Rattle.plan.specs.declared.node.Node.{Node}
 use Rattle.machine.specs.declared.event.Bundle.{Bundle}
 use Rattle.machine.specs.declared.event.Held.{Held}
-use Rattle.machine.specs.declared.event.Open.{Open}
 use Rattle.machine.specs.Views.{ViewState}
 use Rattle.machine.specs.Dataflows.{node_of}
 use Rattle.machine.specs.Boards.{Shown, captured_at, capturing, no_view}

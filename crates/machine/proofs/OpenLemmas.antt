@@ -1,11 +1,9 @@
 -- The inputs' frontiers, node by node, and all their elements one after another.
 use Rattle.std.proofs.Common.{◌≡◌, ℕ, zero, suc, ◌+◌, ◌<◌, ◌≤◌, Bool, true, false, cond, not, ◌&&◌, ◌||◌, List, [], ◌∷◌, ◌++◌, map, take, length, get_or, set, get_or-set_same, get_or-set_other, sym, refl, ap, ap₂, ◌∙◌, subst, eqb, arith, append_assoc, ◌⊎◌, inl, inr, ⊎_elim}
-use Rattle.std.specs.List.{filter, flat_map, list_any, slice_get}
-use Rattle.std.specs.Option.{unwrap_or}
-use Rattle.std.proofs.lemmas.Bool.{eqb-true, eq-eqb, eqb-false, false≢true, true≢false, or_left, or_right, cases_lt}
-use Rattle.std.proofs.lemmas.List.{append-nil, length-map, get_or-map, map_push, take_more, take_all}
+use Rattle.std.specs.List.{filter, flat_map, list_any}
+use Rattle.std.proofs.lemmas.Bool.{eqb-true, eq-eqb, false≢true, or_left, or_right, cases_lt}
+use Rattle.std.proofs.lemmas.List.{append-nil, get_or-map, map_push, take_more, take_all}
 use Rattle.std.proofs.lemmas.List.Concat.{flat_map-append}
-use Rattle.std.proofs.lemmas.List.Elements.{filter-append}
 use Rattle.std.proofs.lemmas.List.Folds.{list_any-append}
 use Rattle.std.proofs.lemmas.Option.{unwrap_or-slice_get}
 use Rattle.lattice.specs.Frontiers.{is_beyond}
@@ -31,9 +29,9 @@ any_below f i zero l e = absurd (omega (arith, l))
 any_below f i (suc n) l e =
     list_any-append f (numbers_below n) (n ∷ [])
     ∙ ⊎_elim
-      (λ k. or_left (list_any f (numbers_below n)) (f n || false) (any_below f i n k e))
-      (λ k. let same : i ≡ n = omega (arith, k, l) in or_right (list_any f (numbers_below n)) (f n || false) (or_left (f n) false (ap f (sym same) ∙ e)))
-      (cases_lt i n)
+    (λ k. or_left (list_any f (numbers_below n)) (f n || false) (any_below f i n k e))
+    (λ k. let same : i ≡ n = omega (arith, k, l) in or_right (list_any f (numbers_below n)) (f n || false) (or_left (f n) false (ap f (sym same) ∙ e)))
+    (cases_lt i n)
 
 -- none of them and not the next
 pub none_next : (f : ℕ → Bool) (n : ℕ) → list_any f (numbers_below n) ≡ false → f n ≡ false → list_any f (numbers_below (n + 1)) ≡ false
@@ -78,9 +76,9 @@ module _ {T : Type 0} where
   open_within f i (suc n) l =
       open_more f i n
       ∙ ⊎_elim
-        (λ k. ap₂ (λ xs ys. xs ++ ys) (open_within f i n k) (open_in i n (f n) false (other k (eqb n i) refl)) ∙ append-nil (f i))
-        (λ k. let same : n ≡ i = omega (arith, k, l) in ap₂ (λ xs ys. xs ++ ys) (open_beyond f i n k) (open_in i n (f n) true (eq-eqb n i same)) ∙ ap f same)
-        (cases_lt i n)
+      (λ k. ap₂ (λ xs ys. xs ++ ys) (open_within f i n k) (open_in i n (f n) false (other k (eqb n i) refl)) ∙ append-nil (f i))
+      (λ k. let same : n ≡ i = omega (arith, k, l) in ap₂ (λ xs ys. xs ++ ys) (open_beyond f i n k) (open_in i n (f n) true (eq-eqb n i same)) ∙ ap f same)
+      (cases_lt i n)
     where
       other : i < n → (c : Bool) → eqb n i ≡ c → eqb n i ≡ false
       other k true e = let same = eqb-true n i e in absurd (omega (arith, k, same))

@@ -16,7 +16,7 @@ use Rattle.plan.specs.Changes.{has_passed, query_at, AreDifferences}
 use Rattle.plan.specs.Rules.{is_output}
 use Rattle.plan.proofs.PlanLemmas.{no_first}
 use Rattle.machine.specs.declared.event.Event.{Event}
-use Rattle.machine.specs.Dataflows.{IsDataflow, node_of}
+use Rattle.machine.specs.Dataflows.{node_of}
 use Rattle.machine.specs.Outstanding.{frontier}
 use Rattle.machine.specs.Histories.{world}
 use Rattle.machine.specs.Promises.{changes_in}

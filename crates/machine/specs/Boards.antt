@@ -1,31 +1,24 @@
 -- What a contract sees of a board, what each event makes of it, and which histories it may stand for.
-use Rattle.std.specs.Prelude.{◌≡◌, ℕ, zero, suc, ◌<◌, ◌≤◌, Bool, not, ◌||◌, eqb, if◌then◌else◌, List, [], ◌∷◌, ◌++◌, length, set, get_or, replicate, Option, Some, None, IsTrue, ⊤, nat_lt, nat_le, pos, unsigned_abs}
-use Rattle.std.specs.List.{filter, flat_map}
-use Rattle.std.specs.Ordering.{int_eq}
-use Rattle.lattice.specs.Frontiers.{is_beyond, all_beyond}
+use Rattle.std.specs.Prelude.{◌≡◌, ℕ, zero, suc, ◌<◌, ◌≤◌, Bool, not, ◌||◌, if◌then◌else◌, List, [], ◌∷◌, ◌++◌, length, set, get_or, replicate, Option, Some, None, IsTrue, ⊤}
+use Rattle.std.specs.List.{filter}
+use Rattle.lattice.specs.Frontiers.{is_beyond}
 use Rattle.update.specs.Bags.{Alike}
 use Rattle.update.specs.Updates.{as_of, size}
 use Rattle.update.specs.declared.change.Update.{Update}
 use Rattle.update.specs.declared.refusal.Refusal.{Refusal}
-use Rattle.update.specs.declared.refusal.Refusal.TheVariants.{WrongWidth, ZeroWeight, WeightTooLarge, TimePassed, NotForward, InputFull}
-use Rattle.plan.specs.Ancestors.{is_input}
-use Rattle.plan.specs.Edges.{numbers_where}
 use Rattle.plan.specs.Rules.{is_output, first_refusal}
-use Rattle.plan.specs.Widths.{width_of}
-use Rattle.plan.specs.declared.node.Node.{Node}
 use Rattle.machine.specs.declared.event.Place.{Place}
 use Rattle.machine.specs.declared.event.Bundle.{Bundle}
 use Rattle.machine.specs.declared.event.Fed.{Fed}
 use Rattle.machine.specs.declared.event.Emission.{Emission}
 use Rattle.machine.specs.declared.event.Held.{Held}
-use Rattle.machine.specs.declared.event.Open.{Open}
 use Rattle.machine.specs.declared.event.Event.{Event}
 use Rattle.machine.specs.declared.event.Event.TheVariants.{Feed, Advance, Look, Take, TakeHeld, Give}
 use Rattle.machine.specs.Views.{ViewState}
 use Rattle.machine.specs.Dataflows.{Dataflow, node_of}
 use Rattle.machine.specs.Worlds.{World, same_place, queue, held_at, emitted_at, fed_to, open_at}
 use Rattle.machine.specs.Inputs.{front_at, first_inputs, feed_faults, advance_faults}
-use Rattle.machine.specs.Histories.{alone, without, is_held_by, holding, opening, world, dataflow_after, IsLegal}
+use Rattle.machine.specs.Histories.{alone, without, is_held_by, holding, world, dataflow_after, IsLegal}
 
 -- what lies on a board
 pub record Shown (T : Type 0) : Type 0 where

@@ -82,10 +82,7 @@ impl<T: Minimum> Board<T> {
         ensures unchanged { OnErr result (self.new ≡ self.old) }
     {
         let taken = self.accepted[input.number()];
-        if let Some(refusal) = self
-            .inputs
-            .feed_refusal(&self.plan, taken, input, update)
-        {
+        if let Some(refusal) = self.inputs.feed_refusal(&self.plan, taken, input, update) {
             return Err(refusal);
         }
         self.send_change(input, update)?;

@@ -48,8 +48,9 @@ pub use lists::{Times, Updates};
 pub use standing::meets;
 pub use theorems::{
     clients_are_apart, frontiers_do_not_go_back, headline, nothing_lurks, one_list,
-    parts_of_workers, port_frontiers_are_the_input_frontier, premises_can_be_met, quiet_is_caught_up, stamps_are_frontiers,
-    weights_are_kept, what_waits_has_its_place, workers_are_apart,
+    parts_of_workers, port_frontiers_are_the_input_frontier, premises_can_be_met,
+    quiet_is_caught_up, stamps_are_frontiers, weights_are_kept, what_waits_has_its_place,
+    workers_are_apart,
 };
 pub use view::View;
 pub use witnesses::definitions_fit_examples;

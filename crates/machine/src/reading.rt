@@ -20,8 +20,8 @@ ghost use Rattle.machine.specs.Reads.{front, input_front, captured_of, since_of,
 
 use crate::board::Board;
 use crate::event::Held;
-use antichain::is_beyond;
 use crate::workers::insert;
+use antichain::is_beyond;
 use lattice::Minimum;
 use plan::NodeId;
 use std::alloc::Global;

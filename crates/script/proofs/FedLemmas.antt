@@ -16,7 +16,6 @@ use Rattle.plan.proofs.PlanLemmas.{no_first}
 use Rattle.machine.specs.declared.event.Fed.{Fed}
 use Rattle.machine.specs.Dataflows.{IsDataflow, node_of}
 use Rattle.machine.specs.Inputs.{front_at}
-use Rattle.machine.specs.Shares.{home}
 use Rattle.machine.specs.Histories.{IsInput, alone}
 use Rattle.machine.specs.Boards.{Shown, fed, feed_refusal}
 use Rattle.machine.proofs.ClaimLemmas.{routed}

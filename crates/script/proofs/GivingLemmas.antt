@@ -1,5 +1,5 @@
 -- What a linear node makes of a bundle may be given, where nothing was held before.
-use Rattle.std.proofs.Common.{◌≡◌, ℕ, zero, suc, ◌+◌, ◌≤◌, Bool, true, false, cond, ◌&&◌, ◌||◌, eqb, nat_lt, not, List, [], ◌∷◌, ◌++◌, length, Some, IsTrue, sym, refl, ap, ◌∙◌, subst, arith, ⊎_elim}
+use Rattle.std.proofs.Common.{◌≡◌, ℕ, zero, suc, ◌+◌, ◌≤◌, Bool, true, false, cond, ◌&&◌, ◌||◌, eqb, nat_lt, List, [], ◌∷◌, ◌++◌, Some, IsTrue, sym, refl, ap, ◌∙◌, arith}
 use Rattle.std.specs.List.{list_all}
 use mathlib.Core.Path.{fun_ext}
 use Rattle.std.proofs.lemmas.Bool.{and_from, eqb-true, eqb-false, eq-eqb, ne_eqb, true≢false}
@@ -31,8 +31,7 @@ use Rattle.machine.specs.declared.event.Emission.{Emission}
 use Rattle.machine.specs.declared.event.Event.{Event}
 use Rattle.machine.specs.declared.event.Event.TheVariants.{Take}
 use Rattle.machine.specs.Dataflows.{Dataflow, IsDataflow, node_of}
-use Rattle.machine.specs.Worlds.{World, place, same_place, times, updates_at, emitted_by, held_at}
-use Rattle.machine.specs.Shares.{share}
+use Rattle.machine.specs.Worlds.{World, place, same_place, times, emitted_by, held_at}
 use Rattle.machine.specs.NodeLaws.{is_reduction, received_at, NodeLaw}
 use Rattle.machine.specs.Histories.{holding, gave, after, IsTake, IsGive, world, IsLegal}
 use Rattle.machine.proofs.KeptLemmas.{held_marked, is_stamped, kept_world}

@@ -41,9 +41,7 @@ use Rattle.plan.proofs.StandLemmas.{above_earlier}
 use Rattle.plan.proofs.StepLemmas.{query_by_sources}
 use Rattle.plan.proofs.WeighLemmas.{count_of-append}
 use Rattle.machine.specs.declared.event.Fed.{Fed}
-use Rattle.machine.specs.declared.event.Open.{Open}
 use Rattle.machine.specs.Inputs.{front_at, feed_faults, advance_faults}
-use Rattle.machine.specs.Histories.{opening}
 use Rattle.machine.specs.Worlds.{fed_to}
 use Rattle.grammar.specs.Commands.{is_input_of}
 use Rattle.oracle.specs.Entries.{IsRefusal}

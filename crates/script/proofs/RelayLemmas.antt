@@ -21,7 +21,7 @@ use Rattle.machine.specs.declared.event.Event.{Event}
 use Rattle.machine.specs.declared.event.Event.TheVariants.{Take}
 use Rattle.machine.specs.Dataflows.{Dataflow, IsDataflow, node_of}
 use Rattle.machine.specs.Worlds.{World, queue, held_at}
-use Rattle.machine.specs.Outstanding.{stamp, input_frontier}
+use Rattle.machine.specs.Outstanding.{input_frontier}
 use Rattle.machine.specs.Readings.{IsQuiet}
 use Rattle.machine.specs.Histories.{holding, is_held_by, without, world, IsGive}
 use Rattle.machine.specs.Boards.{Shown, Stands, looked, taken, given}

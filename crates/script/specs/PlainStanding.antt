@@ -1,5 +1,5 @@
 -- What the plain engine keeps, and for which session it stands.
-use Rattle.std.specs.Prelude.{◌≡◌, ℕ, Bool, not, eqb, List, ◌∷◌, [], ◌++◌, length, reverse, set, Option, IsTrue}
+use Rattle.std.specs.Prelude.{◌≡◌, ℕ, Bool, List, ◌∷◌, [], ◌++◌, length, reverse, set, Option, IsTrue}
 use Rattle.std.specs.List.{All}
 use Rattle.lattice.specs.Frontiers.{is_beyond}
 use Rattle.update.specs.declared.change.Update.{Update}

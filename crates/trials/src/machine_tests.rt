@@ -9,24 +9,29 @@ use std::process::Abort;
 use std::test::Fail;
 use update::{Refusal, Update};
 
+// The number of the client, behind those of the workers.
+const CLIENT: usize = 7;
+
 // A board of an input of one column, and a view of it, for two workers.
 fn opened(alloc: Global) -> Result<Board<Bitime>, Refusal> {
     Board::open(alloc, built(alloc, &[input(1), view(0)])?, 2)
 }
 
-// Feeds the row 7 at (0, 0). That the first node is an input is tested here, since `feed` asks for it.
+// Feeds the row 7 at (0, 0). That the first node is an input and the client no worker is tested here, since `feed` asks for it.
 fn fed(rt: &impl Abort, alloc: Global, board: &mut Board<Bitime>) -> Result<(), Refusal> {
     let input = NodeId::new(0);
     let there = input.number() < board.plan().len();
     assert!(rt; there);
     let is_input = board.plan().node(input).is_input();
     assert!(rt; is_input);
+    let is_client = board.workers() <= CLIENT;
+    assert!(rt; is_client);
     let update = Update {
         time: at((0, 0)),
         row: Row::new(alloc, &[7])?,
         diff: 1,
     };
-    board.feed(7, input, update)
+    board.feed(CLIENT, input, update)
 }
 
 // A frontier of one time.
@@ -43,11 +48,13 @@ fn advanced(rt: &impl Abort, alloc: Global, board: &mut Board<Bitime>) -> Result
     assert!(rt; there);
     let is_input = board.plan().node(input).is_input();
     assert!(rt; is_input);
-    board.advance(7, input, times(alloc, (0, 1))?)
+    let is_client = board.workers() <= CLIENT;
+    assert!(rt; is_client);
+    board.advance(CLIENT, input, times(alloc, (0, 1))?)
 }
 
 // The change lies on the board and is not settled, so the view has one time in its frontier and no change.
-fn is_answered(rt: &impl Abort, board: &Board<Bitime>) -> Result<bool, Refusal> {
+fn is_answered(rt: &impl Abort, board: &mut Board<Bitime>) -> Result<bool, Refusal> {
     let view = NodeId::new(1);
     let there = view.number() < board.plan().len();
     assert!(rt; there);
@@ -79,12 +86,12 @@ fn boards_take_memory(rt: HostRuntime) -> Result<(), Fail> {
 
 #[test]
 fn answers_take_memory(rt: HostRuntime) -> Result<(), Fail> {
-    let board = match opened(rt.alloc()) {
+    let mut board = match opened(rt.alloc()) {
         Err(Refusal::OutOfMemory) => opened(rt.alloc())?,
         done => done?,
     };
-    let answered = match is_answered(&rt, &board) {
-        Err(Refusal::OutOfMemory) => is_answered(&rt, &board)?,
+    let answered = match is_answered(&rt, &mut board) {
+        Err(Refusal::OutOfMemory) => is_answered(&rt, &mut board)?,
         done => done?,
     };
     assert!(rt; answered && board.is_quiet());

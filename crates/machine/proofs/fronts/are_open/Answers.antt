@@ -1,4 +1,4 @@
-use Rattle.std.proofs.Common.{◌≡◌, ◌&&◌, true, ap, sym, subst, ◌∙◌, ◌<◌, length}
+use Rattle.std.proofs.Common.{◌&&◌, ap, sym, subst, ◌∙◌, ◌<◌, length}
 use Rattle.lattice.specs.Frontiers.{is_beyond}
 use Rattle.plan.specs.Ancestors.{is_above}
 use Rattle.machine.specs.Inputs.{front_at}

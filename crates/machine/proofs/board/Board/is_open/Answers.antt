@@ -1,4 +1,4 @@
-use Rattle.std.proofs.Common.{◌≡◌, ap, sym, ◌∙◌, length, List, ◌&&◌}
+use Rattle.std.proofs.Common.{ap, sym, ◌∙◌, length, ◌&&◌}
 use Rattle.std.specs.List.{list_any}
 use Rattle.lattice.specs.Frontiers.{is_beyond}
 use Rattle.plan.specs.Ancestors.{is_above, numbers_below}

@@ -1,4 +1,3 @@
-use Rattle.machine.specs.Outstanding.{strictly_above}
 use Rattle.machine.proofs.FrontLemmas.{input_collected}
 use Rattle.machine.proofs.board.Board.outstanding_above.Goals as goal
 

@@ -1,7 +1,6 @@
 use Rattle.std.proofs.Common.{◌≡◌, ap, ◌∙◌, cond, [], ◌∷◌, ◌<◌, subst}
-use Rattle.plan.specs.Ancestors.{is_input}
 use Rattle.plan.specs.Nodes.{node_at}
-use Rattle.machine.proofs.OpenLemmas.{first_more, first_all}
+use Rattle.machine.proofs.OpenLemmas.{first_more}
 use Rattle.machine.proofs.inputs.InputFrontiers.first.Goals as goal
 
 pub loop-n-preserved : goal.loop-n-preserved

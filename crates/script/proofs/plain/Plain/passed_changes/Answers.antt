@@ -7,7 +7,6 @@ use Rattle.lattice.specs.Pairs.{pair_order, pair_bounds, pair_extends}
 use Rattle.lattice.specs.declared.product.Pair.{Pair}
 use Rattle.update.specs.declared.change.Update.{Update}
 use Rattle.plan.specs.Changes.{AreDifferences, open_for}
-use Rattle.machine.specs.declared.event.Open.{Open}
 use Rattle.grammar.specs.Commands.{is_view_of}
 use Rattle.oracle.specs.Evaluation.{list_of}
 use Rattle.oracle.specs.Listing.{HasLargeDifference}

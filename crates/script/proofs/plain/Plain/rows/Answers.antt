@@ -8,7 +8,6 @@ use Rattle.update.specs.Bags.{Alike}
 use Rattle.update.specs.declared.change.Update.{Update}
 use Rattle.plan.specs.Changes.{open_for, query_at}
 use Rattle.machine.specs.Inputs.{front_at}
-use Rattle.machine.specs.declared.event.Open.{Open}
 use Rattle.grammar.specs.Commands.{is_view_of}
 use Rattle.oracle.specs.Evaluation.{HasLargeAbove, list_of, sums_at}
 use Rattle.script.specs.Engines.{IsAnswer}

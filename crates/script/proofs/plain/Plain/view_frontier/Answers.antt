@@ -1,4 +1,4 @@
-use Rattle.std.proofs.Common.{◌≡◌, ◌∙◌, ℕ, List, map, Vec, Global, refl, ap, sym, subst}
+use Rattle.std.proofs.Common.{◌≡◌, ◌∙◌, ℕ, map, Vec, Global, refl, ap, sym, subst}
 use Rattle.std.proofs.lemmas.Cmp.{nat_cmp_total, then_total, on_total}
 use Rattle.lattice.specs.Naturals.{nat_order, nat_extends}
 use Rattle.lattice.specs.Pairs.{pair_order, pair_extends}
@@ -6,7 +6,6 @@ use Rattle.lattice.specs.declared.product.Pair.{Pair}
 use Rattle.update.specs.declared.change.Update.{Update}
 use Rattle.plan.specs.Changes.{open_for}
 use Rattle.machine.specs.Inputs.{front_at}
-use Rattle.machine.specs.declared.event.Open.{Open}
 use Rattle.script.specs.PlainStanding.{Register, Records}
 use Rattle.script.specs.Sessions.{frontier_at}
 use Rattle.script.specs.Text.{at_or_below, in_print}

@@ -1,8 +1,3 @@
-use Rattle.std.proofs.Common.{ℕ, List, subst}
-use Rattle.lattice.specs.declared.product.Pair.{Pair}
-use Rattle.script.specs.Engines.{IsAnswer}
-use Rattle.script.specs.PlainStanding.{Records}
-use Rattle.script.specs.Sessions.{with_frontier, frontier_refusal}
 use Rattle.script.specs.Text.{at_or_below}
 use Rattle.script.proofs.PlainLemmas.{input_answered}
 use Rattle.script.proofs.plain.PlainEngine.advance.Goals as goal

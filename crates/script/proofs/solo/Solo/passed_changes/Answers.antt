@@ -37,7 +37,7 @@ returns-clause-answered c s =
     let total = then_total (on_total (λ (t : Pair ℕ ℕ). t.first) nat_cmp_total) (on_total (λ (t : Pair ℕ ℕ). t.second) nat_cmp_total) in
     let Changes : Type 0 = List (Update (Pair ℕ ℕ)) in
     let Answered : Shown (Pair ℕ ℕ) → Result Changes Refusal → Type 0 = λ d r. StandsAs at_or_below (make_pair 0 0) d s
-        → IsAnswer (IsLarge d.dataflow.nodes s) None (λ changes. (changes ≡ changes_at at_or_below d.dataflow.nodes s in_print join_of v) × StandsAs at_or_below (make_pair 0 0) d s) (StandsAs at_or_below (make_pair 0 0) d s) r in
+    → IsAnswer (IsLarge d.dataflow.nodes s) None (λ changes. (changes ≡ changes_at at_or_below d.dataflow.nodes s in_print join_of v) × StandsAs at_or_below (make_pair 0 0) d s) (StandsAs at_or_below (make_pair 0 0) d s) r in
     subst (λ d. Answered d c.match-changes.result) c.self.view_is
     (elim c.match-changes.branch [
       | in-Ok w ↦ subst (Answered b) (sym w.result-is)

@@ -27,7 +27,7 @@ returns-clause-answered c s =
     let none = subst (λ (d : Shown (Pair ℕ ℕ)). d.in_flight ≡ []) (sym c.self.view_is) c.requires.done in
     let total = then_total (on_total (λ (t : Pair ℕ ℕ). t.first) nat_cmp_total) (on_total (λ (t : Pair ℕ ℕ). t.second) nat_cmp_total) in
     let Answered : Shown (Pair ℕ ℕ) → Result (List (Pair ℕ ℕ)) Refusal → Type 0 = λ d r. StandsAs at_or_below (make_pair 0 0) d s
-        → IsAnswer ⊥ None (λ frontier. (frontier ≡ frontier_at at_or_below d.dataflow.nodes s in_print v) × StandsAs at_or_below (make_pair 0 0) d s) (StandsAs at_or_below (make_pair 0 0) d s) r in
+    → IsAnswer ⊥ None (λ frontier. (frontier ≡ frontier_at at_or_below d.dataflow.nodes s in_print v) × StandsAs at_or_below (make_pair 0 0) d s) (StandsAs at_or_below (make_pair 0 0) d s) r in
     subst (λ d. Answered d c.match-frontier.result) c.self.view_is
     (elim c.match-frontier.branch [
       | in-Ok w ↦ subst (Answered b) (sym w.result-is)
