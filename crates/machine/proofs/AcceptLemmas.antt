@@ -1,12 +1,17 @@
 -- A change is accepted, or refused, and a frontier likewise.
-use Rattle.std.proofs.Common.{◌≡◌, ℕ, ◌+◌, ◌<◌, [], ◌∷◌, ◌++◌, length, get_or, set, sym, ap, ◌∙◌, subst, arith, Option, Some, None, Result, Ok, Err}
-use Rattle.std.specs.Result.{IfErr, IsErrAnd}
+use Rattle.std.proofs.Common.{◌≡◌, ℕ, suc, ◌+◌, ◌<◌, List, [], length, get_or, set, sym, ap, ap₂, ◌∙◌, subst, arith, Option, Some, None, Result, Ok, Err}
+use Rattle.std.specs.Result.{IfErr, IfOk, OnOk, OnErr, IsErrAnd}
 use Rattle.std.proofs.lemmas.List.{get_or_default, length-set}
 use Rattle.update.specs.declared.refusal.Refusal.{Refusal}
 use Rattle.update.specs.declared.refusal.Refusal.TheVariants.{OutOfMemory}
 use Rattle.plan.specs.Rules.{IsRefusalBy}
 use Rattle.machine.specs.declared.event.Bundle.{Bundle}
-use Rattle.machine.specs.Boards.{Shown, IsBoard}
+use Rattle.machine.specs.declared.event.Fed.{Fed}
+use Rattle.machine.specs.declared.event.Site.{Site}
+use Rattle.machine.specs.Loads.{Load, Lot, more_at, less_at, with_lot, put_at, put_all, taken_from, held_from}
+use Rattle.machine.specs.Views.{ViewState}
+use Rattle.machine.specs.Boards.{Shown, IsBoard, sending, accepting}
+use Rattle.machine.proofs.PlacingLemmas.{as_many, as_wide, many_put_all, wide_put_all}
 
 -- what is found to refuse is what refuses
 pub refuses : (o found : Option Refusal) (refusal : Refusal) → found ≡ o → found ≡ Some refusal → IsRefusalBy o refusal
@@ -30,12 +35,52 @@ module _ {T : Type 0} (b : Shown T) {v : Shown T} (e : v ≡ b) (n k : ℕ) (s :
       h ∙ (get_or_default v.accepted k t 0 inside ∙ (ap (λ (z : Shown T). get_or z.accepted k 0) e ∙ ap (λ i. get_or b.accepted i 0) s))
 
 -- with one change more
-pub one_accepted : {T : Type 0} (b sent : Shown T) {v : Shown T} (e : v ≡ sent) (more : Bundle T) (n k t : ℕ) → sent ≡ record b { in_flight = b.in_flight ++ more ∷ [] } → k ≡ n → t ≡ get_or b.accepted n 0
-    → record v { accepted = set v.accepted k (t + 1) } ≡ record b { in_flight = b.in_flight ++ more ∷ []; accepted = set b.accepted n (get_or b.accepted n 0 + 1) }
-one_accepted {T} b sent e more n k t put s c =
+pub one_accepted : {T : Type 0} (b sent : Shown T) {v : Shown T} (e : v ≡ sent) (f : Fed T) (k t : ℕ) → sent ≡ sending f b → k ≡ f.input → t ≡ get_or b.accepted f.input 0
+    → record v { accepted = set v.accepted k (t + 1) } ≡ accepting f b
+one_accepted {T} b sent e f k t put s c =
     ap (λ (z : Shown T). record z { accepted = set z.accepted k (t + 1) }) (e ∙ put)
-    ∙ (ap (λ i. record b { in_flight = b.in_flight ++ more ∷ []; accepted = set b.accepted i (t + 1) }) s
-    ∙ ap (λ c. record b { in_flight = b.in_flight ++ more ∷ []; accepted = set b.accepted n (c + 1) }) c)
+    ∙ ap₂ (λ i n. record (sending f b) { accepted = set b.accepted i n }) s (let more : t + 1 ≡ suc t = omega arith in more ∙ ap suc c)
 
+-- the places stay, and so a board is one
 pub board_accepting : {T : Type 0} (b : Shown T) (k t : ℕ) → IsBoard b → IsBoard (record b { accepted = set b.accepted k t })
-board_accepting b k t is = record { dataflow = is.dataflow; hand = is.hand; accepted = length-set b.accepted k t ∙ is.accepted; views = is.views; inputs = is.inputs }
+board_accepting b k t is = record { dataflow = is.dataflow; stations = is.stations; rows = is.rows; hand = is.hand; accepted = length-set b.accepted k t ∙ is.accepted; views = is.views; inputs = is.inputs }
+
+module _ {T : Type 0} (b : Shown T) (is : IsBoard b) where
+  pub board_lots : (stations : List (List (Lot T))) → length stations ≡ length b.stations → ((m : ℕ) → length (get_or stations m []) ≡ length (get_or b.stations m [])) → IsBoard (record b { stations = stations })
+  board_lots stations many wide = record { dataflow = is.dataflow; stations = many ∙ is.stations; rows = λ n l. wide n ∙ is.rows n l; hand = is.hand; accepted = is.accepted; views = is.views; inputs = is.inputs }
+
+  pub board_changed : (n k : ℕ) (change : Lot T → Lot T) → IsBoard (record b { stations = with_lot n k change b.stations })
+  board_changed n k change = board_lots (with_lot n k change b.stations) (as_many b.stations n k change) (as_wide b.stations n k change)
+
+  -- all that was given is there
+  pub board_gave : (bundles : List (Bundle T)) (n k : ℕ) (ts : List T) (before mid after : List (List (Lot T))) → before ≡ b.stations → mid ≡ put_all bundles before → after ≡ held_from n k ts mid
+      → (worker : ℕ) (views : List (ViewState T)) → length views ≡ length b.views → IsBoard (record b { stations = after; hand = set b.hand worker None; views = views })
+  board_gave bundles n k ts before mid after e f g worker views long =
+      let were : length mid ≡ length b.stations = ap length f ∙ (many_put_all bundles before ∙ ap length e) in
+      let many : length after ≡ length b.stations = ap length g ∙ (as_many mid n k (λ lot. record lot { held = ts }) ∙ were) in
+      record {
+        dataflow = is.dataflow;
+        stations = many ∙ is.stations;
+        rows = λ m l. wide m ∙ is.rows m l;
+        hand = length-set b.hand worker None ∙ is.hand;
+        accepted = is.accepted;
+        views = long ∙ is.views;
+        inputs = is.inputs;
+      }
+    where
+      wide : (m : ℕ) → length (get_or after m []) ≡ length (get_or b.stations m [])
+      wide m =
+          ap (λ stations. length (get_or stations m [])) g
+          ∙ (as_wide mid n k (λ lot. record lot { held = ts }) m
+          ∙ (ap (λ stations. length (get_or stations m [])) f
+          ∙ (wide_put_all bundles before m ∙ ap (λ stations. length (get_or stations m [])) e)))
+
+  -- a change was sent, or it was not
+  pub board_sent : {A E : Type 0} (r : Result A E) (after : List (List (Lot T))) (site : Site) (load : Load T) → OnOk r (after ≡ put_at site load b.stations) → OnErr r (after ≡ b.stations) → IsBoard (record b { stations = after })
+  board_sent (Ok x) after site load e f = subst (λ stations. IsBoard (record b { stations = stations })) (sym e) (board_changed site.node site.worker (more_at site.port load))
+  board_sent (Err x) after site load e f = subst (λ stations. IsBoard (record b { stations = stations })) (sym f) is
+
+  -- a bundle was taken, or it was not
+  pub board_taken : {E : Type 0} (r : Result (Bundle T) E) (after : List (List (Lot T))) (number : ℕ) → IfOk r (λ x. after ≡ taken_from number x b.stations) → OnErr r (after ≡ b.stations) → IsBoard (record b { stations = after })
+  board_taken (Ok x) after number e f = subst (λ stations. IsBoard (record b { stations = stations })) (sym e) (board_changed x.place.node x.place.worker (less_at x.place.port number x.stamp))
+  board_taken (Err x) after number e f = subst (λ stations. IsBoard (record b { stations = stations })) (sym f) is

@@ -3,7 +3,7 @@ use Rattle.std.proofs.Common.{◌≡◌, ◌≢◌, ℕ, ◌<◌, Bool, true, fa
 use Rattle.std.proofs.lemmas.Bool.{eqb-true}
 use Rattle.std.proofs.lemmas.List.{append-nil}
 use Rattle.std.proofs.lemmas.List.Concat.{flat_map-append}
-use Rattle.machine.specs.declared.event.Held.{Held}
+use Rattle.machine.specs.declared.event.Capability.{Capability}
 use Rattle.machine.specs.declared.event.Event.{Event}
 use Rattle.machine.specs.declared.event.Event.TheVariants.{Feed, Advance, Allow, Look, Take, TakeHeld, Give}
 use Rattle.machine.specs.Dataflows.{Dataflow}
@@ -29,14 +29,14 @@ not_there false b = refl
 
 module _ {T : Type 0} (leq : T → T → Bool) (p : Dataflow) (w : World T) where
   -- what another worker holds from now on is added
-  held_before : (n k m a : ℕ) (ts : List T) (ms : List (Held T)) → eqb a k ≡ false → held_at n k (holding m a ts ++ ms) ≡ held_at n k ms
+  held_before : (n k m a : ℕ) (ts : List T) (ms : List (Capability T)) → eqb a k ≡ false → held_at n k (holding m a ts ++ ms) ≡ held_at n k ms
   held_before n k m a ts ms e =
-      flat_map-append (λ (h : Held T). cond (eqb h.node n && eqb h.worker k) (h.time ∷ []) []) (holding m a ts) ms
+      flat_map-append (λ (h : Capability T). cond (eqb h.node n && eqb h.worker k) (h.time ∷ []) []) (holding m a ts) ms
       ∙ ap (λ z. z ++ held_at n k ms) (held_unmarked n k m a ts (rw e (not_both (eqb m n))))
 
-  held_after : (n k m a : ℕ) (ts : List T) (ms : List (Held T)) → eqb a k ≡ false → held_at n k (ms ++ holding m a ts) ≡ held_at n k ms
+  held_after : (n k m a : ℕ) (ts : List T) (ms : List (Capability T)) → eqb a k ≡ false → held_at n k (ms ++ holding m a ts) ≡ held_at n k ms
   held_after n k m a ts ms e =
-      flat_map-append (λ (h : Held T). cond (eqb h.node n && eqb h.worker k) (h.time ∷ []) []) ms (holding m a ts)
+      flat_map-append (λ (h : Capability T). cond (eqb h.node n && eqb h.worker k) (h.time ∷ []) []) ms (holding m a ts)
       ∙ (ap (λ z. held_at n k ms ++ z) (held_unmarked n k m a ts (rw e (not_both (eqb m n)))) ∙ append-nil (held_at n k ms))
 
   pub worker_apart : (k : ℕ) (e : Event T) → actor_of e ≢ k → IsSameOfWorker k w (after leq p w e)

@@ -1,6 +1,6 @@
 -- What each event makes of the histories that a board may stand for: the events of clients.
-use Rattle.std.proofs.Common.{◌≡◌, ℕ, zero, suc, ◌+◌, ◌<◌, ◌≤◌, Bool, true, false, cond, not, ◌&&◌, ◌||◌, List, [], ◌∷◌, ◌++◌, length, set, get_or, sym, refl, ap, ◌∙◌, subst, None, eqb, arith, unsigned_abs, nat_lt, nat_le}
-use Rattle.std.specs.List.{filter, list_any}
+use Rattle.std.proofs.Common.{◌≡◌, map, ◌⊎◌, inl, inr, ⊎_elim, ℕ, zero, suc, ◌+◌, ◌<◌, ◌≤◌, Bool, true, false, cond, not, ◌&&◌, ◌||◌, List, [], ◌∷◌, ◌++◌, length, set, get_or, sym, refl, ap, ◌∙◌, subst, None, eqb, arith, unsigned_abs, nat_lt, nat_le}
+use Rattle.std.specs.List.{list_any}
 use Rattle.std.specs.Ordering.{int_eq}
 use Rattle.std.proofs.lemmas.Bool.{eqb-true, eq-eqb, false≢true, true≢false}
 use Rattle.std.proofs.lemmas.Bool.Decides.{Decides-int_eq, nat_tests}
@@ -30,11 +30,11 @@ use Rattle.std.specs.List.{slice_get}
 use Rattle.std.specs.Prelude.{IsTrue, Option, Some}
 use Rattle.update.specs.declared.change.Update.{Update}
 use Rattle.plan.specs.Nodes.{arranged_by}
-use Rattle.machine.specs.declared.event.Place.{Place}
+use Rattle.machine.specs.declared.event.Site.{Site}
 use Rattle.machine.specs.declared.event.Event.TheVariants.{Take}
 use Rattle.machine.specs.Dataflows.{node_of}
 use Rattle.machine.specs.Worlds.{queue}
-use Rattle.machine.specs.Histories.{alone, with_at, holding}
+use Rattle.machine.specs.Histories.{alone, with_at}
 use Rattle.std.proofs.Math.IntN.{ℤ, ◌+ℤ◌}
 use Rattle.std.proofs.lemmas.Int.{ints}
 use Rattle.plan.specs.Rules.{is_output}
@@ -43,10 +43,21 @@ use Rattle.machine.specs.declared.event.Emission.{Emission}
 use Rattle.machine.specs.declared.event.Event.TheVariants.{Give}
 use Rattle.machine.specs.Views.{ViewState}
 use Rattle.machine.specs.Worlds.{emitted_at}
-use Rattle.machine.specs.Histories.{is_held_by, IsGive}
+use Rattle.machine.specs.Histories.{IsGive}
 use Rattle.machine.specs.Boards.{capturing, given, is_from_start}
 use Rattle.machine.proofs.FlowLemmas.{sum_at-append}
-use Rattle.machine.proofs.SiteLemmas.{queued_more, queued_less, held_more, held_behind, held_others}
+use Rattle.machine.specs.Shares.{home}
+use Rattle.machine.specs.Promises.{IsPlace}
+use Rattle.machine.specs.Worlds.{same_place}
+use Rattle.machine.specs.Loads.{Lot, no_lot, lot_of, first_stations, load_in, bundle_at, loads_at, put_all, queue_of}
+use Rattle.plan.specs.Nodes.{sources}
+use Rattle.antichain.proofs.Lists.{Among, contains_among}
+use Rattle.machine.proofs.PlaceLemmas.{in_place_lem}
+use Rattle.machine.proofs.CuttingLemmas.{few_sources}
+use Rattle.machine.proofs.ClaimLemmas.{routed}
+use Rattle.machine.proofs.PlacingLemmas.{IsThere, AreThere, queue_put, held_put, queue_put_all, held_put_all, many_put_all, wide_put_all, queue_taken, held_taken, queue_held, held_instead}
+use Rattle.std.proofs.lemmas.List.Concat.{flat_map-append}
+use Rattle.std.proofs.lemmas.Bool.{cases_lt}
 use Rattle.machine.proofs.OpenLemmas.{first_front, open_set}
 use Rattle.machine.specs.Inputs.{front_at}
 use Rattle.machine.specs.Boards.{taken, turned}
@@ -62,6 +73,10 @@ open_any below i t (o ∷ os) = step (eqb o.input i) (open_any below i t os)
         → is_beyond below (cond b (o.time ∷ []) [] ++ open_at i os) t ≡ ((b && below o.time t) || list_any (λ o. eqb o.input i && below o.time t) os)
     step true h = ap (λ z. below o.time t || z) h
     step false h = h
+
+-- a queue of more bundles
+pub queue_append : {T : Type 0} (site : Site) (xs more : List (Bundle T)) → queue site (xs ++ more) ≡ queue site xs ++ queue site more
+queue_append site xs more = flat_map-append (λ b. cond (same_place b.place site) (b ∷ []) []) xs more
 
 -- what no fault refuses
 unfaulted : (b : Bool) → not b ≡ false → b ≡ true
@@ -102,8 +117,8 @@ module _ {T : Type 0} (below : T → T → Bool) (minimum : T) where
   pub stands_fed : (b : Shown T) → IsBoard b → (h : List (Event T)) (client : ℕ) (f : Fed T) → b.dataflow.workers ≤ client → feed_refusal below b f ≡ None → IsInput b.dataflow f.input → Stands below minimum b h → Stands below minimum (fed client f b) (Feed client f ∷ h)
   stands_fed b board h client f m e i s = record {
     legal = (allowed_feed b h client f m e i s, s.legal);
-    queues = queued_more b.in_flight w.in_flight (alone b.dataflow f ∷ []) s.queues;
-    held = s.held;
+    queues = λ site. queue_put b.stations (home b.dataflow f) (load_in (alone b.dataflow f)) there site ∙ (ap (λ q. q ++ queue site (alone b.dataflow f ∷ [])) (s.queues site) ∙ sym (queue_append site w.in_flight (alone b.dataflow f ∷ [])));
+    held = λ n k. held_put b.stations (home b.dataflow f) (load_in (alone b.dataflow f)) there n k ∙ s.held n k;
     openings = s.openings;
     hand = s.hand;
     accepted = λ j l. counted j l (eqb f.input j) refl;
@@ -114,6 +129,9 @@ module _ {T : Type 0} (below : T → T → Bool) (minimum : T) where
     where
       w : World T
       w = world below minimum b.dataflow h
+
+      there : IsThere b.stations (home b.dataflow f)
+      there = (subst (λ z. f.input < z) (sym board.stations) i.0, subst (λ z. (home b.dataflow f).worker < z) (sym (board.rows f.input i.0)) (routed b.dataflow board.dataflow f.update.row), omega arith)
 
       counted : (j : ℕ) → j < length b.dataflow.nodes → (c : Bool) → eqb f.input j ≡ c → get_or (set b.accepted f.input (suc (get_or b.accepted f.input 0))) j 0 ≡ length (cond c (f.update ∷ []) [] ++ fed_to j w.fed)
       counted j l true g =
@@ -160,11 +178,30 @@ repeated zero k x d l = absurd (omega arith)
 repeated (suc n) zero x d l = refl
 repeated (suc n) (suc k) x d l = repeated n k x d (omega arith)
 
+-- where nothing lies anywhere
+pub first_lot : {T : Type 0} (nodes workers n k : ℕ) → lot_of (first_stations {T = T} nodes workers) n k ≡ no_lot
+first_lot zero workers n k = refl
+first_lot {T = T} (suc nodes) workers zero k = row workers k
+  where
+    row : (workers k : ℕ) → get_or (replicate workers (no_lot {T = T})) k no_lot ≡ no_lot
+    row zero k = refl
+    row (suc workers) zero = refl
+    row (suc workers) (suc k) = row workers k
+first_lot {T = T} (suc nodes) workers (suc n) k = first_lot {T = T} nodes workers n k
+
+none_at : {T : Type 0} (site : Site) (port : ℕ) → map (bundle_at site) (loads_at port (no_lot {T = T})) ≡ []
+none_at site zero = refl
+none_at site (suc zero) = refl
+none_at site (suc (suc port)) = refl
+
+pub first_queue : {T : Type 0} (nodes workers : ℕ) (site : Site) → queue_of (first_stations {T = T} nodes workers) site ≡ []
+first_queue nodes workers site = ap (λ lot. map (bundle_at site) (loads_at site.port lot)) (first_lot nodes workers site.node site.worker) ∙ none_at site site.port
+
 pub stands_first : {T : Type 0} (below : T → T → Bool) (minimum : T) (p : Dataflow) → Stands below minimum (first_board minimum p) []
 stands_first below minimum p = record {
   legal = tt;
-  queues = λ site. refl;
-  held = λ n k. refl;
+  queues = first_queue (length p.nodes) p.workers;
+  held = λ n k. ap (λ lot. lot.held) (first_lot (length p.nodes) p.workers n k);
   openings = first_front minimum p.nodes;
   hand = λ k l. repeated p.workers k None None l;
   accepted = λ i l. repeated (length p.nodes) i 0 0 l;
@@ -181,6 +218,44 @@ stands_opened below minimum p (Err r) e = e
 
 -- The events of workers
 
+empty_waits : {X : Type 0} (n : ℕ) (x : X) → slice_get [] n ≡ Some x → ⊥
+empty_waits zero x e = cc
+empty_waits (suc n) x e = cc
+
+-- what waits somewhere waits at a place that there is
+module _ {T : Type 0} (stations : List (List (Lot T))) (site : Site) (number : ℕ) (bundle : Bundle T) (waits : slice_get (queue_of stations site) number ≡ Some bundle) where
+  past_end : {X : Type 0} (xs : List X) (i : ℕ) (d : X) → length xs ≤ i → get_or xs i d ≡ d
+  past_end [] i d l = refl
+  past_end (x ∷ xs) zero d l = absurd (omega (arith, l))
+  past_end (x ∷ xs) (suc i) d l = past_end xs i d (omega (arith, l))
+
+  nothing_there : lot_of stations site.node site.worker ≡ no_lot → ⊥
+  nothing_there e = empty_waits number bundle (sym (ap (λ q. slice_get q number) (ap (λ lot. map (bundle_at site) (loads_at site.port lot)) e ∙ none_at site site.port)) ∙ waits)
+
+  pub waits_within : site.node < length stations
+  waits_within = ⊎_elim (λ l. l) (λ l. absurd (nothing_there (ap (λ row. get_or row site.worker no_lot) (past_end stations site.node [] l)))) (cases_lt site.node (length stations))
+
+  pub waits_staffed : site.worker < length (get_or stations site.node [])
+  waits_staffed = ⊎_elim (λ l. l) (λ l. absurd (nothing_there (past_end (get_or stations site.node []) site.worker no_lot l))) (cases_lt site.worker (length (get_or stations site.node [])))
+
+-- places that there are
+among_behind : {X : Type 0} (x : X) (xs ys : List X) → Among x ys → Among x (xs ++ ys)
+among_behind x [] ys m = m
+among_behind x (y ∷ xs) ys m = inr (among_behind x xs ys m)
+
+pub all_there : {T : Type 0} (stations : List (List (Lot T))) (p : Dataflow) → length stations ≡ length p.nodes → ((n : ℕ) → n < length p.nodes → length (get_or stations n []) ≡ p.workers)
+    → (bundles : List (Bundle T)) → ((b : Bundle T) → Among b bundles → IsPlace p b.place) → AreThere stations bundles
+all_there stations p many wide [] places = tt
+all_there stations p many wide (b ∷ bundles) places =
+    let place = places b (inl refl) in (
+      (subst (λ z. b.place.node < z) (sym many) place.node, subst (λ z. b.place.worker < z) (sym (wide b.place.node place.node)) place.worker, few (length (sources (node_of p b.place.node))) place.port (few_sources (node_of p b.place.node))),
+      all_there stations p many wide bundles (λ x m. places x (inr m)),
+    )
+  where
+    few : (ports : ℕ) → (b.place.port ≡ 0) ⊎ (b.place.port < ports) → ports ≤ 2 → b.place.port < 2
+    few ports (inl e) f = omega (arith, e)
+    few ports (inr l) f = omega (arith, l, f)
+
 module _ {T : Type 0} (below : T → T → Bool) (minimum : T) where
   -- a hand with another node in it
   hand_set : (hand : List (Option ℕ)) (f : ℕ → Option ℕ) (workers worker : ℕ) (node : Option ℕ) → length hand ≡ workers → worker < workers
@@ -194,14 +269,16 @@ module _ {T : Type 0} (below : T → T → Bool) (minimum : T) where
       step false g = get_or-set_other hand worker k node None (λ z. false≢true (sym g ∙ eq-eqb k worker z)) ∙ h k m
 
   pub stands_taken : (b : Shown T) → IsBoard b → (h : List (Event T)) (number : ℕ) (bundle : Bundle T) → bundle.place.worker < b.dataflow.workers → get_or b.hand bundle.place.worker None ≡ None
-      → slice_get (queue bundle.place b.in_flight) number ≡ Some bundle → (arranged_by (node_of b.dataflow bundle.place.node) ≡ None → number ≡ 0)
+      → slice_get (queue_of b.stations bundle.place) number ≡ Some bundle → (arranged_by (node_of b.dataflow bundle.place.node) ≡ None → number ≡ 0)
       → Stands below minimum b h → Stands below minimum (taken number bundle b) (Take number bundle ∷ h)
   stands_taken b board h number bundle l free waits turn s =
       let site = bundle.place in
+      let within = waits_within b.stations site number bundle waits in
+      let staffed = waits_staffed b.stations site number bundle waits in
       record {
         legal = (record { worker = l; free = sym (s.hand site.worker l) ∙ free; waits = subst (λ q. slice_get q number ≡ Some bundle) (s.queues site) waits; turn = turn }, s.legal);
-        queues = queued_less b.in_flight (world below minimum b.dataflow h).in_flight site number s.queues;
-        held = held_behind b.held (world below minimum b.dataflow h).held (holding site.node site.worker bundle.stamp) s.held;
+        queues = queue_taken b.stations number bundle within staffed (world below minimum b.dataflow h).in_flight s.queues;
+        held = held_taken b.stations number bundle within staffed (world below minimum b.dataflow h).held s.held;
         openings = s.openings;
         hand = hand_set b.hand (world below minimum b.dataflow h).hand b.dataflow.workers site.worker (Some site.node) board.hand l s.hand;
         accepted = s.accepted;
@@ -224,17 +301,17 @@ module _ {T : Type 0} (below : T → T → Bool) (minimum : T) where
     last = refl;
   })
 
-  pub stands_after_take : (r : Result (Bundle T) Refusal) (b c : Shown T) (h : List (Event T)) (site : Place) (number : ℕ) → OnOk r (IsBoard b) → site.worker < b.dataflow.workers → get_or b.hand site.worker None ≡ None
+  pub stands_after_take : (r : Result (Bundle T) Refusal) (b c : Shown T) (h : List (Event T)) (site : Site) (number : ℕ) → OnOk r (IsBoard b) → site.worker < b.dataflow.workers → get_or b.hand site.worker None ≡ None
       → (arranged_by (node_of b.dataflow site.node) ≡ None → number ≡ 0)
-      → IfOk r (λ x. slice_get (queue site b.in_flight) number ≡ Some x) → IfOk r (λ x. x.place ≡ site) → IfOk r (λ x. c ≡ taken number x b) → OnErr r (c ≡ looked site.worker b)
+      → IfOk r (λ x. slice_get (queue_of b.stations site) number ≡ Some x) → IfOk r (λ x. x.place ≡ site) → IfOk r (λ x. c ≡ taken number x b) → OnErr r (c ≡ looked site.worker b)
       → Stands below minimum b h → Stands below minimum c (c.last ∷ h)
   stands_after_take (Ok x) b c h site number board l free turn waits there e err s =
       subst (λ z. Stands below minimum z (z.last ∷ h)) (sym e)
       (stands_taken b board h number x
-      (subst (λ (z : Place). z.worker < b.dataflow.workers) (sym there) l)
-      (subst (λ (z : Place). get_or b.hand z.worker None ≡ None) (sym there) free)
-      (subst (λ (z : Place). slice_get (queue z b.in_flight) number ≡ Some x) (sym there) waits)
-      (subst (λ (z : Place). arranged_by (node_of b.dataflow z.node) ≡ None → number ≡ 0) (sym there) turn)
+      (subst (λ (z : Site). z.worker < b.dataflow.workers) (sym there) l)
+      (subst (λ (z : Site). get_or b.hand z.worker None ≡ None) (sym there) free)
+      (subst (λ (z : Site). slice_get (queue_of b.stations z) number ≡ Some x) (sym there) waits)
+      (subst (λ (z : Site). arranged_by (node_of b.dataflow z.node) ≡ None → number ≡ 0) (sym there) turn)
       s)
   stands_after_take (Err r) b c h site number board l free turn waits there e err s = stands_looked below minimum b c h site.worker err s
 
@@ -246,8 +323,8 @@ module _ {T : Type 0} (below : T → T → Bool) (minimum : T) where
       → IsGive below b.dataflow (world below minimum b.dataflow h) g ts sent → Stands below minimum b h → Stands below minimum (given g ts sent b) (Give g ts sent ∷ h)
   stands_given b board h g ts sent l within legal s = record {
     legal = (legal, s.legal);
-    queues = queued_more b.in_flight w.in_flight sent s.queues;
-    held = held_more (filter (λ m. not (is_held_by g.node g.worker m)) b.held) (filter (λ m. not (is_held_by g.node g.worker m)) w.held) (holding g.node g.worker ts) (held_others b.held w.held g.node g.worker s.held);
+    queues = λ site. queue_held (put_all sent b.stations) g.node g.worker ts at_node staffed site ∙ (queue_put_all sent b.stations there site ∙ (ap (λ q. q ++ queue site sent) (s.queues site) ∙ sym (queue_append site w.in_flight sent)));
+    held = held_instead (put_all sent b.stations) g.node g.worker ts at_node staffed w.held (λ n k. held_put_all sent b.stations there n k ∙ s.held n k);
     openings = s.openings;
     hand = hand_set below minimum b.hand w.hand b.dataflow.workers g.worker None board.hand l s.hand;
     accepted = s.accepted;
@@ -261,6 +338,16 @@ module _ {T : Type 0} (below : T → T → Bool) (minimum : T) where
     where
       w : World T
       w = world below minimum b.dataflow h
+
+      at_node : g.node < length (put_all sent b.stations)
+      at_node = subst (λ z. g.node < z) (sym (many_put_all sent b.stations ∙ board.stations)) within
+
+      staffed : g.worker < length (get_or (put_all sent b.stations) g.node [])
+      staffed = subst (λ z. g.worker < z) (sym (wide_put_all sent b.stations g.node ∙ board.rows g.node within)) l
+
+      -- what is sent waits at places that there are
+      there : AreThere b.stations sent
+      there = all_there b.stations b.dataflow board.stations board.rows sent (λ x m. ((in_place_lem b.dataflow board.dataflow below minimum (Give g ts sent ∷ h) (legal, s.legal)).bundles x (contains_among x (w.in_flight ++ sent) (among_behind x w.in_flight sent m))).0)
 
       viewed : ViewState T
       viewed = capturing (get_or b.views g.node no_view) g.updates

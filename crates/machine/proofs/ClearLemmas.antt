@@ -8,7 +8,7 @@ use Rattle.lattice.specs.Frontiers.{is_beyond}
 use Rattle.update.specs.Updates.{as_of}
 use Rattle.machine.proofs.StampLemmas.{beyond_passed}
 use Rattle.machine.specs.declared.event.Bundle.{Bundle}
-use Rattle.machine.specs.declared.event.Held.{Held}
+use Rattle.machine.specs.declared.event.Capability.{Capability}
 use Rattle.machine.specs.Worlds.{World, place, same_place, times, updates_at, held_at}
 use Rattle.machine.specs.Outstanding.{stamps, held_where, open_where, counted}
 use Rattle.std.specs.List.{list_all}
@@ -45,7 +45,7 @@ module _ {T : Type 0} (leq : T → T → Bool) (o : PartialOrderLaws leq) (t : T
           let passes : test q.place.node ≡ true = ap test n ∙ there in
           as_of-passed leq t q.updates (beyond_passed leq o q.stamp (times q.updates) t s (subst (λ b. is_beyond leq (cond b q.stamp []) t ≡ false) passes g))
 
-  pub clear_held : (ms : List (Held T)) → is_beyond leq (flat_map (λ x. cond (test x.node) (x.time ∷ []) []) ms) t ≡ false → (k : ℕ) → is_beyond leq (held_at m k ms) t ≡ false
+  pub clear_held : (ms : List (Capability T)) → is_beyond leq (flat_map (λ x. cond (test x.node) (x.time ∷ []) []) ms) t ≡ false → (k : ℕ) → is_beyond leq (held_at m k ms) t ≡ false
   clear_held [] h k = refl
   clear_held (x ∷ ms) h k =
       let b = or_parts (is_beyond leq (cond (test x.node) (x.time ∷ []) []) t) (is_beyond leq (flat_map (λ x. cond (test x.node) (x.time ∷ []) []) ms) t)

@@ -14,7 +14,7 @@ use Rattle.plan.specs.Rules.{IsPlan}
 use Rattle.plan.specs.declared.node.Node.{Node}
 use Rattle.plan.specs.declared.node.Node.TheVariants.{Input, Arrange, Join, Reduce, Output}
 use Rattle.plan.specs.declared.node.Kind.TheVariants.{Count}
-use Rattle.machine.specs.declared.event.Place.{Place}
+use Rattle.machine.specs.declared.event.Site.{Site}
 use Rattle.machine.specs.declared.event.Bundle.{Bundle}
 use Rattle.machine.specs.declared.event.Emission.{Emission}
 use Rattle.machine.specs.declared.event.Event.{Event}
@@ -60,7 +60,7 @@ five = record { time = 0; row = pos 5 ∷ []; diff = pos 1 }
 abbrev counted : Update ℕ
 counted = record { time = 0; row = pos 5 ∷ pos 1 ∷ []; diff = pos 1 }
 
-abbrev site : ℕ → ℕ → Place
+abbrev site : ℕ → ℕ → Site
 site n port = record { node = n; port = port; worker = 1 }
 
 -- updates at the time 0, in a bundle

@@ -13,7 +13,7 @@ use Rattle.antichain.proofs.Lists.{Among}
 use Rattle.update.specs.Bags.{count_of, same_row, total_by}
 use Rattle.update.specs.Updates.{as_of, entry}
 use Rattle.update.specs.declared.change.Update.{Update}
-use Rattle.machine.specs.declared.event.Place.{Place}
+use Rattle.machine.specs.declared.event.Site.{Site}
 use Rattle.machine.specs.declared.event.Bundle.{Bundle}
 use Rattle.machine.specs.Worlds.{same_place, updates_at, queue}
 use Rattle.machine.specs.Histories.{without}
@@ -22,7 +22,7 @@ use Rattle.plan.proofs.WeighLemmas.{count_of-append}
 use Rattle.antichain.proofs.InsertionLemmas.{least_beyond}
 
 -- places that test the same are the same
-pub place_same : (a b : Place) → same_place a b ≡ true → a ≡ b
+pub place_same : (a b : Site) → same_place a b ≡ true → a ≡ b
 place_same a b h =
     let p = and_parts (eqb a.node b.node) (eqb a.port b.port && eqb a.worker b.worker) h in
     let q = and_parts (eqb a.port b.port) (eqb a.worker b.worker) p.1 in
@@ -63,7 +63,7 @@ through_is {T} leq r t (u ∷ us) = step (leq u.time t) (through_is leq r t us)
     step false h = h ∙ sym (+ℤ_idl (total_by (λ u. cond (leq u.time t) (value r u) (pos 0)) us))
 
 module _ {T : Type 0} (f : Update T → ℤ) where
-  pub measure_place-append : (site : Place) (xs ys : List (Bundle T)) → total_by f (updates_at site (xs ++ ys)) ≡ total_by f (updates_at site xs) +ℤ total_by f (updates_at site ys)
+  pub measure_place-append : (site : Site) (xs ys : List (Bundle T)) → total_by f (updates_at site (xs ++ ys)) ≡ total_by f (updates_at site xs) +ℤ total_by f (updates_at site ys)
   measure_place-append site xs ys = rw (flat_map-append (λ (q : Bundle T). cond (same_place q.place site) q.updates []) xs ys) (total_by-append f (updates_at site xs) (updates_at site ys))
 
   past : (x a c : List (Update T)) (b : ℤ) → total_by f a ≡ b +ℤ total_by f c → total_by f (x ++ a) ≡ b +ℤ total_by f (x ++ c)
@@ -73,20 +73,20 @@ module _ {T : Type 0} (f : Update T → ℤ) where
       swap_first x y z = omega (arith, ints)
 
   -- what is taken from a site is no longer there, and each other site is as it was
-  pub taken : (site : Place) (qs : List (Bundle T)) (j : ℕ) (b : Bundle T) → slice_get (queue site qs) j ≡ Some b → (other : Place) → total_by f (updates_at other qs) ≡ total_by f (cond (same_place site other) b.updates []) +ℤ total_by f (updates_at other (without site qs j))
+  pub taken : (site : Site) (qs : List (Bundle T)) (j : ℕ) (b : Bundle T) → slice_get (queue site qs) j ≡ Some b → (other : Site) → total_by f (updates_at other qs) ≡ total_by f (cond (same_place site other) b.updates []) +ℤ total_by f (updates_at other (without site qs j))
   taken site [] j b h other = cc
   taken site (q ∷ qs) zero b h other = step (same_place q.place site) refl h (taken site qs zero b)
     where
       step : (c : Bool) → same_place q.place site ≡ c → slice_get (cond c (q ∷ []) [] ++ queue site qs) zero ≡ Some b
-          → (slice_get (queue site qs) zero ≡ Some b → (other : Place) → total_by f (updates_at other qs) ≡ total_by f (cond (same_place site other) b.updates []) +ℤ total_by f (updates_at other (without site qs zero)))
+          → (slice_get (queue site qs) zero ≡ Some b → (other : Site) → total_by f (updates_at other qs) ≡ total_by f (cond (same_place site other) b.updates []) +ℤ total_by f (updates_at other (without site qs zero)))
           → total_by f (updates_at other (q ∷ qs)) ≡ total_by f (cond (same_place site other) b.updates []) +ℤ total_by f (updates_at other (cond c qs (q ∷ without site qs zero)))
       step true s e ih = rw (place_same q.place site s, ap (λ z. z.updates) (same_Some q b e)) (total_by-append f (cond (same_place site other) b.updates []) (updates_at other qs))
       step false s e ih = past (cond (same_place q.place other) q.updates []) (updates_at other qs) (updates_at other (without site qs zero)) (total_by f (cond (same_place site other) b.updates [])) (ih e other)
   taken site (q ∷ qs) (suc j) b h other = step (same_place q.place site) h (taken site qs j b) (taken site qs (suc j) b)
     where
       step : (c : Bool) → slice_get (cond c (q ∷ []) [] ++ queue site qs) (suc j) ≡ Some b
-          → (slice_get (queue site qs) j ≡ Some b → (other : Place) → total_by f (updates_at other qs) ≡ total_by f (cond (same_place site other) b.updates []) +ℤ total_by f (updates_at other (without site qs j)))
-          → (slice_get (queue site qs) (suc j) ≡ Some b → (other : Place) → total_by f (updates_at other qs) ≡ total_by f (cond (same_place site other) b.updates []) +ℤ total_by f (updates_at other (without site qs (suc j))))
+          → (slice_get (queue site qs) j ≡ Some b → (other : Site) → total_by f (updates_at other qs) ≡ total_by f (cond (same_place site other) b.updates []) +ℤ total_by f (updates_at other (without site qs j)))
+          → (slice_get (queue site qs) (suc j) ≡ Some b → (other : Site) → total_by f (updates_at other qs) ≡ total_by f (cond (same_place site other) b.updates []) +ℤ total_by f (updates_at other (without site qs (suc j))))
           → total_by f (updates_at other (q ∷ qs)) ≡ total_by f (cond (same_place site other) b.updates []) +ℤ total_by f (updates_at other (q ∷ cond c (without site qs j) (without site qs (suc j))))
       step true e ih jh = past (cond (same_place q.place other) q.updates []) (updates_at other qs) (updates_at other (without site qs j)) (total_by f (cond (same_place site other) b.updates [])) (ih e other)
       step false e ih jh = past (cond (same_place q.place other) q.updates []) (updates_at other qs) (updates_at other (without site qs (suc j))) (total_by f (cond (same_place site other) b.updates [])) (jh e other)
@@ -94,7 +94,7 @@ module _ {T : Type 0} (f : Update T → ℤ) where
 -- A bundle that waits at a place is one of those in flight, and the others are those that are left
 
 module _ {T : Type 0} where
-  pub queued : (site : Place) (qs : List (Bundle T)) (j : ℕ) (b : Bundle T) → slice_get (queue site qs) j ≡ Some b → Among b qs × (b.place ≡ site)
+  pub queued : (site : Site) (qs : List (Bundle T)) (j : ℕ) (b : Bundle T) → slice_get (queue site qs) j ≡ Some b → Among b qs × (b.place ≡ site)
   queued site [] j b e = cc
   queued site (q ∷ qs) zero b e = step (same_place q.place site) refl e (queued site qs zero b)
     where
@@ -107,7 +107,7 @@ module _ {T : Type 0} where
       step true f ih jh = let r = ih f in (inr r.0, r.1)
       step false f ih jh = let r = jh f in (inr r.0, r.1)
 
-  pub among_left : (site : Place) (qs : List (Bundle T)) (j : ℕ) (b : Bundle T) → Among b (without site qs j) → Among b qs
+  pub among_left : (site : Site) (qs : List (Bundle T)) (j : ℕ) (b : Bundle T) → Among b (without site qs j) → Among b qs
   among_left site [] j b m = m
   among_left site (q ∷ qs) zero b m = step (same_place q.place site) m (among_left site qs zero b)
     where

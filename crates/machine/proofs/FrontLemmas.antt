@@ -1,5 +1,5 @@
 -- What is found on a board from scratch is what the definitions say of the histories that it may stand for.
-use Rattle.std.proofs.Common.{◌≡◌, ℕ, zero, suc, ◌<◌, Bool, true, false, cond, not, ◌&&◌, ◌||◌, List, [], ◌∷◌, ◌++◌, length, get_or, sym, refl, ap, ap₂, ◌∙◌, subst, Option, Some, None, arith, append_assoc, nat_lt}
+use Rattle.std.proofs.Common.{◌≡◌, ℕ, zero, suc, ◌<◌, Bool, true, false, cond, not, ◌&&◌, ◌||◌, List, [], ◌∷◌, ◌++◌, length, get_or, sym, refl, ap, ap₂, ◌∙◌, subst, Option, Some, None, arith, append_assoc, nat_lt, inl, inr}
 use Rattle.std.specs.List.{flat_map, list_any, list_all}
 use Rattle.std.specs.Result.{IfOk}
 use Rattle.std.specs.Prelude.{Result, Ok, Err}
@@ -10,10 +10,10 @@ use Rattle.lattice.specs.Order.{PartialOrderLaws}
 use Rattle.lattice.specs.Frontiers.{is_beyond}
 use Rattle.antichain.specs.Antichains.{least, SameElements}
 use Rattle.antichain.proofs.InsertionLemmas.{least_beyond}
-use Rattle.antichain.proofs.Lists.{contains_among, all_at, all_from}
+use Rattle.antichain.proofs.Lists.{Among, contains_among, all_at, all_from}
 use Rattle.plan.specs.Changes.{has_passed}
 use Rattle.machine.specs.declared.event.Bundle.{Bundle}
-use Rattle.machine.specs.declared.event.Held.{Held}
+use Rattle.machine.specs.declared.event.Capability.{Capability}
 use Rattle.machine.specs.declared.event.Open.{Open}
 use Rattle.machine.specs.declared.event.Event.{Event}
 use Rattle.machine.specs.Dataflows.{above}
@@ -23,8 +23,11 @@ use Rattle.machine.specs.Histories.{world, IsTakeHeld}
 use Rattle.machine.specs.Promises.{IsInPlace}
 use Rattle.machine.specs.Readings.{IsQuiet}
 use Rattle.machine.specs.Boards.{Shown, IsBoard, Stands}
-use Rattle.machine.specs.Reads.{on_board, open_on, front, input_front, is_ready, is_none, is_free, is_quiet_board}
+use Rattle.machine.specs.Reads.{on_board, open_on, front, input_front, is_ready, is_free, is_quiet_board}
+use Rattle.machine.specs.Loads.{Lot, is_none, lot_of, all_bundles, all_held, stamps_at, times_at}
+use Rattle.machine.proofs.LotLemmas.{any_flat, all_held_all, all_queued, all_held_at, stamps_spread, held_spread}
 use Rattle.machine.proofs.QuietLemmas.{least_same}
+use Rattle.machine.proofs.PlaceLemmas.{number_below}
 use Rattle.machine.proofs.OpenLemmas.{open_on_at, where_spread}
 use Rattle.machine.specs.Inputs.{front_at}
 use Rattle.plan.specs.Ancestors.{numbers_below}
@@ -45,7 +48,7 @@ module _ {T : Type 0} (below : T → T → Bool) (o : PartialOrderLaws below) wh
       step true = refl
       step false = refl
 
-  held_any : (test : ℕ → Bool) (t : T) (ms : List (Held T)) → is_beyond below (held_where test ms) t ≡ list_any (λ m. test m.node && below m.time t) ms
+  held_any : (test : ℕ → Bool) (t : T) (ms : List (Capability T)) → is_beyond below (held_where test ms) t ≡ list_any (λ m. test m.node && below m.time t) ms
   held_any test t [] = refl
   held_any test t (m ∷ ms) =
       list_any-append (λ f. below f t) (cond (test m.node) (m.time ∷ []) []) (held_where test ms)
@@ -64,6 +67,30 @@ module _ {T : Type 0} (below : T → T → Bool) (o : PartialOrderLaws below) wh
       step : (c : Bool) → is_beyond below (cond c (x.time ∷ []) []) t ≡ (c && below x.time t)
       step true = or_nothing (below x.time t)
       step false = refl
+
+  -- what waits and what is held, asked node by node
+  one_node : (c : Bool) (xs : List T) (t : T) → is_beyond below (cond c xs []) t ≡ (c && is_beyond below xs t)
+  one_node true xs t = refl
+  one_node false xs t = refl
+
+  by_node : (test : ℕ → Bool) (f : ℕ → List T) (t : T) (n : ℕ) → list_any (λ m. test m && is_beyond below (f m) t) (numbers_below n) ≡ is_beyond below (flat_map (λ m. cond (test m) (f m) []) (numbers_below n)) t
+  by_node test f t n =
+      ap (λ (g : ℕ → Bool). list_any g (numbers_below n)) (λ i m. sym (one_node (test m) (f m) t) i)
+      ∙ sym (any_flat (λ u. below u t) (λ m. cond (test m) (f m) []) (numbers_below n))
+
+  pub in_flight_found : (test : ℕ → Bool) (t : T) (stations : List (List (Lot T))) (n : ℕ) → length stations ≡ n
+      → list_any (λ m. test m && is_beyond below (stamps_at stations m) t) (numbers_below n) ≡ list_any (λ b. test b.place.node && is_beyond below b.stamp t) (all_bundles stations)
+  in_flight_found test t stations n e =
+      by_node test (stamps_at stations) t n
+      ∙ (ap (λ ts. is_beyond below ts t) (ap (λ k. flat_map (λ m. cond (test m) (stamps_at stations m) []) (numbers_below k)) (sym e) ∙ sym (stamps_spread test stations))
+      ∙ stamps_any test t (all_bundles stations))
+
+  pub held_found : (test : ℕ → Bool) (t : T) (stations : List (List (Lot T))) (n : ℕ) → length stations ≡ n
+      → list_any (λ m. test m && is_beyond below (times_at stations m) t) (numbers_below n) ≡ list_any (λ m. test m.node && below m.time t) (all_held stations)
+  held_found test t stations n e =
+      by_node test (times_at stations) t n
+      ∙ (ap (λ ts. is_beyond below ts t) (ap (λ k. flat_map (λ m. cond (test m) (times_at stations m) []) (numbers_below k)) (sym e) ∙ sym (held_spread test stations))
+      ∙ held_any test t (all_held stations))
 
   counted_any : (w : World T) (there holds : ℕ → Bool) (t : T) → is_beyond below (counted w there holds) t
       ≡ (list_any (λ b. there b.place.node && is_beyond below b.stamp t) w.in_flight || (list_any (λ m. holds m.node && below m.time t) w.held || list_any (λ x. there x.input && below x.time t) w.openings))
@@ -94,50 +121,52 @@ module _ {T : Type 0} (below : T → T → Bool) (o : PartialOrderLaws below) wh
 
   -- the least of all times that were collected are the frontier
   -- what was collected part by part is all of it
-  pub all_collected : (b : Shown T) {v : Shown T} → v ≡ b → (n : ℕ) (none flight some all : List T) (bundles : List (Bundle T)) (held : List (Held T))
-      → none ≡ [] → bundles ≡ v.in_flight → held ≡ v.held
-      → flight ≡ none ++ stamps (λ site. above v.dataflow n site.node) bundles → some ≡ flight ++ held_where (above v.dataflow n) held
+  pub all_collected : (b : Shown T) {v : Shown T} → v ≡ b → IsBoard v → (n : ℕ) (none flight some all : List T) → none ≡ []
+      → flight ≡ none ++ flat_map (λ m. cond (above v.dataflow n m) (stamps_at v.stations m) []) (numbers_below (length v.dataflow.nodes))
+      → some ≡ flight ++ flat_map (λ m. cond (above v.dataflow n m) (times_at v.stations m) []) (numbers_below (length v.dataflow.nodes))
       → all ≡ some ++ flat_map (λ i. cond (above v.dataflow n i) (front_at i v.inputs) []) (numbers_below (length v.dataflow.nodes))
-      → all ≡ (stamps (λ site. above b.dataflow n site.node) b.in_flight ++ held_where (above b.dataflow n) b.held) ++ open_where (above b.dataflow n) (open_on b)
-  all_collected b {v} e n none flight some all bundles held x y z f s a =
+      → all ≡ (stamps (λ site. above b.dataflow n site.node) (all_bundles b.stations) ++ held_where (above b.dataflow n) (all_held b.stations)) ++ open_where (above b.dataflow n) (open_on b)
+  all_collected b {v} e is n none flight some all x f s a =
+      let waiting = f ∙ (ap (λ ts. ts ++ flat_map (λ m. cond (above v.dataflow n m) (stamps_at v.stations m) []) (numbers_below (length v.dataflow.nodes))) x
+      ∙ (ap (λ k. flat_map (λ m. cond (above v.dataflow n m) (stamps_at v.stations m) []) (numbers_below k)) (sym is.stations) ∙ sym (stamps_spread (above v.dataflow n) v.stations))) in
+      let holding = ap (λ k. flat_map (λ m. cond (above v.dataflow n m) (times_at v.stations m) []) (numbers_below k)) (sym is.stations) ∙ sym (held_spread (above v.dataflow n) v.stations) in
       a
-      ∙ (ap (λ ts. ts ++ flat_map (λ i. cond (above v.dataflow n i) (front_at i v.inputs) []) (numbers_below (length v.dataflow.nodes)))
-      (s ∙ ap₂ (λ ts ms. ts ++ held_where (above v.dataflow n) ms) (f ∙ ap₂ (λ ts qs. ts ++ stamps (λ site. above v.dataflow n site.node) qs) x y) z)
-      ∙ (ap (λ ts. (stamps (λ site. above v.dataflow n site.node) v.in_flight ++ held_where (above v.dataflow n) v.held) ++ ts) (sym (where_spread (above v.dataflow n) (λ i. front_at i v.inputs) (length v.dataflow.nodes)))
-      ∙ ap (λ (w : Shown T). (stamps (λ site. above w.dataflow n site.node) w.in_flight ++ held_where (above w.dataflow n) w.held) ++ open_where (above w.dataflow n) (open_on w)) e))
+      ∙ (ap₂ (λ ts us. ts ++ us) (s ∙ ap₂ (λ ts us. ts ++ us) waiting holding) (sym (where_spread (above v.dataflow n) (λ i. front_at i v.inputs) (length v.dataflow.nodes)))
+      ∙ ap (λ (w : Shown T). (stamps (λ site. above w.dataflow n site.node) (all_bundles w.stations) ++ held_where (above w.dataflow n) (all_held w.stations)) ++ open_where (above w.dataflow n) (open_on w)) e)
 
-  collected : (b : Shown T) (n : ℕ) (all : List T) → all ≡ (stamps (λ site. above b.dataflow n site.node) b.in_flight ++ held_where (above b.dataflow n) b.held) ++ open_where (above b.dataflow n) (open_on b) → all ≡ outstanding b.dataflow (on_board b) n
-  collected b n all e = e ∙ append_assoc (stamps (λ site. above b.dataflow n site.node) b.in_flight) (held_where (above b.dataflow n) b.held) (open_where (above b.dataflow n) (open_on b))
+  collected : (b : Shown T) (n : ℕ) (all : List T) → all ≡ (stamps (λ site. above b.dataflow n site.node) (all_bundles b.stations) ++ held_where (above b.dataflow n) (all_held b.stations)) ++ open_where (above b.dataflow n) (open_on b) → all ≡ outstanding b.dataflow (on_board b) n
+  collected b n all e = e ∙ append_assoc (stamps (λ site. above b.dataflow n site.node) (all_bundles b.stations)) (held_where (above b.dataflow n) (all_held b.stations)) (open_where (above b.dataflow n) (open_on b))
 
-  pub front_found : (b : Shown T) (n : ℕ) (all found : List T) → all ≡ (stamps (λ site. above b.dataflow n site.node) b.in_flight ++ held_where (above b.dataflow n) b.held) ++ open_where (above b.dataflow n) (open_on b)
+  pub front_found : (b : Shown T) (n : ℕ) (all found : List T) → all ≡ (stamps (λ site. above b.dataflow n site.node) (all_bundles b.stations) ++ held_where (above b.dataflow n) (all_held b.stations)) ++ open_where (above b.dataflow n) (open_on b)
       → SameElements found (least below all) → SameElements found (front below b n)
   front_found b n all found e same = subst (λ ts. SameElements found (least below ts)) (collected b n all e) same
 
-  pub beyond_found : (b : Shown T) (n : ℕ) (all found : List T) → all ≡ (stamps (λ site. above b.dataflow n site.node) b.in_flight ++ held_where (above b.dataflow n) b.held) ++ open_where (above b.dataflow n) (open_on b)
+  pub beyond_found : (b : Shown T) (n : ℕ) (all found : List T) → all ≡ (stamps (λ site. above b.dataflow n site.node) (all_bundles b.stations) ++ held_where (above b.dataflow n) (all_held b.stations)) ++ open_where (above b.dataflow n) (open_on b)
       → ((t : T) → is_beyond below found t ≡ is_beyond below all t) → (t : T) → is_beyond below found t ≡ is_beyond below (front below b n) t
   beyond_found b n all found e same t = same t ∙ (ap (λ ts. is_beyond below ts t) (collected b n all e) ∙ sym (least_beyond o (outstanding b.dataflow (on_board b) n) t))
 
   -- the same without what is held at the node itself
-  pub input_collected : (b : Shown T) {v : Shown T} → v ≡ b → (n : ℕ) (none flight some all : List T) (bundles : List (Bundle T)) (held : List (Held T))
-      → none ≡ [] → bundles ≡ v.in_flight → held ≡ v.held
-      → flight ≡ none ++ stamps (λ site. above v.dataflow n site.node) bundles → some ≡ flight ++ held_where (strictly_above v.dataflow n) held
+  pub input_collected : (b : Shown T) {v : Shown T} → v ≡ b → IsBoard v → (n : ℕ) (none flight some all : List T) → none ≡ []
+      → flight ≡ none ++ flat_map (λ m. cond (above v.dataflow n m) (stamps_at v.stations m) []) (numbers_below (length v.dataflow.nodes))
+      → some ≡ flight ++ flat_map (λ m. cond (strictly_above v.dataflow n m) (times_at v.stations m) []) (numbers_below (length v.dataflow.nodes))
       → all ≡ some ++ flat_map (λ i. cond (above v.dataflow n i) (front_at i v.inputs) []) (numbers_below (length v.dataflow.nodes))
-      → all ≡ (stamps (λ site. above b.dataflow n site.node) b.in_flight ++ held_where (strictly_above b.dataflow n) b.held) ++ open_where (above b.dataflow n) (open_on b)
-  input_collected b {v} e n none flight some all bundles held x y z f s a =
+      → all ≡ (stamps (λ site. above b.dataflow n site.node) (all_bundles b.stations) ++ held_where (strictly_above b.dataflow n) (all_held b.stations)) ++ open_where (above b.dataflow n) (open_on b)
+  input_collected b {v} e is n none flight some all x f s a =
+      let waiting = f ∙ (ap (λ ts. ts ++ flat_map (λ m. cond (above v.dataflow n m) (stamps_at v.stations m) []) (numbers_below (length v.dataflow.nodes))) x
+      ∙ (ap (λ k. flat_map (λ m. cond (above v.dataflow n m) (stamps_at v.stations m) []) (numbers_below k)) (sym is.stations) ∙ sym (stamps_spread (above v.dataflow n) v.stations))) in
+      let holding = ap (λ k. flat_map (λ m. cond (strictly_above v.dataflow n m) (times_at v.stations m) []) (numbers_below k)) (sym is.stations) ∙ sym (held_spread (strictly_above v.dataflow n) v.stations) in
       a
-      ∙ (ap (λ ts. ts ++ flat_map (λ i. cond (above v.dataflow n i) (front_at i v.inputs) []) (numbers_below (length v.dataflow.nodes)))
-      (s ∙ ap₂ (λ ts ms. ts ++ held_where (strictly_above v.dataflow n) ms) (f ∙ ap₂ (λ ts qs. ts ++ stamps (λ site. above v.dataflow n site.node) qs) x y) z)
-      ∙ (ap (λ ts. (stamps (λ site. above v.dataflow n site.node) v.in_flight ++ held_where (strictly_above v.dataflow n) v.held) ++ ts) (sym (where_spread (above v.dataflow n) (λ i. front_at i v.inputs) (length v.dataflow.nodes)))
-      ∙ ap (λ (w : Shown T). (stamps (λ site. above w.dataflow n site.node) w.in_flight ++ held_where (strictly_above w.dataflow n) w.held) ++ open_where (above w.dataflow n) (open_on w)) e))
+      ∙ (ap₂ (λ ts us. ts ++ us) (s ∙ ap₂ (λ ts us. ts ++ us) waiting holding) (sym (where_spread (above v.dataflow n) (λ i. front_at i v.inputs) (length v.dataflow.nodes)))
+      ∙ ap (λ (w : Shown T). (stamps (λ site. above w.dataflow n site.node) (all_bundles w.stations) ++ held_where (strictly_above w.dataflow n) (all_held w.stations)) ++ open_where (above w.dataflow n) (open_on w)) e)
 
-  input_all : (b : Shown T) (n : ℕ) (all : List T) → all ≡ (stamps (λ site. above b.dataflow n site.node) b.in_flight ++ held_where (strictly_above b.dataflow n) b.held) ++ open_where (above b.dataflow n) (open_on b) → all ≡ counted (on_board b) (above b.dataflow n) (strictly_above b.dataflow n)
-  input_all b n all e = e ∙ append_assoc (stamps (λ site. above b.dataflow n site.node) b.in_flight) (held_where (strictly_above b.dataflow n) b.held) (open_where (above b.dataflow n) (open_on b))
+  input_all : (b : Shown T) (n : ℕ) (all : List T) → all ≡ (stamps (λ site. above b.dataflow n site.node) (all_bundles b.stations) ++ held_where (strictly_above b.dataflow n) (all_held b.stations)) ++ open_where (above b.dataflow n) (open_on b) → all ≡ counted (on_board b) (above b.dataflow n) (strictly_above b.dataflow n)
+  input_all b n all e = e ∙ append_assoc (stamps (λ site. above b.dataflow n site.node) (all_bundles b.stations)) (held_where (strictly_above b.dataflow n) (all_held b.stations)) (open_where (above b.dataflow n) (open_on b))
 
-  pub input_front_found : (b : Shown T) (n : ℕ) (all found : List T) → all ≡ (stamps (λ site. above b.dataflow n site.node) b.in_flight ++ held_where (strictly_above b.dataflow n) b.held) ++ open_where (above b.dataflow n) (open_on b)
+  pub input_front_found : (b : Shown T) (n : ℕ) (all found : List T) → all ≡ (stamps (λ site. above b.dataflow n site.node) (all_bundles b.stations) ++ held_where (strictly_above b.dataflow n) (all_held b.stations)) ++ open_where (above b.dataflow n) (open_on b)
       → SameElements found (least below all) → SameElements found (input_front below b n)
   input_front_found b n all found e same = subst (λ ts. SameElements found (least below ts)) (input_all b n all e) same
 
-  pub input_beyond_found : (b : Shown T) (n : ℕ) (all found : List T) → all ≡ (stamps (λ site. above b.dataflow n site.node) b.in_flight ++ held_where (strictly_above b.dataflow n) b.held) ++ open_where (above b.dataflow n) (open_on b)
+  pub input_beyond_found : (b : Shown T) (n : ℕ) (all found : List T) → all ≡ (stamps (λ site. above b.dataflow n site.node) (all_bundles b.stations) ++ held_where (strictly_above b.dataflow n) (all_held b.stations)) ++ open_where (above b.dataflow n) (open_on b)
       → ((t : T) → is_beyond below found t ≡ is_beyond below all t) → (t : T) → is_beyond below found t ≡ is_beyond below (input_front below b n) t
   input_beyond_found b n all found e same t = same t ∙ (ap (λ ts. is_beyond below ts t) (input_all b n all e) ∙ sym (least_beyond o (counted (on_board b) (above b.dataflow n) (strictly_above b.dataflow n)) t))
 
@@ -150,9 +179,16 @@ module _ {T : Type 0} (below : T → T → Bool) (o : PartialOrderLaws below) (m
   opened : (b : Shown T) → IsBoard b → (h : List (Event T)) → Stands below minimum b h → AreOpen (open_on b) (world below minimum b.dataflow h).openings
   opened b board h s i = open_on_at b.inputs (length b.dataflow.nodes) i board.inputs ∙ s.openings i
 
+  -- what waits, and what is held, as lists
+  pub queued : (b : Shown T) (h : List (Event T)) → Stands below minimum b h → AreQueued (all_bundles b.stations) (world below minimum b.dataflow h).in_flight
+  queued b h s site = all_queued b.stations site ∙ s.queues site
+
+  pub holds : (b : Shown T) (h : List (Event T)) → Stands below minimum b h → AreHeld (all_held b.stations) (world below minimum b.dataflow h).held
+  holds b h s n k = all_held_at b.stations n k ∙ s.held n k
+
   -- what a board shows of frontiers is what its history leaves: the same times are beyond them
   pub front_stands : (b : Shown T) → IsBoard b → (h : List (Event T)) → Stands below minimum b h → (n : ℕ) (t : T) → is_beyond below (front below b n) t ≡ is_beyond below (frontier below b.dataflow (world below minimum b.dataflow h) n) t
-  front_stands b board h s n t = counted_like below o (on_board b) (world below minimum b.dataflow h) (above b.dataflow n) (above b.dataflow n) s.queues s.held (opened b board h s) t
+  front_stands b board h s n t = counted_like below o (on_board b) (world below minimum b.dataflow h) (above b.dataflow n) (above b.dataflow n) (queued b h s) (holds b h s) (opened b board h s) t
 
   -- and so they have the same elements
   pub front_elements : (b : Shown T) → IsBoard b → (h : List (Event T)) → Stands below minimum b h → (n : ℕ) → SameElements (front below b n) (frontier below b.dataflow (world below minimum b.dataflow h) n)
@@ -162,7 +198,7 @@ module _ {T : Type 0} (below : T → T → Bool) (o : PartialOrderLaws below) (m
       least_same below o found left (λ t. sym (least_beyond o found t) ∙ (front_stands b board h s n t ∙ least_beyond o left t))
 
   pub input_front_stands : (b : Shown T) → IsBoard b → (h : List (Event T)) → Stands below minimum b h → (n : ℕ) (t : T) → is_beyond below (input_front below b n) t ≡ is_beyond below (input_frontier below b.dataflow (world below minimum b.dataflow h) n) t
-  input_front_stands b board h s n t = counted_like below o (on_board b) (world below minimum b.dataflow h) (above b.dataflow n) (strictly_above b.dataflow n) s.queues s.held (opened b board h s) t
+  input_front_stands b board h s n t = counted_like below o (on_board b) (world below minimum b.dataflow h) (above b.dataflow n) (strictly_above b.dataflow n) (queued b h s) (holds b h s) (opened b board h s) t
 
   pub input_front_elements : (b : Shown T) → IsBoard b → (h : List (Event T)) → Stands below minimum b h → (n : ℕ) → SameElements (input_front below b n) (input_frontier below b.dataflow (world below minimum b.dataflow h) n)
   input_front_elements b board h s n =
@@ -174,7 +210,7 @@ module _ {T : Type 0} (below : T → T → Bool) (o : PartialOrderLaws below) (m
   pub ready_stands : (b : Shown T) → IsBoard b → (h : List (Event T)) → Stands below minimum b h → (k n : ℕ)
       → is_ready below b k n ≡ list_any (has_passed below (input_frontier below b.dataflow (world below minimum b.dataflow h) n)) (held_at n k (world below minimum b.dataflow h).held)
   ready_stands b board h s k n =
-      ap (λ (test : T → Bool). list_any test (held_at n k b.held)) (λ i t. not (input_front_stands b board h s n t i))
+      ap (λ (test : T → Bool). list_any test (lot_of b.stations n k).held) (λ i t. not (input_front_stands b board h s n t i))
       ∙ ap (λ ts. list_any (has_passed below (input_frontier below b.dataflow (world below minimum b.dataflow h) n)) ts) (s.held n k)
 
   is_empty : {A : Type 0} (xs : List A) → is_none xs ≡ true → xs ≡ []
@@ -199,27 +235,55 @@ module _ {T : Type 0} (below : T → T → Bool) (o : PartialOrderLaws below) (m
       taken (Some n) = true
       taken None = false
 
+  -- tests that answer alike of each element
+  all_alike : {A : Type 0} (f g : A → Bool) (xs : List A) → ((x : A) → Among x xs → f x ≡ g x) → list_all f xs ≡ list_all g xs
+  all_alike f g [] e = refl
+  all_alike f g (x ∷ xs) e = ap₂ (λ a b. a && b) (e x (inl refl)) (all_alike f g xs (λ y m. e y (inr m)))
+
+  -- whether each time that is held waits, found worker by worker
+  pub wait_found : (b : Shown T) → IsBoard b
+      → list_all (λ n. list_all (λ k. list_all (is_beyond below (input_front below b n)) (lot_of b.stations n k).held) (numbers_below b.dataflow.workers)) (numbers_below (length b.dataflow.nodes))
+      ≡ list_all (λ m. nat_lt m.node (length b.dataflow.nodes) && is_beyond below (input_front below b m.node) m.time) (all_held b.stations)
+  wait_found b board =
+      ap (λ z. list_all at_node (numbers_below z)) (sym board.stations)
+      ∙ (all_alike at_node at_row (numbers_below (length b.stations)) (λ n m. here n (subst (λ z. n < z) board.stations (number_below (length b.stations) n m)))
+      ∙ all_held_all (λ n t. nat_lt n (length b.dataflow.nodes) && is_beyond below (input_front below b n) t) b.stations)
+    where
+      at_node : ℕ → Bool
+      at_node n = list_all (λ k. list_all (is_beyond below (input_front below b n)) (lot_of b.stations n k).held) (numbers_below b.dataflow.workers)
+
+      at_row : ℕ → Bool
+      at_row n = list_all (λ k. list_all (λ t. nat_lt n (length b.dataflow.nodes) && is_beyond below (input_front below b n) t) (lot_of b.stations n k).held) (numbers_below (length (get_or b.stations n [])))
+
+      less : (m n : ℕ) → m < n → nat_lt m n ≡ true
+      less m n l = grind (arith, nat_tests)
+
+      here : (n : ℕ) → n < length b.dataflow.nodes → at_node n ≡ at_row n
+      here n l =
+          ap (λ z. list_all (λ k. list_all (is_beyond below (input_front below b n)) (lot_of b.stations n k).held) (numbers_below z)) (sym (board.rows n l))
+          ∙ ap (λ c. list_all (λ k. list_all (λ t. c && is_beyond below (input_front below b n) t) (lot_of b.stations n k).held) (numbers_below (length (get_or b.stations n [])))) (sym (less n (length b.dataflow.nodes) l))
+
   pub quiet_into : (b : Shown T) → IsBoard b → (h : List (Event T)) → Stands below minimum b h → is_quiet_board below b ≡ true → IsQuiet below b.dataflow (world below minimum b.dataflow h)
   quiet_into b board h s q =
-      let waits = λ (m : Held T). nat_lt m.node (length b.dataflow.nodes) && is_beyond below (input_front below b m.node) m.time in
-      let f = and_parts (is_none b.in_flight) (is_free b.hand && list_all waits b.held) q in
-      let g = and_parts (is_free b.hand) (list_all waits b.held) f.1 in
+      let waits = λ (m : Capability T). nat_lt m.node (length b.dataflow.nodes) && is_beyond below (input_front below b m.node) m.time in
+      let f = and_parts (is_none (all_bundles b.stations)) (is_free b.hand && list_all waits (all_held b.stations)) q in
+      let g = and_parts (is_free b.hand) (list_all waits (all_held b.stations)) f.1 in
       record {
-        in_flight = none_queued (world below minimum b.dataflow h).in_flight (λ site. sym (s.queues site) ∙ ap (queue site) (is_empty b.in_flight f.0));
+        in_flight = none_queued (world below minimum b.dataflow h).in_flight (λ site. sym (queued b h s site) ∙ ap (queue site) (is_empty (all_bundles b.stations) f.0));
         hand = λ k l. sym (s.hand k l) ∙ free_at b.hand g.0 k;
         held =
-            sym (held_all_like (λ n t. is_beyond below (input_frontier below b.dataflow (world below minimum b.dataflow h) n) t) b.held (world below minimum b.dataflow h).held s.held)
-            ∙ (all_from (λ m. is_beyond below (input_frontier below b.dataflow (world below minimum b.dataflow h) m.node) m.time) b.held
-            (λ m a. sym (input_front_stands b board h s m.node m.time) ∙ (and_parts (nat_lt m.node (length b.dataflow.nodes)) (is_beyond below (input_front below b m.node) m.time) (all_at waits b.held m g.1 a)).1));
+            sym (held_all_like (λ n t. is_beyond below (input_frontier below b.dataflow (world below minimum b.dataflow h) n) t) (all_held b.stations) (world below minimum b.dataflow h).held (holds b h s))
+            ∙ (all_from (λ m. is_beyond below (input_frontier below b.dataflow (world below minimum b.dataflow h) m.node) m.time) (all_held b.stations)
+            (λ m a. sym (input_front_stands b board h s m.node m.time) ∙ (and_parts (nat_lt m.node (length b.dataflow.nodes)) (is_beyond below (input_front below b m.node) m.time) (all_at waits (all_held b.stations) m g.1 a)).1));
       }
 
   pub quiet_back : (b : Shown T) → IsBoard b → (h : List (Event T)) → Stands below minimum b h → IsInPlace b.dataflow (world below minimum b.dataflow h) → IsQuiet below b.dataflow (world below minimum b.dataflow h) → is_quiet_board below b ≡ true
   quiet_back b board h s place q =
       let w = world below minimum b.dataflow h in
-      let waits = λ (m : Held T). nat_lt m.node (length b.dataflow.nodes) && is_beyond below (input_front below b m.node) m.time in
-      and_from (is_none b.in_flight) (is_free b.hand && list_all waits b.held) (empty_is b.in_flight (none_queued b.in_flight (λ site. s.queues site ∙ ap (queue site) q.in_flight)))
-      (and_from (is_free b.hand) (list_all waits b.held) (free_from b.hand (λ k l. let m : k < b.dataflow.workers = subst (λ z. k < z) board.hand l in s.hand k m ∙ q.hand k m))
-      (held_all_like (λ n t. nat_lt n (length b.dataflow.nodes) && is_beyond below (input_front below b n) t) b.held w.held s.held ∙ (all_from waits w.held (λ m a.
+      let waits = λ (m : Capability T). nat_lt m.node (length b.dataflow.nodes) && is_beyond below (input_front below b m.node) m.time in
+      and_from (is_none (all_bundles b.stations)) (is_free b.hand && list_all waits (all_held b.stations)) (empty_is (all_bundles b.stations) (none_queued (all_bundles b.stations) (λ site. queued b h s site ∙ ap (queue site) q.in_flight)))
+      (and_from (is_free b.hand) (list_all waits (all_held b.stations)) (free_from b.hand (λ k l. let m : k < b.dataflow.workers = subst (λ z. k < z) board.hand l in s.hand k m ∙ q.hand k m))
+      (held_all_like (λ n t. nat_lt n (length b.dataflow.nodes) && is_beyond below (input_front below b n) t) (all_held b.stations) w.held (holds b h s) ∙ (all_from waits w.held (λ m a.
       and_from (nat_lt m.node (length b.dataflow.nodes)) (is_beyond below (input_front below b m.node) m.time)
       (within m.node (length b.dataflow.nodes) (place.held m (contains_among m w.held a)).0)
       (input_front_stands b board h s m.node m.time ∙ (all_at (λ m. is_beyond below (input_frontier below b.dataflow w m.node) m.time) w.held m q.held a))))))
@@ -232,12 +296,12 @@ module _ {T : Type 0} (below : T → T → Bool) (o : PartialOrderLaws below) (m
       → IsTakeHeld below b.dataflow (world below minimum b.dataflow h) k n
   may_turn b board h s k n l m free ready =
       let w = world below minimum b.dataflow h in
-      let r = any_among (has_passed below (input_front below b n)) (held_at n k b.held) ready in
+      let r = any_among (has_passed below (input_front below b n)) (lot_of b.stations n k).held ready in
       record {
         worker = l;
         within = m;
         free = sym (s.hand k l) ∙ free;
         held = r.0;
-        holds = subst (λ ms. Rattle.std.specs.Prelude.Contains ms r.0) (s.held n k) (contains_among r.0 (held_at n k b.held) r.1);
+        holds = subst (λ ms. Rattle.std.specs.Prelude.Contains ms r.0) (s.held n k) (contains_among r.0 (lot_of b.stations n k).held r.1);
         passed = ap not (sym (input_front_stands b board h s n r.0)) ∙ r.2;
       }

@@ -15,11 +15,11 @@ use Rattle.update.specs.Bags.{count_of, total_by}
 use Rattle.update.specs.Updates.{as_of}
 use Rattle.update.specs.declared.change.Update.{Update}
 use Rattle.machine.proofs.StampLemmas.{beyond_passed}
-use Rattle.machine.specs.declared.event.Place.{Place}
+use Rattle.machine.specs.declared.event.Site.{Site}
 use Rattle.machine.specs.declared.event.Bundle.{Bundle}
 use Rattle.machine.specs.declared.event.Fed.{Fed}
 use Rattle.machine.specs.declared.event.Emission.{Emission}
-use Rattle.machine.specs.declared.event.Held.{Held}
+use Rattle.machine.specs.declared.event.Capability.{Capability}
 use Rattle.machine.specs.declared.event.Event.{Event}
 use Rattle.machine.specs.declared.event.Event.TheVariants.{Feed, Advance, Allow, Look, Take, TakeHeld, Give}
 use Rattle.machine.specs.Dataflows.{Dataflow, node_of, given_at}
@@ -60,7 +60,7 @@ no_totals (u ∷ us) vs h e =
     let a = marked_same (λ x. true) (u ∷ us) vs h ∙ ap (marked (λ x. true)) e in
     absurd (omega arith)
 
-abbrev pub coming : {T : Type 0} → Dataflow → Place → List (Emission T) → List (Fed T) → List (Update T)
+abbrev pub coming : {T : Type 0} → Dataflow → Site → List (Emission T) → List (Fed T) → List (Update T)
 coming p site gs fs = flat_map (share p site) gs ++ flat_map (share_fed p site) fs
 
 abbrev pub AreWorkers : {T : Type 0} → ℕ → List (Emission T) → Type 0
@@ -77,7 +77,7 @@ is_stamped leq b = all_beyond leq b.stamp (times b.updates)
 
 pub record IsKept {T : Type 0} (leq : T → T → Bool) (p : Dataflow) (w : World T) : Type 0 where
   -- what was received at a site and what is in flight there are what came
-  pub conserved : (site : Place) (f : Update T → ℤ) → total_by f (updates_at site w.received) +ℤ total_by f (updates_at site w.in_flight) ≡ total_by f (coming p site w.emitted w.fed)
+  pub conserved : (site : Site) (f : Update T → ℤ) → total_by f (updates_at site w.received) +ℤ total_by f (updates_at site w.in_flight) ≡ total_by f (coming p site w.emitted w.fed)
   pub law : (n k : ℕ) → NodeLaw leq p w n k
   pub workers : AreWorkers p.workers w.emitted
   pub inputs : AreInputs p w.fed
@@ -99,7 +99,7 @@ pub held_unmarked : {T : Type 0} (n k a b : ℕ) (ts : List T) → (eqb a n && e
 held_unmarked n k a b [] h = refl
 held_unmarked n k a b (t ∷ ts) h = rw h (held_unmarked n k a b ts h)
 
-pub held_kept : {T : Type 0} (n k a b : ℕ) (ms : List (Held T)) → (eqb a n && eqb b k) ≡ false → held_at n k (filter (λ m. not (eqb m.node a && eqb m.worker b)) ms) ≡ held_at n k ms
+pub held_kept : {T : Type 0} (n k a b : ℕ) (ms : List (Capability T)) → (eqb a n && eqb b k) ≡ false → held_at n k (filter (λ m. not (eqb m.node a && eqb m.worker b)) ms) ≡ held_at n k ms
 held_kept n k a b [] h = refl
 held_kept {T} n k a b (m ∷ ms) h = step (eqb m.node a && eqb m.worker b) refl (held_kept n k a b ms h)
   where
@@ -120,10 +120,10 @@ module _ {T : Type 0} (leq : T → T → Bool) (o : PartialOrderLaws leq) (p : D
   give_sum : (r f s e d : ℤ) → r +ℤ f ≡ e +ℤ d → r +ℤ (f +ℤ s) ≡ (s +ℤ e) +ℤ d
   give_sum r f s e d h = omega (arith, ints)
 
-  held_parts : (n k : ℕ) (xs ys : List (Held T)) (t : T) → is_beyond leq (held_at n k (xs ++ ys)) t ≡ false → (is_beyond leq (held_at n k xs) t ≡ false) × (is_beyond leq (held_at n k ys) t ≡ false)
+  held_parts : (n k : ℕ) (xs ys : List (Capability T)) (t : T) → is_beyond leq (held_at n k (xs ++ ys)) t ≡ false → (is_beyond leq (held_at n k xs) t ≡ false) × (is_beyond leq (held_at n k ys) t ≡ false)
   held_parts n k xs ys t h =
       or_parts (is_beyond leq (held_at n k xs) t) (is_beyond leq (held_at n k ys) t)
-      (sym (list_any-append (λ f. leq f t) (held_at n k xs) (held_at n k ys)) ∙ (ap (λ z. is_beyond leq z t) (sym (flat_map-append (λ (m : Held T). cond (eqb m.node n && eqb m.worker k) (m.time ∷ []) []) xs ys)) ∙ h))
+      (sym (list_any-append (λ f. leq f t) (held_at n k xs) (held_at n k ys)) ∙ (ap (λ z. is_beyond leq z t) (sym (flat_map-append (λ (m : Capability T). cond (eqb m.node n && eqb m.worker k) (m.time ∷ []) []) xs ys)) ∙ h))
 
   -- at a time that the stamp has passed, a bundle is nothing at any site
   not_there : (b : Bundle T) → is_stamped leq b ≡ true → (n m port : ℕ) (t : T) → is_beyond leq (held_at n m (holding b.place.node b.place.worker b.stamp)) t ≡ false → as_of leq t (cond (same_place b.place (place n port m)) b.updates []) ≡ []
@@ -150,7 +150,7 @@ module _ {T : Type 0} (leq : T → T → Bool) (o : PartialOrderLaws leq) (p : D
   kept_feed : (w : World T) (c : ℕ) (f : Fed T) → IsTrue (is_input (node_of p f.input)) → IsKept leq p w → IsKept leq p (after leq p w (Feed c f))
   kept_feed w c f i k = record { conserved = conserved; law = k.law; workers = k.workers; inputs = (i, k.inputs); stamped = stamped_more w.in_flight (alone p f ∷ []) k.stamped (stamped_alone f) }
     where
-      conserved : (site : Place) (v : Update T → ℤ) → total_by v (updates_at site w.received) +ℤ total_by v (updates_at site (w.in_flight ++ alone p f ∷ [])) ≡ total_by v (coming p site w.emitted (f ∷ w.fed))
+      conserved : (site : Site) (v : Update T → ℤ) → total_by v (updates_at site w.received) +ℤ total_by v (updates_at site (w.in_flight ++ alone p f ∷ [])) ≡ total_by v (coming p site w.emitted (f ∷ w.fed))
       conserved site v =
           let es = flat_map (share p site) w.emitted in
           let fs = flat_map (share_fed p site) w.fed in
@@ -166,7 +166,7 @@ module _ {T : Type 0} (leq : T → T → Bool) (o : PartialOrderLaws leq) (p : D
   kept_took : (w : World T) (j : ℕ) (b : Bundle T) → slice_get (queue b.place w.in_flight) j ≡ Some b → IsKept leq p w → IsKept leq p (took leq p w j b)
   kept_took w j b e k = record { conserved = conserved; law = law; workers = k.workers; inputs = k.inputs; stamped = all_from (is_stamped leq) (without b.place w.in_flight j) (λ x m. all_at (is_stamped leq) w.in_flight x k.stamped (among_left b.place w.in_flight j x m)) }
     where
-      conserved : (other : Place) (v : Update T → ℤ) → total_by v (updates_at other (b ∷ w.received)) +ℤ total_by v (updates_at other (without b.place w.in_flight j)) ≡ total_by v (coming p other w.emitted w.fed)
+      conserved : (other : Site) (v : Update T → ℤ) → total_by v (updates_at other (b ∷ w.received)) +ℤ total_by v (updates_at other (without b.place w.in_flight j)) ≡ total_by v (coming p other w.emitted w.fed)
       conserved other v =
           rw (total_by-append v (cond (same_place b.place other) b.updates []) (updates_at other w.received))
           (take_sum (total_by v (updates_at other w.received)) (total_by v (updates_at other w.in_flight)) (total_by v (cond (same_place b.place other) b.updates [])) (total_by v (updates_at other (without b.place w.in_flight j))) (total_by v (coming p other w.emitted w.fed))
@@ -185,7 +185,7 @@ module _ {T : Type 0} (leq : T → T → Bool) (o : PartialOrderLaws leq) (p : D
   kept_gave : (w : World T) (g : Emission T) (held : List T) (sent : List (Bundle T)) → IsGive leq p w g held sent → IsKept leq p w → IsKept leq p (gave leq p w g held sent)
   kept_gave w g held sent a k = record { conserved = conserved; law = law; workers = (a.worker, k.workers); inputs = k.inputs; stamped = stamped_more w.in_flight sent k.stamped (stamped_sent (held_at g.node g.worker w.held) sent a.stamped) }
     where
-      conserved : (site : Place) (v : Update T → ℤ) → total_by v (updates_at site w.received) +ℤ total_by v (updates_at site (w.in_flight ++ sent)) ≡ total_by v (coming p site (g ∷ w.emitted) w.fed)
+      conserved : (site : Site) (v : Update T → ℤ) → total_by v (updates_at site w.received) +ℤ total_by v (updates_at site (w.in_flight ++ sent)) ≡ total_by v (coming p site (g ∷ w.emitted) w.fed)
       conserved site v =
           let es = flat_map (share p site) w.emitted in
           let fs = flat_map (share_fed p site) w.fed in

@@ -14,11 +14,14 @@ pub mod WeighingLemmas
 pub mod QuietLemmas
 pub mod PortLemmas
 pub mod PlaceLemmas
+pub mod LotLemmas
+pub mod QueueLemmas
+pub mod StationLemmas
+pub mod PlacingLemmas
 pub mod BoardLemmas
 pub mod MeetsLemmas
 pub mod OpenLemmas
 pub mod SiteLemmas
-pub mod TakingLemmas
 pub mod FrontLemmas
 pub mod PutLemmas
 pub mod PartLemmas
@@ -28,7 +31,8 @@ pub mod GiveLemmas
 pub mod FoundLemmas
 pub mod ReadLemmas
 pub mod CuttingLemmas
-pub mod WaitingLemmas
+pub mod RoutingLemmas
+pub mod GraphLemmas
 pub mod ActorLemmas
 pub mod ExampleLemmas
 pub mod WitnessLemmas

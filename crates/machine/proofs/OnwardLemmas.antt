@@ -10,11 +10,11 @@ use Rattle.lattice.specs.Frontiers.{is_beyond, all_beyond}
 use Rattle.antichain.specs.Antichains.{least}
 use Rattle.plan.specs.Ancestors.{is_input}
 use Rattle.machine.proofs.StampLemmas.{beyond_passed}
-use Rattle.machine.specs.declared.event.Place.{Place}
+use Rattle.machine.specs.declared.event.Site.{Site}
 use Rattle.machine.specs.declared.event.Bundle.{Bundle}
 use Rattle.machine.specs.declared.event.Fed.{Fed}
 use Rattle.machine.specs.declared.event.Emission.{Emission}
-use Rattle.machine.specs.declared.event.Held.{Held}
+use Rattle.machine.specs.declared.event.Capability.{Capability}
 use Rattle.machine.specs.declared.event.Open.{Open}
 use Rattle.machine.specs.declared.event.Event.{Event}
 use Rattle.machine.specs.declared.event.Event.TheVariants.{Feed, Advance, Allow, Look, Take, TakeHeld, Give}
@@ -87,7 +87,7 @@ module _ {T : Type 0} (leq : T → T → Bool) (o : PartialOrderLaws leq) (t : T
         head false k x = refl
         head true k x = subst (λ b. IsPassed (cond b (e.time ∷ []) [])) (ap test (eqb-true e.input i k) ∙ a) x
 
-    passed_held : (n k : ℕ) → test n ≡ true → (ms : List (Held T)) → IsPassed (held_where test ms) → IsPassed (held_at n k ms)
+    passed_held : (n k : ℕ) → test n ≡ true → (ms : List (Capability T)) → IsPassed (held_where test ms) → IsPassed (held_at n k ms)
     passed_held n k a [] h = h
     passed_held n k a (m ∷ ms) h =
         let g = passed_parts (cond (test m.node) (m.time ∷ []) []) (held_where test ms) h in
@@ -127,9 +127,9 @@ module _ {T : Type 0} (leq : T → T → Bool) (o : PartialOrderLaws leq) (t : T
         step true e = subst IsPassed (sym (on ts e)) (h e)
         step false e = subst IsPassed (sym (off ts e)) refl
 
-  module _ (test : Place → Bool) where
+  module _ (test : Site → Bool) where
     -- what is left, and what is taken
-    passed_without : (site : Place) (qs : List (Bundle T)) (j : ℕ) → IsPassed (stamps test qs) → IsPassed (stamps test (without site qs j))
+    passed_without : (site : Site) (qs : List (Bundle T)) (j : ℕ) → IsPassed (stamps test qs) → IsPassed (stamps test (without site qs j))
     passed_without site qs j h = passed_all (λ b. test b.place) (λ b. b.stamp) (without site qs j) (λ b m a. passed_one (λ b. test b.place) (λ b. b.stamp) qs h b (among_left site qs j b m) a)
 
     passed_taken : (qs : List (Bundle T)) (j : ℕ) (b : Bundle T) → slice_get (queue b.place qs) j ≡ Some b → test b.place ≡ true → IsPassed (stamps test qs) → IsPassed b.stamp
@@ -137,10 +137,10 @@ module _ {T : Type 0} (leq : T → T → Bool) (o : PartialOrderLaws leq) (t : T
 
   -- What is counted: bundles at some places, times held at some nodes, frontiers of some inputs. It may be any such choice
   -- with the source of each place, with the input of each fed place, and with the places of each node that it counts at.
-  module _ (p : Dataflow) (q : IsDataflow p) (there : Place → Bool) (holds opens : ℕ → Bool)
-      (of_sources : (site : Place) → there site ≡ true → (s : ℕ) → source_of p site.node site.port ≡ Some s → holds s ≡ true)
+  module _ (p : Dataflow) (q : IsDataflow p) (there : Site → Bool) (holds opens : ℕ → Bool)
+      (of_sources : (site : Site) → there site ≡ true → (s : ℕ) → source_of p site.node site.port ≡ Some s → holds s ≡ true)
       (of_inputs : (i k : ℕ) → is_input (node_of p i) ≡ true → there (place i 0 k) ≡ true → opens i ≡ true)
-      (of_places : (site : Place) → holds site.node ≡ true → there site ≡ true) where
+      (of_places : (site : Site) → holds site.node ≡ true → there site ≡ true) where
     abbrev pub IsCountPassed : World T → Type 0
     IsCountPassed w = IsPassed (stamps there w.in_flight) × IsPassed (held_where holds w.held) × IsPassed (open_where opens w.openings)
 
@@ -154,7 +154,7 @@ module _ {T : Type 0} (leq : T → T → Bool) (o : PartialOrderLaws leq) (t : T
     onward_took : (w : World T) (j : ℕ) (b : Bundle T) → slice_get (queue b.place w.in_flight) j ≡ Some b → IsCountPassed w → IsCountPassed (took leq p w j b)
     onward_took w j b e h = (
       passed_without there b.place w.in_flight j h.0,
-      subst IsPassed (sym (flat_map-append (λ (m : Held T). cond (holds m.node) (m.time ∷ []) []) w.held (holding b.place.node b.place.worker b.stamp)))
+      subst IsPassed (sym (flat_map-append (λ (m : Capability T). cond (holds m.node) (m.time ∷ []) []) w.held (holding b.place.node b.place.worker b.stamp)))
           (passed_both (held_where holds w.held) (held_where holds (holding b.place.node b.place.worker b.stamp)) h.1 (passed_marked holds b.place.node b.place.worker b.stamp (λ a. passed_taken there w.in_flight j b e (of_places b.place a) h.0))),
       h.2,
     )
@@ -169,8 +169,8 @@ module _ {T : Type 0} (leq : T → T → Bool) (o : PartialOrderLaws leq) (t : T
     onward_gave : (w : World T) (g : Emission T) (held : List T) (sent : List (Bundle T)) → IsGive leq p w g held sent → IsCountPassed w → IsCountPassed (gave leq p w g held sent)
     onward_gave w g held sent a h = (
       subst IsPassed (sym (flat_map-append (λ (q : Bundle T). cond (there q.place) q.stamp []) w.in_flight sent)) (passed_both (stamps there w.in_flight) (stamps there sent) h.0 (onward_sent w g held sent a h)),
-      subst IsPassed (sym (flat_map-append (λ (m : Held T). cond (holds m.node) (m.time ∷ []) []) (holding g.node g.worker held) (filter (λ m. not (is_held_by g.node g.worker m)) w.held)))
-          (passed_both (held_where holds (holding g.node g.worker held)) (held_where holds (filter (λ m. not (is_held_by g.node g.worker m)) w.held)) (passed_marked holds g.node g.worker held later) (passed_some (λ (m : Held T). cond (holds m.node) (m.time ∷ []) []) (λ m. not (is_held_by g.node g.worker m)) w.held h.1)),
+      subst IsPassed (sym (flat_map-append (λ (m : Capability T). cond (holds m.node) (m.time ∷ []) []) (holding g.node g.worker held) (filter (λ m. not (is_held_by g.node g.worker m)) w.held)))
+          (passed_both (held_where holds (holding g.node g.worker held)) (held_where holds (filter (λ m. not (is_held_by g.node g.worker m)) w.held)) (passed_marked holds g.node g.worker held later) (passed_some (λ (m : Capability T). cond (holds m.node) (m.time ∷ []) []) (λ m. not (is_held_by g.node g.worker m)) w.held h.1)),
       h.2,
     )
       where
@@ -207,16 +207,16 @@ module _ {T : Type 0} (leq : T → T → Bool) (o : PartialOrderLaws leq) (t : T
 
   module _ (p : Dataflow) (q : IsDataflow p) (n : ℕ) where
     -- a source of what is above is above
-    upward : (site : Place) → above p n site.node ≡ true → (s : ℕ) → source_of p site.node site.port ≡ Some s → above p n s ≡ true
+    upward : (site : Site) → above p n site.node ≡ true → (s : ℕ) → source_of p site.node site.port ≡ Some s → above p n s ≡ true
     upward site a s e = above_transitive p.nodes q.plan s site.node n (above_from_source p.nodes q.plan s site.node site.port s e (above_itself p.nodes q.plan s)) a
 
-    source_strict : (site : Place) → above p n site.node ≡ true → (s : ℕ) → source_of p site.node site.port ≡ Some s → strictly_above p n s ≡ true
+    source_strict : (site : Site) → above p n site.node ≡ true → (s : ℕ) → source_of p site.node site.port ≡ Some s → strictly_above p n s ≡ true
     source_strict site e s f =
         let less = source_smaller p.nodes q.plan site.node site.port s f in
         let le = above_earlier p.nodes q.plan site.node n e in
         and_from (above p n s) (not (eqb s n)) (upward site e s f) (ap not (ne_eqb s n (λ x. absurd (omega arith))))
 
-    abbrev site_above : Place → Bool
+    abbrev site_above : Site → Bool
     site_above site = above p n site.node
 
     -- what a frontier has passed it has passed after each event
@@ -242,7 +242,7 @@ module _ {T : Type 0} (leq : T → T → Bool) (o : PartialOrderLaws leq) (t : T
     taken_later w j b e i h = passed_taken site_above w.in_flight j b e (ap (above p n) i ∙ above_itself p.nodes q.plan n) (in_passed w h).0
 
   -- bundles at the places that pass one of two tests
-  passed_either : (f g : Place → Bool) (qs : List (Bundle T)) → IsPassed (stamps f qs) → IsPassed (stamps g qs) → IsPassed (stamps (λ site. f site || g site) qs)
+  passed_either : (f g : Site → Bool) (qs : List (Bundle T)) → IsPassed (stamps f qs) → IsPassed (stamps g qs) → IsPassed (stamps (λ site. f site || g site) qs)
   passed_either f g [] h k = refl
   passed_either f g (x ∷ qs) h k =
       let a = passed_parts (cond (f x.place) x.stamp []) (stamps f qs) h in
@@ -253,7 +253,7 @@ module _ {T : Type 0} (leq : T → T → Bool) (o : PartialOrderLaws leq) (t : T
       one true y z = y
       one false y z = z
 
-  passed_each : (f g : Place → Bool) (qs : List (Bundle T)) → IsPassed (stamps (λ site. f site || g site) qs) → IsPassed (stamps f qs) × IsPassed (stamps g qs)
+  passed_each : (f g : Site → Bool) (qs : List (Bundle T)) → IsPassed (stamps (λ site. f site || g site) qs) → IsPassed (stamps f qs) × IsPassed (stamps g qs)
   passed_each f g [] h = (refl, refl)
   passed_each f g (x ∷ qs) h =
       let a = passed_parts (cond (f x.place || g x.place) x.stamp []) (stamps (λ site. f site || g site) qs) h in
@@ -268,10 +268,10 @@ module _ {T : Type 0} (leq : T → T → Bool) (o : PartialOrderLaws leq) (t : T
       one false false y = (refl, refl)
 
   module _ (p : Dataflow) (q : IsDataflow p) (n port : ℕ) where
-    abbrev at_port : Place → Bool
+    abbrev at_port : Site → Bool
     at_port site = eqb site.node n && eqb site.port port
 
-    abbrev or_above : ℕ → Place → Bool
+    abbrev or_above : ℕ → Site → Bool
     or_above s site = at_port site || above p s site.node
 
     -- at an input a port has nothing above it but the input's own frontier
@@ -282,11 +282,11 @@ module _ {T : Type 0} (leq : T → T → Bool) (o : PartialOrderLaws leq) (t : T
         let r = onward p q at_port (λ m. false) (λ i. eqb i n) sources (λ i k b x. (and_parts (eqb i n) (eqb 0 port) x).0) (λ site x. absurd (false≢true x)) w e a (h, no_held w.held, k) in
         (r.0, r.2)
       where
-        no_held : (ms : List (Held T)) → IsPassed (held_where (λ m. false) ms)
+        no_held : (ms : List (Capability T)) → IsPassed (held_where (λ m. false) ms)
         no_held [] = refl
         no_held (m ∷ ms) = no_held ms
 
-        sources : (site : Place) → at_port site ≡ true → (s : ℕ) → source_of p site.node site.port ≡ Some s → false ≡ true
+        sources : (site : Site) → at_port site ≡ true → (s : ℕ) → source_of p site.node site.port ≡ Some s → false ≡ true
         sources site x s f =
             let y = and_parts (eqb site.node n) (eqb site.port port) x in
             absurd (clash (subst (λ b. source_of p n b ≡ Some s) (eqb-true site.port port y.1) (subst (λ a. source_of p a site.port ≡ Some s) (eqb-true site.node n y.0) f)))
@@ -303,7 +303,7 @@ module _ {T : Type 0} (leq : T → T → Bool) (o : PartialOrderLaws leq) (t : T
         let y = passed_each at_port (λ site. above p s site.node) (after leq p w e).in_flight r.0 in
         (y.0, counts_passed (above p s) (above p s) (after leq p w e) (y.1, r.1, r.2))
       where
-        sources : (site : Place) → or_above s site ≡ true → (m : ℕ) → source_of p site.node site.port ≡ Some m → above p s m ≡ true
+        sources : (site : Site) → or_above s site ≡ true → (m : ℕ) → source_of p site.node site.port ≡ Some m → above p s m ≡ true
         sources site x m f = step (at_port site) refl x
           where
             step : (b : Bool) → at_port site ≡ b → (b || above p s site.node) ≡ true → above p s m ≡ true

@@ -1,10 +1,10 @@
 -- The inputs' frontiers, node by node, and all their elements one after another.
 use Rattle.std.proofs.Common.{◌≡◌, ℕ, zero, suc, ◌+◌, ◌<◌, ◌≤◌, Bool, true, false, cond, not, ◌&&◌, ◌||◌, List, [], ◌∷◌, ◌++◌, map, take, length, get_or, set, get_or-set_same, get_or-set_other, sym, refl, ap, ap₂, ◌∙◌, subst, eqb, arith, append_assoc, ◌⊎◌, inl, inr, ⊎_elim}
-use Rattle.std.specs.List.{filter, flat_map, list_any}
+use Rattle.std.specs.List.{filter, flat_map, list_any, list_all}
 use Rattle.std.proofs.lemmas.Bool.{eqb-true, eq-eqb, false≢true, or_left, or_right, cases_lt}
 use Rattle.std.proofs.lemmas.List.{append-nil, get_or-map, map_push, take_more, take_all}
 use Rattle.std.proofs.lemmas.List.Concat.{flat_map-append}
-use Rattle.std.proofs.lemmas.List.Folds.{list_any-append}
+use Rattle.std.proofs.lemmas.List.Folds.{list_any-append, list_all-append}
 use Rattle.std.proofs.lemmas.Option.{unwrap_or-slice_get}
 use Rattle.lattice.specs.Frontiers.{is_beyond}
 use Rattle.plan.specs.Ancestors.{is_input, numbers_below}
@@ -36,6 +36,24 @@ any_below f i (suc n) l e =
 -- none of them and not the next
 pub none_next : (f : ℕ → Bool) (n : ℕ) → list_any f (numbers_below n) ≡ false → f n ≡ false → list_any f (numbers_below (n + 1)) ≡ false
 none_next f n h e = ap (λ m. list_any f (numbers_below m)) (one_more n) ∙ (list_any-append f (numbers_below n) (n ∷ []) ∙ ap₂ (λ a b. a || (b || false)) h e)
+
+-- each of them and the next
+pub all_next : (f : ℕ → Bool) (n : ℕ) → list_all f (numbers_below n) ≡ true → f n ≡ true → list_all f (numbers_below (n + 1)) ≡ true
+all_next f n h e = ap (λ m. list_all f (numbers_below m)) (one_more n) ∙ (list_all-append f (numbers_below n) (n ∷ []) ∙ ap₂ (λ a b. a && (b && true)) h e)
+
+-- not each of them
+pub all_fails : (f : ℕ → Bool) (i n : ℕ) → i < n → f i ≡ false → list_all f (numbers_below n) ≡ false
+all_fails f i zero l e = absurd (omega (arith, l))
+all_fails f i (suc n) l e =
+    list_all-append f (numbers_below n) (n ∷ [])
+    ∙ ⊎_elim
+    (λ k. ap (λ a. a && (f n && true)) (all_fails f i n k e))
+    (λ k. let same : i ≡ n = omega (arith, k, l) in ap (λ b. list_all f (numbers_below n) && (b && true)) (ap f (sym same) ∙ e) ∙ and_false (list_all f (numbers_below n)))
+    (cases_lt i n)
+  where
+    and_false : (b : Bool) → (b && false) ≡ false
+    and_false true = refl
+    and_false false = refl
 
 -- what each of them gives, one after another, and what the next one gives
 pub give_next : {X : Type 0} (f : ℕ → List X) (old mid new : List X) (n : ℕ) → mid ≡ old ++ flat_map f (numbers_below n) → new ≡ mid ++ f n → new ≡ old ++ flat_map f (numbers_below (n + 1))

@@ -1,29 +1,15 @@
--- What a worker gets along an edge, in each case.
-use Rattle.std.proofs.Common.{◌≡◌, ℕ, List, [], cond, eqb, take, Option, Some, None, sym, ap, ◌∙◌}
-use Rattle.std.specs.List.{filter}
-use Rattle.std.proofs.lemmas.Bool.{eq-eqb, ne_eqb}
-use Rattle.row.specs.Routing.{route_of}
-use Rattle.update.specs.declared.change.Update.{Update}
-use Rattle.machine.specs.Dataflows.{Dataflow}
-use Rattle.machine.specs.Boards.{Shown}
-use Rattle.machine.specs.Shares.{part}
+-- The bundles that are made of the parts of workers, one worker after another.
+use Rattle.std.proofs.Common.{◌≡◌, ℕ, suc, ◌+◌, List, [], ◌∷◌, ◌++◌, sym, ap, ap₂, ◌∙◌, arith, append_assoc}
+use Rattle.std.specs.List.{flat_map}
+use Rattle.std.proofs.lemmas.List.{append-nil}
+use Rattle.std.proofs.lemmas.List.Concat.{flat_map-append}
+use Rattle.plan.specs.Ancestors.{numbers_below}
 
-module _ {T : Type 0} where
-  -- by a key
-  pub part_routed : (b : Shown T) {v : Shown T} → v ≡ b → (columns : Option ℕ) (n giver worker : ℕ) (read us got : List (Update T)) → columns ≡ Some n → read ≡ us
-      → got ≡ filter (λ u. eqb (route_of (take n u.row) v.dataflow.workers) worker) read → got ≡ part b.dataflow columns giver worker us
-  part_routed b e columns n giver worker read us got s r h =
-      h
-      ∙ (ap (λ (z : Shown T). filter (λ u. eqb (route_of (take n u.row) z.dataflow.workers) worker) read) e
-      ∙ (ap (filter (λ u. eqb (route_of (take n u.row) b.dataflow.workers) worker)) r
-      ∙ ap (λ c. part b.dataflow c giver worker us) (sym s)))
-
-  -- on the same worker
-  pub part_own : (p : Dataflow) (columns : Option ℕ) (giver worker : ℕ) (read us got : List (Update T)) → columns ≡ None → giver ≡ worker → read ≡ us → got ≡ read → got ≡ part p columns giver worker us
-  part_own p columns giver worker read us got s o r h =
-      h ∙ (r ∙ (ap (λ c. cond c us []) (sym (eq-eqb giver worker o)) ∙ ap (λ c. part p c giver worker us) (sym s)))
-
-  -- on another one
-  pub part_other : (p : Dataflow) (columns : Option ℕ) (giver worker : ℕ) (us got : List (Update T)) → columns ≡ None → (giver ≡ worker → ⊥) → got ≡ [] → got ≡ part p columns giver worker us
-  part_other p columns giver worker us got s o h =
-      h ∙ (ap (λ c. cond c us []) (sym (ne_eqb giver worker o)) ∙ ap (λ c. part p c giver worker us) (sym s))
+-- with what one number more gives
+pub with_next : {A : Type 0} (f : ℕ → List A) (old mid new more : List A) (n : ℕ) → more ≡ f n → mid ≡ old ++ flat_map f (numbers_below n) → new ≡ mid ++ more → new ≡ old ++ flat_map f (numbers_below (n + 1))
+with_next f old mid new more n e m h =
+    let next : suc n ≡ n + 1 = omega arith in
+    h
+    ∙ (ap₂ (λ xs ys. xs ++ ys) m e
+    ∙ (append_assoc old (flat_map f (numbers_below n)) (f n)
+    ∙ ap (λ xs. old ++ xs) (sym (ap (λ k. flat_map f (numbers_below k)) (sym next) ∙ (flat_map-append f (numbers_below n) (n ∷ []) ∙ ap (λ xs. flat_map f (numbers_below n) ++ xs) (append-nil (f n)))))))

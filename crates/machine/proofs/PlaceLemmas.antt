@@ -11,10 +11,10 @@ use Rattle.plan.specs.Ancestors.{is_input, numbers_below}
 use Rattle.plan.specs.Edges.{numbers_where}
 use Rattle.plan.specs.Nodes.{sources, arranged_by, node_at}
 use Rattle.plan.proofs.PlanLemmas.{has_source}
-use Rattle.machine.specs.declared.event.Place.{Place}
+use Rattle.machine.specs.declared.event.Site.{Site}
 use Rattle.machine.specs.declared.event.Bundle.{Bundle}
 use Rattle.machine.specs.declared.event.Emission.{Emission}
-use Rattle.machine.specs.declared.event.Held.{Held}
+use Rattle.machine.specs.declared.event.Capability.{Capability}
 use Rattle.machine.specs.declared.event.Open.{Open}
 use Rattle.machine.specs.declared.event.Event.{Event}
 use Rattle.machine.specs.declared.event.Event.TheVariants.{Feed, Advance, Allow, Look, Take, TakeHeld, Give}
@@ -96,7 +96,7 @@ hand_with p f i x h y k n e = step (eqb k i) refl e
 
 -- only a place that there is has a share of what a worker gave
 module _ {T : Type 0} (p : Dataflow) (q : IsDataflow p) where
-  pub shared : (site : Place) (g : Emission T) → g.worker < p.workers → share p site g ≢ [] → IsPlace p site
+  pub shared : (site : Site) (g : Emission T) → g.worker < p.workers → share p site g ≢ [] → IsPlace p site
   shared site g l h = step (source_of p site.node site.port) refl (arranged_by (node_of p site.node)) h
     where
       within : (xs : List ℕ) (i s : ℕ) → slice_get xs i ≡ Some s → i < length xs
@@ -126,7 +126,7 @@ module _ {T : Type 0} (p : Dataflow) (q : IsDataflow p) where
           one false k = absurd (k refl)
 
   -- and only from the node that is read there
-  shared_from : (site : Place) (g : Emission T) → share p site g ≢ [] → source_of p site.node site.port ≡ Some g.node
+  shared_from : (site : Site) (g : Emission T) → share p site g ≢ [] → source_of p site.node site.port ≡ Some g.node
   shared_from site g h = step (source_of p site.node site.port) refl (arranged_by (node_of p site.node)) h
     where
       step : (x : Option ℕ) → source_of p site.node site.port ≡ x → (c : Option ℕ) → share_from p x c site.worker g ≢ [] → source_of p site.node site.port ≡ Some g.node
@@ -138,18 +138,18 @@ module _ {T : Type 0} (p : Dataflow) (q : IsDataflow p) where
           one false f k = absurd (k refl)
 
   -- so a bundle that is sent has a share in it, and its place reads the giver's node
-  pub sent_some : (g : Emission T) (sent : List (Bundle T)) → ((site : Place) (f : Update T → ℤ) → total_by f (updates_at site sent) ≡ total_by f (share p site g)) → IsTrue (list_all (λ b. not (eqb (length b.updates) 0)) sent)
+  pub sent_some : (g : Emission T) (sent : List (Bundle T)) → ((site : Site) (f : Update T → ℤ) → total_by f (updates_at site sent) ≡ total_by f (share p site g)) → IsTrue (list_all (λ b. not (eqb (length b.updates) 0)) sent)
       → (b : Bundle T) → Among b sent → share p b.place g ≢ []
   sent_some g sent whole filled b m e = there_some sent b m (filled_some sent filled b m) (no_totals (updates_at b.place sent) (share p b.place g) (whole b.place) e)
 
-  pub sent_from : (g : Emission T) (sent : List (Bundle T)) → ((site : Place) (f : Update T → ℤ) → total_by f (updates_at site sent) ≡ total_by f (share p site g)) → IsTrue (list_all (λ b. not (eqb (length b.updates) 0)) sent)
+  pub sent_from : (g : Emission T) (sent : List (Bundle T)) → ((site : Site) (f : Update T → ℤ) → total_by f (updates_at site sent) ≡ total_by f (share p site g)) → IsTrue (list_all (λ b. not (eqb (length b.updates) 0)) sent)
       → (b : Bundle T) → Among b sent → source_of p b.place.node b.place.port ≡ Some g.node
   sent_from g sent whole filled b m = shared_from b.place g (sent_some g sent whole filled b m)
 
   abbrev IsBundle : Bundle T → Type 0
   IsBundle b = IsPlace p b.place × (b.updates ≢ [])
 
-  abbrev IsHeld : Held T → Type 0
+  abbrev IsHeld : Capability T → Type 0
   IsHeld m = (m.node < length p.nodes) × (m.worker < p.workers)
 
   abbrev IsOpen : Open T → Type 0

@@ -11,7 +11,7 @@ use Rattle.plan.specs.Changes.{has_passed}
 use Rattle.plan.specs.Nodes.{sources}
 use Rattle.plan.proofs.PlanLemmas.{source_smaller}
 use Rattle.plan.proofs.StandLemmas.{above_itself, above_cases, above_earlier, above_from_source}
-use Rattle.machine.specs.declared.event.Place.{Place}
+use Rattle.machine.specs.declared.event.Site.{Site}
 use Rattle.machine.specs.declared.event.Event.{Event}
 use Rattle.machine.specs.Dataflows.{Dataflow, IsDataflow, node_of, source_of, above}
 use Rattle.machine.specs.Worlds.{World}
@@ -31,7 +31,7 @@ module _ {T : Type 0} (leq : T → T → Bool) (o : PartialOrderLaws leq) (t : T
   abbrev ports : ℕ
   ports = length (sources (node_of p n))
 
-  abbrev is_at : ℕ → Place → Bool
+  abbrev is_at : ℕ → Site → Bool
   is_at port site = eqb site.node n && eqb site.port port
 
   -- of what may come to the node, what may come to one of its ports
@@ -80,7 +80,7 @@ module _ {T : Type 0} (leq : T → T → Bool) (o : PartialOrderLaws leq) (t : T
     of_source port s e = subst (λ x. IsOver (outstanding_from p w n x)) e (parts port (slice_get_within (sources (node_of p n)) port s e)).1
 
     -- a place of the node is at one of its ports
-    port_of : (site : Place) → site.node ≡ n → (site.port ≡ 0) ⊎ (site.port < length (sources (node_of p site.node))) → site.port < ports
+    port_of : (site : Site) → site.node ≡ n → (site.port ≡ 0) ⊎ (site.port < length (sources (node_of p site.node))) → site.port < ports
     port_of site e (inl z) = omega (arith, z, some)
     port_of site e (inr l) = subst (λ m. site.port < length (sources (node_of p m))) e l
 

@@ -15,7 +15,7 @@ use Rattle.plan.specs.Ancestors.{is_input, feeds, feeders, numbers_below}
 use Rattle.plan.specs.Changes.{open_for}
 use Rattle.plan.proofs.StandLemmas.{above_transitive}
 use Rattle.plan.proofs.UpwardLemmas.{by_smaller}
-use Rattle.machine.specs.declared.event.Held.{Held}
+use Rattle.machine.specs.declared.event.Capability.{Capability}
 use Rattle.machine.specs.declared.event.Open.{Open}
 use Rattle.machine.specs.Dataflows.{Dataflow, IsDataflow, node_of, above}
 use Rattle.machine.specs.Worlds.{World, open_at}
@@ -146,7 +146,7 @@ module _ {T : Type 0} (leq : T → T → Bool) (o : PartialOrderLaws leq) (p : D
 
   module _ (quiet : IsQuiet leq p w) where
     -- a held time that counts is at or after some element of an input's frontier
-    held_of : (holds : ℕ → Bool) (t : T) (ms : List (Held T)) → is_beyond leq (held_where holds ms) t ≡ true → (m : Held T) × Among m ms × (holds m.node ≡ true) × (leq m.time t ≡ true)
+    held_of : (holds : ℕ → Bool) (t : T) (ms : List (Capability T)) → is_beyond leq (held_where holds ms) t ≡ true → (m : Capability T) × Among m ms × (holds m.node ≡ true) × (leq m.time t ≡ true)
     held_of holds t [] h = absurd (false≢true h)
     held_of holds t (m ∷ ms) h = step (holds m.node) refl (leq m.time t) refl h (held_of holds t ms)
       where
@@ -154,11 +154,11 @@ module _ {T : Type 0} (leq : T → T → Bool) (o : PartialOrderLaws leq) (p : D
         skip true g k = absurd (true≢false g)
         skip false g k = k
 
-        more : (x : Held T) × Among x ms × (holds x.node ≡ true) × (leq x.time t ≡ true) → (x : Held T) × Among x (m ∷ ms) × (holds x.node ≡ true) × (leq x.time t ≡ true)
+        more : (x : Capability T) × Among x ms × (holds x.node ≡ true) × (leq x.time t ≡ true) → (x : Capability T) × Among x (m ∷ ms) × (holds x.node ≡ true) × (leq x.time t ≡ true)
         more r = (r.0, inr r.1, r.2, r.3)
 
         step : (b : Bool) → holds m.node ≡ b → (c : Bool) → leq m.time t ≡ c → is_beyond leq (cond b (m.time ∷ []) [] ++ held_where holds ms) t ≡ true
-            → (is_beyond leq (held_where holds ms) t ≡ true → (x : Held T) × Among x ms × (holds x.node ≡ true) × (leq x.time t ≡ true)) → (x : Held T) × Among x (m ∷ ms) × (holds x.node ≡ true) × (leq x.time t ≡ true)
+            → (is_beyond leq (held_where holds ms) t ≡ true → (x : Capability T) × Among x ms × (holds x.node ≡ true) × (leq x.time t ≡ true)) → (x : Capability T) × Among x (m ∷ ms) × (holds x.node ≡ true) × (leq x.time t ≡ true)
         step true e true f k rest = (m, inl refl, e, f)
         step true e false f k rest = more (rest (skip (leq m.time t) f k))
         step false e c f k rest = more (rest k)
@@ -187,8 +187,8 @@ module _ {T : Type 0} (leq : T → T → Bool) (o : PartialOrderLaws leq) (p : D
         either true e k = inl e
         either false e k = inr k
 
-    held_open : (a : ℕ) → above p n a ≡ true → (m : Held T) → Among m w.held → m.node ≡ a → is_beyond leq (open_where (above p n) w.openings) m.time ≡ true
-    held_open = by_smaller (λ a. above p n a ≡ true → (m : Held T) → Among m w.held → m.node ≡ a → is_beyond leq (open_where (above p n) w.openings) m.time ≡ true) (λ a rest e m i f.
+    held_open : (a : ℕ) → above p n a ≡ true → (m : Capability T) → Among m w.held → m.node ≡ a → is_beyond leq (open_where (above p n) w.openings) m.time ≡ true
+    held_open = by_smaller (λ a. above p n a ≡ true → (m : Capability T) → Among m w.held → m.node ≡ a → is_beyond leq (open_where (above p n) w.openings) m.time ≡ true) (λ a rest e m i f.
         let x = all_at (λ m. is_beyond leq (input_frontier leq p w m.node) m.time) w.held m quiet.held i in
         let y = subst (λ z. is_beyond leq (counted w (above p z) (strictly_above p z)) m.time ≡ true) f (sym (least_beyond o (counted w (above p m.node) (strictly_above p m.node)) m.time) ∙ x) in
         ⊎_elim

@@ -16,7 +16,7 @@ use Rattle.update.specs.Updates.{size}
 use mathlib.Core.Path.{fun_ext}
 use Rattle.machine.specs.declared.event.Bundle.{Bundle}
 use Rattle.machine.specs.declared.event.Emission.{Emission}
-use Rattle.machine.specs.declared.event.Held.{Held}
+use Rattle.machine.specs.declared.event.Capability.{Capability}
 use Rattle.machine.specs.declared.event.Event.{Event}
 use Rattle.machine.specs.declared.event.Event.TheVariants.{Feed, Advance, Allow, Look, Take, TakeHeld, Give}
 use Rattle.machine.specs.Dataflows.{Dataflow, IsDataflow, node_of}
@@ -119,7 +119,7 @@ module _ {T : Type 0} (leq : T → T → Bool) (o : PartialOrderLaws leq) (p : D
       v : World T
       v = turned_to leq p (took leq p w j b) b.place.node b.place.worker
 
-      more : List (Held T)
+      more : List (Capability T)
       more = holding b.place.node b.place.worker b.stamp
 
       received : (port : ℕ) → weight (updates_at (place n port k) w.received) ≤ weight (updates_at (place n port k) v.received)
@@ -127,7 +127,7 @@ module _ {T : Type 0} (leq : T → T → Bool) (o : PartialOrderLaws leq) (p : D
 
       held : (t : T) → was_passed leq n k w.left t ≡ true → is_beyond leq (held_at n k w.held) t ≡ false → is_beyond leq (held_at n k v.held) t ≡ false
       held t h f =
-          ap (λ z. is_beyond leq z t) (flat_map-append (λ (m : Held T). cond (eqb m.node n && eqb m.worker k) (m.time ∷ []) []) w.held more)
+          ap (λ z. is_beyond leq z t) (flat_map-append (λ (m : Capability T). cond (eqb m.node n && eqb m.worker k) (m.time ∷ []) []) w.held more)
           ∙ (list_any-append (λ x. leq x t) (held_at n k w.held) (held_at n k more)
           ∙ or_from (is_beyond leq (held_at n k w.held) t) (is_beyond leq (held_at n k more) t) f (new (eqb b.place.node n && eqb b.place.worker k) refl))
         where
@@ -150,7 +150,7 @@ module _ {T : Type 0} (leq : T → T → Bool) (o : PartialOrderLaws leq) (p : D
         where
           kept : (t : T) → was_passed leq n k w.left t ≡ true → is_beyond leq (held_at n k w.held) t ≡ false → is_beyond leq (held_at n k v.held) t ≡ false
           kept t h f =
-              ap (λ z. is_beyond leq z t) (flat_map-append (λ (m : Held T). cond (eqb m.node n && eqb m.worker k) (m.time ∷ []) []) (holding g.node g.worker held) (filter (λ m. not (eqb m.node g.node && eqb m.worker g.worker)) w.held))
+              ap (λ z. is_beyond leq z t) (flat_map-append (λ (m : Capability T). cond (eqb m.node n && eqb m.worker k) (m.time ∷ []) []) (holding g.node g.worker held) (filter (λ m. not (eqb m.node g.node && eqb m.worker g.worker)) w.held))
               ∙ rw (held_unmarked n k g.node g.worker held e, held_kept n k g.node g.worker w.held e) f
 
   loaded_after : (w : World T) (e : Event T) → IsAllowed leq p w e → IsLoaded w → IsLoaded (after leq p w e)

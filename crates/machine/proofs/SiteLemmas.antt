@@ -5,9 +5,9 @@ use Rattle.std.proofs.lemmas.Bool.{and_parts, and_from, or_left, or_right, eqb-t
 use Rattle.std.proofs.lemmas.List.Concat.{flat_map-append}
 use Rattle.lattice.proofs.BoundLemmas.{same_test}
 use Rattle.antichain.proofs.Lists.{Among, all_at, all_from}
-use Rattle.machine.specs.declared.event.Place.{Place}
+use Rattle.machine.specs.declared.event.Site.{Site}
 use Rattle.machine.specs.declared.event.Bundle.{Bundle}
-use Rattle.machine.specs.declared.event.Held.{Held}
+use Rattle.machine.specs.declared.event.Capability.{Capability}
 use Rattle.machine.specs.declared.event.Open.{Open}
 use Rattle.machine.specs.Worlds.{same_place, queue, held_at, open_at}
 use Rattle.machine.specs.Histories.{without, is_held_by, opening}
@@ -100,7 +100,7 @@ module _ {A K V : Type 0} (is : A → K → Bool) (at_own : A → K) (value : A 
 -- Bundles
 
 -- a queue without the one of a number
-abbrev less : {A : Type 0} → List A → ℕ → List A
+abbrev pub less : {A : Type 0} → List A → ℕ → List A
 less [] n = []
 less (x ∷ xs) zero = xs
 less (x ∷ xs) (suc n) = x ∷ less xs n
@@ -109,11 +109,11 @@ module _ {T : Type 0} where
   one_site : (b : Bundle T) → same_place b.place b.place ≡ true
   one_site b = same_self b.place
     where
-      same_self : (s : Place) → same_place s s ≡ true
+      same_self : (s : Site) → same_place s s ≡ true
       same_self s = and_from (eqb s.node s.node) (eqb s.port s.port && eqb s.worker s.worker) (eq-eqb s.node s.node refl) (and_from (eqb s.port s.port) (eqb s.worker s.worker) (eq-eqb s.port s.port refl) (eq-eqb s.worker s.worker refl))
 
   abbrev pub AreQueued : List (Bundle T) → List (Bundle T) → Type 0
-  AreQueued xs ys = (site : Place) → queue site xs ≡ queue site ys
+  AreQueued xs ys = (site : Site) → queue site xs ≡ queue site ys
 
   -- bundles that wait alike are tested alike
   pub queued_any : (f : Bundle T → Bool) (xs ys : List (Bundle T)) → AreQueued xs ys → list_any f xs ≡ list_any f ys
@@ -128,7 +128,7 @@ module _ {T : Type 0} where
       ∙ (ap (λ q. q ++ queue site more) (same site)
       ∙ sym (flat_map-append (λ b. cond (same_place b.place site) (b ∷ []) []) ys more))
 
-  queue_less : (site : Place) (xs : List (Bundle T)) (n : ℕ) → queue site (without site xs n) ≡ less (queue site xs) n
+  pub queue_less : (site : Site) (xs : List (Bundle T)) (n : ℕ) → queue site (without site xs n) ≡ less (queue site xs) n
   queue_less site [] n = refl
   queue_less site (x ∷ xs) zero = step (same_place x.place site) refl (queue_less site xs zero)
     where
@@ -142,7 +142,7 @@ module _ {T : Type 0} where
       step true e h k = rw e (ap (λ q. x ∷ q) h)
       step false e h k = rw e k
 
-  queue_other : (site other : Place) → ((p : Place) → same_place p site ≡ true → same_place p other ≡ false) → (xs : List (Bundle T)) (n : ℕ) → queue other (without site xs n) ≡ queue other xs
+  pub queue_other : (site other : Site) → ((p : Site) → same_place p site ≡ true → same_place p other ≡ false) → (xs : List (Bundle T)) (n : ℕ) → queue other (without site xs n) ≡ queue other xs
   queue_other site other apart [] n = refl
   queue_other site other apart (x ∷ xs) zero = step (same_place x.place site) refl (queue_other site other apart xs zero)
     where
@@ -155,29 +155,29 @@ module _ {T : Type 0} where
       step true h k = h
       step false h k = k
 
-  pub queued_less : (xs ys : List (Bundle T)) (site : Place) (n : ℕ) → AreQueued xs ys → AreQueued (without site xs n) (without site ys n)
+  pub queued_less : (xs ys : List (Bundle T)) (site : Site) (n : ℕ) → AreQueued xs ys → AreQueued (without site xs n) (without site ys n)
   queued_less xs ys site n same other = step (same_place site other) refl
     where
       step : (c : Bool) → same_place site other ≡ c → queue other (without site xs n) ≡ queue other (without site ys n)
       step true e = subst (λ o. queue o (without site xs n) ≡ queue o (without site ys n)) (place_same site other e) (queue_less site xs n ∙ (ap (λ q. less q n) (same site) ∙ sym (queue_less site ys n)))
       step false e = queue_other site other apart xs n ∙ (same other ∙ sym (queue_other site other apart ys n))
         where
-          apart : (p : Place) → same_place p site ≡ true → same_place p other ≡ false
+          apart : (p : Site) → same_place p site ≡ true → same_place p other ≡ false
           apart p f = ap (λ q. same_place q other) (place_same p site f) ∙ e
 
-  -- Held times
+  -- Capability times
 
-  abbrev pub AreHeld : List (Held T) → List (Held T) → Type 0
+  abbrev pub AreHeld : List (Capability T) → List (Capability T) → Type 0
   AreHeld xs ys = (n k : ℕ) → held_at n k xs ≡ held_at n k ys
 
-  abbrev holds_at : Held T → ℕ × ℕ → Bool
+  abbrev holds_at : Capability T → ℕ × ℕ → Bool
   holds_at m at = eqb m.node at.0 && eqb m.worker at.1
 
-  one_holder : (m : Held T) → holds_at m (m.node, m.worker) ≡ true
+  one_holder : (m : Capability T) → holds_at m (m.node, m.worker) ≡ true
   one_holder m = and_from (eqb m.node m.node) (eqb m.worker m.worker) (eq-eqb m.node m.node refl) (eq-eqb m.worker m.worker refl)
 
-  module _ (f : ℕ → T → Bool) (xs ys : List (Held T)) (same : AreHeld xs ys) where
-    like_held : (x y : Held T) → holds_at y (x.node, x.worker) ≡ true → y.time ≡ x.time → f y.node y.time ≡ f x.node x.time
+  module _ (f : ℕ → T → Bool) (xs ys : List (Capability T)) (same : AreHeld xs ys) where
+    like_held : (x y : Capability T) → holds_at y (x.node, x.worker) ≡ true → y.time ≡ x.time → f y.node y.time ≡ f x.node x.time
     like_held x y e v = ap₂ f (eqb-true y.node x.node (and_parts (eqb y.node x.node) (eqb y.worker x.worker) e).0) v
 
     pub held_any_like : list_any (λ m. f m.node m.time) xs ≡ list_any (λ m. f m.node m.time) ys
@@ -186,25 +186,25 @@ module _ {T : Type 0} where
     pub held_all_like : list_all (λ m. f m.node m.time) xs ≡ list_all (λ m. f m.node m.time) ys
     held_all_like = all_like holds_at (λ m. (m.node, m.worker)) (λ m. m.time) one_holder (λ m. f m.node m.time) like_held xs ys (λ at. same at.0 at.1)
 
-  pub none_held : (xs : List (Held T)) → AreHeld xs [] → xs ≡ []
+  pub none_held : (xs : List (Capability T)) → AreHeld xs [] → xs ≡ []
   none_held xs e = nothing_at holds_at (λ m. (m.node, m.worker)) (λ m. m.time) one_holder xs (λ at. e at.0 at.1)
 
-  pub held_more : (xs ys more : List (Held T)) → AreHeld xs ys → AreHeld (more ++ xs) (more ++ ys)
+  pub held_more : (xs ys more : List (Capability T)) → AreHeld xs ys → AreHeld (more ++ xs) (more ++ ys)
   held_more xs ys more same n k =
       flat_map-append (λ m. cond (is_held_by n k m) (m.time ∷ []) []) more xs
       ∙ (ap (λ q. held_at n k more ++ q) (same n k)
       ∙ sym (flat_map-append (λ m. cond (is_held_by n k m) (m.time ∷ []) []) more ys))
 
-  pub held_behind : (xs ys more : List (Held T)) → AreHeld xs ys → AreHeld (xs ++ more) (ys ++ more)
+  pub held_behind : (xs ys more : List (Capability T)) → AreHeld xs ys → AreHeld (xs ++ more) (ys ++ more)
   held_behind xs ys more same n k =
       flat_map-append (λ m. cond (is_held_by n k m) (m.time ∷ []) []) xs more
       ∙ (ap (λ q. q ++ held_at n k more) (same n k)
       ∙ sym (flat_map-append (λ m. cond (is_held_by n k m) (m.time ∷ []) []) ys more))
 
-  pub held_others : (xs ys : List (Held T)) (n k : ℕ) → AreHeld xs ys → AreHeld (filter (λ m. not (is_held_by n k m)) xs) (filter (λ m. not (is_held_by n k m)) ys)
+  pub held_others : (xs ys : List (Capability T)) (n k : ℕ) → AreHeld xs ys → AreHeld (filter (λ m. not (is_held_by n k m)) xs) (filter (λ m. not (is_held_by n k m)) ys)
   held_others xs ys n k same m j = at_others holds_at (λ m. (m.node, m.worker)) (λ m. m.time) one_holder (m, j) (n, k) (step (eqb m n) refl (eqb j k) refl) xs ys (same m j)
     where
-      step : (c : Bool) → eqb m n ≡ c → (d : Bool) → eqb j k ≡ d → ((x : Held T) → holds_at x (m, j) ≡ holds_at x (n, k)) ⊎ ((x : Held T) → holds_at x (m, j) ≡ true → holds_at x (n, k) ≡ false)
+      step : (c : Bool) → eqb m n ≡ c → (d : Bool) → eqb j k ≡ d → ((x : Capability T) → holds_at x (m, j) ≡ holds_at x (n, k)) ⊎ ((x : Capability T) → holds_at x (m, j) ≡ true → holds_at x (n, k) ≡ false)
       step true e true f = inl (λ x. ap₂ (λ a b. is_held_by a b x) (eqb-true m n e) (eqb-true j k f))
       step true e false f = inr (λ x h. rw (eqb-true x.worker j (and_parts (eqb x.node m) (eqb x.worker j) h).1, f) (no_and (eqb x.node n)))
         where

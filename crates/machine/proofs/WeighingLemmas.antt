@@ -25,7 +25,7 @@ use Rattle.plan.specs.declared.node.Node.TheVariants.{Input, Map, Filter, Concat
 use Rattle.plan.proofs.PlanLemmas.{source_smaller}
 use Rattle.plan.proofs.StepLemmas.{weight_by_sources}
 use Rattle.plan.proofs.UpwardLemmas.{by_smaller}
-use Rattle.machine.specs.declared.event.Place.{Place}
+use Rattle.machine.specs.declared.event.Site.{Site}
 use Rattle.machine.specs.declared.event.Event.{Event}
 use Rattle.machine.specs.Dataflows.{Dataflow, IsDataflow, node_of, source_of, given_at, route}
 use Rattle.machine.specs.Worlds.{World, place, same_place, updates_at, emitted_by, emitted_at, fed_to, held_at}
@@ -84,7 +84,7 @@ spread workers (Reduce kind source) x b d = absurd (true≢false d)
 spread workers (Output source) x b d = omega arith
 
 -- nothing is fed to what is no input, and nothing is shared along a port with no source
-nothing_fed : {T : Type 0} (p : Dataflow) (site : Place) (fs : List (Fed T)) → AreInputs p fs → (IsTrue (is_input (node_of p site.node)) → ⊥) → flat_map (share_fed p site) fs ≡ []
+nothing_fed : {T : Type 0} (p : Dataflow) (site : Site) (fs : List (Fed T)) → AreInputs p fs → (IsTrue (is_input (node_of p site.node)) → ⊥) → flat_map (share_fed p site) fs ≡ []
 nothing_fed p site [] a d = refl
 nothing_fed p site (f ∷ fs) a d = step (same_place (home p f) site) refl (nothing_fed p site fs a.1 d)
   where
@@ -124,7 +124,7 @@ module _ {T : Type 0} (leq : T → T → Bool) (o : PartialOrderLaws leq) (p : D
   got n port k = weight (received_at w n k port)
 
   -- what was received at a place is no more than what came
-  received_le : (site : Place) → weight (updates_at site w.received) ≤ weight (flat_map (share p site) w.emitted) + weight (flat_map (share_fed p site) w.fed)
+  received_le : (site : Site) → weight (updates_at site w.received) ≤ weight (flat_map (share p site) w.emitted) + weight (flat_map (share_fed p site) w.fed)
   received_le site =
       le (weight (updates_at site w.received)) (weight (updates_at site w.in_flight)) (weight (coming p site w.emitted w.fed)) (weight (flat_map (share p site) w.emitted)) (weight (flat_map (share_fed p site) w.fed))
       (total_by absolute (updates_at site w.received)) (total_by absolute (updates_at site w.in_flight)) (total_by absolute (coming p site w.emitted w.fed))

@@ -7,7 +7,7 @@ use Rattle.std.proofs.Math.IntN.{ℤ, pos, ◌+ℤ◌, +ℤ_idl, +ℤ_idr}
 use Rattle.update.specs.Bags.{Entry, count_of, same_row}
 use Rattle.update.specs.Updates.{entry}
 use Rattle.update.specs.declared.change.Update.{Update}
-use Rattle.machine.specs.declared.event.Place.{Place}
+use Rattle.machine.specs.declared.event.Site.{Site}
 use Rattle.machine.specs.declared.event.Fed.{Fed}
 use Rattle.machine.specs.declared.event.Emission.{Emission}
 use Rattle.machine.specs.Dataflows.{Dataflow, node_of, route}
@@ -150,7 +150,7 @@ module _ {T : Type 0} (leq : T → T → Bool) (t : T) where
       ∙ (rw (over-fed p b n fs r, over-chosen (eqb f.input n) p.workers (route p u.row) (u ∷ []) r (b u.row)) (sym (sum_at-append leq t (cond (eqb f.input n) (u ∷ []) []) (fed_to n fs) r))))
 
   -- nothing is fed to what is no input
-  pub fed_none : (p : Dataflow) (site : Place) (fs : List (Fed T)) → AreInputs p fs → (IsTrue (is_input (node_of p site.node)) → ⊥) → flat_map (share_fed p site) fs ≡ []
+  pub fed_none : (p : Dataflow) (site : Site) (fs : List (Fed T)) → AreInputs p fs → (IsTrue (is_input (node_of p site.node)) → ⊥) → flat_map (share_fed p site) fs ≡ []
   fed_none p site [] a d = refl
   fed_none p site (f ∷ fs) a d = step (same_place (home p f) site) refl (fed_none p site fs a.1 d)
     where

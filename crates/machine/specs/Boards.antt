@@ -1,30 +1,30 @@
 -- What a contract sees of a board, what each event makes of it, and which histories it may stand for.
-use Rattle.std.specs.Prelude.{◌≡◌, ℕ, zero, suc, ◌<◌, ◌≤◌, Bool, not, ◌||◌, if◌then◌else◌, List, [], ◌∷◌, ◌++◌, length, set, get_or, replicate, Option, Some, None, IsTrue, ⊤}
-use Rattle.std.specs.List.{filter}
+use Rattle.std.specs.Prelude.{◌≡◌, ℕ, suc, ◌<◌, ◌≤◌, Bool, ◌||◌, if◌then◌else◌, List, [], ◌∷◌, ◌++◌, length, set, get_or, replicate, Option, Some, None, IsTrue, ⊤}
 use Rattle.lattice.specs.Frontiers.{is_beyond}
 use Rattle.update.specs.Bags.{Alike}
 use Rattle.update.specs.Updates.{as_of, size}
 use Rattle.update.specs.declared.change.Update.{Update}
 use Rattle.update.specs.declared.refusal.Refusal.{Refusal}
 use Rattle.plan.specs.Rules.{is_output, first_refusal}
-use Rattle.machine.specs.declared.event.Place.{Place}
+use Rattle.machine.specs.declared.event.Site.{Site}
 use Rattle.machine.specs.declared.event.Bundle.{Bundle}
 use Rattle.machine.specs.declared.event.Fed.{Fed}
 use Rattle.machine.specs.declared.event.Emission.{Emission}
-use Rattle.machine.specs.declared.event.Held.{Held}
 use Rattle.machine.specs.declared.event.Event.{Event}
 use Rattle.machine.specs.declared.event.Event.TheVariants.{Feed, Advance, Look, Take, TakeHeld, Give}
 use Rattle.machine.specs.Views.{ViewState}
 use Rattle.machine.specs.Dataflows.{Dataflow, node_of}
-use Rattle.machine.specs.Worlds.{World, same_place, queue, held_at, emitted_at, fed_to, open_at}
+use Rattle.machine.specs.Worlds.{World, queue, held_at, emitted_at, fed_to, open_at}
+use Rattle.machine.specs.Shares.{home}
 use Rattle.machine.specs.Inputs.{front_at, first_inputs, feed_faults, advance_faults}
-use Rattle.machine.specs.Histories.{alone, without, is_held_by, holding, world, dataflow_after, IsLegal}
+use Rattle.machine.specs.Histories.{alone, world, dataflow_after, IsLegal}
+use Rattle.machine.specs.Loads.{Lot, load_in, lot_of, first_stations, put_at, put_all, taken_from, held_from, queue_of}
 
 -- what lies on a board
 pub record Shown (T : Type 0) : Type 0 where
   pub dataflow : Dataflow
-  pub in_flight : List (Bundle T)
-  pub held : List (Held T)
+  -- by node and by worker, what waits there and what is held
+  pub stations : List (List (Lot T))
   -- by node, the frontier of an input
   pub inputs : List (List T)
   -- by worker, the node of the piece in hand
@@ -43,6 +43,8 @@ module _ {T : Type 0} where
   -- what every board keeps: a worker there is, and each list has its places
   pub record IsBoard (b : Shown T) : Type 0 where
     pub dataflow : Rattle.machine.specs.Dataflows.IsDataflow b.dataflow
+    pub stations : length b.stations ≡ length b.dataflow.nodes
+    pub rows : (n : ℕ) → n < length b.dataflow.nodes → length (get_or b.stations n []) ≡ b.dataflow.workers
     pub hand : length b.hand ≡ b.dataflow.workers
     pub accepted : length b.accepted ≡ length b.dataflow.nodes
     pub views : length b.views ≡ length b.dataflow.nodes
@@ -52,8 +54,7 @@ module _ {T : Type 0} where
   abbrev pub first_board : T → Dataflow → Shown T
   first_board minimum p = record {
     dataflow = p;
-    in_flight = [];
-    held = [];
+    stations = first_stations (length p.nodes) p.workers;
     inputs = first_inputs minimum p.nodes;
     hand = replicate p.workers None;
     accepted = replicate (length p.nodes) 0;
@@ -61,22 +62,19 @@ module _ {T : Type 0} where
     last = Look 0;
   }
 
-  -- where the bundle of a number, from 0, among those of a place stands among all
-  abbrev pub position_in : Place → List (Bundle T) → ℕ → ℕ
-  position_in site [] number = 0
-  position_in site (b ∷ bundles) zero = if same_place b.place site then 0 else suc (position_in site bundles zero)
-  position_in site (b ∷ bundles) (suc number) = suc (if same_place b.place site then position_in site bundles number else position_in site bundles (suc number))
-
   -- the board after a look, and after a change, a frontier and a since of clients
   abbrev pub looked : ℕ → Shown T → Shown T
   looked actor b = record b { last = Look actor }
 
+  -- a change waits at its input from now on, and is counted there
+  abbrev pub sending : Fed T → Shown T → Shown T
+  sending f b = record b { stations = put_at (home b.dataflow f) (load_in (alone b.dataflow f)) b.stations }
+
+  abbrev pub accepting : Fed T → Shown T → Shown T
+  accepting f b = record (sending f b) { accepted = set b.accepted f.input (suc (get_or b.accepted f.input 0)) }
+
   abbrev pub fed : ℕ → Fed T → Shown T → Shown T
-  fed client f b = record b {
-    in_flight = b.in_flight ++ alone b.dataflow f ∷ [];
-    accepted = set b.accepted f.input (suc (get_or b.accepted f.input 0));
-    last = Feed client f;
-  }
+  fed client f b = record (accepting f b) { last = Feed client f }
 
   abbrev pub advanced : ℕ → ℕ → List T → Shown T → Shown T
   advanced client i ts b = record b {
@@ -92,15 +90,17 @@ module _ {T : Type 0} where
   abbrev pub captured_at : Dataflow → ℕ → List (Update T) → List (ViewState T) → List (ViewState T)
   captured_at p n us views = if is_output (node_of p n) then set views n (capturing (get_or views n no_view) us) else views
 
-  -- the board after a worker gave
-  abbrev pub given : Emission T → List T → List (Bundle T) → Shown T → Shown T
-  given g ts sent b = record b {
-    in_flight = b.in_flight ++ sent;
-    held = holding g.node g.worker ts ++ filter (λ m. not (is_held_by g.node g.worker m)) b.held;
+  -- what a worker gave is sent, and captured at a view; it then holds these times there, and has nothing in hand
+  abbrev pub giving : Emission T → List T → List (Bundle T) → Shown T → Shown T
+  giving g ts sent b = record b {
+    stations = held_from g.node g.worker ts (put_all sent b.stations);
     hand = set b.hand g.worker None;
     views = captured_at b.dataflow g.node g.updates b.views;
-    last = Give g ts sent;
   }
+
+  -- the board after it
+  abbrev pub given : Emission T → List T → List (Bundle T) → Shown T → Shown T
+  given g ts sent b = record (giving g ts sent b) { last = Give g ts sent }
 
   -- the board after a worker turned to the times that it holds at a node
   abbrev pub turned : ℕ → ℕ → Shown T → Shown T
@@ -109,8 +109,7 @@ module _ {T : Type 0} where
   -- the board after a worker took a bundle
   abbrev pub taken : ℕ → Bundle T → Shown T → Shown T
   taken number bundle b = record b {
-    in_flight = without bundle.place b.in_flight number;
-    held = b.held ++ holding bundle.place.node bundle.place.worker bundle.stamp;
+    stations = taken_from number bundle b.stations;
     hand = set b.hand bundle.place.worker (Some bundle.place.node);
     last = Take number bundle;
   }
@@ -155,8 +154,8 @@ module _ {T : Type 0} (below : T → T → Bool) (minimum : T) where
   -- whatever order the board keeps between places
   pub record Stands (b : Shown T) (h : List (Event T)) : Type 0 where
     pub legal : IsLegal below minimum (opened b) h
-    pub queues : (site : Place) → queue site b.in_flight ≡ queue site (left_on b h).in_flight
-    pub held : (n k : ℕ) → held_at n k b.held ≡ held_at n k (left_on b h).held
+    pub queues : (site : Site) → queue_of b.stations site ≡ queue site (left_on b h).in_flight
+    pub held : (n k : ℕ) → (lot_of b.stations n k).held ≡ held_at n k (left_on b h).held
     pub openings : (i : ℕ) → front_at i b.inputs ≡ open_at i (left_on b h).openings
     pub hand : (k : ℕ) → k < b.dataflow.workers → get_or b.hand k None ≡ (left_on b h).hand k
     pub accepted : (i : ℕ) → i < length b.dataflow.nodes → get_or b.accepted i 0 ≡ length (fed_to i (left_on b h).fed)

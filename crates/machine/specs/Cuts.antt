@@ -1,9 +1,12 @@
--- The bundles that what a worker gave is cut into: at each port of each node, for each worker, its share.
-use Rattle.std.specs.Prelude.{ℕ, Bool, List, [], ◌∷◌, ◌++◌, length}
-use Rattle.std.specs.List.{flat_map}
+-- The bundles that what a worker gave is cut into: along each edge from its node, for each worker, its share.
+use Rattle.std.specs.Prelude.{ℕ, Bool, eqb, List, [], ◌∷◌, take}
+use Rattle.std.specs.List.{filter, flat_map}
+use Rattle.row.specs.Routing.{route_of}
 use Rattle.update.specs.declared.change.Update.{Update}
 use Rattle.plan.specs.Ancestors.{numbers_below}
-use Rattle.machine.specs.declared.event.Place.{Place}
+use Rattle.plan.specs.Edges.{edges_from}
+use Rattle.plan.specs.declared.edges.Edge.{Edge}
+use Rattle.machine.specs.declared.event.Site.{Site}
 use Rattle.machine.specs.declared.event.Bundle.{Bundle}
 use Rattle.machine.specs.declared.event.Emission.{Emission}
 use Rattle.machine.specs.Dataflows.{Dataflow}
@@ -11,17 +14,25 @@ use Rattle.machine.specs.Worlds.{place}
 use Rattle.machine.specs.Outstanding.{stamp}
 use Rattle.machine.specs.Shares.{share}
 
+-- of updates, those that a worker gets by the key of so many columns
+abbrev pub part_by_key : {T : Type 0} → ℕ → ℕ → List (Update T) → ℕ → List (Update T)
+part_by_key columns workers us k = filter (λ u. eqb (route_of (take columns u.row) workers) k) us
+
 module _ {T : Type 0} (below : T → T → Bool) where
   -- the bundle of these updates at a place, with the least of their times for its stamp; of none there is none
-  abbrev pub bundled : Place → List (Update T) → List (Bundle T)
+  abbrev pub bundled : Site → List (Update T) → List (Bundle T)
   bundled site [] = []
   bundled site (u ∷ us) = record { place = site; updates = u ∷ us; stamp = stamp below (u ∷ us) } ∷ []
 
-module _ {T : Type 0} (below : T → T → Bool) (p : Dataflow) (g : Emission T) where
-  -- the bundles for a port of a node
-  abbrev pub cut_at : ℕ → ℕ → List (Bundle T)
-  cut_at n port = flat_map (λ k. bundled below (place n port k) (share p (place n port k) g)) (numbers_below p.workers)
+  -- the bundles at the end of an edge, of what each worker gets, in the order of the workers
+  abbrev pub bundles_along : Edge → ℕ → (ℕ → List (Update T)) → List (Bundle T)
+  bundles_along edge workers gets = flat_map (λ k. bundled (place edge.reader edge.port k) (gets k)) (numbers_below workers)
 
-  -- the bundles for all nodes; no node has more than two ports
+module _ {T : Type 0} (below : T → T → Bool) (p : Dataflow) (g : Emission T) where
+  -- the bundles along an edge: of each worker's share
+  abbrev pub cut_along : Edge → List (Bundle T)
+  cut_along edge = bundles_along below edge p.workers (λ k. share p (place edge.reader edge.port k) g)
+
+  -- the bundles along the edges from the node
   abbrev pub cut : List (Bundle T)
-  cut = flat_map (λ n. cut_at n 0 ++ cut_at n 1) (numbers_below (length p.nodes))
+  cut = flat_map cut_along (edges_from p.nodes g.node)

@@ -10,11 +10,11 @@ use Rattle.plan.specs.Edges.{numbers_where}
 use Rattle.plan.specs.Nodes.{arranged_by}
 use Rattle.plan.specs.Rules.{is_output}
 use Rattle.plan.specs.Widths.{width_of}
-use Rattle.machine.specs.declared.event.Place.{Place}
+use Rattle.machine.specs.declared.event.Site.{Site}
 use Rattle.machine.specs.declared.event.Bundle.{Bundle}
 use Rattle.machine.specs.declared.event.Fed.{Fed}
 use Rattle.machine.specs.declared.event.Emission.{Emission}
-use Rattle.machine.specs.declared.event.Held.{Held}
+use Rattle.machine.specs.declared.event.Capability.{Capability}
 use Rattle.machine.specs.declared.event.Open.{Open}
 use Rattle.machine.specs.declared.event.Event.{Event}
 use Rattle.machine.specs.declared.event.Event.TheVariants.{Feed, Advance, Allow, Look, Take, TakeHeld, Give}
@@ -30,16 +30,16 @@ with_at f i value j = if eqb j i then value else f j
 
 module _ {T : Type 0} where
   -- the bundles without the one of this number, from 0, among those of a place
-  abbrev pub without : Place → List (Bundle T) → ℕ → List (Bundle T)
+  abbrev pub without : Site → List (Bundle T) → ℕ → List (Bundle T)
   without site [] number = []
   without site (b ∷ bundles) zero = if same_place b.place site then bundles else b ∷ without site bundles zero
   without site (b ∷ bundles) (suc number) = b ∷ (if same_place b.place site then without site bundles number else without site bundles (suc number))
 
-  abbrev pub is_held_by : ℕ → ℕ → Held T → Bool
+  abbrev pub is_held_by : ℕ → ℕ → Capability T → Bool
   is_held_by n k m = eqb m.node n && eqb m.worker k
 
   -- the times, each as held by a worker at a node
-  abbrev pub holding : ℕ → ℕ → List T → List (Held T)
+  abbrev pub holding : ℕ → ℕ → List T → List (Capability T)
   holding n k ts = map (λ t. record { node = n; worker = k; time = t }) ts
 
   -- the times, each as an element of an input's frontier
@@ -148,7 +148,7 @@ module _ {T : Type 0} (below : T → T → Bool) (p : Dataflow) where
     pub onward : IsTrue (all_beyond below (held_at g.node g.worker w.held) (times g.updates ++ ts))
     pub law : NodeLaw below p (gave w g ts sent) g.node g.worker
     pub load : LoadRule below p (gave w g ts sent) g.node g.worker
-    pub whole : (site : Place) (f : Update T → ℤ) → total_by f (updates_at site sent) ≡ total_by f (share p site g)
+    pub whole : (site : Site) (f : Update T → ℤ) → total_by f (updates_at site sent) ≡ total_by f (share p site g)
     pub filled : IsTrue (list_all (λ b. not (eqb (length b.updates) 0)) sent)
     pub stamped : IsTrue (list_all (λ b. all_beyond below (held_at g.node g.worker w.held) b.stamp && all_beyond below b.stamp (times b.updates)) sent)
 

@@ -9,6 +9,8 @@ pub mod Outstanding
 pub mod NodeLaws
 pub mod Actors
 pub mod Histories
+pub mod Loads
+pub mod Stations
 pub mod Promises
 pub mod Readings
 pub mod Inputs
@@ -16,7 +18,8 @@ pub mod Views
 pub mod Boards
 pub mod Reads
 pub mod Cuts
-pub mod Waiting
+pub mod Routings
+pub mod Graphs
 pub mod Examples
 pub mod Witnesses
 pub mod Remembered

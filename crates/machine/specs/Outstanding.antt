@@ -6,9 +6,9 @@ use Rattle.std.specs.List.{flat_map, filter}
 use Rattle.lattice.specs.Frontiers.{is_beyond}
 use Rattle.antichain.specs.Antichains.{least}
 use Rattle.update.specs.declared.change.Update.{Update}
-use Rattle.machine.specs.declared.event.Place.{Place}
+use Rattle.machine.specs.declared.event.Site.{Site}
 use Rattle.machine.specs.declared.event.Bundle.{Bundle}
-use Rattle.machine.specs.declared.event.Held.{Held}
+use Rattle.machine.specs.declared.event.Capability.{Capability}
 use Rattle.machine.specs.declared.event.Open.{Open}
 use Rattle.machine.specs.Dataflows.{Dataflow, source_of, above}
 use Rattle.machine.specs.Worlds.{World, times, open_at}
@@ -32,11 +32,11 @@ abbrev pub strictly_above : Dataflow → ℕ → ℕ → Bool
 strictly_above p n m = above p n m && not (eqb m n)
 
 -- the stamps of the bundles at the places that pass a test
-abbrev pub stamps : {T : Type 0} → (Place → Bool) → List (Bundle T) → List T
+abbrev pub stamps : {T : Type 0} → (Site → Bool) → List (Bundle T) → List T
 stamps test bundles = flat_map (λ b. if test b.place then b.stamp else []) bundles
 
 -- the times held at the nodes that pass a test
-abbrev pub held_where : {T : Type 0} → (ℕ → Bool) → List (Held T) → List T
+abbrev pub held_where : {T : Type 0} → (ℕ → Bool) → List (Capability T) → List T
 held_where test held = flat_map (λ m. if test m.node then m.time ∷ [] else []) held
 
 -- the frontiers of the inputs that pass a test

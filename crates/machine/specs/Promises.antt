@@ -13,14 +13,14 @@ use Rattle.plan.specs.Weights.{IsWeight, load}
 use Rattle.plan.specs.declared.node.Kind.{Kind}
 use Rattle.plan.specs.declared.node.Node.TheVariants.{Reduce}
 use Rattle.machine.specs.declared.event.Bundle.{Bundle}
-use Rattle.machine.specs.declared.event.Held.{Held}
+use Rattle.machine.specs.declared.event.Capability.{Capability}
 use Rattle.machine.specs.declared.event.Open.{Open}
 use Rattle.machine.specs.Dataflows.{Dataflow, node_of, source_of, given_at, above, route}
 use Rattle.machine.specs.Worlds.{World, times, emitted_at, emitted_by, fed_to, held_at}
 use Rattle.machine.specs.Outstanding.{frontier, input_frontier, port_frontier}
 use Rattle.machine.specs.NodeLaws.{received_at, AreApart, is_reduction}
 use Rattle.machine.specs.Histories.{IsInput}
-use Rattle.machine.specs.declared.event.Place.{Place}
+use Rattle.machine.specs.declared.event.Site.{Site}
 
 -- the changes that were fed, by input
 abbrev pub changes_in : {T : Type 0} → World T → ℕ → List (Update T)
@@ -95,7 +95,7 @@ abbrev pub GoesOn : {T : Type 0} → (T → T → Bool) → List T → List T �
 GoesOn {T} below earlier later = (t : T) → IsTrue (has_passed below earlier t) → IsTrue (has_passed below later t)
 
 -- a place that there is: a node, one of its ports (an input has the port 0), and a worker
-pub record IsPlace (p : Dataflow) (site : Place) : Type 0 where
+pub record IsPlace (p : Dataflow) (site : Site) : Type 0 where
   pub node : site.node < length p.nodes
   pub port : (site.port ≡ 0) ⊎ (site.port < length (sources (node_of p site.node)))
   pub worker : site.worker < p.workers
@@ -103,6 +103,6 @@ pub record IsPlace (p : Dataflow) (site : Place) : Type 0 where
 -- whatever waits, waits at a place that there is: bundles, none of which is empty, held times and open inputs
 pub record IsInPlace {T : Type 0} (p : Dataflow) (w : World T) : Type 0 where
   pub bundles : (b : Bundle T) → Contains w.in_flight b → IsPlace p b.place × (b.updates ≢ [])
-  pub held : (m : Held T) → Contains w.held m → (m.node < length p.nodes) × (m.worker < p.workers)
+  pub held : (m : Capability T) → Contains w.held m → (m.node < length p.nodes) × (m.worker < p.workers)
   pub inputs : (o : Open T) → Contains w.openings o → IsInput p o.input
   pub hand : (k n : ℕ) → w.hand k ≡ Some n → (n < length p.nodes) × (k < p.workers)

@@ -1,4 +1,4 @@
--- What is found on a board by whoever asks it: frontiers, a view's rows at a time, its changes, and whether it is quiet.
+-- What is found on a board when it is asked: frontiers, a view's rows at a time, its changes, and whether it is quiet.
 use Rattle.std.specs.Prelude.{◌≡◌, ℕ, Bool, true, false, not, ◌&&◌, List, [], ◌∷◌, length, get_or, Option, Some, None, nat_lt, ◌⊎◌}
 use Rattle.std.specs.List.{list_all, list_any, flat_map}
 use Rattle.lattice.specs.Frontiers.{is_beyond}
@@ -11,7 +11,8 @@ use Rattle.plan.specs.Ancestors.{numbers_below}
 use Rattle.machine.specs.declared.event.Open.{Open}
 use Rattle.machine.specs.Histories.{opening}
 use Rattle.machine.specs.Inputs.{front_at}
-use Rattle.machine.specs.Worlds.{World, held_at}
+use Rattle.machine.specs.Worlds.{World}
+use Rattle.machine.specs.Loads.{is_none, lot_of, all_bundles, all_held}
 use Rattle.machine.specs.Outstanding.{frontier, input_frontier}
 use Rattle.machine.specs.Boards.{Shown, no_view, is_from_start}
 
@@ -23,10 +24,10 @@ open_on b = flat_map (λ i. opening i (front_at i b.inputs)) (numbers_below (len
 abbrev pub on_board : {T : Type 0} → Shown T → World T
 on_board b = record {
   fed = [];
-  in_flight = b.in_flight;
+  in_flight = all_bundles b.stations;
   received = [];
   emitted = [];
-  held = b.held;
+  held = all_held b.stations;
   openings = open_on b;
   hand = λ k. get_or b.hand k None;
   since = λ v. (get_or b.views v no_view).since;
@@ -46,11 +47,6 @@ is_free [] = true
 is_free (None ∷ hand) = is_free hand
 is_free (Some n ∷ hand) = false
 
--- nothing of the list
-abbrev pub is_none : {A : Type 0} → List A → Bool
-is_none [] = true
-is_none (x ∷ xs) = false
-
 -- a refusal for one of the faults, or where there is none for want of memory, or for a number that is too large and has this cause
 abbrev pub IsRefusalOr : Type 0 → Option Refusal → Refusal → Type 0
 IsRefusalOr cause (Some fault) refusal = refusal ≡ fault
@@ -66,11 +62,11 @@ module _ {T : Type 0} (below : T → T → Bool) where
 
   -- a worker holds a time at a node that the node's input frontier has passed
   abbrev pub is_ready : Shown T → ℕ → ℕ → Bool
-  is_ready b k n = list_any (has_passed below (input_front b n)) (held_at n k b.held)
+  is_ready b k n = list_any (has_passed below (input_front b n)) (lot_of b.stations n k).held
 
   -- nothing is in flight or in hand, and whatever is held waits for what may still come to its node
   abbrev pub is_quiet_board : Shown T → Bool
-  is_quiet_board b = is_none b.in_flight && (is_free b.hand && list_all (λ m. nat_lt m.node (length b.dataflow.nodes) && is_beyond below (input_front b m.node) m.time) b.held)
+  is_quiet_board b = is_none (all_bundles b.stations) && (is_free b.hand && list_all (λ m. nat_lt m.node (length b.dataflow.nodes) && is_beyond below (input_front b m.node) m.time) (all_held b.stations))
 
   -- what refuses a read, in the order of testing
   abbrev pub read_refusal : Shown T → ℕ → T → Option Refusal

@@ -2,10 +2,20 @@
 use Rattle.std.specs.Prelude.{◌≡◌, List, ⊤}
 use Rattle.machine.specs.declared.event.Bundle.{Bundle}
 use Rattle.machine.specs.declared.event.Emission.{Emission}
+use Rattle.machine.specs.declared.event.Fed.{Fed}
 use Rattle.machine.specs.declared.event.Event.{Event}
-use Rattle.machine.specs.declared.event.Event.TheVariants.{Advance, Take, Give}
+use Rattle.machine.specs.declared.event.Event.TheVariants.{Feed, Advance, Take, Give}
 
 module _ {T : Type 0} where
+  abbrev pub IsFeeding : Event T → Type 0
+  IsFeeding (Feed client f) = ⊤
+  IsFeeding e = ⊥
+
+  -- the change that the event has fed
+  abbrev pub HasFed : Event T → Fed T → Type 0
+  HasFed (Feed client f) fed = fed ≡ f
+  HasFed e fed = ⊥
+
   abbrev pub IsAdvancing : Event T → Type 0
   IsAdvancing (Advance client input ts) = ⊤
   IsAdvancing e = ⊥

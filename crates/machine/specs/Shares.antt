@@ -4,14 +4,14 @@ use Rattle.std.specs.Prelude.{ℕ, eqb, if◌then◌else◌, List, [], ◌∷◌
 use Rattle.std.specs.List.{filter}
 use Rattle.update.specs.declared.change.Update.{Update}
 use Rattle.plan.specs.Nodes.{arranged_by}
-use Rattle.machine.specs.declared.event.Place.{Place}
+use Rattle.machine.specs.declared.event.Site.{Site}
 use Rattle.machine.specs.declared.event.Fed.{Fed}
 use Rattle.machine.specs.declared.event.Emission.{Emission}
 use Rattle.machine.specs.Dataflows.{Dataflow, node_of, source_of, route}
 use Rattle.machine.specs.Worlds.{place, same_place}
 
 -- where a change comes to its input
-abbrev pub home : {T : Type 0} → Dataflow → Fed T → Place
+abbrev pub home : {T : Type 0} → Dataflow → Fed T → Site
 home p f = place f.input 0 (route p f.update.row)
 
 module _ {T : Type 0} (p : Dataflow) where
@@ -26,9 +26,9 @@ module _ {T : Type 0} (p : Dataflow) where
   share_from (Some source) columns worker g = if eqb g.node source then part columns g.worker worker g.updates else []
 
   -- of what was given, what goes to a place
-  abbrev pub share : Place → Emission T → List (Update T)
+  abbrev pub share : Site → Emission T → List (Update T)
   share site g = share_from (source_of p site.node site.port) (arranged_by (node_of p site.node)) site.worker g
 
   -- of a change, what goes to a place
-  abbrev pub share_fed : Place → Fed T → List (Update T)
+  abbrev pub share_fed : Site → Fed T → List (Update T)
   share_fed site f = if same_place (home p f) site then f.update ∷ [] else []

@@ -9,7 +9,7 @@ use Rattle.update.specs.declared.change.Update.{Update}
 use Rattle.plan.specs.declared.node.Node.{Node}
 use Rattle.plan.specs.declared.node.Node.TheVariants.{Input, Map, Filter, Concat, Negate, Arrange, Join, Reduce, Output}
 use Rattle.plan.specs.declared.node.Kind.TheVariants.{Count, Distinct}
-use Rattle.machine.specs.declared.event.Place.{Place}
+use Rattle.machine.specs.declared.event.Site.{Site}
 use Rattle.machine.specs.declared.event.Bundle.{Bundle}
 use Rattle.machine.specs.declared.event.Emission.{Emission}
 use Rattle.machine.specs.Dataflows.{Dataflow}
@@ -31,7 +31,7 @@ abbrev pub seven_goes : ℕ → ℕ → Update Bitime
 seven_goes x y = record { time = make_pair x y; row = pos 7 ∷ []; diff = negsuc 0 }
 
 -- a bundle, and what worker 1 gave at a node
-abbrev pub bundle_of : Place → List (Update Bitime) → Bundle Bitime
+abbrev pub bundle_of : Site → List (Update Bitime) → Bundle Bitime
 bundle_of site us = record { place = site; updates = us; stamp = stamp at_or_below us }
 
 abbrev pub given_at_node : ℕ → List (Update Bitime) → Emission Bitime

@@ -4,11 +4,11 @@
 use Rattle.std.specs.Prelude.{ℕ, Bool, ◌&&◌, eqb, if◌then◌else◌, List, [], ◌∷◌, map, Option}
 use Rattle.std.specs.List.{flat_map}
 use Rattle.update.specs.declared.change.Update.{Update}
-use Rattle.machine.specs.declared.event.Place.{Place}
+use Rattle.machine.specs.declared.event.Site.{Site}
 use Rattle.machine.specs.declared.event.Bundle.{Bundle}
 use Rattle.machine.specs.declared.event.Fed.{Fed}
 use Rattle.machine.specs.declared.event.Emission.{Emission}
-use Rattle.machine.specs.declared.event.Held.{Held}
+use Rattle.machine.specs.declared.event.Capability.{Capability}
 use Rattle.machine.specs.declared.event.Open.{Open}
 
 -- an input frontier that a take at a node left
@@ -27,7 +27,7 @@ pub record World (T : Type 0) : Type 0 where
   -- what workers gave, the newest first
   pub emitted : List (Emission T)
   -- the times that workers hold at nodes
-  pub held : List (Held T)
+  pub held : List (Capability T)
   -- the elements of the inputs' frontiers
   pub openings : List (Open T)
   -- by worker, the node of the piece in hand
@@ -37,10 +37,10 @@ pub record World (T : Type 0) : Type 0 where
   -- the input frontiers that takes left, the newest first
   pub left : List (Passage T)
 
-abbrev pub place : ℕ → ℕ → ℕ → Place
+abbrev pub place : ℕ → ℕ → ℕ → Site
 place n port k = record { node = n; port = port; worker = k }
 
-abbrev pub same_place : Place → Place → Bool
+abbrev pub same_place : Site → Site → Bool
 same_place a b = eqb a.node b.node && (eqb a.port b.port && eqb a.worker b.worker)
 
 module _ {T : Type 0} where
@@ -48,11 +48,11 @@ module _ {T : Type 0} where
   times us = map (λ u. u.time) us
 
   -- the updates of all bundles of a place
-  abbrev pub updates_at : Place → List (Bundle T) → List (Update T)
+  abbrev pub updates_at : Site → List (Bundle T) → List (Update T)
   updates_at site bundles = flat_map (λ b. if same_place b.place site then b.updates else []) bundles
 
   -- the bundles of a place, in their order
-  abbrev pub queue : Place → List (Bundle T) → List (Bundle T)
+  abbrev pub queue : Site → List (Bundle T) → List (Bundle T)
   queue site bundles = flat_map (λ b. if same_place b.place site then b ∷ [] else []) bundles
 
   -- what a worker gave at a node
@@ -68,7 +68,7 @@ module _ {T : Type 0} where
   fed_to i changes = flat_map (λ f. if eqb f.input i then f.update ∷ [] else []) changes
 
   -- the times that a worker holds at a node
-  abbrev pub held_at : ℕ → ℕ → List (Held T) → List T
+  abbrev pub held_at : ℕ → ℕ → List (Capability T) → List T
   held_at n k held = flat_map (λ m. if eqb m.node n && eqb m.worker k then m.time ∷ [] else []) held
 
   -- the frontier of an input

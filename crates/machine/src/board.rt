@@ -1,7 +1,7 @@
 //! The board: what lies between clients and workers.
 //!
-//! A board holds what a history leaves, and no more of the history than its last event: the bundles in flight, the times
-//! that workers hold, the frontiers of the inputs, each worker's piece in hand, what views captured, and how many changes
+//! A board holds what a history leaves, and no more of the history than its last event: at each place the bundles that wait
+//! there, the times that workers hold, the frontiers of the inputs, each worker's piece in hand, what views captured, and how many changes
 //! each input accepted. There is no list of the changes. Which histories it may stand for is said by `Stands`; every call
 //! says what it makes of them: whatever history the board stood for, it then stands for one event more.
 ghost use Rattle.std.specs.Prelude.{◌≡◌, ◌≤◌, List, [], ◌∷◌, None, IfErr, IfOk, length, replicate};
@@ -10,8 +10,10 @@ ghost use Rattle.machine.specs.Dataflows.{IsDataflow};
 ghost use Rattle.machine.specs.declared.event.Event.{Event};
 ghost use Rattle.machine.specs.Boards.{Shown, IsBoard, Stands, first_board, looked};
 
-use crate::event::{Bundle, Event, Held};
+use crate::event::Event;
+use crate::graph::Graph;
 use crate::inputs::InputFrontiers;
+use crate::stations::Stations;
 use crate::view::View;
 use lattice::Minimum;
 use plan::{NodeId, Plan};
@@ -23,10 +25,9 @@ use update::Refusal;
 /// What lies between clients and workers. A contract sees what lies on it.
 #[derive(Drop)]
 pub struct Board<T: Minimum> {
-    pub(crate) plan: Plan,
+    pub(crate) plan: Graph,
     pub(crate) workers: usize,
-    pub(crate) in_flight: Vec<Bundle<T>>,
-    pub(crate) held: Vec<Held<T>>,
+    pub(crate) stations: Stations<T>,
     pub(crate) inputs: InputFrontiers<T>,
     pub(crate) hand: Vec<Option<NodeId>>,
     pub(crate) accepted: Vec<usize>,
@@ -37,13 +38,13 @@ pub struct Board<T: Minimum> {
 
 impl<T: Minimum> Model for Board<T> {
     ghost use Rattle.machine.specs.Boards.{Shown, IsBoard};
+    ghost use Rattle.machine.specs.Stations.{lots};
 
     ghost Value = { Shown T };
 
     ghost view = { λ b. record {
       dataflow = record { nodes = b.plan; workers = b.workers };
-      in_flight = b.in_flight.items;
-      held = b.held.items;
+      stations = lots b.stations;
       inputs = b.inputs;
       hand = b.hand.items;
       accepted = b.accepted.items;
@@ -53,8 +54,7 @@ impl<T: Minimum> Model for Board<T> {
 
     ghost invariant = { λ b. IsBoard (record {
       dataflow = record { nodes = b.plan; workers = b.workers };
-      in_flight = b.in_flight.items;
-      held = b.held.items;
+      stations = lots b.stations;
       inputs = b.inputs;
       hand = b.hand.items;
       accepted = b.accepted.items;
@@ -67,31 +67,32 @@ impl<T: Minimum> Board<T> {
     /// A board of a plan, on which nothing has happened yet: each input's frontier, and each view's since, is the least
     /// time. Refused only with `OutOfMemory`.
     ///
-    /// Cost: linear in the nodes and the workers.
+    /// Cost: the square of the nodes, of which a plan has 256 at most, and the nodes times the workers.
     pub fn open(alloc: Global, plan: Plan, workers: usize) -> Result<Board<T>, Refusal>
         requires { 1 ≤ workers }
         ensures first { IfOk result (λ board. board ≡ first_board T.least (record { nodes = plan; workers = workers })) }
         ensures stands { IfOk result (λ board. Stands T.below T.least board []) }
         ensures refused { IfErr result (λ refusal. refusal ≡ OutOfMemory) }
     {
-        Board::first(alloc, plan, workers)
+        let graph = Graph::of(alloc, plan)?;
+        Board::first(alloc, graph, workers)
     }
 
-    // The same, without the histories.
-    fn first(alloc: Global, plan: Plan, workers: usize) -> Result<Board<T>, Refusal>
+    // The same of a graph, without the histories.
+    fn first(alloc: Global, plan: Graph, workers: usize) -> Result<Board<T>, Refusal>
         requires { 1 ≤ workers }
         ensures first { IfOk result (λ board. board ≡ first_board T.least (record { nodes = plan; workers = workers })) }
         ensures refused { IfErr result (λ refusal. refusal ≡ OutOfMemory) }
     {
-        let inputs = InputFrontiers::first(alloc, &plan)?;
+        let stations = Stations::first(alloc, plan.len(), workers)?;
+        let inputs = InputFrontiers::first(alloc, plan.plan())?;
         let hand = empty_hands(alloc, workers)?;
         let accepted = no_changes(alloc, plan.len())?;
         let views = first_views(alloc, plan.len())?;
         Ok(Board {
             plan,
             workers,
-            in_flight: Vec::new(alloc),
-            held: Vec::new(alloc),
+            stations,
             inputs,
             hand,
             accepted,
@@ -114,7 +115,7 @@ impl<T: Minimum> Board<T> {
     pub fn plan(&self) -> &Plan
         ensures { result.now ≡ self.now.dataflow.nodes }
     {
-        &self.plan
+        self.plan.plan()
     }
 
     // An event is the board's last.

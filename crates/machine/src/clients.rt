@@ -1,17 +1,18 @@
 //! The events of clients: changes of the inputs' tables, and the inputs' frontiers. A change that may not be fed, or a
-//! frontier that would go back, is refused, and then the event is a look: whoever reads the history later sees that the
-//! client was there, and that it did nothing.
-ghost use Rattle.std.specs.Prelude.{◌≡◌, ◌<◌, ◌≤◌, ◌+◌, ◌++◌, List, [], ◌∷◌, None, Some, IfErr, OnErr, OnOk, get_or, length, set};
+//! frontier that would go back, is refused, and then the event is a look: the history shows that the client was there, and
+//! that it did nothing.
+ghost use Rattle.std.specs.Prelude.{◌≡◌, ◌<◌, ◌≤◌, ◌+◌, ◌++◌, List, [], ◌∷◌, None, Some, IfErr, IfOk, OnErr, OnOk, get_or, length, set};
 ghost use Rattle.update.specs.declared.refusal.Refusal.TheVariants.{OutOfMemory};
 ghost use Rattle.plan.specs.Rules.{IsRefusalBy};
 ghost use Rattle.machine.specs.declared.event.Event.{Event};
-ghost use Rattle.machine.specs.Worlds.{place};
-ghost use Rattle.machine.specs.Histories.{IsInput, alone};
-ghost use Rattle.machine.specs.Boards.{Shown, IsBoard, Stands, looked, fed, advanced, feed_refusal, advance_refusal};
+ghost use Rattle.machine.specs.declared.event.Event.TheVariants.{Feed};
+ghost use Rattle.machine.specs.Histories.{IsInput};
+ghost use Rattle.machine.specs.Boards.{Shown, IsBoard, Stands, looked, sending, accepting, fed, advanced, feed_refusal, advance_refusal};
 
 use crate::board::Board;
-use crate::event::{Bundle, Event, Fed, Place, remembered_advance};
+use crate::event::{Event, Site, remembered_advance, remembered_feed};
 use crate::lists::Times;
+use crate::queue::Parcel;
 use lattice::Minimum;
 use plan::{NodeId, Plan};
 use std::alloc::Global;
@@ -54,12 +55,9 @@ impl<T: Minimum> Board<T> {
         ensures board { OnOk result (IsBoard self.old) }
         ensures unchanged { OnErr result (self.new ≡ looked client self.old) }
     {
-        match self.accept(input, &update) {
-            Ok(()) => {
-                self.note(Snapshot::of(&Event::Feed {
-                    client,
-                    fed: Fed { input, update },
-                }));
+        match self.accept(client, input, update) {
+            Ok(event) => {
+                self.note(event);
                 Ok(())
             }
             Err(refusal) => {
@@ -69,49 +67,47 @@ impl<T: Minimum> Board<T> {
         }
     }
 
-    // The same but for the last event.
-    fn accept(&mut self, input: NodeId, update: &Update<T>) -> Result<(), Refusal>
+    // The same but for the last event, which is answered.
+    fn accept(
+        &mut self,
+        client: usize,
+        input: NodeId,
+        update: Update<T>,
+    ) -> Result<Snapshot<Event<T>>, Refusal>
         requires { IsInput self.old.dataflow input }
-        ensures fed { OnOk result (self.new ≡ record self.old {
-          in_flight = self.old.in_flight ++ alone self.old.dataflow (record { input = input; update = update.now }) ∷ [];
-          accepted = set self.old.accepted input (get_or self.old.accepted input 0 + 1);
-        }) }
-        ensures accepted { OnOk result (feed_refusal T.below self.old (record { input = input; update = update.now }) ≡ None) }
-        ensures refused { IfErr result (λ refusal. IsRefusalBy (feed_refusal T.below self.old (record { input = input; update = update.now })) refusal) }
+        ensures event { IfOk result (λ event. event.value ≡ Feed client (record { input = input; update = update })) }
+        ensures fed { OnOk result (self.new ≡ accepting (record { input = input; update = update }) self.old) }
+        ensures accepted { OnOk result (feed_refusal T.below self.old (record { input = input; update = update }) ≡ None) }
+        ensures refused { IfErr result (λ refusal. IsRefusalBy (feed_refusal T.below self.old (record { input = input; update = update })) refusal) }
         ensures board { IsBoard self.old }
         ensures unchanged { OnErr result (self.new ≡ self.old) }
     {
         let taken = self.accepted[input.number()];
-        if let Some(refusal) = self.inputs.feed_refusal(&self.plan, taken, input, update) {
+        if let Some(refusal) = self
+            .inputs
+            .feed_refusal(self.plan.plan(), taken, input, &update)
+        {
             return Err(refusal);
         }
+        let (update, event) = remembered_feed(client, input, update);
         self.send_change(input, update)?;
         self.accepted[input.number()] = taken + 1;
-        Ok(())
+        Ok(event)
     }
 
-    // A bundle of the one change is in flight at its input.
-    fn send_change(&mut self, input: NodeId, update: &Update<T>) -> Result<(), Refusal>
-        ensures sent { OnOk result (self.new ≡ record self.old { in_flight = self.old.in_flight ++ alone self.old.dataflow (record { input = input; update = update.now }) ∷ [] }) }
+    // The change waits at its input, and moves there.
+    fn send_change(&mut self, input: NodeId, update: Update<T>) -> Result<(), Refusal>
+        ensures sent { OnOk result (self.new ≡ sending (record { input = input; update = update }) self.old) }
         ensures refused { IfErr result (λ refusal. refusal ≡ OutOfMemory) }
         ensures unchanged { OnErr result (self.new ≡ self.old) }
     {
         let worker = row::route(update.row.columns(), self.workers);
-        let mut updates = Vec::new(*self.in_flight.allocator());
-        updates.push(update.copy())?;
-        let mut stamp = Vec::new(*self.in_flight.allocator());
-        stamp.push(update.time)?;
-        let place = Place {
+        let site = Site {
             node: input,
             port: 0,
             worker,
         };
-        self.in_flight.push(Bundle {
-            place,
-            updates: updates.into(),
-            stamp: stamp.into(),
-        })?;
-        Ok(())
+        self.stations.put(&site, Parcel::Change(update))
     }
 
     /// A client gives up the times of an input that are not beyond a frontier: no change may be fed there any more. With no
@@ -171,7 +167,7 @@ impl<T: Minimum> Board<T> {
         ensures closed { self.new ≡ advanced client input [] self.old }
         ensures board { IsBoard self.old }
     {
-        let none = Vec::new(*self.in_flight.allocator()).into();
+        let none = Vec::new(*self.hand.allocator()).into();
         let (none, event) = remembered_advance(client, input, none);
         self.inputs.close(input);
         self.note(event);

@@ -1,190 +1,133 @@
-//! What a worker gave, cut into bundles: at every port that reads its node one for each worker that gets something. Into an
-//! arrange node an update goes to the worker of its key; along every other edge it stays on its worker.
+//! What a worker gave, cut into bundles along an edge: one for each worker that gets something. Into an arrange node an
+//! update goes to the worker of its key; along every other edge it stays on its worker.
 //!
-//! A bundle is never empty, so that whoever waits for one gets something, and what waits for nobody is never sent. Which
-//! bundles there are is said by `cut`, in the order in which they are made; what a giver needs of them is that each place
-//! gets exactly its share.
-ghost use Rattle.std.specs.Prelude.{◌≡◌, ◌<◌, ◌≤◌, ◌++◌, ◌&&◌, List, IfErr, IfOk, OnOk, IsTrue, length, take, eqb, not};
-ghost use Rattle.std.specs.List.{filter, flat_map, list_all};
-ghost use Rattle.lattice.specs.Frontiers.{all_beyond};
-ghost use Rattle.row.specs.Routing.{route_of};
+//! A bundle is never empty: so each bundle that waits is something to do, and no more is sent than there is. The clauses
+//! say which bundles there are, in the order in which they are made. A giver needs of them only that each place gets
+//! exactly its share.
+ghost use Rattle.std.specs.Prelude.{◌≡◌, ◌<◌, ◌≤◌, ◌++◌, IfErr, IfOk, OnOk, get_or, length, replicate, take, ℕ, []};
 ghost use Rattle.update.specs.declared.refusal.Refusal.TheVariants.{OutOfMemory};
-ghost use Rattle.plan.specs.Ancestors.{numbers_below};
-ghost use Rattle.machine.specs.declared.event.Place.{Place};
-ghost use Rattle.machine.specs.Worlds.{times, updates_at};
-ghost use Rattle.machine.specs.Shares.{part, share};
-ghost use Rattle.machine.specs.Cuts.{bundled, cut_at, cut};
+ghost use Rattle.machine.specs.Worlds.{place};
+ghost use Rattle.machine.specs.Cuts.{part_by_key, bundled, bundles_along};
 
-use crate::board::Board;
-use crate::event::{Bundle, Bundles, Emission, Place};
+use crate::event::{Bundle, Emission, Site};
+use crate::lists::Updates;
 use crate::workers::{copied, stamp_of};
 use lattice::Minimum;
-use plan::NodeId;
+use plan::Edge;
 use row::Row;
 use std::alloc::Global;
 use update::{Refusal, Update};
 
-impl<T: Minimum> Board<T> {
-    /// What a worker gave, cut into bundles: each place gets exactly its share, in one bundle, and where that is nothing
-    /// none. A bundle's stamp is the frontier of its times, so that where no time of the emission is before the times that
-    /// the giver held, no stamp is. Whoever gives the emission may send them.
-    ///
-    /// Refused only with `OutOfMemory`.
-    ///
-    /// Cost: linear in the plan; and for each edge from the node in the workers and in what was given, where it leads into
-    /// an arrange node in the product of both.
-    pub fn cut(&self, emission: &Emission<T>) -> Result<Bundles<T>, Refusal>
-        requires { emission.now.worker < self.now.dataflow.workers }
-        ensures whole { IfOk result (λ sent. (site : Place) → updates_at site sent ≡ share self.now.dataflow site emission.now) }
-        ensures filled { IfOk result (λ sent. IsTrue (list_all (λ b. not (eqb (length b.updates) 0)) sent)) }
-        ensures stamped { IfOk result (λ sent. (held : List T) → IsTrue (all_beyond T.below held (times emission.now.updates))
-            → IsTrue (list_all (λ b. all_beyond T.below held b.stamp && all_beyond T.below b.stamp (times b.updates)) sent)) }
-        ensures refused { IfErr result (λ refusal. refusal ≡ OutOfMemory) }
-    {
-        let _plan = &self.plan;
-        let sent = self.cut_for_all(emission)?;
-        Ok(sent.into())
-    }
-
-    // The bundles for all nodes.
-    fn cut_for_all(&self, emission: &Emission<T>) -> Result<Vec<Bundle<T>>, Refusal>
-        ensures cut { IfOk result (λ sent. sent.items ≡ cut T.below self.now.dataflow emission.now) }
-        ensures refused { IfErr result (λ refusal. refusal ≡ OutOfMemory) }
-    {
-        let mut sent = Vec::new(*self.in_flight.allocator());
-        for n in 0..self.plan.len() {
-            self.push_for_node(&mut sent, NodeId::new(n), emission)?;
-        }
-        Ok(sent)
-    }
-
-    // The bundles for both ports of a node, behind.
-    fn push_for_node(
-        &self,
-        sent: &mut Vec<Bundle<T>>,
-        node: NodeId,
-        emission: &Emission<T>,
-    ) -> Result<(), Refusal>
-        requires { node < length self.now.dataflow.nodes }
-        ensures more { OnOk result (sent.new.items ≡ sent.old.items ++ (cut_at T.below self.now.dataflow emission.now node 0 ++ cut_at T.below self.now.dataflow emission.now node 1)) }
-        ensures refused { IfErr result (λ refusal. refusal ≡ OutOfMemory) }
-    {
-        self.push_for(sent, node, 0, emission)?;
-        self.push_for(sent, node, 1, emission)
-    }
-
-    // The bundles for a port of a node, behind.
-    #[tactic(auto, using(crate::proofs::CuttingLemmas::no_more))]
-    fn push_for(
-        &self,
-        sent: &mut Vec<Bundle<T>>,
-        node: NodeId,
-        port: usize,
-        emission: &Emission<T>,
-    ) -> Result<(), Refusal>
-        requires { node < length self.now.dataflow.nodes }
-        ensures more { OnOk result (sent.new.items ≡ sent.old.items ++ cut_at T.below self.now.dataflow emission.now node port) }
-        ensures refused { IfErr result (λ refusal. refusal ≡ OutOfMemory) }
-    {
-        if self.plan.node(node).source(port) == Some(emission.node) {
-            self.push_for_workers(sent, node, port, emission)?;
-        }
-        Ok(())
-    }
-
-    // The same where it reads the node, a bundle for each worker that gets something.
-    fn push_for_workers(
-        &self,
-        sent: &mut Vec<Bundle<T>>,
-        node: NodeId,
-        port: usize,
-        emission: &Emission<T>,
-    ) -> Result<(), Refusal>
-        requires { node < length self.now.dataflow.nodes }
-        ensures more { OnOk result (sent.new.items ≡ sent.old.items ++ cut_at T.below self.now.dataflow emission.now node port) }
-        ensures refused { IfErr result (λ refusal. refusal ≡ OutOfMemory) }
-    {
-        for worker in 0..self.workers {
-            let place = Place { node, port, worker };
-            push_bundle(sent, place, self.share(place, emission)?)?;
-        }
-        Ok(())
-    }
-
-    // Of what was given, what goes to a place.
-    #[tactic(auto, using(crate::proofs::CuttingLemmas::share_is, crate::proofs::CuttingLemmas::share_none))]
-    fn share(&self, place: Place, emission: &Emission<T>) -> Result<Vec<Update<T>>, Refusal>
-        requires { place.node < length self.now.dataflow.nodes }
-        ensures share { IfOk result (λ us. us.items ≡ share self.now.dataflow place emission.now) }
-        ensures refused { IfErr result (λ refusal. refusal ≡ OutOfMemory) }
-    {
-        let node = self.plan.node(place.node);
-        if node.source(place.port) == Some(emission.node) {
-            self.part(node.arranged_by(), place.worker, emission)
-        } else {
-            Ok(Vec::new(*self.in_flight.allocator()))
-        }
-    }
-
-    // Of what was given, what a worker gets along an edge: by the key of so many columns, or all on the same worker.
-    fn part(
-        &self,
-        columns: Option<usize>,
-        worker: usize,
-        emission: &Emission<T>,
-    ) -> Result<Vec<Update<T>>, Refusal>
-        ensures part { IfOk result (λ us. us.items ≡ part self.now.dataflow columns emission.now.worker worker emission.now.updates) }
-        ensures refused { IfErr result (λ refusal. refusal ≡ OutOfMemory) }
-    {
-        let alloc = *self.in_flight.allocator();
-        let updates = emission.updates.as_slice();
-        match columns {
-            Some(columns) => routed(alloc, updates, columns, worker, self.workers),
-            None if emission.worker == worker => copied(alloc, updates),
-            None => Ok(Vec::new(alloc)),
-        }
-    }
-}
-
-// A bundle of these updates, behind, where there are any.
-fn push_bundle<T: Minimum>(
+// The bundle for the worker that gave, behind.
+pub(crate) fn push_for_giver<T: Minimum>(
     sent: &mut Vec<Bundle<T>>,
-    place: Place,
-    updates: Vec<Update<T>>,
+    edge: &Edge,
+    emission: &Emission<T>,
 ) -> Result<(), Refusal>
-    ensures more { OnOk result (sent.new.items ≡ sent.old.items ++ bundled T.below place updates.items) }
+    ensures more { OnOk result (sent.new.items ≡ sent.old.items
+        ++ bundled T.below (place edge.now.reader edge.now.port emission.now.worker) emission.now.updates) }
     ensures refused { IfErr result (λ refusal. refusal ≡ OutOfMemory) }
 {
-    if !updates.is_empty() {
-        let stamp = stamp_of(*sent.allocator(), &updates)?;
+    let updates = copied(*sent.allocator(), emission.updates.as_slice())?;
+    push_bundle(sent, place_at(edge, emission.worker), updates.into())
+}
+
+// The bundles for the workers that get something by their keys, of so many columns, behind.
+pub(crate) fn push_for_workers<T: Minimum>(
+    sent: &mut Vec<Bundle<T>>,
+    edge: &Edge,
+    columns: usize,
+    workers: usize,
+    emission: &Emission<T>,
+) -> Result<(), Refusal>
+    requires { 1 ≤ workers }
+    ensures more { OnOk result (sent.new.items ≡ sent.old.items
+        ++ bundles_along T.below edge.now workers (part_by_key columns workers emission.now.updates)) }
+    ensures refused { IfErr result (λ refusal. refusal ≡ OutOfMemory) }
+{
+    let alloc = *sent.allocator();
+    let parts = parts_by_key(alloc, emission.updates.as_slice(), columns, workers)?;
+    push_bundles(sent, edge, parts)
+}
+
+// Copies of the updates, by worker: each goes to the worker of its key, of so many columns.
+fn parts_by_key<T: Minimum>(
+    alloc: Global,
+    updates: &[Update<T>],
+    columns: usize,
+    workers: usize,
+) -> Result<Vec<Updates<T>>, Refusal>
+    requires { 1 ≤ workers }
+    ensures parts { IfOk result (λ parts. (k : ℕ) → k < workers
+        → get_or parts.items k [] ≡ part_by_key columns workers updates.now k) }
+    ensures workers { IfOk result (λ parts. length parts.items ≡ workers) }
+    ensures refused { IfErr result (λ refusal. refusal ≡ OutOfMemory) }
+{
+    let mut parts = no_parts(alloc, workers)?;
+    for update in updates {
+        let worker = row::route(key(&update.row, columns), workers);
+        parts[worker].push(update.copy())?;
+    }
+    Ok(parts)
+}
+
+// For each worker nothing yet.
+fn no_parts<T: Minimum>(alloc: Global, workers: usize) -> Result<Vec<Updates<T>>, Refusal>
+    ensures none { IfOk result (λ parts. parts.items ≡ replicate workers []) }
+    ensures refused { IfErr result (λ refusal. refusal ≡ OutOfMemory) }
+{
+    let mut parts = Vec::with_capacity(alloc, workers)?;
+    for _worker in 0..workers {
+        parts.push(Vec::new(alloc).into())?;
+    }
+    Ok(parts)
+}
+
+// The bundles at the end of an edge, of what each worker gets, behind.
+fn push_bundles<T: Minimum>(
+    sent: &mut Vec<Bundle<T>>,
+    edge: &Edge,
+    mut parts: Vec<Updates<T>>,
+) -> Result<(), Refusal>
+    ensures more { OnOk result (sent.new.items ≡ sent.old.items
+        ++ bundles_along T.below edge.now (length parts.items) (λ k. get_or parts.items k [])) }
+    ensures refused { IfErr result (λ refusal. refusal ≡ OutOfMemory) }
+{
+    for worker in 0..parts.len() {
+        push_bundle(sent, place_at(edge, worker), parts[worker].take())?;
+    }
+    Ok(())
+}
+
+// A bundle of these updates, behind, if there are any.
+fn push_bundle<T: Minimum>(
+    sent: &mut Vec<Bundle<T>>,
+    place: Site,
+    updates: Updates<T>,
+) -> Result<(), Refusal>
+    ensures more { OnOk result (sent.new.items ≡ sent.old.items ++ bundled T.below place updates) }
+    ensures refused { IfErr result (λ refusal. refusal ≡ OutOfMemory) }
+{
+    if updates.len() > 0 {
+        let stamp = stamp_of(*sent.allocator(), updates.as_slice())?;
         sent.push(Bundle {
             place,
-            updates: updates.into(),
+            updates,
             stamp: stamp.into(),
         })?;
     }
     Ok(())
 }
 
-// Copies of the updates whose key, of so many columns, a worker has.
-fn routed<T: Minimum>(
-    alloc: Global,
-    updates: &[Update<T>],
-    columns: usize,
-    worker: usize,
-    workers: usize,
-) -> Result<Vec<Update<T>>, Refusal>
-    requires { 1 ≤ workers }
-    ensures routed { IfOk result (λ us. us.items ≡ filter (λ u. eqb (route_of (take columns u.row) workers) worker) updates.now) }
-    ensures refused { IfErr result (λ refusal. refusal ≡ OutOfMemory) }
+// Where an edge ends, on a worker.
+fn place_at(edge: &Edge, worker: usize) -> Site
+    ensures { result ≡ place edge.now.reader edge.now.port worker }
 {
-    let mut routed = Vec::new(alloc);
-    for update in updates {
-        if row::route(key(&update.row, columns), workers) == worker {
-            routed.push(update.copy())?;
-        }
+    Site {
+        node: edge.reader,
+        port: edge.port,
+        worker,
     }
-    Ok(routed)
 }
 
 // The first columns of a row, so many as it has of them.

@@ -1,8 +1,8 @@
 //! What may happen on a board, and the entries of the logs that it leaves. Each event names who did it and all that it
 //! did, so that a history is a list of events and nothing else.
 ghost use Rattle.std.specs.Prelude.{◌≡◌};
-ghost use Rattle.machine.specs.declared.event.Event.TheVariants.{Advance, Take, Give};
-ghost use Rattle.machine.specs.Remembered.{IsAdvancing, HasAdvanced, IsTaking, HasTaken, IsGiving, HasGiven};
+ghost use Rattle.machine.specs.declared.event.Event.TheVariants.{Feed, Advance, Take, Give};
+ghost use Rattle.machine.specs.Remembered.{IsFeeding, HasFed, IsAdvancing, HasAdvanced, IsTaking, HasTaken, IsGiving, HasGiven};
 
 use crate::lists::{Times, Updates};
 use plan::NodeId;
@@ -11,7 +11,7 @@ use update::Update;
 
 /// A place where bundles wait: a port of a node, on a worker.
 #[derive(Clone, Copy)]
-pub struct Place {
+pub struct Site {
     /// The node.
     pub node: NodeId,
     /// Which of the node's sources the updates come from; 0 at an input.
@@ -24,7 +24,7 @@ pub struct Place {
 #[derive(Drop)]
 pub struct Bundle<T> {
     /// Where they wait.
-    pub place: Place,
+    pub place: Site,
     /// What they are.
     pub updates: Updates<T>,
     /// A frontier at or before each of their times; found once, by who sends.
@@ -53,7 +53,7 @@ pub struct Emission<T> {
 
 /// A time that a worker holds at a node: it may still give updates from it on.
 #[derive(Clone, Copy)]
-pub struct Held<T> {
+pub struct Capability<T> {
     /// The node.
     pub node: NodeId,
     /// The worker, by its number.
@@ -137,6 +137,34 @@ pub enum Event<T> {
         held: Times<T>,
         sent: Bundles<T>,
     },
+}
+
+// The event of a change, for clauses alone, and the change: it moves through.
+pub(crate) fn remembered_feed<T>(
+    client: usize,
+    input: NodeId,
+    update: Update<T>,
+) -> (Update<T>, Snapshot<Event<T>>)
+    ensures same { result.0 ≡ update }
+    ensures event { result.1.value ≡ Feed client (record { input = input; update = update }) }
+{
+    let event = Event::Feed {
+        client,
+        fed: Fed { input, update },
+    };
+    let last = Snapshot::of(&event);
+    let fed = fed_in(event);
+    (fed.update, last)
+}
+
+fn fed_in<T>(event: Event<T>) -> Fed<T>
+    requires { IsFeeding event }
+    ensures { HasFed event result }
+{
+    match event {
+        Event::Feed { fed, .. } => fed,
+        _ => unreachable!(),
+    }
 }
 
 // The event of a take, for clauses alone, and what is taken: it moves through.

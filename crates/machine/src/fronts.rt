@@ -1,5 +1,6 @@
 //! Frontiers, found on a board from scratch: from what is in flight, what is held and what the inputs leave open, at a node
-//! or above it, on every worker. Nothing is kept between two questions, so nothing can be out of date.
+//! or above it, on every worker. Nothing is kept between two questions but the plan's graph, which never changes. So nothing
+//! can be out of date.
 ghost use Rattle.std.specs.Prelude.{List, ◌≡◌, ◌<◌, ◌++◌, ◌&&◌, not, eqb, if◌then◌else◌, [], ◌∷◌, IfErr, IfOk, OnOk, length};
 ghost use Rattle.std.specs.List.{flat_map, list_any};
 ghost use Rattle.lattice.specs.Frontiers.{is_beyond};
@@ -13,26 +14,29 @@ ghost use Rattle.machine.specs.declared.event.Event.{Event};
 ghost use Rattle.machine.specs.Histories.{world};
 ghost use Rattle.machine.specs.Boards.{left_on, plan_on, Stands};
 ghost use Rattle.machine.specs.Boards.{IsBoard};
+ghost use Rattle.machine.specs.Loads.{all_bundles, all_held, stamps_at, times_at};
+ghost use Rattle.machine.specs.Stations.{lots};
 ghost use Rattle.machine.specs.Inputs.{front_at};
 ghost use Rattle.machine.specs.Reads.{on_board, open_on, front, input_front, is_ready};
 
 use crate::board::Board;
-use crate::event::{Bundle, Held};
+use crate::graph::Graph;
 use crate::inputs::InputFrontiers;
-use crate::lists::Updates;
+use crate::stations::Stations;
 use antichain::{Antichain, is_beyond};
 use lattice::Minimum;
-use plan::{NodeId, Plan};
+use plan::NodeId;
 use std::alloc::Global;
 use update::Refusal;
 
 // Whether the stamp of a bundle at the node or above it is at or before a time.
-fn are_in_flight<T: Minimum>(plan: &Plan, bundles: &[Bundle<T>], node: NodeId, t: &T) -> bool
+fn are_in_flight<T: Minimum>(plan: &Graph, stations: &Stations<T>, node: NodeId, t: &T) -> bool
     requires { node < length plan.now }
-    ensures { result ≡ list_any (λ b. is_above plan.now b.place.node node && is_beyond T.below b.stamp t.now) bundles.now }
+    ensures { result ≡ list_any (λ n. is_above plan.now n node && is_beyond T.below (stamps_at (lots stations.now) n) t.now) (numbers_below (length plan.now)) }
 {
-    for bundle in bundles {
-        if plan.is_above(bundle.place.node, node) && is_beyond(bundle.stamp.as_slice(), t) {
+    for n in 0..plan.len() {
+        let above = NodeId::new(n);
+        if plan.is_above(above, node) && stations.reaches(above, t) {
             return true;
         }
     }
@@ -40,12 +44,13 @@ fn are_in_flight<T: Minimum>(plan: &Plan, bundles: &[Bundle<T>], node: NodeId, t
 }
 
 // Whether a time at or before this one is held at the node or above it.
-fn are_held<T: Minimum>(plan: &Plan, held: &[Held<T>], node: NodeId, t: &T) -> bool
+fn are_held<T: Minimum>(plan: &Graph, stations: &Stations<T>, node: NodeId, t: &T) -> bool
     requires { node < length plan.now }
-    ensures { result ≡ list_any (λ m. is_above plan.now m.node node && T.below m.time t.now) held.now }
+    ensures { result ≡ list_any (λ n. is_above plan.now n node && is_beyond T.below (times_at (lots stations.now) n) t.now) (numbers_below (length plan.now)) }
 {
-    for hold in held {
-        if plan.is_above(hold.node, node) && hold.time.less_equal(t) {
+    for n in 0..plan.len() {
+        let above = NodeId::new(n);
+        if plan.is_above(above, node) && stations.holds(above, t) {
             return true;
         }
     }
@@ -53,20 +58,29 @@ fn are_held<T: Minimum>(plan: &Plan, held: &[Held<T>], node: NodeId, t: &T) -> b
 }
 
 // The same above the node alone.
-fn are_held_above<T: Minimum>(plan: &Plan, held: &[Held<T>], node: NodeId, t: &T) -> bool
+fn are_held_above<T: Minimum>(plan: &Graph, stations: &Stations<T>, node: NodeId, t: &T) -> bool
     requires { node < length plan.now }
-    ensures { result ≡ list_any (λ m. (is_above plan.now m.node node && not (eqb m.node node)) && T.below m.time t.now) held.now }
+    ensures { result ≡ list_any (λ n. (is_above plan.now n node && not (eqb n node)) && is_beyond T.below (times_at (lots stations.now) n) t.now) (numbers_below (length plan.now)) }
 {
-    for hold in held {
-        if plan.is_above(hold.node, node) && hold.node != node && hold.time.less_equal(t) {
+    for n in 0..plan.len() {
+        let above = NodeId::new(n);
+        if is_strictly_above(plan, above, node) && stations.holds(above, t) {
             return true;
         }
     }
     false
 }
 
+// Whether a node is above another one.
+fn is_strictly_above(plan: &Graph, above: NodeId, node: NodeId) -> bool
+    requires { node < length plan.now }
+    ensures { result ≡ (is_above plan.now above node && not (eqb above node)) }
+{
+    plan.is_above(above, node) && above != node
+}
+
 // Whether an input at the node or above it is open at or before a time.
-fn are_open<T: Minimum>(plan: &Plan, inputs: &InputFrontiers<T>, node: NodeId, t: &T) -> bool
+fn are_open<T: Minimum>(plan: &Graph, inputs: &InputFrontiers<T>, node: NodeId, t: &T) -> bool
     requires node { node < length plan.now }
     requires inputs { length inputs.now ≡ length plan.now }
     ensures { result ≡ list_any (λ i. is_above plan.now i node && is_beyond T.below (front_at i inputs.now) t.now) (numbers_below (length plan.now)) }
@@ -80,31 +94,21 @@ fn are_open<T: Minimum>(plan: &Plan, inputs: &InputFrontiers<T>, node: NodeId, t
     false
 }
 
-// Times, behind.
-fn push_times<T: Minimum>(all: &mut Vec<T>, times: &[T]) -> Result<(), Refusal>
-    ensures more { OnOk result (all.new.items ≡ all.old.items ++ times.now) }
-    ensures refused { IfErr result (λ refusal. refusal ≡ OutOfMemory) }
-{
-    for time in times {
-        all.push(*time)?;
-    }
-    Ok(())
-}
-
 // The stamps of the bundles at the node or above it, behind.
 fn push_in_flight<T: Minimum>(
     all: &mut Vec<T>,
-    plan: &Plan,
-    bundles: &[Bundle<T>],
+    plan: &Graph,
+    stations: &Stations<T>,
     node: NodeId,
 ) -> Result<(), Refusal>
     requires { node < length plan.now }
-    ensures more { OnOk result (all.new.items ≡ all.old.items ++ stamps (λ site. is_above plan.now site.node node) bundles.now) }
+    ensures more { OnOk result (all.new.items ≡ all.old.items ++ flat_map (λ n. if is_above plan.now n node then stamps_at (lots stations.now) n else []) (numbers_below (length plan.now))) }
     ensures refused { IfErr result (λ refusal. refusal ≡ OutOfMemory) }
 {
-    for bundle in bundles {
-        if plan.is_above(bundle.place.node, node) {
-            push_times(all, bundle.stamp.as_slice())?;
+    for n in 0..plan.len() {
+        let above = NodeId::new(n);
+        if plan.is_above(above, node) {
+            stations.push_stamps(all, above)?;
         }
     }
     Ok(())
@@ -113,44 +117,38 @@ fn push_in_flight<T: Minimum>(
 // The times that are held at the node or above it, behind.
 fn push_held<T: Minimum>(
     all: &mut Vec<T>,
-    plan: &Plan,
-    held: &[Held<T>],
+    plan: &Graph,
+    stations: &Stations<T>,
     node: NodeId,
 ) -> Result<(), Refusal>
     requires { node < length plan.now }
-    ensures more { OnOk result (all.new.items ≡ all.old.items ++ held_where (λ m. is_above plan.now m node) held.now) }
+    ensures more { OnOk result (all.new.items ≡ all.old.items ++ flat_map (λ n. if is_above plan.now n node then times_at (lots stations.now) n else []) (numbers_below (length plan.now))) }
     ensures refused { IfErr result (λ refusal. refusal ≡ OutOfMemory) }
 {
-    for hold in held {
-        if plan.is_above(hold.node, node) {
-            all.push(hold.time)?;
+    for n in 0..plan.len() {
+        let above = NodeId::new(n);
+        if plan.is_above(above, node) {
+            stations.push_held(all, above)?;
         }
     }
     Ok(())
 }
 
-// Whether a node is above another one.
-fn is_strictly_above(plan: &Plan, above: NodeId, node: NodeId) -> bool
-    requires { node < length plan.now }
-    ensures { result ≡ (is_above plan.now above node && not (eqb above node)) }
-{
-    plan.is_above(above, node) && above != node
-}
-
 // The times that are held above the node alone, behind.
 fn push_held_above<T: Minimum>(
     all: &mut Vec<T>,
-    plan: &Plan,
-    held: &[Held<T>],
+    plan: &Graph,
+    stations: &Stations<T>,
     node: NodeId,
 ) -> Result<(), Refusal>
     requires { node < length plan.now }
-    ensures more { OnOk result (all.new.items ≡ all.old.items ++ held_where (λ m. is_above plan.now m node && not (eqb m node)) held.now) }
+    ensures more { OnOk result (all.new.items ≡ all.old.items ++ flat_map (λ n. if is_above plan.now n node && not (eqb n node) then times_at (lots stations.now) n else []) (numbers_below (length plan.now))) }
     ensures refused { IfErr result (λ refusal. refusal ≡ OutOfMemory) }
 {
-    for hold in held {
-        if is_strictly_above(plan, hold.node, node) {
-            all.push(hold.time)?;
+    for n in 0..plan.len() {
+        let above = NodeId::new(n);
+        if is_strictly_above(plan, above, node) {
+            stations.push_held(all, above)?;
         }
     }
     Ok(())
@@ -159,7 +157,7 @@ fn push_held_above<T: Minimum>(
 // The elements of the frontiers of the inputs at the node or above it, behind.
 fn push_open<T: Minimum>(
     all: &mut Vec<T>,
-    plan: &Plan,
+    plan: &Graph,
     inputs: &InputFrontiers<T>,
     node: NodeId,
 ) -> Result<(), Refusal>
@@ -191,7 +189,7 @@ impl<T: Minimum> Board<T> {
     /// Whether the frontier of a node has passed a time: nothing that is in flight, held or open at the node or above it is
     /// at or before the time. Takes no memory.
     ///
-    /// Cost: linear in what is in flight, held and open, times the nodes.
+    /// Cost: linear in the nodes times the workers, and in what is in flight, held and open at the node or above it.
     pub fn has_passed(&mut self, node: NodeId, t: &T) -> bool
         requires { node < length self.old.dataflow.nodes }
         ensures kept { self.new ≡ self.old }
@@ -213,7 +211,7 @@ impl<T: Minimum> Board<T> {
     /// Whether the input frontier of a node has passed a time: then nothing more comes to the node at or before it. Takes no
     /// memory.
     ///
-    /// Cost: linear in what is in flight, held and open, times the nodes.
+    /// Cost: linear in the nodes times the workers, and in what is in flight, held and open at the node or above it.
     pub fn input_has_passed(&mut self, node: NodeId, t: &T) -> bool
         requires { node < length self.old.dataflow.nodes }
         ensures kept { self.new ≡ self.old }
@@ -235,25 +233,25 @@ impl<T: Minimum> Board<T> {
     // Whether the stamp of a bundle at the node or above it is at or before a time.
     fn is_in_flight(&self, node: NodeId, t: &T) -> bool
         requires { node < length self.now.dataflow.nodes }
-        ensures { result ≡ list_any (λ b. is_above self.now.dataflow.nodes b.place.node node && is_beyond T.below b.stamp t.now) self.now.in_flight }
+        ensures { result ≡ list_any (λ b. is_above self.now.dataflow.nodes b.place.node node && is_beyond T.below b.stamp t.now) (all_bundles self.now.stations) }
     {
-        are_in_flight(&self.plan, &self.in_flight, node, t)
+        are_in_flight(&self.plan, &self.stations, node, t)
     }
 
     // Whether a time at or before this one is held at the node or above it.
     fn is_held(&self, node: NodeId, t: &T) -> bool
         requires { node < length self.now.dataflow.nodes }
-        ensures { result ≡ list_any (λ m. is_above self.now.dataflow.nodes m.node node && T.below m.time t.now) self.now.held }
+        ensures { result ≡ list_any (λ m. is_above self.now.dataflow.nodes m.node node && T.below m.time t.now) (all_held self.now.stations) }
     {
-        are_held(&self.plan, &self.held, node, t)
+        are_held(&self.plan, &self.stations, node, t)
     }
 
     // The same above the node alone.
     fn is_held_above(&self, node: NodeId, t: &T) -> bool
         requires { node < length self.now.dataflow.nodes }
-        ensures { result ≡ list_any (λ m. (is_above self.now.dataflow.nodes m.node node && not (eqb m.node node)) && T.below m.time t.now) self.now.held }
+        ensures { result ≡ list_any (λ m. (is_above self.now.dataflow.nodes m.node node && not (eqb m.node node)) && T.below m.time t.now) (all_held self.now.stations) }
     {
-        are_held_above(&self.plan, &self.held, node, t)
+        are_held_above(&self.plan, &self.stations, node, t)
     }
 
     // Whether an input at the node or above it is open at or before a time.
@@ -268,8 +266,7 @@ impl<T: Minimum> Board<T> {
     /// The frontier of a node: the least of the times that are in flight, held or open at the node or above it. Refused only
     /// with `OutOfMemory`.
     ///
-    /// Cost: linear in what is in flight, held and open, times the nodes; each of its times is compared with the elements of
-    /// the frontier.
+    /// Cost: that of [`Board::has_passed`], and each of the times is compared with the elements of the frontier.
     pub fn frontier(&mut self, node: NodeId) -> Result<Antichain<T>, Refusal>
         requires { node < length self.old.dataflow.nodes }
         ensures kept { self.new ≡ self.old }
@@ -290,7 +287,7 @@ impl<T: Minimum> Board<T> {
         ensures refused { IfErr result (λ refusal. refusal ≡ OutOfMemory) }
     {
         let times = self.outstanding(node)?;
-        least_of(*self.held.allocator(), times)
+        least_of(*self.hand.allocator(), times)
     }
 
     /// The input frontier of a node: from which times on something may still come to it. It is the least of the times that
@@ -317,20 +314,20 @@ impl<T: Minimum> Board<T> {
         ensures refused { IfErr result (λ refusal. refusal ≡ OutOfMemory) }
     {
         let times = self.outstanding_above(node)?;
-        least_of(*self.held.allocator(), times)
+        least_of(*self.hand.allocator(), times)
     }
 
     // All times that are in flight, held or open at the node or above it.
     pub(crate) fn outstanding(&self, node: NodeId) -> Result<Vec<T>, Refusal>
         requires { node < length self.now.dataflow.nodes }
-        ensures times { IfOk result (λ all. all.items ≡ (stamps (λ site. is_above self.now.dataflow.nodes site.node node) self.now.in_flight
-            ++ held_where (λ m. is_above self.now.dataflow.nodes m node) self.now.held) ++ open_where (λ m. is_above self.now.dataflow.nodes m node) (open_on self.now)) }
+        ensures times { IfOk result (λ all. all.items ≡ (stamps (λ site. is_above self.now.dataflow.nodes site.node node) (all_bundles self.now.stations)
+            ++ held_where (λ m. is_above self.now.dataflow.nodes m node) (all_held self.now.stations)) ++ open_where (λ m. is_above self.now.dataflow.nodes m node) (open_on self.now)) }
         ensures refused { IfErr result (λ refusal. refusal ≡ OutOfMemory) }
         ensures board { IsBoard self.now }
     {
-        let mut times = Vec::new(*self.held.allocator());
-        push_in_flight(&mut times, &self.plan, &self.in_flight, node)?;
-        push_held(&mut times, &self.plan, &self.held, node)?;
+        let mut times = Vec::new(*self.hand.allocator());
+        push_in_flight(&mut times, &self.plan, &self.stations, node)?;
+        push_held(&mut times, &self.plan, &self.stations, node)?;
         push_open(&mut times, &self.plan, &self.inputs, node)?;
         Ok(times)
     }
@@ -338,14 +335,14 @@ impl<T: Minimum> Board<T> {
     // The same times, but those that are held at the node itself.
     fn outstanding_above(&self, node: NodeId) -> Result<Vec<T>, Refusal>
         requires { node < length self.now.dataflow.nodes }
-        ensures times { IfOk result (λ all. all.items ≡ (stamps (λ site. is_above self.now.dataflow.nodes site.node node) self.now.in_flight
-            ++ held_where (strictly_above self.now.dataflow node) self.now.held) ++ open_where (λ m. is_above self.now.dataflow.nodes m node) (open_on self.now)) }
+        ensures times { IfOk result (λ all. all.items ≡ (stamps (λ site. is_above self.now.dataflow.nodes site.node node) (all_bundles self.now.stations)
+            ++ held_where (strictly_above self.now.dataflow node) (all_held self.now.stations)) ++ open_where (λ m. is_above self.now.dataflow.nodes m node) (open_on self.now)) }
         ensures refused { IfErr result (λ refusal. refusal ≡ OutOfMemory) }
         ensures board { IsBoard self.now }
     {
-        let mut times = Vec::new(*self.held.allocator());
-        push_in_flight(&mut times, &self.plan, &self.in_flight, node)?;
-        push_held_above(&mut times, &self.plan, &self.held, node)?;
+        let mut times = Vec::new(*self.hand.allocator());
+        push_in_flight(&mut times, &self.plan, &self.stations, node)?;
+        push_held_above(&mut times, &self.plan, &self.stations, node)?;
         push_open(&mut times, &self.plan, &self.inputs, node)?;
         Ok(times)
     }
@@ -370,19 +367,16 @@ impl<T: Minimum> Board<T> {
         ensures value { result ≡ is_ready T.below self.now worker node }
         ensures board { IsBoard self.now }
     {
-        self.any_ready(worker, node, &self.held)
+        self.any_ready(node, self.stations.held(node, worker))
     }
 
-    // Whether one of these times is held by the worker at the node, and passed.
-    fn any_ready(&self, worker: usize, node: NodeId, held: &[Held<T>]) -> bool
+    // Whether one of these times is passed at the node.
+    fn any_ready(&self, node: NodeId, held: &[T]) -> bool
         requires { node < length self.now.dataflow.nodes }
-        ensures { result ≡ list_any (has_passed T.below (input_front T.below self.now node)) (held_at node worker held.now) }
+        ensures { result ≡ list_any (has_passed T.below (input_front T.below self.now node)) held.now }
     {
-        for hold in held {
-            if hold.node == node
-                && hold.worker == worker
-                && self.is_input_passed(node, &hold.time)
-            {
+        for t in held {
+            if self.is_input_passed(node, t) {
                 return true;
             }
         }

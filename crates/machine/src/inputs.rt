@@ -1,6 +1,6 @@
 //! The frontiers of a dataflow's inputs, each in its own list: from which times on changes may still be fed.
 //!
-//! A board keeps them, and so does whoever takes changes without one. What refuses a change or a frontier is asked here
+//! A board keeps them, and so does a run that takes changes without one. What refuses a change or a frontier is asked here
 //! alone, so that both refuse alike. A frontier only moves on: each of its times is beyond the one that stood before. An
 //! input whose frontier has no times is closed.
 ghost use Rattle.std.specs.Prelude.{◌≡◌, ◌<◌, IfErr, IfOk, OnOk, OnErr, None, Some, List, [], ◌∷◌, if◌then◌else◌, length, set};
@@ -71,7 +71,7 @@ impl<T: Minimum> InputFrontiers<T> {
         is_beyond(self.of(input), t)
     }
 
-    /// What refuses a change of an input that has taken so many changes; `None` where nothing does. Takes no memory.
+    /// What refuses a change of an input that has taken so many changes; `None` where it is accepted. Takes no memory.
     ///
     /// The refusals, in the order in which they are tested:
     ///

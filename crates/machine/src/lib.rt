@@ -6,18 +6,19 @@
 //! of them, each of which was allowed where it stood. What a history leaves is a record of logs, and frontiers are found
 //! from it: from what is in flight, what workers hold and what inputs leave open. The theorems, functions with empty bodies
 //! ([`headline`] and those beside it), say of every legal history that what a view captured is right wherever its frontier
-//! has passed. They know neither threads nor batches: whoever runs a dataflow in some way or other has to show only that
-//! what it does are these events.
+//! has passed. They know neither threads nor batches: an engine that runs a dataflow, in whatever way, has to show only
+//! that what it does are these events.
 //!
 //! The [`Board`] is what lies between clients and workers, in memory. Each of its calls is one event, and says so in one
 //! way: whatever history the board stood for, it then stands for that history with the board's last event on top. What is
-//! asked of a board, a view's rows among it, is answered for whatever history it stands for. The inputs'
-//! frontiers, and what refuses a change or a frontier, are a type of their own ([`InputFrontiers`]), for whoever takes them
-//! without a board.
+//! asked of a board, a view's rows among it, is answered for whatever history it stands for. What waits lies in queues by
+//! node, worker and port, so that an event costs what it moves. The inputs' frontiers, and what refuses a change or a
+//! frontier, are a type of their own ([`InputFrontiers`]), so that changes can be taken without a board.
 //!
-//! A client calls `feed`, `advance` and `look`, and reads by `frontier`, `read`, `changes` and `is_quiet`. A worker finds what
-//! to do by `waiting_at` or `is_ready`, turns to it by `take` or `take_held`, computes, cuts what comes out by `cut`, and
-//! gives it by `give`.
+//! A client calls `feed`, `advance`, `close` and `look`, and reads by `frontier`, `read`, `changes` and `is_quiet`. A worker
+//! finds what to do by `waiting_at` or `is_ready`, turns to it by `take` or `take_held`, computes up to the node's
+//! `input_frontier`, cuts what comes out by `cut`, and gives it by `give`. `cut` belongs to a [`Routing`], which is made
+//! once, from the plan and the number of workers.
 //!
 //! A worker that gives has two duties. The node law: at every time before those that it still holds, what it gave is what
 //! the node makes of what it received. The load rule: it gives no more than that can take, and a reduction gives only what
@@ -30,10 +31,15 @@ mod cutting;
 mod event;
 mod fronts;
 mod giving;
+mod graph;
 mod inputs;
 mod lists;
+mod queue;
 mod reading;
+mod routing;
 mod standing;
+mod stations;
+mod survey;
 mod theorems;
 mod view;
 mod waiting;
@@ -41,10 +47,11 @@ mod witnesses;
 mod workers;
 
 pub use board::Board;
-pub use event::{Bundle, Bundles, Emission, Event, Fed, Held, Open, Place};
+pub use event::{Bundle, Bundles, Capability, Emission, Event, Fed, Open, Site};
 pub use giving::Ungiven;
 pub use inputs::{InputFrontiers, MAX_CHANGES, MAX_DIFFERENCE};
 pub use lists::{Times, Updates};
+pub use routing::Routing;
 pub use standing::meets;
 pub use theorems::{
     clients_are_apart, frontiers_do_not_go_back, headline, nothing_lurks, one_list,

@@ -1,10 +1,11 @@
 //! The lists that events and bundles are made of, each in a type of its own, so that a contract sees a plain list and
 //! histories can be compared with what lies on a board.
-ghost use Rattle.std.specs.Prelude.{◌≡◌, ◌++◌, IfErr, OnErr, OnOk, length, take};
+ghost use Rattle.std.specs.Prelude.{◌≡◌, [], ◌∷◌, ◌++◌, IfErr, OnErr, OnOk, length, take};
 ghost use Rattle.update.specs.declared.refusal.Refusal.TheVariants.{OutOfMemory};
 
 use lattice::Lattice;
 use std::marker::Model;
+use std::mem;
 use update::{Refusal, Update};
 
 /// Updates that travel together. A contract sees the list of them.
@@ -44,9 +45,29 @@ impl<T> Updates<T> {
         let Updates { items } = self;
         items
     }
+
+    /// Takes all of the updates out. Takes no memory.
+    pub(crate) fn take(&mut self) -> Updates<T>
+        ensures taken { result ≡ self.old }
+        ensures left { self.new ≡ [] }
+    {
+        let none = Vec::new(*self.items.allocator());
+        Updates {
+            items: mem::replace(&mut self.items, none),
+        }
+    }
 }
 
 impl<T: Lattice> Updates<T> {
+    /// Adds an update, behind. Refused only with `OutOfMemory`.
+    pub(crate) fn push(&mut self, update: Update<T>) -> Result<(), Refusal>
+        ensures more { OnOk result (self.new ≡ self.old ++ update ∷ []) }
+        ensures refused { IfErr result (λ refusal. refusal ≡ OutOfMemory) }
+    {
+        self.items.push(update)?;
+        Ok(())
+    }
+
     /// Takes over all of these updates, behind. Refused only with `OutOfMemory`, and then nothing changed.
     pub(crate) fn append(&mut self, more: &mut Updates<T>) -> Result<(), Refusal>
         ensures more { OnOk result (self.new ≡ self.old ++ more.old) }
@@ -90,6 +111,14 @@ impl<T> Times<T> {
         ensures { result.now ≡ self.now }
     {
         self.items.as_slice()
+    }
+
+    /// The vector that they were made from. Takes no memory.
+    pub(crate) fn into_vec(self) -> Vec<T>
+        ensures { result.items ≡ self }
+    {
+        let Times { items } = self;
+        items
     }
 }
 

@@ -16,10 +16,11 @@ ghost use Rattle.machine.specs.Histories.{world};
 ghost use Rattle.machine.specs.Promises.{changes_in};
 ghost use Rattle.machine.specs.Readings.{IsQuiet};
 ghost use Rattle.machine.specs.Boards.{left_on, plan_on, Stands, IsBoard, is_from_start};
+ghost use Rattle.plan.specs.Ancestors.{numbers_below};
+ghost use Rattle.machine.specs.Loads.{all_held, lot_of};
 ghost use Rattle.machine.specs.Reads.{front, input_front, captured_of, since_of, is_free, is_quiet_board, read_refusal, changes_refusal, IsRefusalOr};
 
 use crate::board::Board;
-use crate::event::Held;
 use crate::workers::insert;
 use antichain::is_beyond;
 use lattice::Minimum;
@@ -146,7 +147,7 @@ impl<T: Minimum> Board<T> {
         ensures bag { IfOk result IsBag }
         ensures sum { IfOk result (λ bag. Alike bag (as_of T.below t (captured_of self.old view))) }
     {
-        let alloc = *self.held.allocator();
+        let alloc = *self.hand.allocator();
         self.views[view.number()].sum_at(alloc, t)
     }
 
@@ -232,7 +233,7 @@ impl<T: Minimum> Board<T> {
         ensures refused { IfErr result (λ refusal. refusal ≡ OutOfMemory) }
     {
         let times = self.outstanding(view)?;
-        let least = least_times(*self.held.allocator(), times.as_slice())?;
+        let least = least_times(*self.hand.allocator(), times.as_slice())?;
         self.captured_passed_by(view, least)
     }
 
@@ -243,7 +244,7 @@ impl<T: Minimum> Board<T> {
         ensures refused { IfErr result (λ refusal. refusal ≡ OutOfMemory) }
     {
         passed_by(
-            *self.held.allocator(),
+            *self.hand.allocator(),
             self.captured(view),
             times.as_slice(),
         )
@@ -252,7 +253,7 @@ impl<T: Minimum> Board<T> {
     /// Whether the board is quiet: nothing is in flight, nobody has a piece in hand, and each time that is held waits for
     /// what may still come to its node. Then every frontier stands where the inputs stand. Takes no memory.
     ///
-    /// Cost: linear in the workers, and [`Board::input_has_passed`] for each time that is held.
+    /// Cost: linear in the nodes times the workers, and [`Board::input_has_passed`] for each time that is held.
     pub fn is_quiet(&mut self) -> bool
         ensures kept { self.new ≡ self.old }
         ensures value { result ≡ is_quiet_board T.below self.old }
@@ -267,25 +268,44 @@ impl<T: Minimum> Board<T> {
         ensures value { result ≡ is_quiet_board T.below self.now }
         ensures board { IsBoard self.now }
     {
-        self.in_flight.is_empty() && are_free(&self.hand) && self.all_wait(&self.held)
+        self.stations.is_empty() && are_free(&self.hand) && self.all_wait()
     }
 
-    // Whether each of these times waits for what may still come to its node.
-    fn all_wait(&self, held: &[Held<T>]) -> bool
-        ensures { result ≡ list_all (λ m. nat_lt m.node (length self.now.dataflow.nodes) && is_beyond T.below (input_front T.below self.now m.node) m.time) held.now }
+    // Whether each time that is held waits for what may still come to its node.
+    fn all_wait(&self) -> bool
+        ensures { result ≡ list_all (λ m. nat_lt m.node (length self.now.dataflow.nodes) && is_beyond T.below (input_front T.below self.now m.node) m.time) (all_held self.now.stations) }
     {
-        for hold in held {
-            if !self.waits(hold) {
+        for n in 0..self.plan.len() {
+            if !self.all_wait_at(NodeId::new(n)) {
                 return false;
             }
         }
         true
     }
 
-    // Whether something may still come to the node at or before the time that is held there.
-    fn waits(&self, hold: &Held<T>) -> bool
-        ensures { result ≡ (nat_lt hold.now.node (length self.now.dataflow.nodes) && is_beyond T.below (input_front T.below self.now hold.now.node) hold.now.time) }
+    // Whether each time that is held at a node does.
+    fn all_wait_at(&self, node: NodeId) -> bool
+        requires { node < length self.now.dataflow.nodes }
+        ensures { result ≡ list_all (λ k. list_all (is_beyond T.below (input_front T.below self.now node)) (lot_of self.now.stations node k).held) (numbers_below self.now.dataflow.workers) }
     {
-        hold.node.number() < self.plan.len() && !self.is_input_passed(hold.node, &hold.time)
+        for worker in 0..self.workers {
+            if !self.are_waiting(node, self.stations.held(node, worker)) {
+                return false;
+            }
+        }
+        true
+    }
+
+    // Whether something may still come to the node at or before each of these times.
+    fn are_waiting(&self, node: NodeId, held: &[T]) -> bool
+        requires { node < length self.now.dataflow.nodes }
+        ensures { result ≡ list_all (is_beyond T.below (input_front T.below self.now node)) held.now }
+    {
+        for t in held {
+            if self.is_input_passed(node, t) {
+                return false;
+            }
+        }
+        true
     }
 }

@@ -49,8 +49,8 @@ pub fn parts_of_workers<T: Minimum>()
         → (n k : ℕ) → MeetsPart T.below (dataflow_after p h) (world T.below T.least p h) n k }
 {}
 
-/// No frontier goes back: what it has passed it has passed in every legal continuation. So it is of the frontier of a node,
-/// of its input frontier, and of that of each of its ports.
+/// No frontier goes back: what it has passed it has passed in every legal continuation. That holds of the frontier of a
+/// node, of its input frontier, and of that of each of its ports.
 pub fn frontiers_do_not_go_back<T: Minimum>()
     ensures frontiers { (p : Dataflow) → IsDataflow p → (h later : List (Event T)) → IsLegal T.below T.least p (later ++ h)
         → (n : ℕ) → GoesOn T.below (frontier T.below (dataflow_after p h) (world T.below T.least p h) n) (frontier T.below (dataflow_after p (later ++ h)) (world T.below T.least p (later ++ h)) n) }

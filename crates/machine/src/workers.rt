@@ -7,48 +7,20 @@ ghost use Rattle.machine.specs.declared.event.Bundle.{Bundle};
 ghost use Rattle.machine.specs.declared.event.Event.{Event};
 ghost use Rattle.machine.specs.declared.event.Event.TheVariants.{Take};
 ghost use Rattle.machine.specs.Dataflows.{node_of};
-ghost use Rattle.machine.specs.Worlds.{queue, times, same_place};
+ghost use Rattle.machine.specs.Worlds.{times};
 ghost use Rattle.machine.specs.Outstanding.{stamp, with_time};
-ghost use Rattle.machine.specs.Histories.{holding, without};
-ghost use Rattle.machine.specs.Boards.{Shown, IsBoard, Stands, looked, taken, turned, position_in};
+ghost use Rattle.machine.specs.Loads.{queue_of};
+ghost use Rattle.machine.specs.Boards.{Shown, IsBoard, Stands, looked, taken, turned};
 ghost use Rattle.machine.specs.Reads.{is_ready};
 
 use crate::board::Board;
-use crate::event::{Bundle, Event, Held, Place, remembered_take};
-use crate::giving::holding;
+use crate::event::{Bundle, Event, Site, remembered_take};
 use antichain::is_beyond;
 use lattice::Minimum;
 use plan::NodeId;
 use std::alloc::Global;
 use std::snapshot::Snapshot;
 use update::{Refusal, Update};
-
-impl Place {
-    /// Whether the places are the same.
-    pub(crate) fn is(&self, other: &Place) -> bool
-        ensures { result ≡ same_place self.now other.now }
-    {
-        self.node == other.node && self.port == other.port && self.worker == other.worker
-    }
-}
-
-// Where the bundle of a number, from 0, among those of a place stands among all.
-fn position<T: Minimum>(bundles: &[Bundle<T>], place: &Place, number: usize) -> usize
-    requires { number < length (queue place.now bundles.now) }
-    ensures value { result ≡ position_in place.now bundles.now number }
-    ensures within { result < length bundles.now }
-{
-    let mut left = number;
-    for (index, bundle) in bundles.iter().enumerate() {
-        if bundle.place.is(place) {
-            if left == 0 {
-                return index;
-            }
-            left -= 1;
-        }
-    }
-    0
-}
 
 // A copy of the updates.
 pub(crate) fn copied<T: Minimum>(
@@ -98,17 +70,6 @@ fn leave<T: Minimum>(front: &mut Vec<T>, t: T)
     front.retain(|f| !t.less_equal(f));
 }
 
-// Times that are held, behind.
-fn push_held<T: Minimum>(held: &mut Vec<Held<T>>, more: &[Held<T>]) -> Result<(), Refusal>
-    ensures more { OnOk result (held.new.items ≡ held.old.items ++ more.now) }
-    ensures refused { IfErr result (λ refusal. refusal ≡ OutOfMemory) }
-{
-    for time in more {
-        held.push(*time)?;
-    }
-    Ok(())
-}
-
 impl<T: Minimum> Board<T> {
     /// A worker with nothing in hand takes a bundle that waits for it: of those of a place the one of this number, counted
     /// from 0 in the order in which they were sent. Into an arrange node bundles are taken in any order, elsewhere in their
@@ -117,13 +78,13 @@ impl<T: Minimum> Board<T> {
     ///
     /// Refused only with `OutOfMemory`; then the event is a look, and nothing else changed.
     ///
-    /// Cost: linear in the bundles in flight and in the times held, and in the updates times the elements of their stamp.
-    pub fn take(&mut self, place: Place, number: usize) -> Result<Bundle<T>, Refusal>
+    /// Cost: linear in the stamp, and in the number or in what waits behind it where that is less.
+    pub fn take(&mut self, place: Site, number: usize) -> Result<Bundle<T>, Refusal>
         requires worker { place.worker < self.old.dataflow.workers }
         requires free { get_or self.old.hand place.worker None ≡ None }
-        requires waits { number < length (queue place self.old.in_flight) }
+        requires waits { number < length (queue_of self.old.stations place) }
         requires turn { arranged_by (node_of self.old.dataflow place.node) ≡ None → number ≡ 0 }
-        ensures waited { IfOk result (λ bundle. slice_get (queue place self.old.in_flight) number ≡ Some bundle) }
+        ensures waited { IfOk result (λ bundle. slice_get (queue_of self.old.stations place) number ≡ Some bundle) }
         ensures place { IfOk result (λ bundle. bundle.place ≡ place) }
         ensures taken { IfOk result (λ bundle. self.new ≡ taken number bundle self.old) }
         ensures refused { IfErr result (λ refusal. refusal ≡ OutOfMemory) }
@@ -134,19 +95,18 @@ impl<T: Minimum> Board<T> {
     }
 
     // The same, without the histories.
-    fn try_take(&mut self, place: Place, number: usize) -> Result<Bundle<T>, Refusal>
+    fn try_take(&mut self, place: Site, number: usize) -> Result<Bundle<T>, Refusal>
         requires worker { place.worker < self.old.dataflow.workers }
-        requires waits { number < length (queue place self.old.in_flight) }
-        ensures waited { IfOk result (λ bundle. slice_get (queue place self.old.in_flight) number ≡ Some bundle) }
+        requires waits { number < length (queue_of self.old.stations place) }
+        ensures waited { IfOk result (λ bundle. slice_get (queue_of self.old.stations place) number ≡ Some bundle) }
         ensures place { IfOk result (λ bundle. bundle.place ≡ place) }
         ensures taken { IfOk result (λ bundle. self.new ≡ taken number bundle self.old) }
         ensures refused { IfErr result (λ refusal. refusal ≡ OutOfMemory) }
         ensures unchanged { OnErr result (self.new ≡ looked place.worker self.old) }
         ensures board { OnOk result (IsBoard self.old) }
     {
-        let position = position(&self.in_flight, &place, number);
-        match self.held_with(&place, self.in_flight[position].stamp.as_slice()) {
-            Ok(held) => Ok(self.hand_over(place, number, position, held)),
+        match self.stations.take(&place, number) {
+            Ok(bundle) => Ok(self.hand_over(number, bundle)),
             Err(refusal) => {
                 self.look(place.worker);
                 Err(refusal)
@@ -154,43 +114,20 @@ impl<T: Minimum> Board<T> {
         }
     }
 
-    // The bundle at a position leaves the board, and is in the worker's hand.
-    fn hand_over(
-        &mut self,
-        place: Place,
-        number: usize,
-        position: usize,
-        held: Vec<Held<T>>,
-    ) -> Bundle<T>
-        requires within { position < length self.old.in_flight }
-        requires worker { place.worker < self.old.dataflow.workers }
-        ensures bundle { (d : Bundle T) → result ≡ get_or self.old.in_flight position d }
+    // A bundle that has left its queue is in the worker's hand.
+    fn hand_over(&mut self, number: usize, bundle: Bundle<T>) -> Bundle<T>
+        requires { bundle.place.worker < self.old.dataflow.workers }
+        ensures same { result ≡ bundle }
         ensures after { self.new ≡ record self.old {
-          in_flight = remove self.old.in_flight position;
-          held = held.items;
-          hand = set self.old.hand place.worker (Some place.node);
-          last = Take number result;
+          hand = set self.old.hand bundle.place.worker (Some bundle.place.node);
+          last = Take number bundle;
         } }
     {
-        let bundle = self.in_flight.remove(position);
-        self.held = held;
-        self.hand[place.worker] = Some(place.node);
+        let site = bundle.place;
         let (bundle, event) = remembered_take(number, bundle);
+        self.hand[site.worker] = Some(site.node);
         self.note(event);
         bundle
-    }
-
-    // What is held once a bundle's updates are taken.
-    fn held_with(&self, place: &Place, stamp: &[T]) -> Result<Vec<Held<T>>, Refusal>
-        ensures held { IfOk result (λ held. held.items ≡ self.now.held ++ holding place.now.node place.now.worker stamp.now) }
-        ensures refused { IfErr result (λ refusal. refusal ≡ OutOfMemory) }
-    {
-        let alloc = *self.held.allocator();
-        let more = holding(alloc, place.node, place.worker, stamp)?;
-        let mut held = Vec::new(alloc);
-        push_held(&mut held, &self.held)?;
-        push_held(&mut held, &more)?;
-        Ok(held)
     }
 
     /// A worker with nothing in hand turns to the times that it holds at a node, where the node's input frontier has passed

@@ -1,12 +1,10 @@
 -- Which bundles are due: what is taken fits its node, and what is sent is due at a later one.
-use Rattle.std.proofs.Common.{◌≡◌, ◌≢◌, ℕ, zero, suc, ◌<◌, ◌≤◌, Bool, true, false, cond, ◌&&◌, ◌||◌, eqb, nat_lt, nat_le, not, List, [], ◌∷◌, ◌++◌, length, take, Option, Some, None, IsTrue, unsigned_abs, sym, refl, ap, ◌∙◌, subst, arith, inl, inr, ⊎_elim, ◌⊎◌}
-use Rattle.std.specs.List.{list_all, filter, slice_get}
+use Rattle.std.proofs.Common.{◌≡◌, ◌≢◌, ℕ, zero, suc, ◌+◌, ◌<◌, ◌≤◌, Bool, true, false, cond, ◌&&◌, ◌||◌, eqb, nat_lt, nat_le, not, List, [], ◌∷◌, ◌++◌, map, length, take, get_or, Option, Some, None, IsTrue, unsigned_abs, sym, refl, ap, ◌∙◌, subst, arith, inl, inr, ⊎_elim, ◌⊎◌}
+use Rattle.std.specs.List.{list_all, filter, slice_get, remove}
 use Rattle.std.specs.Prelude.{unwrap_or}
 use Rattle.std.proofs.lemmas.Bool.{and_parts, and_from, eqb-true, eqb-false, eq-eqb, ne_eqb, false≢true}
 use Rattle.std.proofs.lemmas.Bool.Decides.{nat_tests}
-use Rattle.std.proofs.lemmas.List.Elements.{filter-append}
 use Rattle.std.proofs.lemmas.List.Folds.{list_all-append}
-use Rattle.std.proofs.lemmas.List.{append-nil}
 use Rattle.antichain.proofs.Lists.{Among, all_at, all_from}
 use Rattle.update.specs.declared.change.Update.{Update}
 use Rattle.plan.specs.Nodes.{sources, arranged_by}
@@ -19,18 +17,18 @@ use Rattle.linear.specs.Applied.{applied}
 use Rattle.linear.specs.Ports.{is_port}
 use Rattle.linear.specs.Widths.{takes_rows, are_wide}
 use Rattle.linear.proofs.WidthLemmas.{plan_takes, plan_gives}
-use Rattle.machine.specs.declared.event.Place.{Place}
+use Rattle.machine.specs.declared.event.Site.{Site}
 use Rattle.machine.specs.declared.event.Bundle.{Bundle}
 use Rattle.machine.specs.declared.event.Emission.{Emission}
 use Rattle.machine.specs.Dataflows.{Dataflow, IsDataflow, node_of, source_of, route}
-use Rattle.machine.specs.Worlds.{same_place, updates_at, queue}
+use Rattle.machine.specs.Worlds.{place, same_place, updates_at, queue}
 use Rattle.machine.specs.Shares.{part, share, share_from}
-use Rattle.machine.specs.Histories.{without}
-use Rattle.machine.proofs.FlowLemmas.{place_same}
-use Rattle.machine.proofs.FlowLemmas.{queued}
+use Rattle.machine.specs.Loads.{Load, Lot, load_in, bundle_at, loads_at, more_at, less_at, lot_of, put_at, put_all, taken_from, held_from, queue_of}
+use Rattle.machine.proofs.BoardLemmas.{all_there}
+use Rattle.machine.proofs.SiteLemmas.{less}
+use Rattle.machine.proofs.PlacingLemmas.{itself, AreThere, as_many, as_wide, lot_at, there_still, many_put_all, wide_put_all, queue_less_at, queue_put_all, queue_held}
 use Rattle.machine.proofs.PlaceLemmas.{there_some, shared}
-use Rattle.machine.proofs.WaitingLemmas.{itself}
-use Rattle.script.specs.Relays.{width_at, are_small, is_due, are_due, waits_at}
+use Rattle.script.specs.Relays.{width_at, are_small, is_due, AreDue, NothingWaits, waits_at}
 
 -- a port at which nothing is read is an input's
 no_reader : (node : Node) (port : ℕ) → IsTrue (is_port node port) → slice_get (sources node) port ≡ None → (width : ℕ) × (node ≡ Input width)
@@ -71,7 +69,7 @@ module _ {T : Type 0} where
   any_row width [] = refl
   any_row width (u ∷ us) = any_row width us
 
-  module _ (p : Dataflow) (q : IsDataflow p) (site : Place) (us : List (Update T)) (port : IsTrue (is_port (node_of p site.node) site.port)) (wide : IsTrue (are_wide (width_at p site) us)) where
+  module _ (p : Dataflow) (q : IsDataflow p) (site : Site) (us : List (Update T)) (port : IsTrue (is_port (node_of p site.node) site.port)) (wide : IsTrue (are_wide (width_at p site) us)) where
     -- the rows of a bundle that fits are rows that its node takes
     pub fitting : IsTrue (takes_rows (node_of p site.node) us)
     fitting = step (source_of p site.node site.port) refl
@@ -115,19 +113,36 @@ module _ {T : Type 0} where
       (and_from (is_port (node_of p b.place.node) b.place.port && eqb b.place.worker 0) (are_wide (width_at p b.place) b.updates && are_small b.updates)
       (and_from (is_port (node_of p b.place.node) b.place.port) (eqb b.place.worker 0) d.port (eq-eqb b.place.worker 0 d.worker)) (and_from (are_wide (width_at p b.place) b.updates) (are_small b.updates) d.wide d.small))
 
+  -- so are those of a list
+  abbrev pub are_due : Dataflow → ℕ → List (Bundle T) → Bool
+  are_due p n bundles = list_all (is_due p n) bundles
+
   -- a bundle that waits is due
-  pub waiting_due : (p : Dataflow) (n : ℕ) (site : Place) (bundle : Bundle T) (bundles : List (Bundle T)) → are_due p n bundles ≡ true → slice_get (queue site bundles) 0 ≡ Some bundle → IsDue p n bundle
-  waiting_due p n site bundle bundles due e = due_parts p n bundle (all_at (is_due p n) bundles bundle due (queued site bundles 0 bundle e).0)
+  pub waiting_due : (p : Dataflow) (n : ℕ) (site : Site) (bundle : Bundle T) (stations : List (List (Lot T))) → AreDue p n stations → slice_get (queue_of stations site) 0 ≡ Some bundle → IsDue p n bundle
+  waiting_due p n site bundle stations due e = due_parts p n bundle (first_passes (queue_of stations site) (due site) e)
+    where
+      first_passes : (bundles : List (Bundle T)) → are_due p n bundles ≡ true → slice_get bundles 0 ≡ Some bundle → is_due p n bundle ≡ true
+      first_passes [] h e = cc
+      first_passes (b ∷ bundles) h e = ap (is_due p n) (sym (ap (λ o. unwrap_or o b) e)) ∙ (and_parts (is_due p n b) (are_due p n bundles) h).0
 
   -- what is left is due
-  left_due : (test : Bundle T → Bool) (site : Place) (bundles : List (Bundle T)) → list_all test bundles ≡ true → list_all test (without site bundles 0) ≡ true
-  left_due test site [] h = refl
-  left_due test site (b ∷ bundles) h =
+  less_due : (test : Bundle T → Bool) (bundles : List (Bundle T)) → list_all test bundles ≡ true → list_all test (less bundles 0) ≡ true
+  less_due test [] h = refl
+  less_due test (b ∷ bundles) h = (and_parts (test b) (list_all test bundles) h).1
+
+  pub queue_due : (test : Bundle T → Bool) (site : Site) (bundles : List (Bundle T)) → list_all test bundles ≡ true → list_all test (queue site bundles) ≡ true
+  queue_due test site [] h = refl
+  queue_due test site (b ∷ bundles) h =
       let k = and_parts (test b) (list_all test bundles) h in
-      elim (same_place b.place site) as (λ c. list_all test (cond c bundles (b ∷ without site bundles 0)) ≡ true) [
-        | true ↦ k.1
-        | false ↦ and_from (test b) (list_all test (without site bundles 0)) k.0 (left_due test site bundles k.1)
+      elim (same_place b.place site) as (λ c. list_all test (cond c (b ∷ []) [] ++ queue site bundles) ≡ true) [
+        | true ↦ and_from (test b) (list_all test (queue site bundles)) k.0 (queue_due test site bundles k.1)
+        | false ↦ queue_due test site bundles k.1
       ]
+
+  -- what waits at a place names it
+  named : (site : Site) (loads : List (Load T)) (b : Bundle T) → Among b (map (bundle_at site) loads) → b.place ≡ site
+  named site [] b m = absurd m
+  named site (load ∷ loads) b m = ⊎_elim (λ e. ap (λ (x : Bundle T). x.place) (sym e)) (λ n. named site loads b n) m
 
   -- of the updates at a bundle's place some are its own
   own_part : (test : Update T → Bool) (bundles : List (Bundle T)) (b : Bundle T) → Among b bundles → list_all test (updates_at b.place bundles) ≡ true → list_all test b.updates ≡ true
@@ -145,7 +160,7 @@ module _ {T : Type 0} where
 
   module _ (p : Dataflow) (q : IsDataflow p) (alone : p.workers ≡ 1) (g : Emission T) (worker : g.worker < p.workers) (wide : IsTrue (are_wide (width_of p.nodes g.node) g.updates)) (small : IsTrue (are_small g.updates)) where
     -- what goes to a place that gets something is read there
-    read_there : (site : Place) → share p site g ≢ [] → source_of p site.node site.port ≡ Some g.node
+    read_there : (site : Site) → share p site g ≢ [] → source_of p site.node site.port ≡ Some g.node
     read_there site d = step (source_of p site.node site.port) refl d
       where
         step : (x : Option ℕ) → source_of p site.node site.port ≡ x → share_from p x (arranged_by (node_of p site.node)) site.worker g ≢ [] → source_of p site.node site.port ≡ Some g.node
@@ -157,7 +172,7 @@ module _ {T : Type 0} where
             one false f d = absurd (d refl)
 
     -- of the updates that are given, so a share
-    share_all : (test : Update T → Bool) (site : Place) → list_all test g.updates ≡ true → list_all test (share p site g) ≡ true
+    share_all : (test : Update T → Bool) (site : Site) → list_all test g.updates ≡ true → list_all test (share p site g) ≡ true
     share_all test site h = from (source_of p site.node site.port)
       where
         filtered : (keep : Update T → Bool) (us : List (Update T)) → list_all test us ≡ true → list_all test (filter keep us) ≡ true
@@ -181,7 +196,7 @@ module _ {T : Type 0} where
         from None = refl
         from (Some s) = chosen (eqb g.node s) (part p (arranged_by (node_of p site.node)) g.worker site.worker g.updates) (along (arranged_by (node_of p site.node)))
 
-    module _ (sent : List (Bundle T)) (whole : (other : Place) → updates_at other sent ≡ share p other g) (filled : IsTrue (list_all (λ b. not (eqb (length b.updates) 0)) sent)) where
+    module _ (sent : List (Bundle T)) (whole : (other : Site) → updates_at other sent ≡ share p other g) (filled : IsTrue (list_all (λ b. not (eqb (length b.updates) 0)) sent)) where
       one_sent : (b : Bundle T) → Among b sent → IsDue p (suc g.node) b
       one_sent b m =
           let full = some b.updates (all_at (λ (b : Bundle T). not (eqb (length b.updates) 0)) sent b filled m) in
@@ -217,55 +232,120 @@ module _ {T : Type 0} where
       due_from p n b (record { later = let l = d.later in omega arith; within = d.within; port = d.port; worker = d.worker; wide = d.wide; small = d.small }))
 
   -- and where none waits at the node, the other way round
-  pub due_later : (p : Dataflow) (n : ℕ) (bundles : List (Bundle T)) → are_due p n bundles ≡ true → IsTrue (list_all (λ b. not (eqb b.place.node n && eqb b.place.worker 0)) bundles) → are_due p (suc n) bundles ≡ true
-  due_later p n bundles h none =
-      all_from (is_due p (suc n)) bundles (λ b m. let d = due_parts p n b (all_at (is_due p n) bundles b h m) in
-      let k = all_at (λ (b : Bundle T). not (eqb b.place.node n && eqb b.place.worker 0)) bundles b none m in
-      due_from p (suc n) b (record { later = after b (eqb b.place.node n) refl d.later (eqb b.place.worker 0) (eq-eqb b.place.worker 0 d.worker) k; within = d.within; port = d.port; worker = d.worker; wide = d.wide; small = d.small }))
+  pub due_later : (p : Dataflow) (n : ℕ) (stations : List (List (Lot T))) → AreDue p n stations → ((port : ℕ) → queue_of stations (place n port 0) ≡ []) → AreDue p (suc n) stations
+  due_later p n stations due none site =
+      all_from (is_due p (suc n)) (queue_of stations site) (λ b m.
+      let d = due_parts p n b (all_at (is_due p n) (queue_of stations site) b (due site) m) in
+      let at = named site (loads_at site.port (lot_of stations site.node site.worker)) b m in
+      due_from p (suc n) b (record { later = after b m at d.worker (eqb b.place.node n) refl d.later; within = d.within; port = d.port; worker = d.worker; wide = d.wide; small = d.small }))
     where
-      after : (b : Bundle T) (c : Bool) → eqb b.place.node n ≡ c → n ≤ b.place.node → (w : Bool) → w ≡ true → not (c && w) ≡ true → suc n ≤ b.place.node
-      after b true e l w f k = absurd (false≢true (ap (λ z. not (true && z)) (sym f) ∙ k))
-      after b false e l w f k = let d = eqb-false b.place.node n e in apart d l
+      gone : (b : Bundle T) → Among b (queue_of stations site) → b.place ≡ site → b.place.worker ≡ 0 → b.place.node ≡ n → ⊥
+      gone b m at w e = subst (λ bundles. Among b bundles) (subst (λ (o : Site). queue_of stations o ≡ []) (sym same) (none site.port)) m
+        where
+          same : site ≡ place n site.port 0
+          same =
+              let node : site.node ≡ n = ap (λ (o : Site). o.node) (sym at) ∙ e in
+              let worker : site.worker ≡ 0 = ap (λ (o : Site). o.worker) (sym at) ∙ w in
+              λ i. record { node = node i; port = site.port; worker = worker i }
+
+      after : (b : Bundle T) → Among b (queue_of stations site) → b.place ≡ site → b.place.worker ≡ 0 → (c : Bool) → eqb b.place.node n ≡ c → n ≤ b.place.node → suc n ≤ b.place.node
+      after b m at w true e l = absurd (gone b m at w (eqb-true b.place.node n e))
+      after b m at w false e l = let d = eqb-false b.place.node n e in apart d l
         where
           apart : (b.place.node ≡ n → ⊥) → n ≤ b.place.node → suc n ≤ b.place.node
           apart d l = omega arith
 
   -- past the last node nothing is due
-  pub none_due : (p : Dataflow) (bundles : List (Bundle T)) → are_due p (length p.nodes) bundles ≡ true → bundles ≡ []
-  none_due p [] h = refl
-  none_due p (b ∷ bundles) h = let d = due_parts p (length p.nodes) b (and_parts (is_due p (length p.nodes) b) (are_due p (length p.nodes) bundles) h).0 in absurd (let l = d.later in let w = d.within in omega arith)
+  pub none_due : (p : Dataflow) (stations : List (List (Lot T))) → AreDue p (length p.nodes) stations → NothingWaits stations
+  none_due p stations due site = none (queue_of stations site) (due site)
+    where
+      none : (bundles : List (Bundle T)) → are_due p (length p.nodes) bundles ≡ true → bundles ≡ []
+      none [] h = refl
+      none (b ∷ bundles) h = let d = due_parts p (length p.nodes) b (and_parts (is_due p (length p.nodes) b) (are_due p (length p.nodes) bundles) h).0 in absurd (let l = d.later in let w = d.within in omega arith)
 
   -- How many wait at a node: one less where one is taken, and no more where what is sent is due later
 
-  pub one_less : (site : Place) (bundle : Bundle T) (bundles : List (Bundle T)) → slice_get (queue site bundles) 0 ≡ Some bundle → suc (waits_at site.node (without site bundles 0)) ≡ waits_at site.node bundles
-  one_less site bundle [] e = cc
-  one_less site bundle (b ∷ bundles) e = step (same_place b.place site) refl e (one_less site bundle bundles)
+  abbrev count : Lot T → ℕ
+  count lot = length lot.left + length lot.right
+
+  count_less : (site : Site) (port : ℕ) (stamp : List T) (lot : Lot T) (bundle : Bundle T) → slice_get (map (bundle_at site) (loads_at port lot)) 0 ≡ Some bundle → suc (count (less_at port 0 stamp lot)) ≡ count lot
+  count_less site zero stamp lot bundle e = let one = shorter lot.left e in omega (arith, one)
     where
-      counted : (c : Bool) → suc (waits_at site.node (without site bundles 0)) ≡ waits_at site.node bundles
-          → suc (length (cond c (b ∷ filter (λ (x : Bundle T). eqb x.place.node site.node) (without site bundles 0)) (filter (λ (x : Bundle T). eqb x.place.node site.node) (without site bundles 0))))
-          ≡ length (cond c (b ∷ filter (λ (x : Bundle T). eqb x.place.node site.node) bundles) (filter (λ (x : Bundle T). eqb x.place.node site.node) bundles))
-      counted true h = ap suc h
-      counted false h = h
+      shorter : (loads : List (Load T)) → slice_get (map (bundle_at site) loads) 0 ≡ Some bundle → suc (length (remove loads 0)) ≡ length loads
+      shorter [] e = cc
+      shorter (load ∷ loads) e = refl
+  count_less site (suc zero) stamp lot bundle e = let one = shorter lot.right e in omega (arith, one)
+    where
+      shorter : (loads : List (Load T)) → slice_get (map (bundle_at site) loads) 0 ≡ Some bundle → suc (length (remove loads 0)) ≡ length loads
+      shorter [] e = cc
+      shorter (load ∷ loads) e = refl
+  count_less site (suc (suc port)) stamp lot bundle e = cc
 
-      step : (s : Bool) → same_place b.place site ≡ s → slice_get (cond s (b ∷ []) [] ++ queue site bundles) 0 ≡ Some bundle
-          → (slice_get (queue site bundles) 0 ≡ Some bundle → suc (waits_at site.node (without site bundles 0)) ≡ waits_at site.node bundles)
-          → suc (waits_at site.node (cond s bundles (b ∷ without site bundles 0))) ≡ waits_at site.node (b ∷ bundles)
-      step true f e ih = sym (ap (λ c. length (cond c (b ∷ filter (λ (x : Bundle T). eqb x.place.node site.node) bundles) (filter (λ (x : Bundle T). eqb x.place.node site.node) bundles))) (eq-eqb b.place.node site.node (ap (λ (z : Place). z.node) (place_same b.place site f))))
-      step false f e ih = counted (eqb b.place.node site.node) (ih e)
+  pub one_less : (stations : List (List (Lot T))) (bundle : Bundle T) → bundle.place.node < length stations → bundle.place.worker < length (get_or stations bundle.place.node []) → bundle.place.worker ≡ 0
+      → slice_get (queue_of stations bundle.place) 0 ≡ Some bundle → suc (waits_at bundle.place.node (taken_from 0 bundle stations)) ≡ waits_at bundle.place.node stations
+  one_less stations bundle within staffed w e =
+      let site = bundle.place in
+      let own : (eqb site.node site.node && eqb 0 site.worker) ≡ true = and_from (eqb site.node site.node) (eqb 0 site.worker) (eq-eqb site.node site.node refl) (eq-eqb 0 site.worker (sym w)) in
+      ap (λ lot. suc (count lot))
+      (lot_at stations site.node site.worker (less_at site.port 0 bundle.stamp) within staffed site.node 0
+      ∙ ap (λ c. cond c (less_at site.port 0 bundle.stamp (lot_of stations site.node site.worker)) (lot_of stations site.node 0)) own)
+      ∙ (count_less site site.port bundle.stamp (lot_of stations site.node site.worker) bundle e
+      ∙ ap (λ k. count (lot_of stations site.node k)) w)
 
-  none_waits : (p : Dataflow) (n : ℕ) (bundles : List (Bundle T)) → are_due p (suc n) bundles ≡ true → filter (λ (x : Bundle T). eqb x.place.node n) bundles ≡ []
-  none_waits p n [] h = refl
-  none_waits p n (b ∷ bundles) h =
-      let k = and_parts (is_due p (suc n) b) (are_due p (suc n) bundles) h in
-      let l = (due_parts p (suc n) b k.0).later in
-      ap (λ c. cond c (b ∷ filter (λ (x : Bundle T). eqb x.place.node n) bundles) (filter (λ (x : Bundle T). eqb x.place.node n) bundles)) (ne_eqb b.place.node n (λ e. absurd (omega (arith, e, l)))) ∙ none_waits p n bundles k.1
+  lot_put_other : (sent : List (Bundle T)) (stations : List (List (Lot T))) (n : ℕ) → AreThere stations sent → ((b : Bundle T) → Among b sent → n ≢ b.place.node) → lot_of (put_all sent stations) n 0 ≡ lot_of stations n 0
+  lot_put_other [] stations n there apart = refl
+  lot_put_other (b ∷ sent) stations n there apart =
+      lot_put_other sent (put_at b.place (load_in b) stations) n (still sent there.1) (λ x m. apart x (inr m))
+      ∙ (lot_at stations b.place.node b.place.worker (more_at b.place.port (load_in b)) there.0.0 there.0.1 n 0
+      ∙ ap (λ c. cond (c && eqb 0 b.place.worker) (more_at b.place.port (load_in b) (lot_of stations b.place.node b.place.worker)) (lot_of stations n 0)) (ne_eqb n b.place.node (apart b (inl refl))))
+    where
+      still : (more : List (Bundle T)) → AreThere stations more → AreThere (put_at b.place (load_in b) stations) more
+      still [] t = tt
+      still (c ∷ more) t = (there_still stations b.place.node b.place.worker (more_at b.place.port (load_in b)) c.place t.0, still more t.1)
 
-  pub no_more_wait : (p : Dataflow) (n : ℕ) (bundles sent : List (Bundle T)) → are_due p (suc n) sent ≡ true → waits_at n (bundles ++ sent) ≡ waits_at n bundles
-  no_more_wait p n bundles sent h =
-      ap length (filter-append (λ (x : Bundle T). eqb x.place.node n) bundles sent ∙ ap (λ z. filter (λ (x : Bundle T). eqb x.place.node n) bundles ++ z) (none_waits p n sent h) ∙ append-nil (filter (λ (x : Bundle T). eqb x.place.node n) bundles))
+  pub no_more_wait : (p : Dataflow) (n k : ℕ) (ts : List T) (stations : List (List (Lot T))) (sent : List (Bundle T)) → n < length (put_all sent stations) → k < length (get_or (put_all sent stations) n []) → AreThere stations sent
+      → are_due p (suc n) sent ≡ true → waits_at n (held_from n k ts (put_all sent stations)) ≡ waits_at n stations
+  no_more_wait p n k ts stations sent within staffed there h =
+      ap count (lot_at (put_all sent stations) n k (λ lot. record lot { held = ts }) within staffed n 0)
+      ∙ (own (eqb n n && eqb 0 k) refl
+      ∙ ap count (lot_put_other sent stations n there (λ b m e. let l = (due_parts p (suc n) b (all_at (is_due p (suc n)) sent b h m)).later in absurd (omega (arith, e, l)))))
+    where
+      all : List (List (Lot T))
+      all = put_all sent stations
+
+      own : (c : Bool) → (eqb n n && eqb 0 k) ≡ c → count (cond c (record (lot_of all n k) { held = ts }) (lot_of all n 0)) ≡ count (lot_of all n 0)
+      own true e = ap (λ j. count (lot_of all n j)) (sym (eqb-true 0 k (and_parts (eqb n n) (eqb 0 k) e).1))
+      own false e = refl
+
+  -- what is due waits at a place that there is
+  pub due_are_there : (p : Dataflow) (n : ℕ) (stations : List (List (Lot T))) → length stations ≡ length p.nodes → ((m : ℕ) → m < length p.nodes → length (get_or stations m []) ≡ p.workers) → p.workers ≡ 1
+      → (sent : List (Bundle T)) → are_due p n sent ≡ true → AreThere stations sent
+  due_are_there p n stations many wide alone sent h =
+      all_there stations p many wide sent (λ b m.
+      let d = due_parts p n b (all_at (is_due p n) sent b h m) in
+      record { node = d.within; port = port b (length (sources (node_of p b.place.node))) (eqb b.place.port 0) refl d.port; worker = let w = d.worker in omega (arith, w, alone) })
+    where
+      port : (b : Bundle T) (ports : ℕ) (c : Bool) → eqb b.place.port 0 ≡ c → (c || nat_lt b.place.port ports) ≡ true → (b.place.port ≡ 0) ⊎ (b.place.port < ports)
+      port b ports true e f = inl (eqb-true b.place.port 0 e)
+      port b ports false e f = inr (lt_from b.place.port ports f)
 
   -- what lies on the board after a piece is due
-  pub piece_due : (p : Dataflow) (site : Place) (bundles sent : List (Bundle T)) → are_due p site.node bundles ≡ true → are_due p (suc site.node) sent ≡ true → are_due p site.node (without site bundles 0 ++ sent) ≡ true
-  piece_due p site bundles sent a b =
-      list_all-append (is_due p site.node) (without site bundles 0) sent
-      ∙ and_from (are_due p site.node (without site bundles 0)) (are_due p site.node sent) (left_due (is_due p site.node) site bundles a) (due_earlier p site.node sent b)
+  pub piece_due : (p : Dataflow) (bundle : Bundle T) (ts : List T) (stations : List (List (Lot T))) (sent : List (Bundle T)) → bundle.place.node < length stations → bundle.place.worker < length (get_or stations bundle.place.node [])
+      → AreThere (taken_from 0 bundle stations) sent → AreDue p bundle.place.node stations → are_due p (suc bundle.place.node) sent ≡ true
+      → AreDue p bundle.place.node (held_from bundle.place.node bundle.place.worker ts (put_all sent (taken_from 0 bundle stations)))
+  piece_due p bundle ts stations sent within staffed there due later site =
+      let n = bundle.place.node in
+      let left = taken_from 0 bundle stations in
+      let long : n < length (put_all sent left) = subst (λ z. n < z) (sym (many_put_all sent left ∙ as_many stations n bundle.place.worker (less_at bundle.place.port 0 bundle.stamp))) within in
+      let wide : bundle.place.worker < length (get_or (put_all sent left) n []) = subst (λ z. bundle.place.worker < z) (sym (wide_put_all sent left n ∙ as_wide stations n bundle.place.worker (less_at bundle.place.port 0 bundle.stamp) n)) staffed in
+      ap (are_due p n)
+      (queue_held (put_all sent left) n bundle.place.worker ts long wide site
+      ∙ (queue_put_all sent left there site
+      ∙ ap (λ q. q ++ queue site sent) (queue_less_at stations 0 bundle within staffed site)))
+      ∙ (list_all-append (is_due p n) (cond (same_place bundle.place site) (less (queue_of stations site) 0) (queue_of stations site)) (queue site sent)
+      ∙ and_from (are_due p n (cond (same_place bundle.place site) (less (queue_of stations site) 0) (queue_of stations site))) (are_due p n (queue site sent))
+      (each (same_place bundle.place site)) (queue_due (is_due p n) site sent (due_earlier p n sent later)))
+    where
+      each : (c : Bool) → are_due p bundle.place.node (cond c (less (queue_of stations site) 0) (queue_of stations site)) ≡ true
+      each true = less_due (is_due p bundle.place.node) (queue_of stations site) (due site)
+      each false = due site

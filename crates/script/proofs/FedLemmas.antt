@@ -17,10 +17,13 @@ use Rattle.machine.specs.declared.event.Fed.{Fed}
 use Rattle.machine.specs.Dataflows.{IsDataflow, node_of}
 use Rattle.machine.specs.Inputs.{front_at}
 use Rattle.machine.specs.Histories.{IsInput, alone}
-use Rattle.machine.specs.Boards.{Shown, fed, feed_refusal}
+use Rattle.machine.specs.Boards.{Shown, IsBoard, fed, feed_refusal}
 use Rattle.machine.proofs.ClaimLemmas.{routed}
-use Rattle.script.specs.Relays.{is_due, are_due}
-use Rattle.script.proofs.DueLemmas.{IsDue, due_from}
+use Rattle.script.specs.Relays.{is_due, AreDue}
+use Rattle.script.proofs.DueLemmas.{IsDue, are_due, due_from, due_are_there, queue_due}
+use Rattle.machine.specs.Worlds.{queue}
+use Rattle.machine.specs.Loads.{load_in, lot_of, queue_of}
+use Rattle.machine.proofs.PlacingLemmas.{queue_put, held_put}
 
 reads_none : (node : Node) → IsTrue (is_input node) → slice_get (sources node) 0 ≡ None
 reads_none (Input width) h = refl
@@ -59,9 +62,20 @@ module _ {T : Type 0} (below : T → T → Bool) where
         small = and_from (nat_le (unsigned_abs f.update.diff) 2147483647) true (passed (nat_le (unsigned_abs f.update.diff) 2147483647) small.0) refl;
       }
 
-  pub fed_due : (b : Shown T) (client : ℕ) (f : Fed T) → feed_refusal below b f ≡ None → IsInput b.dataflow f.input → IsDataflow b.dataflow → b.dataflow.workers ≡ 1
-      → IsTrue (are_due b.dataflow 0 b.in_flight) → IsTrue (are_due b.dataflow 0 (fed client f b).in_flight)
-  fed_due b client f e i q single due =
-      list_all-append (is_due b.dataflow 0) b.in_flight (alone b.dataflow f ∷ [])
-      ∙ and_from (are_due b.dataflow 0 b.in_flight) (are_due b.dataflow 0 (alone b.dataflow f ∷ [])) due
-      (and_from (is_due b.dataflow 0 (alone b.dataflow f)) true (due_from b.dataflow 0 (alone b.dataflow f) (fed_one b f e i q single)) refl)
+  pub fed_due : (b : Shown T) (client : ℕ) (f : Fed T) → feed_refusal below b f ≡ None → IsInput b.dataflow f.input → IsBoard b → b.dataflow.workers ≡ 1
+      → AreDue b.dataflow 0 b.stations → AreDue b.dataflow 0 (fed client f b).stations
+  fed_due b client f e i board single due site =
+      let change = alone b.dataflow f in
+      let one : are_due b.dataflow 0 (change ∷ []) ≡ true = and_from (is_due b.dataflow 0 change) true (due_from b.dataflow 0 change (fed_one b f e i board.dataflow single)) refl in
+      let there = (due_are_there b.dataflow 0 b.stations board.stations board.rows single (change ∷ []) one).0 in
+      ap (are_due b.dataflow 0) (queue_put b.stations change.place (load_in change) there site)
+      ∙ (list_all-append (is_due b.dataflow 0) (queue_of b.stations site) (queue site (change ∷ []))
+      ∙ and_from (are_due b.dataflow 0 (queue_of b.stations site)) (are_due b.dataflow 0 (queue site (change ∷ []))) (due site) (queue_due (is_due b.dataflow 0) site (change ∷ []) one))
+
+  -- and nothing more is held
+  pub fed_held : (b : Shown T) (client : ℕ) (f : Fed T) → feed_refusal below b f ≡ None → IsInput b.dataflow f.input → IsBoard b → b.dataflow.workers ≡ 1
+      → (n k : ℕ) → (lot_of (fed client f b).stations n k).held ≡ (lot_of b.stations n k).held
+  fed_held b client f e i board single =
+      let change = alone b.dataflow f in
+      let one : are_due b.dataflow 0 (change ∷ []) ≡ true = and_from (is_due b.dataflow 0 change) true (due_from b.dataflow 0 change (fed_one b f e i board.dataflow single)) refl in
+      held_put b.stations change.place (load_in change) (due_are_there b.dataflow 0 b.stations board.stations board.rows single (change ∷ []) one).0

@@ -25,7 +25,7 @@ use Rattle.linear.proofs.SumLemmas.{applied_goes_on}
 use Rattle.linear.proofs.SizeLemmas.{size_applied, times_applied}
 use Rattle.update.specs.Bags.{total_by}
 use Rattle.machine.proofs.FlowLemmas.{queued}
-use Rattle.machine.specs.declared.event.Place.{Place}
+use Rattle.machine.specs.declared.event.Site.{Site}
 use Rattle.machine.specs.declared.event.Bundle.{Bundle}
 use Rattle.machine.specs.declared.event.Emission.{Emission}
 use Rattle.machine.specs.declared.event.Event.{Event}
@@ -84,7 +84,7 @@ module _ {T : Type 0} (below : T → T → Bool) (o : PartialOrderLaws below) wh
   module _ (minimum : T) (p : Dataflow) (q : IsDataflow p) (h : List (Event T)) (legal : IsLegal below minimum p h) (quiet : (world below minimum p h).held ≡ [])
       (bundle : Bundle T) (take : IsTake below p (world below minimum p h) 0 bundle)
       (linear : IsTrue (is_linear (node_of p bundle.place.node))) (port : IsTrue (is_port (node_of p bundle.place.node) bundle.place.port)) where
-    abbrev site : Place
+    abbrev site : Site
     site = bundle.place
 
     abbrev us : List (Update T)

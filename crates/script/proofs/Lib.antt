@@ -14,4 +14,5 @@ pub mod InputLemmas
 pub mod ChangesLemmas
 pub mod EndLemmas
 pub mod WeightLemmas
+pub mod EveryWeightLemmas
 pub mod PlainLemmas

@@ -23,9 +23,9 @@ use Rattle.plan.proofs.PlanLemmas.{no_first}
 use Rattle.machine.proofs.SiteLemmas.{none_queued, none_held}
 use Rattle.machine.specs.declared.event.Event.{Event}
 use Rattle.machine.specs.declared.event.Fed.{Fed}
-use Rattle.machine.specs.declared.event.Held.{Held}
+use Rattle.machine.specs.declared.event.Capability.{Capability}
 use Rattle.machine.specs.Dataflows.{Dataflow, node_of}
-use Rattle.machine.specs.Worlds.{fed_to, open_at, queue, held_at}
+use Rattle.machine.specs.Worlds.{fed_to, open_at}
 use Rattle.machine.specs.Histories.{world}
 use Rattle.machine.specs.Outstanding.{frontier, input_frontier}
 use Rattle.machine.specs.Promises.{changes_in}
@@ -44,7 +44,7 @@ use Rattle.machine.proofs.QuietLemmas.{caught_up_lem, beyond_elements}
 use Rattle.script.specs.Bags.{bag_of}
 use Rattle.oracle.specs.Entries.{IsRefusal}
 use Rattle.script.specs.Engines.{IsAnswer}
-use Rattle.script.specs.Relays.{IsIdle, GoesOn}
+use Rattle.script.specs.Relays.{IsIdle, NothingWaits, GoesOn}
 use Rattle.script.specs.Orders.{in_order}
 use Rattle.script.specs.Sessions.{Session, view_frontier, read_refusal, rows_at, frontier_at, changes_at}
 use Rattle.script.specs.Standing.{StandsAs}
@@ -72,18 +72,18 @@ module _ {T : Type 0} (below : T → T → Bool) (minimum : T) where
         since = λ v. on.2.since v ∙ a.since v;
       }
 
-  quiet_world : (b : Shown T) (h : List (Event T)) → Stands below minimum b h → IsIdle b → b.in_flight ≡ [] → IsQuiet below b.dataflow (world below minimum b.dataflow h)
+  quiet_world : (b : Shown T) (h : List (Event T)) → Stands below minimum b h → IsIdle b → NothingWaits b.stations → IsQuiet below b.dataflow (world below minimum b.dataflow h)
   quiet_world b h s idle none = record {
-    in_flight = none_queued (world below minimum b.dataflow h).in_flight (λ site. sym (s.queues site) ∙ ap (queue site) none);
+    in_flight = none_queued (world below minimum b.dataflow h).in_flight (λ site. sym (s.queues site) ∙ none site);
     hand = λ k l. sym (s.hand k l) ∙ free k (subst (λ n. k < n) idle.alone l);
-    held = subst (λ (ms : List (Held T)). IsTrue (list_all (λ m. is_beyond below (input_frontier below b.dataflow (world below minimum b.dataflow h) m.node) m.time) ms)) (sym (none_held (world below minimum b.dataflow h).held (λ n k. sym (s.held n k) ∙ ap (held_at n k) idle.held))) refl;
+    held = subst (λ (ms : List (Capability T)). IsTrue (list_all (λ m. is_beyond below (input_frontier below b.dataflow (world below minimum b.dataflow h) m.node) m.time) ms)) (sym (none_held (world below minimum b.dataflow h).held (λ n k. sym (s.held n k) ∙ idle.held n k))) refl;
   }
     where
       free : (k : ℕ) → k < 1 → get_or b.hand k None ≡ None
       free zero l = idle.hand
       free (suc k) l = absurd (omega (arith, l))
 
-  module _ (o : PartialOrderLaws below) (b : Shown T) (s : Session T) (v : ℕ) (t : T) (board : IsBoard b) (within : v < length b.dataflow.nodes) (idle : IsIdle b) (none : b.in_flight ≡ []) (a : StandsAs below minimum b s) where
+  module _ (o : PartialOrderLaws below) (b : Shown T) (s : Session T) (v : ℕ) (t : T) (board : IsBoard b) (within : v < length b.dataflow.nodes) (idle : IsIdle b) (none : NothingWaits b.stations) (a : StandsAs below minimum b s) where
     -- the view's frontier is found to be that of the session
     same_front : is_beyond below (front below b v) t ≡ is_beyond below (view_frontier below b.dataflow.nodes s v) t
     same_front =
@@ -143,7 +143,7 @@ module _ {T : Type 0} (below : T → T → Bool) (minimum : T) where
         large_listed o cmp b.dataflow.nodes board.dataflow.plan linear s v within (has_passed below (front below b v)) (λ u t l h. is_passed _ (passed_down below o (front below b v) u t l (not_beyond _ h))) (captured_of b v) captured_query large
 
   -- what is asked of a view at all times
-  module _ (o : PartialOrderLaws below) (b : Shown T) (s : Session T) (v : ℕ) (board : IsBoard b) (within : v < length b.dataflow.nodes) (idle : IsIdle b) (none : b.in_flight ≡ []) (a : StandsAs below minimum b s) where
+  module _ (o : PartialOrderLaws below) (b : Shown T) (s : Session T) (v : ℕ) (board : IsBoard b) (within : v < length b.dataflow.nodes) (idle : IsIdle b) (none : NothingWaits b.stations) (a : StandsAs below minimum b s) where
     -- the frontier of the history is that of the session
     same_frontier : SameElements (frontier below b.dataflow (world below minimum b.dataflow a.history) v) (view_frontier below b.dataflow.nodes s v)
     same_frontier =

@@ -1,9 +1,8 @@
 -- One piece of a relay after another: the events that lie between, and what is then on the board.
-use Rattle.std.proofs.Common.{◌≡◌, ℕ, suc, ◌<◌, Bool, true, cond, eqb, not, List, [], ◌∷◌, ◌++◌, length, get_or, set, Option, Some, None, IsTrue, sym, refl, ap, ◌∙◌, subst, arith}
-use Rattle.std.specs.List.{list_all, filter, slice_get}
+use Rattle.std.proofs.Common.{◌≡◌, ℕ, suc, ◌<◌, Bool, true, false, cond, ◌&&◌, eqb, List, [], ◌∷◌, ◌++◌, length, get_or, set, Option, Some, None, IsTrue, sym, refl, ap, ◌∙◌, subst, arith}
+use Rattle.std.specs.List.{list_all, slice_get}
 use Rattle.std.specs.Result.{IsOk, IsErr, IfOk, OnOk, OnErr}
 use Rattle.std.specs.Prelude.{Result, Ok, Err}
-use Rattle.std.proofs.lemmas.Bool.{and_from, eq-eqb}
 use Rattle.std.proofs.lemmas.List.{append_assoc}
 use Rattle.lattice.specs.Order.{PartialOrderLaws}
 use Rattle.lattice.specs.Frontiers.{is_beyond}
@@ -13,22 +12,24 @@ use Rattle.linear.specs.Applied.{applied, Overflows}
 use Rattle.linear.specs.Widths.{takes_rows}
 use Rattle.plan.specs.Operators.{is_linear}
 use Rattle.machine.proofs.SiteLemmas.{none_queued, none_held}
-use Rattle.machine.specs.declared.event.Place.{Place}
+use Rattle.machine.specs.declared.event.Site.{Site}
 use Rattle.machine.specs.declared.event.Bundle.{Bundle}
-use Rattle.machine.specs.declared.event.Held.{Held}
 use Rattle.machine.specs.declared.event.Emission.{Emission}
 use Rattle.machine.specs.declared.event.Event.{Event}
 use Rattle.machine.specs.declared.event.Event.TheVariants.{Take}
-use Rattle.machine.specs.Dataflows.{Dataflow, IsDataflow, node_of}
-use Rattle.machine.specs.Worlds.{World, queue, held_at}
+use Rattle.machine.specs.Dataflows.{Dataflow, node_of}
+use Rattle.machine.specs.Worlds.{World}
 use Rattle.machine.specs.Outstanding.{input_frontier}
 use Rattle.machine.specs.Readings.{IsQuiet}
-use Rattle.machine.specs.Histories.{holding, is_held_by, without, world, IsGive}
-use Rattle.machine.specs.Boards.{Shown, Stands, looked, taken, given}
+use Rattle.machine.specs.Histories.{world, IsGive}
+use Rattle.machine.specs.Boards.{Shown, IsBoard, Stands, looked, taken, given}
 use Rattle.machine.proofs.BoardLemmas.{stands_looked}
 use Rattle.machine.specs.Actors.{IsSameOfClients}
-use Rattle.script.specs.Relays.{are_due, waits_at, IsIdle, IsCut, GoesOnFrom, GoesOn}
-use Rattle.script.proofs.DueLemmas.{IsDue, waiting_due, widened, fitting, sent_due, one_less, no_more_wait, piece_due}
+use Rattle.script.specs.Relays.{AreDue, NothingWaits, waits_at, IsIdle, IsCut, GoesOnFrom, GoesOn}
+use Rattle.script.proofs.DueLemmas.{IsDue, are_due, waiting_due, widened, fitting, sent_due, one_less, no_more_wait, piece_due, due_are_there}
+use Rattle.machine.specs.Loads.{Lot, less_at, lot_of, put_all, taken_from, queue_of}
+use Rattle.machine.proofs.PlacingLemmas.{AreThere, as_many, as_wide, held_of, many_put_all, wide_put_all, held_put_all}
+use Rattle.machine.proofs.BoardLemmas.{waits_within, waits_staffed}
 use Rattle.script.proofs.GivingLemmas.{may_give}
 use Rattle.script.proofs.SmallLemmas.{small_applied, no_overflow}
 
@@ -78,7 +79,7 @@ module _ {T : Type 0} (below : T → T → Bool) (minimum : T) where
   same_taken : (b c : Shown T) (bundle : Bundle T) → c ≡ taken 0 bundle b → (h : List (Event T)) → IsSameOfClients (world below minimum b.dataflow h) (world below minimum c.dataflow (c.last ∷ h))
   same_taken b c bundle e h = subst (λ (z : Shown T). IsSameOfClients (world below minimum b.dataflow h) (world below minimum z.dataflow (z.last ∷ h))) (sym e) (record { fed = refl; openings = refl; since = λ v. refl })
 
-  pub goes_after_take : (r : Result (Bundle T) Refusal) (b c : Shown T) (site : Place) → IfOk r (λ bundle. c ≡ taken 0 bundle b) → OnErr r (c ≡ looked site.worker b)
+  pub goes_after_take : (r : Result (Bundle T) Refusal) (b c : Shown T) (site : Site) → IfOk r (λ bundle. c ≡ taken 0 bundle b) → OnErr r (c ≡ looked site.worker b)
       → ((h : List (Event T)) → Stands below minimum b h → Stands below minimum c (c.last ∷ h)) → GoesOn below minimum b c
   goes_after_take (Ok bundle) b c site e l stands = λ h s. (c.last ∷ [], stands h s, same_taken b c bundle e h)
   goes_after_take (Err r) b c site e l stands = goes_looked b c site.worker l
@@ -101,17 +102,6 @@ module _ {T : Type 0} (below : T → T → Bool) (minimum : T) where
   same_dataflow (Ok x) b c P h actor e l = ap (λ (z : Shown T). z.dataflow) e ∙ h x
   same_dataflow (Err x) b c P h actor e l = ap (λ (z : Shown T). z.dataflow) l
 
--- what a worker holds where it gave the last of it
-none_held_on : {T : Type 0} (n k : ℕ) (ts : List T) → filter (λ m. not (is_held_by n k m)) (holding n k ts) ≡ []
-none_held_on n k [] = refl
-none_held_on n k (t ∷ ts) =
-    ap (λ b. cond (not b) (record { node = n; worker = k; time = t } ∷ filter (λ m. not (is_held_by n k m)) (holding n k ts)) (filter (λ m. not (is_held_by n k m)) (holding n k ts)))
-    (and_from (eqb n n) (eqb k k) (eq-eqb n n refl) (eq-eqb k k refl))
-    ∙ none_held_on n k ts
-
-none_left : {T : Type 0} (n k : ℕ) (ts : List T) (held : List (Held T)) → held ≡ [] → filter (λ m. not (is_held_by n k m)) (held ++ holding n k ts) ≡ []
-none_left n k ts held e = ap (λ ms. filter (λ m. not (is_held_by n k m)) (ms ++ holding n k ts)) e ∙ none_held_on n k ts
-
 -- an empty hand
 emptied : (hand : List (Option ℕ)) (k : ℕ) (x : Option ℕ) → k ≡ 0 → get_or (set (set hand k x) k None) 0 None ≡ None
 emptied hand k x e = subst (λ j. get_or (set (set hand j x) j None) 0 None ≡ None) (sym e) (first hand)
@@ -121,11 +111,11 @@ emptied hand k x e = subst (λ j. get_or (set (set hand j x) j None) 0 None ≡ 
     first (y ∷ hand) = refl
 
 -- where a worker is idle and nothing is in flight, all is quiet
-pub quiet : {T : Type 0} (below : T → T → Bool) (minimum : T) (b : Shown T) → IsIdle b → b.in_flight ≡ [] → (h : List (Event T)) → Stands below minimum b h → IsQuiet below b.dataflow (world below minimum b.dataflow h)
+pub quiet : {T : Type 0} (below : T → T → Bool) (minimum : T) (b : Shown T) → IsIdle b → NothingWaits b.stations → (h : List (Event T)) → Stands below minimum b h → IsQuiet below b.dataflow (world below minimum b.dataflow h)
 quiet below minimum b idle none h s = record {
-  in_flight = none_queued (world below minimum b.dataflow h).in_flight (λ site. sym (s.queues site) ∙ ap (queue site) none);
+  in_flight = none_queued (world below minimum b.dataflow h).in_flight (λ site. sym (s.queues site) ∙ none site);
   hand = λ k l. subst (λ j. (world below minimum b.dataflow h).hand j ≡ None) (first k l idle.alone) (sym (s.hand 0 (let a = idle.alone in omega (arith, a))) ∙ idle.hand);
-  held = ap (list_all (λ m. is_beyond below (input_frontier below b.dataflow (world below minimum b.dataflow h) m.node) m.time)) (none_held (world below minimum b.dataflow h).held (λ n k. sym (s.held n k) ∙ ap (held_at n k) idle.held));
+  held = ap (list_all (λ m. is_beyond below (input_frontier below b.dataflow (world below minimum b.dataflow h) m.node) m.time)) (none_held (world below minimum b.dataflow h).held (λ n k. sym (s.held n k) ∙ idle.held n k));
 }
   where
     first : (k : ℕ) → k < b.dataflow.workers → b.dataflow.workers ≡ 1 → 0 ≡ k
@@ -133,9 +123,9 @@ quiet below minimum b idle none h s = record {
 
 -- After a piece
 
-module _ {T : Type 0} (below : T → T → Bool) (o : PartialOrderLaws below) (minimum : T) (b : Shown T) (q : IsDataflow b.dataflow) (idle : IsIdle b) (bundle : Bundle T)
-    (worker : bundle.place.worker ≡ 0) (due : are_due b.dataflow bundle.place.node b.in_flight ≡ true) (waits : slice_get (queue bundle.place b.in_flight) 0 ≡ Some bundle) where
-  abbrev site : Place
+module _ {T : Type 0} (below : T → T → Bool) (o : PartialOrderLaws below) (minimum : T) (b : Shown T) (board : IsBoard b) (idle : IsIdle b) (bundle : Bundle T)
+    (worker : bundle.place.worker ≡ 0) (due : AreDue b.dataflow bundle.place.node b.stations) (waits : slice_get (queue_of b.stations bundle.place) 0 ≡ Some bundle) where
+  abbrev site : Site
   site = bundle.place
 
   abbrev us : List (Update T)
@@ -148,13 +138,13 @@ module _ {T : Type 0} (below : T → T → Bool) (o : PartialOrderLaws below) (m
   emission = record { node = site.node; worker = site.worker; updates = applied (node_of p site.node) us }
 
   piece : IsDue p site.node bundle
-  piece = waiting_due p site.node site bundle b.in_flight due waits
+  piece = waiting_due p site.node site bundle b.stations due waits
 
   pub within : site.node < length p.nodes
   within = piece.within
 
   pub takes : IsTrue (takes_rows (node_of p site.node) us)
-  takes = fitting p q site us piece.port piece.wide
+  takes = fitting p board.dataflow site us piece.port piece.wide
 
   pub fits : Overflows (node_of p site.node) us → ⊥
   fits = no_overflow (node_of p site.node) us piece.small
@@ -164,71 +154,106 @@ module _ {T : Type 0} (below : T → T → Bool) (o : PartialOrderLaws below) (m
 
   pub gives : (h : List (Event T)) → Stands below minimum b h → Stands below minimum (taken 0 bundle b) (Take 0 bundle ∷ h) → (sent : List (Bundle T)) → IsCut below p emission sent
       → IsGive below p (world below minimum p (Take 0 bundle ∷ h)) emission [] sent
-  gives h s after sent cut = may_give below o minimum p q h s.legal (none_held (world below minimum p h).held (λ n k. sym (s.held n k) ∙ ap (held_at n k) idle.held)) bundle after.legal.0 linear piece.port sent cut
+  gives h s after sent cut = may_give below o minimum p board.dataflow h s.legal (none_held (world below minimum p h).held (λ n k. sym (s.held n k) ∙ idle.held n k)) bundle after.legal.0 linear piece.port sent cut
 
   module _ (sent : List (Bundle T)) (cut : IsCut below p emission sent) where
     abbrev done : Shown T
     done = given emission [] sent (taken 0 bundle b)
 
     later_due : are_due p (suc site.node) sent ≡ true
-    later_due = sent_due p q idle.alone emission (let a = idle.alone in omega (arith, worker, a)) (widened p q site us piece.port piece.wide linear) (small_applied (node_of p site.node) us piece.small) sent cut.whole cut.filled
+    later_due = sent_due p board.dataflow idle.alone emission (let a = idle.alone in omega (arith, worker, a)) (widened p board.dataflow site us piece.port piece.wide linear) (small_applied (node_of p site.node) us piece.small) sent cut.whole cut.filled
+
+    abbrev left : List (List (Lot T))
+    left = taken_from 0 bundle b.stations
+
+    at_node : site.node < length b.stations
+    at_node = waits_within b.stations site 0 bundle waits
+
+    staffed : site.worker < length (get_or b.stations site.node [])
+    staffed = waits_staffed b.stations site 0 bundle waits
+
+    many : length left ≡ length b.stations
+    many = as_many b.stations site.node site.worker (less_at site.port 0 bundle.stamp)
+
+    wide : (m : ℕ) → length (get_or left m []) ≡ length (get_or b.stations m [])
+    wide = as_wide b.stations site.node site.worker (less_at site.port 0 bundle.stamp)
+
+    there : AreThere left sent
+    there = due_are_there p (suc site.node) left (many ∙ board.stations) (λ m l. wide m ∙ board.rows m l) idle.alone sent later_due
+
+    all_long : site.node < length (put_all sent left)
+    all_long = subst (λ z. site.node < z) (sym (many_put_all sent left ∙ many)) at_node
+
+    all_wide : site.worker < length (get_or (put_all sent left) site.node [])
+    all_wide = subst (λ z. site.worker < z) (sym (wide_put_all sent left site.node ∙ wide site.node)) staffed
+
+    none_held_still : (n k : ℕ) → (lot_of done.stations n k).held ≡ []
+    none_held_still n k = held_of (put_all sent left) site.node site.worker (λ lot. record lot { held = [] }) all_long all_wide n k ∙ each (eqb n site.node && eqb k site.worker) refl
+      where
+        before : (eqb n site.node && eqb k site.worker) ≡ false → (lot_of left n k).held ≡ []
+        before e = held_of b.stations site.node site.worker (less_at site.port 0 bundle.stamp) at_node staffed n k
+            ∙ (ap (λ c. cond c (less_at site.port 0 bundle.stamp (lot_of b.stations site.node site.worker)).held (lot_of b.stations n k).held) e ∙ idle.held n k)
+
+        each : (c : Bool) → (eqb n site.node && eqb k site.worker) ≡ c → cond c [] (lot_of (put_all sent left) n k).held ≡ []
+        each true e = refl
+        each false e = held_put_all sent left there n k ∙ before e
 
     pub piece_idle : IsIdle done
     piece_idle = record {
       alone = idle.alone;
       linear = idle.linear;
-      held = none_left site.node site.worker bundle.stamp b.held idle.held;
+      held = none_held_still;
       hand = emptied b.hand site.worker (Some site.node) worker;
     }
 
-    pub done_due : are_due p site.node done.in_flight ≡ true
-    done_due = piece_due p site b.in_flight sent due later_due
+    pub done_due : AreDue p site.node done.stations
+    done_due = piece_due p bundle [] b.stations sent at_node staffed there due later_due
 
-    pub done_fewer : suc (waits_at site.node done.in_flight) ≡ waits_at site.node b.in_flight
-    done_fewer = ap suc (no_more_wait p site.node (without site b.in_flight 0) sent later_due) ∙ one_less site bundle b.in_flight waits
+    pub done_fewer : suc (waits_at site.node done.stations) ≡ waits_at site.node b.stations
+    done_fewer = ap suc (no_more_wait p site.node site.worker [] left sent all_long all_wide there later_due) ∙ one_less b.stations bundle at_node staffed worker waits
 
 -- The same, where the place is known by another name
-module _ {T : Type 0} (below : T → T → Bool) (o : PartialOrderLaws below) (minimum : T) (b : Shown T) (q : IsDataflow b.dataflow) (idle : IsIdle b) (site : Place)
-    (worker : site.worker ≡ 0) (due : are_due b.dataflow site.node b.in_flight ≡ true) (bundle : Bundle T) (there : bundle.place ≡ site) (waits : slice_get (queue site b.in_flight) 0 ≡ Some bundle) where
+module _ {T : Type 0} (below : T → T → Bool) (o : PartialOrderLaws below) (minimum : T) (b : Shown T) (board : IsBoard b) (idle : IsIdle b) (site : Site)
+    (worker : site.worker ≡ 0) (due : AreDue b.dataflow site.node b.stations) (bundle : Bundle T) (there : bundle.place ≡ site) (waits : slice_get (queue_of b.stations site) 0 ≡ Some bundle) where
   worker_there : bundle.place.worker ≡ 0
-  worker_there = ap (λ (z : Place). z.worker) there ∙ worker
+  worker_there = ap (λ (z : Site). z.worker) there ∙ worker
 
-  due_there : are_due b.dataflow bundle.place.node b.in_flight ≡ true
-  due_there = ap (λ (z : Place). are_due b.dataflow z.node b.in_flight) there ∙ due
+  due_there : AreDue b.dataflow bundle.place.node b.stations
+  due_there = subst (λ (z : Site). AreDue b.dataflow z.node b.stations) (sym there) due
 
-  waits_there : slice_get (queue bundle.place b.in_flight) 0 ≡ Some bundle
-  waits_there = ap (λ (z : Place). slice_get (queue z b.in_flight) 0) there ∙ waits
+  waits_there : slice_get (queue_of b.stations bundle.place) 0 ≡ Some bundle
+  waits_there = ap (λ (z : Site). slice_get (queue_of b.stations z) 0) there ∙ waits
 
   pub within_there : bundle.place.node < length b.dataflow.nodes
-  within_there = within below o minimum b q idle bundle worker_there due_there waits_there
+  within_there = within below o minimum b board idle bundle worker_there due_there waits_there
 
   pub linear_there : IsTrue (is_linear (node_of b.dataflow bundle.place.node))
-  linear_there = linear below o minimum b q idle bundle worker_there due_there waits_there
+  linear_there = linear below o minimum b board idle bundle worker_there due_there waits_there
 
   pub takes_there : IsTrue (takes_rows (node_of b.dataflow bundle.place.node) bundle.updates)
-  takes_there = takes below o minimum b q idle bundle worker_there due_there waits_there
+  takes_there = takes below o minimum b board idle bundle worker_there due_there waits_there
 
   pub fits_there : Overflows (node_of b.dataflow bundle.place.node) bundle.updates → ⊥
-  fits_there = fits below o minimum b q idle bundle worker_there due_there waits_there
+  fits_there = fits below o minimum b board idle bundle worker_there due_there waits_there
 
 -- Where a worker took a bundle and applied the node to it, and where it then gave what came out
 
-module _ {T : Type 0} (below : T → T → Bool) (o : PartialOrderLaws below) (minimum : T) (b : Shown T) (q : IsDataflow b.dataflow) (idle : IsIdle b) (site : Place)
-    (worker : site.worker ≡ 0) (due : are_due b.dataflow site.node b.in_flight ≡ true) where
+module _ {T : Type 0} (below : T → T → Bool) (o : PartialOrderLaws below) (minimum : T) (b : Shown T) (board : IsBoard b) (idle : IsIdle b) (site : Site)
+    (worker : site.worker ≡ 0) (due : AreDue b.dataflow site.node b.stations) where
   -- what it computed
   abbrev IsComputed : Shown T → Emission T → Type 0
-  IsComputed c e = (bundle : Bundle T) × (slice_get (queue site b.in_flight) 0 ≡ Some bundle) × (bundle.place ≡ site) × (c ≡ taken 0 bundle b)
+  IsComputed c e = (bundle : Bundle T) × (slice_get (queue_of b.stations site) 0 ≡ Some bundle) × (bundle.place ≡ site) × (c ≡ taken 0 bundle b)
       × (e ≡ record { node = bundle.place.node; worker = bundle.place.worker; updates = applied (node_of b.dataflow bundle.place.node) bundle.updates })
 
   -- what is known of the place, of the bundle's own
   own_worker : (c : Shown T) (e : Emission T) → (x : IsComputed c e) → x.0.place.worker ≡ 0
-  own_worker c e x = ap (λ (z : Place). z.worker) x.2 ∙ worker
+  own_worker c e x = ap (λ (z : Site). z.worker) x.2 ∙ worker
 
-  own_due : (c : Shown T) (e : Emission T) → (x : IsComputed c e) → are_due b.dataflow x.0.place.node b.in_flight ≡ true
-  own_due c e x = ap (λ (z : Place). are_due b.dataflow z.node b.in_flight) x.2 ∙ due
+  own_due : (c : Shown T) (e : Emission T) → (x : IsComputed c e) → AreDue b.dataflow x.0.place.node b.stations
+  own_due c e x = subst (λ (z : Site). AreDue b.dataflow z.node b.stations) (sym x.2) due
 
-  own_waits : (c : Shown T) (e : Emission T) → (x : IsComputed c e) → slice_get (queue x.0.place b.in_flight) 0 ≡ Some x.0
-  own_waits c e x = ap (λ (z : Place). slice_get (queue z b.in_flight) 0) x.2 ∙ x.1
+  own_waits : (c : Shown T) (e : Emission T) → (x : IsComputed c e) → slice_get (queue_of b.stations x.0.place) 0 ≡ Some x.0
+  own_waits c e x = ap (λ (z : Site). slice_get (queue_of b.stations z) 0) x.2 ∙ x.1
 
   -- and what it gave
   abbrev IsHandedOn : Shown T → Emission T → Shown T → Type 0
@@ -237,7 +262,7 @@ module _ {T : Type 0} (below : T → T → Bool) (o : PartialOrderLaws below) (m
   pub computed_within : (c : Shown T) (e : Emission T) → IsComputed c e → e.node < length c.dataflow.nodes
   computed_within c e x =
       subst (λ (z : Shown T). e.node < length z.dataflow.nodes) (sym x.3)
-      (subst (λ (z : Emission T). z.node < length b.dataflow.nodes) (sym x.4) (within below o minimum b q idle x.0 (own_worker c e x) (own_due c e x) (own_waits c e x)))
+      (subst (λ (z : Emission T). z.node < length b.dataflow.nodes) (sym x.4) (within below o minimum b board idle x.0 (own_worker c e x) (own_due c e x) (own_waits c e x)))
 
   pub computed_goes : (c d : Shown T) (e : Emission T) → IsComputed c e → GoesOn below minimum b c → ((h : List (Event T)) → Stands below minimum b h → Stands below minimum c (c.last ∷ h))
       → ((h : List (Event T)) → Stands below minimum c h → ((sent : List (Bundle T)) → IsCut below c.dataflow e sent → IsGive below c.dataflow (world below minimum c.dataflow h) e [] sent) → GoesOnFrom below minimum h c d)
@@ -250,21 +275,21 @@ module _ {T : Type 0} (below : T → T → Bool) (o : PartialOrderLaws below) (m
       given_now after =
           subst (λ (z : Shown T). Stands below minimum z (z.last ∷ h) → (sent : List (Bundle T)) → IsCut below z.dataflow e sent → IsGive below z.dataflow (world below minimum z.dataflow (z.last ∷ h)) e [] sent) (sym x.3)
           (subst (λ (y : Emission T). Stands below minimum (taken 0 x.0 b) (Take 0 x.0 ∷ h) → (sent : List (Bundle T)) → IsCut below b.dataflow y sent → IsGive below b.dataflow (world below minimum b.dataflow (Take 0 x.0 ∷ h)) y [] sent) (sym x.4)
-          (gives below o minimum b q idle x.0 (own_worker c e x) (own_due c e x) (own_waits c e x) h s)) after
+          (gives below o minimum b board idle x.0 (own_worker c e x) (own_due c e x) (own_waits c e x) h s)) after
 
   -- the board after it
   after_both : (c d : Shown T) (e : Emission T) → (x : IsComputed c e) → (y : IsHandedOn c e d) → (P : Shown T → Type 0)
-      → ((sent : List (Bundle T)) → IsCut below b.dataflow (emission below o minimum b q idle x.0 (own_worker c e x) (own_due c e x) (own_waits c e x)) sent → P (given (emission below o minimum b q idle x.0 (own_worker c e x) (own_due c e x) (own_waits c e x)) [] sent (taken 0 x.0 b))) → P d
+      → ((sent : List (Bundle T)) → IsCut below b.dataflow (emission below o minimum b board idle x.0 (own_worker c e x) (own_due c e x) (own_waits c e x)) sent → P (given (emission below o minimum b board idle x.0 (own_worker c e x) (own_due c e x) (own_waits c e x)) [] sent (taken 0 x.0 b))) → P d
   after_both c d e x y P f =
       subst P (sym y.2)
       (subst (λ (z : Shown T). IsCut below z.dataflow e y.0 → P (given e [] y.0 z)) (sym x.3)
       (subst (λ (g : Emission T). IsCut below b.dataflow g y.0 → P (given g [] y.0 (taken 0 x.0 b))) (sym x.4) (f y.0)) y.1)
 
   pub both_idle : (c d : Shown T) (e : Emission T) → IsComputed c e → IsHandedOn c e d → IsIdle d
-  both_idle c d e x y = after_both c d e x y IsIdle (piece_idle below o minimum b q idle x.0 (own_worker c e x) (own_due c e x) (own_waits c e x))
+  both_idle c d e x y = after_both c d e x y IsIdle (piece_idle below o minimum b board idle x.0 (own_worker c e x) (own_due c e x) (own_waits c e x))
 
-  pub both_due : (c d : Shown T) (e : Emission T) → IsComputed c e → IsHandedOn c e d → are_due d.dataflow site.node d.in_flight ≡ true
-  both_due c d e x y = subst (λ (z : Place). are_due d.dataflow z.node d.in_flight ≡ true) x.2 (after_both c d e x y (λ z. are_due z.dataflow x.0.place.node z.in_flight ≡ true) (done_due below o minimum b q idle x.0 (own_worker c e x) (own_due c e x) (own_waits c e x)))
+  pub both_due : (c d : Shown T) (e : Emission T) → IsComputed c e → IsHandedOn c e d → AreDue d.dataflow site.node d.stations
+  both_due c d e x y = subst (λ (z : Site). AreDue d.dataflow z.node d.stations) x.2 (after_both c d e x y (λ z. AreDue z.dataflow x.0.place.node z.stations) (done_due below o minimum b board idle x.0 (own_worker c e x) (own_due c e x) (own_waits c e x)))
 
-  pub both_fewer : (c d : Shown T) (e : Emission T) → IsComputed c e → IsHandedOn c e d → suc (waits_at site.node d.in_flight) ≡ waits_at site.node b.in_flight
-  both_fewer c d e x y = subst (λ (z : Place). suc (waits_at z.node d.in_flight) ≡ waits_at z.node b.in_flight) x.2 (after_both c d e x y (λ z. suc (waits_at x.0.place.node z.in_flight) ≡ waits_at x.0.place.node b.in_flight) (done_fewer below o minimum b q idle x.0 (own_worker c e x) (own_due c e x) (own_waits c e x)))
+  pub both_fewer : (c d : Shown T) (e : Emission T) → IsComputed c e → IsHandedOn c e d → suc (waits_at site.node d.stations) ≡ waits_at site.node b.stations
+  both_fewer c d e x y = subst (λ (z : Site). suc (waits_at z.node d.stations) ≡ waits_at z.node b.stations) x.2 (after_both c d e x y (λ z. suc (waits_at x.0.place.node z.stations) ≡ waits_at x.0.place.node b.stations) (done_fewer below o minimum b board idle x.0 (own_worker c e x) (own_due c e x) (own_waits c e x)))

@@ -1,7 +1,7 @@
 -- A board that stands for a session, after the events of clients.
 use Rattle.std.proofs.Common.{◌≡◌, ℕ, ◌<◌, Bool, not, eqb, ltb-true, nat_lt, nat_le, unsigned_abs, List, [], ◌∷◌, length, get_or, Option, Some, None, Result, Ok, Err, IsTrue, refl, sym, ◌∙◌, ap, subst, inl, inr, ◌⊎◌}
 use Rattle.std.specs.Prelude.{IfErr, OnOk, OnErr}
-use Rattle.std.specs.List.{All}
+use Rattle.std.specs.List.{All, list_all}
 use Rattle.std.proofs.lemmas.Bool.{and_parts}
 use Rattle.std.proofs.lemmas.Option.{unwrap_or-slice_get}
 use Rattle.plan.specs.Operators.{is_linear}
@@ -18,20 +18,22 @@ use Rattle.plan.specs.declared.node.Node.{Node}
 use Rattle.machine.specs.declared.event.Event.{Event}
 use Rattle.machine.specs.declared.event.Event.TheVariants.{Feed, Advance, Look}
 use Rattle.machine.specs.declared.event.Fed.{Fed}
-use Rattle.machine.specs.Dataflows.{Dataflow, IsDataflow}
+use Rattle.machine.specs.Dataflows.{Dataflow}
 use Rattle.machine.specs.Histories.{IsInput, world}
 use Rattle.machine.specs.Worlds.{fed_to}
 use Rattle.machine.specs.Inputs.{front_at}
 use Rattle.machine.proofs.OpenLemmas.{open_set}
 use Rattle.std.proofs.lemmas.List.{length-set}
 use Rattle.machine.specs.Boards as boards
-use Rattle.machine.specs.Boards.{Shown, Stands, looked, fed, advanced}
+use Rattle.machine.specs.Boards.{Shown, IsBoard, Stands, looked, fed, advanced}
 use Rattle.grammar.specs.Commands.{is_input_of}
 use Rattle.oracle.specs.Entries.{IsRefusal}
 use Rattle.script.specs.Engines.{IsAnswer}
 use Rattle.script.specs.Sessions.{Session, with_change, with_frontier, change_refusal, frontier_refusal}
 use Rattle.script.specs.Standing.{StandsAs, IsReadyUnless}
-use Rattle.script.proofs.FedLemmas.{fed_due}
+use Rattle.script.specs.Relays.{is_due}
+use Rattle.machine.proofs.BoardLemmas.{first_lot, first_queue}
+use Rattle.script.proofs.FedLemmas.{fed_due, fed_held}
 
 -- an answer, from what is known where it is accepted and where it is refused
 pub answered : (o : Option Refusal) (A S : Type 0) (r : Result (Unit {0}) Refusal) → OnOk r A → OnOk r (o ≡ None) → IfErr r (IsRefusalBy o) → OnErr r S → IsAnswer ⊥ o (λ _. A) S r
@@ -117,9 +119,9 @@ input_there p input h = let parts = and_parts _ _ h in (ltb-true _ _ parts.0, pa
 -- ---- the worker
 
 module _ {T : Type 0} (below : T → T → Bool) where
-  pub ready_fed : (b : Shown T) (client : ℕ) (f : Fed T) (o : Option Refusal) → IsDataflow b.dataflow → IsInput b.dataflow f.input → boards.feed_refusal below b f ≡ None → IsReadyUnless o b → IsReadyUnless o (fed client f b)
+  pub ready_fed : (b : Shown T) (client : ℕ) (f : Fed T) (o : Option Refusal) → IsBoard b → IsInput b.dataflow f.input → boards.feed_refusal below b f ≡ None → IsReadyUnless o b → IsReadyUnless o (fed client f b)
   ready_fed b client f None p input accepted i = (
-    record { alone = i.0.alone; linear = i.0.linear; held = i.0.held; hand = i.0.hand },
+    record { alone = i.0.alone; linear = i.0.linear; held = λ n k. fed_held below b client f accepted input p i.0.alone n k ∙ i.0.held n k; hand = i.0.hand },
     fed_due below b client f accepted input p i.0.alone i.1,
   )
   ready_fed b client f (Some r) p input accepted i = i
@@ -133,7 +135,7 @@ module _ {T : Type 0} (below : T → T → Bool) where
   ready_advanced b client i ts (Some r) ready = ready
 
   -- so it is after whatever came of a change
-  pub ready_after_change : (b c : Shown T) (client : ℕ) (f : Fed T) (o : Option Refusal) (r : Result (Unit {0}) Refusal) → IsDataflow b.dataflow → IsInput b.dataflow f.input
+  pub ready_after_change : (b c : Shown T) (client : ℕ) (f : Fed T) (o : Option Refusal) (r : Result (Unit {0}) Refusal) → IsBoard b → IsInput b.dataflow f.input
       → OnOk r (c ≡ fed client f b) → OnOk r (boards.feed_refusal below b f ≡ None) → OnErr r (c ≡ looked client b) → IsReadyUnless o b → IsReadyUnless o c
   ready_after_change b c client f o (Ok x) p input done accepted looks ready = subst (IsReadyUnless o) (sym done) (ready_fed b client f o p input accepted ready)
   ready_after_change b c client f o (Err r) p input done accepted looks ready = subst (IsReadyUnless o) (sym looks) (ready_looked b client o ready)
@@ -143,14 +145,19 @@ module _ {T : Type 0} (below : T → T → Bool) where
   ready_after_frontier b c client i ts o (Ok x) done looks ready = subst (IsReadyUnless o) (sym done) (ready_advanced b client i ts o ready)
   ready_after_frontier b c client i ts o (Err r) done looks ready = subst (IsReadyUnless o) (sym looks) (ready_looked b client o ready)
 
+-- a change leaves the dataflow as it was
+pub dataflow_after_change : {T : Type 0} (b c : Shown T) (client : ℕ) (f : Fed T) (r : Result (Unit {0}) Refusal) → OnOk r (c ≡ fed client f b) → OnErr r (c ≡ looked client b) → b.dataflow ≡ c.dataflow
+dataflow_after_change {T} b c client f (Ok x) done looks = ap (λ (z : Shown T). z.dataflow) (sym done)
+dataflow_after_change {T} b c client f (Err r) done looks = ap (λ (z : Shown T). z.dataflow) (sym looks)
+
 -- on a board on which nothing has happened the one worker is idle
 pub ready_first : {T : Type 0} (minimum : T) (nodes : List Node) (b : Shown T) → b ≡ boards.first_board minimum (record { nodes = nodes; workers = 1 }) → All (λ node. IsTrue (is_linear node)) nodes → IsReadyUnless None b
 ready_first minimum nodes b e linear = subst (IsReadyUnless None) (sym e) (
   record {
     alone = refl;
     linear = λ n h. subst (λ (node : Node). IsTrue (is_linear node)) (sym (unwrap_or-slice_get nodes n (Input 0))) (linear n (Input 0) h);
-    held = refl;
+    held = λ n k. ap (λ lot. lot.held) (first_lot (length nodes) 1 n k);
     hand = refl;
   },
-  refl,
+  λ site. ap (list_all (is_due (record { nodes = nodes; workers = 1 }) 0)) (first_queue (length nodes) 1 site),
 )

@@ -16,6 +16,6 @@ pub record IsTextBefore (t : Told) (s : Sitting) (lines : List CommandLine) (par
   pub large : IsLarge t.plan (after_lines t.plan s before)
   pub written : part ≡ lines_text t s before
 
--- so it is of a script's lines, from the first one on
+-- the same for all of a script's lines, from the first one on
 abbrev pub IsTextBeforeOverflow : Told → List ℕ → Type 0
 IsTextBeforeOverflow t part = IsTextBefore t (first_sitting t.plan) t.commands part

@@ -1,13 +1,13 @@
 -- One worker that carries bundles through a plan of linear nodes: what it finds on the board, and what it leaves.
-use Rattle.std.specs.Prelude.{◌≡◌, ℕ, ◌<◌, Bool, ◌&&◌, eqb, nat_le, nat_lt, not, List, [], ◌++◌, length, None, get_or, unwrap_or, unsigned_abs, IsTrue}
-use Rattle.std.specs.List.{filter, list_all}
+use Rattle.std.specs.Prelude.{◌≡◌, ℕ, ◌<◌, ◌+◌, Bool, ◌&&◌, eqb, nat_le, nat_lt, not, List, [], ◌++◌, length, None, get_or, unwrap_or, unsigned_abs, IsTrue}
+use Rattle.std.specs.List.{list_all}
 use Rattle.lattice.specs.Frontiers.{all_beyond}
 use Rattle.plan.specs.Operators.{is_linear}
 use Rattle.plan.specs.Widths.{width_of}
 use Rattle.linear.specs.Ports.{is_port}
 use Rattle.linear.specs.Widths.{are_wide}
 use Rattle.update.specs.declared.change.Update.{Update}
-use Rattle.machine.specs.declared.event.Place.{Place}
+use Rattle.machine.specs.declared.event.Site.{Site}
 use Rattle.machine.specs.declared.event.Bundle.{Bundle}
 use Rattle.machine.specs.declared.event.Emission.{Emission}
 use Rattle.machine.specs.declared.event.Event.{Event}
@@ -16,10 +16,11 @@ use Rattle.machine.specs.Worlds.{times, updates_at}
 use Rattle.machine.specs.Shares.{share}
 use Rattle.machine.specs.Histories.{world}
 use Rattle.machine.specs.Actors.{IsSameOfClients}
+use Rattle.machine.specs.Loads.{Lot, lot_of, queue_of}
 use Rattle.machine.specs.Boards.{Shown, Stands}
 
 -- the width of the rows that come to a place: that of the node that is read there, and at an input its own
-abbrev pub width_at : Dataflow → Place → ℕ
+abbrev pub width_at : Dataflow → Site → ℕ
 width_at p site = width_of p.nodes (unwrap_or (source_of p site.node site.port) site.node)
 
 module _ {T : Type 0} where
@@ -33,25 +34,30 @@ module _ {T : Type 0} where
   is_due p n b = (nat_le n b.place.node && nat_lt b.place.node (length p.nodes))
       && ((is_port (node_of p b.place.node) b.place.port && eqb b.place.worker 0) && (are_wide (width_at p b.place) b.updates && are_small b.updates))
 
-  abbrev pub are_due : Dataflow → ℕ → List (Bundle T) → Bool
-  are_due p n bundles = list_all (is_due p n) bundles
+  -- so is whatever waits anywhere
+  abbrev pub AreDue : Dataflow → ℕ → List (List (Lot T)) → Type 0
+  AreDue p n stations = (site : Site) → IsTrue (list_all (is_due p n) (queue_of stations site))
 
-  -- how many of the bundles wait at a node
-  abbrev pub waits_at : ℕ → List (Bundle T) → ℕ
-  waits_at n bundles = length (filter (λ b. eqb b.place.node n) bundles)
+  -- how many bundles wait at a node for the first worker
+  abbrev pub waits_at : ℕ → List (List (Lot T)) → ℕ
+  waits_at n stations = length (lot_of stations n 0).left + length (lot_of stations n 0).right
+
+  -- nothing waits anywhere
+  abbrev pub NothingWaits : List (List (Lot T)) → Type 0
+  NothingWaits stations = (site : Site) → queue_of stations site ≡ []
 
   -- one worker, linear nodes alone, and the worker holds nothing and has nothing in hand
   pub record IsIdle (b : Shown T) : Type 0 where
     pub alone : b.dataflow.workers ≡ 1
     pub linear : (n : ℕ) → n < length b.dataflow.nodes → IsTrue (is_linear (node_of b.dataflow n))
-    pub held : b.held ≡ []
+    pub held : (n k : ℕ) → (lot_of b.stations n k).held ≡ []
     pub hand : get_or b.hand 0 None ≡ None
 
 module _ {T : Type 0} (below : T → T → Bool) where
   -- what was given is sent whole, in bundles none of which is empty, and with stamps that are beyond whatever is held, where
   -- what was given is
   pub record IsCut (p : Dataflow) (g : Emission T) (sent : List (Bundle T)) : Type 0 where
-    pub whole : (site : Place) → updates_at site sent ≡ share p site g
+    pub whole : (site : Site) → updates_at site sent ≡ share p site g
     pub filled : IsTrue (list_all (λ b. not (eqb (length b.updates) 0)) sent)
     pub stamped : (held : List T) → IsTrue (all_beyond below held (times g.updates))
         → IsTrue (list_all (λ b. all_beyond below held b.stamp && all_beyond below b.stamp (times b.updates)) sent)
@@ -61,6 +67,6 @@ module _ {T : Type 0} (below : T → T → Bool) (minimum : T) where
   abbrev pub GoesOnFrom : List (Event T) → Shown T → Shown T → Type 0
   GoesOnFrom h b c = (later : List (Event T)) × Stands below minimum c (later ++ h) × IsSameOfClients (world below minimum b.dataflow h) (world below minimum c.dataflow (later ++ h))
 
-  -- so it is of whatever history the one stands for
+  -- the same for each history that the one may stand for
   abbrev pub GoesOn : Shown T → Shown T → Type 0
   GoesOn b c = (h : List (Event T)) → Stands below minimum b h → GoesOnFrom h b c

@@ -1,5 +1,5 @@
 -- Which board stands for which session.
-use Rattle.std.specs.Prelude.{◌≡◌, ℕ, Bool, List, [], ◌∷◌, length, Option, Some, None, IsTrue}
+use Rattle.std.specs.Prelude.{◌≡◌, ℕ, Bool, List, [], ◌∷◌, length, Option, Some, None}
 use Rattle.update.specs.declared.refusal.Refusal.{Refusal}
 use Rattle.update.specs.declared.refusal.Refusal.TheVariants.{OutOfMemory}
 use Rattle.machine.specs.declared.event.Event.{Event}
@@ -7,13 +7,13 @@ use Rattle.machine.specs.Histories.{world}
 use Rattle.machine.specs.Inputs.{front_at}
 use Rattle.machine.specs.Worlds.{open_at}
 use Rattle.machine.specs.Boards.{Shown, Stands}
-use Rattle.script.specs.Relays.{IsIdle, are_due}
+use Rattle.script.specs.Relays.{IsIdle, AreDue}
 use Rattle.script.specs.Sessions.{Session}
 
 module _ {T : Type 0} where
   -- there is one worker, and it may carry on what waits, unless it met what ends a run
   abbrev pub IsReadyUnless : Option Refusal → Shown T → Type 0
-  IsReadyUnless None b = IsIdle b × IsTrue (are_due b.dataflow 0 b.in_flight)
+  IsReadyUnless None b = IsIdle b × AreDue b.dataflow 0 b.stations
   IsReadyUnless (Some refusal) b = (refusal ≡ OutOfMemory) × (b.dataflow.workers ≡ 1)
 
 module _ {T : Type 0} (below : T → T → Bool) (minimum : T) where

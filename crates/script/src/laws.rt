@@ -6,6 +6,7 @@ ghost use Rattle.update.specs.Bags.{Entry, Alike, IsBag};
 ghost use Rattle.update.specs.declared.change.Update.{Update};
 ghost use Rattle.plan.specs.Changes.{AreDifferences};
 ghost use Rattle.plan.specs.Rules.{IsPlan};
+ghost use Rattle.plan.specs.Weights.{IsWeight};
 ghost use Rattle.plan.specs.declared.node.Node.{Node};
 ghost use Rattle.machine.specs.Worlds.{fed_to};
 ghost use Rattle.script.specs.Bags.{bag_of};
@@ -33,4 +34,11 @@ pub fn the_changes_of_a_view<T: Lattice>()
 pub fn the_frontier_of_a_view<T: Lattice>()
     ensures elements { (p : List Node) (s : Session T) (view : ℕ) → SameElements (frontier_at T.below p s T.cmp view) (view_frontier T.below p s view) }
     ensures ascending { (p : List Node) (s : Session T) (view : ℕ) → IsStrictlySortedBy T.cmp (frontier_at T.below p s T.cmp view) }
+{}
+
+/// Every node of a plan has a weight, whatever changes its inputs were fed: the weight that the other laws speak of is
+/// there, and by `plan::weights_are_determined` there is one only.
+pub fn weights_there_are<T: Lattice>()
+    ensures { (p : List Node) → IsPlan p → (changes : ℕ → List (Update T)) → (n : ℕ)
+        → (weight : ℕ) × IsWeight T.below T.cmp p changes n weight }
 {}

@@ -29,7 +29,9 @@ mod running;
 mod solo;
 
 pub use fault::RunFault;
-pub use laws::{the_bag_of_entries, the_changes_of_a_view, the_frontier_of_a_view};
+pub use laws::{
+    the_bag_of_entries, the_changes_of_a_view, the_frontier_of_a_view, weights_there_are,
+};
 pub use memory::MemoryOut;
 pub use outputs::{Out, OutFault, put_all};
 pub use plain::plain_script;

@@ -1,4 +1,4 @@
-//! An output that keeps what it took: for tests, and for whoever wants a run's text as bytes.
+//! An output that keeps what it took: for tests, and for a caller that wants a run's text as bytes.
 ghost use Rattle.std.specs.Prelude.{◌≡◌, ◌++◌, [], OnErr, OnOk};
 
 use crate::outputs::{Out, OutFault};

@@ -11,14 +11,14 @@ ghost use Rattle.linear.specs.Applied.{applied};
 ghost use Rattle.machine.specs.declared.event.Bundle.{Bundle};
 ghost use Rattle.machine.specs.declared.event.Event.{Event};
 ghost use Rattle.machine.specs.Dataflows.{node_of};
-ghost use Rattle.machine.specs.Worlds.{queue};
+ghost use Rattle.machine.specs.Loads.{queue_of};
 ghost use Rattle.machine.specs.Histories.{world, IsGive};
 ghost use Rattle.machine.specs.Readings.{IsQuiet};
 ghost use Rattle.machine.specs.Boards.{Stands, taken, given};
-ghost use Rattle.script.specs.Relays.{are_due, waits_at, IsIdle, IsCut, GoesOnFrom, GoesOn};
+ghost use Rattle.script.specs.Relays.{AreDue, NothingWaits, waits_at, IsIdle, IsCut, GoesOnFrom, GoesOn};
 
 use lattice::Minimum;
-use machine::{Board, Bundle, Emission, Place};
+use machine::{Board, Bundle, Emission, Routing, Site};
 use plan::NodeId;
 use std::alloc::Global;
 use update::Refusal;
@@ -30,10 +30,15 @@ use update::Refusal;
 /// have a piece in hand.
 ///
 /// Cost: linear in the nodes, and for each bundle what taking, applying, cutting and giving it cost.
-pub(crate) fn relay<T: Minimum>(alloc: Global, board: &mut Board<T>) -> Result<(), Refusal>
+pub(crate) fn relay<T: Minimum>(
+    alloc: Global,
+    routing: &Routing,
+    board: &mut Board<T>,
+) -> Result<(), Refusal>
+    requires routing { routing.now ≡ board.old.dataflow }
     requires idle { IsIdle board.old }
-    requires due { IsTrue (are_due board.old.dataflow 0 board.old.in_flight) }
-    ensures done { OnOk result (board.new.in_flight ≡ []) }
+    requires due { AreDue board.old.dataflow 0 board.old.stations }
+    ensures done { OnOk result (NothingWaits board.new.stations) }
     ensures quiet { OnOk result ((h : List (Event T)) → Stands T.below T.least board.new h → IsQuiet T.below board.new.dataflow (world T.below T.least board.new.dataflow h)) }
     ensures idle { OnOk result (IsIdle board.new) }
     ensures dataflow { board.new.dataflow ≡ board.old.dataflow }
@@ -41,35 +46,47 @@ pub(crate) fn relay<T: Minimum>(alloc: Global, board: &mut Board<T>) -> Result<(
     ensures refused { IfErr result (λ refusal. refusal ≡ OutOfMemory) }
 {
     for n in 0..board.plan().len() {
-        relay_node(alloc, board, NodeId::new(n))?;
+        relay_node(alloc, routing, board, NodeId::new(n))?;
     }
     Ok(())
 }
 
 // Relays what waits at a node. What is sent meanwhile waits at later ones.
-fn relay_node<T: Minimum>(alloc: Global, board: &mut Board<T>, node: NodeId) -> Result<(), Refusal>
+fn relay_node<T: Minimum>(
+    alloc: Global,
+    routing: &Routing,
+    board: &mut Board<T>,
+    node: NodeId,
+) -> Result<(), Refusal>
+    requires routing { routing.now ≡ board.old.dataflow }
     requires idle { IsIdle board.old }
-    requires due { IsTrue (are_due board.old.dataflow node board.old.in_flight) }
-    ensures due { OnOk result (IsTrue (are_due board.new.dataflow (suc node) board.new.in_flight)) }
+    requires due { AreDue board.old.dataflow node board.old.stations }
+    ensures due { OnOk result (AreDue board.new.dataflow (suc node) board.new.stations) }
     ensures idle { OnOk result (IsIdle board.new) }
     ensures dataflow { board.new.dataflow ≡ board.old.dataflow }
     ensures goes_on { GoesOn T.below T.least board.old board.new }
     ensures refused { IfErr result (λ refusal. refusal ≡ OutOfMemory) }
 {
     while let Some(place) = board.waiting_at(node, 0) {
-        relay_one(alloc, board, place)?;
+        relay_one(alloc, routing, board, place)?;
     }
     Ok(())
 }
 
 // Relays the first bundle of a place: takes it, applies the node, and gives what comes out.
-fn relay_one<T: Minimum>(alloc: Global, board: &mut Board<T>, place: Place) -> Result<(), Refusal>
+fn relay_one<T: Minimum>(
+    alloc: Global,
+    routing: &Routing,
+    board: &mut Board<T>,
+    place: Site,
+) -> Result<(), Refusal>
+    requires routing { routing.now ≡ board.old.dataflow }
     requires idle { IsIdle board.old }
-    requires due { IsTrue (are_due board.old.dataflow place.node board.old.in_flight) }
+    requires due { AreDue board.old.dataflow place.node board.old.stations }
     requires worker { place.worker ≡ 0 }
-    requires waits { 0 < length (queue place board.old.in_flight) }
-    ensures due { OnOk result (IsTrue (are_due board.new.dataflow place.node board.new.in_flight)) }
-    ensures fewer { OnOk result (suc (waits_at place.node board.new.in_flight) ≡ waits_at place.node board.old.in_flight) }
+    requires waits { 0 < length (queue_of board.old.stations place) }
+    ensures due { OnOk result (AreDue board.new.dataflow place.node board.new.stations) }
+    ensures fewer { OnOk result (suc (waits_at place.node board.new.stations) ≡ waits_at place.node board.old.stations) }
     ensures idle { OnOk result (IsIdle board.new) }
     ensures dataflow { board.new.dataflow ≡ board.old.dataflow }
     ensures goes_on { GoesOn T.below T.least board.old board.new }
@@ -77,17 +94,17 @@ fn relay_one<T: Minimum>(alloc: Global, board: &mut Board<T>, place: Place) -> R
 {
     let _workers = board.workers();
     let emission = compute(board, place)?;
-    hand_on(alloc, board, emission)?;
+    hand_on(alloc, routing, board, emission)?;
     Ok(())
 }
 
 // Takes the first bundle of a place, and applies the node to it.
-fn compute<T: Minimum>(board: &mut Board<T>, place: Place) -> Result<Emission<T>, Refusal>
+fn compute<T: Minimum>(board: &mut Board<T>, place: Site) -> Result<Emission<T>, Refusal>
     requires idle { IsIdle board.old }
-    requires due { IsTrue (are_due board.old.dataflow place.node board.old.in_flight) }
+    requires due { AreDue board.old.dataflow place.node board.old.stations }
     requires worker { place.worker ≡ 0 }
-    requires waits { 0 < length (queue place board.old.in_flight) }
-    ensures taken { IfOk result (λ emission. (bundle : Bundle T) × (slice_get (queue place board.old.in_flight) 0 ≡ Some bundle) × (bundle.place ≡ place) × (board.new ≡ taken 0 bundle board.old)
+    requires waits { 0 < length (queue_of board.old.stations place) }
+    ensures taken { IfOk result (λ emission. (bundle : Bundle T) × (slice_get (queue_of board.old.stations place) 0 ≡ Some bundle) × (bundle.place ≡ place) × (board.new ≡ taken 0 bundle board.old)
         × (emission ≡ record { node = bundle.place.node; worker = bundle.place.worker; updates = applied (node_of board.old.dataflow bundle.place.node) bundle.updates })) }
     ensures dataflow { board.new.dataflow ≡ board.old.dataflow }
     ensures stands { (h : List (Event T)) → Stands T.below T.least board.old h → OnOk result (Stands T.below T.least board.new (board.new.last ∷ h)) }
@@ -109,9 +126,11 @@ fn compute<T: Minimum>(board: &mut Board<T>, place: Place) -> Result<Emission<T>
 // Cuts what was computed, and gives it. The worker then holds nothing there.
 fn hand_on<T: Minimum>(
     alloc: Global,
+    routing: &Routing,
     board: &mut Board<T>,
     emission: Emission<T>,
 ) -> Result<(), Refusal>
+    requires routing { routing.now ≡ board.old.dataflow }
     requires worker { emission.worker < board.old.dataflow.workers }
     requires within { emission.node < length board.old.dataflow.nodes }
     ensures given { OnOk result ((sent : List (Bundle T)) × IsCut T.below board.old.dataflow emission sent × (board.new ≡ given emission [] sent board.old)) }
@@ -121,7 +140,7 @@ fn hand_on<T: Minimum>(
     ensures dataflow { board.new.dataflow ≡ board.old.dataflow }
     ensures refused { IfErr result (λ refusal. refusal ≡ OutOfMemory) }
 {
-    let sent = board.cut(&emission)?;
+    let sent = routing.cut(alloc, &emission)?;
     match board.give(emission, Vec::new(alloc).into(), sent) {
         Ok(()) => Ok(()),
         Err(_ungiven) => Err(Refusal::OutOfMemory),

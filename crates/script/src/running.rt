@@ -81,7 +81,9 @@ pub(crate) fn run<E: Engine, W: Out>(
 ///
 /// Cost: for each line what its event costs on the board, and for a change that of carrying it along every path of the plan:
 /// a node that another reads at both of its ports is passed on twice, and so a tower of n such nodes passes it on 2 to the n
-/// times. A read sorts what its view captured up to its time, and a question for changes all that it captured.
+/// times. A read costs what its view's rows are and what was captured since the last read, where that was at a time at or
+/// before its own, and else a sort of what the view captured up to its time. A question for changes sorts all that the
+/// view captured at times that are passed.
 pub fn run_script<W: Out>(
     alloc: Global,
     script: &Script,

@@ -7,7 +7,7 @@ ghost use Rattle.plan.specs.Operators.{is_linear};
 ghost use Rattle.grammar.specs.Commands.{is_input_of, is_view_of};
 ghost use Rattle.lattice.specs.Pairs.{make_pair};
 ghost use Rattle.script.specs.Engines.{IsAnswer};
-ghost use Rattle.script.specs.Relays.{IsIdle};
+ghost use Rattle.script.specs.Relays.{IsIdle, NothingWaits};
 ghost use Rattle.script.specs.Sessions.{with_change, with_frontier, change_refusal, frontier_refusal, read_refusal, rows_at, changes_at, frontier_at};
 ghost use Rattle.script.specs.Standing.{StandsAs};
 ghost use Rattle.script.specs.Text.{Sitting, at_or_below, in_print, join_of, first_sitting};
@@ -17,14 +17,14 @@ use crate::engine::Engine;
 use crate::relay::relay;
 use antichain::Antichain;
 use lattice::Bitime;
-use machine::{Board, Times, Updates};
+use machine::{Board, Routing, Times, Updates};
 use plan::{NodeId, Plan};
 use std::alloc::Global;
 use std::marker::Model;
 use update::{Bag, Refusal, Update};
 
-// With so many changes waiting the worker carries on before there is one more: what it looks through for each of them
-// stays short, however many there are.
+// With so many changes waiting the worker carries on before there is one more, so that what waits takes little memory,
+// however many changes there are.
 const BACKLOG: usize = 64;
 
 // The number of the only client, beside worker 0: that of the events which commands are.
@@ -34,6 +34,8 @@ const CLIENT: usize = 1;
 #[derive(Drop)]
 pub(crate) struct Solo {
     board: Board<Bitime>,
+    // Where what the worker gives goes.
+    routing: Routing,
     // Want of memory, if the worker met it: then it may have a piece in hand.
     ended: Option<Refusal>,
     // How many changes may be waiting.
@@ -41,7 +43,7 @@ pub(crate) struct Solo {
 }
 
 impl Model for Solo {
-    ghost use Rattle.std.specs.Prelude.{ℕ};
+    ghost use Rattle.std.specs.Prelude.{◌≡◌, ℕ};
     ghost use Rattle.lattice.specs.declared.product.Pair.{Pair};
     ghost use Rattle.machine.specs.Boards.{Shown};
     ghost use Rattle.script.specs.Standing.{IsReadyUnless};
@@ -50,7 +52,7 @@ impl Model for Solo {
 
     ghost view = { λ solo. solo.board };
 
-    ghost invariant = { λ solo. IsReadyUnless solo.ended solo.board };
+    ghost invariant = { λ solo. IsReadyUnless solo.ended solo.board × (solo.routing ≡ solo.board.dataflow) };
 }
 
 impl Solo {
@@ -61,10 +63,12 @@ impl Solo {
         ensures stands { IfOk result (λ solo. StandsAs at_or_below (make_pair 0 0) solo (first_sitting plan.now)) }
         ensures refused { IfErr result (λ refusal. refusal ≡ OutOfMemory) }
     {
+        let routing = Routing::of(alloc, plan, 1)?;
         let plan = plan.clone()?;
         let board = Board::open(alloc, plan, 1)?;
         Ok(Solo {
             board,
+            routing,
             ended: None,
             waiting: 0,
         })
@@ -94,14 +98,14 @@ impl Solo {
     // The worker carries on what waits, until nothing does.
     fn carry_on(&mut self, alloc: Global) -> Result<(), Refusal>
         ensures plan { self.new.dataflow ≡ self.old.dataflow }
-        ensures done { OnOk result (IsIdle self.new × (self.new.in_flight ≡ [])) }
+        ensures done { OnOk result (IsIdle self.new × NothingWaits self.new.stations) }
         ensures stands { (s : Sitting) → StandsAs at_or_below (make_pair 0 0) self.old s → StandsAs at_or_below (make_pair 0 0) self.new s }
         ensures refused { IfErr result (λ refusal. refusal ≡ OutOfMemory) }
     {
         if let Some(refusal) = self.ended {
             return Err(refusal);
         }
-        match relay(alloc, &mut self.board) {
+        match relay(alloc, &self.routing, &mut self.board) {
             Ok(()) => Ok(()),
             Err(refusal) => {
                 self.ended = Some(refusal);
@@ -128,7 +132,7 @@ impl Solo {
     fn rows(&mut self, view: NodeId, time: Bitime) -> Result<Bag, Refusal>
         requires view { IsTrue (is_view_of self.old.dataflow.nodes view) }
         requires idle { IsIdle self.old }
-        requires done { self.old.in_flight ≡ [] }
+        requires done { NothingWaits self.old.stations }
         ensures kept { self.new ≡ self.old }
         ensures answered { (s : Sitting) → StandsAs at_or_below (make_pair 0 0) self.old s
             → IsAnswer (IsLarge self.old.dataflow.nodes s) (read_refusal at_or_below self.old.dataflow.nodes s view time) (λ bag. (bag ≡ rows_at at_or_below self.old.dataflow.nodes s view time) × StandsAs at_or_below (make_pair 0 0) self.old s) (StandsAs at_or_below (make_pair 0 0) self.old s) result }
@@ -141,7 +145,7 @@ impl Solo {
     fn passed_changes(&mut self, view: NodeId) -> Result<Updates<Bitime>, Refusal>
         requires view { IsTrue (is_view_of self.old.dataflow.nodes view) }
         requires idle { IsIdle self.old }
-        requires done { self.old.in_flight ≡ [] }
+        requires done { NothingWaits self.old.stations }
         ensures kept { self.new ≡ self.old }
         ensures answered { (s : Sitting) → StandsAs at_or_below (make_pair 0 0) self.old s
             → IsAnswer (IsLarge self.old.dataflow.nodes s) None (λ changes. (changes ≡ changes_at at_or_below self.old.dataflow.nodes s in_print join_of view) × StandsAs at_or_below (make_pair 0 0) self.old s) (StandsAs at_or_below (make_pair 0 0) self.old s) result }
@@ -157,7 +161,7 @@ impl Solo {
     fn view_frontier(&mut self, view: NodeId) -> Result<Antichain<Bitime>, Refusal>
         requires view { IsTrue (is_view_of self.old.dataflow.nodes view) }
         requires idle { IsIdle self.old }
-        requires done { self.old.in_flight ≡ [] }
+        requires done { NothingWaits self.old.stations }
         ensures kept { self.new ≡ self.old }
         ensures answered { (s : Sitting) → StandsAs at_or_below (make_pair 0 0) self.old s
             → IsAnswer ⊥ None (λ frontier. (frontier ≡ frontier_at at_or_below self.old.dataflow.nodes s in_print view) × StandsAs at_or_below (make_pair 0 0) self.old s) (StandsAs at_or_below (make_pair 0 0) self.old s) result }

@@ -1,7 +1,7 @@
-//! Boards: that their calls succeed where there is memory, and once there is.
-use crate::sketches::{at, built, input, view};
+//! Boards and routings: that their calls succeed where there is memory, and once there is.
+use crate::sketches::{arrange, at, built, input, list, view};
 use lattice::Bitime;
-use machine::{Board, Times};
+use machine::{Board, Bundles, Emission, Routing, Times};
 use plan::NodeId;
 use row::Row;
 use std::alloc::{AllocError, Global};
@@ -95,5 +95,29 @@ fn answers_take_memory(rt: HostRuntime) -> Result<(), Fail> {
         done => done?,
     };
     assert!(rt; answered && board.is_quiet());
+    Ok(())
+}
+
+// The rows 7 and 4, which a worker of two gave at an input, cut for the readers of the input: an arrange node, at which each
+// row has a worker of its own, and a view.
+fn cut(alloc: Global) -> Result<Bundles<Bitime>, Refusal> {
+    let plan = built(alloc, &[input(1), arrange(0, 1), view(0)])?;
+    let routing = Routing::of(alloc, &plan, 2)?;
+    let updates = list(alloc, &[((0, 0), &[7], 1), ((0, 1), &[4], 1)])?;
+    let emission = Emission {
+        node: NodeId::new(0),
+        worker: 0,
+        updates: updates.into(),
+    };
+    routing.cut(alloc, &emission)
+}
+
+#[test]
+fn cuts_take_memory(rt: HostRuntime) -> Result<(), Fail> {
+    let alloc = rt.alloc();
+    let _bundles = match cut(alloc) {
+        Err(Refusal::OutOfMemory) => cut(alloc)?,
+        done => done?,
+    };
     Ok(())
 }

@@ -1,9 +1,11 @@
-use Rattle.std.proofs.Common.{◌≡◌, ◌&&◌, drop}
+use Rattle.std.proofs.Common.{◌≡◌, ◌&&◌, false}
 use Rattle.std.specs.List.{list_any}
-use Rattle.plan.specs.Ancestors.{is_above}
+use Rattle.lattice.specs.Frontiers.{is_beyond}
+use Rattle.plan.specs.Ancestors.{is_above, numbers_below}
+use Rattle.machine.specs.Loads.{times_at}
+use Rattle.machine.specs.Stations.{lots}
 use Rattle.machine.proofs.fronts.are_held.Given as goal
 
-abbrev pub invariant-loop-hold : goal.invariant-loop-hold
-invariant-loop-hold g l =
-    let below = g.T.PartialOrder.below in
-    list_any (λ m. is_above l.plan m.node l.node && below m.time l.t) (drop l.hold-index l.held) ≡ list_any (λ m. is_above l.plan m.node l.node && below m.time l.t) l.held
+-- none of the nodes so far
+abbrev pub invariant-loop-n : goal.invariant-loop-n
+invariant-loop-n g l = list_any (λ i. is_above l.plan i l.node && is_beyond g.T.PartialOrder.below (times_at (lots l.stations) i) l.t) (numbers_below l.n) ≡ false

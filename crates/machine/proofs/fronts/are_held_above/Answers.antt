@@ -1,14 +1,19 @@
-use Rattle.std.proofs.Common.{◌&&◌, ◌∙◌, sym, not, eqb}
-use Rattle.std.proofs.lemmas.Bool.{and_from}
+use Rattle.std.proofs.Common.{◌&&◌, ap, sym, subst, ◌∙◌, ◌<◌, length, not, eqb}
+use Rattle.lattice.specs.Frontiers.{is_beyond}
 use Rattle.plan.specs.Ancestors.{is_above}
-use Rattle.machine.specs.declared.event.Held.{Held}
-use Rattle.machine.proofs.FoundLemmas.{found, both_pass}
+use Rattle.machine.specs.Loads.{times_at}
+use Rattle.machine.specs.Stations.{lots}
+use Rattle.machine.proofs.FoundLemmas.{both_pass}
+use Rattle.machine.proofs.OpenLemmas.{any_below}
 use Rattle.machine.proofs.fronts.are_held_above.Goals as goal
 
-pub returns-then-less_equal : goal.returns-then-less_equal
-returns-then-less_equal g c =
-    let i = c.loop-hold in
-    let x = c.hold-item.result in
+pub returns-then-holds : goal.returns-then-holds
+returns-then-holds g c =
     let below = g.T.PartialOrder.below in
-    found (λ (m : Held g.row.T.Denot). (is_above c.args.plan.now m.node c.args.node && not (eqb m.node c.args.node)) && below m.time c.args.t.now) c.args.held.now i.hold-index x c.loop-hold-test.true c.hold-item.is i.invariant
-    (and_from (is_above c.args.plan.now x.node c.args.node && not (eqb x.node c.args.node)) (below x.time c.args.t.now) (both_pass (is_above c.args.plan.now x.node c.args.node) (not (eqb x.node c.args.node)) c.is_above.result c.ne.result c.is_above.ensures c.if-is_above.true c.ne.ensures c.if-ne.true) (sym c.less_equal.ensures ∙ c.if-less_equal.true))
+    let p = c.args.plan.now in
+    let all = lots c.args.stations.now in
+    let n = c.loop-n.n in
+    sym
+    (any_below (λ i. (is_above p i c.args.node && not (eqb i c.args.node)) && is_beyond below (times_at all i) c.args.t.now) n (length p) (subst (λ k. n < k) c.len-n-end.ensures.len c.loop-n-test.true)
+    (both_pass (is_above p n c.args.node && not (eqb n c.args.node)) (is_beyond below (times_at all n) c.args.t.now) c.is_strictly_above.result c.holds.result (c.is_strictly_above.ensures ∙ ap (λ i. (is_above p i c.args.node && not (eqb i c.args.node))) c.new-above.ensures) c.if-is_strictly_above.true
+    (c.holds.ensures ∙ ap (λ i. is_beyond below (times_at all i) c.args.t.now) c.new-above.ensures) c.if-holds.true))

@@ -1,14 +1,19 @@
-use Rattle.std.proofs.Common.{◌&&◌, ◌∙◌, ap}
-use Rattle.plan.specs.Ancestors.{is_above}
-use Rattle.machine.specs.declared.event.Bundle.{Bundle}
+use Rattle.std.proofs.Common.{◌&&◌, ap, sym, subst, ◌∙◌, ◌<◌, length}
 use Rattle.lattice.specs.Frontiers.{is_beyond}
-use Rattle.machine.proofs.FoundLemmas.{found, both_pass}
+use Rattle.plan.specs.Ancestors.{is_above}
+use Rattle.machine.specs.Loads.{stamps_at}
+use Rattle.machine.specs.Stations.{lots}
+use Rattle.machine.proofs.FoundLemmas.{both_pass}
+use Rattle.machine.proofs.OpenLemmas.{any_below}
 use Rattle.machine.proofs.fronts.are_in_flight.Goals as goal
 
-pub returns-then-is_beyond : goal.returns-then-is_beyond
-returns-then-is_beyond g c =
-    let i = c.loop-bundle in
-    let x = c.bundle-item.result in
+pub returns-then-reaches : goal.returns-then-reaches
+returns-then-reaches g c =
     let below = g.T.PartialOrder.below in
-    found (λ (m : Bundle g.row.T.Denot). is_above c.args.plan.now m.place.node c.args.node && is_beyond below m.stamp c.args.t.now) c.args.bundles.now i.bundle-index x c.loop-bundle-test.true c.bundle-item.is i.invariant
-    (both_pass (is_above c.args.plan.now x.place.node c.args.node) (is_beyond below x.stamp c.args.t.now) c.is_above.result c.is_beyond.result c.is_above.ensures c.if-is_above.true (c.is_beyond.ensures ∙ ap (λ ts. is_beyond below ts c.args.t.now) c.as_slice.ensures) c.if-is_beyond.true)
+    let p = c.args.plan.now in
+    let all = lots c.args.stations.now in
+    let n = c.loop-n.n in
+    sym
+    (any_below (λ i. is_above p i c.args.node && is_beyond below (stamps_at all i) c.args.t.now) n (length p) (subst (λ k. n < k) c.len-n-end.ensures.len c.loop-n-test.true)
+    (both_pass (is_above p n c.args.node) (is_beyond below (stamps_at all n) c.args.t.now) c.is_above.result c.reaches.result (c.is_above.ensures ∙ ap (λ i. is_above p i c.args.node) c.new-above.ensures) c.if-is_above.true
+    (c.reaches.ensures ∙ ap (λ i. is_beyond below (stamps_at all i) c.args.t.now) c.new-above.ensures) c.if-reaches.true))

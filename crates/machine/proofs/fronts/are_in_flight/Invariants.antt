@@ -1,10 +1,11 @@
-use Rattle.std.proofs.Common.{◌≡◌, ◌&&◌, drop}
+use Rattle.std.proofs.Common.{◌≡◌, ◌&&◌, false}
 use Rattle.std.specs.List.{list_any}
 use Rattle.lattice.specs.Frontiers.{is_beyond}
-use Rattle.plan.specs.Ancestors.{is_above}
+use Rattle.plan.specs.Ancestors.{is_above, numbers_below}
+use Rattle.machine.specs.Loads.{stamps_at}
+use Rattle.machine.specs.Stations.{lots}
 use Rattle.machine.proofs.fronts.are_in_flight.Given as goal
 
-abbrev pub invariant-loop-bundle : goal.invariant-loop-bundle
-invariant-loop-bundle g l =
-    let below = g.T.PartialOrder.below in
-    list_any (λ b. is_above l.plan b.place.node l.node && is_beyond below b.stamp l.t) (drop l.bundle-index l.bundles) ≡ list_any (λ b. is_above l.plan b.place.node l.node && is_beyond below b.stamp l.t) l.bundles
+-- none of the nodes so far
+abbrev pub invariant-loop-n : goal.invariant-loop-n
+invariant-loop-n g l = list_any (λ i. is_above l.plan i l.node && is_beyond g.T.PartialOrder.below (stamps_at (lots l.stations) i) l.t) (numbers_below l.n) ≡ false

@@ -1,8 +1,10 @@
-use Rattle.std.proofs.Common.{◌≡◌, ◌++◌, take}
-use Rattle.plan.specs.Ancestors.{is_above}
-use Rattle.machine.specs.Outstanding.{held_where}
+use Rattle.std.proofs.Common.{◌≡◌, ◌++◌, cond, []}
+use Rattle.std.specs.List.{flat_map}
+use Rattle.plan.specs.Ancestors.{is_above, numbers_below}
+use Rattle.machine.specs.Loads.{times_at}
+use Rattle.machine.specs.Stations.{lots}
 use Rattle.machine.proofs.fronts.push_held.Given as goal
 
-abbrev pub invariant-loop-hold : goal.invariant-loop-hold
-invariant-loop-hold g l =
-    l.all.items ≡ l.fn.all.items ++ held_where (λ m. is_above l.plan m l.node) (take l.hold-index l.held)
+-- what the nodes so far have
+abbrev pub invariant-loop-n : goal.invariant-loop-n
+invariant-loop-n g l = l.all.items ≡ l.fn.all.items ++ flat_map (λ i. cond (is_above l.plan i l.node) (times_at (lots l.stations) i) []) (numbers_below l.n)

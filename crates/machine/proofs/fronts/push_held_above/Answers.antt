@@ -1,22 +1,25 @@
-use Rattle.std.proofs.Common.{not, eqb, ◌&&◌, ◌∷◌, [], ◌∙◌, sym}
+use Rattle.std.proofs.Common.{◌≡◌, ℕ, List, ◌++◌, cond, [], ap, sym, ◌∙◌, ◌&&◌, not, eqb}
 use Rattle.plan.specs.Ancestors.{is_above}
-use Rattle.machine.specs.declared.event.Held.{Held}
-use Rattle.machine.specs.Outstanding.{held_where}
-use Rattle.machine.proofs.PutLemmas.{put_if, put_else, put_all}
+use Rattle.std.proofs.lemmas.List.{append-nil}
+use Rattle.machine.specs.Loads.{times_at}
+use Rattle.machine.specs.Stations.{lots}
+use Rattle.machine.proofs.OpenLemmas.{give_next}
 use Rattle.machine.proofs.fronts.push_held_above.Goals as goal
-use Rattle.machine.proofs.fronts.push_held_above.Goals.{then-is_strictly_above+in_ok-push, else-is_strictly_above}
+use Rattle.machine.proofs.fronts.push_held_above.Goals.{then-is_strictly_above+in_ok-push_held, else-is_strictly_above}
 
-pub loop-hold-preserved : goal.loop-hold-preserved
-loop-hold-preserved g c =
-    let i = c.loop-hold in
-    let test = λ (m : Held g.row.T.Denot). is_above c.args.plan.now m.node c.args.node && not (eqb m.node c.args.node) in
-    let image = λ (m : Held g.row.T.Denot). m.time ∷ [] in
+pub loop-n-preserved : goal.loop-n-preserved
+loop-n-preserved g c =
+    let p = c.args.plan.now in
+    let stations = lots c.args.stations.now in
+    let old = c.args.all.now.items in
+    let n = c.loop-n.n in
+    let here : c.is_strictly_above.result ≡ (is_above p n c.args.node && not (eqb n c.args.node)) = c.is_strictly_above.ensures ∙ ap (λ i. (is_above p i c.args.node && not (eqb i c.args.node))) c.new-above.ensures in
+    let all : ℕ → List g.row.T.Denot = λ i. cond ((is_above p i c.args.node && not (eqb i c.args.node))) (times_at stations i) [] in
     elim c.if-is_strictly_above.branch [
-      | then-is_strictly_above+in_ok-push w ↦ put_if test image c.args.all.now.items i.all.items c.if-is_strictly_above.all.items c.args.held.now i.hold-index c.hold-item.result c.loop-hold-test.true c.hold-item.is w.push.new.self.items (sym c.is_strictly_above.ensures ∙ w.if-is_strictly_above.true) i.invariant w.in_ok-push.ensures.items (λ j. (w.all-is j).items)
-      | else-is_strictly_above w ↦ put_else test image c.args.all.now.items i.all.items c.if-is_strictly_above.all.items c.args.held.now i.hold-index c.hold-item.result c.loop-hold-test.true c.hold-item.is (sym c.is_strictly_above.ensures ∙ w.if-is_strictly_above.false) i.invariant (λ j. (w.all-is j).items)
+      | then-is_strictly_above+in_ok-push_held w ↦
+          give_next all old c.loop-n.all.items c.if-is_strictly_above.all.items n c.loop-n.invariant
+          ((λ j. (w.all-is j).items) ∙ (w.in_ok-push_held.ensures.more ∙ (ap (λ i. c.loop-n.all.items ++ times_at stations i) c.new-above.ensures ∙ ap (λ b. c.loop-n.all.items ++ cond b (times_at stations n) []) (sym w.if-is_strictly_above.true ∙ here))))
+      | else-is_strictly_above w ↦
+          give_next all old c.loop-n.all.items c.if-is_strictly_above.all.items n c.loop-n.invariant
+          ((λ j. (w.all-is j).items) ∙ (sym (append-nil c.loop-n.all.items) ∙ ap (λ b. c.loop-n.all.items ++ cond b (times_at stations n) []) (sym w.if-is_strictly_above.false ∙ here)))
     ]
-
-pub returns-clause-more : goal.returns-clause-more
-returns-clause-more g c =
-    let i = c.loop-hold in
-    put_all (held_where (λ m. is_above c.args.plan.now m c.args.node && not (eqb m c.args.node))) c.args.all.now.items i.all.items c.args.held.now i.hold-index c.loop-hold-test.false i.invariant

@@ -1,8 +1,10 @@
-use Rattle.std.proofs.Common.{◌≡◌, ◌++◌, take}
-use Rattle.plan.specs.Ancestors.{is_above}
-use Rattle.machine.specs.Outstanding.{stamps}
+use Rattle.std.proofs.Common.{◌≡◌, ◌++◌, cond, []}
+use Rattle.std.specs.List.{flat_map}
+use Rattle.plan.specs.Ancestors.{is_above, numbers_below}
+use Rattle.machine.specs.Loads.{stamps_at}
+use Rattle.machine.specs.Stations.{lots}
 use Rattle.machine.proofs.fronts.push_in_flight.Given as goal
 
-abbrev pub invariant-loop-bundle : goal.invariant-loop-bundle
-invariant-loop-bundle g l =
-    l.all.items ≡ l.fn.all.items ++ stamps (λ site. is_above l.plan site.node l.node) (take l.bundle-index l.bundles)
+-- what the nodes so far have
+abbrev pub invariant-loop-n : goal.invariant-loop-n
+invariant-loop-n g l = l.all.items ≡ l.fn.all.items ++ flat_map (λ i. cond (is_above l.plan i l.node) (stamps_at (lots l.stations) i) []) (numbers_below l.n)

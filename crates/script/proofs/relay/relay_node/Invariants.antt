@@ -1,16 +1,16 @@
-use Rattle.std.proofs.Common.{◌≡◌, IsTrue}
-use Rattle.script.specs.Relays.{are_due, waits_at, IsIdle, GoesOn}
+use Rattle.std.proofs.Common.{◌≡◌}
+use Rattle.script.specs.Relays.{AreDue, waits_at, IsIdle, GoesOn}
 use Rattle.script.proofs.relay.relay_node.Given as goal
 
 -- what waits is due, and the worker is between two pieces
 abbrev pub invariant-loop-place : goal.invariant-loop-place
 invariant-loop-place g l = record {
   idle : IsIdle l.board;
-  due : IsTrue (are_due l.board.dataflow l.node l.board.in_flight);
+  due : AreDue l.board.dataflow l.node l.board.stations;
   dataflow : l.board.dataflow ≡ l.fn.board.dataflow;
   goes_on : GoesOn g.T.PartialOrder.below g.T.Minimum.least l.fn.board l.board;
 }
 
 -- how many bundles wait at the node
 abbrev pub decreases-loop-place : goal.decreases-loop-place
-decreases-loop-place g l = waits_at l.node l.board.in_flight
+decreases-loop-place g l = waits_at l.node l.board.stations

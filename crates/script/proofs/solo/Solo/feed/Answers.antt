@@ -1,4 +1,4 @@
-use Rattle.std.proofs.Common.{ℕ, IsTrue, sym, subst}
+use Rattle.std.proofs.Common.{ℕ, IsTrue, sym, subst, ◌∙◌}
 use Rattle.lattice.specs.Pairs.{make_pair}
 use Rattle.lattice.specs.declared.product.Pair.{Pair}
 use Rattle.grammar.specs.Commands.{is_input_of}
@@ -8,7 +8,7 @@ use Rattle.script.specs.Engines.{IsAnswer}
 use Rattle.script.specs.Sessions.{with_change, change_refusal}
 use Rattle.script.specs.Standing.{StandsAs}
 use Rattle.script.specs.Text.{at_or_below}
-use Rattle.script.proofs.StandingLemmas.{change_answered, input_there, ready_after_change}
+use Rattle.script.proofs.StandingLemmas.{change_answered, input_there, ready_after_change, dataflow_after_change}
 use Rattle.script.proofs.solo.Solo.feed.Goals as goal
 
 pub returns-clause-answered : goal.returns-clause-answered
@@ -26,7 +26,9 @@ returns-clause-answered c s =
 pub invariant_of-self : goal.invariant_of-self
 invariant_of-self c =
     let f : Fed (Pair ℕ ℕ) = record { input = c.args.input; update = c.args.update } in
-    let there = subst (λ (b : Shown (Pair ℕ ℕ)). IsTrue (is_input_of b.dataflow.nodes c.args.input)) (sym c.self.view_is) c.requires in
-    ready_after_change at_or_below c.self.inside.board c.feed.new.self _ f c.self.inside.ended c.feed.result
-    c.workers-workers.ensures.dataflow (input_there c.self.inside.board.dataflow c.args.input there)
-    c.feed.ensures.fed c.feed.ensures.accepted c.feed.ensures.unchanged c.self.invariant
+    let there = subst (λ (b : Shown (Pair ℕ ℕ)). IsTrue (is_input_of b.dataflow.nodes c.args.input)) (sym c.self.view_is) c.requires in (
+      ready_after_change at_or_below c.self.inside.board c.feed.new.self _ f c.self.inside.ended c.feed.result
+          c.workers-workers.ensures.board (input_there c.self.inside.board.dataflow c.args.input there)
+          c.feed.ensures.fed c.feed.ensures.accepted c.feed.ensures.unchanged c.self.invariant.0,
+      c.self.invariant.1 ∙ dataflow_after_change c.self.inside.board c.feed.new.self _ f c.feed.result c.feed.ensures.fed c.feed.ensures.unchanged,
+    )

@@ -1,4 +1,4 @@
-use Rattle.std.proofs.Common.{◌≡◌, ℕ, ◌<◌, [], length, List, None, inr, refl, ◌∙◌, IsTrue, ltb-true, sym, subst}
+use Rattle.std.proofs.Common.{◌≡◌, ℕ, ◌<◌, length, List, None, inr, refl, ◌∙◌, IsTrue, ltb-true, sym, subst}
 use Rattle.std.specs.Prelude.{Option, Result}
 use Rattle.std.specs.List.{filter}
 use Rattle.std.proofs.lemmas.Bool.{and_parts}
@@ -14,7 +14,7 @@ use Rattle.plan.specs.Changes.{has_passed}
 use Rattle.machine.specs.Boards.{Shown}
 use Rattle.machine.specs.Reads.{front, captured_of, IsRefusalOr}
 use Rattle.script.specs.Engines.{IsAnswer}
-use Rattle.script.specs.Relays.{IsIdle}
+use Rattle.script.specs.Relays.{IsIdle, NothingWaits}
 use Rattle.script.specs.Sessions.{changes_at}
 use Rattle.script.specs.Standing.{StandsAs}
 use Rattle.script.specs.Text.{at_or_below, in_print, join_of}
@@ -31,7 +31,7 @@ returns-clause-answered c s =
     let there = subst (λ (d : Shown (Pair ℕ ℕ)). IsTrue (is_view_of d.dataflow.nodes v)) (sym c.self.view_is) c.requires.view in
     let within : v < length b.dataflow.nodes = ltb-true v (length b.dataflow.nodes) (and_parts _ _ there).0 in
     let idle = subst IsIdle (sym c.self.view_is) c.requires.idle in
-    let none = subst (λ (d : Shown (Pair ℕ ℕ)). d.in_flight ≡ []) (sym c.self.view_is) c.requires.done in
+    let none = subst (λ (d : Shown (Pair ℕ ℕ)). NothingWaits d.stations) (sym c.self.view_is) c.requires.done in
     let o = pair_order nat_order nat_order in
     let plan = c.workers-workers.ensures.board in
     let total = then_total (on_total (λ (t : Pair ℕ ℕ). t.first) nat_cmp_total) (on_total (λ (t : Pair ℕ ℕ). t.second) nat_cmp_total) in

@@ -1,4 +1,4 @@
-use Rattle.std.proofs.Common.{◌≡◌, ℕ, ◌<◌, [], length, IsTrue, ltb-true, sym, subst}
+use Rattle.std.proofs.Common.{◌≡◌, ℕ, ◌<◌, length, IsTrue, ltb-true, sym, subst}
 use Rattle.std.proofs.lemmas.Bool.{and_parts, and_from}
 use Rattle.lattice.specs.Naturals.{nat_order, nat_lowest}
 use Rattle.lattice.specs.Pairs.{make_pair, pair_order}
@@ -9,7 +9,7 @@ use Rattle.grammar.specs.Commands.{is_view_of}
 use Rattle.machine.specs.Boards.{Shown}
 use Rattle.machine.specs.Reads.{captured_of}
 use Rattle.script.specs.Engines.{IsAnswer}
-use Rattle.script.specs.Relays.{IsIdle}
+use Rattle.script.specs.Relays.{IsIdle, NothingWaits}
 use Rattle.script.specs.Sessions.{read_refusal, rows_at}
 use Rattle.script.specs.Standing.{StandsAs}
 use Rattle.script.specs.Text.{at_or_below, in_print}
@@ -25,7 +25,7 @@ returns-clause-answered c s =
     let there = subst (λ (d : Shown (Pair ℕ ℕ)). IsTrue (is_view_of d.dataflow.nodes v)) (sym c.self.view_is) c.requires.view in
     let within : v < length b.dataflow.nodes = ltb-true v (length b.dataflow.nodes) (and_parts _ _ there).0 in
     let idle = subst IsIdle (sym c.self.view_is) c.requires.idle in
-    let none = subst (λ (d : Shown (Pair ℕ ℕ)). d.in_flight ≡ []) (sym c.self.view_is) c.requires.done in
+    let none = subst (λ (d : Shown (Pair ℕ ℕ)). NothingWaits d.stations) (sym c.self.view_is) c.requires.done in
     subst
     (λ (d : Shown (Pair ℕ ℕ)). StandsAs at_or_below (make_pair 0 0) d s
     → IsAnswer (IsLarge d.dataflow.nodes s) (read_refusal at_or_below d.dataflow.nodes s v t) (λ bag. (bag ≡ rows_at at_or_below d.dataflow.nodes s v t) × StandsAs at_or_below (make_pair 0 0) d s) (StandsAs at_or_below (make_pair 0 0) d s) c.read.result)

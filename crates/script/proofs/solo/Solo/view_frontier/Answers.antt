@@ -1,4 +1,4 @@
-use Rattle.std.proofs.Common.{◌≡◌, ℕ, ◌<◌, [], length, List, None, inl, inr, refl, IsTrue, ltb-true, sym, subst}
+use Rattle.std.proofs.Common.{◌≡◌, ℕ, ◌<◌, length, List, None, inl, inr, refl, IsTrue, ltb-true, sym, subst}
 use Rattle.std.specs.Prelude.{Result}
 use Rattle.std.proofs.lemmas.Bool.{and_parts}
 use Rattle.std.proofs.lemmas.Cmp.{then_total, on_total, nat_cmp_total}
@@ -9,7 +9,7 @@ use Rattle.grammar.specs.Commands.{is_view_of}
 use Rattle.update.specs.declared.refusal.Refusal.{Refusal}
 use Rattle.machine.specs.Boards.{Shown}
 use Rattle.script.specs.Engines.{IsAnswer}
-use Rattle.script.specs.Relays.{IsIdle}
+use Rattle.script.specs.Relays.{IsIdle, NothingWaits}
 use Rattle.script.specs.Sessions.{frontier_at}
 use Rattle.script.specs.Standing.{StandsAs}
 use Rattle.script.specs.Text.{at_or_below, in_print}
@@ -24,7 +24,7 @@ returns-clause-answered c s =
     let there = subst (λ (d : Shown (Pair ℕ ℕ)). IsTrue (is_view_of d.dataflow.nodes v)) (sym c.self.view_is) c.requires.view in
     let within : v < length b.dataflow.nodes = ltb-true v (length b.dataflow.nodes) (and_parts _ _ there).0 in
     let idle = subst IsIdle (sym c.self.view_is) c.requires.idle in
-    let none = subst (λ (d : Shown (Pair ℕ ℕ)). d.in_flight ≡ []) (sym c.self.view_is) c.requires.done in
+    let none = subst (λ (d : Shown (Pair ℕ ℕ)). NothingWaits d.stations) (sym c.self.view_is) c.requires.done in
     let total = then_total (on_total (λ (t : Pair ℕ ℕ). t.first) nat_cmp_total) (on_total (λ (t : Pair ℕ ℕ). t.second) nat_cmp_total) in
     let Answered : Shown (Pair ℕ ℕ) → Result (List (Pair ℕ ℕ)) Refusal → Type 0 = λ d r. StandsAs at_or_below (make_pair 0 0) d s
     → IsAnswer ⊥ None (λ frontier. (frontier ≡ frontier_at at_or_below d.dataflow.nodes s in_print v) × StandsAs at_or_below (make_pair 0 0) d s) (StandsAs at_or_below (make_pair 0 0) d s) r in

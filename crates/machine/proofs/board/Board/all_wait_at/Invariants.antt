@@ -1,0 +1,13 @@
+use Rattle.std.proofs.Common.{◌≡◌, true}
+use Rattle.std.specs.List.{list_all}
+use Rattle.lattice.specs.Frontiers.{is_beyond}
+use Rattle.plan.specs.Ancestors.{numbers_below}
+use Rattle.machine.specs.Loads.{lot_of}
+use Rattle.machine.specs.Reads.{input_front}
+use Rattle.machine.proofs.board.Board.all_wait_at.Given as goal
+
+-- all of the workers so far
+abbrev pub invariant-loop-worker : goal.invariant-loop-worker
+invariant-loop-worker g l =
+    let below = g.T.PartialOrder.below in
+    list_all (λ k. list_all (is_beyond below (input_front below l.self l.node)) (lot_of l.self.stations l.node k).held) (numbers_below l.worker) ≡ true
