@@ -142,7 +142,8 @@ fn ancestors_of(
 fn is_above_sources(before: &[Ancestors], above: NodeId, node: &Node) -> bool
     ensures { result ≡ list_any (tells_above before.now above) (sources node.now) }
 {
-    tells_above_some(before, above, node.source(0)) || tells_above_some(before, above, node.source(1))
+    tells_above_some(before, above, node.source(0))
+        || tells_above_some(before, above, node.source(1))
 }
 
 // Whether there is such a source, and it has the node marked.
