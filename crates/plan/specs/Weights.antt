@@ -1,6 +1,6 @@
 -- The weight of a node: how large what it gives can become, found from the plan and the changes of its inputs alone.
 -- Where no weight is 2^63 or more, no count is, on any way to the answer.
-use Rattle.std.specs.Prelude.{◌≡◌, ℕ, ◌+◌, ◌*◌, Bool, List, [], slice_get}
+use Rattle.std.specs.Prelude.{◌≡◌, ℕ, ◌+◌, ◌*◌, ◌^◌, ◌<◌, ◌≤◌, Bool, List, [], length, slice_get}
 use Rattle.std.specs.declared.cmp.Ordering.{Ordering}
 use Rattle.update.specs.Updates.{size}
 use Rattle.update.specs.declared.change.Update.{Update}
@@ -36,3 +36,7 @@ module _ {T : Type 0} (below : T → T → Bool) (cmp : T → T → Ordering) wh
   -- w is the weight of node n over all changes
   abbrev pub IsWeight : List Node → (ℕ → List (Update T)) → ℕ → ℕ → Type 0
   IsWeight p changes n w = (own : ℕ → ℕ) × AreOwn p changes own × (w ≡ weight_by p own (λ input. size (changes input)) n)
+
+  -- the changes give some node a weight of 2^63 or more, so that a count may be no 64-bit number
+  abbrev pub HasLargeWeight : List Node → (ℕ → List (Update T)) → Type 0
+  HasLargeWeight p changes = (n : ℕ) × (weight : ℕ) × (n < length p) × IsWeight p changes n weight × (2 ^ 63 ≤ weight)

@@ -1,46 +1,124 @@
--- How a run ends early: an overflow has its cause on whatever way it came.
-use Rattle.std.proofs.Common.{◌≡◌, Bool, true, false, ◌∷◌, [], Option, Some, None, Result, Ok, Err, ◌⊎◌, inl, inr, sym, ◌∙◌, ap}
+-- How a run ends early: each end has its cause, on whatever way it came.
+use Rattle.std.proofs.Common.{◌≡◌, Bool, true, false, not, ◌||◌, eqb, List, ◌∷◌, [], length, Option, Some, None, Result, Ok, Err, IsTrue, ◌⊎◌, inl, inr, refl, sym, ◌∙◌, ap, subst, ℕ}
 use Rattle.std.specs.Prelude.{IfErr}
+use Rattle.std.specs.List.{list_all}
+use Rattle.std.proofs.lemmas.Bool.{and_parts, true≢false}
+use Rattle.lattice.specs.Frontiers.{is_beyond}
+use Rattle.lattice.specs.Pairs.{make_pair}
+use Rattle.update.specs.Refusals.{code_of}
 use Rattle.update.specs.declared.refusal.Refusal.{Refusal}
-use Rattle.update.specs.declared.refusal.Refusal.TheVariants.{OutOfMemory, Overflow, NotPassed}
+use Rattle.update.specs.declared.refusal.Refusal.TheVariants.{OutOfMemory, Overflow, NoThread, NotPassed, GivenUp}
 use Rattle.plan.specs.Rules.{first_refusal}
+use Rattle.plan.specs.declared.node.Node.{Node}
+use Rattle.grammar.specs.declared.command.Command.{Command}
+use Rattle.grammar.specs.declared.command.Command.TheVariants.{Change, Advance, Close, Read, Changes, Frontier}
+use Rattle.grammar.specs.declared.command.CommandLine.{CommandLine}
+use Rattle.grammar.specs.Told.{Told}
+use Rattle.machine.specs.Boards.{is_from_start}
+use Rattle.machine.specs.Inputs.{front_at, feed_faults, advance_faults}
+use Rattle.machine.specs.Worlds.{fed_to}
 use Rattle.oracle.specs.Entries.{IsRefusal}
-use Rattle.script.specs.Engines.{IsRunEnd}
+use Rattle.script.specs.Ends.{IsTextBefore}
+use Rattle.script.specs.Engines.{EndsRun, IsEnd, IsRunEnd}
+use Rattle.script.specs.Sessions.{view_frontier}
+use Rattle.script.specs.Text.{Sitting, HoldsAlong, refusal_of, at_or_below}
+use Rattle.script.specs.Weights.{IsLarge, IsLargeAlong, EndsByWeight}
 use Rattle.script.specs.declared.fault.RunFault.{RunFault}
 use Rattle.script.specs.declared.fault.RunFault.TheVariants as fault
 
--- what is a cause of the cause is a cause
-pub end_weaker : {A B : Type 0} → (A → B) → (f : RunFault) → IsRunEnd A f → IsRunEnd B f
+-- what ends a run for one cause ends it for a weaker one
+pub end_weaker : {A B : Refusal → Type 0} → ((refusal : Refusal) → A refusal → B refusal) → (f : RunFault) → IsEnd A f → IsEnd B f
 end_weaker h (fault.Refused code) (inl memory) = inl memory
-end_weaker h (fault.Refused code) (inr large) = inr (large.0, h large.1)
+end_weaker h (fault.Refused code) (inr end) = inr (end.0, end.1, h end.0 end.2)
 end_weaker h fault.Write u = u
 
-pub ends_weaker : {A B X : Type 0} → (A → B) → (r : Result X RunFault) → IfErr r (IsRunEnd A) → IfErr r (IsRunEnd B)
+pub ends_weaker : {A B : Refusal → Type 0} {X : Type 0} → ((refusal : Refusal) → A refusal → B refusal) → (r : Result X RunFault) → IfErr r (IsEnd A) → IfErr r (IsEnd B)
 ends_weaker h (Ok x) e = tt
 ends_weaker h (Err f) e = end_weaker h f e
 
--- where a number was too large, there is the cause
-pub cause_of_end : {Large : Type 0} (f : RunFault) → IsRunEnd Large f → f ≡ fault.Refused 10 → Large
-cause_of_end (fault.Refused code) (inl memory) is = absurd cc
-cause_of_end (fault.Refused code) (inr large) is = large.1
-cause_of_end fault.Write e is = absurd cc
-
--- an answer that a number is too large, where the session refuses nothing so, has the engine's cause
-pub overflow_cause : {L S : Type 0} (o : Option Refusal) (r : Refusal) → (o ≡ Some Overflow → ⊥) → ((o ≡ Some r) × S) ⊎ IsRefusal L r → r ≡ Overflow → L
-overflow_cause o r never (inl own) e = absurd (never (own.0 ∙ ap Some e))
-overflow_cause o r never (inr (inl memory)) e = absurd (apart (sym memory ∙ e))
+-- where a number was too large, that was the cause
+pub cause_of_end : {Ends : Refusal → Type 0} → ((refusal : Refusal) → Ends refusal → EndsRun refusal) → (f : RunFault) → IsEnd Ends f → f ≡ fault.Refused 10 → Ends Overflow
+cause_of_end ending (fault.Refused code) (inl memory) is = absurd cc
+cause_of_end {Ends} ending (fault.Refused code) (inr end) is = by (ending end.0 end.2)
   where
-    apart : OutOfMemory ≡ Overflow → ⊥
-    apart e = absurd cc
-overflow_cause o r never (inr (inr large)) e = large.1
+    by : EndsRun end.0 → Ends Overflow
+    by (inl memory) = let ten = end.1 ∙ ap code_of memory in absurd cc
+    by (inr (inl large)) = subst Ends large end.2
+    by (inr (inr thread)) = let ten = end.1 ∙ ap code_of thread in absurd cc
+cause_of_end ending fault.Write e is = absurd cc
 
--- a session refuses nothing so
-pub nothing_large : None ≡ Some Overflow → ⊥
-nothing_large e = absurd cc
+-- ---- a session goes on after what it refuses
 
-pub passed_or_not : (b : Bool) → first_refusal ((b, NotPassed) ∷ []) ≡ Some Overflow → ⊥
-passed_or_not true e = absurd cc
-passed_or_not false e = absurd cc
+-- the numbers of the refusals that end a run
+abbrev is_ending : Refusal → Bool
+is_ending refusal = eqb (code_of refusal) 1 || (eqb (code_of refusal) 10 || eqb (code_of refusal) 24)
+
+shown : (refusal : Refusal) → EndsRun refusal → is_ending refusal ≡ true
+shown refusal (inl memory) = ap is_ending memory
+shown refusal (inr (inl large)) = ap is_ending large
+shown refusal (inr (inr thread)) = ap is_ending thread
+
+first_goes_on : (faults : List (Bool × Refusal)) → IsTrue (list_all (λ f. not (is_ending f.1)) faults) → (refusal : Refusal) → first_refusal faults ≡ Some refusal → EndsRun refusal → ⊥
+first_goes_on [] all refusal e ends = absurd cc
+first_goes_on ((true, name) ∷ faults) all refusal e ends =
+    let same : name ≡ refusal = cc in
+    true≢false (sym (sym (ap (λ b. not b) (ap is_ending same ∙ shown refusal ends)) ∙ (and_parts _ _ all).0))
+first_goes_on ((false, name) ∷ faults) all refusal e ends = first_goes_on faults (and_parts _ _ all).1 refusal e ends
+
+pub session_goes_on : (p : List Node) (s : Sitting) (command : Command) (refusal : Refusal) → refusal_of p s command ≡ Some refusal → EndsRun refusal → ⊥
+session_goes_on p s (Change input time diff row) refusal e ends =
+    first_goes_on (feed_faults at_or_below p (front_at input s.inputs) (length (fed_to input s.fed)) (record { input = input; update = record { time = time; row = row; diff = diff } })) refl refusal e ends
+session_goes_on p s (Advance input times) refusal e ends = first_goes_on (advance_faults at_or_below (front_at input s.inputs) times) refl refusal e ends
+session_goes_on p s (Close input) refusal e ends = absurd cc
+session_goes_on p s (Read view time) refusal e ends =
+    first_goes_on ((is_beyond at_or_below (view_frontier at_or_below p s view) time, NotPassed) ∷ (not (is_beyond at_or_below (s.since view) time), GivenUp) ∷ []) refl refusal e ends
+session_goes_on p s (Changes view) refusal e ends = first_goes_on ((not (is_from_start at_or_below (make_pair 0 0) (s.since view)), GivenUp) ∷ []) refl refusal e ends
+session_goes_on p s (Frontier view) refusal e ends = absurd cc
+
+-- an answer that ends the run is the engine's own
+pub own_end : {Ends : Type 0} (p : List Node) (s : Sitting) (command : Command) (refusal : Refusal) → (refusal_of p s command ≡ Some refusal) ⊎ Ends → EndsRun refusal → Ends
+own_end p s command refusal (inl own) ends = absurd (session_goes_on p s command refusal own ends)
+own_end p s command refusal (inr end) ends = end
+
+-- what was told ends the run for want of memory alone
+told_end : {S : Type 0} (p : List Node) (s : Sitting) (command : Command) (refusal : Refusal) (f : RunFault) → ((refusal_of p s command ≡ Some refusal) × S) ⊎ (refusal ≡ OutOfMemory)
+    → IsEnd (λ met. (met ≡ refusal) × EndsRun refusal) f → IsEnd (λ met. ⊥) f
+told_end p s command refusal (fault.Refused code) answer (inl memory) = inl memory
+told_end p s command refusal (fault.Refused code) (inl own) (inr end) = absurd (session_goes_on p s command refusal own.0 end.2.1)
+told_end p s command refusal (fault.Refused code) (inr memory) (inr end) = inl (end.1 ∙ ap code_of (end.2.0 ∙ memory))
+told_end p s command refusal fault.Write answer u = u
+
+pub told_ends : {S X : Type 0} (p : List Node) (s : Sitting) (command : Command) (refusal : Refusal) (r : Result X RunFault) → ((refusal_of p s command ≡ Some refusal) × S) ⊎ (refusal ≡ OutOfMemory)
+    → IfErr r (IsEnd (λ met. (met ≡ refusal) × EndsRun refusal)) → IfErr r (IsEnd (λ met. ⊥))
+told_ends p s command refusal (Ok x) answer e = tt
+told_ends p s command refusal (Err f) answer e = told_end p s command refusal f answer e
+
+-- ---- the ends of a run without threads
+
+pub weight_end : (p : List Node) (s : Sitting) (lines : List CommandLine) (f : RunFault) → IsEnd (λ refusal. HoldsAlong (λ now. EndsByWeight p now refusal) p s lines) f → IsRunEnd (IsLargeAlong p s lines) f
+weight_end p s lines (fault.Refused code) (inl memory) = inl memory
+weight_end p s lines (fault.Refused code) (inr (refusal, is, (done, rest, split, inl memory))) = inl (is ∙ ap code_of memory)
+weight_end p s lines (fault.Refused code) (inr (refusal, is, (done, rest, split, inr large))) = inr (is ∙ ap code_of large.0, (done, rest, split, large.1))
+weight_end p s lines fault.Write u = u
+
+pub weight_ends : {X : Type 0} (p : List Node) (s : Sitting) (lines : List CommandLine) (r : Result X RunFault)
+    → IfErr r (IsEnd (λ refusal. HoldsAlong (λ now. EndsByWeight p now refusal) p s lines)) → IfErr r (IsRunEnd (IsLargeAlong p s lines))
+weight_ends p s lines (Ok x) e = tt
+weight_ends p s lines (Err f) e = weight_end p s lines f e
+
+large_of : {L : Type 0} → IsRefusal L Overflow → L
+large_of (inl memory) = absurd cc
+large_of (inr large) = large.1
+
+pub weight_text : (t : Told) (s : Sitting) (lines : List CommandLine) (part : List ℕ) → IsTextBefore (λ now. EndsByWeight t.plan now Overflow) t s lines part → IsTextBefore (IsLarge t.plan) t s lines part
+weight_text t s lines part b = record { before = b.before; line = b.line; behind = b.behind; in_order = b.in_order; asks = b.asks; cause = large_of b.cause; written = b.written }
+
+-- where it is told, the text before a number that was too large is whole
+pub overflow_texts : {X : Type 0} (t : Told) (s : Sitting) (lines : List CommandLine) (Took : List ℕ → Type 0) (r : Result X RunFault)
+    → IfErr r (λ f. f ≡ fault.Refused 10 → (part : List ℕ) × IsTextBefore (λ now. EndsByWeight t.plan now Overflow) t s lines part × Took part)
+    → IfErr r (λ f. f ≡ fault.Refused 10 → (part : List ℕ) × IsTextBefore (IsLarge t.plan) t s lines part × Took part)
+overflow_texts t s lines Took (Ok x) e = tt
+overflow_texts t s lines Took (Err f) e = λ ten. let met = e ten in (met.0, weight_text t s lines met.0 met.1, met.2)
 
 pub refusal_weaker : {A B : Type 0} → (A → B) → (r : Refusal) → IsRefusal A r → IsRefusal B r
 refusal_weaker h r (inl memory) = inl memory

@@ -25,7 +25,7 @@ use Rattle.update.specs.Bags.{Entry, Alike, IsBag, count_of}
 use Rattle.update.specs.Updates.{entry, as_of}
 use Rattle.update.specs.declared.change.Update.{Update}
 use Rattle.update.specs.declared.refusal.Refusal.{Refusal}
-use Rattle.update.specs.declared.refusal.Refusal.TheVariants.{OutOfMemory, WrongWidth, ZeroWeight, WeightTooLarge, TimePassed, InputFull, NotPassed}
+use Rattle.update.specs.declared.refusal.Refusal.TheVariants.{OutOfMemory, WrongWidth, ZeroWeight, WeightTooLarge, TimePassed, InputFull, NotPassed, GivenUp}
 use Rattle.plan.specs.Ancestors.{is_input, feeds, numbers_below}
 use Rattle.plan.specs.Changes.{AreDifferences, has_passed, query_at, open_for}
 use Rattle.plan.specs.Edges.{numbers_where}
@@ -33,6 +33,7 @@ use Rattle.plan.specs.Nodes.{node_at, key_width}
 use Rattle.plan.specs.Operators.{is_linear}
 use Rattle.plan.specs.Queries.{query}
 use Rattle.plan.specs.Rules.{IsPlan, IsRefusalBy, first_refusal}
+use Rattle.plan.specs.Weights.{HasLargeWeight}
 use Rattle.plan.specs.Widths.{width_of}
 use Rattle.plan.specs.declared.node.Node.{Node}
 use Rattle.plan.specs.declared.node.Node.TheVariants.{Input, Map, Filter, Concat, Negate, Arrange, Join, Reduce, Output}
@@ -48,11 +49,10 @@ use Rattle.oracle.specs.Entries.{IsRefusal}
 use Rattle.oracle.specs.Evaluation.{HasLargeAbove, HasLargeStep, given_at, inputs_before, list_of, ports, sums_at}
 use Rattle.oracle.specs.Listing.{HasLargeDifference}
 use Rattle.oracle.proofs.EvaluationLemmas.{inputs_with, inputs_without}
-use Rattle.script.specs.Engines.{IsAnswer}
+use Rattle.script.specs.Engines.{IsTold, IsFound}
 use Rattle.script.specs.Orders.{in_order}
 use Rattle.script.specs.PlainStanding.{Register, IsRegister, Records, with_entry, with_input, entry_refusal, input_refusal, AreFrontiers}
-use Rattle.script.specs.Weights.{HasLargeWeight}
-use Rattle.script.specs.Sessions.{Session, with_change, with_frontier, change_refusal, frontier_refusal, view_frontier, read_refusal, rows_at, frontier_at, changes_at}
+use Rattle.script.specs.Sessions.{Session, with_change, with_frontier, change_refusal, frontier_refusal, view_frontier, read_refusal, changes_refusal, rows_at, frontier_at, changes_at}
 use Rattle.script.proofs.BagLemmas.{bag_of-only}
 use Rattle.script.proofs.ChangesLemmas.{changes_are, differences_only}
 use Rattle.script.proofs.InputLemmas.{query_at_inputs}
@@ -153,8 +153,8 @@ module _ {T : Type 0} (r : Register T) (is : IsRegister r) (f : Fed T) (there : 
       by n l t true e = subst (λ (m : ℕ). IsTrue (wide_at r.plan m (list_of r.plan (with_entry f r).changes m))) (eqb-true f.input n e) own
       by n l t false e = ap (wide_at r.plan n) (other_list n t (eqb-false f.input n e)) ∙ is.wide n l t
 
-  pub entry_records : (s : Session T) → Records r s → Records (with_entry f r) (with_change f s)
-  entry_records s a = record { changes = λ i h. by i h (eqb f.input i) refl; inputs = a.inputs }
+  pub entry_records : {minimum : T} (s : Session T) → Records minimum r s → Records minimum (with_entry f r) (with_change f s)
+  entry_records s a = record { changes = λ i h. by i h (eqb f.input i) refl; inputs = a.inputs; since = a.since }
     where
       own : list_of r.plan (with_entry f r).changes f.input ≡ reverse (f.update ∷ fed_to f.input s.fed)
       own =
@@ -189,39 +189,39 @@ module _ {T : Type 0} (below : T → T → Bool) where
       subst (λ (ls : List (List (Update T))). IsRegister (record { plan = r.plan; changes = ls; inputs = r.inputs })) (sym stays) (record { linear = is.linear; lists = is.lists; wide = is.wide; inputs = is.inputs })
 
   -- what refuses a change or a frontier is what the session refuses
-  same_entry_refusal : (r : Register T) (s : Session T) (f : Fed T) → IsTrue (is_input_of r.plan f.input) → Records r s → entry_refusal below r f ≡ change_refusal below r.plan s f
+  same_entry_refusal : {minimum : T} (r : Register T) (s : Session T) (f : Fed T) → IsTrue (is_input_of r.plan f.input) → Records minimum r s → entry_refusal below r f ≡ change_refusal below r.plan s f
   same_entry_refusal r s f there a = λ j. first_refusal (feed_faults below r.plan (front_at f.input (a.inputs j)) (taken j) f)
     where
       taken : length (list_of r.plan r.changes f.input) ≡ length (fed_to f.input s.fed)
       taken = ap length (a.changes f.input there) ∙ length-reverse (fed_to f.input s.fed)
 
-  same_input_refusal : (r : Register T) (s : Session T) (i : ℕ) (ts : List T) → Records r s → input_refusal below r i ts ≡ frontier_refusal below r.plan s i ts
+  same_input_refusal : {minimum : T} (r : Register T) (s : Session T) (i : ℕ) (ts : List T) → Records minimum r s → input_refusal below r i ts ≡ frontier_refusal below r.plan s i ts
   same_input_refusal r s i ts a = ap (λ (fronts : List (List T)). first_refusal (advance_faults below (front_at i fronts) ts)) a.inputs
 
-  pub entry_answered : (r c : Register T) (f : Fed T) (s : Session T) (x : Result (Unit {0}) Refusal) → IsTrue (is_input_of r.plan f.input) → IsRegister r
-      → OnOk x (c ≡ with_entry f r) → OnOk x (entry_refusal below r f ≡ None) → IfErr x (IsRefusalBy (entry_refusal below r f)) → OnErr x (c ≡ r) → Records r s
-      → IsAnswer ⊥ (change_refusal below r.plan s f) (λ _. Records c (with_change f s)) (Records c s) x
-  entry_answered r c f s x there is taken accepted refused stays a =
-      subst (λ (o : Option Refusal). IsAnswer ⊥ o (λ _. Records c (with_change f s)) (Records c s) x) (same_entry_refusal r s f there a)
-      (answered (entry_refusal below r f) (Records c (with_change f s)) (Records c s) x
-      (on_ok_weaker x (λ e. subst (λ (d : Register T). Records d (with_change f s)) (sym e) (entry_records r is f there s a)) taken) accepted refused
-      (on_err_weaker x (λ e. subst (λ (d : Register T). Records d s) (sym e) a) stays))
+  pub entry_answered : {minimum : T} (r c : Register T) (f : Fed T) (s : Session T) (x : Result (Unit {0}) Refusal) → IsTrue (is_input_of r.plan f.input) → IsRegister r
+      → OnOk x (c ≡ with_entry f r) → OnOk x (entry_refusal below r f ≡ None) → IfErr x (IsRefusalBy (entry_refusal below r f)) → OnErr x (c ≡ r) → Records minimum r s
+      → IsTold (change_refusal below r.plan s f) (Records minimum c (with_change f s)) (Records minimum c s) x
+  entry_answered {minimum} r c f s x there is taken accepted refused stays a =
+      subst (λ (o : Option Refusal). IsTold o (Records minimum c (with_change f s)) (Records minimum c s) x) (same_entry_refusal r s f there a)
+      (answered (entry_refusal below r f) (Records minimum c (with_change f s)) (Records minimum c s) x
+      (on_ok_weaker x (λ e. subst (λ (d : Register T). Records minimum d (with_change f s)) (sym e) (entry_records r is f there s a)) taken) accepted refused
+      (on_err_weaker x (λ e. subst (λ (d : Register T). Records minimum d s) (sym e) a) stays))
 
   -- what is refused where no fault is, is refused for want of memory
   pub memory_alone : (o : Option Refusal) (x : Result (Unit {0}) Refusal) → o ≡ None → IfErr x (λ e. e ≡ OutOfMemory) → IfErr x (IsRefusalBy o)
   memory_alone o x e h = subst (λ (q : Option Refusal). IfErr x (IsRefusalBy q)) (sym e) h
 
-  pub input_answered : (r c : Register T) (i : ℕ) (ts : List T) (s : Session T) (x : Result (Unit {0}) Refusal)
-      → OnOk x (c ≡ with_input i ts r) → OnOk x (input_refusal below r i ts ≡ None) → IfErr x (λ refusal. input_refusal below r i ts ≡ Some refusal) → OnErr x (c ≡ r) → Records r s
-      → IsAnswer ⊥ (frontier_refusal below r.plan s i ts) (λ _. Records c (with_frontier i ts s)) (Records c s) x
-  input_answered r c i ts s x taken accepted refused stays a =
-      subst (λ (o : Option Refusal). IsAnswer ⊥ o (λ _. Records c (with_frontier i ts s)) (Records c s) x) (same_input_refusal r s i ts a)
-      (answered (input_refusal below r i ts) (Records c (with_frontier i ts s)) (Records c s) x
-      (on_ok_weaker x (λ e. subst (λ (d : Register T). Records d (with_frontier i ts s)) (sym e) moved) taken) accepted (refused_by (input_refusal below r i ts) x refused)
-      (on_err_weaker x (λ e. subst (λ (d : Register T). Records d s) (sym e) a) stays))
+  pub input_answered : {minimum : T} (r c : Register T) (i : ℕ) (ts : List T) (s : Session T) (x : Result (Unit {0}) Refusal)
+      → OnOk x (c ≡ with_input i ts r) → OnOk x (input_refusal below r i ts ≡ None) → IfErr x (λ refusal. input_refusal below r i ts ≡ Some refusal) → OnErr x (c ≡ r) → Records minimum r s
+      → IsTold (frontier_refusal below r.plan s i ts) (Records minimum c (with_frontier i ts s)) (Records minimum c s) x
+  input_answered {minimum} r c i ts s x taken accepted refused stays a =
+      subst (λ (o : Option Refusal). IsTold o (Records minimum c (with_frontier i ts s)) (Records minimum c s) x) (same_input_refusal r s i ts a)
+      (answered (input_refusal below r i ts) (Records minimum c (with_frontier i ts s)) (Records minimum c s) x
+      (on_ok_weaker x (λ e. subst (λ (d : Register T). Records minimum d (with_frontier i ts s)) (sym e) moved) taken) accepted (refused_by (input_refusal below r i ts) x refused)
+      (on_err_weaker x (λ e. subst (λ (d : Register T). Records minimum d s) (sym e) a) stays))
     where
-      moved : Records (with_input i ts r) (with_frontier i ts s)
-      moved = record { changes = a.changes; inputs = ap (λ (fronts : List (List T)). set fronts i ts) a.inputs }
+      moved : Records minimum (with_input i ts r) (with_frontier i ts s)
+      moved = record { changes = a.changes; inputs = ap (λ (fronts : List (List T)). set fronts i ts) a.inputs; since = a.since }
 
 -- ---- a list sums to what it sums to backwards
 
@@ -326,7 +326,7 @@ no_step k (Join left right) l bags step = true≢false (sym l)
 no_step k (Reduce kind source) l bags step = true≢false (sym l)
 no_step k (Output source) l bags step = step
 
-module _ {T : Type 0} {below : T → T → Bool} (o : PartialOrderLaws below) (r : Register T) (s : Session T) (a : Records r s) (v : ℕ) where
+module _ {T : Type 0} {below : T → T → Bool} {minimum : T} (o : PartialOrderLaws below) (r : Register T) (s : Session T) (a : Records minimum r s) (v : ℕ) where
   same_found : view_frontier below r.plan s v ≡ least below (open_for below r.plan (λ i. front_at i r.inputs) v)
   same_found = ap (λ (fronts : List (List T)). least below (open_for below r.plan (λ i. front_at i fronts) v)) (sym a.inputs)
 
@@ -337,12 +337,19 @@ module _ {T : Type 0} {below : T → T → Bool} (o : PartialOrderLaws below) (r
       ∙ (least_beyond o (open_for below r.plan (λ i. front_at i r.inputs) v) t
       ∙ ap (λ (ts : List T). is_beyond below ts t) (sym e))
 
+  -- each time may be read, since none was given up
+  all_kept : (t : T) → IsTrue (below minimum t) → not (is_beyond below (s.since v) t) ≡ false
+  all_kept t low = ap (λ (since : List T). not (is_beyond below since t)) (a.since v) ∙ ap (λ x. not (x || false)) low
+
   -- a time that is still open refuses a reading, and no other does
   pub open_refuses : (t : T) → is_beyond below (view_frontier below r.plan s v) t ≡ true → read_refusal below r.plan s v t ≡ Some NotPassed
-  open_refuses t e = ap (λ b. first_refusal ((b, NotPassed) ∷ [])) e
+  open_refuses t e = ap (λ b. first_refusal ((b, NotPassed) ∷ (not (is_beyond below (s.since v) t), GivenUp) ∷ [])) e
 
-  passed_reads : (t : T) → is_beyond below (view_frontier below r.plan s v) t ≡ false → read_refusal below r.plan s v t ≡ None
-  passed_reads t e = ap (λ b. first_refusal ((b, NotPassed) ∷ [])) e
+  passed_reads : (t : T) → IsTrue (below minimum t) → is_beyond below (view_frontier below r.plan s v) t ≡ false → read_refusal below r.plan s v t ≡ None
+  passed_reads t low e = rw (e, all_kept t low) refl
+
+  pub changes_wanted : changes_refusal below r.plan s minimum v ≡ None
+  changes_wanted = rw (all_kept minimum (o.reflexive minimum)) refl
 
   -- the least of what is open, in order
   pub frontier_found : {cmp : T → T → Ordering} → IsTotalOrder cmp → ((t u : T) → cmp t u ≡ Equal → t ≡ u) → (times F : List T) → times ≡ open_for below r.plan (λ i. front_at i r.inputs) v
@@ -368,7 +375,7 @@ module _ {T : Type 0} {below : T → T → Bool} (o : PartialOrderLaws below) (r
 
     -- where the query is too large, so is a weight
     module _ (cmp : T → T → Ordering) (linear : All (λ node. IsTrue (is_linear node)) r.plan) where
-      pub large_query : (t : T) → HasLargeAbove r.plan (sums_at below r.plan r.changes t) v → HasLargeWeight below cmp r.plan s
+      pub large_query : (t : T) → HasLargeAbove r.plan (sums_at below r.plan r.changes t) v → HasLargeWeight below cmp r.plan (λ i. fed_to i s.fed)
       large_query t (m, above, inl (row, large)) =
           let early : m < length r.plan = let up = above_earlier r.plan plan m v above in omega (arith, up, within) in
           large_count o cmp r.plan plan (linear_at r.plan linear) s m early t (row, λ fits. large (subst (FitsSigned w64) (sym (own row ∙ same_query_of m early t row)) fits))
@@ -377,17 +384,17 @@ module _ {T : Type 0} {below : T → T → Bool} (o : PartialOrderLaws below) (r
           own row = ap (λ es. count_of es row) (sym (query_by_sources r.plan plan (sums_at below r.plan r.changes t) m))
       large_query t (m, above, inr step) = absurd (no_step (key_width r.plan (node_at r.plan m)) (node_at r.plan m) (linear_at r.plan linear m) (ports r.plan m (sums_at below r.plan r.changes t m) (query r.plan (sums_at below r.plan r.changes t))) step)
 
-      pub large_changes : (F : List T) → HasLargeDifference below r.plan r.changes F v → HasLargeWeight below cmp r.plan s
+      pub large_changes : (F : List T) → HasLargeDifference below r.plan r.changes F v → HasLargeWeight below cmp r.plan (λ i. fed_to i s.fed)
       large_changes F (t, passed, inl above) = large_query t above
       large_changes F (t, passed, inr (us, before, apart, (row, large))) =
           large_gap o cmp r.plan plan (linear_at r.plan linear) s v within t us (λ u l d row. before u l d row ∙ same_query u row) apart
           (row, λ fits. large (subst (FitsSigned w64) (sym (ap (λ x. x +ℤ neg_ℤ (count_of (as_of below t us) row)) (same_query t row))) fits))
 
-    pub rows_answered : (cause Large : Type 0) → (cause → Large) → (t : T) (x : Result (List Entry) Refusal) → is_beyond below (view_frontier below r.plan s v) t ≡ false
+    pub rows_answered : (cause Large : Type 0) → (cause → Large) → (t : T) (x : Result (List Entry) Refusal) → IsTrue (below minimum t) → is_beyond below (view_frontier below r.plan s v) t ≡ false
         → IfOk x (λ bag. Alike bag (query_at below r.plan (list_of r.plan r.changes) v t)) → IfOk x IsBag → IfErr x (IsRefusal cause)
-        → IsAnswer Large (read_refusal below r.plan s v t) (λ bag. (bag ≡ rows_at below r.plan s v t) × Records r s) (Records r s) x
-    rows_answered cause Large found t (Ok bag) passed alike is refused = (passed_reads t passed, (bag_of-only _ bag is (λ row. alike row ∙ same_query t row), a))
-    rows_answered cause Large found t (Err e) passed alike is refused = inr (⊎_elim (λ m. inl m) (λ l. inr (l.0, found l.1)) refused)
+        → IsFound (IsRefusal Large) (read_refusal below r.plan s v t) (rows_at below r.plan s v t) x
+    rows_answered cause Large found t (Ok bag) low passed alike is refused = (passed_reads t low passed, bag_of-only _ bag is (λ row. alike row ∙ same_query t row))
+    rows_answered cause Large found t (Err e) low passed alike is refused = inr (⊎_elim (λ m. inl m) (λ l. inr (l.0, found l.1)) refused)
 
     -- what is listed of the inputs' changes and frontiers is the session's list
     pub changes_found : {joined met : T → T → T} {cmp : T → T → Ordering} → LatticeLaws below joined met → ExtendsLaws below cmp → IsTotalOrder cmp → (frontiers : List (List T)) (us : List (Update T)) → AreFrontiers below r.plan r.inputs frontiers

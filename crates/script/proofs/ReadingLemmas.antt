@@ -19,7 +19,8 @@ use Rattle.update.specs.declared.refusal.Refusal.TheVariants.{NotPassed, GivenUp
 use Rattle.plan.specs.Changes.{AreDifferences, has_passed, query_at, open_for}
 use Rattle.plan.specs.Operators.{is_linear}
 use Rattle.plan.specs.Rules.{first_refusal, is_output}
-use Rattle.plan.proofs.PlanLemmas.{no_first}
+use Rattle.plan.specs.Weights.{HasLargeWeight}
+use Rattle.plan.proofs.PlanLemmas.{no_first, no_fault}
 use Rattle.machine.proofs.SiteLemmas.{none_queued, none_held}
 use Rattle.machine.specs.declared.event.Event.{Event}
 use Rattle.machine.specs.declared.event.Fed.{Fed}
@@ -32,7 +33,7 @@ use Rattle.machine.specs.Promises.{changes_in}
 use Rattle.machine.specs.Readings.{IsQuiet}
 use Rattle.machine.specs.Boards.{Shown, IsBoard, Stands, is_from_start}
 use Rattle.std.proofs.Common.{true}
-use Rattle.std.proofs.lemmas.Bool.{or_left}
+use Rattle.std.proofs.lemmas.Bool.{or_left, or_right}
 use Rattle.machine.specs.Reads as reads
 use Rattle.machine.specs.Reads.{front, captured_of, since_of, IsRefusalOr}
 use Rattle.machine.proofs.FlowLemmas.{is_passed, not_beyond}
@@ -43,20 +44,21 @@ use Rattle.machine.proofs.PlaceLemmas.{in_place_lem}
 use Rattle.machine.proofs.QuietLemmas.{caught_up_lem, beyond_elements}
 use Rattle.script.specs.Bags.{bag_of}
 use Rattle.oracle.specs.Entries.{IsRefusal}
-use Rattle.script.specs.Engines.{IsAnswer}
+use Rattle.script.specs.Engines.{IsFound}
 use Rattle.script.specs.Relays.{IsIdle, NothingWaits, GoesOn}
 use Rattle.script.specs.Orders.{in_order}
-use Rattle.script.specs.Sessions.{Session, view_frontier, read_refusal, rows_at, frontier_at, changes_at}
+use Rattle.script.specs.Sessions.{Session, view_frontier, read_refusal, changes_refusal, rows_at, frontier_at, changes_at}
 use Rattle.script.specs.Standing.{StandsAs}
-use Rattle.script.specs.Weights.{HasLargeWeight}
 use Rattle.script.proofs.BagLemmas.{bag_of-only}
 use Rattle.script.proofs.WeightLemmas.{linear_within, large_count, large_listed}
 use Rattle.script.proofs.ChangesLemmas.{changes_are, differences_only}
 use Rattle.script.proofs.OrderLemmas.{in_order-sorted, in_order-has, in_order-only}
 
--- of two faults the second is none
-one_fault : (a b c : Bool) → a ≡ b → c ≡ false → first_refusal ((a, NotPassed) ∷ (c, GivenUp) ∷ []) ≡ first_refusal ((b, NotPassed) ∷ [])
-one_fault a b c e f = rw (e, f) refl
+-- what one refuses is refused by the other, which refuses alike
+pub refused_alike : (cause Large : Type 0) (own other : Option Refusal) (r : Refusal) → own ≡ other → (cause → own ≡ None → Large) → IsRefusalOr cause own r → (other ≡ Some r) ⊎ IsRefusal Large r
+refused_alike cause Large (Some fault) other r e found f = inl (sym e ∙ ap Some (sym f))
+refused_alike cause Large None other r e found (inl memory) = inr (inl memory)
+refused_alike cause Large None other r e found (inr large) = inr (inr (large.0, found large.1 refl))
 
 module _ {T : Type 0} (below : T → T → Bool) (minimum : T) where
   -- a worker that carries on changes nothing for the session
@@ -83,6 +85,10 @@ module _ {T : Type 0} (below : T → T → Bool) (minimum : T) where
       free zero l = idle.hand
       free (suc k) l = absurd (omega (arith, l))
 
+  -- a view may be read from where the session says
+  same_since : (b : Shown T) (s : Session T) (v : ℕ) → v < length b.dataflow.nodes → StandsAs below minimum b s → since_of b v ≡ s.since v
+  same_since b s v within a = a.stands.since v within ∙ a.since v
+
   module _ (o : PartialOrderLaws below) (b : Shown T) (s : Session T) (v : ℕ) (t : T) (board : IsBoard b) (within : v < length b.dataflow.nodes) (idle : IsIdle b) (none : NothingWaits b.stations) (a : StandsAs below minimum b s) where
     -- the view's frontier is found to be that of the session
     same_front : is_beyond below (front below b v) t ≡ is_beyond below (view_frontier below b.dataflow.nodes s v) t
@@ -94,53 +100,46 @@ module _ {T : Type 0} (below : T → T → Bool) (minimum : T) where
         ∙ beyond_elements below (frontier below b.dataflow w v) (least below (open_for below b.dataflow.nodes (λ i. open_at i w.openings) v)) caught t
         ∙ ap (λ (fronts : ℕ → List T). is_beyond below (least below (open_for below b.dataflow.nodes fronts v)) t) (λ j i. a.inputs i j)
 
-    -- no time was given up
-    all_held : IsTrue (below minimum t) → not (is_beyond below (since_of b v) t) ≡ false
-    all_held low =
-        ap (λ (ts : List T). not (is_beyond below ts t)) (a.stands.since v within ∙ a.since v)
-        ∙ ap (λ x. not (x || false)) low
-
-    same_read_refusal : IsTrue (below minimum t) → reads.read_refusal below b v t ≡ read_refusal below b.dataflow.nodes s v t
-    same_read_refusal low = one_fault (is_beyond below (front below b v) t) (is_beyond below (view_frontier below b.dataflow.nodes s v) t) (not (is_beyond below (since_of b v) t)) same_front (all_held low)
+    same_read_refusal : reads.read_refusal below b v t ≡ read_refusal below b.dataflow.nodes s v t
+    same_read_refusal = λ j. first_refusal ((same_front j, NotPassed) ∷ (not (is_beyond below (same_since b s v within a j) t), GivenUp) ∷ [])
 
     -- the rows are those of the session
     same_rows : (bag : List Entry) → IsBag bag → Alike bag (query_at below b.dataflow.nodes (changes_in (world below minimum b.dataflow a.history)) v t) → bag ≡ rows_at below b.dataflow.nodes s v t
     same_rows bag is alike = bag_of-only _ bag is alike ∙ ap (λ (fs : List (Fed T)). bag_of (query_at below b.dataflow.nodes (λ i. fed_to i fs) v t)) a.fed
 
-    pub read_answered : (cause Large : Type 0) (r : Result (List Entry) Refusal) → (cause → reads.read_refusal below b v t ≡ None → Large) → IsTrue (below minimum t)
+    pub read_answered : (cause Large : Type 0) (r : Result (List Entry) Refusal) → (cause → reads.read_refusal below b v t ≡ None → Large)
         → OnOk r (reads.read_refusal below b v t ≡ None) → IfErr r (IsRefusalOr cause (reads.read_refusal below b v t)) → IfOk r IsBag
         → IfOk r (λ bag. Alike bag (query_at below b.dataflow.nodes (changes_in (world below minimum b.dataflow a.history)) v t))
-        → IsAnswer Large (read_refusal below b.dataflow.nodes s v t) (λ bag. (bag ≡ rows_at below b.dataflow.nodes s v t) × StandsAs below minimum b s) (StandsAs below minimum b s) r
-    read_answered cause Large (Ok bag) found low accepted refused is alike = (sym (same_read_refusal low) ∙ accepted, (same_rows bag is alike, a))
-    read_answered cause Large (Err r) found low accepted refused is alike = by (reads.read_refusal below b v t) refl (sym (same_read_refusal low)) refused
-      where
-        by : (o : Option Refusal) → reads.read_refusal below b v t ≡ o → read_refusal below b.dataflow.nodes s v t ≡ o → IsRefusalOr cause o r
-            → ((read_refusal below b.dataflow.nodes s v t ≡ Some r) × StandsAs below minimum b s) ⊎ IsRefusal Large r
-        by (Some fault) own e f = inl (e ∙ ap Some (sym f), a)
-        by None own e (inl memory) = inr (inl memory)
-        by None own e (inr large) = inr (inr (large.0, found large.1 own))
+        → IsFound (IsRefusal Large) (read_refusal below b.dataflow.nodes s v t) (rows_at below b.dataflow.nodes s v t) r
+    read_answered cause Large (Ok bag) found accepted refused is alike = (sym same_read_refusal ∙ accepted, same_rows bag is alike)
+    read_answered cause Large (Err r) found accepted refused is alike = refused_alike cause Large (reads.read_refusal below b v t) _ r same_read_refusal found refused
 
   -- where what is read is too large, so is a weight
   module _ (o : PartialOrderLaws below) (cmp : T → T → Ordering) (b : Shown T) (s : Session T) (v : ℕ) (board : IsBoard b) (within : v < length b.dataflow.nodes) (view : IsTrue (is_output (node_of b.dataflow v)))
       (idle : IsIdle b) (a : StandsAs below minimum b s) where
-    -- at a passed time what was captured sums to the query of the session
-    captured_query : (t : T) → IsTrue (has_passed below (front below b v) t) → Alike (as_of below t (captured_of b v)) (query_at below b.dataflow.nodes (λ i. fed_to i s.fed) v t)
-    captured_query t h row =
-        (a.stands.captured v within view).sums t (or_left (is_from_start below minimum ((world below minimum b.dataflow a.history).since v)) _ (subst (λ ts. is_from_start below minimum ts ≡ true) (sym (a.since v)) (or_left (below minimum minimum) false (o.reflexive minimum)))) row
+    -- at a passed time that was not given up what was captured sums to the query of the session
+    captured_query : (t : T) → IsTrue (is_from_start below minimum (since_of b v) || is_beyond below (since_of b v) t) → IsTrue (has_passed below (front below b v) t) → Alike (as_of below t (captured_of b v)) (query_at below b.dataflow.nodes (λ i. fed_to i s.fed) v t)
+    captured_query t held h row =
+        (a.stands.captured v within view).sums t (subst (λ (ts : List T). IsTrue (is_from_start below minimum ts || is_beyond below ts t)) (a.stands.since v within) held) row
         ∙ (headline_lem below minimum o b.dataflow board.dataflow a.history a.stands.legal v t (ap not (sym (front_stands below o minimum b board a.history a.stands v t)) ∙ h) row
         ∙ ap (λ (fs : List (Fed T)). count_of (query_at below b.dataflow.nodes (λ i. fed_to i fs) v t) row) a.fed)
 
     linear : (n : ℕ) → IsTrue (is_linear (node_of b.dataflow n))
     linear = linear_within b.dataflow.nodes idle.linear
 
-    pub large_read : (t : T) → HasLargeCount (as_of below t (captured_of b v)) → reads.read_refusal below b v t ≡ None → HasLargeWeight below cmp b.dataflow.nodes s
+    pub large_read : (t : T) → HasLargeCount (as_of below t (captured_of b v)) → reads.read_refusal below b v t ≡ None → HasLargeWeight below cmp b.dataflow.nodes (λ i. fed_to i s.fed)
     large_read t (row, large) e =
         let passed = no_first (is_beyond below (front below b v) t) NotPassed ((not (is_beyond below (since_of b v) t), GivenUp) ∷ []) e in
-        large_count o cmp b.dataflow.nodes board.dataflow.plan linear s v within t (row, λ fits. large (subst (FitsSigned w64) (sym (captured_query t (ap not passed.0) row)) fits))
+        let kept = no_fault (is_beyond below (since_of b v) t) (no_first (not (is_beyond below (since_of b v) t)) GivenUp [] passed.1).0 in
+        let held = or_right (is_from_start below minimum (since_of b v)) (is_beyond below (since_of b v) t) kept in
+        large_count o cmp b.dataflow.nodes board.dataflow.plan linear s v within t (row, λ fits. large (subst (FitsSigned w64) (sym (captured_query t held (ap not passed.0) row)) fits))
 
-    pub large_changes : HasLargeTotal below (filter (λ u. has_passed below (front below b v) u.time) (captured_of b v)) → HasLargeWeight below cmp b.dataflow.nodes s
-    large_changes large =
-        large_listed o cmp b.dataflow.nodes board.dataflow.plan linear s v within (has_passed below (front below b v)) (λ u t l h. is_passed _ (passed_down below o (front below b v) u t l (not_beyond _ h))) (captured_of b v) captured_query large
+    pub large_changes : HasLargeTotal below (filter (λ u. has_passed below (front below b v) u.time) (captured_of b v)) → reads.changes_refusal below minimum b v ≡ None
+        → HasLargeWeight below cmp b.dataflow.nodes (λ i. fed_to i s.fed)
+    large_changes large e =
+        let kept = no_fault (is_from_start below minimum (since_of b v)) (no_first (not (is_from_start below minimum (since_of b v))) GivenUp [] e).0 in
+        large_listed o cmp b.dataflow.nodes board.dataflow.plan linear s v within (has_passed below (front below b v)) (λ u t l h. is_passed _ (passed_down below o (front below b v) u t l (not_beyond _ h))) (captured_of b v)
+        (λ t h. captured_query t (or_left (is_from_start below minimum (since_of b v)) (is_beyond below (since_of b v) t) kept) h) large
 
   -- what is asked of a view at all times
   module _ (o : PartialOrderLaws below) (b : Shown T) (s : Session T) (v : ℕ) (board : IsBoard b) (within : v < length b.dataflow.nodes) (idle : IsIdle b) (none : NothingWaits b.stations) (a : StandsAs below minimum b s) where
@@ -178,6 +177,5 @@ module _ {T : Type 0} (below : T → T → Bool) (minimum : T) where
         differences_only o total b.dataflow.nodes (λ i. fed_to i s.fed) G v us (changes_at below b.dataflow.nodes s cmp joined v) own
         (changes_are o l x total b.dataflow.nodes s.fed board.dataflow.plan v within G)
 
-    -- no time was given up, so nothing refuses that the changes are asked for
-    pub nothing_given_up : IsTrue (below minimum minimum) → reads.changes_refusal below minimum b v ≡ None
-    nothing_given_up low = rw (a.stands.since v within ∙ a.since v, low) refl
+    pub same_changes_refusal : reads.changes_refusal below minimum b v ≡ changes_refusal below b.dataflow.nodes s minimum v
+    same_changes_refusal = ap (λ (since : List T). first_refusal ((not (is_from_start below minimum since), GivenUp) ∷ [])) (same_since b s v within a)

@@ -11,7 +11,7 @@ use Rattle.update.specs.declared.refusal.Refusal.{Refusal}
 use Rattle.std.proofs.Math.IntN.{pos}
 use Rattle.std.specs.Ordering.{int_eq}
 use Rattle.lattice.specs.Frontiers.{is_beyond, all_beyond}
-use Rattle.update.specs.declared.refusal.Refusal.TheVariants.{WrongWidth, ZeroWeight, WeightTooLarge, TimePassed, NotForward, InputFull}
+use Rattle.update.specs.declared.refusal.Refusal.TheVariants.{OutOfMemory, WrongWidth, ZeroWeight, WeightTooLarge, TimePassed, NotForward, InputFull}
 use Rattle.plan.specs.Widths.{width_of}
 use Rattle.plan.specs.Rules.{IsRefusalBy, first_refusal}
 use Rattle.plan.specs.declared.node.Node.{Node}
@@ -27,8 +27,7 @@ use Rattle.std.proofs.lemmas.List.{length-set}
 use Rattle.machine.specs.Boards as boards
 use Rattle.machine.specs.Boards.{Shown, IsBoard, Stands, looked, fed, advanced}
 use Rattle.grammar.specs.Commands.{is_input_of}
-use Rattle.oracle.specs.Entries.{IsRefusal}
-use Rattle.script.specs.Engines.{IsAnswer}
+use Rattle.script.specs.Engines.{IsTold}
 use Rattle.script.specs.Sessions.{Session, with_change, with_frontier, change_refusal, frontier_refusal}
 use Rattle.script.specs.Standing.{StandsAs, IsReadyUnless}
 use Rattle.script.specs.Relays.{is_due}
@@ -36,13 +35,13 @@ use Rattle.machine.proofs.BoardLemmas.{first_lot, first_queue}
 use Rattle.script.proofs.FedLemmas.{fed_due, fed_held}
 
 -- an answer, from what is known where it is accepted and where it is refused
-pub answered : (o : Option Refusal) (A S : Type 0) (r : Result (Unit {0}) Refusal) → OnOk r A → OnOk r (o ≡ None) → IfErr r (IsRefusalBy o) → OnErr r S → IsAnswer ⊥ o (λ _. A) S r
+pub answered : (o : Option Refusal) (A S : Type 0) (r : Result (Unit {0}) Refusal) → OnOk r A → OnOk r (o ≡ None) → IfErr r (IsRefusalBy o) → OnErr r S → IsTold o A S r
 answered o A S (Ok x) a n e s = (n, a)
 answered o A S (Err r) a n e s = by o e
   where
-    by : (o : Option Refusal) → IsRefusalBy o r → ((o ≡ Some r) × S) ⊎ IsRefusal ⊥ r
+    by : (o : Option Refusal) → IsRefusalBy o r → ((o ≡ Some r) × S) ⊎ (r ≡ OutOfMemory)
     by (Some x) e = inl (ap Some (sym e), s)
-    by None e = inr (inl e)
+    by None e = inr e
 
 -- what a fault refuses
 pub refused_by : {A : Type 0} (o : Option Refusal) (r : Result A Refusal) → IfErr r (λ refusal. o ≡ Some refusal) → IfErr r (IsRefusalBy o)
@@ -94,9 +93,9 @@ module _ {T : Type 0} (below : T → T → Bool) (minimum : T) where
   pub change_answered : (b c : Shown T) (client : ℕ) (f : Fed T) (s : Session T) (r : Result (Unit {0}) Refusal) → f.input < length b.dataflow.nodes
       → OnOk r (c ≡ fed client f b) → OnOk r (boards.feed_refusal below b f ≡ None) → IfErr r (IsRefusalBy (boards.feed_refusal below b f)) → OnErr r (c ≡ looked client b)
       → Follows b c → StandsAs below minimum b s
-      → IsAnswer ⊥ (change_refusal below b.dataflow.nodes s f) (λ _. StandsAs below minimum c (with_change f s)) (StandsAs below minimum c s) r
+      → IsTold (change_refusal below b.dataflow.nodes s f) (StandsAs below minimum c (with_change f s)) (StandsAs below minimum c s) r
   change_answered b c client f s r within done accepted refused looks follows a =
-      subst (λ (o : Option Refusal). IsAnswer ⊥ o (λ _. StandsAs below minimum c (with_change f s)) (StandsAs below minimum c s) r) (same_change_refusal b s f within a)
+      subst (λ (o : Option Refusal). IsTold o (StandsAs below minimum c (with_change f s)) (StandsAs below minimum c s) r) (same_change_refusal b s f within a)
       (answered (boards.feed_refusal below b f) (StandsAs below minimum c (with_change f s)) (StandsAs below minimum c s) r
       (on_ok_weaker r (λ e. stands_fed b c client f s e follows a) done) accepted refused
       (on_err_weaker r (λ e. stands_looked b c client s e follows a) looks))
@@ -105,9 +104,9 @@ module _ {T : Type 0} (below : T → T → Bool) (minimum : T) where
   pub frontier_answered : (b c : Shown T) (client i : ℕ) (ts : List T) (s : Session T) (r : Result (Unit {0}) Refusal) → i < length b.dataflow.nodes
       → OnOk r (c ≡ advanced client i ts b) → OnOk r (boards.advance_refusal below b i ts ≡ None) → IfErr r (λ refusal. boards.advance_refusal below b i ts ≡ Some refusal) → OnErr r (c ≡ looked client b)
       → Follows b c → StandsAs below minimum b s
-      → IsAnswer ⊥ (frontier_refusal below b.dataflow.nodes s i ts) (λ _. StandsAs below minimum c (with_frontier i ts s)) (StandsAs below minimum c s) r
+      → IsTold (frontier_refusal below b.dataflow.nodes s i ts) (StandsAs below minimum c (with_frontier i ts s)) (StandsAs below minimum c s) r
   frontier_answered b c client i ts s r within done accepted refused looks follows a =
-      subst (λ (o : Option Refusal). IsAnswer ⊥ o (λ _. StandsAs below minimum c (with_frontier i ts s)) (StandsAs below minimum c s) r) (same_frontier_refusal b s i ts a)
+      subst (λ (o : Option Refusal). IsTold o (StandsAs below minimum c (with_frontier i ts s)) (StandsAs below minimum c s) r) (same_frontier_refusal b s i ts a)
       (answered (boards.advance_refusal below b i ts) (StandsAs below minimum c (with_frontier i ts s)) (StandsAs below minimum c s) r
       (on_ok_weaker r (λ e. stands_advanced b c client i ts s within e follows a) done) accepted (refused_by (boards.advance_refusal below b i ts) r refused)
       (on_err_weaker r (λ e. stands_looked b c client s e follows a) looks))

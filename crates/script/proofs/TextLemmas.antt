@@ -21,7 +21,7 @@ module _ (t : Told) where
       ∙ sym (append_assoc (piece t s x) (lines_text t (after t.plan s x.command) xs) (lines_text t (after_lines t.plan (after t.plan s x.command) xs) ys))
 
 -- the text of the lines before one is a beginning of all
-pub before_begins : (t : Told) (s : Sitting) (lines : List CommandLine) (part : List ℕ) → IsTextBefore t s lines part → IsBeginning part (lines_text t s lines)
+pub before_begins : {Holds : Sitting → Type 0} (t : Told) (s : Sitting) (lines : List CommandLine) (part : List ℕ) → IsTextBefore Holds t s lines part → IsBeginning part (lines_text t s lines)
 before_begins t s lines part b =
     let rest = lines_text t (after_lines t.plan s b.before) (b.line ∷ b.behind) in (
       rest,

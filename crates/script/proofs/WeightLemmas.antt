@@ -21,7 +21,7 @@ use Rattle.plan.specs.Nodes.{node_at, sources, key_width}
 use Rattle.plan.specs.Operators.{given, is_linear, negated}
 use Rattle.plan.specs.Queries.{handed}
 use Rattle.plan.specs.Rules.{IsPlan}
-use Rattle.plan.specs.Weights.{load, weight_by}
+use Rattle.plan.specs.Weights.{load, weight_by, HasLargeWeight}
 use Rattle.plan.specs.declared.node.Kind.{Kind}
 use Rattle.plan.specs.declared.node.Node.{Node}
 use Rattle.plan.specs.declared.node.Node.TheVariants.{Input, Map, Filter, Concat, Negate, Arrange, Join, Reduce, Output}
@@ -38,7 +38,6 @@ use Rattle.machine.proofs.SettledLemmas.{load-le}
 use Rattle.machine.proofs.SizeLemmas.{size-append}
 use Rattle.oracle.specs.Listing.{at_time, HasLargeGap}
 use Rattle.script.specs.Sessions.{Session}
-use Rattle.script.specs.Weights.{HasLargeWeight}
 
 -- ---- sizes
 
@@ -153,7 +152,7 @@ module _ {T : Type 0} {below : T → T → Bool} (o : PartialOrderLaws below) (c
   changes i = fed_to i s.fed
 
   -- what is listed of a node is its query's, so where it is large the weight is
-  heavy : (n : ℕ) → n < length p → 2 ^ 63 ≤ weight (told below p plan linear changes n).0 → HasLargeWeight below cmp p s
+  heavy : (n : ℕ) → n < length p → 2 ^ 63 ≤ weight (told below p plan linear changes n).0 → HasLargeWeight below cmp p changes
   heavy n l large =
       let within = (told below p plan linear changes n).2 in
       (n, limit below p plan linear changes n, l, (none below p plan linear changes, (λ m source kind e. absurd (reduces m source kind e)), refl), omega (arith, large, within))
@@ -162,7 +161,7 @@ module _ {T : Type 0} {below : T → T → Bool} (o : PartialOrderLaws below) (c
       reduces m source kind e = true≢false (sym (linear m) ∙ ap is_linear e)
 
   -- a count of the query
-  pub large_count : (n : ℕ) → n < length p → (t : T) → HasLargeCount (query_at below p changes n t) → HasLargeWeight below cmp p s
+  pub large_count : (n : ℕ) → n < length p → (t : T) → HasLargeCount (query_at below p changes n t) → HasLargeWeight below cmp p changes
   large_count n l t (row, large) =
       let list = told below p plan linear changes n in
       heavy n l (large_total (λ r u. same_row r row && below u t) list.0
@@ -171,10 +170,10 @@ module _ {T : Type 0} {below : T → T → Bool} (o : PartialOrderLaws below) (c
   -- a total of a list that sums to the query
   pub large_listed : (n : ℕ) → n < length p → (among : T → Bool) → ((u t : T) → IsTrue (below u t) → IsTrue (among t) → IsTrue (among u))
       → (us : List (Update T)) → ((t : T) → IsTrue (among t) → Alike (as_of below t us) (query_at below p changes n t))
-      → HasLargeTotal below (filter (λ u. among u.time) us) → HasLargeWeight below cmp p s
+      → HasLargeTotal below (filter (λ u. among u.time) us) → HasLargeWeight below cmp p changes
   large_listed n l among down us sums (row, t, large) = by (among t) refl
     where
-      by : (b : Bool) → among t ≡ b → HasLargeWeight below cmp p s
+      by : (b : Bool) → among t ≡ b → HasLargeWeight below cmp p changes
       by true e =
           let list = told below p plan linear changes n in
           let kept = total_where-filter (λ r u. same_row r row && (below u t && below t u)) (λ u. among u.time) us (λ u h. down u.time t (and_parts _ _ (and_parts _ _ h).1).0 e) in
@@ -249,7 +248,7 @@ module _ {T : Type 0} {below : T → T → Bool} (o : PartialOrderLaws below) (c
         same true = refl
         same false = refl
 
-    pub large_gap : AllByRecursion (λ u. u.time ≡ t → ⊥) us → HasLargeGap below t wanted us → HasLargeWeight below cmp p s
+    pub large_gap : AllByRecursion (λ u. u.time ≡ t → ⊥) us → HasLargeGap below t wanted us → HasLargeWeight below cmp p changes
     large_gap apart (row, large) =
         let list = told below p plan linear changes n in
         let same = same_totals o (λ u. below u t) further list.0 (λ u v h k. o.transitive u v t h k) (λ u h row. further_sums u h row ∙ sym (list.1 u row)) row t (o.reflexive t) in

@@ -1,24 +1,34 @@
--- What carries out the commands of a session, and how it answers them.
+-- What carries out the commands of a session: how it answers them, and what ends its run.
 use Rattle.std.specs.Prelude.{◌≡◌, ◌⊎◌, ℕ, Bool, true, false, Option, Some, None, Result, Ok, Err}
 use Rattle.update.specs.declared.refusal.Refusal.{Refusal}
-use Rattle.update.specs.declared.refusal.Refusal.TheVariants.{OutOfMemory, Overflow}
+use Rattle.update.specs.declared.refusal.Refusal.TheVariants.{OutOfMemory, Overflow, NoThread}
+use Rattle.update.specs.Refusals.{code_of}
 use Rattle.grammar.specs.declared.command.Command.{Command}
 use Rattle.grammar.specs.declared.command.Command.TheVariants.{Change, Advance, Close, Read, Changes, Frontier}
-use Rattle.oracle.specs.Entries.{IsRefusal}
 use Rattle.script.specs.declared.fault.RunFault.{RunFault}
 use Rattle.script.specs.declared.fault.RunFault.TheVariants as fault
 
--- what ends a run: memory was refused, or a number is too large
+-- refusals that end a run and are no line of its text: memory was refused, a number is too large, or no thread was started
 abbrev pub EndsRun : Refusal → Type 0
-EndsRun refusal = (refusal ≡ OutOfMemory) ⊎ (refusal ≡ Overflow)
+EndsRun refusal = (refusal ≡ OutOfMemory) ⊎ ((refusal ≡ Overflow) ⊎ (refusal ≡ NoThread))
 
--- an answer to a command that something may refuse: if it is accepted, nothing does; if not, it is refused for just that,
--- or else the run ends: memory was refused, or a number is too large, for which there is a cause
-abbrev pub IsAnswer : {X : Type 0} → Type 0 → Option Refusal → (X → Type 0) → Type 0 → Result X Refusal → Type 0
-IsAnswer Large refusal Accepted Stays (Ok x) = (refusal ≡ None) × Accepted x
-IsAnswer Large refusal Accepted Stays (Err r) = ((refusal ≡ Some r) × Stays) ⊎ IsRefusal Large r
+-- an answer to what is told: if it is accepted, nothing refuses it; if not, it is refused for just that, or memory was
+abbrev pub IsTold : Option Refusal → Type 0 → Type 0 → Result (Unit {0}) Refusal → Type 0
+IsTold refusal Accepted Stays (Ok x) = (refusal ≡ None) × Accepted
+IsTold refusal Accepted Stays (Err r) = ((refusal ≡ Some r) × Stays) ⊎ (r ≡ OutOfMemory)
 
--- why a run may end early: the output failed, memory was refused, or a number is too large, for which there is a cause
+-- an answer to what is asked: if this is found, nothing refuses it; if not, it is refused for just that, or for what ends the
+-- run
+abbrev pub IsFound : {X : Type 0} → (Refusal → Type 0) → Option Refusal → X → Result X Refusal → Type 0
+IsFound Ends refusal wanted (Ok found) = (refusal ≡ None) × (found ≡ wanted)
+IsFound Ends refusal wanted (Err r) = (refusal ≡ Some r) ⊎ Ends r
+
+-- why a run may end early: the output failed, memory was refused, or what it asked for was refused so that the run ends
+abbrev pub IsEnd : (Refusal → Type 0) → RunFault → Type 0
+IsEnd Ends (fault.Refused code) = (code ≡ 1) ⊎ ((refusal : Refusal) × (code ≡ code_of refusal) × Ends refusal)
+IsEnd Ends fault.Write = Unit {0}
+
+-- the same, where nothing but a number that is too large ends it, for which there is a cause
 abbrev pub IsRunEnd : Type 0 → RunFault → Type 0
 IsRunEnd Large (fault.Refused code) = (code ≡ 1) ⊎ ((code ≡ 10) × Large)
 IsRunEnd Large fault.Write = Unit {0}

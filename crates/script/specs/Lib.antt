@@ -9,6 +9,7 @@ pub mod Text
 pub mod Weights
 pub mod Engines
 pub mod Ends
+pub mod Answers
 pub mod Standing
 pub mod PlainStanding
 pub mod Relays

@@ -31,11 +31,6 @@ module _ {T : Type 0} where
     pub wide : AreWide r.plan r.changes
     pub inputs : length r.inputs ≡ length r.plan
 
-  -- the changes of each input are the session's, and so are the frontiers
-  pub record Records (r : Register T) (s : Session T) : Type 0 where
-    pub changes : (input : ℕ) → IsTrue (is_input_of r.plan input) → list_of r.plan r.changes input ≡ reverse (fed_to input s.fed)
-    pub inputs : r.inputs ≡ s.inputs
-
   -- a change is put behind those of its input
   abbrev pub with_entry : Fed T → Register T → Register T
   with_entry f r = record r { changes = set r.changes (inputs_before r.plan f.input) (list_of r.plan r.changes f.input ++ f.update ∷ []) }
@@ -43,6 +38,12 @@ module _ {T : Type 0} where
   -- an input's frontier is another one
   abbrev pub with_input : ℕ → List T → Register T → Register T
   with_input i ts r = record r { inputs = set r.inputs i ts }
+
+-- the changes of each input are the session's, and so are the frontiers; each view may be read from the least time on
+pub record Records {T : Type 0} (minimum : T) (r : Register T) (s : Session T) : Type 0 where
+  pub changes : (input : ℕ) → IsTrue (is_input_of r.plan input) → list_of r.plan r.changes input ≡ reverse (fed_to input s.fed)
+  pub inputs : r.inputs ≡ s.inputs
+  pub since : (view : ℕ) → s.since view ≡ minimum ∷ []
 
 module _ {T : Type 0} (below : T → T → Bool) where
   -- what refuses a change, and a frontier

@@ -1,18 +1,19 @@
--- A session by definition: which changes were accepted, and where the inputs' frontiers stand. It knows neither workers nor
--- differences.
-use Rattle.std.specs.Prelude.{ℕ, Bool, List, [], ◌∷◌, length, map, set, Option}
+-- A session by definition: which changes were accepted, where the inputs' frontiers stand, and from where on each view may
+-- be read. It knows neither workers nor differences.
+use Rattle.std.specs.Prelude.{ℕ, Bool, not, List, [], ◌∷◌, length, map, set, Option}
 use Rattle.std.specs.declared.cmp.Ordering.{Ordering}
 use Rattle.lattice.specs.Frontiers.{is_beyond}
 use Rattle.antichain.specs.Antichains.{least}
 use Rattle.update.specs.Bags.{Entry}
 use Rattle.update.specs.declared.change.Update.{Update}
 use Rattle.update.specs.declared.refusal.Refusal.{Refusal}
-use Rattle.update.specs.declared.refusal.Refusal.TheVariants.{NotPassed}
+use Rattle.update.specs.declared.refusal.Refusal.TheVariants.{NotPassed, GivenUp}
 use Rattle.plan.specs.Changes.{query_at, open_for}
 use Rattle.plan.specs.Rules.{first_refusal}
 use Rattle.plan.specs.declared.node.Node.{Node}
 use Rattle.machine.specs.declared.event.Fed.{Fed}
 use Rattle.machine.specs.Worlds.{fed_to}
+use Rattle.machine.specs.Boards.{is_from_start}
 use Rattle.machine.specs.Inputs.{front_at, first_inputs, feed_faults, advance_faults}
 use Rattle.script.specs.Bags.{bag_of}
 use Rattle.script.specs.Changes.{changes_along}
@@ -23,19 +24,21 @@ pub record Session (T : Type 0) : Type 0 where
   pub fed : List (Fed T)
   -- by node, the frontier of an input
   pub inputs : List (List T)
+  -- the frontier beyond which a view may be read
+  pub since : ℕ → List T
 
 module _ {T : Type 0} where
-  -- before the first command nothing was accepted, and each input's frontier is the least time
+  -- before the first command nothing was accepted, each input's frontier is the least time, and each view may be read from it on
   abbrev pub first_session : T → List Node → Session T
-  first_session minimum p = record { fed = []; inputs = first_inputs minimum p }
+  first_session minimum p = record { fed = []; inputs = first_inputs minimum p; since = λ _. minimum ∷ [] }
 
   -- a change is accepted
   abbrev pub with_change : Fed T → Session T → Session T
-  with_change f s = record { fed = f ∷ s.fed; inputs = s.inputs }
+  with_change f s = record s { fed = f ∷ s.fed }
 
   -- an input's frontier moves on; with no time the input is closed
   abbrev pub with_frontier : ℕ → List T → Session T → Session T
-  with_frontier i ts s = record { fed = s.fed; inputs = set s.inputs i ts }
+  with_frontier i ts s = record s { inputs = set s.inputs i ts }
 
 module _ {T : Type 0} (below : T → T → Bool) (p : List Node) (s : Session T) where
   -- what refuses a change
@@ -50,9 +53,13 @@ module _ {T : Type 0} (below : T → T → Bool) (p : List Node) (s : Session T)
   abbrev pub view_frontier : ℕ → List T
   view_frontier v = least below (open_for below p (λ i. front_at i s.inputs) v)
 
-  -- what refuses a reading: the view may still change at the time
+  -- what refuses a reading: the view may still change at the time, or the time was given up
   abbrev pub read_refusal : ℕ → T → Option Refusal
-  read_refusal v t = first_refusal ((is_beyond below (view_frontier v) t, NotPassed) ∷ [])
+  read_refusal v t = first_refusal ((is_beyond below (view_frontier v) t, NotPassed) ∷ (not (is_beyond below (s.since v) t), GivenUp) ∷ [])
+
+  -- what refuses the changes of a view: some time was given up
+  abbrev pub changes_refusal : T → ℕ → Option Refusal
+  changes_refusal minimum v = first_refusal ((not (is_from_start below minimum (s.since v)), GivenUp) ∷ [])
 
   -- the rows of a view at a time: the query, from scratch, on the accepted changes at or before it
   abbrev pub rows_at : ℕ → T → List Entry

@@ -1,5 +1,5 @@
 -- Which board stands for which session.
-use Rattle.std.specs.Prelude.{◌≡◌, ℕ, Bool, List, [], ◌∷◌, length, Option, Some, None}
+use Rattle.std.specs.Prelude.{◌≡◌, ℕ, Bool, List, length, Option, Some, None}
 use Rattle.update.specs.declared.refusal.Refusal.{Refusal}
 use Rattle.update.specs.declared.refusal.Refusal.TheVariants.{OutOfMemory}
 use Rattle.machine.specs.declared.event.Event.{Event}
@@ -17,12 +17,12 @@ module _ {T : Type 0} where
   IsReadyUnless (Some refusal) b = (refusal ≡ OutOfMemory) × (b.dataflow.workers ≡ 1)
 
 module _ {T : Type 0} (below : T → T → Bool) (minimum : T) where
-  -- the board may stand after a history in which just these changes were fed and the inputs' frontiers came to stand so, and
-  -- in which no time was given up at a view
+  -- the board may stand after a history in which just these changes were fed, and the inputs' frontiers and those beyond which
+  -- views may be read came to stand so
   pub record StandsAs (b : Shown T) (s : Session T) : Type 0 where
     pub history : List (Event T)
     pub stands : Stands below minimum b history
     pub fed : (world below minimum b.dataflow history).fed ≡ s.fed
     pub inputs : (i : ℕ) → open_at i (world below minimum b.dataflow history).openings ≡ front_at i s.inputs
     pub nodes : length s.inputs ≡ length b.dataflow.nodes
-    pub since : (view : ℕ) → (world below minimum b.dataflow history).since view ≡ minimum ∷ []
+    pub since : (view : ℕ) → (world below minimum b.dataflow history).since view ≡ s.since view

@@ -1,5 +1,5 @@
 -- The text of a script: the pieces of its commands, in order.
-use Rattle.std.specs.Prelude.{ℕ, Bool, nat_le, max, List, [], ◌∷◌, ◌++◌, Option, Some, None}
+use Rattle.std.specs.Prelude.{◌≡◌, ℕ, Bool, nat_le, max, List, [], ◌∷◌, ◌++◌, Option, Some, None}
 use Rattle.std.specs.Ordering.{nat_cmp}
 use Rattle.std.specs.declared.cmp.Ordering.{Ordering}
 use Rattle.lattice.specs.declared.product.Pair.{Pair}
@@ -11,7 +11,7 @@ use Rattle.grammar.specs.declared.command.Command.TheVariants.{Change, Advance, 
 use Rattle.grammar.specs.declared.command.CommandLine.{CommandLine}
 use Rattle.grammar.specs.Told.{Told, name_at}
 use Rattle.script.specs.Printing.{refused_text, rows_text, changes_text, frontier_text}
-use Rattle.script.specs.Sessions.{Session, first_session, with_change, with_frontier, change_refusal, frontier_refusal, read_refusal, rows_at, changes_at, frontier_at}
+use Rattle.script.specs.Sessions.{Session, first_session, with_change, with_frontier, change_refusal, frontier_refusal, read_refusal, changes_refusal, rows_at, changes_at, frontier_at}
 
 -- the first pair is at or below the second
 abbrev pub at_or_below : Pair ℕ ℕ → Pair ℕ ℕ → Bool
@@ -35,7 +35,7 @@ module _ (p : List Node) (s : Sitting) where
   refusal_of (Advance input times) = frontier_refusal at_or_below p s input times
   refusal_of (Close input) = None
   refusal_of (Read view time) = read_refusal at_or_below p s view time
-  refusal_of (Changes view) = None
+  refusal_of (Changes view) = changes_refusal at_or_below p s (make_pair 0 0) view
   refusal_of (Frontier view) = None
 
   -- the session after a command that is accepted
@@ -79,6 +79,10 @@ module _ (t : Told) (s : Sitting) where
 abbrev pub after_lines : List Node → Sitting → List CommandLine → Sitting
 after_lines p s [] = s
 after_lines p s (line ∷ lines) = after_lines p (after p s line.command) lines
+
+-- this holds of the session after some of the lines, from the first one on
+abbrev pub HoldsAlong : (Sitting → Type 0) → List Node → Sitting → List CommandLine → Type 0
+HoldsAlong Holds p s lines = (done : List CommandLine) × (rest : List CommandLine) × (done ++ rest ≡ lines) × Holds (after_lines p s done)
 
 -- what lines write
 abbrev pub lines_text : Told → Sitting → List CommandLine → List ℕ

@@ -1,14 +1,18 @@
 //! What carries out the commands of a script. The loop over the lines knows no more of it than this: for which session it
 //! stands, by the definition, and that it answers each command as that session does. How rows are kept, and by whom, is the
-//! engine's own. It may end the run where memory is refused, or where an answer has too large a number; the latter only where
-//! the changes that were accepted give some node a large weight.
-ghost use Rattle.std.specs.Prelude.{◌≡◌, IsTrue, List, None};
+//! engine's own.
+//!
+//! A question is answered where the engine has settled: nothing that it was told waits to be carried on. How it settles is a
+//! trait of its own, since an engine whose workers are threads needs more for that than an engine on the caller's thread.
+//! An engine may end the run where memory is refused, and by refusals of its own where it has a cause in the session: a number
+//! that is too large, say, where the changes that were accepted give some node a large weight.
+ghost use Rattle.std.specs.Prelude.{◌≡◌, IsTrue, List, IfErr, OnOk};
+ghost use Rattle.update.specs.declared.refusal.Refusal.{Refusal};
 ghost use Rattle.plan.specs.declared.node.Node.{Node};
 ghost use Rattle.grammar.specs.Commands.{is_input_of, is_view_of};
-ghost use Rattle.script.specs.Engines.{IsAnswer};
-ghost use Rattle.script.specs.Sessions.{with_change, with_frontier, change_refusal, frontier_refusal, read_refusal, rows_at, changes_at, frontier_at};
-ghost use Rattle.script.specs.Text.{Sitting, at_or_below, in_print, join_of};
-ghost use Rattle.script.specs.Weights.{IsLarge};
+ghost use Rattle.script.specs.Answers.{TakesChange, TakesFrontier, FindsRows, FindsChanges, FindsFrontier};
+ghost use Rattle.script.specs.Engines.{EndsRun};
+ghost use Rattle.script.specs.Text.{Sitting};
 
 use antichain::Antichain;
 use lattice::Bitime;
@@ -25,6 +29,12 @@ pub(crate) trait Engine {
     /// It stands for the session.
     ghost stands: { Self → Sitting → Type 0 };
 
+    /// Nothing that it was told waits, so that questions can be answered.
+    ghost settled: { Self → Type 0 };
+
+    /// A question in this session may be refused so, and the run then ends.
+    ghost ends: { List Node → Sitting → Refusal → Type 0 };
+
     /// A change of an input.
     fn change(
         &mut self,
@@ -35,33 +45,53 @@ pub(crate) trait Engine {
         requires { IsTrue (is_input_of (plan self.old) input) }
         ensures plan { plan self.new ≡ plan self.old }
         ensures answered { (s : Sitting) → stands self.old s
-            → IsAnswer ⊥ (change_refusal at_or_below (plan self.old) s (record { input = input; update = update })) (λ _. stands self.new (with_change (record { input = input; update = update }) s)) (stands self.new s) result };
+            → TakesChange (plan self.old) s (record { input = input; update = update }) (stands self.new) result };
 
     /// A frontier of an input: with no time the input is closed.
     fn advance(&mut self, input: NodeId, times: Times<Bitime>) -> Result<(), Refusal>
         requires { IsTrue (is_input_of (plan self.old) input) }
         ensures plan { plan self.new ≡ plan self.old }
         ensures answered { (s : Sitting) → stands self.old s
-            → IsAnswer ⊥ (frontier_refusal at_or_below (plan self.old) s input times) (λ _. stands self.new (with_frontier input times s)) (stands self.new s) result };
+            → TakesFrontier (plan self.old) s input times (stands self.new) result };
 
     /// The rows of a view at a time.
     fn read(&mut self, alloc: Global, view: NodeId, time: Bitime) -> Result<Bag, Refusal>
-        requires { IsTrue (is_view_of (plan self.old) view) }
+        requires view { IsTrue (is_view_of (plan self.old) view) }
+        requires settled { settled self.old }
         ensures plan { plan self.new ≡ plan self.old }
+        ensures stands { (s : Sitting) → stands self.old s → stands self.new s }
         ensures answered { (s : Sitting) → stands self.old s
-            → IsAnswer (IsLarge (plan self.old) s) (read_refusal at_or_below (plan self.old) s view time) (λ bag. (bag ≡ rows_at at_or_below (plan self.old) s view time) × stands self.new s) (stands self.new s) result };
+            → FindsRows (ends (plan self.old) s) (plan self.old) s view time result };
 
     /// The changes of a view at the times that its frontier has passed.
     fn changes(&mut self, alloc: Global, view: NodeId) -> Result<Updates<Bitime>, Refusal>
-        requires { IsTrue (is_view_of (plan self.old) view) }
+        requires view { IsTrue (is_view_of (plan self.old) view) }
+        requires settled { settled self.old }
         ensures plan { plan self.new ≡ plan self.old }
+        ensures stands { (s : Sitting) → stands self.old s → stands self.new s }
         ensures answered { (s : Sitting) → stands self.old s
-            → IsAnswer (IsLarge (plan self.old) s) None (λ changes. (changes ≡ changes_at at_or_below (plan self.old) s in_print join_of view) × stands self.new s) (stands self.new s) result };
+            → FindsChanges (ends (plan self.old) s) (plan self.old) s view result };
 
     /// The frontier of a view.
     fn frontier(&mut self, alloc: Global, view: NodeId) -> Result<Antichain<Bitime>, Refusal>
-        requires { IsTrue (is_view_of (plan self.old) view) }
+        requires view { IsTrue (is_view_of (plan self.old) view) }
+        requires settled { settled self.old }
         ensures plan { plan self.new ≡ plan self.old }
+        ensures stands { (s : Sitting) → stands self.old s → stands self.new s }
         ensures answered { (s : Sitting) → stands self.old s
-            → IsAnswer ⊥ None (λ frontier. (frontier ≡ frontier_at at_or_below (plan self.old) s in_print view) × stands self.new s) (stands self.new s) result };
+            → FindsFrontier (ends (plan self.old) s) (plan self.old) s view result };
+
+    /// No run goes on after a refusal that ends it.
+    ghost ending: { (p : List Node) (s : Sitting) (refusal : Refusal) → ends p s refusal → EndsRun refusal };
+}
+
+/// An engine that settles on the caller's thread.
+pub(crate) trait Settle: Engine {
+    /// Carries on all that waits.
+    fn settle(&mut self, alloc: Global) -> Result<(), Refusal>
+        ensures plan { Self.plan self.new ≡ Self.plan self.old }
+        ensures stands { (s : Sitting) → Self.stands self.old s → Self.stands self.new s }
+        ensures settled { OnOk result (Self.settled self.new) }
+        ensures refused { (s : Sitting) → Self.stands self.old s
+            → IfErr result (Self.ends (Self.plan self.old) s) };
 }

@@ -1,17 +1,14 @@
 //! One line of a script: its command goes to the engine, and what it answers is printed.
-ghost use Rattle.std.specs.Prelude.{◌≡◌, [], true, false, IfErr, IfOk, OnOk};
-ghost use Rattle.update.specs.Refusals.{code_of};
-ghost use Rattle.update.specs.declared.refusal.Refusal.TheVariants.{Overflow};
+ghost use Rattle.std.specs.Prelude.{◌≡◌, [], true, false, IfErr, IfOk, IsTrue, OnOk};
 ghost use Rattle.grammar.specs.Commands.{IsAbout};
 ghost use Rattle.grammar.specs.Told.{Told};
-ghost use Rattle.script.specs.Engines.{EndsRun, IsAnswer, IsRunEnd, failures, is_reading};
+ghost use Rattle.script.specs.Engines.{EndsRun, IsTold, IsEnd, failures, is_reading};
 ghost use Rattle.script.specs.Outs.{Wrote, Broke};
 ghost use Rattle.script.specs.Printing.{refused_text};
 ghost use Rattle.script.specs.Text.{Sitting, refusal_of, accepting, after, piece};
-ghost use Rattle.script.specs.Weights.{IsLarge};
 ghost use Rattle.script.specs.declared.fault.RunFault.TheVariants.{Refused};
 
-use crate::engine::Engine;
+use crate::engine::{Engine, Settle};
 use crate::fault::RunFault;
 use crate::gathering::Gathered;
 use crate::outputs::Out;
@@ -23,15 +20,15 @@ use plan::NodeId;
 use std::alloc::{AllocError, Global};
 use update::{Refusal, Update};
 
-// What a command was refused for, unless that ends the run.
-fn settled(refusal: Refusal) -> Result<Refusal, RunFault>
-    ensures goes_on { IfOk result (λ r. (r ≡ refusal) × (EndsRun refusal → ⊥)) }
-    ensures ends { IfErr result (λ fault. (fault ≡ Refused (code_of refusal)) × EndsRun refusal) }
+// Whether a refusal ends the run, so that it is no line of the text.
+fn ends_run(refusal: Refusal) -> bool
+    ensures ends { IsTrue result → EndsRun refusal }
+    ensures goes_on { result ≡ false → EndsRun refusal → ⊥ }
 {
-    match refusal {
-        Refusal::OutOfMemory | Refusal::Overflow => Err(RunFault::from(refusal)),
-        _ => Ok(refusal),
-    }
+    matches!(
+        refusal,
+        Refusal::OutOfMemory | Refusal::Overflow | Refusal::NoThread
+    )
 }
 
 // The times, copied.
@@ -48,7 +45,7 @@ fn hand_over<E: Engine>(alloc: Global, engine: &mut E, command: &Command) -> Res
     requires writes_nothing { is_reading command.now ≡ false }
     ensures plan { E.plan engine.new ≡ E.plan engine.old }
     ensures answered { (s : Sitting) → E.stands engine.old s
-        → IsAnswer ⊥ (refusal_of (E.plan engine.old) s command.now) (λ _. E.stands engine.new (accepting (E.plan engine.old) s command.now)) (E.stands engine.new s) result }
+        → IsTold (refusal_of (E.plan engine.old) s command.now) (E.stands engine.new (accepting (E.plan engine.old) s command.now)) (E.stands engine.new s) result }
 {
     match command {
         Command::Change {
@@ -74,7 +71,24 @@ fn hand_over<E: Engine>(alloc: Global, engine: &mut E, command: &Command) -> Res
     }
 }
 
-// Prints what a command was refused for. If that ends the run, the text of the lines before is put first, whole.
+// Ends the run: the text of the lines before is put, whole.
+fn end_run<W: Out>(
+    gathered: &mut Gathered,
+    out: &mut W,
+    refusal: Refusal,
+) -> Result<(), RunFault>
+    ensures ends { OnOk result ⊥ }
+    ensures broke { IfErr result
+        (λ fault. Broke W.took out.old gathered.old [] (failures fault) out.new) }
+    ensures overflow { IfErr result
+        (λ fault. fault ≡ Refused 10 → W.took out.old gathered.old 0 out.new) }
+    ensures known { IfErr result (IsEnd (λ met. met ≡ refusal)) }
+{
+    gathered.flush(out)?;
+    Err(RunFault::from(refusal))
+}
+
+// Prints what a command was refused for, unless that ends the run.
 fn refuse<W: Out>(
     gathered: &mut Gathered,
     out: &mut W,
@@ -88,18 +102,13 @@ fn refuse<W: Out>(
         (λ fault. Broke W.took out.old gathered.old [] (failures fault) out.new) }
     ensures overflow { IfErr result
         (λ fault. fault ≡ Refused 10 → W.took out.old gathered.old 0 out.new) }
-    ensures known { IfErr result (IsRunEnd (refusal ≡ Overflow)) }
+    ensures known { IfErr result (IsEnd (λ met. (met ≡ refusal) × EndsRun refusal)) }
 {
-    match settled(refusal) {
-        Ok(refusal) => {
-            gathered.print_refused(line, refusal)?;
-            Ok(())
-        }
-        Err(fault) => {
-            gathered.flush(out)?;
-            Err(fault)
-        }
+    if ends_run(refusal) {
+        return end_run(gathered, out, refusal);
     }
+    gathered.print_refused(line, refusal)?;
+    Ok(())
 }
 
 // A line that writes nothing where its command is accepted.
@@ -118,7 +127,7 @@ fn tell<E: Engine, W: Out>(
         × Wrote W.took out.old gathered.old (piece t s line.now) out.new gathered.new) }
     ensures broke { IfErr result
         (λ fault. Broke W.took out.old gathered.old [] (failures fault) out.new) }
-    ensures known { (s : Sitting) → E.stands engine.old s → IfErr result (IsRunEnd ⊥) }
+    ensures known { (s : Sitting) → E.stands engine.old s → IfErr result (IsEnd (λ refusal. ⊥)) }
 {
     match hand_over(alloc, engine, &line.command) {
         Ok(()) => Ok(()),
@@ -126,7 +135,7 @@ fn tell<E: Engine, W: Out>(
     }
 }
 
-// A line that asks for something of a view.
+// A line that asks for something of a view, where the engine has settled.
 fn ask<E: Engine, W: Out>(
     alloc: Global,
     engine: &mut E,
@@ -138,6 +147,7 @@ fn ask<E: Engine, W: Out>(
     requires plan { script.now.plan ≡ E.plan engine.old }
     requires about { IsAbout (E.plan engine.old) line.now.command }
     requires reads { is_reading line.now.command ≡ true }
+    requires settled { E.settled engine.old }
     ensures plan { E.plan engine.new ≡ E.plan engine.old }
     ensures ran { (s : Sitting) → E.stands engine.old s
         → OnOk result (E.stands engine.new (after script.now.plan s line.now.command) × Wrote W.took out.old gathered.old (piece script.now s line.now) out.new gathered.new) }
@@ -145,7 +155,7 @@ fn ask<E: Engine, W: Out>(
         → IfErr result (λ fault. Broke W.took out.old gathered.old (piece script.now s line.now) (failures fault) out.new) }
     ensures overflow { IfErr result
         (λ fault. fault ≡ Refused 10 → W.took out.old gathered.old 0 out.new) }
-    ensures known { (s : Sitting) → E.stands engine.old s → IfErr result (IsRunEnd (IsLarge script.now.plan s)) }
+    ensures known { (s : Sitting) → E.stands engine.old s → IfErr result (IsEnd (E.ends script.now.plan s)) }
 {
     match &line.command {
         Command::Read { view, time } => match engine.read(alloc, *view, *time) {
@@ -164,8 +174,35 @@ fn ask<E: Engine, W: Out>(
     }
 }
 
+// A line that asks for something of a view: the engine settles first.
+fn settle_and_ask<E: Settle, W: Out>(
+    alloc: Global,
+    engine: &mut E,
+    script: &Script,
+    line: &CommandLine,
+    gathered: &mut Gathered,
+    out: &mut W,
+) -> Result<(), RunFault>
+    requires plan { script.now.plan ≡ E.plan engine.old }
+    requires about { IsAbout (E.plan engine.old) line.now.command }
+    requires reads { is_reading line.now.command ≡ true }
+    ensures plan { E.plan engine.new ≡ E.plan engine.old }
+    ensures ran { (s : Sitting) → E.stands engine.old s
+        → OnOk result (E.stands engine.new (after script.now.plan s line.now.command) × Wrote W.took out.old gathered.old (piece script.now s line.now) out.new gathered.new) }
+    ensures broke { (s : Sitting) → E.stands engine.old s
+        → IfErr result (λ fault. Broke W.took out.old gathered.old (piece script.now s line.now) (failures fault) out.new) }
+    ensures overflow { IfErr result
+        (λ fault. fault ≡ Refused 10 → W.took out.old gathered.old 0 out.new) }
+    ensures known { (s : Sitting) → E.stands engine.old s → IfErr result (IsEnd (E.ends script.now.plan s)) }
+{
+    match engine.settle(alloc) {
+        Ok(()) => ask(alloc, engine, script, line, gathered, out),
+        Err(refusal) => end_run(gathered, out, refusal),
+    }
+}
+
 /// Carries out a line: its command goes to the engine, and what that answers is printed.
-pub(crate) fn obey<E: Engine, W: Out>(
+pub(crate) fn obey<E: Settle, W: Out>(
     alloc: Global,
     engine: &mut E,
     script: &Script,
@@ -183,10 +220,10 @@ pub(crate) fn obey<E: Engine, W: Out>(
     ensures overflow { (s : Sitting) → E.stands engine.old s
         → IfErr result (λ fault. fault ≡ Refused 10
         → (is_reading line.now.command ≡ true) × W.took out.old gathered.old 0 out.new) }
-    ensures known { (s : Sitting) → E.stands engine.old s → IfErr result (IsRunEnd (IsLarge script.now.plan s)) }
+    ensures known { (s : Sitting) → E.stands engine.old s → IfErr result (IsEnd (E.ends script.now.plan s)) }
 {
     if is_reading(&line.command) {
-        return ask(alloc, engine, script, line, gathered, out);
+        return settle_and_ask(alloc, engine, script, line, gathered, out);
     }
     tell(alloc, engine, line, gathered, out)?;
     gathered.pass_on(out)?;

@@ -10,6 +10,7 @@ ghost use Rattle.std.specs.Prelude.{◌≡◌, ◌<◌, ◌++◌, ℕ, List, [],
 ghost use Rattle.std.specs.List.{All};
 ghost use Rattle.lattice.specs.declared.product.Pair.{Pair};
 ghost use Rattle.lattice.specs.Frontiers.{is_beyond};
+ghost use Rattle.lattice.specs.Pairs.{make_pair};
 ghost use Rattle.update.specs.declared.refusal.Refusal.TheVariants.{OutOfMemory};
 ghost use Rattle.plan.specs.Changes.{open_for};
 ghost use Rattle.plan.specs.Operators.{is_linear};
@@ -17,16 +18,16 @@ ghost use Rattle.plan.specs.Rules.{IsRefusalBy};
 ghost use Rattle.machine.specs.Inputs.{front_at};
 ghost use Rattle.grammar.specs.Commands.{is_input_of, is_view_of};
 ghost use Rattle.oracle.specs.Evaluation.{inputs_before};
+ghost use Rattle.script.specs.Answers.{FindsRows, FindsChanges, FindsFrontier};
 ghost use Rattle.script.specs.Ends.{IsTextBeforeOverflow};
-ghost use Rattle.script.specs.Engines.{IsAnswer, IsRunEnd, failures};
+ghost use Rattle.script.specs.Engines.{IsRunEnd, failures};
 ghost use Rattle.script.specs.declared.fault.RunFault.TheVariants.{Refused};
 ghost use Rattle.script.specs.Outs.{IsBeginning};
 ghost use Rattle.script.specs.PlainStanding.{IsRegister, Records, AreFrontiers, with_entry, with_input, entry_refusal, input_refusal};
-ghost use Rattle.script.specs.Sessions.{read_refusal, rows_at, changes_at, frontier_at};
-ghost use Rattle.script.specs.Text.{Sitting, at_or_below, in_print, join_of, first_sitting, text};
-ghost use Rattle.script.specs.Weights.{IsLarge, IsLargeScript};
+ghost use Rattle.script.specs.Text.{Sitting, at_or_below, first_sitting, text};
+ghost use Rattle.script.specs.Weights.{EndsByWeight, IsLargeScript};
 
-use crate::engine::Engine;
+use crate::engine::{Engine, Settle};
 use crate::fault::RunFault;
 use crate::outputs::Out;
 use crate::running::run;
@@ -150,7 +151,7 @@ impl Plain {
     pub(crate) fn open(alloc: Global, plan: &Plan) -> Result<Plain, Refusal>
         requires linear { All (λ node. IsTrue (is_linear node)) plan.now }
         ensures plan { IfOk result (λ plain. plain.plan ≡ plan.now) }
-        ensures stands { IfOk result (λ plain. Records plain (first_sitting plan.now)) }
+        ensures stands { IfOk result (λ plain. Records (make_pair 0 0) plain (first_sitting plan.now)) }
         ensures refused { IfErr result (λ refusal. refusal ≡ OutOfMemory) }
     {
         let plan = plan.clone()?;
@@ -194,8 +195,8 @@ impl Plain {
     // The rows of a view at a time.
     fn rows(&self, alloc: Global, view: NodeId, time: Bitime) -> Result<Bag, Refusal>
         requires { IsTrue (is_view_of self.now.plan view) }
-        ensures answered { (s : Sitting) → Records self.now s
-            → IsAnswer (IsLarge self.now.plan s) (read_refusal at_or_below self.now.plan s view time) (λ bag. (bag ≡ rows_at at_or_below self.now.plan s view time) × Records self.now s) (Records self.now s) result }
+        ensures answered { (s : Sitting) → Records (make_pair 0 0) self.now s
+            → FindsRows (EndsByWeight self.now.plan s) self.now.plan s view time result }
     {
         let _count = self.plan.len();
         let open = open_for(alloc, &self.plan, &self.inputs, view)?;
@@ -208,8 +209,8 @@ impl Plain {
     // The changes of a view at the times that its frontier has passed.
     fn passed_changes(&self, alloc: Global, view: NodeId) -> Result<Updates<Bitime>, Refusal>
         requires { IsTrue (is_view_of self.now.plan view) }
-        ensures answered { (s : Sitting) → Records self.now s
-            → IsAnswer (IsLarge self.now.plan s) None (λ changes. (changes ≡ changes_at at_or_below self.now.plan s in_print join_of view) × Records self.now s) (Records self.now s) result }
+        ensures answered { (s : Sitting) → Records (make_pair 0 0) self.now s
+            → FindsChanges (EndsByWeight self.now.plan s) self.now.plan s view result }
     {
         let _count = self.plan.len();
         let frontiers = frontiers(alloc, &self.plan, &self.inputs)?;
@@ -220,8 +221,8 @@ impl Plain {
     // The frontier of a view: the least of what is open for it.
     fn view_frontier(&self, alloc: Global, view: NodeId) -> Result<Antichain<Bitime>, Refusal>
         requires { IsTrue (is_view_of self.now.plan view) }
-        ensures answered { (s : Sitting) → Records self.now s
-            → IsAnswer ⊥ None (λ frontier. (frontier ≡ frontier_at at_or_below self.now.plan s in_print view) × Records self.now s) (Records self.now s) result }
+        ensures answered { (s : Sitting) → Records (make_pair 0 0) self.now s
+            → FindsFrontier (EndsByWeight self.now.plan s) self.now.plan s view result }
     {
         let open = open_for(alloc, &self.plan, &self.inputs, view)?;
         let frontier = Antichain::least_of(alloc, &open)?;
@@ -232,11 +233,18 @@ impl Plain {
 }
 
 impl Engine for Plain {
+    ghost use Rattle.std.specs.Prelude.{⊤};
+    ghost use Rattle.lattice.specs.Pairs.{make_pair};
     ghost use Rattle.script.specs.PlainStanding.{Records};
+    ghost use Rattle.script.specs.Weights.{EndsByWeight, ends_by_weight};
 
     ghost plan = { λ r. r.plan };
 
-    ghost stands = { λ r s. Records r s };
+    ghost stands = { λ r s. Records (make_pair 0 0) r s };
+
+    ghost settled = { λ r. ⊤ };
+
+    ghost ends = { λ p s refusal. EndsByWeight p s refusal };
 
     fn change(
         &mut self,
@@ -261,6 +269,14 @@ impl Engine for Plain {
 
     fn frontier(&mut self, alloc: Global, view: NodeId) -> Result<Antichain<Bitime>, Refusal> {
         self.view_frontier(alloc, view)
+    }
+
+    ghost ending = { λ p s refusal ends. ends_by_weight p s refusal ends };
+}
+
+impl Settle for Plain {
+    fn settle(&mut self, _alloc: Global) -> Result<(), Refusal> {
+        Ok(())
     }
 }
 

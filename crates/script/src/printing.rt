@@ -1,7 +1,7 @@
 //! What a command asks for, printed line by line: each into the waiting text, which goes on to the output in large pieces.
 ghost use Rattle.std.specs.Prelude.{◌<◌, ℕ, List, [], IfErr, OnErr, OnOk, IsSomeAnd, codes, length, slice_get};
 ghost use Rattle.update.specs.Text.{entry_text};
-ghost use Rattle.script.specs.Engines.{IsRunEnd, failures};
+ghost use Rattle.script.specs.Engines.{IsEnd, failures};
 ghost use Rattle.script.specs.Outs.{Wrote, Broke};
 ghost use Rattle.script.specs.Printing.{rows_text, changes_text, frontier_text, update_text, element_text};
 
@@ -21,7 +21,7 @@ fn print_entry<W: Out>(
 ) -> Result<(), RunFault>
     ensures wrote { OnOk result (Wrote W.took out.old gathered.old (entry_text (record { row = row.now; count = count })) out.new gathered.new) }
     ensures broke { IfErr result (λ fault. Broke W.took out.old gathered.old (entry_text (record { row = row.now; count = count })) (failures fault) out.new) }
-    ensures known { IfErr result (IsRunEnd ⊥) }
+    ensures known { IfErr result (IsEnd (λ refusal. ⊥)) }
 {
     gathered.print_row(count, row)?;
     gathered.pass_on(out)?;
@@ -38,7 +38,7 @@ pub(crate) fn print_rows<W: Out>(
 ) -> Result<(), RunFault>
     ensures wrote { OnOk result (Wrote W.took out.old gathered.old (rows_text view.now time rows.now) out.new gathered.new) }
     ensures broke { IfErr result (λ fault. Broke W.took out.old gathered.old (rows_text view.now time rows.now) (failures fault) out.new) }
-    ensures known { IfErr result (IsRunEnd ⊥) }
+    ensures known { IfErr result (IsEnd (λ refusal. ⊥)) }
 {
     gathered.print_read(view, time, rows.len())?;
     for i in 0..rows.len() {
@@ -55,7 +55,7 @@ fn print_update<W: Out>(
 ) -> Result<(), RunFault>
     ensures wrote { OnOk result (Wrote W.took out.old gathered.old (update_text update.now) out.new gathered.new) }
     ensures broke { IfErr result (λ fault. Broke W.took out.old gathered.old (update_text update.now) (failures fault) out.new) }
-    ensures known { IfErr result (IsRunEnd ⊥) }
+    ensures known { IfErr result (IsEnd (λ refusal. ⊥)) }
 {
     gathered.print_update(update)?;
     gathered.pass_on(out)?;
@@ -71,7 +71,7 @@ pub(crate) fn print_changes<W: Out>(
 ) -> Result<(), RunFault>
     ensures wrote { OnOk result (Wrote W.took out.old gathered.old (changes_text view.now changes.now) out.new gathered.new) }
     ensures broke { IfErr result (λ fault. Broke W.took out.old gathered.old (changes_text view.now changes.now) (failures fault) out.new) }
-    ensures known { IfErr result (IsRunEnd ⊥) }
+    ensures known { IfErr result (IsEnd (λ refusal. ⊥)) }
 {
     gathered.print_count("changes", view, changes.len())?;
     for update in changes {
@@ -88,7 +88,7 @@ fn print_element<W: Out>(
 ) -> Result<(), RunFault>
     ensures wrote { OnOk result (Wrote W.took out.old gathered.old (element_text time.now) out.new gathered.new) }
     ensures broke { IfErr result (λ fault. Broke W.took out.old gathered.old (element_text time.now) (failures fault) out.new) }
-    ensures known { IfErr result (IsRunEnd ⊥) }
+    ensures known { IfErr result (IsEnd (λ refusal. ⊥)) }
 {
     gathered.print_element(*time)?;
     gathered.pass_on(out)?;
@@ -104,7 +104,7 @@ pub(crate) fn print_frontier<W: Out>(
 ) -> Result<(), RunFault>
     ensures wrote { OnOk result (Wrote W.took out.old gathered.old (frontier_text view.now elements.now) out.new gathered.new) }
     ensures broke { IfErr result (λ fault. Broke W.took out.old gathered.old (frontier_text view.now elements.now) (failures fault) out.new) }
-    ensures known { IfErr result (IsRunEnd ⊥) }
+    ensures known { IfErr result (IsEnd (λ refusal. ⊥)) }
 {
     gathered.print_count("frontier", view, elements.len())?;
     for time in elements {

@@ -1,13 +1,14 @@
 //! The lines of a script, one after another.
 ghost use Rattle.std.specs.Prelude.{◌≡◌, ◌≢◌, ◌⊎◌, ◌↔◌, ◌++◌, ℕ, List, [], IfErr, OnOk, IsErrOf};
 ghost use Rattle.script.specs.Ends.{IsTextBefore, IsTextBeforeOverflow};
-ghost use Rattle.script.specs.Engines.{IsRunEnd, failures};
+ghost use Rattle.update.specs.declared.refusal.Refusal.TheVariants.{Overflow};
+ghost use Rattle.script.specs.Engines.{IsEnd, IsRunEnd, failures};
 ghost use Rattle.script.specs.Outs.{IsBeginning, Wrote, Broke};
-ghost use Rattle.script.specs.Text.{Sitting, lines_text, text};
-ghost use Rattle.script.specs.Weights.{IsLargeAlong, IsLargeScript};
+ghost use Rattle.script.specs.Text.{Sitting, HoldsAlong, lines_text, text};
+ghost use Rattle.script.specs.Weights.{IsLargeScript};
 ghost use Rattle.script.specs.declared.fault.RunFault.TheVariants.{Refused};
 
-use crate::engine::Engine;
+use crate::engine::Settle;
 use crate::fault::RunFault;
 use crate::gathering::Gathered;
 use crate::obeying::obey;
@@ -18,7 +19,7 @@ use std::alloc::Global;
 use update::Refusal;
 
 // Carries out all lines.
-fn obey_all<E: Engine, W: Out>(
+fn obey_all<E: Settle, W: Out>(
     alloc: Global,
     engine: &mut E,
     script: &Script,
@@ -32,9 +33,9 @@ fn obey_all<E: Engine, W: Out>(
         → IfErr result (λ fault. Broke W.took out.old gathered.old (lines_text script.now s script.now.commands) (failures fault) out.new) }
     ensures overflow { (s : Sitting) → E.stands engine.old s
         → IfErr result (λ fault. fault ≡ Refused 10 → (part : List ℕ)
-        × IsTextBefore script.now s script.now.commands part
+        × IsTextBefore (λ now. E.ends script.now.plan now Overflow) script.now s script.now.commands part
         × W.took out.old (gathered.old ++ part) 0 out.new) }
-    ensures known { (s : Sitting) → E.stands engine.old s → IfErr result (IsRunEnd (IsLargeAlong script.now.plan s script.now.commands)) }
+    ensures known { (s : Sitting) → E.stands engine.old s → IfErr result (IsEnd (λ refusal. HoldsAlong (λ now. E.ends script.now.plan now refusal) script.now.plan s script.now.commands)) }
 {
     for line in script.command_lines() {
         obey(alloc, engine, script, line, gathered, out)?;
@@ -44,7 +45,7 @@ fn obey_all<E: Engine, W: Out>(
 
 /// Carries out a script on an engine that has its plan: what is taken is what the lines write in the session for which the
 /// engine stands.
-pub(crate) fn run<E: Engine, W: Out>(
+pub(crate) fn run<E: Settle, W: Out>(
     alloc: Global,
     engine: &mut E,
     script: &Script,
@@ -57,9 +58,9 @@ pub(crate) fn run<E: Engine, W: Out>(
         → IfErr result (λ fault. Broke W.took out.old [] (lines_text script.now s script.now.commands) (failures fault) out.new) }
     ensures overflow { (s : Sitting) → E.stands engine.old s
         → IfErr result (λ fault. fault ≡ Refused 10 → (part : List ℕ)
-        × IsTextBefore script.now s script.now.commands part
+        × IsTextBefore (λ now. E.ends script.now.plan now Overflow) script.now s script.now.commands part
         × W.took out.old part 0 out.new) }
-    ensures known { (s : Sitting) → E.stands engine.old s → IfErr result (IsRunEnd (IsLargeAlong script.now.plan s script.now.commands)) }
+    ensures known { (s : Sitting) → E.stands engine.old s → IfErr result (IsEnd (λ refusal. HoldsAlong (λ now. E.ends script.now.plan now refusal) script.now.plan s script.now.commands)) }
 {
     let mut gathered = Gathered::new(alloc);
     obey_all(alloc, engine, script, &mut gathered, out)?;

@@ -6,14 +6,13 @@ ghost use Rattle.update.specs.declared.refusal.Refusal.TheVariants.{OutOfMemory}
 ghost use Rattle.plan.specs.Operators.{is_linear};
 ghost use Rattle.grammar.specs.Commands.{is_input_of, is_view_of};
 ghost use Rattle.lattice.specs.Pairs.{make_pair};
-ghost use Rattle.script.specs.Engines.{IsAnswer};
-ghost use Rattle.script.specs.Relays.{IsIdle, NothingWaits};
-ghost use Rattle.script.specs.Sessions.{with_change, with_frontier, change_refusal, frontier_refusal, read_refusal, rows_at, changes_at, frontier_at};
+ghost use Rattle.script.specs.Answers.{TakesChange, TakesFrontier, FindsRows, FindsChanges, FindsFrontier};
+ghost use Rattle.script.specs.Relays.{IsSettled};
 ghost use Rattle.script.specs.Standing.{StandsAs};
-ghost use Rattle.script.specs.Text.{Sitting, at_or_below, in_print, join_of, first_sitting};
-ghost use Rattle.script.specs.Weights.{IsLarge};
+ghost use Rattle.script.specs.Text.{Sitting, at_or_below, first_sitting};
+ghost use Rattle.script.specs.Weights.{EndsByWeight};
 
-use crate::engine::Engine;
+use crate::engine::{Engine, Settle};
 use crate::relay::relay;
 use antichain::Antichain;
 use lattice::Bitime;
@@ -79,7 +78,8 @@ impl Solo {
         requires { IsTrue (is_input_of self.old.dataflow.nodes input) }
         ensures plan { self.new.dataflow.nodes ≡ self.old.dataflow.nodes }
         ensures answered { (s : Sitting) → StandsAs at_or_below (make_pair 0 0) self.old s
-            → IsAnswer ⊥ (change_refusal at_or_below self.old.dataflow.nodes s (record { input = input; update = update })) (λ _. StandsAs at_or_below (make_pair 0 0) self.new (with_change (record { input = input; update = update }) s)) (StandsAs at_or_below (make_pair 0 0) self.new s) result }
+            → TakesChange self.old.dataflow.nodes s (record { input = input; update = update })
+            (StandsAs at_or_below (make_pair 0 0) self.new) result }
     {
         let _workers = self.board.workers();
         self.board.feed(CLIENT, input, update)
@@ -90,7 +90,7 @@ impl Solo {
         requires { IsTrue (is_input_of self.old.dataflow.nodes input) }
         ensures plan { self.new.dataflow.nodes ≡ self.old.dataflow.nodes }
         ensures answered { (s : Sitting) → StandsAs at_or_below (make_pair 0 0) self.old s
-            → IsAnswer ⊥ (frontier_refusal at_or_below self.old.dataflow.nodes s input times) (λ _. StandsAs at_or_below (make_pair 0 0) self.new (with_frontier input times s)) (StandsAs at_or_below (make_pair 0 0) self.new s) result }
+            → TakesFrontier self.old.dataflow.nodes s input times (StandsAs at_or_below (make_pair 0 0) self.new) result }
     {
         self.board.advance(CLIENT, input, times)
     }
@@ -98,7 +98,7 @@ impl Solo {
     // The worker carries on what waits, until nothing does.
     fn carry_on(&mut self, alloc: Global) -> Result<(), Refusal>
         ensures plan { self.new.dataflow ≡ self.old.dataflow }
-        ensures done { OnOk result (IsIdle self.new × NothingWaits self.new.stations) }
+        ensures settled { OnOk result (IsSettled self.new) }
         ensures stands { (s : Sitting) → StandsAs at_or_below (make_pair 0 0) self.old s → StandsAs at_or_below (make_pair 0 0) self.new s }
         ensures refused { IfErr result (λ refusal. refusal ≡ OutOfMemory) }
     {
@@ -128,27 +128,25 @@ impl Solo {
         self.carry_on(alloc)
     }
 
-    // The rows of a view at a time, where nothing waits.
+    // The rows of a view at a time.
     fn rows(&mut self, view: NodeId, time: Bitime) -> Result<Bag, Refusal>
         requires view { IsTrue (is_view_of self.old.dataflow.nodes view) }
-        requires idle { IsIdle self.old }
-        requires done { NothingWaits self.old.stations }
+        requires settled { IsSettled self.old }
         ensures kept { self.new ≡ self.old }
         ensures answered { (s : Sitting) → StandsAs at_or_below (make_pair 0 0) self.old s
-            → IsAnswer (IsLarge self.old.dataflow.nodes s) (read_refusal at_or_below self.old.dataflow.nodes s view time) (λ bag. (bag ≡ rows_at at_or_below self.old.dataflow.nodes s view time) × StandsAs at_or_below (make_pair 0 0) self.old s) (StandsAs at_or_below (make_pair 0 0) self.old s) result }
+            → FindsRows (EndsByWeight self.old.dataflow.nodes s) self.old.dataflow.nodes s view time result }
     {
         let _workers = self.board.workers();
         self.board.read(view, time)
     }
 
-    // The changes of a view, where nothing waits.
+    // The changes of a view.
     fn passed_changes(&mut self, view: NodeId) -> Result<Updates<Bitime>, Refusal>
         requires view { IsTrue (is_view_of self.old.dataflow.nodes view) }
-        requires idle { IsIdle self.old }
-        requires done { NothingWaits self.old.stations }
+        requires settled { IsSettled self.old }
         ensures kept { self.new ≡ self.old }
         ensures answered { (s : Sitting) → StandsAs at_or_below (make_pair 0 0) self.old s
-            → IsAnswer (IsLarge self.old.dataflow.nodes s) None (λ changes. (changes ≡ changes_at at_or_below self.old.dataflow.nodes s in_print join_of view) × StandsAs at_or_below (make_pair 0 0) self.old s) (StandsAs at_or_below (make_pair 0 0) self.old s) result }
+            → FindsChanges (EndsByWeight self.old.dataflow.nodes s) self.old.dataflow.nodes s view result }
     {
         let _workers = self.board.workers();
         match self.board.changes(view) {
@@ -157,14 +155,13 @@ impl Solo {
         }
     }
 
-    // The frontier of a view, where nothing waits.
+    // The frontier of a view.
     fn view_frontier(&mut self, view: NodeId) -> Result<Antichain<Bitime>, Refusal>
         requires view { IsTrue (is_view_of self.old.dataflow.nodes view) }
-        requires idle { IsIdle self.old }
-        requires done { NothingWaits self.old.stations }
+        requires settled { IsSettled self.old }
         ensures kept { self.new ≡ self.old }
         ensures answered { (s : Sitting) → StandsAs at_or_below (make_pair 0 0) self.old s
-            → IsAnswer ⊥ None (λ frontier. (frontier ≡ frontier_at at_or_below self.old.dataflow.nodes s in_print view) × StandsAs at_or_below (make_pair 0 0) self.old s) (StandsAs at_or_below (make_pair 0 0) self.old s) result }
+            → FindsFrontier (EndsByWeight self.old.dataflow.nodes s) self.old.dataflow.nodes s view result }
     {
         let _workers = self.board.workers();
         match self.board.frontier(view) {
@@ -179,12 +176,18 @@ impl Solo {
 
 impl Engine for Solo {
     ghost use Rattle.lattice.specs.Pairs.{make_pair};
+    ghost use Rattle.script.specs.Relays.{IsSettled};
     ghost use Rattle.script.specs.Standing.{StandsAs};
     ghost use Rattle.script.specs.Text.{at_or_below};
+    ghost use Rattle.script.specs.Weights.{EndsByWeight, ends_by_weight};
 
     ghost plan = { λ b. b.dataflow.nodes };
 
     ghost stands = { λ b s. StandsAs at_or_below (make_pair 0 0) b s };
+
+    ghost settled = { λ b. IsSettled b };
+
+    ghost ends = { λ p s refusal. EndsByWeight p s refusal };
 
     fn change(
         &mut self,
@@ -200,18 +203,23 @@ impl Engine for Solo {
         self.move_on(input, times)
     }
 
-    fn read(&mut self, alloc: Global, view: NodeId, time: Bitime) -> Result<Bag, Refusal> {
-        self.carry_on(alloc)?;
+    fn read(&mut self, _alloc: Global, view: NodeId, time: Bitime) -> Result<Bag, Refusal> {
         self.rows(view, time)
     }
 
-    fn changes(&mut self, alloc: Global, view: NodeId) -> Result<Updates<Bitime>, Refusal> {
-        self.carry_on(alloc)?;
+    fn changes(&mut self, _alloc: Global, view: NodeId) -> Result<Updates<Bitime>, Refusal> {
         self.passed_changes(view)
     }
 
-    fn frontier(&mut self, alloc: Global, view: NodeId) -> Result<Antichain<Bitime>, Refusal> {
-        self.carry_on(alloc)?;
+    fn frontier(&mut self, _alloc: Global, view: NodeId) -> Result<Antichain<Bitime>, Refusal> {
         self.view_frontier(view)
+    }
+
+    ghost ending = { λ p s refusal ends. ends_by_weight p s refusal ends };
+}
+
+impl Settle for Solo {
+    fn settle(&mut self, alloc: Global) -> Result<(), Refusal> {
+        self.carry_on(alloc)
     }
 }

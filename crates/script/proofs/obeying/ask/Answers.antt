@@ -1,10 +1,8 @@
-use Rattle.std.proofs.Common.{None, List, sym, subst}
-use Rattle.lattice.specs.Frontiers.{is_beyond}
+use Rattle.std.proofs.Common.{List, sym, subst}
 use Rattle.plan.specs.declared.node.Node.{Node}
-use Rattle.script.specs.Sessions.{read_refusal, view_frontier}
-use Rattle.script.specs.Text.{at_or_below, piece}
-use Rattle.script.specs.Weights.{IsLarge}
-use Rattle.script.proofs.EndLemmas.{ends_weaker, overflow_cause, nothing_large, passed_or_not}
+use Rattle.grammar.specs.declared.command.Command.TheVariants.{Read, Changes, Frontier}
+use Rattle.script.specs.Text.{piece}
+use Rattle.script.proofs.EndLemmas.{ends_weaker, own_end}
 use Rattle.script.proofs.OutLemmas.{breaks_before}
 use Rattle.script.proofs.obeying.ask.Goals as goal
 
@@ -12,16 +10,25 @@ pub returns-in-Err-clause-known : goal.returns-in-Err-clause-known
 returns-in-Err-clause-known g c s h =
     let p = g.E.Engine.plan c.args.engine.now in
     ends_weaker
-    (λ e. subst (λ (q : List Node). IsLarge q s) (sym c.requires.plan)
-    (overflow_cause (read_refusal at_or_below p s c.in-Read.view c.in-Read.time) c.in-Err.refusal
-    (passed_or_not (is_beyond at_or_below (view_frontier at_or_below p s c.in-Read.view) c.in-Read.time)) (c.in-Err.ensures.answered s h) e))
+    (λ met e. subst (λ (q : List Node). g.E.Engine.ends q s met) (sym c.requires.plan)
+    (subst (g.E.Engine.ends p s) (sym e.0) (own_end p s (Read c.in-Read.view c.in-Read.time) c.in-Err.refusal (c.in-Err.ensures.answered s h) e.1)))
     c.refuse.result c.refuse.ensures.known
 
 pub returns-in-Err-changes-clause-known : goal.returns-in-Err-changes-clause-known
 returns-in-Err-changes-clause-known g c s h =
+    let p = g.E.Engine.plan c.args.engine.now in
     ends_weaker
-    (λ e. subst (λ (q : List Node). IsLarge q s) (sym c.requires.plan) (overflow_cause None c.in-Err-changes.refusal nothing_large (c.in-Err-changes.ensures.answered s h) e))
+    (λ met e. subst (λ (q : List Node). g.E.Engine.ends q s met) (sym c.requires.plan)
+    (subst (g.E.Engine.ends p s) (sym e.0) (own_end p s (Changes c.in-Changes.view) c.in-Err-changes.refusal (c.in-Err-changes.ensures.answered s h) e.1)))
     c.refuse-in-Err-changes.result c.refuse-in-Err-changes.ensures.known
+
+pub returns-in-Err-frontier-clause-known : goal.returns-in-Err-frontier-clause-known
+returns-in-Err-frontier-clause-known g c s h =
+    let p = g.E.Engine.plan c.args.engine.now in
+    ends_weaker
+    (λ met e. subst (λ (q : List Node). g.E.Engine.ends q s met) (sym c.requires.plan)
+    (subst (g.E.Engine.ends p s) (sym e.0) (own_end p s (Frontier c.in-Frontier.view) c.in-Err-frontier.refusal (c.in-Err-frontier.ensures.answered s h) e.1)))
+    c.refuse-in-Err-frontier.result c.refuse-in-Err-frontier.ensures.known
 
 pub returns-in-Err-clause-broke : goal.returns-in-Err-clause-broke
 returns-in-Err-clause-broke g c s h =

@@ -1,8 +1,7 @@
 use Rattle.std.proofs.Common.{◌≡◌, suc, ◌+◌, ◌<◌, List, length, get_or, take, drop, take-append-drop, refl, sym, subst, arith}
 use Rattle.std.proofs.lemmas.Result.{err_from_is_err_and}
 use Rattle.grammar.specs.declared.command.CommandLine.{CommandLine}
-use Rattle.script.specs.Text.{Sitting, after, after_lines, piece, lines_text}
-use Rattle.script.specs.Weights.{IsLarge}
+use Rattle.script.specs.Text.{Sitting, HoldsAlong, after, after_lines, piece, lines_text}
 use Rattle.script.proofs.EndLemmas.{end_weaker, cause_of_end}
 use Rattle.script.proofs.OutLemmas.{wrote_more, broke_more, wrote_all}
 use Rattle.script.proofs.TextLemmas.{all_lines, after_more, text_more, text_all}
@@ -51,7 +50,8 @@ returns-in_err-obey-clause-known g c =
     let p = err_from_is_err_and c.from_residual.result c.from_residual.ensures.1 in
     λ s h. rw (p.1, p.2)
     (end_weaker
-    (λ (large : IsLarge t.plan (after_lines t.plan s (take i t.commands))). (take i t.commands, drop i t.commands, take-append-drop i t.commands, large))
+    {B = λ refusal. HoldsAlong (λ now. g.E.Engine.ends t.plan now refusal) t.plan s t.commands}
+    (λ refusal ends. (take i t.commands, drop i t.commands, take-append-drop i t.commands, ends))
     _ (c.in_err-obey.ensures.known (after_lines t.plan s (take i t.commands)) (c.loop-line.invariant.stands s h)))
 
 pub returns-in_err-obey-clause-overflow : goal.returns-in_err-obey-clause-overflow
@@ -76,7 +76,7 @@ returns-in_err-obey-clause-overflow g c =
         behind = drop (suc i) t.commands;
         in_order = sym (all_lines t.commands i line within is);
         asks = met.0;
-        large = cause_of_end _ (c.in_err-obey.ensures.known (before s) stands) ten;
+        cause = cause_of_end (g.met.E.Engine.ending t.plan (before s)) _ (c.in_err-obey.ensures.known (before s) stands) ten;
         written = refl;
       },
       wrote_all g.W.Out.took g.met.W.Out.in_turn c.args.out.now c.loop-line.out c.obey.new.out c.args.gathered.now text c.loop-line.gathered (c.loop-line.invariant.wrote s h) met.1,

@@ -1,4 +1,4 @@
-use Rattle.std.proofs.Common.{ℕ, List, [], subst}
+use Rattle.std.proofs.Common.{ℕ, List, [], ◌++◌, subst}
 use Rattle.std.proofs.lemmas.Result.{err_from_is_err_and}
 use Rattle.script.specs.Outs.{Wrote}
 use Rattle.script.specs.Text.{lines_text}
@@ -10,6 +10,14 @@ returns-clause-wrote g c s h =
     let t = c.args.script.now in
     wrote_all g.W.Out.took g.met.W.Out.in_turn c.args.out.now c.obey_all.new.out c.flush.new.out [] (lines_text t s t.commands) c.obey_all.new.gathered
     (subst (λ (waiting : List ℕ). Wrote g.W.Out.took c.args.out.now waiting (lines_text t s t.commands) c.obey_all.new.out c.obey_all.new.gathered) c.new-gathered.ensures (c.in_ok-obey_all.ensures.wrote s h)) c.in_ok-flush.ensures.all
+
+pub returns-in_err-obey_all-clause-overflow : goal.returns-in_err-obey_all-clause-overflow
+returns-in_err-obey_all-clause-overflow g c s h =
+    let p = err_from_is_err_and c.from_residual.result c.from_residual.ensures.1 in
+    rw (p.1, p.2)
+    (λ ten.
+    let met = c.in_err-obey_all.ensures.overflow s h ten in
+    (met.0, met.1, subst (λ (waiting : List ℕ). g.W.Out.took c.args.out.now (waiting ++ met.0) 0 c.obey_all.new.out) c.new-gathered.ensures met.2))
 
 pub returns-in_err-flush-clause-broke : goal.returns-in_err-flush-clause-broke
 returns-in_err-flush-clause-broke g c s h =

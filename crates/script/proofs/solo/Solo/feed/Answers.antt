@@ -4,8 +4,7 @@ use Rattle.lattice.specs.declared.product.Pair.{Pair}
 use Rattle.grammar.specs.Commands.{is_input_of}
 use Rattle.machine.specs.Boards.{Shown}
 use Rattle.machine.specs.declared.event.Fed.{Fed}
-use Rattle.script.specs.Engines.{IsAnswer}
-use Rattle.script.specs.Sessions.{with_change, change_refusal}
+use Rattle.script.specs.Answers.{TakesChange}
 use Rattle.script.specs.Standing.{StandsAs}
 use Rattle.script.specs.Text.{at_or_below}
 use Rattle.script.proofs.StandingLemmas.{change_answered, input_there, ready_after_change, dataflow_after_change}
@@ -18,7 +17,7 @@ returns-clause-answered c s =
     let there = subst (λ (b : Shown (Pair ℕ ℕ)). IsTrue (is_input_of b.dataflow.nodes c.args.input)) (sym c.self.view_is) c.requires in
     subst
     (λ (b : Shown (Pair ℕ ℕ)). StandsAs at_or_below (make_pair 0 0) b s
-    → IsAnswer ⊥ (change_refusal at_or_below b.dataflow.nodes s f) (λ _. StandsAs at_or_below (make_pair 0 0) new (with_change f s)) (StandsAs at_or_below (make_pair 0 0) new s) c.feed.result)
+    → TakesChange b.dataflow.nodes s f (StandsAs at_or_below (make_pair 0 0) new) c.feed.result)
     c.self.view_is
     (change_answered at_or_below (make_pair 0 0) c.self.inside.board new _ f s c.feed.result (input_there c.self.inside.board.dataflow c.args.input there).0
     c.feed.ensures.fed c.feed.ensures.accepted c.feed.ensures.refused c.feed.ensures.unchanged c.feed.ensures.stands)

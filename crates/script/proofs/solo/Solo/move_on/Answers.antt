@@ -3,8 +3,7 @@ use Rattle.lattice.specs.Pairs.{make_pair}
 use Rattle.lattice.specs.declared.product.Pair.{Pair}
 use Rattle.machine.specs.Boards.{Shown}
 use Rattle.grammar.specs.Commands.{is_input_of}
-use Rattle.script.specs.Engines.{IsAnswer}
-use Rattle.script.specs.Sessions.{with_frontier, frontier_refusal}
+use Rattle.script.specs.Answers.{TakesFrontier}
 use Rattle.script.specs.Standing.{StandsAs}
 use Rattle.script.specs.Text.{at_or_below}
 use Rattle.script.proofs.StandingLemmas.{frontier_answered, input_there}
@@ -18,7 +17,7 @@ returns-clause-answered c s =
     let there = subst (λ (b : Shown (Pair ℕ ℕ)). IsTrue (is_input_of b.dataflow.nodes i)) (sym c.self.view_is) c.requires in
     subst
     (λ (b : Shown (Pair ℕ ℕ)). StandsAs at_or_below (make_pair 0 0) b s
-    → IsAnswer ⊥ (frontier_refusal at_or_below b.dataflow.nodes s i ts) (λ _. StandsAs at_or_below (make_pair 0 0) new (with_frontier i ts s)) (StandsAs at_or_below (make_pair 0 0) new s) c.advance.result)
+    → TakesFrontier b.dataflow.nodes s i ts (StandsAs at_or_below (make_pair 0 0) new) c.advance.result)
     c.self.view_is
     (frontier_answered at_or_below (make_pair 0 0) c.self.inside.board new _ i ts s c.advance.result (input_there c.self.inside.board.dataflow i there).0
     c.advance.ensures.advanced c.advance.ensures.accepted c.advance.ensures.refused c.advance.ensures.unchanged c.advance.ensures.stands)

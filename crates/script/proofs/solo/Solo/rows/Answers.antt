@@ -1,6 +1,6 @@
 use Rattle.std.proofs.Common.{◌≡◌, ℕ, ◌<◌, length, IsTrue, ltb-true, sym, subst}
-use Rattle.std.proofs.lemmas.Bool.{and_parts, and_from}
-use Rattle.lattice.specs.Naturals.{nat_order, nat_lowest}
+use Rattle.std.proofs.lemmas.Bool.{and_parts}
+use Rattle.lattice.specs.Naturals.{nat_order}
 use Rattle.lattice.specs.Pairs.{make_pair, pair_order}
 use Rattle.lattice.specs.declared.product.Pair.{Pair}
 use Rattle.update.specs.Bags.{HasLargeCount}
@@ -8,12 +8,11 @@ use Rattle.update.specs.Updates.{as_of}
 use Rattle.grammar.specs.Commands.{is_view_of}
 use Rattle.machine.specs.Boards.{Shown}
 use Rattle.machine.specs.Reads.{captured_of}
-use Rattle.script.specs.Engines.{IsAnswer}
-use Rattle.script.specs.Relays.{IsIdle, NothingWaits}
-use Rattle.script.specs.Sessions.{read_refusal, rows_at}
+use Rattle.script.specs.Answers.{FindsRows}
+use Rattle.script.specs.Relays.{IsSettled}
 use Rattle.script.specs.Standing.{StandsAs}
 use Rattle.script.specs.Text.{at_or_below, in_print}
-use Rattle.script.specs.Weights.{IsLarge}
+use Rattle.script.specs.Weights.{IsLarge, EndsByWeight}
 use Rattle.script.proofs.ReadingLemmas.{read_answered, large_read}
 use Rattle.script.proofs.solo.Solo.rows.Goals as goal
 
@@ -24,13 +23,12 @@ returns-clause-answered c s =
     let t = c.args.time in
     let there = subst (λ (d : Shown (Pair ℕ ℕ)). IsTrue (is_view_of d.dataflow.nodes v)) (sym c.self.view_is) c.requires.view in
     let within : v < length b.dataflow.nodes = ltb-true v (length b.dataflow.nodes) (and_parts _ _ there).0 in
-    let idle = subst IsIdle (sym c.self.view_is) c.requires.idle in
-    let none = subst (λ (d : Shown (Pair ℕ ℕ)). NothingWaits d.stations) (sym c.self.view_is) c.requires.done in
+    let settled = subst IsSettled (sym c.self.view_is) c.requires.settled in
     subst
     (λ (d : Shown (Pair ℕ ℕ)). StandsAs at_or_below (make_pair 0 0) d s
-    → IsAnswer (IsLarge d.dataflow.nodes s) (read_refusal at_or_below d.dataflow.nodes s v t) (λ bag. (bag ≡ rows_at at_or_below d.dataflow.nodes s v t) × StandsAs at_or_below (make_pair 0 0) d s) (StandsAs at_or_below (make_pair 0 0) d s) c.read.result)
+    → FindsRows (EndsByWeight d.dataflow.nodes s) d.dataflow.nodes s v t c.read.result)
     c.self.view_is
-    (λ a. read_answered at_or_below (make_pair 0 0) (pair_order nat_order nat_order) b s v t c.workers-workers.ensures.board within idle none a
+    (λ a. read_answered at_or_below (make_pair 0 0) (pair_order nat_order nat_order) b s v t c.workers-workers.ensures.board within settled.0 settled.1 a
     (HasLargeCount (as_of at_or_below t (captured_of b v))) (IsLarge b.dataflow.nodes s) c.read.result
-    (large_read at_or_below (make_pair 0 0) (pair_order nat_order nat_order) in_print b s v c.workers-workers.ensures.board within (and_parts _ _ there).1 idle a t) (and_from _ _ (nat_lowest t.first) (nat_lowest t.second))
+    (large_read at_or_below (make_pair 0 0) (pair_order nat_order nat_order) in_print b s v c.workers-workers.ensures.board within (and_parts _ _ there).1 settled.0 a t)
     c.read.ensures.accepted c.read.ensures.refused c.read.ensures.bag (c.read.ensures.query a.history a.stands))

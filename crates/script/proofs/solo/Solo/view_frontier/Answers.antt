@@ -8,11 +8,11 @@ use Rattle.lattice.specs.declared.product.Pair.{Pair}
 use Rattle.grammar.specs.Commands.{is_view_of}
 use Rattle.update.specs.declared.refusal.Refusal.{Refusal}
 use Rattle.machine.specs.Boards.{Shown}
-use Rattle.script.specs.Engines.{IsAnswer}
-use Rattle.script.specs.Relays.{IsIdle, NothingWaits}
-use Rattle.script.specs.Sessions.{frontier_at}
+use Rattle.script.specs.Answers.{FindsFrontier}
+use Rattle.script.specs.Relays.{IsSettled}
 use Rattle.script.specs.Standing.{StandsAs}
-use Rattle.script.specs.Text.{at_or_below, in_print}
+use Rattle.script.specs.Text.{at_or_below}
+use Rattle.script.specs.Weights.{EndsByWeight}
 use Rattle.script.proofs.ReadingLemmas.{frontier_found}
 use Rattle.script.proofs.solo.Solo.view_frontier.Goals as goal
 use Rattle.script.proofs.solo.Solo.view_frontier.Goals.{in-Ok, in-Err}
@@ -23,14 +23,13 @@ returns-clause-answered c s =
     let v = c.args.view in
     let there = subst (λ (d : Shown (Pair ℕ ℕ)). IsTrue (is_view_of d.dataflow.nodes v)) (sym c.self.view_is) c.requires.view in
     let within : v < length b.dataflow.nodes = ltb-true v (length b.dataflow.nodes) (and_parts _ _ there).0 in
-    let idle = subst IsIdle (sym c.self.view_is) c.requires.idle in
-    let none = subst (λ (d : Shown (Pair ℕ ℕ)). NothingWaits d.stations) (sym c.self.view_is) c.requires.done in
+    let settled = subst IsSettled (sym c.self.view_is) c.requires.settled in
     let total = then_total (on_total (λ (t : Pair ℕ ℕ). t.first) nat_cmp_total) (on_total (λ (t : Pair ℕ ℕ). t.second) nat_cmp_total) in
     let Answered : Shown (Pair ℕ ℕ) → Result (List (Pair ℕ ℕ)) Refusal → Type 0 = λ d r. StandsAs at_or_below (make_pair 0 0) d s
-    → IsAnswer ⊥ None (λ frontier. (frontier ≡ frontier_at at_or_below d.dataflow.nodes s in_print v) × StandsAs at_or_below (make_pair 0 0) d s) (StandsAs at_or_below (make_pair 0 0) d s) r in
+    → FindsFrontier (EndsByWeight d.dataflow.nodes s) d.dataflow.nodes s v r in
     subst (λ d. Answered d c.match-frontier.result) c.self.view_is
     (elim c.match-frontier.branch [
       | in-Ok w ↦ subst (Answered b) (sym w.result-is)
-          (λ d. (refl, (frontier_found at_or_below (make_pair 0 0) (pair_order nat_order nat_order) b s v c.workers-workers.ensures.board within idle none d total (pair_extends nat_extends nat_extends).exact w.in-Ok.frontier w.elements-elements.ensures.frontier w.in-Ok.ensures.least, d)))
+          (λ d. (refl, frontier_found at_or_below (make_pair 0 0) (pair_order nat_order nat_order) b s v c.workers-workers.ensures.board within settled.0 settled.1 d total (pair_extends nat_extends nat_extends).exact w.in-Ok.frontier w.elements-elements.ensures.frontier w.in-Ok.ensures.least))
       | in-Err w ↦ subst (Answered b) (sym w.result-is) (λ d. inr (inl w.in-Err.ensures.refused))
     ])

@@ -4,8 +4,7 @@ use Rattle.lattice.specs.declared.product.Pair.{Pair}
 use Rattle.plan.specs.declared.node.Node.{Node}
 use Rattle.machine.specs.Dataflows.{Dataflow}
 use Rattle.machine.specs.declared.event.Fed.{Fed}
-use Rattle.script.specs.Engines.{IsAnswer}
-use Rattle.script.specs.Sessions.{with_change, change_refusal}
+use Rattle.script.specs.Answers.{TakesChange}
 use Rattle.script.specs.Standing.{StandsAs}
 use Rattle.script.specs.Text.{at_or_below}
 use Rattle.script.proofs.solo.SoloEngine.change.Goals as goal
@@ -15,6 +14,6 @@ returns-clause-answered c s a =
     let f : Fed (Pair ℕ ℕ) = record { input = c.args.input; update = c.args.update } in
     let new = c.feed.new.self in
     subst
-    (λ (nodes : List Node). IsAnswer ⊥ (change_refusal at_or_below nodes s f) (λ _. StandsAs at_or_below (make_pair 0 0) new (with_change f s)) (StandsAs at_or_below (make_pair 0 0) new s) c.feed.result)
+    (λ (nodes : List Node). TakesChange nodes s f (StandsAs at_or_below (make_pair 0 0) new) c.feed.result)
     (ap (λ (p : Dataflow). p.nodes) c.make_room.ensures.plan)
     (c.feed.ensures.answered s (c.make_room.ensures.stands s a))
