@@ -1,5 +1,5 @@
 -- What is read of a board where nothing waits is what the session reads.
-use Rattle.std.proofs.Common.{◌≡◌, ℕ, zero, suc, ◌<◌, Bool, false, not, ◌||◌, List, [], ◌∷◌, ◌++◌, length, get_or, Option, Some, None, Result, Ok, Err, IsTrue, refl, sym, ◌∙◌, ap, subst, inl, inr, ◌⊎◌, arith}
+use Rattle.std.proofs.Common.{◌≡◌, ℕ, zero, suc, ◌<◌, Bool, not, ◌||◌, List, [], ◌∷◌, ◌++◌, length, get_or, Option, Some, None, Result, Ok, Err, IsTrue, refl, sym, ◌∙◌, ap, subst, inl, inr, ◌⊎◌, arith}
 use Rattle.std.specs.Prelude.{FitsSigned, IfOk, IfErr, OnOk}
 use Rattle.std.specs.Cmp.{IsTotalOrder}
 use Rattle.std.specs.Int.{w64}
@@ -32,7 +32,6 @@ use Rattle.machine.specs.Outstanding.{frontier, input_frontier}
 use Rattle.machine.specs.Promises.{changes_in}
 use Rattle.machine.specs.Readings.{IsQuiet}
 use Rattle.machine.specs.Boards.{Shown, IsBoard, Stands, is_from_start}
-use Rattle.std.proofs.Common.{true}
 use Rattle.std.proofs.lemmas.Bool.{or_left, or_right}
 use Rattle.machine.specs.Reads as reads
 use Rattle.machine.specs.Reads.{front, captured_of, since_of, IsRefusalOr}

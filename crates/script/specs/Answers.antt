@@ -1,5 +1,5 @@
 -- What an engine answers to each command, by the session for which it stands.
-use Rattle.std.specs.Prelude.{◌≡◌, ℕ, List, Option, None, Result}
+use Rattle.std.specs.Prelude.{ℕ, List, None, Result}
 use Rattle.lattice.specs.Pairs.{make_pair}
 use Rattle.lattice.specs.declared.product.Pair.{Pair}
 use Rattle.update.specs.Bags.{Entry}

@@ -72,11 +72,7 @@ fn hand_over<E: Engine>(alloc: Global, engine: &mut E, command: &Command) -> Res
 }
 
 // Ends the run: the text of the lines before is put, whole.
-fn end_run<W: Out>(
-    gathered: &mut Gathered,
-    out: &mut W,
-    refusal: Refusal,
-) -> Result<(), RunFault>
+fn end_run<W: Out>(gathered: &mut Gathered, out: &mut W, refusal: Refusal) -> Result<(), RunFault>
     ensures ends { OnOk result ⊥ }
     ensures broke { IfErr result
         (λ fault. Broke W.took out.old gathered.old [] (failures fault) out.new) }

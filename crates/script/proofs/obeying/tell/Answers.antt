@@ -1,4 +1,3 @@
-use Rattle.std.proofs.Common.{ap, ◌∙◌}
 use Rattle.script.proofs.EndLemmas.{told_ends}
 use Rattle.script.proofs.obeying.tell.Goals as goal
 

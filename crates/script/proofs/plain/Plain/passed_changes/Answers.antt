@@ -1,4 +1,4 @@
-use Rattle.std.proofs.Common.{◌<◌, ◌∙◌, ℕ, List, map, length, IsTrue, Vec, Global, ltb-true, inr, refl, ap, sym, subst}
+use Rattle.std.proofs.Common.{◌<◌, ◌∙◌, ℕ, List, map, length, IsTrue, Vec, Global, ltb-true, inr, ap, sym, subst}
 use Rattle.std.proofs.lemmas.Bool.{and_parts}
 use Rattle.std.proofs.lemmas.Result.{err_from_is_err_and}
 use Rattle.std.proofs.lemmas.Cmp.{nat_cmp_total, then_total, on_total}
@@ -35,9 +35,9 @@ returns c = record {
       c.in_ok-frontiers.ensures.frontiers in
       let d = subst (λ (ls : List (Vec (Update (Pair ℕ ℕ)) Global)). AreDifferences at_or_below in_print p (list_of p (map items ls)) (open_for at_or_below p (list_of p c.deref-2.result.now) v) v listed) c.deref.ensures.value c.in_ok-changes.ensures.differences in (
         ap (λ (r : Register (Pair ℕ ℕ)). changes_refusal at_or_below r.plan s (make_pair 0 0) v) (sym c.self.view_is) ∙ changes_wanted (pair_order nat_order nat_order) r s own v,
-          c.from.ensures
-              ∙ (changes_found (pair_order nat_order nat_order) r s own v c.len-count.ensures.plan within (pair_bounds nat_bounds nat_bounds) (pair_extends nat_extends nat_extends) total c.deref-2.result.now listed are d
-              ∙ ap (λ (r : Register (Pair ℕ ℕ)). changes_at at_or_below r.plan s in_print join_of v) c.self.view_is),
+        c.from.ensures
+            ∙ (changes_found (pair_order nat_order nat_order) r s own v c.len-count.ensures.plan within (pair_bounds nat_bounds nat_bounds) (pair_extends nat_extends nat_extends) total c.deref-2.result.now listed are d
+            ∙ ap (λ (r : Register (Pair ℕ ℕ)). changes_at at_or_below r.plan s in_print join_of v) c.self.view_is),
       );
 }
 

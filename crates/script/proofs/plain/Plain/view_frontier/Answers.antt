@@ -23,7 +23,7 @@ returns c = record {
       c.deref.ensures.value ∙ c.in_ok-open.ensures.open in
       let total = then_total (on_total (λ (t : Pair ℕ ℕ). t.first) nat_cmp_total) (on_total (λ (t : Pair ℕ ℕ). t.second) nat_cmp_total) in (
         refl,
-          frontier_found (pair_order nat_order nat_order) r s own v total (pair_extends nat_extends nat_extends).exact c.deref.result.now c.in_ok-frontier.frontier found c.elements-elements.ensures.frontier c.in_ok-frontier.ensures.least
-              ∙ ap (λ (r : Register (Pair ℕ ℕ)). frontier_at at_or_below r.plan s in_print v) c.self.view_is,
+        frontier_found (pair_order nat_order nat_order) r s own v total (pair_extends nat_extends nat_extends).exact c.deref.result.now c.in_ok-frontier.frontier found c.elements-elements.ensures.frontier c.in_ok-frontier.ensures.least
+            ∙ ap (λ (r : Register (Pair ℕ ℕ)). frontier_at at_or_below r.plan s in_print v) c.self.view_is,
       );
 }

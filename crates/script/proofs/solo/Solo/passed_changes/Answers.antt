@@ -35,9 +35,10 @@ returns-clause-answered c s =
     subst (λ d. Answered d c.match-changes.result) c.self.view_is
     (elim c.match-changes.branch [
       | in-Ok w ↦ subst (Answered b) (sym w.result-is)
-          (λ a.
-          (sym (same_changes_refusal at_or_below (make_pair 0 0) o b s v plan within settled.0 settled.1 a) ∙ w.in-Ok.ensures.accepted,
-          w.from.ensures ∙ changes_found at_or_below (make_pair 0 0) o b s v plan within settled.0 settled.1 a (pair_bounds nat_bounds nat_bounds) (pair_extends nat_extends nat_extends) total w.in-Ok.changes.items (w.in-Ok.ensures.differences a.history a.stands)))
+          (λ a. (
+            sym (same_changes_refusal at_or_below (make_pair 0 0) o b s v plan within settled.0 settled.1 a) ∙ w.in-Ok.ensures.accepted,
+            w.from.ensures ∙ changes_found at_or_below (make_pair 0 0) o b s v plan within settled.0 settled.1 a (pair_bounds nat_bounds nat_bounds) (pair_extends nat_extends nat_extends) total w.in-Ok.changes.items (w.in-Ok.ensures.differences a.history a.stands),
+          ))
       | in-Err w ↦ subst (Answered b) (sym w.result-is)
           (λ a. refused_alike _ (IsLarge b.dataflow.nodes s) (changes_refusal at_or_below (make_pair 0 0) b v) _ w.in-Err.refusal
           (same_changes_refusal at_or_below (make_pair 0 0) o b s v plan within settled.0 settled.1 a)

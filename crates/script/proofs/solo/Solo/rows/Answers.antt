@@ -1,4 +1,4 @@
-use Rattle.std.proofs.Common.{◌≡◌, ℕ, ◌<◌, length, IsTrue, ltb-true, sym, subst}
+use Rattle.std.proofs.Common.{ℕ, ◌<◌, length, IsTrue, ltb-true, sym, subst}
 use Rattle.std.proofs.lemmas.Bool.{and_parts}
 use Rattle.lattice.specs.Naturals.{nat_order}
 use Rattle.lattice.specs.Pairs.{make_pair, pair_order}

@@ -1,4 +1,4 @@
-use Rattle.std.proofs.Common.{◌≡◌, ℕ, ◌<◌, length, List, None, inl, inr, refl, IsTrue, ltb-true, sym, subst}
+use Rattle.std.proofs.Common.{ℕ, ◌<◌, length, List, inl, inr, refl, IsTrue, ltb-true, sym, subst}
 use Rattle.std.specs.Prelude.{Result}
 use Rattle.std.proofs.lemmas.Bool.{and_parts}
 use Rattle.std.proofs.lemmas.Cmp.{then_total, on_total, nat_cmp_total}
