@@ -85,16 +85,6 @@ impl Solo {
         self.board.feed(CLIENT, input, update)
     }
 
-    /// A frontier of an input.
-    pub(crate) fn move_on(&mut self, input: NodeId, times: Times<Bitime>) -> Result<(), Refusal>
-        requires { IsTrue (is_input_of self.old.dataflow.nodes input) }
-        ensures plan { self.new.dataflow.nodes ≡ self.old.dataflow.nodes }
-        ensures answered { (s : Sitting) → StandsAs at_or_below (make_pair 0 0) self.old s
-            → TakesFrontier self.old.dataflow.nodes s input times (StandsAs at_or_below (make_pair 0 0) self.new) result }
-    {
-        self.board.advance(CLIENT, input, times)
-    }
-
     // The worker carries on what waits, until nothing does.
     fn carry_on(&mut self, alloc: Global) -> Result<(), Refusal>
         ensures plan { self.new.dataflow ≡ self.old.dataflow }
@@ -127,51 +117,6 @@ impl Solo {
         self.waiting = 1;
         self.carry_on(alloc)
     }
-
-    // The rows of a view at a time.
-    fn rows(&mut self, view: NodeId, time: Bitime) -> Result<Bag, Refusal>
-        requires view { IsTrue (is_view_of self.old.dataflow.nodes view) }
-        requires settled { IsSettled self.old }
-        ensures kept { self.new ≡ self.old }
-        ensures answered { (s : Sitting) → StandsAs at_or_below (make_pair 0 0) self.old s
-            → FindsRows (EndsByWeight self.old.dataflow.nodes s) self.old.dataflow.nodes s view time result }
-    {
-        let _workers = self.board.workers();
-        self.board.read(view, time)
-    }
-
-    // The changes of a view.
-    fn passed_changes(&mut self, view: NodeId) -> Result<Updates<Bitime>, Refusal>
-        requires view { IsTrue (is_view_of self.old.dataflow.nodes view) }
-        requires settled { IsSettled self.old }
-        ensures kept { self.new ≡ self.old }
-        ensures answered { (s : Sitting) → StandsAs at_or_below (make_pair 0 0) self.old s
-            → FindsChanges (EndsByWeight self.old.dataflow.nodes s) self.old.dataflow.nodes s view result }
-    {
-        let _workers = self.board.workers();
-        match self.board.changes(view) {
-            Ok(changes) => Ok(Updates::from(changes)),
-            Err(refusal) => Err(refusal),
-        }
-    }
-
-    // The frontier of a view.
-    fn view_frontier(&mut self, view: NodeId) -> Result<Antichain<Bitime>, Refusal>
-        requires view { IsTrue (is_view_of self.old.dataflow.nodes view) }
-        requires settled { IsSettled self.old }
-        ensures kept { self.new ≡ self.old }
-        ensures answered { (s : Sitting) → StandsAs at_or_below (make_pair 0 0) self.old s
-            → FindsFrontier (EndsByWeight self.old.dataflow.nodes s) self.old.dataflow.nodes s view result }
-    {
-        let _workers = self.board.workers();
-        match self.board.frontier(view) {
-            Ok(frontier) => {
-                let _elements = frontier.elements();
-                Ok(frontier)
-            }
-            Err(refusal) => Err(refusal),
-        }
-    }
 }
 
 impl Engine for Solo {
@@ -200,19 +145,31 @@ impl Engine for Solo {
     }
 
     fn advance(&mut self, input: NodeId, times: Times<Bitime>) -> Result<(), Refusal> {
-        self.move_on(input, times)
+        self.board.advance(CLIENT, input, times)
     }
 
     fn read(&mut self, _alloc: Global, view: NodeId, time: Bitime) -> Result<Bag, Refusal> {
-        self.rows(view, time)
+        let _workers = self.board.workers();
+        self.board.read(view, time)
     }
 
     fn changes(&mut self, _alloc: Global, view: NodeId) -> Result<Updates<Bitime>, Refusal> {
-        self.passed_changes(view)
+        let _workers = self.board.workers();
+        match self.board.changes(view) {
+            Ok(changes) => Ok(Updates::from(changes)),
+            Err(refusal) => Err(refusal),
+        }
     }
 
     fn frontier(&mut self, _alloc: Global, view: NodeId) -> Result<Antichain<Bitime>, Refusal> {
-        self.view_frontier(view)
+        let _workers = self.board.workers();
+        match self.board.frontier(view) {
+            Ok(frontier) => {
+                let _elements = frontier.elements();
+                Ok(frontier)
+            }
+            Err(refusal) => Err(refusal),
+        }
     }
 
     ghost ending = { λ p s refusal ends. ends_by_weight p s refusal ends };

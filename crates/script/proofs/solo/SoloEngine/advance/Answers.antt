@@ -7,7 +7,7 @@ use Rattle.script.specs.Answers.{TakesFrontier}
 use Rattle.script.specs.Standing.{StandsAs}
 use Rattle.script.specs.Text.{at_or_below}
 use Rattle.script.proofs.StandingLemmas.{frontier_answered, input_there}
-use Rattle.script.proofs.solo.Solo.move_on.Goals as goal
+use Rattle.script.proofs.solo.SoloEngine.advance.Goals as goal
 
 pub returns-clause-answered : goal.returns-clause-answered
 returns-clause-answered c s =

@@ -16,8 +16,8 @@ use Rattle.script.specs.Standing.{StandsAs}
 use Rattle.script.specs.Text.{at_or_below, in_print}
 use Rattle.script.specs.Weights.{IsLarge, EndsByWeight}
 use Rattle.script.proofs.ReadingLemmas.{changes_found, large_changes, refused_alike, same_changes_refusal}
-use Rattle.script.proofs.solo.Solo.passed_changes.Goals as goal
-use Rattle.script.proofs.solo.Solo.passed_changes.Goals.{in-Ok, in-Err}
+use Rattle.script.proofs.solo.SoloEngine.changes.Goals as goal
+use Rattle.script.proofs.solo.SoloEngine.changes.Goals.{in-Ok, in-Err}
 
 pub returns-clause-answered : goal.returns-clause-answered
 returns-clause-answered c s =

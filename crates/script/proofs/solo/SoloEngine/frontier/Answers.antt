@@ -14,8 +14,8 @@ use Rattle.script.specs.Standing.{StandsAs}
 use Rattle.script.specs.Text.{at_or_below}
 use Rattle.script.specs.Weights.{EndsByWeight}
 use Rattle.script.proofs.ReadingLemmas.{frontier_found}
-use Rattle.script.proofs.solo.Solo.view_frontier.Goals as goal
-use Rattle.script.proofs.solo.Solo.view_frontier.Goals.{in-Ok, in-Err}
+use Rattle.script.proofs.solo.SoloEngine.frontier.Goals as goal
+use Rattle.script.proofs.solo.SoloEngine.frontier.Goals.{in-Ok, in-Err}
 
 pub returns-clause-answered : goal.returns-clause-answered
 returns-clause-answered c s =

@@ -14,7 +14,7 @@ use Rattle.script.specs.Standing.{StandsAs}
 use Rattle.script.specs.Text.{at_or_below, in_print}
 use Rattle.script.specs.Weights.{IsLarge, EndsByWeight}
 use Rattle.script.proofs.ReadingLemmas.{read_answered, large_read}
-use Rattle.script.proofs.solo.Solo.rows.Goals as goal
+use Rattle.script.proofs.solo.SoloEngine.read.Goals as goal
 
 pub returns-clause-answered : goal.returns-clause-answered
 returns-clause-answered c s =
