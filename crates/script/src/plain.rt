@@ -191,45 +191,6 @@ impl Plain {
     {
         self.inputs.advance(input, times)
     }
-
-    // The rows of a view at a time.
-    fn rows(&self, alloc: Global, view: NodeId, time: Bitime) -> Result<Bag, Refusal>
-        requires { IsTrue (is_view_of self.now.plan view) }
-        ensures answered { (s : Sitting) → Records (make_pair 0 0) self.now s
-            → FindsRows (EndsByWeight self.now.plan s) self.now.plan s view time result }
-    {
-        let _count = self.plan.len();
-        let open = open_for(alloc, &self.plan, &self.inputs, view)?;
-        if is_beyond(&open, &time) {
-            return Err(Refusal::NotPassed);
-        }
-        evaluate(alloc, &self.plan, view, &self.changes, time)
-    }
-
-    // The changes of a view at the times that its frontier has passed.
-    fn passed_changes(&self, alloc: Global, view: NodeId) -> Result<Updates<Bitime>, Refusal>
-        requires { IsTrue (is_view_of self.now.plan view) }
-        ensures answered { (s : Sitting) → Records (make_pair 0 0) self.now s
-            → FindsChanges (EndsByWeight self.now.plan s) self.now.plan s view result }
-    {
-        let _count = self.plan.len();
-        let frontiers = frontiers(alloc, &self.plan, &self.inputs)?;
-        let changes = differences(alloc, &self.plan, view, &self.changes, &frontiers)?;
-        Ok(Updates::from(changes))
-    }
-
-    // The frontier of a view: the least of what is open for it.
-    fn view_frontier(&self, alloc: Global, view: NodeId) -> Result<Antichain<Bitime>, Refusal>
-        requires { IsTrue (is_view_of self.now.plan view) }
-        ensures answered { (s : Sitting) → Records (make_pair 0 0) self.now s
-            → FindsFrontier (EndsByWeight self.now.plan s) self.now.plan s view result }
-    {
-        let open = open_for(alloc, &self.plan, &self.inputs, view)?;
-        let frontier = Antichain::least_of(alloc, &open)?;
-        // What its elements promise is known from here on: they are in order.
-        let _elements = frontier.elements();
-        Ok(frontier)
-    }
 }
 
 impl Engine for Plain {
@@ -260,15 +221,27 @@ impl Engine for Plain {
     }
 
     fn read(&mut self, alloc: Global, view: NodeId, time: Bitime) -> Result<Bag, Refusal> {
-        self.rows(alloc, view, time)
+        let _count = self.plan.len();
+        let open = open_for(alloc, &self.plan, &self.inputs, view)?;
+        if is_beyond(&open, &time) {
+            return Err(Refusal::NotPassed);
+        }
+        evaluate(alloc, &self.plan, view, &self.changes, time)
     }
 
     fn changes(&mut self, alloc: Global, view: NodeId) -> Result<Updates<Bitime>, Refusal> {
-        self.passed_changes(alloc, view)
+        let _count = self.plan.len();
+        let frontiers = frontiers(alloc, &self.plan, &self.inputs)?;
+        let changes = differences(alloc, &self.plan, view, &self.changes, &frontiers)?;
+        Ok(Updates::from(changes))
     }
 
     fn frontier(&mut self, alloc: Global, view: NodeId) -> Result<Antichain<Bitime>, Refusal> {
-        self.view_frontier(alloc, view)
+        let open = open_for(alloc, &self.plan, &self.inputs, view)?;
+        let frontier = Antichain::least_of(alloc, &open)?;
+        // What its elements promise is known from here on: they are in order.
+        let _elements = frontier.elements();
+        Ok(frontier)
     }
 
     ghost ending = { λ p s refusal ends. ends_by_weight p s refusal ends };
