@@ -1,5 +1,5 @@
 -- What is read of a board where nothing waits is what the session reads.
-use Rattle.std.proofs.Common.{◌≡◌, ℕ, zero, suc, ◌<◌, Bool, not, ◌||◌, List, [], ◌∷◌, ◌++◌, length, get_or, Option, Some, None, Result, Ok, Err, IsTrue, refl, sym, ◌∙◌, ap, subst, inl, inr, ◌⊎◌, arith}
+use Rattle.std.proofs.Common.{◌≡◌, ℕ, ◌<◌, Bool, not, ◌||◌, List, [], ◌∷◌, ◌++◌, length, Option, Some, None, Result, Ok, Err, IsTrue, refl, sym, ◌∙◌, ap, subst, inl, inr, ◌⊎◌}
 use Rattle.std.specs.Prelude.{FitsSigned, IfOk, IfErr, OnOk}
 use Rattle.std.specs.Cmp.{IsTotalOrder}
 use Rattle.std.specs.Int.{w64}
@@ -21,17 +21,13 @@ use Rattle.plan.specs.Operators.{is_linear}
 use Rattle.plan.specs.Rules.{first_refusal, is_output}
 use Rattle.plan.specs.Weights.{HasLargeWeight}
 use Rattle.plan.proofs.PlanLemmas.{no_first, no_fault}
-use Rattle.machine.proofs.SiteLemmas.{none_queued, none_held}
-use Rattle.machine.specs.declared.event.Event.{Event}
 use Rattle.machine.specs.declared.event.Fed.{Fed}
-use Rattle.machine.specs.declared.event.Capability.{Capability}
 use Rattle.machine.specs.Dataflows.{Dataflow, node_of}
 use Rattle.machine.specs.Worlds.{fed_to, open_at}
 use Rattle.machine.specs.Histories.{world}
-use Rattle.machine.specs.Outstanding.{frontier, input_frontier}
+use Rattle.machine.specs.Outstanding.{frontier}
 use Rattle.machine.specs.Promises.{changes_in}
-use Rattle.machine.specs.Readings.{IsQuiet}
-use Rattle.machine.specs.Boards.{Shown, IsBoard, Stands, is_from_start}
+use Rattle.machine.specs.Boards.{Shown, IsBoard, is_from_start}
 use Rattle.std.proofs.lemmas.Bool.{or_left, or_right}
 use Rattle.machine.specs.Reads as reads
 use Rattle.machine.specs.Reads.{front, captured_of, since_of, IsRefusalOr}
@@ -49,6 +45,7 @@ use Rattle.script.specs.Orders.{in_order}
 use Rattle.script.specs.Sessions.{Session, view_frontier, read_refusal, changes_refusal, rows_at, frontier_at, changes_at}
 use Rattle.script.specs.Standing.{StandsAs}
 use Rattle.script.proofs.BagLemmas.{bag_of-only}
+use Rattle.script.proofs.RelayLemmas.{quiet}
 use Rattle.script.proofs.WeightLemmas.{linear_within, large_count, large_listed}
 use Rattle.script.proofs.ChangesLemmas.{changes_are, differences_only}
 use Rattle.script.proofs.OrderLemmas.{in_order-sorted, in_order-has, in_order-only}
@@ -73,17 +70,6 @@ module _ {T : Type 0} (below : T → T → Bool) (minimum : T) where
         since = λ v. on.2.since v ∙ a.since v;
       }
 
-  quiet_world : (b : Shown T) (h : List (Event T)) → Stands below minimum b h → IsIdle b → NothingWaits b.stations → IsQuiet below b.dataflow (world below minimum b.dataflow h)
-  quiet_world b h s idle none = record {
-    in_flight = none_queued (world below minimum b.dataflow h).in_flight (λ site. sym (s.queues site) ∙ none site);
-    hand = λ k l. sym (s.hand k l) ∙ free k (subst (λ n. k < n) idle.alone l);
-    held = subst (λ (ms : List (Capability T)). IsTrue (list_all (λ m. is_beyond below (input_frontier below b.dataflow (world below minimum b.dataflow h) m.node) m.time) ms)) (sym (none_held (world below minimum b.dataflow h).held (λ n k. sym (s.held n k) ∙ idle.held n k))) refl;
-  }
-    where
-      free : (k : ℕ) → k < 1 → get_or b.hand k None ≡ None
-      free zero l = idle.hand
-      free (suc k) l = absurd (omega (arith, l))
-
   -- a view may be read from where the session says
   same_since : (b : Shown T) (s : Session T) (v : ℕ) → v < length b.dataflow.nodes → StandsAs below minimum b s → since_of b v ≡ s.since v
   same_since b s v within a = a.stands.since v within ∙ a.since v
@@ -93,7 +79,7 @@ module _ {T : Type 0} (below : T → T → Bool) (minimum : T) where
     same_front : is_beyond below (front below b v) t ≡ is_beyond below (view_frontier below b.dataflow.nodes s v) t
     same_front =
         let w = world below minimum b.dataflow a.history in
-        let quiet = quiet_world b a.history a.stands idle none in
+        let quiet = quiet below minimum b idle none a.history a.stands in
         let caught = caught_up_lem below o b.dataflow board.dataflow w v (λ x m. (in_place_lem b.dataflow board.dataflow below minimum a.history a.stands.legal).inputs x (contains_among x w.openings m)) quiet in
         front_stands below o minimum b board a.history a.stands v t
         ∙ beyond_elements below (frontier below b.dataflow w v) (least below (open_for below b.dataflow.nodes (λ i. open_at i w.openings) v)) caught t
@@ -146,7 +132,7 @@ module _ {T : Type 0} (below : T → T → Bool) (minimum : T) where
     same_frontier : SameElements (frontier below b.dataflow (world below minimum b.dataflow a.history) v) (view_frontier below b.dataflow.nodes s v)
     same_frontier =
         let w = world below minimum b.dataflow a.history in
-        let quiet = quiet_world b a.history a.stands idle none in
+        let quiet = quiet below minimum b idle none a.history a.stands in
         let caught = caught_up_lem below o b.dataflow board.dataflow w v (λ x m. (in_place_lem b.dataflow board.dataflow below minimum a.history a.stands.legal).inputs x (contains_among x w.openings m)) quiet in
         subst (λ (fronts : ℕ → List T). SameElements (frontier below b.dataflow w v) (least below (open_for below b.dataflow.nodes fronts v))) (λ j i. a.inputs i j) caught
 

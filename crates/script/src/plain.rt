@@ -16,15 +16,14 @@ ghost use Rattle.plan.specs.Changes.{open_for};
 ghost use Rattle.plan.specs.Operators.{is_linear};
 ghost use Rattle.plan.specs.Rules.{IsRefusalBy};
 ghost use Rattle.machine.specs.Inputs.{front_at};
-ghost use Rattle.grammar.specs.Commands.{is_input_of, is_view_of};
+ghost use Rattle.grammar.specs.Commands.{is_input_of};
 ghost use Rattle.oracle.specs.Evaluation.{inputs_before};
-ghost use Rattle.script.specs.Answers.{FindsRows, FindsChanges, FindsFrontier};
 ghost use Rattle.script.specs.Ends.{IsTextBeforeOverflow};
 ghost use Rattle.script.specs.Engines.{IsRunEnd, failures};
 ghost use Rattle.script.specs.declared.fault.RunFault.TheVariants.{Refused};
 ghost use Rattle.script.specs.Outs.{IsBeginning};
 ghost use Rattle.script.specs.PlainStanding.{IsRegister, Records, AreFrontiers, with_entry, with_input, entry_refusal, input_refusal};
-ghost use Rattle.script.specs.Text.{Sitting, at_or_below, first_sitting, text};
+ghost use Rattle.script.specs.Text.{at_or_below, first_sitting, text};
 ghost use Rattle.script.specs.Weights.{EndsByWeight, IsLargeScript};
 
 use crate::engine::{Engine, Settle};

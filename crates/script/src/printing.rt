@@ -1,5 +1,5 @@
 //! What a command asks for, printed line by line: each into the waiting text, which goes on to the output in large pieces.
-ghost use Rattle.std.specs.Prelude.{◌<◌, ℕ, List, [], IfErr, OnErr, OnOk, IsSomeAnd, codes, length, slice_get};
+ghost use Rattle.std.specs.Prelude.{◌<◌, IfErr, OnOk};
 ghost use Rattle.update.specs.Text.{entry_text};
 ghost use Rattle.script.specs.Engines.{IsEnd, failures};
 ghost use Rattle.script.specs.Outs.{Wrote, Broke};

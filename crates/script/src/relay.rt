@@ -4,8 +4,7 @@
 //! gives what comes out. A node's readers have greater numbers, so nothing is sent to a node that is done, and one pass
 //! leaves nothing in flight. A linear node needs no time and no state: each bundle is a whole piece, after which the worker
 //! holds nothing. So between two pieces the node law holds at every time, and one piece more keeps it.
-ghost use Rattle.std.specs.Prelude.{◌≡◌, ◌<◌, ◌≤◌, suc, [], ◌∷◌, List, None, Some, IfErr, IfOk, OnErr, OnOk, IsTrue, length, slice_get, get_or};
-ghost use Rattle.update.specs.declared.change.Update.{Update};
+ghost use Rattle.std.specs.Prelude.{◌≡◌, ◌<◌, suc, [], ◌∷◌, List, Some, IfErr, IfOk, OnOk, length, slice_get};
 ghost use Rattle.update.specs.declared.refusal.Refusal.TheVariants.{OutOfMemory};
 ghost use Rattle.linear.specs.Applied.{applied};
 ghost use Rattle.machine.specs.declared.event.Bundle.{Bundle};
@@ -13,7 +12,6 @@ ghost use Rattle.machine.specs.declared.event.Event.{Event};
 ghost use Rattle.machine.specs.Dataflows.{node_of};
 ghost use Rattle.machine.specs.Loads.{queue_of};
 ghost use Rattle.machine.specs.Histories.{world, IsGive};
-ghost use Rattle.machine.specs.Readings.{IsQuiet};
 ghost use Rattle.machine.specs.Boards.{Stands, taken, given};
 ghost use Rattle.script.specs.Relays.{AreDue, NothingWaits, waits_at, IsIdle, IsCut, GoesOnFrom, GoesOn};
 
@@ -39,7 +37,6 @@ pub(crate) fn relay<T: Minimum>(
     requires idle { IsIdle board.old }
     requires due { AreDue board.old.dataflow 0 board.old.stations }
     ensures done { OnOk result (NothingWaits board.new.stations) }
-    ensures quiet { OnOk result ((h : List (Event T)) → Stands T.below T.least board.new h → IsQuiet T.below board.new.dataflow (world T.below T.least board.new.dataflow h)) }
     ensures idle { OnOk result (IsIdle board.new) }
     ensures dataflow { board.new.dataflow ≡ board.old.dataflow }
     ensures goes_on { GoesOn T.below T.least board.old board.new }

@@ -1,12 +1,12 @@
 //! A board and its one worker, which take turns: clients' events go to the board at once, and where rows are asked for, the
 //! worker first carries on what waits.
-ghost use Rattle.std.specs.Prelude.{◌≡◌, [], None, IsTrue, IfErr, IfOk, OnOk};
+ghost use Rattle.std.specs.Prelude.{◌≡◌, None, IsTrue, IfErr, IfOk, OnOk};
 ghost use Rattle.std.specs.List.{All};
 ghost use Rattle.update.specs.declared.refusal.Refusal.TheVariants.{OutOfMemory};
 ghost use Rattle.plan.specs.Operators.{is_linear};
-ghost use Rattle.grammar.specs.Commands.{is_input_of, is_view_of};
+ghost use Rattle.grammar.specs.Commands.{is_input_of};
 ghost use Rattle.lattice.specs.Pairs.{make_pair};
-ghost use Rattle.script.specs.Answers.{TakesChange, TakesFrontier, FindsRows, FindsChanges, FindsFrontier};
+ghost use Rattle.script.specs.Answers.{TakesChange};
 ghost use Rattle.script.specs.Relays.{IsSettled};
 ghost use Rattle.script.specs.Standing.{StandsAs};
 ghost use Rattle.script.specs.Text.{Sitting, at_or_below, first_sitting};

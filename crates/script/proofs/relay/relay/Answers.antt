@@ -2,7 +2,7 @@ use Rattle.std.proofs.Common.{◌≡◌, ap, sym, subst, ◌∙◌, suc, ◌+◌
 use Rattle.machine.specs.Dataflows.{Dataflow}
 use Rattle.script.specs.Relays.{AreDue}
 use Rattle.script.proofs.DueLemmas.{none_due}
-use Rattle.script.proofs.RelayLemmas.{goes_trans, quiet}
+use Rattle.script.proofs.RelayLemmas.{goes_trans}
 use Rattle.script.proofs.relay.relay.Goals as goal
 
 pub returns-in_err-relay_node-clause-goes_on : goal.returns-in_err-relay_node-clause-goes_on
@@ -24,6 +24,3 @@ returns-clause-done g c =
     let end : c.loop-n.n ≡ c.len-n-end.result = omega (arith, c.loop-n-test.false, c.loop-n.auto.n-end) in
     none_due c.loop-n.board.dataflow c.loop-n.board.stations
     (subst (λ n. AreDue c.loop-n.board.dataflow n c.loop-n.board.stations) (end ∙ (c.len-n-end.ensures.len ∙ ap length (c.plan.ensures ∙ ap (λ (z : Dataflow). z.nodes) (sym c.loop-n.invariant.dataflow)))) c.loop-n.invariant.due)
-
-pub returns-clause-quiet : goal.returns-clause-quiet
-returns-clause-quiet g c = quiet g.T.PartialOrder.below g.T.Minimum.least c.loop-n.board c.loop-n.invariant.idle (returns-clause-done g c)
