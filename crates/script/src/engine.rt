@@ -45,7 +45,8 @@ pub(crate) trait Engine {
         requires { IsTrue (is_input_of (plan self.old) input) }
         ensures plan { plan self.new ≡ plan self.old }
         ensures answered { (s : Sitting) → stands self.old s
-            → TakesChange (plan self.old) s (record { input = input; update = update }) (stands self.new) result };
+            → TakesChange (plan self.old) s (record { input = input; update = update })
+            (stands self.new) result };
 
     /// A frontier of an input: with no time the input is closed.
     fn advance(&mut self, input: NodeId, times: Times<Bitime>) -> Result<(), Refusal>
@@ -82,7 +83,8 @@ pub(crate) trait Engine {
             → FindsFrontier (ends (plan self.old) s) (plan self.old) s view result };
 
     /// No run goes on after a refusal that ends it.
-    ghost ending: { (p : List Node) (s : Sitting) (refusal : Refusal) → ends p s refusal → EndsRun refusal };
+    ghost ending: { (p : List Node) (s : Sitting) (refusal : Refusal) → ends p s refusal
+        → EndsRun refusal };
 }
 
 /// An engine that settles on the caller's thread.

@@ -44,7 +44,8 @@ impl Gathered {
     pub(crate) fn flush<W: Out>(&mut self, out: &mut W) -> Result<(), OutFault>
         ensures all { OnOk result (W.took out.old self.old 0 out.new) }
         ensures empty { OnOk result (self.new ≡ []) }
-        ensures beginning { OnErr result ((part : List ℕ) × IsBeginning part self.old × W.took out.old part 1 out.new) }
+        ensures beginning { OnErr result ((part : List ℕ) × IsBeginning part self.old
+            × W.took out.old part 1 out.new) }
     {
         put_all(out, self.text.as_bytes())?;
         self.text.clear();
@@ -118,7 +119,8 @@ impl Gathered {
 
     // A row, behind how often it counts.
     pub(crate) fn print_row(&mut self, count: i64, row: &Row) -> Result<(), AllocError>
-        ensures { OnOk result (self.new ≡ self.old ++ entry_text (record { row = row.now; count = count })) }
+        ensures { OnOk result
+            (self.new ≡ self.old ++ entry_text (record { row = row.now; count = count })) }
     {
         writeln!(self.text, "{count} {row}")
     }

@@ -18,22 +18,28 @@ use lattice::Lattice;
 pub fn the_bag_of_entries()
     ensures bag { (entries : List Entry) → IsBag (bag_of entries) }
     ensures alike { (entries : List Entry) → Alike (bag_of entries) entries }
-    ensures only { (entries bag : List Entry) → IsBag bag → Alike bag entries → bag ≡ bag_of entries }
+    ensures only { (entries bag : List Entry) → IsBag bag → Alike bag entries
+        → bag ≡ bag_of entries }
 {}
 
 /// The changes of a view are a consolidated list at times that its frontier has passed, which sums at each of them to the
 /// query, from scratch, on the accepted changes; and there is no other such list.
 pub fn the_changes_of_a_view<T: Lattice>()
     ensures differences { (p : List Node) → IsPlan p → (s : Session T) (view : ℕ) → view < length p
-        → AreDifferences T.below T.cmp p (λ input. fed_to input s.fed) (view_frontier T.below p s view) view (changes_at T.below p s T.cmp T.joined view) }
+        → AreDifferences T.below T.cmp p (λ input. fed_to input s.fed)
+        (view_frontier T.below p s view) view (changes_at T.below p s T.cmp T.joined view) }
     ensures only { (p : List Node) → IsPlan p → (s : Session T) (view : ℕ) → view < length p
-        → (us : List (Update T)) → AreDifferences T.below T.cmp p (λ input. fed_to input s.fed) (view_frontier T.below p s view) view us → us ≡ changes_at T.below p s T.cmp T.joined view }
+        → (us : List (Update T))
+        → AreDifferences T.below T.cmp p (λ input. fed_to input s.fed)
+        (view_frontier T.below p s view) view us → us ≡ changes_at T.below p s T.cmp T.joined view }
 {}
 
 /// The frontier of a view as it is printed has just the elements of the frontier, each once and in order.
 pub fn the_frontier_of_a_view<T: Lattice>()
-    ensures elements { (p : List Node) (s : Session T) (view : ℕ) → SameElements (frontier_at T.below p s T.cmp view) (view_frontier T.below p s view) }
-    ensures ascending { (p : List Node) (s : Session T) (view : ℕ) → IsStrictlySortedBy T.cmp (frontier_at T.below p s T.cmp view) }
+    ensures elements { (p : List Node) (s : Session T) (view : ℕ)
+        → SameElements (frontier_at T.below p s T.cmp view) (view_frontier T.below p s view) }
+    ensures ascending { (p : List Node) (s : Session T) (view : ℕ)
+        → IsStrictlySortedBy T.cmp (frontier_at T.below p s T.cmp view) }
 {}
 
 /// Every node of a plan has a weight, whatever changes its inputs were fed: the weight that the other laws speak of is

@@ -45,7 +45,9 @@ fn hand_over<E: Engine>(alloc: Global, engine: &mut E, command: &Command) -> Res
     requires writes_nothing { is_reading command.now ≡ false }
     ensures plan { E.plan engine.new ≡ E.plan engine.old }
     ensures answered { (s : Sitting) → E.stands engine.old s
-        → IsTold (refusal_of (E.plan engine.old) s command.now) (E.stands engine.new (accepting (E.plan engine.old) s command.now)) (E.stands engine.new s) result }
+        → IsTold (refusal_of (E.plan engine.old) s command.now)
+        (E.stands engine.new (accepting (E.plan engine.old) s command.now))
+        (E.stands engine.new s) result }
 {
     match command {
         Command::Change {
@@ -146,12 +148,16 @@ fn ask<E: Engine, W: Out>(
     requires settled { E.settled engine.old }
     ensures plan { E.plan engine.new ≡ E.plan engine.old }
     ensures ran { (s : Sitting) → E.stands engine.old s
-        → OnOk result (E.stands engine.new (after script.now.plan s line.now.command) × Wrote W.took out.old gathered.old (piece script.now s line.now) out.new gathered.new) }
+        → OnOk result (E.stands engine.new (after script.now.plan s line.now.command)
+        × Wrote W.took out.old gathered.old (piece script.now s line.now) out.new gathered.new) }
     ensures broke { (s : Sitting) → E.stands engine.old s
-        → IfErr result (λ fault. Broke W.took out.old gathered.old (piece script.now s line.now) (failures fault) out.new) }
+        → IfErr result
+        (λ fault. Broke W.took out.old gathered.old (piece script.now s line.now)
+        (failures fault) out.new) }
     ensures overflow { IfErr result
         (λ fault. fault ≡ Refused 10 → W.took out.old gathered.old 0 out.new) }
-    ensures known { (s : Sitting) → E.stands engine.old s → IfErr result (IsEnd (E.ends script.now.plan s)) }
+    ensures known { (s : Sitting) → E.stands engine.old s
+        → IfErr result (IsEnd (E.ends script.now.plan s)) }
 {
     match &line.command {
         Command::Read { view, time } => match engine.read(alloc, *view, *time) {
@@ -184,12 +190,16 @@ fn settle_and_ask<E: Settle, W: Out>(
     requires reads { is_reading line.now.command ≡ true }
     ensures plan { E.plan engine.new ≡ E.plan engine.old }
     ensures ran { (s : Sitting) → E.stands engine.old s
-        → OnOk result (E.stands engine.new (after script.now.plan s line.now.command) × Wrote W.took out.old gathered.old (piece script.now s line.now) out.new gathered.new) }
+        → OnOk result (E.stands engine.new (after script.now.plan s line.now.command)
+        × Wrote W.took out.old gathered.old (piece script.now s line.now) out.new gathered.new) }
     ensures broke { (s : Sitting) → E.stands engine.old s
-        → IfErr result (λ fault. Broke W.took out.old gathered.old (piece script.now s line.now) (failures fault) out.new) }
+        → IfErr result
+        (λ fault. Broke W.took out.old gathered.old (piece script.now s line.now)
+        (failures fault) out.new) }
     ensures overflow { IfErr result
         (λ fault. fault ≡ Refused 10 → W.took out.old gathered.old 0 out.new) }
-    ensures known { (s : Sitting) → E.stands engine.old s → IfErr result (IsEnd (E.ends script.now.plan s)) }
+    ensures known { (s : Sitting) → E.stands engine.old s
+        → IfErr result (IsEnd (E.ends script.now.plan s)) }
 {
     match engine.settle(alloc) {
         Ok(()) => ask(alloc, engine, script, line, gathered, out),
@@ -210,13 +220,17 @@ pub(crate) fn obey<E: Settle, W: Out>(
     requires about { IsAbout (E.plan engine.old) line.now.command }
     ensures plan { E.plan engine.new ≡ E.plan engine.old }
     ensures ran { (s : Sitting) → E.stands engine.old s
-        → OnOk result (E.stands engine.new (after script.now.plan s line.now.command) × Wrote W.took out.old gathered.old (piece script.now s line.now) out.new gathered.new) }
+        → OnOk result (E.stands engine.new (after script.now.plan s line.now.command)
+        × Wrote W.took out.old gathered.old (piece script.now s line.now) out.new gathered.new) }
     ensures broke { (s : Sitting) → E.stands engine.old s
-        → IfErr result (λ fault. Broke W.took out.old gathered.old (piece script.now s line.now) (failures fault) out.new) }
+        → IfErr result
+        (λ fault. Broke W.took out.old gathered.old (piece script.now s line.now)
+        (failures fault) out.new) }
     ensures overflow { (s : Sitting) → E.stands engine.old s
         → IfErr result (λ fault. fault ≡ Refused 10
         → (is_reading line.now.command ≡ true) × W.took out.old gathered.old 0 out.new) }
-    ensures known { (s : Sitting) → E.stands engine.old s → IfErr result (IsEnd (E.ends script.now.plan s)) }
+    ensures known { (s : Sitting) → E.stands engine.old s
+        → IfErr result (IsEnd (E.ends script.now.plan s)) }
 {
     if is_reading(&line.command) {
         return settle_and_ask(alloc, engine, script, line, gathered, out);

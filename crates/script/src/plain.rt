@@ -57,9 +57,17 @@ impl Model for Plain {
 
     ghost Value = { Register (Pair ℕ ℕ) };
 
-    ghost view = { λ plain. record { plan = plain.plan; changes = map (λ v. v.items) plain.changes.items; inputs = plain.inputs } };
+    ghost view = { λ plain. record {
+      plan = plain.plan;
+      changes = map (λ v. v.items) plain.changes.items;
+      inputs = plain.inputs;
+    } };
 
-    ghost invariant = { λ plain. IsRegister (record { plan = plain.plan; changes = map (λ v. v.items) plain.changes.items; inputs = plain.inputs }) };
+    ghost invariant = { λ plain. IsRegister (record {
+      plan = plain.plan;
+      changes = map (λ v. v.items) plain.changes.items;
+      inputs = plain.inputs;
+    }) };
 }
 
 // How many inputs have smaller numbers: the place of an input's list.
@@ -95,9 +103,12 @@ fn push_change(
     update: Update<Bitime>,
 ) -> Result<(), Refusal>
     requires { place < length lists.old.items }
-    ensures pushed { OnOk result (map (λ v. v.items) lists.new.items ≡ set (map (λ v. v.items) lists.old.items) place (slice_index_or (map (λ v. v.items) lists.old.items) place [] ++ update ∷ [])) }
+    ensures pushed { OnOk result
+        (map (λ v. v.items) lists.new.items ≡ set (map (λ v. v.items) lists.old.items) place
+        (slice_index_or (map (λ v. v.items) lists.old.items) place [] ++ update ∷ [])) }
     ensures refused { IfErr result (λ refusal. refusal ≡ OutOfMemory) }
-    ensures unchanged { OnErr result (map (λ v. v.items) lists.new.items ≡ map (λ v. v.items) lists.old.items) }
+    ensures unchanged { OnErr result
+        (map (λ v. v.items) lists.new.items ≡ map (λ v. v.items) lists.old.items) }
 {
     lists[place].push(update)?;
     Ok(())
@@ -112,7 +123,8 @@ fn open_for(
 ) -> Result<Vec<Bitime>, Refusal>
     requires view { view < length plan.now }
     requires inputs { length inputs.now ≡ length plan.now }
-    ensures open { IfOk result (λ times. times.items ≡ open_for at_or_below plan.now (λ i. front_at i inputs.now) view) }
+    ensures open { IfOk result
+        (λ times. times.items ≡ open_for at_or_below plan.now (λ i. front_at i inputs.now) view) }
     ensures refused { IfErr result (λ refusal. refusal ≡ OutOfMemory) }
 {
     let mut times = Vec::new(alloc);
@@ -132,7 +144,8 @@ fn frontiers(
     inputs: &InputFrontiers<Bitime>,
 ) -> Result<Vec<Antichain<Bitime>>, Refusal>
     requires { length inputs.now ≡ length plan.now }
-    ensures frontiers { IfOk result (λ all. AreFrontiers at_or_below plan.now inputs.now all.items) }
+    ensures frontiers { IfOk result
+        (λ all. AreFrontiers at_or_below plan.now inputs.now all.items) }
     ensures refused { IfErr result (λ refusal. refusal ≡ OutOfMemory) }
 {
     let mut all = Vec::new(alloc);
@@ -150,7 +163,8 @@ impl Plain {
     pub(crate) fn open(alloc: Global, plan: &Plan) -> Result<Plain, Refusal>
         requires linear { All (λ node. IsTrue (is_linear node)) plan.now }
         ensures plan { IfOk result (λ plain. plain.plan ≡ plan.now) }
-        ensures stands { IfOk result (λ plain. Records (make_pair 0 0) plain (first_sitting plan.now)) }
+        ensures stands { IfOk result
+            (λ plain. Records (make_pair 0 0) plain (first_sitting plan.now)) }
         ensures refused { IfErr result (λ refusal. refusal ≡ OutOfMemory) }
     {
         let plan = plan.clone()?;
@@ -166,9 +180,19 @@ impl Plain {
     // Takes a change, or refuses it as a board does.
     fn take_change(&mut self, input: NodeId, update: Update<Bitime>) -> Result<(), Refusal>
         requires { IsTrue (is_input_of self.old.plan input) }
-        ensures taken { OnOk result (self.new ≡ with_entry (record { input = input; update = update }) self.old) }
-        ensures accepted { OnOk result (entry_refusal at_or_below self.old (record { input = input; update = update }) ≡ None) }
-        ensures refused { IfErr result (λ refusal. IsRefusalBy (entry_refusal at_or_below self.old (record { input = input; update = update })) refusal) }
+        ensures taken { OnOk result
+            (self.new ≡ with_entry (record { input = input; update = update }) self.old) }
+        ensures accepted { OnOk result
+            (entry_refusal at_or_below self.old (record {
+              input = input;
+              update = update;
+            }) ≡ None) }
+        ensures refused { IfErr result
+            (λ refusal. IsRefusalBy
+            (entry_refusal at_or_below self.old (record {
+              input = input;
+              update = update;
+            })) refusal) }
         ensures unchanged { OnErr result (self.new ≡ self.old) }
         ensures register { IsRegister self.old }
     {
@@ -185,7 +209,8 @@ impl Plain {
         requires { IsTrue (is_input_of self.old.plan input) }
         ensures taken { OnOk result (self.new ≡ with_input input times self.old) }
         ensures accepted { OnOk result (input_refusal at_or_below self.old input times ≡ None) }
-        ensures refused { IfErr result (λ refusal. input_refusal at_or_below self.old input times ≡ Some refusal) }
+        ensures refused { IfErr result
+            (λ refusal. input_refusal at_or_below self.old input times ≡ Some refusal) }
         ensures unchanged { OnErr result (self.new ≡ self.old) }
     {
         self.inputs.advance(input, times)
@@ -269,7 +294,8 @@ impl Settle for Plain {
 /// as many as the product of the valid and the system times that occur.
 pub fn plain_script<W: Out>(alloc: Global, script: &Script, out: &mut W) -> Result<(), RunFault>
     ensures written { OnOk result (W.took out.old (text script.now) 0 out.new) }
-    ensures beginning { IfErr result (λ fault. (part : List ℕ) × IsBeginning part (text script.now) × W.took out.old part (failures fault) out.new) }
+    ensures beginning { IfErr result (λ fault. (part : List ℕ) × IsBeginning part (text script.now)
+        × W.took out.old part (failures fault) out.new) }
     ensures overflow { IfErr result (λ fault. fault ≡ Refused 10
         → (part : List ℕ) × IsTextBeforeOverflow script.now part × W.took out.old part 0 out.new) }
     ensures known { IfErr result (IsRunEnd (IsLargeScript script.now)) }

@@ -19,8 +19,12 @@ fn print_entry<W: Out>(
     count: i64,
     row: &Row,
 ) -> Result<(), RunFault>
-    ensures wrote { OnOk result (Wrote W.took out.old gathered.old (entry_text (record { row = row.now; count = count })) out.new gathered.new) }
-    ensures broke { IfErr result (λ fault. Broke W.took out.old gathered.old (entry_text (record { row = row.now; count = count })) (failures fault) out.new) }
+    ensures wrote { OnOk result
+        (Wrote W.took out.old gathered.old
+        (entry_text (record { row = row.now; count = count })) out.new gathered.new) }
+    ensures broke { IfErr result
+        (λ fault. Broke W.took out.old gathered.old
+        (entry_text (record { row = row.now; count = count })) (failures fault) out.new) }
     ensures known { IfErr result (IsEnd (λ refusal. ⊥)) }
 {
     gathered.print_row(count, row)?;
@@ -36,8 +40,12 @@ pub(crate) fn print_rows<W: Out>(
     time: Bitime,
     rows: &Bag,
 ) -> Result<(), RunFault>
-    ensures wrote { OnOk result (Wrote W.took out.old gathered.old (rows_text view.now time rows.now) out.new gathered.new) }
-    ensures broke { IfErr result (λ fault. Broke W.took out.old gathered.old (rows_text view.now time rows.now) (failures fault) out.new) }
+    ensures wrote { OnOk result
+        (Wrote W.took out.old gathered.old
+        (rows_text view.now time rows.now) out.new gathered.new) }
+    ensures broke { IfErr result
+        (λ fault. Broke W.took out.old gathered.old (rows_text view.now time rows.now)
+        (failures fault) out.new) }
     ensures known { IfErr result (IsEnd (λ refusal. ⊥)) }
 {
     gathered.print_read(view, time, rows.len())?;
@@ -53,8 +61,11 @@ fn print_update<W: Out>(
     out: &mut W,
     update: &Update<Bitime>,
 ) -> Result<(), RunFault>
-    ensures wrote { OnOk result (Wrote W.took out.old gathered.old (update_text update.now) out.new gathered.new) }
-    ensures broke { IfErr result (λ fault. Broke W.took out.old gathered.old (update_text update.now) (failures fault) out.new) }
+    ensures wrote { OnOk result
+        (Wrote W.took out.old gathered.old (update_text update.now) out.new gathered.new) }
+    ensures broke { IfErr result
+        (λ fault. Broke W.took out.old gathered.old (update_text update.now)
+        (failures fault) out.new) }
     ensures known { IfErr result (IsEnd (λ refusal. ⊥)) }
 {
     gathered.print_update(update)?;
@@ -69,8 +80,12 @@ pub(crate) fn print_changes<W: Out>(
     view: &str,
     changes: &[Update<Bitime>],
 ) -> Result<(), RunFault>
-    ensures wrote { OnOk result (Wrote W.took out.old gathered.old (changes_text view.now changes.now) out.new gathered.new) }
-    ensures broke { IfErr result (λ fault. Broke W.took out.old gathered.old (changes_text view.now changes.now) (failures fault) out.new) }
+    ensures wrote { OnOk result
+        (Wrote W.took out.old gathered.old
+        (changes_text view.now changes.now) out.new gathered.new) }
+    ensures broke { IfErr result
+        (λ fault. Broke W.took out.old gathered.old (changes_text view.now changes.now)
+        (failures fault) out.new) }
     ensures known { IfErr result (IsEnd (λ refusal. ⊥)) }
 {
     gathered.print_count("changes", view, changes.len())?;
@@ -86,8 +101,11 @@ fn print_element<W: Out>(
     out: &mut W,
     time: &Bitime,
 ) -> Result<(), RunFault>
-    ensures wrote { OnOk result (Wrote W.took out.old gathered.old (element_text time.now) out.new gathered.new) }
-    ensures broke { IfErr result (λ fault. Broke W.took out.old gathered.old (element_text time.now) (failures fault) out.new) }
+    ensures wrote { OnOk result
+        (Wrote W.took out.old gathered.old (element_text time.now) out.new gathered.new) }
+    ensures broke { IfErr result
+        (λ fault. Broke W.took out.old gathered.old (element_text time.now)
+        (failures fault) out.new) }
     ensures known { IfErr result (IsEnd (λ refusal. ⊥)) }
 {
     gathered.print_element(*time)?;
@@ -102,8 +120,12 @@ pub(crate) fn print_frontier<W: Out>(
     view: &str,
     elements: &[Bitime],
 ) -> Result<(), RunFault>
-    ensures wrote { OnOk result (Wrote W.took out.old gathered.old (frontier_text view.now elements.now) out.new gathered.new) }
-    ensures broke { IfErr result (λ fault. Broke W.took out.old gathered.old (frontier_text view.now elements.now) (failures fault) out.new) }
+    ensures wrote { OnOk result
+        (Wrote W.took out.old gathered.old
+        (frontier_text view.now elements.now) out.new gathered.new) }
+    ensures broke { IfErr result
+        (λ fault. Broke W.took out.old gathered.old (frontier_text view.now elements.now)
+        (failures fault) out.new) }
     ensures known { IfErr result (IsEnd (λ refusal. ⊥)) }
 {
     gathered.print_count("frontier", view, elements.len())?;

@@ -83,7 +83,8 @@ fn relay_one<T: Minimum>(
     requires worker { place.worker ≡ 0 }
     requires waits { 0 < length (queue_of board.old.stations place) }
     ensures due { OnOk result (AreDue board.new.dataflow place.node board.new.stations) }
-    ensures fewer { OnOk result (suc (waits_at place.node board.new.stations) ≡ waits_at place.node board.old.stations) }
+    ensures fewer { OnOk result
+        (suc (waits_at place.node board.new.stations) ≡ waits_at place.node board.old.stations) }
     ensures idle { OnOk result (IsIdle board.new) }
     ensures dataflow { board.new.dataflow ≡ board.old.dataflow }
     ensures goes_on { GoesOn T.below T.least board.old board.new }
@@ -101,10 +102,17 @@ fn compute<T: Minimum>(board: &mut Board<T>, place: Site) -> Result<Emission<T>,
     requires due { AreDue board.old.dataflow place.node board.old.stations }
     requires worker { place.worker ≡ 0 }
     requires waits { 0 < length (queue_of board.old.stations place) }
-    ensures taken { IfOk result (λ emission. (bundle : Bundle T) × (slice_get (queue_of board.old.stations place) 0 ≡ Some bundle) × (bundle.place ≡ place) × (board.new ≡ taken 0 bundle board.old)
-        × (emission ≡ record { node = bundle.place.node; worker = bundle.place.worker; updates = applied (node_of board.old.dataflow bundle.place.node) bundle.updates })) }
+    ensures taken { IfOk result (λ emission. (bundle : Bundle T)
+        × (slice_get (queue_of board.old.stations place) 0 ≡ Some bundle) × (bundle.place ≡ place)
+        × (board.new ≡ taken 0 bundle board.old)
+        × (emission ≡ record {
+          node = bundle.place.node;
+          worker = bundle.place.worker;
+          updates = applied (node_of board.old.dataflow bundle.place.node) bundle.updates;
+        })) }
     ensures dataflow { board.new.dataflow ≡ board.old.dataflow }
-    ensures stands { (h : List (Event T)) → Stands T.below T.least board.old h → OnOk result (Stands T.below T.least board.new (board.new.last ∷ h)) }
+    ensures stands { (h : List (Event T)) → Stands T.below T.least board.old h
+        → OnOk result (Stands T.below T.least board.new (board.new.last ∷ h)) }
     ensures goes_on { GoesOn T.below T.least board.old board.new }
     ensures refused { IfErr result (λ refusal. refusal ≡ OutOfMemory) }
 {
@@ -130,9 +138,13 @@ fn hand_on<T: Minimum>(
     requires routing { routing.now ≡ board.old.dataflow }
     requires worker { emission.worker < board.old.dataflow.workers }
     requires within { emission.node < length board.old.dataflow.nodes }
-    ensures given { OnOk result ((sent : List (Bundle T)) × IsCut T.below board.old.dataflow emission sent × (board.new ≡ given emission [] sent board.old)) }
+    ensures given { OnOk result ((sent : List (Bundle T))
+        × IsCut T.below board.old.dataflow emission sent
+        × (board.new ≡ given emission [] sent board.old)) }
     ensures goes_on { (h : List (Event T)) → Stands T.below T.least board.old h
-        → ((sent : List (Bundle T)) → IsCut T.below board.old.dataflow emission sent → IsGive T.below board.old.dataflow (world T.below T.least board.old.dataflow h) emission [] sent)
+        → ((sent : List (Bundle T)) → IsCut T.below board.old.dataflow emission sent
+        → IsGive T.below board.old.dataflow
+        (world T.below T.least board.old.dataflow h) emission [] sent)
         → GoesOnFrom T.below T.least h board.old board.new }
     ensures dataflow { board.new.dataflow ≡ board.old.dataflow }
     ensures refused { IfErr result (λ refusal. refusal ≡ OutOfMemory) }

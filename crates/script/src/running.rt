@@ -28,14 +28,22 @@ fn obey_all<E: Settle, W: Out>(
 ) -> Result<(), RunFault>
     requires plan { script.now.plan ≡ E.plan engine.old }
     ensures wrote { (s : Sitting) → E.stands engine.old s
-        → OnOk result (Wrote W.took out.old gathered.old (lines_text script.now s script.now.commands) out.new gathered.new) }
+        → OnOk result
+        (Wrote W.took out.old gathered.old
+        (lines_text script.now s script.now.commands) out.new gathered.new) }
     ensures broke { (s : Sitting) → E.stands engine.old s
-        → IfErr result (λ fault. Broke W.took out.old gathered.old (lines_text script.now s script.now.commands) (failures fault) out.new) }
+        → IfErr result
+        (λ fault. Broke W.took out.old gathered.old (lines_text script.now s script.now.commands)
+        (failures fault) out.new) }
     ensures overflow { (s : Sitting) → E.stands engine.old s
         → IfErr result (λ fault. fault ≡ Refused 10 → (part : List ℕ)
-        × IsTextBefore (λ now. E.ends script.now.plan now Overflow) script.now s script.now.commands part
+        × IsTextBefore
+        (λ now. E.ends script.now.plan now Overflow) script.now s script.now.commands part
         × W.took out.old (gathered.old ++ part) 0 out.new) }
-    ensures known { (s : Sitting) → E.stands engine.old s → IfErr result (IsEnd (λ refusal. HoldsAlong (λ now. E.ends script.now.plan now refusal) script.now.plan s script.now.commands)) }
+    ensures known { (s : Sitting) → E.stands engine.old s
+        → IfErr result
+        (IsEnd (λ refusal. HoldsAlong
+        (λ now. E.ends script.now.plan now refusal) script.now.plan s script.now.commands)) }
 {
     for line in script.command_lines() {
         obey(alloc, engine, script, line, gathered, out)?;
@@ -55,12 +63,18 @@ pub(crate) fn run<E: Settle, W: Out>(
     ensures wrote { (s : Sitting) → E.stands engine.old s
         → OnOk result (W.took out.old (lines_text script.now s script.now.commands) 0 out.new) }
     ensures broke { (s : Sitting) → E.stands engine.old s
-        → IfErr result (λ fault. Broke W.took out.old [] (lines_text script.now s script.now.commands) (failures fault) out.new) }
+        → IfErr result
+        (λ fault. Broke W.took out.old [] (lines_text script.now s script.now.commands)
+        (failures fault) out.new) }
     ensures overflow { (s : Sitting) → E.stands engine.old s
         → IfErr result (λ fault. fault ≡ Refused 10 → (part : List ℕ)
-        × IsTextBefore (λ now. E.ends script.now.plan now Overflow) script.now s script.now.commands part
+        × IsTextBefore
+        (λ now. E.ends script.now.plan now Overflow) script.now s script.now.commands part
         × W.took out.old part 0 out.new) }
-    ensures known { (s : Sitting) → E.stands engine.old s → IfErr result (IsEnd (λ refusal. HoldsAlong (λ now. E.ends script.now.plan now refusal) script.now.plan s script.now.commands)) }
+    ensures known { (s : Sitting) → E.stands engine.old s
+        → IfErr result
+        (IsEnd (λ refusal. HoldsAlong
+        (λ now. E.ends script.now.plan now refusal) script.now.plan s script.now.commands)) }
 {
     let mut gathered = Gathered::new(alloc);
     obey_all(alloc, engine, script, &mut gathered, out)?;
@@ -92,11 +106,13 @@ pub fn run_script<W: Out>(
     out: &mut W,
 ) -> Result<(), RunFault>
     ensures written { OnOk result (W.took out.old (text script.now) 0 out.new) }
-    ensures beginning { IfErr result (λ fault. (part : List ℕ) × IsBeginning part (text script.now) × W.took out.old part (failures fault) out.new) }
+    ensures beginning { IfErr result (λ fault. (part : List ℕ) × IsBeginning part (text script.now)
+        × W.took out.old part (failures fault) out.new) }
     ensures overflow { IfErr result (λ fault. fault ≡ Refused 10
         → (part : List ℕ) × IsTextBeforeOverflow script.now part × W.took out.old part 0 out.new) }
     ensures workers { IsErrOf result (Refused 23) ↔ (workers ≢ 1) }
-    ensures known { IfErr result (λ fault. IsRunEnd (IsLargeScript script.now) fault ⊎ (fault ≡ Refused 23)) }
+    ensures known { IfErr result (λ fault. IsRunEnd (IsLargeScript script.now) fault
+        ⊎ (fault ≡ Refused 23)) }
 {
     if workers != 1 {
         return Err(RunFault::from(Refusal::BadWorkers));

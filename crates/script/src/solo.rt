@@ -51,7 +51,8 @@ impl Model for Solo {
 
     ghost view = { λ solo. solo.board };
 
-    ghost invariant = { λ solo. IsReadyUnless solo.ended solo.board × (solo.routing ≡ solo.board.dataflow) };
+    ghost invariant = { λ solo. IsReadyUnless solo.ended solo.board
+        × (solo.routing ≡ solo.board.dataflow) };
 }
 
 impl Solo {
@@ -59,7 +60,8 @@ impl Solo {
     pub(crate) fn open(alloc: Global, plan: &Plan) -> Result<Solo, Refusal>
         requires linear { All (λ node. IsTrue (is_linear node)) plan.now }
         ensures plan { IfOk result (λ solo. solo.dataflow.nodes ≡ plan.now) }
-        ensures stands { IfOk result (λ solo. StandsAs at_or_below (make_pair 0 0) solo (first_sitting plan.now)) }
+        ensures stands { IfOk result
+            (λ solo. StandsAs at_or_below (make_pair 0 0) solo (first_sitting plan.now)) }
         ensures refused { IfErr result (λ refusal. refusal ≡ OutOfMemory) }
     {
         let routing = Routing::of(alloc, plan, 1)?;
@@ -89,7 +91,8 @@ impl Solo {
     fn carry_on(&mut self, alloc: Global) -> Result<(), Refusal>
         ensures plan { self.new.dataflow ≡ self.old.dataflow }
         ensures settled { OnOk result (IsSettled self.new) }
-        ensures stands { (s : Sitting) → StandsAs at_or_below (make_pair 0 0) self.old s → StandsAs at_or_below (make_pair 0 0) self.new s }
+        ensures stands { (s : Sitting) → StandsAs at_or_below (make_pair 0 0) self.old s
+            → StandsAs at_or_below (make_pair 0 0) self.new s }
         ensures refused { IfErr result (λ refusal. refusal ≡ OutOfMemory) }
     {
         if let Some(refusal) = self.ended {
@@ -107,7 +110,8 @@ impl Solo {
     // There is one change more, before which the worker carries on where many wait.
     fn make_room(&mut self, alloc: Global) -> Result<(), Refusal>
         ensures plan { self.new.dataflow ≡ self.old.dataflow }
-        ensures stands { (s : Sitting) → StandsAs at_or_below (make_pair 0 0) self.old s → StandsAs at_or_below (make_pair 0 0) self.new s }
+        ensures stands { (s : Sitting) → StandsAs at_or_below (make_pair 0 0) self.old s
+            → StandsAs at_or_below (make_pair 0 0) self.new s }
         ensures refused { IfErr result (λ refusal. refusal ≡ OutOfMemory) }
     {
         if self.waiting < BACKLOG {
