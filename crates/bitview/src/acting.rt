@@ -94,7 +94,9 @@ fn write_asked<W: Out>(
 ) -> Result<(), RunFault>
     requires { IsInRange action }
     ensures written { OnOk result (W.took out.old (asked_text action.entry script.now) 0 out.new) }
-    ensures beginning { IfErr result (λ fault. (part : List ℕ) × IsBeginning part (asked_text action.entry script.now) × W.took out.old part (failures fault) out.new) }
+    ensures beginning { IfErr result (λ fault. (part : List ℕ)
+        × IsBeginning part (asked_text action.entry script.now)
+        × W.took out.old part (failures fault) out.new) }
     ensures overflow { IfErr result (λ fault. fault ≡ Refused 10 → (part : List ℕ)
         × IsBeginning part (asked_text action.entry script.now)
         × IsPartBeforeOverflow action.entry script.now part × W.took out.old part 0 out.new) }
@@ -109,7 +111,8 @@ fn write_asked<W: Out>(
 // Writes how many nodes and commands a script has.
 fn write_size<W: Out>(alloc: Global, script: &Script, out: &mut W) -> Result<(), RunFault>
     ensures written { OnOk result (W.took out.old (check_text script.now) 0 out.new) }
-    ensures beginning { IfErr result (λ fault. (part : List ℕ) × IsBeginning part (check_text script.now) × W.took out.old part (failures fault) out.new) }
+    ensures beginning { IfErr result (λ fault. (part : List ℕ)
+        × IsBeginning part (check_text script.now) × W.took out.old part (failures fault) out.new) }
     ensures overflow { IfErr result (λ fault. fault ≡ Refused 10 → ⊥) }
 {
     let nodes = script.nodes();

@@ -22,7 +22,8 @@ pub(crate) fn wrong_count() -> LineError
 
 #[tactic(auto, unfolding(crate::specs::Declaring::input_line))]
 pub(crate) fn input_line(alloc: Global, draft: &mut Draft, words: &[&str]) -> Result<(), LineError>
-    ensures { Gives (λ _. known draft.new) result (input_line (known draft.old) (map (λ w. w.now) words.now)) }
+    ensures { Gives (λ _. known draft.new) result
+        (input_line (known draft.old) (map (λ w. w.now) words.now)) }
 {
     match words {
         [name, width] => {
@@ -36,7 +37,8 @@ pub(crate) fn input_line(alloc: Global, draft: &mut Draft, words: &[&str]) -> Re
 
 #[tactic(auto, unfolding(crate::specs::Declaring::view_line))]
 pub(crate) fn view_line(alloc: Global, draft: &mut Draft, words: &[&str]) -> Result<(), LineError>
-    ensures { Gives (λ _. known draft.new) result (view_line (known draft.old) (map (λ w. w.now) words.now)) }
+    ensures { Gives (λ _. known draft.new) result
+        (view_line (known draft.old) (map (λ w. w.now) words.now)) }
 {
     match words {
         [name, source] => {
@@ -50,7 +52,8 @@ pub(crate) fn view_line(alloc: Global, draft: &mut Draft, words: &[&str]) -> Res
 
 #[tactic(auto, unfolding(crate::specs::Lines::start_line))]
 pub(crate) fn start_line(draft: &mut Draft, words: &[&str]) -> Result<(), LineError>
-    ensures { Gives (λ _. known draft.new) result (start_line (known draft.old) (map (λ w. w.now) words.now)) }
+    ensures { Gives (λ _. known draft.new) result
+        (start_line (known draft.old) (map (λ w. w.now) words.now)) }
 {
     match words {
         [] => {

@@ -99,7 +99,8 @@ impl Draft {
     // The word as a name that is free.
     #[tactic(auto, unfolding(crate::specs::Known::new_name))]
     pub(crate) fn new_name(&self, alloc: Global, word: &str) -> Result<String, LineError>
-        ensures name { Gives (λ name. string_bytes name) result (new_name (known self.now) word.now) }
+        ensures name { Gives (λ name. string_bytes name) result
+            (new_name (known self.now) word.now) }
         ensures free { IfOk result (λ name. place_of (known self.now) (string_bytes name) ≡ None) }
     {
         if !is_name(word) {
@@ -115,7 +116,8 @@ impl Draft {
     #[tactic(auto, unfolding(crate::specs::Declaring::with_node))]
     pub(crate) fn add(&mut self, alloc: Global, name: String, node: Node) -> Result<(), LineError>
         requires { place_of (known self.old) (string_bytes name) ≡ None }
-        ensures { Gives (λ _. known self.new) result (with_node (known self.old) (string_bytes name) node) }
+        ensures { Gives (λ _. known self.new) result
+            (with_node (known self.old) (string_bytes name) node) }
     {
         push_node(alloc, &mut self.plan, node)?;
         self.names.insert(name)?;

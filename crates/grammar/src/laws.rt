@@ -25,23 +25,30 @@ pub fn numbers_have_one_form()
 /// Bytes are a script exactly where all lines are in order and `start` is among them, and else they have the fault of the
 /// first line that is not. What stands behind that line does not matter.
 pub fn first_faults_decide()
-    ensures script { (bytes : List ℕ) (t : Told) → (script_of bytes ≡ Ok t) ↔ IsScript (lines_of bytes) t }
-    ensures fault { (bytes : List ℕ) (n : ℕ) (refusal : Refusal) → (script_of bytes ≡ Err (n, refusal)) ↔ IsFirstFault (lines_of bytes) n refusal }
-    ensures later { (before more other : List (List ℕ)) (n : ℕ) (refusal : Refusal) → n ≤ length before
-        → lines_from 1 nothing_known (before ++ more) ≡ Err (n, refusal) → lines_from 1 nothing_known (before ++ other) ≡ Err (n, refusal) }
+    ensures script { (bytes : List ℕ) (t : Told) → (script_of bytes ≡ Ok t)
+        ↔ IsScript (lines_of bytes) t }
+    ensures fault { (bytes : List ℕ) (n : ℕ) (refusal : Refusal)
+        → (script_of bytes ≡ Err (n, refusal)) ↔ IsFirstFault (lines_of bytes) n refusal }
+    ensures later { (before more other : List (List ℕ)) (n : ℕ) (refusal : Refusal)
+        → n ≤ length before
+        → lines_from 1 nothing_known (before ++ more) ≡ Err (n, refusal)
+        → lines_from 1 nothing_known (before ++ other) ≡ Err (n, refusal) }
 {}
 
 /// A line that is in order says one of four things, in the words that are printed of what it says.
 pub fn lines_are_spelled()
-    ensures { (n : ℕ) (k next : Known) (line : List ℕ) → line_of n k line ≡ Ok next → Says n k (words_of line) next }
+    ensures { (n : ℕ) (k next : Known) (line : List ℕ) → line_of n k line ≡ Ok next
+        → Says n k (words_of line) next }
 {}
 
 /// The lines of a script that are not skipped have the words that are printed of it, and no others: its nodes, `start`, its
 /// commands, in this order; and lines of these words are read as that script again, whatever the numbers of the lines of
 /// its nodes are. Each of its nodes has a name, and each of its commands is about a node of the sort that it needs.
 pub fn scripts_are_spelled()
-    ensures words { (bytes : List ℕ) (t : Told) → script_of bytes ≡ Ok t → kept_words (lines_of bytes) ≡ script_words t }
-    ensures again { (bytes : List ℕ) (t : Told) (any : ℕ) → script_of bytes ≡ Ok t → IsReadAgain any t }
+    ensures words { (bytes : List ℕ) (t : Told) → script_of bytes ≡ Ok t
+        → kept_words (lines_of bytes) ≡ script_words t }
+    ensures again { (bytes : List ℕ) (t : Told) (any : ℕ) → script_of bytes ≡ Ok t
+        → IsReadAgain any t }
     ensures whole { (bytes : List ℕ) (t : Told) → script_of bytes ≡ Ok t → IsWhole t }
 {}
 

@@ -41,7 +41,8 @@ fn opening(draft: &Draft, word: &str) -> Result<Keyword, LineError>
 
 // Adds the command of line `number`.
 fn push_command(draft: &mut Draft, number: u64, command: Command) -> Result<(), LineError>
-    ensures { Gives (λ _. known draft.new) result (with_command number (known draft.old) (Ok command)) }
+    ensures { Gives (λ _. known draft.new) result
+        (with_command number (known draft.old) (Ok command)) }
 {
     draft.commands.push(CommandLine {
         line: number,
@@ -58,7 +59,8 @@ fn keyword_line(
     keyword: Keyword,
     words: &[&str],
 ) -> Result<(), LineError>
-    ensures { Gives (λ _. known draft.new) result (keyword_line number (known draft.old) keyword (map (λ w. w.now) words.now)) }
+    ensures { Gives (λ _. known draft.new) result
+        (keyword_line number (known draft.old) keyword (map (λ w. w.now) words.now)) }
 {
     match keyword {
         Keyword::Input => input_line(alloc, draft, words),
@@ -100,7 +102,8 @@ fn words_line(
     number: u64,
     words: &[&str],
 ) -> Result<(), LineError>
-    ensures { Gives (λ _. known draft.new) result (words_line number (known draft.old) (map (λ w. w.now) words.now)) }
+    ensures { Gives (λ _. known draft.new) result
+        (words_line number (known draft.old) (map (λ w. w.now) words.now)) }
 {
     match words {
         [] => Ok(()),

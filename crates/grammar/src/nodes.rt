@@ -16,7 +16,8 @@ use update::Refusal;
 
 #[tactic(auto, unfolding(crate::specs::Declaring::map_line))]
 fn map_line(alloc: Global, draft: &mut Draft, name: &str, words: &[&str]) -> Result<(), LineError>
-    ensures { Gives (λ _. known draft.new) result (map_line (known draft.old) name.now (map (λ w. w.now) words.now)) }
+    ensures { Gives (λ _. known draft.new) result
+        (map_line (known draft.old) name.now (map (λ w. w.now) words.now)) }
 {
     match words {
         [source, rest @ ..] => {
@@ -39,7 +40,8 @@ fn filter_line(
     name: &str,
     words: &[&str],
 ) -> Result<(), LineError>
-    ensures { Gives (λ _. known draft.new) result (filter_line (known draft.old) name.now (map (λ w. w.now) words.now)) }
+    ensures { Gives (λ _. known draft.new) result
+        (filter_line (known draft.old) name.now (map (λ w. w.now) words.now)) }
 {
     match words {
         [source, left, op, right] => {
@@ -59,7 +61,8 @@ fn concat_line(
     name: &str,
     words: &[&str],
 ) -> Result<(), LineError>
-    ensures { Gives (λ _. known draft.new) result (concat_line (known draft.old) name.now (map (λ w. w.now) words.now)) }
+    ensures { Gives (λ _. known draft.new) result
+        (concat_line (known draft.old) name.now (map (λ w. w.now) words.now)) }
 {
     match words {
         [left, right] => {
@@ -79,7 +82,8 @@ fn negate_line(
     name: &str,
     words: &[&str],
 ) -> Result<(), LineError>
-    ensures { Gives (λ _. known draft.new) result (negate_line (known draft.old) name.now (map (λ w. w.now) words.now)) }
+    ensures { Gives (λ _. known draft.new) result
+        (negate_line (known draft.old) name.now (map (λ w. w.now) words.now)) }
 {
     match words {
         [source] => {
@@ -99,7 +103,8 @@ fn kind_line(
     kind: KindWord,
     words: &[&str],
 ) -> Result<(), LineError>
-    ensures { Gives (λ _. known draft.new) result (kind_line (known draft.old) name.now kind (map (λ w. w.now) words.now)) }
+    ensures { Gives (λ _. known draft.new) result
+        (kind_line (known draft.old) name.now kind (map (λ w. w.now) words.now)) }
 {
     match kind {
         KindWord::Map => map_line(alloc, draft, name, words),
@@ -111,7 +116,8 @@ fn kind_line(
 
 #[tactic(auto, unfolding(crate::specs::Declaring::node_line))]
 pub(crate) fn node_line(alloc: Global, draft: &mut Draft, words: &[&str]) -> Result<(), LineError>
-    ensures { Gives (λ _. known draft.new) result (node_line (known draft.old) (map (λ w. w.now) words.now)) }
+    ensures { Gives (λ _. known draft.new) result
+        (node_line (known draft.old) (map (λ w. w.now) words.now)) }
 {
     match words {
         [name, word, rest @ ..] => match KindWord::of(word) {

@@ -17,7 +17,8 @@ pub(crate) fn change_line(
     draft: &Draft,
     words: &[&str],
 ) -> Result<Command, LineError>
-    ensures { Gives (λ command. command) result (change_line (known draft.now) (map (λ w. w.now) words.now)) }
+    ensures { Gives (λ command. command) result
+        (change_line (known draft.now) (map (λ w. w.now) words.now)) }
 {
     match words {
         [name, valid, system, diff, rest @ ..] => {
@@ -46,7 +47,8 @@ pub(crate) fn advance_line(
     draft: &Draft,
     words: &[&str],
 ) -> Result<Command, LineError>
-    ensures { Gives (λ command. command) result (advance_line (known draft.now) (map (λ w. w.now) words.now)) }
+    ensures { Gives (λ command. command) result
+        (advance_line (known draft.now) (map (λ w. w.now) words.now)) }
 {
     match words {
         [name, pairs @ ..] => {
@@ -64,7 +66,8 @@ pub(crate) fn advance_line(
 
 #[tactic(auto, unfolding(crate::specs::Lines::close_line))]
 pub(crate) fn close_line(draft: &Draft, words: &[&str]) -> Result<Command, LineError>
-    ensures { Gives (λ command. command) result (close_line (known draft.now) (map (λ w. w.now) words.now)) }
+    ensures { Gives (λ command. command) result
+        (close_line (known draft.now) (map (λ w. w.now) words.now)) }
 {
     match words {
         [name] => {
@@ -77,7 +80,8 @@ pub(crate) fn close_line(draft: &Draft, words: &[&str]) -> Result<Command, LineE
 
 #[tactic(auto, unfolding(crate::specs::Lines::read_line))]
 pub(crate) fn read_line(draft: &Draft, words: &[&str]) -> Result<Command, LineError>
-    ensures { Gives (λ command. command) result (read_line (known draft.now) (map (λ w. w.now) words.now)) }
+    ensures { Gives (λ command. command) result
+        (read_line (known draft.now) (map (λ w. w.now) words.now)) }
 {
     match words {
         [name, valid, system] => {
@@ -95,7 +99,8 @@ pub(crate) fn read_line(draft: &Draft, words: &[&str]) -> Result<Command, LineEr
 
 #[tactic(auto, unfolding(crate::specs::Lines::changes_line))]
 pub(crate) fn changes_line(draft: &Draft, words: &[&str]) -> Result<Command, LineError>
-    ensures { Gives (λ command. command) result (changes_line (known draft.now) (map (λ w. w.now) words.now)) }
+    ensures { Gives (λ command. command) result
+        (changes_line (known draft.now) (map (λ w. w.now) words.now)) }
 {
     match words {
         [name] => {
@@ -108,7 +113,8 @@ pub(crate) fn changes_line(draft: &Draft, words: &[&str]) -> Result<Command, Lin
 
 #[tactic(auto, unfolding(crate::specs::Lines::frontier_line))]
 pub(crate) fn frontier_line(draft: &Draft, words: &[&str]) -> Result<Command, LineError>
-    ensures { Gives (λ command. command) result (frontier_line (known draft.now) (map (λ w. w.now) words.now)) }
+    ensures { Gives (λ command. command) result
+        (frontier_line (known draft.now) (map (λ w. w.now) words.now)) }
 {
     match words {
         [name] => {

@@ -28,9 +28,17 @@ impl Model for Script {
 
     ghost Value = { Told };
 
-    ghost view = { λ s. record { names = map string_bytes s.names.keys; plan = s.plan; commands = s.commands.items } };
+    ghost view = { λ s. record {
+      names = map string_bytes s.names.keys;
+      plan = s.plan;
+      commands = s.commands.items;
+    } };
 
-    ghost invariant = { λ s. IsWhole (record { names = map string_bytes s.names.keys; plan = s.plan; commands = s.commands.items }) };
+    ghost invariant = { λ s. IsWhole (record {
+      names = map string_bytes s.names.keys;
+      plan = s.plan;
+      commands = s.commands.items;
+    }) };
 }
 
 impl Script {

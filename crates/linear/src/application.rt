@@ -77,8 +77,10 @@ pub fn apply<T: Lattice>(
     requires rows { IsTrue (takes_rows node.now updates.items) }
     ensures applied { IfOk result (λ out. out.items ≡ applied node.now updates.items) }
     ensures sums { IfOk result (λ out. (k port : ℕ) (t : T) → IsTrue (is_port node.now port)
-        → Alike (as_of T.below t out.items) (given k node.now (at_port port (as_of T.below t updates.items)))) }
-    ensures times { IfOk result (λ out. (p : T → Bool) → IsTrue (list_all (λ u. p u.time) updates.items)
+        → Alike (as_of T.below t out.items)
+        (given k node.now (at_port port (as_of T.below t updates.items)))) }
+    ensures times { IfOk result (λ out. (p : T → Bool)
+        → IsTrue (list_all (λ u. p u.time) updates.items)
         → IsTrue (list_all (λ u. p u.time) out.items)) }
     ensures size { IfOk result (λ out. size out.items ≤ size updates.items) }
     ensures overflow { IsErr result ↔ Overflows node.now updates.items }

@@ -21,13 +21,18 @@ use lattice::Lattice;
 /// on all that was received, so it does with one more piece on either side. Nothing grows, and where a diff that comes out
 /// is no 64-bit number, those that came add up to 2^63 or more.
 pub fn pieces_add_up<T: Lattice>()
-    ensures pieces { (node : Node) (us vs : List (Update T)) → applied node (us ++ vs) ≡ applied node us ++ applied node vs }
-    ensures sums { (k : ℕ) (node : Node) → IsTrue (is_linear node) → (port : ℕ) → IsTrue (is_port node port) → (us : List (Update T)) (t : T)
-        → Alike (as_of T.below t (applied node us)) (given k node (at_port port (as_of T.below t us))) }
-    ensures goes_on { (k : ℕ) (node : Node) → IsTrue (is_linear node) → (port : ℕ) → IsTrue (is_port node port)
+    ensures pieces { (node : Node) (us vs : List (Update T))
+        → applied node (us ++ vs) ≡ applied node us ++ applied node vs }
+    ensures sums { (k : ℕ) (node : Node) → IsTrue (is_linear node) → (port : ℕ)
+        → IsTrue (is_port node port) → (us : List (Update T)) (t : T)
+        → Alike (as_of T.below t (applied node us))
+        (given k node (at_port port (as_of T.below t us))) }
+    ensures goes_on { (k : ℕ) (node : Node) → IsTrue (is_linear node) → (port : ℕ)
+        → IsTrue (is_port node port)
         → (received : ℕ → List (Update T)) (emitted us : List (Update T)) (t : T)
         → Alike (as_of T.below t emitted) (given k node (λ p. as_of T.below t (received p)))
-        → Alike (as_of T.below t (applied node us ++ emitted)) (given k node (λ p. as_of T.below t (more_at port us received p))) }
+        → Alike (as_of T.below t (applied node us ++ emitted))
+        (given k node (λ p. as_of T.below t (more_at port us received p))) }
     ensures size { (node : Node) (us : List (Update T)) → size (applied node us) ≤ size us }
     ensures large { (node : Node) (us : List (Update T)) → Overflows node us → 2 ^ 63 ≤ size us }
 {}
@@ -35,9 +40,13 @@ pub fn pieces_add_up<T: Lattice>()
 /// Where a plan has a linear node, the node takes the rows of its sources, and what it makes of them has the width that the
 /// plan says.
 pub fn plans_fit<T: Lattice>()
-    ensures takes { (p : List Node) → IsPlan p → (n port source : ℕ) → slice_get (sources (node_at p n)) port ≡ Some source
-        → (us : List (Update T)) → IsTrue (are_wide (width_of p source) us) → IsTrue (takes_rows (node_at p n) us) }
-    ensures gives { (p : List Node) → IsPlan p → (n port source : ℕ) → slice_get (sources (node_at p n)) port ≡ Some source
+    ensures takes { (p : List Node) → IsPlan p → (n port source : ℕ)
+        → slice_get (sources (node_at p n)) port ≡ Some source
+        → (us : List (Update T)) → IsTrue (are_wide (width_of p source) us)
+        → IsTrue (takes_rows (node_at p n) us) }
+    ensures gives { (p : List Node) → IsPlan p → (n port source : ℕ)
+        → slice_get (sources (node_at p n)) port ≡ Some source
         → IsTrue (is_linear (node_at p n))
-        → (us : List (Update T)) → IsTrue (are_wide (width_of p source) us) → IsTrue (are_wide (width_of p n) (applied (node_at p n) us)) }
+        → (us : List (Update T)) → IsTrue (are_wide (width_of p source) us)
+        → IsTrue (are_wide (width_of p n) (applied (node_at p n) us)) }
 {}

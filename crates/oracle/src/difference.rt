@@ -57,7 +57,8 @@ fn open_for<T: Lattice>(
     frontiers: &[Antichain<T>],
 ) -> Result<Vec<T>, Refusal>
     requires { view < length plan.now }
-    ensures elements { IfOk result (λ times. times.items ≡ open_for T.below plan.now (list_of plan.now frontiers.now) view) }
+    ensures elements { IfOk result
+        (λ times. times.items ≡ open_for T.below plan.now (list_of plan.now frontiers.now) view) }
     ensures refused { IfErr result (λ refused. refused ≡ Refusal.OutOfMemory) }
 {
     let mut times = Vec::new(alloc);
@@ -80,9 +81,17 @@ fn list_at<T: Lattice>(
 ) -> Result<(), Refusal>
     requires view { view < length plan.now }
     requires lists { AreWide plan.now (map (λ v. v.items) changes.now) }
-    ensures goes_on { OnOk result (GoesOn T.below t (query_at T.below plan.now (list_of plan.now (map (λ v. v.items) changes.now)) view t) listed.old.items listed.new.items) }
-    ensures refused { IfErr result (IsRefusal (HasLargeAbove plan.now (sums_at T.below plan.now (map (λ v. v.items) changes.now) t) view
-        ⊎ HasLargeGap T.below t (query_at T.below plan.now (list_of plan.now (map (λ v. v.items) changes.now)) view t) listed.old.items)) }
+    ensures goes_on { OnOk result
+        (GoesOn T.below t
+        (query_at T.below plan.now
+        (list_of plan.now
+        (map (λ v. v.items) changes.now)) view t) listed.old.items listed.new.items) }
+    ensures refused { IfErr result
+        (IsRefusal (HasLargeAbove plan.now
+        (sums_at T.below plan.now (map (λ v. v.items) changes.now) t) view
+        ⊎ HasLargeGap T.below t
+        (query_at T.below plan.now
+        (list_of plan.now (map (λ v. v.items) changes.now)) view t) listed.old.items)) }
 {
     let bag = evaluate(alloc, plan, view, changes, t)?;
     let gap = gap(alloc, &bag, listed, t)?;
@@ -101,8 +110,13 @@ fn along<T: Lattice>(
     requires view { view < length plan.now }
     requires lists { AreWide plan.now (map (λ v. v.items) changes.now) }
     requires grid { IsGrid T.cmp T.joined (map (λ v. v.items) changes.now) grid.now }
-    ensures listed { IfOk result (λ listed. IsListed T.below T.cmp frontier.now (query_at T.below plan.now (list_of plan.now (map (λ v. v.items) changes.now)) view) grid.now listed.items) }
-    ensures refused { IfErr result (IsRefusal (HasLargeDifference T.below plan.now (map (λ v. v.items) changes.now) frontier.now view)) }
+    ensures listed { IfOk result
+        (λ listed. IsListed T.below T.cmp frontier.now
+        (query_at T.below plan.now
+        (list_of plan.now (map (λ v. v.items) changes.now)) view) grid.now listed.items) }
+    ensures refused { IfErr result
+        (IsRefusal (HasLargeDifference T.below plan.now
+        (map (λ v. v.items) changes.now) frontier.now view)) }
 {
     let _count = plan.len();
     let mut listed = Vec::new(alloc);
@@ -137,9 +151,12 @@ pub fn differences<T: Lattice>(
 ) -> Result<Vec<Update<T>>, Refusal>
     requires view { view < length plan.now }
     requires lists { AreWide plan.now (map (λ v. v.items) changes.now) }
-    ensures differences { IfOk result (λ listed. AreDifferences T.below T.cmp plan.now (list_of plan.now (map (λ v. v.items) changes.now))
+    ensures differences { IfOk result
+        (λ listed. AreDifferences T.below T.cmp plan.now
+        (list_of plan.now (map (λ v. v.items) changes.now))
         (open_for T.below plan.now (list_of plan.now frontiers.now) view) view listed.items) }
-    ensures refused { IfErr result (IsRefusal (HasLargeDifference T.below plan.now (map (λ v. v.items) changes.now)
+    ensures refused { IfErr result
+        (IsRefusal (HasLargeDifference T.below plan.now (map (λ v. v.items) changes.now)
         (open_for T.below plan.now (list_of plan.now frontiers.now) view) view)) }
 {
     let _count = plan.len();

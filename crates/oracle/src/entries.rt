@@ -13,7 +13,8 @@ pub(crate) type Entries = Vec<Update<u64>>;
 
 /// Adds an entry at the end. Refused only for want of memory.
 pub(crate) fn put(entries: &mut Entries, row: Row, count: i64) -> Result<(), Refusal>
-    ensures put { OnOk result (entries_of entries.new.items ≡ entries_of entries.old.items ++ entry_of row count ∷ []) }
+    ensures put { OnOk result
+        (entries_of entries.new.items ≡ entries_of entries.old.items ++ entry_of row count ∷ []) }
     ensures refused { IfErr result (λ refused. refused ≡ Refusal.OutOfMemory) }
 {
     entries.push(Update {
@@ -27,7 +28,10 @@ pub(crate) fn put(entries: &mut Entries, row: Row, count: i64) -> Result<(), Ref
 /// Adds the entry of a number of the bag at the end.
 pub(crate) fn put_entry(entries: &mut Entries, bag: &Bag, i: usize) -> Result<(), Refusal>
     requires { i < length bag.now }
-    ensures put { (d : Entry) → OnOk result (entries_of entries.new.items ≡ entries_of entries.old.items ++ slice_index_or bag.now i d ∷ []) }
+    ensures put { (d : Entry)
+        → OnOk result
+        (entries_of entries.new.items
+        ≡ entries_of entries.old.items ++ slice_index_or bag.now i d ∷ []) }
     ensures refused { IfErr result (λ refused. refused ≡ Refusal.OutOfMemory) }
 {
     put(entries, bag.row(i).copy(), bag.count(i))

@@ -18,8 +18,9 @@ use plan::{NodeId, Plan};
 use std::alloc::Global;
 use update::{Bag, Refusal, Update};
 
-/// How many inputs have smaller numbers.
-pub(crate) fn inputs_before(plan: &Plan, id: NodeId) -> usize
+/// How many inputs have smaller numbers: the place of an input's list where each input has its own, in the order of their
+/// numbers. Linear in the nodes before it.
+pub fn inputs_before(plan: &Plan, id: NodeId) -> usize
     requires { id ≤ length plan.now }
     ensures { result ≡ inputs_before plan.now id }
 {
@@ -94,12 +95,17 @@ fn next_bag<T: Lattice>(
     requires view { view < length plan.now }
     requires next { length bags.now < length plan.now }
     requires lists { AreWide plan.now (map (λ v. v.items) changes.now) }
-    requires bags { AreBags plan.now (sums_at T.below plan.now (map (λ v. v.items) changes.now) t) view bags.now }
-    ensures wide { IfOk result (λ out. IsTrue (all_wide (width_of plan.now (length bags.now)) out)) }
+    requires bags { AreBags plan.now
+        (sums_at T.below plan.now (map (λ v. v.items) changes.now) t) view bags.now }
+    ensures wide { IfOk result
+        (λ out. IsTrue (all_wide (width_of plan.now (length bags.now)) out)) }
     ensures query { IfOk result (λ out. IsTrue (is_above plan.now (length bags.now) view)
-        → Alike out (query plan.now (sums_at T.below plan.now (map (λ v. v.items) changes.now) t) (length bags.now))) }
+        → Alike out (query plan.now (sums_at T.below plan.now (map (λ v. v.items) changes.now) t)
+        (length bags.now))) }
     ensures bag { IfOk result IsBag }
-    ensures refused { IfErr result (IsRefusal (HasLargeAbove plan.now (sums_at T.below plan.now (map (λ v. v.items) changes.now) t) view)) }
+    ensures refused { IfErr result
+        (IsRefusal (HasLargeAbove plan.now
+        (sums_at T.below plan.now (map (λ v. v.items) changes.now) t) view)) }
 {
     let _count = plan.len();
     let id = NodeId::new(bags.len());
@@ -119,9 +125,13 @@ fn bags_before<T: Lattice>(
 ) -> Result<Vec<Bag>, Refusal>
     requires view { view < length plan.now }
     requires lists { AreWide plan.now (map (λ v. v.items) changes.now) }
-    ensures bags { IfOk result (λ bags. AreBags plan.now (sums_at T.below plan.now (map (λ v. v.items) changes.now) t) view bags.items) }
+    ensures bags { IfOk result
+        (λ bags. AreBags plan.now
+        (sums_at T.below plan.now (map (λ v. v.items) changes.now) t) view bags.items) }
     ensures count { IfOk result (λ bags. length bags.items ≡ view) }
-    ensures refused { IfErr result (IsRefusal (HasLargeAbove plan.now (sums_at T.below plan.now (map (λ v. v.items) changes.now) t) view)) }
+    ensures refused { IfErr result
+        (IsRefusal (HasLargeAbove plan.now
+        (sums_at T.below plan.now (map (λ v. v.items) changes.now) t) view)) }
 {
     let mut bags = Vec::new(alloc);
     for n in 0..view.number() {
@@ -151,9 +161,13 @@ pub fn evaluate<T: Lattice>(
 ) -> Result<Bag, Refusal>
     requires view { view < length plan.now }
     requires lists { AreWide plan.now (map (λ v. v.items) changes.now) }
-    ensures query { IfOk result (λ bag. Alike bag (query_at T.below plan.now (list_of plan.now (map (λ v. v.items) changes.now)) view t)) }
+    ensures query { IfOk result
+        (λ bag. Alike bag
+        (query_at T.below plan.now (list_of plan.now (map (λ v. v.items) changes.now)) view t)) }
     ensures bag { IfOk result IsBag }
-    ensures refused { IfErr result (IsRefusal (HasLargeAbove plan.now (sums_at T.below plan.now (map (λ v. v.items) changes.now) t) view)) }
+    ensures refused { IfErr result
+        (IsRefusal (HasLargeAbove plan.now
+        (sums_at T.below plan.now (map (λ v. v.items) changes.now) t) view)) }
 {
     let _count = plan.len();
     let bags = bags_before(alloc, plan, view, changes, t)?;

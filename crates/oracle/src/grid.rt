@@ -22,7 +22,8 @@ fn keep_once<T: Lattice>(times: &mut Vec<T>)
 
 // Adds the join of each time with `t`.
 fn push_joins<T: Lattice>(times: &mut Vec<T>, t: T) -> Result<(), Refusal>
-    ensures joins { OnOk result (times.new.items ≡ times.old.items ++ map (λ s. T.joined s t) times.old.items) }
+    ensures joins { OnOk result
+        (times.new.items ≡ times.old.items ++ map (λ s. T.joined s t) times.old.items) }
     ensures refused { IfErr result (λ refused. refused ≡ Refusal.OutOfMemory) }
 {
     for i in 0..times.len() {
@@ -49,7 +50,8 @@ fn add_time<T: Lattice>(times: &mut Vec<T>, t: T) -> Result<(), Refusal>
 
 // Adds the times of the updates.
 fn push_times<T: Lattice>(times: &mut Vec<T>, updates: &[Update<T>]) -> Result<(), Refusal>
-    ensures times { OnOk result (times.new.items ≡ times.old.items ++ map (λ u. u.time) updates.now) }
+    ensures times { OnOk result
+        (times.new.items ≡ times.old.items ++ map (λ u. u.time) updates.now) }
     ensures refused { IfErr result (λ refused. refused ≡ Refusal.OutOfMemory) }
 {
     for update in updates {
@@ -90,7 +92,8 @@ fn with_joins<T: Lattice>(alloc: Global, times: &[T]) -> Result<Vec<T>, Refusal>
 /// Cost: a sort of the grid for each time of the changes. Of pairs of numbers the grid has as many as the first numbers that
 /// occur times the second ones, at most.
 pub(crate) fn grid<T: Lattice>(alloc: Global, changes: &[Vec<Update<T>>]) -> Result<Vec<T>, Refusal>
-    ensures grid { IfOk result (λ grid. IsGrid T.cmp T.joined (map (λ v. v.items) changes.now) grid.items) }
+    ensures grid { IfOk result
+        (λ grid. IsGrid T.cmp T.joined (map (λ v. v.items) changes.now) grid.items) }
     ensures refused { IfErr result (λ refused. refused ≡ Refusal.OutOfMemory) }
 {
     let times = occurring(alloc, changes)?;

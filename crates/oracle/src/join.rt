@@ -24,10 +24,13 @@ fn put_pairs(
 ) -> Result<(), Refusal>
     requires key { k ≤ length row.now }
     requires keys { IsTrue (have_keys k right.now) }
-    requires room { IsTrue (list_all (λ y. nat_le (length row.now + (length y.row - k)) 8) right.now) }
+    requires room { IsTrue
+        (list_all (λ y. nat_le (length row.now + (length y.row - k)) 8) right.now) }
     ensures pairs { OnOk result (entries_of entries.new.items ≡ entries_of entries.old.items
-        ++ map (paired k (entry_of row.now count)) (filter (has_key k (take k row.now)) right.now)) }
-    ensures refused { IfErr result (IsRefusal (HasLargeProduct k (entry_of row.now count) right.now)) }
+        ++ map (paired k (entry_of row.now count))
+        (filter (has_key k (take k row.now)) right.now)) }
+    ensures refused { IfErr result
+        (IsRefusal (HasLargeProduct k (entry_of row.now count) right.now)) }
 {
     let (from, to) = key_range(right, row, k);
     for j in from..to {
@@ -51,8 +54,12 @@ pub(crate) fn put_joined(
 ) -> Result<(), Refusal>
     requires left { IsTrue (have_keys k left.now) }
     requires right { IsTrue (have_keys k right.now) }
-    requires room { IsTrue (list_all (λ x. list_all (λ y. nat_le (length x.row + (length y.row - k)) 8) right.now) left.now) }
-    ensures joined { OnOk result (entries_of entries.new.items ≡ entries_of entries.old.items ++ joined k left.now right.now) }
+    requires room { IsTrue
+        (list_all (λ x. list_all
+        (λ y. nat_le (length x.row + (length y.row - k)) 8) right.now) left.now) }
+    ensures joined { OnOk result
+        (entries_of entries.new.items
+        ≡ entries_of entries.old.items ++ joined k left.now right.now) }
     ensures refused { IfErr result (IsRefusal (HasLargePair k left.now right.now)) }
 {
     for i in 0..left.len() {

@@ -44,7 +44,8 @@ fn before_key(bag: &Bag, key: &[i64], equal: bool) -> usize
     requires { IsTrue (have_keys (length key.now) bag.now) }
     ensures inside { result ≤ length bag.now }
     ensures before { AllWithin (λ e. is_before_key equal key.now e ≡ true) bag.now 0 result }
-    ensures behind { AllWithin (λ e. is_before_key equal key.now e ≡ false) bag.now result (length bag.now) }
+    ensures behind { AllWithin (λ e. is_before_key equal key.now e ≡ false) bag.now result
+        (length bag.now) }
 {
     let mut low = 0;
     let mut high = bag.len();

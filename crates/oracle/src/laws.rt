@@ -11,6 +11,7 @@ use lattice::Lattice;
 /// Of the lists that are handed in, that of number `i` is the `i`-th input's, in the order in which
 /// [`Plan::inputs`](plan::Plan::inputs) has them.
 pub fn lists_belong_to_inputs<T: Lattice>()
-    ensures { (p : List Node) (lists : List (List (Update T))) (i : ℕ) → i < length (numbers_where is_input p)
+    ensures { (p : List Node) (lists : List (List (Update T))) (i : ℕ)
+        → i < length (numbers_where is_input p)
         → list_of p lists (slice_index (numbers_where is_input p) i) ≡ slice_index_or lists i [] }
 {}

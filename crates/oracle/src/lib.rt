@@ -27,5 +27,5 @@ mod operators;
 mod reductions;
 
 pub use difference::differences;
-pub use evaluation::{are_wide, evaluate};
+pub use evaluation::{are_wide, evaluate, inputs_before};
 pub use laws::lists_belong_to_inputs;

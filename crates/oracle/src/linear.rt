@@ -14,7 +14,8 @@ use update::{Bag, Refusal, Weight};
 
 /// Adds the entries of the bag.
 pub(crate) fn put_all(entries: &mut Entries, bag: &Bag) -> Result<(), Refusal>
-    ensures all { OnOk result (entries_of entries.new.items ≡ entries_of entries.old.items ++ bag.now) }
+    ensures all { OnOk result
+        (entries_of entries.new.items ≡ entries_of entries.old.items ++ bag.now) }
     ensures refused { IfErr result (λ refused. refused ≡ Refusal.OutOfMemory) }
 {
     for i in 0..bag.len() {
@@ -27,8 +28,11 @@ pub(crate) fn put_all(entries: &mut Entries, bag: &Bag) -> Result<(), Refusal>
 pub(crate) fn put_images(entries: &mut Entries, bag: &Bag, items: &[Item]) -> Result<(), Refusal>
     requires some { 1 ≤ length items.now }
     requires few { length items.now ≤ 8 }
-    requires within { IsTrue (list_all (λ e. list_all (λ item. is_within item (length e.row)) items.now) bag.now) }
-    ensures images { OnOk result (entries_of entries.new.items ≡ entries_of entries.old.items ++ map (mapped items.now) bag.now) }
+    requires within { IsTrue
+        (list_all (λ e. list_all (λ item. is_within item (length e.row)) items.now) bag.now) }
+    ensures images { OnOk result
+        (entries_of entries.new.items
+        ≡ entries_of entries.old.items ++ map (mapped items.now) bag.now) }
     ensures refused { IfErr result (λ refused. refused ≡ Refusal.OutOfMemory) }
 {
     for i in 0..bag.len() {
@@ -41,7 +45,9 @@ pub(crate) fn put_images(entries: &mut Entries, bag: &Bag, items: &[Item]) -> Re
 /// Adds the entries whose rows pass.
 pub(crate) fn put_passing(entries: &mut Entries, bag: &Bag, test: &Test) -> Result<(), Refusal>
     requires within { IsTrue (list_all (λ e. is_test_within test.now (length e.row)) bag.now) }
-    ensures passing { OnOk result (entries_of entries.new.items ≡ entries_of entries.old.items ++ filter (λ e. passes test.now e.row) bag.now) }
+    ensures passing { OnOk result
+        (entries_of entries.new.items
+        ≡ entries_of entries.old.items ++ filter (λ e. passes test.now e.row) bag.now) }
     ensures refused { IfErr result (λ refused. refused ≡ Refusal.OutOfMemory) }
 {
     for i in 0..bag.len() {
@@ -54,8 +60,10 @@ pub(crate) fn put_passing(entries: &mut Entries, bag: &Bag, test: &Test) -> Resu
 
 /// Adds each row with the other sign. [`Refusal::Overflow`] only where some count is the least of 64 bits.
 pub(crate) fn put_opposites(entries: &mut Entries, bag: &Bag) -> Result<(), Refusal>
-    ensures opposites { OnOk result (entries_of entries.new.items ≡ entries_of entries.old.items ++ map negated bag.now) }
-    ensures refused { IfErr result (IsRefusal (Any (λ e. FitsSigned w64 (neg_ℤ e.count) → ⊥) bag.now)) }
+    ensures opposites { OnOk result
+        (entries_of entries.new.items ≡ entries_of entries.old.items ++ map negated bag.now) }
+    ensures refused { IfErr result
+        (IsRefusal (Any (λ e. FitsSigned w64 (neg_ℤ e.count) → ⊥) bag.now)) }
 {
     for i in 0..bag.len() {
         let Some(count) = count_at(bag, i).negate() else {

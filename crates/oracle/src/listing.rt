@@ -20,7 +20,10 @@ fn before_opposite(count: i64) -> i64
 
 // Takes the update off. In two entries, since the opposite of the least number is none of 64 bits.
 fn put_off<T: Lattice>(entries: &mut Entries, update: &Update<T>) -> Result<(), Refusal>
-    ensures counts { OnOk result ((r : List ℤ) → count_of (entries_of entries.new.items) r +ℤ (cond (same_row update.now.row r) update.now.diff (pos 0)) ≡ count_of (entries_of entries.old.items) r) }
+    ensures counts { OnOk result ((r : List ℤ)
+        → count_of (entries_of entries.new.items) r +ℤ
+        (cond (same_row update.now.row r) update.now.diff (pos 0))
+        ≡ count_of (entries_of entries.old.items) r) }
     ensures refused { IfErr result (λ refused. refused ≡ Refusal.OutOfMemory) }
 {
     let diff = update.diff;
@@ -31,7 +34,9 @@ fn put_off<T: Lattice>(entries: &mut Entries, update: &Update<T>) -> Result<(), 
 
 // Takes off what is listed at or before `t`.
 fn put_listed<T: Lattice>(entries: &mut Entries, listed: &[Update<T>], t: T) -> Result<(), Refusal>
-    ensures counts { OnOk result ((r : List ℤ) → count_of (entries_of entries.new.items) r +ℤ count_of (as_of T.below t listed.now) r ≡ count_of (entries_of entries.old.items) r) }
+    ensures counts { OnOk result ((r : List ℤ)
+        → count_of (entries_of entries.new.items) r +ℤ count_of (as_of T.below t listed.now) r
+        ≡ count_of (entries_of entries.old.items) r) }
     ensures refused { IfErr result (λ refused. refused ≡ Refusal.OutOfMemory) }
 {
     for update in listed {
@@ -52,7 +57,8 @@ pub(crate) fn gap<T: Lattice>(
     listed: &[Update<T>],
     t: T,
 ) -> Result<Bag, Refusal>
-    ensures gap { IfOk result (λ gap. (r : List ℤ) → count_of gap r +ℤ count_of (as_of T.below t listed.now) r ≡ count_of bag.now r) }
+    ensures gap { IfOk result (λ gap. (r : List ℤ)
+        → count_of gap r +ℤ count_of (as_of T.below t listed.now) r ≡ count_of bag.now r) }
     ensures bag { IfOk result IsBag }
     ensures refused { IfErr result (IsRefusal (HasLargeGap T.below t bag.now listed.now)) }
 {

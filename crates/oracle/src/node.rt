@@ -47,9 +47,11 @@ pub(crate) fn of_node<T: Lattice>(
     requires inside { id < length plan.now }
     requires bags { id ≤ length bags.now }
     requires wide { (m : ℕ) → m < id → IsTrue (all_wide (width_of plan.now m) (bag_of bags.now m)) }
-    ensures given { IfOk result (λ out. Alike out (given_at plan.now id (as_of T.below t own.now) (bag_of bags.now))) }
+    ensures given { IfOk result
+        (λ out. Alike out (given_at plan.now id (as_of T.below t own.now) (bag_of bags.now))) }
     ensures bag { IfOk result IsBag }
-    ensures refused { IfErr result (IsRefusal (HasLargeAt plan.now id (as_of T.below t own.now) (bag_of bags.now))) }
+    ensures refused { IfErr result
+        (IsRefusal (HasLargeAt plan.now id (as_of T.below t own.now) (bag_of bags.now))) }
 {
     let _count = plan.len();
     let k = plan.key_width(id);

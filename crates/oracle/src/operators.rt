@@ -21,7 +21,8 @@ use update::{Bag, Refusal};
 pub(crate) fn mapped(alloc: Global, bag: &Bag, items: &[Item]) -> Result<Bag, Refusal>
     requires some { 1 ≤ length items.now }
     requires few { length items.now ≤ 8 }
-    requires within { IsTrue (list_all (λ e. list_all (λ item. is_within item (length e.row)) items.now) bag.now) }
+    requires within { IsTrue
+        (list_all (λ e. list_all (λ item. is_within item (length e.row)) items.now) bag.now) }
     ensures mapped { IfOk result (λ out. Alike out (map (mapped items.now) bag.now)) }
     ensures bag { IfOk result IsBag }
     ensures refused { IfErr result (IsRefusal (HasLargeCount (map (mapped items.now) bag.now))) }
@@ -36,7 +37,8 @@ pub(crate) fn passing(alloc: Global, bag: &Bag, test: &Test) -> Result<Bag, Refu
     requires { IsTrue (list_all (λ e. is_test_within test.now (length e.row)) bag.now) }
     ensures passing { IfOk result (λ out. Alike out (filter (λ e. passes test.now e.row) bag.now)) }
     ensures bag { IfOk result IsBag }
-    ensures refused { IfErr result (IsRefusal (HasLargeCount (filter (λ e. passes test.now e.row) bag.now))) }
+    ensures refused { IfErr result
+        (IsRefusal (HasLargeCount (filter (λ e. passes test.now e.row) bag.now))) }
 {
     let mut entries = Vec::new(alloc);
     put_passing(&mut entries, bag, test)?;
@@ -71,10 +73,14 @@ pub(crate) fn opposite(alloc: Global, bag: &Bag) -> Result<Bag, Refusal>
 pub(crate) fn joined(alloc: Global, left: &Bag, right: &Bag, k: usize) -> Result<Bag, Refusal>
     requires left { IsTrue (have_keys k left.now) }
     requires right { IsTrue (have_keys k right.now) }
-    requires room { IsTrue (list_all (λ x. list_all (λ y. nat_le (length x.row + (length y.row - k)) 8) right.now) left.now) }
+    requires room { IsTrue
+        (list_all (λ x. list_all
+        (λ y. nat_le (length x.row + (length y.row - k)) 8) right.now) left.now) }
     ensures joined { IfOk result (λ out. Alike out (joined k left.now right.now)) }
     ensures bag { IfOk result IsBag }
-    ensures refused { IfErr result (IsRefusal (HasLargeCount (joined k left.now right.now) ⊎ HasLargeProductOf k left.now right.now)) }
+    ensures refused { IfErr result
+        (IsRefusal (HasLargeCount (joined k left.now right.now)
+        ⊎ HasLargeProductOf k left.now right.now)) }
 {
     let _left = left.len();
     let _right = right.len();

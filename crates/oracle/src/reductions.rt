@@ -34,7 +34,8 @@ fn put_present(entries: &mut Entries, bag: &Bag) -> Result<(), Refusal>
 
 // The rows that count more than 0 times, each once: what distinct answers, by a key of however many columns all rows have.
 fn distinct(alloc: Global, bag: &Bag) -> Result<Bag, Refusal>
-    ensures distinct { IfOk result (λ out. (k : ℕ) → IsTrue (have_keys k bag.now) → Alike out (reduced_by_key k (reduced Distinct) bag.now)) }
+    ensures distinct { IfOk result (λ out. (k : ℕ) → IsTrue (have_keys k bag.now)
+        → Alike out (reduced_by_key k (reduced Distinct) bag.now)) }
     ensures bag { IfOk result IsBag }
     ensures refused { IfErr result (λ refused. refused ≡ Refusal.OutOfMemory) }
 {
@@ -49,7 +50,9 @@ fn have_one_key(bag: &Bag, i: usize, j: usize, k: usize) -> bool
     requires one { i < length bag.now }
     requires other { j < length bag.now }
     requires keys { IsTrue (have_keys k bag.now) }
-    ensures { (d : Entry) → result ≡ has_key k (take k (slice_index_or bag.now i d).row) (slice_index_or bag.now j d) }
+    ensures { (d : Entry)
+        → result ≡ has_key k (take k (slice_index_or bag.now i d).row)
+        (slice_index_or bag.now j d) }
 {
     key_at(bag, j, k) == key_at(bag, i, k)
 }
@@ -77,7 +80,9 @@ fn is_last(bag: &Bag, i: usize, k: usize) -> bool
 // Adds the first entry of each key.
 fn put_first(entries: &mut Entries, bag: &Bag, k: usize) -> Result<(), Refusal>
     requires { IsTrue (have_keys k bag.now) }
-    ensures first { OnOk result (entries_of entries.new.items ≡ entries_of entries.old.items ++ filter (λ e. is_least k bag.now e.row) bag.now) }
+    ensures first { OnOk result
+        (entries_of entries.new.items
+        ≡ entries_of entries.old.items ++ filter (λ e. is_least k bag.now e.row) bag.now) }
     ensures refused { IfErr result (λ refused. refused ≡ Refusal.OutOfMemory) }
 {
     for i in 0..bag.len() {
@@ -91,7 +96,9 @@ fn put_first(entries: &mut Entries, bag: &Bag, k: usize) -> Result<(), Refusal>
 // Adds the last entry of each key.
 fn put_last(entries: &mut Entries, bag: &Bag, k: usize) -> Result<(), Refusal>
     requires { IsTrue (have_keys k bag.now) }
-    ensures last { OnOk result (entries_of entries.new.items ≡ entries_of entries.old.items ++ filter (λ e. is_greatest k bag.now e.row) bag.now) }
+    ensures last { OnOk result
+        (entries_of entries.new.items
+        ≡ entries_of entries.old.items ++ filter (λ e. is_greatest k bag.now e.row) bag.now) }
     ensures refused { IfErr result (λ refused. refused ≡ Refusal.OutOfMemory) }
 {
     for i in 0..bag.len() {
@@ -106,7 +113,8 @@ fn put_last(entries: &mut Entries, bag: &Bag, k: usize) -> Result<(), Refusal>
 fn put_keys(alloc: Global, entries: &mut Entries, bag: &Bag, k: usize) -> Result<(), Refusal>
     requires some { 1 ≤ k }
     requires keys { IsTrue (have_keys k bag.now) }
-    ensures keys { OnOk result (entries_of entries.new.items ≡ entries_of entries.old.items ++ map (keyed k) bag.now) }
+    ensures keys { OnOk result
+        (entries_of entries.new.items ≡ entries_of entries.old.items ++ map (keyed k) bag.now) }
     ensures refused { IfErr result (λ refused. refused ≡ Refusal.OutOfMemory) }
 {
     for i in 0..bag.len() {
@@ -118,7 +126,8 @@ fn put_keys(alloc: Global, entries: &mut Entries, bag: &Bag, k: usize) -> Result
 // Adds for each row a row of it and the number of times that it counts, once.
 fn put_numbered(entries: &mut Entries, bag: &Bag) -> Result<(), Refusal>
     requires { IsTrue (list_all (λ e. nat_le (length e.row) 7) bag.now) }
-    ensures numbered { OnOk result (entries_of entries.new.items ≡ entries_of entries.old.items ++ map numbered bag.now) }
+    ensures numbered { OnOk result
+        (entries_of entries.new.items ≡ entries_of entries.old.items ++ map numbered bag.now) }
     ensures refused { IfErr result (λ refused. refused ≡ Refusal.OutOfMemory) }
 {
     for i in 0..bag.len() {

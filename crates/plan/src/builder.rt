@@ -54,7 +54,8 @@ impl PlanBuilder {
     ///
     /// Cost: linear in the items of a map, else constant.
     pub fn add(&mut self, node: Node) -> Result<NodeId, Refusal>
-        ensures added { IfOk result (λ id. (id ≡ length self.old) × (self.new ≡ self.old ++ node ∷ [])) }
+        ensures added { IfOk result (λ id. (id ≡ length self.old)
+            × (self.new ≡ self.old ++ node ∷ [])) }
         ensures accepted { IfOk result (λ id. refusal_of self.old node ≡ None) }
         ensures refused { IfErr result (λ refusal. IsRefusalBy (refusal_of self.old node) refusal) }
         ensures unchanged { OnErr result (self.new ≡ self.old) }

@@ -13,11 +13,15 @@ use lattice::Lattice;
 /// The differences of a node are one list: two lists that are its differences, as of the same changes and frontier, are
 /// equal. And as of a later frontier they go on: the differences at what had been passed stay as they were.
 pub fn differences_are_one_list<T: Lattice>()
-    ensures one { (p : List Node) (changes : ℕ → List (Update T)) (frontier : List T) (n : ℕ) (us vs : List (Update T))
-        → AreDifferences T.below T.cmp p changes frontier n us → AreDifferences T.below T.cmp p changes frontier n vs → us ≡ vs }
-    ensures goes_on { (p : List Node) (changes : ℕ → List (Update T)) (earlier later : List T) (n : ℕ) (us vs : List (Update T))
+    ensures one { (p : List Node) (changes : ℕ
+        → List (Update T)) (frontier : List T) (n : ℕ) (us vs : List (Update T))
+        → AreDifferences T.below T.cmp p changes frontier n us
+        → AreDifferences T.below T.cmp p changes frontier n vs → us ≡ vs }
+    ensures goes_on { (p : List Node) (changes : ℕ
+        → List (Update T)) (earlier later : List T) (n : ℕ) (us vs : List (Update T))
         → IsTrue (all_beyond T.below earlier later)
-        → AreDifferences T.below T.cmp p changes earlier n us → AreDifferences T.below T.cmp p changes later n vs
+        → AreDifferences T.below T.cmp p changes earlier n us
+        → AreDifferences T.below T.cmp p changes later n vs
         → us ≡ filter (λ u. has_passed T.below earlier u.time) vs }
 {}
 

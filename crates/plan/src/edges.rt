@@ -40,7 +40,9 @@ impl Plan {
     // Adds the edges between two nodes.
     fn push_edges(&self, edges: &mut Vec<Edge>, id: NodeId, reader: NodeId) -> Result<(), Refusal>
         requires { reader < length self.now }
-        ensures edges { IfOk result (λ _. edges.new.items ≡ edges.old.items ++ filter (leads_from self.now id) (ports_of reader)) }
+        ensures edges { IfOk result
+            (λ _. edges.new.items
+            ≡ edges.old.items ++ filter (leads_from self.now id) (ports_of reader)) }
         ensures refused { IfErr result (λ refusal. refusal ≡ OutOfMemory) }
     {
         if self.node(reader).source(0) == Some(id) {

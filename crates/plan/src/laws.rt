@@ -22,32 +22,46 @@ pub fn reductions_are_reducers()
     ensures reducers { (kind : Kind) (k : ℕ) → IsReducer k (reduced kind) }
     ensures by_key { (k : ℕ) (reduce : List ℤ → List Entry → List Entry) → IsReducer k reduce
         → (entries : List Entry) (row : List ℤ) → k ≤ length row
-        → count_of (reduced_by_key k reduce entries) row ≡ count_of (reduce (take k row) (filter (has_key k (take k row)) entries)) row }
+        → count_of (reduced_by_key k reduce entries) row
+        ≡ count_of (reduce (take k row) (filter (has_key k (take k row)) entries)) row }
 {}
 
 /// What each reduction answers for a key, row by row, by the counts alone: the key and the sum of all counts, where that
 /// is not 0; each row that counts more than 0 times; of these the one that none of them stands before, and the one that
 /// stands before none. No row is answered more than once.
 pub fn reductions_answer_rows()
-    ensures count { (key : List ℤ) (entries : List Entry) (row : List ℤ) → count_of (reduced Count key entries) row
-        ≡ (if not (int_eq (sum_of_counts entries) (pos 0)) && same_row (key ++ sum_of_counts entries ∷ []) row then pos 1 else pos 0) }
-    ensures distinct { (key : List ℤ) (entries : List Entry) (row : List ℤ) → count_of (reduced Distinct key entries) row
+    ensures count { (key : List ℤ) (entries : List Entry) (row : List ℤ)
+        → count_of (reduced Count key entries) row
+        ≡ (if not (int_eq (sum_of_counts entries) (pos 0))
+        && same_row (key ++ sum_of_counts entries ∷ []) row then pos 1 else pos 0) }
+    ensures distinct { (key : List ℤ) (entries : List Entry) (row : List ℤ)
+        → count_of (reduced Distinct key entries) row
         ≡ (if int_lt (pos 0) (count_of entries row) then pos 1 else pos 0) }
-    ensures least { (key : List ℤ) (entries : List Entry) (row : List ℤ) → (count_of (reduced Min key entries) row ≡ pos 1)
-        ↔ (IsTrue (int_lt (pos 0) (count_of entries row)) × ((other : List ℤ) → IsTrue (int_lt (pos 0) (count_of entries other)) → is_before other row ≡ false)) }
-    ensures greatest { (key : List ℤ) (entries : List Entry) (row : List ℤ) → (count_of (reduced Max key entries) row ≡ pos 1)
-        ↔ (IsTrue (int_lt (pos 0) (count_of entries row)) × ((other : List ℤ) → IsTrue (int_lt (pos 0) (count_of entries other)) → is_before row other ≡ false)) }
+    ensures least { (key : List ℤ) (entries : List Entry) (row : List ℤ)
+        → (count_of (reduced Min key entries) row ≡ pos 1)
+        ↔ (IsTrue (int_lt (pos 0) (count_of entries row))
+        × ((other : List ℤ) → IsTrue (int_lt (pos 0) (count_of entries other))
+        → is_before other row ≡ false)) }
+    ensures greatest { (key : List ℤ) (entries : List Entry) (row : List ℤ)
+        → (count_of (reduced Max key entries) row ≡ pos 1)
+        ↔ (IsTrue (int_lt (pos 0) (count_of entries row))
+        × ((other : List ℤ) → IsTrue (int_lt (pos 0) (count_of entries other))
+        → is_before row other ≡ false)) }
     ensures once { (kind : Kind) (key : List ℤ) (entries : List Entry) (row : List ℤ)
-        → (count_of (reduced kind key entries) row ≡ pos 0) ⊎ (count_of (reduced kind key entries) row ≡ pos 1) }
+        → (count_of (reduced kind key entries) row ≡ pos 0)
+        ⊎ (count_of (reduced kind key entries) row ≡ pos 1) }
 {}
 
 /// Alike bags give alike bags: at every node of every list of nodes, and, of a plan, wherever the inputs that feed the
 /// node have alike bags.
 pub fn queries_depend_on_bags()
-    ensures operators { (k : ℕ) (node : Node) (a b : ℕ → List Entry) → ((port : ℕ) → Alike (a port) (b port)) → Alike (given k node a) (given k node b) }
-    ensures queries { (p : List Node) (a b : ℕ → List Entry) → ((input : ℕ) → Alike (a input) (b input)) → (n : ℕ) → Alike (query p a n) (query p b n) }
+    ensures operators { (k : ℕ) (node : Node) (a b : ℕ → List Entry)
+        → ((port : ℕ) → Alike (a port) (b port)) → Alike (given k node a) (given k node b) }
+    ensures queries { (p : List Node) (a b : ℕ → List Entry)
+        → ((input : ℕ) → Alike (a input) (b input)) → (n : ℕ) → Alike (query p a n) (query p b n) }
     ensures fed { (p : List Node) → IsPlan p → (a b : ℕ → List Entry) (n : ℕ) → n < length p
-        → ((input : ℕ) → IsTrue (feeds p input n) → Alike (a input) (b input)) → Alike (query p a n) (query p b n) }
+        → ((input : ℕ) → IsTrue (feeds p input n) → Alike (a input) (b input))
+        → Alike (query p a n) (query p b n) }
 {}
 
 /// What all nodes but joins and reductions give of two bags together is what they give of each, together; and of nothing
@@ -61,10 +75,17 @@ pub fn linear_operators_add_up()
 /// What joins and reductions give of the rows whose keys pass a test is the part of what they give whose keys pass it. So
 /// where each key has one worker, all workers together give what one would give of all rows.
 pub fn keyed_operators_add_up()
-    ensures parts { (k : ℕ) (node : Node) → is_linear node ≡ false → (test : List ℤ → Bool) (bags : ℕ → List Entry)
-        → Alike (given k node (λ port. filter (λ e. test (take k e.row)) (bags port))) (filter (λ e. test (take k e.row)) (given k node bags)) }
-    ensures workers { (k : ℕ) (node : Node) → is_linear node ≡ false → (workers : ℕ) (route : List ℤ → ℕ) → ((key : List ℤ) → route key < workers) → (bags : ℕ → List Entry)
-        → Alike (flat_map (λ worker. given k node (λ port. filter (λ e. eqb (route (take k e.row)) worker) (bags port))) (numbers_below workers)) (given k node bags) }
+    ensures parts { (k : ℕ) (node : Node) → is_linear node ≡ false
+        → (test : List ℤ → Bool) (bags : ℕ → List Entry)
+        → Alike (given k node (λ port. filter (λ e. test (take k e.row)) (bags port)))
+        (filter (λ e. test (take k e.row)) (given k node bags)) }
+    ensures workers { (k : ℕ) (node : Node) → is_linear node ≡ false
+        → (workers : ℕ) (route : List ℤ → ℕ) → ((key : List ℤ) → route key < workers)
+        → (bags : ℕ → List Entry)
+        → Alike (flat_map
+        (λ worker. given k node
+        (λ port. filter (λ e. eqb (route (take k e.row)) worker) (bags port)))
+        (numbers_below workers)) (given k node bags) }
 {}
 
 /// What every plan has: at most 256 nodes; sources with smaller numbers, none of which is a view; widths of 1 to 8
@@ -72,32 +93,50 @@ pub fn keyed_operators_add_up()
 /// column; and sources of joins and reductions that are arranged by the key of the node.
 pub fn plans_are_in_order()
     ensures few { (p : List Node) → IsPlan p → length p ≤ 256 }
-    ensures smaller { (p : List Node) → IsPlan p → (n port source : ℕ) → slice_get (sources (node_at p n)) port ≡ Some source → source < n }
-    ensures readable { (p : List Node) → IsPlan p → (n port source : ℕ) → slice_get (sources (node_at p n)) port ≡ Some source → is_output (node_at p source) ≡ false }
-    ensures faultless { (p : List Node) → IsPlan p → (n : ℕ) → n < length p → first_refusal (faults p (node_at p n)) ≡ None }
-    ensures widths { (p : List Node) → IsPlan p → (n : ℕ) → n < length p → IsTrue (is_width (width_of p n)) }
-    ensures keys { (p : List Node) → IsPlan p → (n key : ℕ) → n < length p → arranged_by (node_at p n) ≡ Some key → (1 ≤ key) × (key ≤ width_of p n) }
-    ensures arranged { (p : List Node) → IsPlan p → (n port source : ℕ) → n < length p → is_linear (node_at p n) ≡ false
-        → slice_get (sources (node_at p n)) port ≡ Some source → arranged_by (node_at p source) ≡ Some (key_width p (node_at p n)) }
-    ensures width { (p : List Node) → IsPlan p → (n : ℕ) → width_of p n ≡ width_from (key_width p (node_at p n)) (node_at p n) (width_of p) }
+    ensures smaller { (p : List Node) → IsPlan p → (n port source : ℕ)
+        → slice_get (sources (node_at p n)) port ≡ Some source → source < n }
+    ensures readable { (p : List Node) → IsPlan p → (n port source : ℕ)
+        → slice_get (sources (node_at p n)) port ≡ Some source
+        → is_output (node_at p source) ≡ false }
+    ensures faultless { (p : List Node) → IsPlan p → (n : ℕ) → n < length p
+        → first_refusal (faults p (node_at p n)) ≡ None }
+    ensures widths { (p : List Node) → IsPlan p → (n : ℕ) → n < length p
+        → IsTrue (is_width (width_of p n)) }
+    ensures keys { (p : List Node) → IsPlan p → (n key : ℕ) → n < length p
+        → arranged_by (node_at p n) ≡ Some key → (1 ≤ key) × (key ≤ width_of p n) }
+    ensures arranged { (p : List Node) → IsPlan p → (n port source : ℕ) → n < length p
+        → is_linear (node_at p n) ≡ false
+        → slice_get (sources (node_at p n)) port ≡ Some source
+        → arranged_by (node_at p source) ≡ Some (key_width p (node_at p n)) }
+    ensures width { (p : List Node) → IsPlan p → (n : ℕ)
+        → width_of p n ≡ width_from (key_width p (node_at p n)) (node_at p n) (width_of p) }
 {}
 
 /// What is found of a node is found from its sources: its query is its operator on their queries, and above it stand
 /// itself and what stands above them. Ancestors have smaller numbers, and every node has an input that feeds it.
 pub fn nodes_stand_on_their_sources()
     ensures query { (p : List Node) → IsPlan p → (inputs : ℕ → List Entry) (n : ℕ)
-        → query p inputs n ≡ given (key_width p (node_at p n)) (node_at p n) (λ port. handed (inputs n) (query p inputs) (slice_get (sources (node_at p n)) port)) }
-    ensures above { (p : List Node) → IsPlan p → (m n : ℕ) → is_above p m n ≡ (eqb m n || list_any (is_above p m) (sources (node_at p n))) }
+        → query p inputs n
+        ≡ given (key_width p (node_at p n)) (node_at p n)
+        (λ port. handed (inputs n) (query p inputs) (slice_get (sources (node_at p n)) port)) }
+    ensures above { (p : List Node) → IsPlan p → (m n : ℕ)
+        → is_above p m n ≡ (eqb m n || list_any (is_above p m) (sources (node_at p n))) }
     ensures earlier { (p : List Node) → IsPlan p → (m n : ℕ) → IsTrue (is_above p m n) → m ≤ n }
-    ensures transitive { (p : List Node) → IsPlan p → (l m n : ℕ) → IsTrue (is_above p l m) → IsTrue (is_above p m n) → IsTrue (is_above p l n) }
-    ensures fed { (p : List Node) → IsPlan p → (n : ℕ) → n < length p → (input : ℕ) × (input < length p) × IsTrue (feeds p input n) }
+    ensures transitive { (p : List Node) → IsPlan p → (l m n : ℕ) → IsTrue (is_above p l m)
+        → IsTrue (is_above p m n) → IsTrue (is_above p l n) }
+    ensures fed { (p : List Node) → IsPlan p → (n : ℕ) → n < length p
+        → (input : ℕ) × (input < length p) × IsTrue (feeds p input n) }
 {}
 
 /// A plan that goes on is a plan as far as it went, and nothing changes for the nodes that it had.
 pub fn extensions_keep_plans()
     ensures plan { (p more : List Node) → IsPlan (p ++ more) → IsPlan p }
-    ensures widths { (p more : List Node) → IsPlan p → (n : ℕ) → n < length p → width_of (p ++ more) n ≡ width_of p n }
-    ensures queries { (p more : List Node) → IsPlan p → (inputs : ℕ → List Entry) (n : ℕ) → n < length p → query (p ++ more) inputs n ≡ query p inputs n }
-    ensures above { (p more : List Node) → IsPlan p → (m n : ℕ) → n < length p → is_above (p ++ more) m n ≡ is_above p m n }
-    ensures weights { (p more : List Node) → IsPlan p → (own inputs : ℕ → ℕ) (n : ℕ) → n < length p → weight_by (p ++ more) own inputs n ≡ weight_by p own inputs n }
+    ensures widths { (p more : List Node) → IsPlan p → (n : ℕ) → n < length p
+        → width_of (p ++ more) n ≡ width_of p n }
+    ensures queries { (p more : List Node) → IsPlan p → (inputs : ℕ → List Entry) (n : ℕ)
+        → n < length p → query (p ++ more) inputs n ≡ query p inputs n }
+    ensures above { (p more : List Node) → IsPlan p → (m n : ℕ) → n < length p
+        → is_above (p ++ more) m n ≡ is_above p m n }
+    ensures weights { (p more : List Node) → IsPlan p → (own inputs : ℕ → ℕ) (n : ℕ) → n < length p
+        → weight_by (p ++ more) own inputs n ≡ weight_by p own inputs n }
 {}

@@ -121,7 +121,8 @@ impl Plan {
     /// Adds a node that the rules accept; refused only for want of memory.
     pub(crate) fn push(&mut self, node: Node) -> Result<NodeId, Refusal>
         requires { refusal_of self.old node ≡ None }
-        ensures added { IfOk result (λ id. (id ≡ length self.old) × (self.new ≡ self.old ++ node ∷ [])) }
+        ensures added { IfOk result (λ id. (id ≡ length self.old)
+            × (self.new ≡ self.old ++ node ∷ [])) }
         ensures refused { IfErr result (λ refusal. refusal ≡ OutOfMemory) }
         ensures unchanged { OnErr result (self.new ≡ self.old) }
     {

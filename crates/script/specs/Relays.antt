@@ -54,8 +54,8 @@ module _ {T : Type 0} where
     pub hand : get_or b.hand 0 None ≡ None
 
   -- the worker is idle, and nothing waits
-  abbrev pub IsSettled : Shown T → Type 0
-  IsSettled b = IsIdle b × NothingWaits b.stations
+  abbrev pub IsRelayed : Shown T → Type 0
+  IsRelayed b = IsIdle b × NothingWaits b.stations
 
 module _ {T : Type 0} (below : T → T → Bool) where
   -- what was given is sent whole, in bundles none of which is empty, and with stamps that are beyond whatever is held, where

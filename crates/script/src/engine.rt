@@ -2,10 +2,10 @@
 //! stands, by the definition, and that it answers each command as that session does. How rows are kept, and by whom, is the
 //! engine's own.
 //!
-//! A question is answered where the engine has settled: nothing that it was told waits to be carried on. How it settles is a
-//! trait of its own, since an engine whose workers are threads needs more for that than an engine on the caller's thread.
-//! An engine may end the run where memory is refused, and by refusals of its own where it has a cause in the session: a number
-//! that is too large, say, where the changes that were accepted give some node a large weight.
+//! An engine answers questions once it has caught up: nothing that it was told waits any more. How it catches up is a trait of
+//! its own, since workers on threads need more for that than one on the caller's thread. An engine may end the run where memory
+//! is refused, and by refusals of its own that have a cause in the session: a number that is too large, say, where the accepted
+//! changes give some node a large weight.
 ghost use Rattle.std.specs.Prelude.{◌≡◌, IsTrue, List, IfErr, OnOk};
 ghost use Rattle.update.specs.declared.refusal.Refusal.{Refusal};
 ghost use Rattle.plan.specs.declared.node.Node.{Node};
@@ -30,7 +30,7 @@ pub(crate) trait Engine {
     ghost stands: { Self → Sitting → Type 0 };
 
     /// Nothing that it was told waits, so that questions can be answered.
-    ghost settled: { Self → Type 0 };
+    ghost caught_up: { Self → Type 0 };
 
     /// A question in this session may be refused so, and the run then ends.
     ghost ends: { List Node → Sitting → Refusal → Type 0 };
@@ -58,7 +58,7 @@ pub(crate) trait Engine {
     /// The rows of a view at a time.
     fn read(&mut self, alloc: Global, view: NodeId, time: Bitime) -> Result<Bag, Refusal>
         requires view { IsTrue (is_view_of (plan self.old) view) }
-        requires settled { settled self.old }
+        requires caught_up { caught_up self.old }
         ensures plan { plan self.new ≡ plan self.old }
         ensures stands { (s : Sitting) → stands self.old s → stands self.new s }
         ensures answered { (s : Sitting) → stands self.old s
@@ -67,7 +67,7 @@ pub(crate) trait Engine {
     /// The changes of a view at the times that its frontier has passed.
     fn changes(&mut self, alloc: Global, view: NodeId) -> Result<Updates<Bitime>, Refusal>
         requires view { IsTrue (is_view_of (plan self.old) view) }
-        requires settled { settled self.old }
+        requires caught_up { caught_up self.old }
         ensures plan { plan self.new ≡ plan self.old }
         ensures stands { (s : Sitting) → stands self.old s → stands self.new s }
         ensures answered { (s : Sitting) → stands self.old s
@@ -76,7 +76,7 @@ pub(crate) trait Engine {
     /// The frontier of a view.
     fn frontier(&mut self, alloc: Global, view: NodeId) -> Result<Antichain<Bitime>, Refusal>
         requires view { IsTrue (is_view_of (plan self.old) view) }
-        requires settled { settled self.old }
+        requires caught_up { caught_up self.old }
         ensures plan { plan self.new ≡ plan self.old }
         ensures stands { (s : Sitting) → stands self.old s → stands self.new s }
         ensures answered { (s : Sitting) → stands self.old s
@@ -87,13 +87,13 @@ pub(crate) trait Engine {
         → EndsRun refusal };
 }
 
-/// An engine that settles on the caller's thread.
-pub(crate) trait Settle: Engine {
+/// An engine that catches up on the caller's thread.
+pub(crate) trait CatchUp: Engine {
     /// Carries on all that waits.
-    fn settle(&mut self, alloc: Global) -> Result<(), Refusal>
+    fn catch_up(&mut self, alloc: Global) -> Result<(), Refusal>
         ensures plan { Self.plan self.new ≡ Self.plan self.old }
         ensures stands { (s : Sitting) → Self.stands self.old s → Self.stands self.new s }
-        ensures settled { OnOk result (Self.settled self.new) }
+        ensures caught_up { OnOk result (Self.caught_up self.new) }
         ensures refused { (s : Sitting) → Self.stands self.old s
             → IfErr result (Self.ends (Self.plan self.old) s) };
 }

@@ -8,7 +8,7 @@ ghost use Rattle.script.specs.Printing.{refused_text};
 ghost use Rattle.script.specs.Text.{Sitting, refusal_of, accepting, after, piece};
 ghost use Rattle.script.specs.declared.fault.RunFault.TheVariants.{Refused};
 
-use crate::engine::{Engine, Settle};
+use crate::engine::{CatchUp, Engine};
 use crate::fault::RunFault;
 use crate::gathering::Gathered;
 use crate::outputs::Out;
@@ -133,7 +133,7 @@ fn tell<E: Engine, W: Out>(
     }
 }
 
-// A line that asks for something of a view, where the engine has settled.
+// A line that asks for something of a view, where the engine has caught up.
 fn ask<E: Engine, W: Out>(
     alloc: Global,
     engine: &mut E,
@@ -145,7 +145,7 @@ fn ask<E: Engine, W: Out>(
     requires plan { script.now.plan ≡ E.plan engine.old }
     requires about { IsAbout (E.plan engine.old) line.now.command }
     requires reads { is_reading line.now.command ≡ true }
-    requires settled { E.settled engine.old }
+    requires caught_up { E.caught_up engine.old }
     ensures plan { E.plan engine.new ≡ E.plan engine.old }
     ensures ran { (s : Sitting) → E.stands engine.old s
         → OnOk result (E.stands engine.new (after script.now.plan s line.now.command)
@@ -176,8 +176,8 @@ fn ask<E: Engine, W: Out>(
     }
 }
 
-// A line that asks for something of a view: the engine settles first.
-fn settle_and_ask<E: Settle, W: Out>(
+// A line that asks for something of a view: the engine catches up first.
+fn catch_up_and_ask<E: CatchUp, W: Out>(
     alloc: Global,
     engine: &mut E,
     script: &Script,
@@ -201,14 +201,14 @@ fn settle_and_ask<E: Settle, W: Out>(
     ensures known { (s : Sitting) → E.stands engine.old s
         → IfErr result (IsEnd (E.ends script.now.plan s)) }
 {
-    match engine.settle(alloc) {
+    match engine.catch_up(alloc) {
         Ok(()) => ask(alloc, engine, script, line, gathered, out),
         Err(refusal) => end_run(gathered, out, refusal),
     }
 }
 
 /// Carries out a line: its command goes to the engine, and what that answers is printed.
-pub(crate) fn obey<E: Settle, W: Out>(
+pub(crate) fn obey<E: CatchUp, W: Out>(
     alloc: Global,
     engine: &mut E,
     script: &Script,
@@ -233,7 +233,7 @@ pub(crate) fn obey<E: Settle, W: Out>(
         → IfErr result (IsEnd (E.ends script.now.plan s)) }
 {
     if is_reading(&line.command) {
-        return settle_and_ask(alloc, engine, script, line, gathered, out);
+        return catch_up_and_ask(alloc, engine, script, line, gathered, out);
     }
     tell(alloc, engine, line, gathered, out)?;
     gathered.pass_on(out)?;

@@ -17,7 +17,6 @@ ghost use Rattle.plan.specs.Operators.{is_linear};
 ghost use Rattle.plan.specs.Rules.{IsRefusalBy};
 ghost use Rattle.machine.specs.Inputs.{front_at};
 ghost use Rattle.grammar.specs.Commands.{is_input_of};
-ghost use Rattle.oracle.specs.Evaluation.{inputs_before};
 ghost use Rattle.script.specs.Ends.{IsTextBeforeOverflow};
 ghost use Rattle.script.specs.Engines.{IsRunEnd, failures};
 ghost use Rattle.script.specs.declared.fault.RunFault.TheVariants.{Refused};
@@ -26,7 +25,7 @@ ghost use Rattle.script.specs.PlainStanding.{IsRegister, Records, AreFrontiers, 
 ghost use Rattle.script.specs.Text.{at_or_below, first_sitting, text};
 ghost use Rattle.script.specs.Weights.{EndsByWeight, IsLargeScript};
 
-use crate::engine::{Engine, Settle};
+use crate::engine::{CatchUp, Engine};
 use crate::fault::RunFault;
 use crate::outputs::Out;
 use crate::running::run;
@@ -34,7 +33,7 @@ use antichain::{Antichain, is_beyond};
 use grammar::Script;
 use lattice::Bitime;
 use machine::{InputFrontiers, Times, Updates};
-use oracle::{differences, evaluate};
+use oracle::{differences, evaluate, inputs_before};
 use plan::{NodeId, Plan};
 use std::alloc::Global;
 use std::marker::Model;
@@ -68,20 +67,6 @@ impl Model for Plain {
       changes = map (λ v. v.items) plain.changes.items;
       inputs = plain.inputs;
     }) };
-}
-
-// How many inputs have smaller numbers: the place of an input's list.
-fn place_of(plan: &Plan, input: NodeId) -> usize
-    requires { input < length plan.now }
-    ensures { result ≡ inputs_before plan.now input }
-{
-    let mut place = 0;
-    for n in 0..input.number() {
-        if plan.node(NodeId::new(n)).is_input() {
-            place += 1;
-        }
-    }
-    place
 }
 
 // So many lists of no changes.
@@ -196,7 +181,7 @@ impl Plain {
         ensures unchanged { OnErr result (self.new ≡ self.old) }
         ensures register { IsRegister self.old }
     {
-        let place = place_of(&self.plan, input);
+        let place = inputs_before(&self.plan, input);
         let taken = self.changes[place].len();
         match self.inputs.feed_refusal(&self.plan, taken, input, &update) {
             Some(refusal) => Err(refusal),
@@ -227,7 +212,7 @@ impl Engine for Plain {
 
     ghost stands = { λ r s. Records (make_pair 0 0) r s };
 
-    ghost settled = { λ r. ⊤ };
+    ghost caught_up = { λ r. ⊤ };
 
     ghost ends = { λ p s refusal. EndsByWeight p s refusal };
 
@@ -271,8 +256,8 @@ impl Engine for Plain {
     ghost ending = { λ p s refusal ends. ends_by_weight p s refusal ends };
 }
 
-impl Settle for Plain {
-    fn settle(&mut self, _alloc: Global) -> Result<(), Refusal> {
+impl CatchUp for Plain {
+    fn catch_up(&mut self, _alloc: Global) -> Result<(), Refusal> {
         Ok(())
     }
 }

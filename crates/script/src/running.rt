@@ -8,7 +8,7 @@ ghost use Rattle.script.specs.Text.{Sitting, HoldsAlong, lines_text, text};
 ghost use Rattle.script.specs.Weights.{IsLargeScript};
 ghost use Rattle.script.specs.declared.fault.RunFault.TheVariants.{Refused};
 
-use crate::engine::Settle;
+use crate::engine::CatchUp;
 use crate::fault::RunFault;
 use crate::gathering::Gathered;
 use crate::obeying::obey;
@@ -19,7 +19,7 @@ use std::alloc::Global;
 use update::Refusal;
 
 // Carries out all lines.
-fn obey_all<E: Settle, W: Out>(
+fn obey_all<E: CatchUp, W: Out>(
     alloc: Global,
     engine: &mut E,
     script: &Script,
@@ -53,7 +53,7 @@ fn obey_all<E: Settle, W: Out>(
 
 /// Carries out a script on an engine that has its plan: what is taken is what the lines write in the session for which the
 /// engine stands.
-pub(crate) fn run<E: Settle, W: Out>(
+pub(crate) fn run<E: CatchUp, W: Out>(
     alloc: Global,
     engine: &mut E,
     script: &Script,

@@ -7,12 +7,12 @@ ghost use Rattle.plan.specs.Operators.{is_linear};
 ghost use Rattle.grammar.specs.Commands.{is_input_of};
 ghost use Rattle.lattice.specs.Pairs.{make_pair};
 ghost use Rattle.script.specs.Answers.{TakesChange};
-ghost use Rattle.script.specs.Relays.{IsSettled};
+ghost use Rattle.script.specs.Relays.{IsRelayed};
 ghost use Rattle.script.specs.Standing.{StandsAs};
 ghost use Rattle.script.specs.Text.{Sitting, at_or_below, first_sitting};
 ghost use Rattle.script.specs.Weights.{EndsByWeight};
 
-use crate::engine::{Engine, Settle};
+use crate::engine::{CatchUp, Engine};
 use crate::relay::relay;
 use antichain::Antichain;
 use lattice::Bitime;
@@ -90,7 +90,7 @@ impl Solo {
     // The worker carries on what waits, until nothing does.
     fn carry_on(&mut self, alloc: Global) -> Result<(), Refusal>
         ensures plan { self.new.dataflow ≡ self.old.dataflow }
-        ensures settled { OnOk result (IsSettled self.new) }
+        ensures caught_up { OnOk result (IsRelayed self.new) }
         ensures stands { (s : Sitting) → StandsAs at_or_below (make_pair 0 0) self.old s
             → StandsAs at_or_below (make_pair 0 0) self.new s }
         ensures refused { IfErr result (λ refusal. refusal ≡ OutOfMemory) }
@@ -125,7 +125,7 @@ impl Solo {
 
 impl Engine for Solo {
     ghost use Rattle.lattice.specs.Pairs.{make_pair};
-    ghost use Rattle.script.specs.Relays.{IsSettled};
+    ghost use Rattle.script.specs.Relays.{IsRelayed};
     ghost use Rattle.script.specs.Standing.{StandsAs};
     ghost use Rattle.script.specs.Text.{at_or_below};
     ghost use Rattle.script.specs.Weights.{EndsByWeight, ends_by_weight};
@@ -134,7 +134,7 @@ impl Engine for Solo {
 
     ghost stands = { λ b s. StandsAs at_or_below (make_pair 0 0) b s };
 
-    ghost settled = { λ b. IsSettled b };
+    ghost caught_up = { λ b. IsRelayed b };
 
     ghost ends = { λ p s refusal. EndsByWeight p s refusal };
 
@@ -179,8 +179,8 @@ impl Engine for Solo {
     ghost ending = { λ p s refusal ends. ends_by_weight p s refusal ends };
 }
 
-impl Settle for Solo {
-    fn settle(&mut self, alloc: Global) -> Result<(), Refusal> {
+impl CatchUp for Solo {
+    fn catch_up(&mut self, alloc: Global) -> Result<(), Refusal> {
         self.carry_on(alloc)
     }
 }

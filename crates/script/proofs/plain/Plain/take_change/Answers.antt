@@ -12,13 +12,13 @@ use Rattle.script.proofs.plain.Plain.take_change.Goals as goal
 pub index-requires : goal.index-requires
 index-requires c =
     let there = subst (λ (r : Register (Pair ℕ ℕ)). IsTrue (is_input_of r.plan c.args.input)) (sym c.self.view_is) c.requires in
-    let within = in_lists (λ (v : Vec (Update (Pair ℕ ℕ)) Global). v.items) c.self.inside.changes.items c.self.inside.plan c.args.input c.place_of-place.result there c.self.invariant.lists c.place_of-place.ensures in
-    subst (λ n. c.place_of-place.result < n) (sym c.self.inside.changes.ok.0) within
+    let within = in_lists (λ (v : Vec (Update (Pair ℕ ℕ)) Global). v.items) c.self.inside.changes.items c.self.inside.plan c.args.input c.inputs_before-place.result there c.self.invariant.lists c.inputs_before-place.ensures in
+    subst (λ n. c.inputs_before-place.result < n) (sym c.self.inside.changes.ok.0) within
 
 pub push_change-requires : goal.push_change-requires
 push_change-requires c =
     let there = subst (λ (r : Register (Pair ℕ ℕ)). IsTrue (is_input_of r.plan c.args.input)) (sym c.self.view_is) c.requires in
-    in_lists (λ (v : Vec (Update (Pair ℕ ℕ)) Global). v.items) c.self.inside.changes.items c.self.inside.plan c.args.input c.place_of-place.result there c.self.invariant.lists c.place_of-place.ensures
+    in_lists (λ (v : Vec (Update (Pair ℕ ℕ)) Global). v.items) c.self.inside.changes.items c.self.inside.plan c.args.input c.inputs_before-place.result there c.self.invariant.lists c.inputs_before-place.ensures
 
 pub returns-in-Some-clause-refused : goal.returns-in-Some-clause-refused
 returns-in-Some-clause-refused c =
@@ -26,8 +26,8 @@ returns-in-Some-clause-refused c =
     let items = λ (v : Vec (Update (Pair ℕ ℕ)) Global). v.items in
     let r : Register (Pair ℕ ℕ) = record { plan = c.self.inside.plan; changes = map items c.self.inside.changes.items; inputs = c.self.inside.inputs } in
     let there = subst (λ (r : Register (Pair ℕ ℕ)). IsTrue (is_input_of r.plan c.args.input)) (sym c.self.view_is) c.requires in
-    let within = in_lists items c.self.inside.changes.items c.self.inside.plan c.args.input c.place_of-place.result there c.self.invariant.lists c.place_of-place.ensures in
-    let taken = taken_is items c.self.inside.changes.items c.self.inside.plan c.args.input c.place_of-place.result c.len-taken.result c.index.result.now within c.place_of-place.ensures c.index.ensures (c.len-taken.ensures ∙ c.index.result.now.ok.0) in
+    let within = in_lists items c.self.inside.changes.items c.self.inside.plan c.args.input c.inputs_before-place.result there c.self.invariant.lists c.inputs_before-place.ensures in
+    let taken = taken_is items c.self.inside.changes.items c.self.inside.plan c.args.input c.inputs_before-place.result c.len-taken.result c.index.result.now within c.inputs_before-place.ensures c.index.ensures (c.len-taken.ensures ∙ c.index.result.now.ok.0) in
     let same = same_faults at_or_below r f c.self.inside.inputs c.len-taken.result refl taken in
     let is : entry_refusal at_or_below c.args.self.now f ≡ Some c.in-Some.refusal = ap (λ (r : Register (Pair ℕ ℕ)). entry_refusal at_or_below r f) (sym c.self.view_is) ∙ (sym same ∙ (sym c.feed_refusal.ensures ∙ c.in-Some.is)) in
     subst (λ o. IsRefusalBy o c.in-Some.refusal) (sym is) refl
@@ -38,8 +38,8 @@ invariant_of-self c =
     let items = λ (v : Vec (Update (Pair ℕ ℕ)) Global). v.items in
     let r : Register (Pair ℕ ℕ) = record { plan = c.self.inside.plan; changes = map items c.self.inside.changes.items; inputs = c.self.inside.inputs } in
     let there = subst (λ (r : Register (Pair ℕ ℕ)). IsTrue (is_input_of r.plan c.args.input)) (sym c.self.view_is) c.requires in
-    let within = in_lists items c.self.inside.changes.items c.self.inside.plan c.args.input c.place_of-place.result there c.self.invariant.lists c.place_of-place.ensures in
-    let taken = taken_is items c.self.inside.changes.items c.self.inside.plan c.args.input c.place_of-place.result c.len-taken.result c.index.result.now within c.place_of-place.ensures c.index.ensures (c.len-taken.ensures ∙ c.index.result.now.ok.0) in
+    let within = in_lists items c.self.inside.changes.items c.self.inside.plan c.args.input c.inputs_before-place.result there c.self.invariant.lists c.inputs_before-place.ensures in
+    let taken = taken_is items c.self.inside.changes.items c.self.inside.plan c.args.input c.inputs_before-place.result c.len-taken.result c.index.result.now within c.inputs_before-place.ensures c.index.ensures (c.len-taken.ensures ∙ c.index.result.now.ok.0) in
     let same = same_faults at_or_below r f c.self.inside.inputs c.len-taken.result refl taken in
     let none : entry_refusal at_or_below r f ≡ None = sym same ∙ (sym c.feed_refusal.ensures ∙ c.in-None.is) in
-    after_entry at_or_below r (map items c.push_change.new.lists.items) f c.place_of-place.result c.push_change.result c.self.invariant there none c.place_of-place.ensures c.push_change.ensures.pushed c.push_change.ensures.unchanged
+    after_entry at_or_below r (map items c.push_change.new.lists.items) f c.inputs_before-place.result c.push_change.result c.self.invariant there none c.inputs_before-place.ensures c.push_change.ensures.pushed c.push_change.ensures.unchanged

@@ -11,7 +11,7 @@ use Rattle.update.specs.declared.refusal.Refusal.{Refusal}
 use Rattle.machine.specs.Boards.{Shown}
 use Rattle.machine.specs.Reads.{changes_refusal}
 use Rattle.script.specs.Answers.{FindsChanges}
-use Rattle.script.specs.Relays.{IsSettled}
+use Rattle.script.specs.Relays.{IsRelayed}
 use Rattle.script.specs.Standing.{StandsAs}
 use Rattle.script.specs.Text.{at_or_below, in_print}
 use Rattle.script.specs.Weights.{IsLarge, EndsByWeight}
@@ -25,7 +25,7 @@ returns-clause-answered c s =
     let v = c.args.view in
     let there = subst (λ (d : Shown (Pair ℕ ℕ)). IsTrue (is_view_of d.dataflow.nodes v)) (sym c.self.view_is) c.requires.view in
     let within : v < length b.dataflow.nodes = ltb-true v (length b.dataflow.nodes) (and_parts _ _ there).0 in
-    let settled = subst IsSettled (sym c.self.view_is) c.requires.settled in
+    let relayed = subst IsRelayed (sym c.self.view_is) c.requires.caught_up in
     let o = pair_order nat_order nat_order in
     let plan = c.workers-workers.ensures.board in
     let total = then_total (on_total (λ (t : Pair ℕ ℕ). t.first) nat_cmp_total) (on_total (λ (t : Pair ℕ ℕ). t.second) nat_cmp_total) in
@@ -36,11 +36,11 @@ returns-clause-answered c s =
     (elim c.match-changes.branch [
       | in-Ok w ↦ subst (Answered b) (sym w.result-is)
           (λ a. (
-            sym (same_changes_refusal at_or_below (make_pair 0 0) o b s v plan within settled.0 settled.1 a) ∙ w.in-Ok.ensures.accepted,
-            w.from.ensures ∙ changes_found at_or_below (make_pair 0 0) o b s v plan within settled.0 settled.1 a (pair_bounds nat_bounds nat_bounds) (pair_extends nat_extends nat_extends) total w.in-Ok.changes.items (w.in-Ok.ensures.differences a.history a.stands),
+            sym (same_changes_refusal at_or_below (make_pair 0 0) o b s v plan within relayed.0 relayed.1 a) ∙ w.in-Ok.ensures.accepted,
+            w.from.ensures ∙ changes_found at_or_below (make_pair 0 0) o b s v plan within relayed.0 relayed.1 a (pair_bounds nat_bounds nat_bounds) (pair_extends nat_extends nat_extends) total w.in-Ok.changes.items (w.in-Ok.ensures.differences a.history a.stands),
           ))
       | in-Err w ↦ subst (Answered b) (sym w.result-is)
           (λ a. refused_alike _ (IsLarge b.dataflow.nodes s) (changes_refusal at_or_below (make_pair 0 0) b v) _ w.in-Err.refusal
-          (same_changes_refusal at_or_below (make_pair 0 0) o b s v plan within settled.0 settled.1 a)
-          (large_changes at_or_below (make_pair 0 0) o in_print b s v plan within (and_parts _ _ there).1 settled.0 a) w.in-Err.ensures.refused)
+          (same_changes_refusal at_or_below (make_pair 0 0) o b s v plan within relayed.0 relayed.1 a)
+          (large_changes at_or_below (make_pair 0 0) o in_print b s v plan within (and_parts _ _ there).1 relayed.0 a) w.in-Err.ensures.refused)
     ])

@@ -9,7 +9,7 @@ use Rattle.grammar.specs.Commands.{is_view_of}
 use Rattle.update.specs.declared.refusal.Refusal.{Refusal}
 use Rattle.machine.specs.Boards.{Shown}
 use Rattle.script.specs.Answers.{FindsFrontier}
-use Rattle.script.specs.Relays.{IsSettled}
+use Rattle.script.specs.Relays.{IsRelayed}
 use Rattle.script.specs.Standing.{StandsAs}
 use Rattle.script.specs.Text.{at_or_below}
 use Rattle.script.specs.Weights.{EndsByWeight}
@@ -23,13 +23,13 @@ returns-clause-answered c s =
     let v = c.args.view in
     let there = subst (λ (d : Shown (Pair ℕ ℕ)). IsTrue (is_view_of d.dataflow.nodes v)) (sym c.self.view_is) c.requires.view in
     let within : v < length b.dataflow.nodes = ltb-true v (length b.dataflow.nodes) (and_parts _ _ there).0 in
-    let settled = subst IsSettled (sym c.self.view_is) c.requires.settled in
+    let relayed = subst IsRelayed (sym c.self.view_is) c.requires.caught_up in
     let total = then_total (on_total (λ (t : Pair ℕ ℕ). t.first) nat_cmp_total) (on_total (λ (t : Pair ℕ ℕ). t.second) nat_cmp_total) in
     let Answered : Shown (Pair ℕ ℕ) → Result (List (Pair ℕ ℕ)) Refusal → Type 0 = λ d r. StandsAs at_or_below (make_pair 0 0) d s
     → FindsFrontier (EndsByWeight d.dataflow.nodes s) d.dataflow.nodes s v r in
     subst (λ d. Answered d c.match-frontier.result) c.self.view_is
     (elim c.match-frontier.branch [
       | in-Ok w ↦ subst (Answered b) (sym w.result-is)
-          (λ d. (refl, frontier_found at_or_below (make_pair 0 0) (pair_order nat_order nat_order) b s v c.workers-workers.ensures.board within settled.0 settled.1 d total (pair_extends nat_extends nat_extends).exact w.in-Ok.frontier w.elements-elements.ensures.frontier w.in-Ok.ensures.least))
+          (λ d. (refl, frontier_found at_or_below (make_pair 0 0) (pair_order nat_order nat_order) b s v c.workers-workers.ensures.board within relayed.0 relayed.1 d total (pair_extends nat_extends nat_extends).exact w.in-Ok.frontier w.elements-elements.ensures.frontier w.in-Ok.ensures.least))
       | in-Err w ↦ subst (Answered b) (sym w.result-is) (λ d. inr (inl w.in-Err.ensures.refused))
     ])

@@ -9,7 +9,7 @@ use Rattle.grammar.specs.Commands.{is_view_of}
 use Rattle.machine.specs.Boards.{Shown}
 use Rattle.machine.specs.Reads.{captured_of}
 use Rattle.script.specs.Answers.{FindsRows}
-use Rattle.script.specs.Relays.{IsSettled}
+use Rattle.script.specs.Relays.{IsRelayed}
 use Rattle.script.specs.Standing.{StandsAs}
 use Rattle.script.specs.Text.{at_or_below, in_print}
 use Rattle.script.specs.Weights.{IsLarge, EndsByWeight}
@@ -23,12 +23,12 @@ returns-clause-answered c s =
     let t = c.args.time in
     let there = subst (λ (d : Shown (Pair ℕ ℕ)). IsTrue (is_view_of d.dataflow.nodes v)) (sym c.self.view_is) c.requires.view in
     let within : v < length b.dataflow.nodes = ltb-true v (length b.dataflow.nodes) (and_parts _ _ there).0 in
-    let settled = subst IsSettled (sym c.self.view_is) c.requires.settled in
+    let relayed = subst IsRelayed (sym c.self.view_is) c.requires.caught_up in
     subst
     (λ (d : Shown (Pair ℕ ℕ)). StandsAs at_or_below (make_pair 0 0) d s
     → FindsRows (EndsByWeight d.dataflow.nodes s) d.dataflow.nodes s v t c.read.result)
     c.self.view_is
-    (λ a. read_answered at_or_below (make_pair 0 0) (pair_order nat_order nat_order) b s v t c.workers-workers.ensures.board within settled.0 settled.1 a
+    (λ a. read_answered at_or_below (make_pair 0 0) (pair_order nat_order nat_order) b s v t c.workers-workers.ensures.board within relayed.0 relayed.1 a
     (HasLargeCount (as_of at_or_below t (captured_of b v))) (IsLarge b.dataflow.nodes s) c.read.result
-    (large_read at_or_below (make_pair 0 0) (pair_order nat_order nat_order) in_print b s v c.workers-workers.ensures.board within (and_parts _ _ there).1 settled.0 a t)
+    (large_read at_or_below (make_pair 0 0) (pair_order nat_order nat_order) in_print b s v c.workers-workers.ensures.board within (and_parts _ _ there).1 relayed.0 a t)
     c.read.ensures.accepted c.read.ensures.refused c.read.ensures.bag (c.read.ensures.query a.history a.stands))

@@ -1,6 +1,6 @@
 use Rattle.script.specs.Text.{piece}
 use Rattle.script.proofs.OutLemmas.{breaks_before}
-use Rattle.script.proofs.obeying.settle_and_ask.Goals as goal
+use Rattle.script.proofs.obeying.catch_up_and_ask.Goals as goal
 
 pub returns-in-Err-clause-broke : goal.returns-in-Err-clause-broke
 returns-in-Err-clause-broke g c s h =
