@@ -60,6 +60,10 @@ actor_of (Give g ts sent) = g.worker
 abbrev pub IsInput : Dataflow → ℕ → Type 0
 IsInput p n = (n < length p.nodes) × IsTrue (is_input (node_of p n))
 
+-- what readers hold may move on at a view alone
+abbrev pub may_be_allowed : Dataflow → ℕ → Bool
+may_be_allowed p v = is_output (node_of p v)
+
 -- a change, as the bundle in which it comes to its input
 abbrev pub alone : {T : Type 0} → Dataflow → Fed T → Bundle T
 alone p f = record { place = home p f; updates = f.update ∷ []; stamp = f.update.time ∷ [] }
@@ -120,7 +124,7 @@ module _ {T : Type 0} (below : T → T → Bool) (p : Dataflow) where
   pub record IsAllow (w : World T) (actor v : ℕ) (ts : List T) : Type 0 where
     pub client : p.workers ≤ actor
     pub within : v < length p.nodes
-    pub view : IsTrue (is_output (node_of p v))
+    pub view : IsTrue (may_be_allowed p v)
     pub onward : IsTrue (all_beyond below (w.since v) ts)
 
   -- a worker with nothing in hand takes a bundle that waits: the first one of its place, but into an arrange node any
