@@ -1,9 +1,10 @@
 -- What is read on a board is the query on what the history fed.
-use Rattle.std.proofs.Common.{subst, ◌≡◌, ℕ, ◌<◌, Bool, true, false, cond, not, List, [], ◌∷◌, length, sym, refl, ap, ap₂, ◌∙◌, None, map, IsTrue}
+use Rattle.std.proofs.Common.{arith, get_or, subst, ◌≡◌, ℕ, ◌<◌, Bool, true, false, cond, not, List, [], ◌∷◌, length, sym, refl, ap, ap₂, ◌∙◌, None, map, IsTrue}
 use Rattle.std.specs.List.{filter, list_all}
 use Rattle.std.specs.Result.{IfOk, OnOk}
 use Rattle.std.specs.Prelude.{Result, Ok, Err}
 use Rattle.std.specs.declared.cmp.Ordering.{Ordering}
+use Rattle.std.proofs.lemmas.List.{get_or_default}
 use Rattle.std.proofs.lemmas.Bool.{and_from, or_left, or_right, false≢true}
 use Rattle.lattice.specs.Order.{PartialOrderLaws}
 use Rattle.lattice.specs.Frontiers.{is_beyond}
@@ -20,12 +21,20 @@ use Rattle.machine.specs.Dataflows.{node_of}
 use Rattle.machine.specs.Outstanding.{frontier}
 use Rattle.machine.specs.Histories.{world}
 use Rattle.machine.specs.Promises.{changes_in}
-use Rattle.machine.specs.Boards.{Shown, Stands, is_from_start, IsBoard}
+use Rattle.machine.specs.Views.{ViewState}
+use Rattle.machine.specs.Boards.{Shown, no_view, Stands, is_from_start, IsBoard}
 use Rattle.machine.specs.Reads.{front, captured_of, since_of, read_refusal, changes_refusal}
 use Rattle.machine.proofs.FlowLemmas.{is_passed, not_beyond}
 use Rattle.machine.proofs.PassedLemmas.{passed_down}
 use Rattle.machine.proofs.HeadlineLemmas.{headline_lem, differences_lem}
 use Rattle.machine.proofs.FrontLemmas.{front_stands}
+
+-- the view that is read on a board is the view of its number
+pub view_read : {T : Type 0} (b : Shown T) {v : Shown T} (e : v ≡ b) (n k : ℕ) → k ≡ n → n < length b.dataflow.nodes → (x : ViewState T) → IsBoard v → x ≡ get_or v.views k x → x ≡ get_or b.views n no_view
+view_read {T} b {v} e n k s l x is h =
+    let long : length v.dataflow.nodes ≡ length b.dataflow.nodes = ap (λ (z : Shown T). length z.dataflow.nodes) e in
+    let inside : k < length v.views = omega (arith, long, is.views, s, l) in
+    h ∙ (get_or_default v.views k x no_view inside ∙ (ap (λ (z : Shown T). get_or z.views k no_view) e ∙ ap (λ i. get_or b.views i no_view) s))
 
 unrefused : (b : Bool) → not b ≡ false → b ≡ true
 unrefused true h = refl

@@ -116,10 +116,6 @@ module _ {T : Type 0} where
   less_room_at zero port more less l (s ∷ row) h = less_room port more less l s h
   less_room_at (suc worker) port more less l (s ∷ row) h = less_room_at worker port more less l row h
 
-  -- a row with another lot for a worker
-  abbrev pub at_worker : ℕ → (Lot T → Lot T) → List (Lot T) → List (Lot T)
-  at_worker k change row = set row k (change (get_or row k no_lot))
-
   -- if something waits, its worker is there, and its node
   pub worker_within : (port worker number : ℕ) (row : List (Lot T)) → number < length (loads_at port (get_or row worker no_lot)) → worker < length row
   worker_within zero worker number [] l = absurd (omega (arith, l))

@@ -1,10 +1,11 @@
 -- What a contract sees of a board, what each event makes of it, and which histories it may stand for.
 use Rattle.std.specs.Prelude.{◌≡◌, ℕ, suc, ◌<◌, ◌≤◌, Bool, ◌||◌, if◌then◌else◌, List, [], ◌∷◌, ◌++◌, length, set, get_or, replicate, Option, Some, None, IsTrue, ⊤}
 use Rattle.lattice.specs.Frontiers.{is_beyond}
-use Rattle.update.specs.Bags.{Alike}
+use Rattle.update.specs.Bags.{Alike, Entry}
 use Rattle.update.specs.Updates.{as_of, size}
 use Rattle.update.specs.declared.change.Update.{Update}
 use Rattle.update.specs.declared.refusal.Refusal.{Refusal}
+use Rattle.plan.specs.Changes.{query_at}
 use Rattle.plan.specs.Rules.{is_output, first_refusal}
 use Rattle.machine.specs.declared.event.Site.{Site}
 use Rattle.machine.specs.declared.event.Bundle.{Bundle}
@@ -17,7 +18,10 @@ use Rattle.machine.specs.Dataflows.{Dataflow, node_of}
 use Rattle.machine.specs.Worlds.{World, queue, held_at, emitted_at, fed_to, open_at}
 use Rattle.machine.specs.Shares.{home}
 use Rattle.machine.specs.Inputs.{front_at, first_inputs, feed_faults, advance_faults}
-use Rattle.machine.specs.Histories.{alone, world, dataflow_after, IsLegal}
+use Rattle.machine.specs.Outstanding.{frontier, input_frontier}
+use Rattle.machine.specs.Histories.{alone, world, dataflow_after, IsLegal, IsGive}
+use Rattle.machine.specs.Promises.{changes_in}
+use Rattle.machine.specs.Readings.{IsQuiet}
 use Rattle.machine.specs.Loads.{Lot, load_in, lot_of, first_stations, put_at, put_all, taken_from, held_from, queue_of}
 
 -- what lies on a board
@@ -86,9 +90,13 @@ module _ {T : Type 0} where
   abbrev pub capturing : ViewState T → List (Update T) → ViewState T
   capturing view us = record view { captured = view.captured ++ us }
 
+  -- the views, where this one captured it
+  abbrev pub capturing_at : ℕ → List (Update T) → List (ViewState T) → List (ViewState T)
+  capturing_at n us views = set views n (capturing (get_or views n no_view) us)
+
   -- the views, where a node gave this: only a view captures it
   abbrev pub captured_at : Dataflow → ℕ → List (Update T) → List (ViewState T) → List (ViewState T)
-  captured_at p n us views = if is_output (node_of p n) then set views n (capturing (get_or views n no_view) us) else views
+  captured_at p n us views = if is_output (node_of p n) then capturing_at n us views else views
 
   -- what a worker gave is sent, and captured at a view; it then holds these times there, and has nothing in hand
   abbrev pub giving : Emission T → List T → List (Bundle T) → Shown T → Shown T
@@ -134,6 +142,32 @@ module _ {T : Type 0} (below : T → T → Bool) (minimum : T) where
   -- what a history leaves on the board
   abbrev pub left_on : Shown T → List (Event T) → World T
   left_on b h = world below minimum (opened b) h
+
+  -- the frontiers of a node after a history of the board
+  abbrev pub frontier_on : Shown T → List (Event T) → ℕ → List T
+  frontier_on b h n = frontier below (plan_on b h) (left_on b h) n
+
+  abbrev pub input_frontier_on : Shown T → List (Event T) → ℕ → List T
+  input_frontier_on b h n = input_frontier below (plan_on b h) (left_on b h) n
+
+  -- the times that a worker then holds at a node
+  abbrev pub held_on : Shown T → List (Event T) → ℕ → ℕ → List T
+  held_on b h n k = held_at n k (left_on b h).held
+
+  -- the changes that were fed by then, and the query on those up to a time
+  abbrev pub changes_on : Shown T → List (Event T) → ℕ → List (Update T)
+  changes_on b h = changes_in (left_on b h)
+
+  abbrev pub query_on : Shown T → List (Event T) → ℕ → T → List Entry
+  query_on b h view t = query_at below (plan_on b h).nodes (changes_on b h) view t
+
+  -- a worker may then give this
+  abbrev pub IsGiveOn : Shown T → List (Event T) → Emission T → List T → List (Bundle T) → Type 0
+  IsGiveOn b h g ts sent = IsGive below (plan_on b h) (left_on b h) g ts sent
+
+  -- the history leaves nothing to do
+  abbrev pub IsQuietOn : Shown T → List (Event T) → Type 0
+  IsQuietOn b h = IsQuiet below (plan_on b h) (left_on b h)
 
   -- the event was the last one
   abbrev pub IsLast : Shown T → List (Event T) → Type 0

@@ -19,9 +19,9 @@ use Rattle.machine.specs.declared.event.Open.{Open}
 use Rattle.machine.specs.declared.event.Event.{Event}
 use Rattle.machine.specs.declared.event.Event.TheVariants.{Feed, Advance, Allow, Look, Take, TakeHeld, Give}
 use Rattle.machine.specs.Dataflows.{Dataflow, node_of}
-use Rattle.machine.specs.Worlds.{World, times, same_place, updates_at, queue, fed_to, held_at, open_at}
+use Rattle.machine.specs.Worlds.{World, times, same_place, updates_at, queue, emitted_at, fed_to, held_at, open_at}
 use Rattle.machine.specs.Shares.{home, share}
-use Rattle.machine.specs.Outstanding.{input_frontier}
+use Rattle.machine.specs.Outstanding.{frontier, input_frontier, port_frontier}
 use Rattle.machine.specs.NodeLaws.{NodeLaw, LoadRule}
 
 -- the function, with another value at one place
@@ -194,3 +194,17 @@ module _ {T : Type 0} (below : T → T → Bool) (minimum : T) (opened : Dataflo
   abbrev pub IsLegal : List (Event T) → Type 0
   IsLegal [] = ⊤
   IsLegal (e ∷ h) = IsAllowed below (dataflow_after opened h) (world h) e × IsLegal h
+
+  -- the frontiers of a node after a history
+  abbrev pub frontier_after : List (Event T) → ℕ → List T
+  frontier_after h n = frontier below (dataflow_after opened h) (world h) n
+
+  abbrev pub input_frontier_after : List (Event T) → ℕ → List T
+  input_frontier_after h n = input_frontier below (dataflow_after opened h) (world h) n
+
+  abbrev pub port_frontier_after : List (Event T) → ℕ → ℕ → List T
+  port_frontier_after h n port = port_frontier below (dataflow_after opened h) (world h) n port
+
+  -- what was given at a node by then
+  abbrev pub emitted_after : List (Event T) → ℕ → List (Update T)
+  emitted_after h n = emitted_at n (world h).emitted

@@ -68,13 +68,20 @@ module _ {T : Type 0} where
   abbrev pub less_at : ℕ → ℕ → List T → Lot T → Lot T
   less_at port number stamp lot = record (with_loads port (remove (loads_at port lot) number) lot) { held = lot.held ++ stamp }
 
+  -- the lot of a worker among those of a node, and these with another one for the worker
+  abbrev pub lot_in : List (Lot T) → ℕ → Lot T
+  lot_in row k = get_or row k no_lot
+
+  abbrev pub at_worker : ℕ → (Lot T → Lot T) → List (Lot T) → List (Lot T)
+  at_worker k change row = set row k (change (lot_in row k))
+
   -- the lot of a worker at a node
   abbrev pub lot_of : List (List (Lot T)) → ℕ → ℕ → Lot T
-  lot_of stations n k = get_or (get_or stations n []) k no_lot
+  lot_of stations n k = lot_in (get_or stations n []) k
 
   -- the same but for one lot, which is another one now
   abbrev pub with_lot : ℕ → ℕ → (Lot T → Lot T) → List (List (Lot T)) → List (List (Lot T))
-  with_lot n k change stations = set stations n (set (get_or stations n []) k (change (lot_of stations n k)))
+  with_lot n k change stations = set stations n (at_worker k change (get_or stations n []))
 
   -- where nothing lies anywhere
   abbrev pub first_stations : ℕ → ℕ → List (List (Lot T))

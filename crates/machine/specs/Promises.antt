@@ -19,12 +19,17 @@ use Rattle.machine.specs.Dataflows.{Dataflow, node_of, source_of, given_at, abov
 use Rattle.machine.specs.Worlds.{World, times, emitted_at, emitted_by, fed_to, held_at}
 use Rattle.machine.specs.Outstanding.{frontier, input_frontier, port_frontier}
 use Rattle.machine.specs.NodeLaws.{received_at, AreApart, is_reduction}
-use Rattle.machine.specs.Histories.{IsInput}
+use Rattle.machine.specs.Histories.{IsInput, world}
 use Rattle.machine.specs.declared.event.Site.{Site}
+use Rattle.machine.specs.declared.event.Event.{Event}
 
 -- the changes that were fed, by input
 abbrev pub changes_in : {T : Type 0} → World T → ℕ → List (Update T)
 changes_in w i = fed_to i w.fed
+
+-- and those of a history
+abbrev pub changes_after : {T : Type 0} → (T → T → Bool) → T → Dataflow → List (Event T) → ℕ → List (Update T)
+changes_after below minimum opened h = changes_in (world below minimum opened h)
 
 module _ {T : Type 0} (below : T → T → Bool) (p : Dataflow) (w : World T) (n : ℕ) where
   -- the headline: what a node gave on all workers, summed to a time that its frontier has passed, is the query on the

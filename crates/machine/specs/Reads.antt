@@ -1,10 +1,11 @@
 -- What is found on a board when it is asked: frontiers, a view's rows at a time, its changes, and whether it is quiet.
-use Rattle.std.specs.Prelude.{◌≡◌, ℕ, Bool, true, false, not, ◌&&◌, List, [], ◌∷◌, length, get_or, Option, Some, None, nat_lt, ◌⊎◌}
-use Rattle.std.specs.List.{list_all, list_any, flat_map}
+use Rattle.std.specs.Prelude.{◌≡◌, ℕ, Bool, true, false, not, ◌&&◌, List, [], ◌∷◌, length, get_or, Option, Some, None, nat_lt}
+use Rattle.std.specs.List.{filter, list_all, list_any, flat_map}
 use Rattle.lattice.specs.Frontiers.{is_beyond}
+use Rattle.update.specs.Updates.{HasLargeTotal}
 use Rattle.update.specs.declared.change.Update.{Update}
 use Rattle.update.specs.declared.refusal.Refusal.{Refusal}
-use Rattle.update.specs.declared.refusal.Refusal.TheVariants.{OutOfMemory, Overflow, NotPassed, GivenUp}
+use Rattle.update.specs.declared.refusal.Refusal.TheVariants.{NotPassed, GivenUp}
 use Rattle.plan.specs.Changes.{has_passed}
 use Rattle.plan.specs.Rules.{first_refusal}
 use Rattle.plan.specs.Ancestors.{numbers_below}
@@ -14,6 +15,7 @@ use Rattle.machine.specs.Inputs.{front_at}
 use Rattle.machine.specs.Worlds.{World}
 use Rattle.machine.specs.Loads.{is_none, lot_of, all_bundles, all_held}
 use Rattle.machine.specs.Outstanding.{frontier, input_frontier}
+use Rattle.machine.specs.Views.{IsMemoryOrOverflow, HasLargeSum}
 use Rattle.machine.specs.Boards.{Shown, no_view, is_from_start}
 
 -- the elements of the inputs' frontiers
@@ -50,7 +52,7 @@ is_free (Some n ∷ hand) = false
 -- a refusal for one of the faults, or where there is none for want of memory, or for a number that is too large and has this cause
 abbrev pub IsRefusalOr : Type 0 → Option Refusal → Refusal → Type 0
 IsRefusalOr cause (Some fault) refusal = refusal ≡ fault
-IsRefusalOr cause None refusal = (refusal ≡ OutOfMemory) ⊎ ((refusal ≡ Overflow) × cause)
+IsRefusalOr cause None refusal = IsMemoryOrOverflow cause refusal
 
 module _ {T : Type 0} (below : T → T → Bool) where
   -- the frontiers of a node, as they are found on the board
@@ -64,9 +66,13 @@ module _ {T : Type 0} (below : T → T → Bool) where
   abbrev pub is_ready : Shown T → ℕ → ℕ → Bool
   is_ready b k n = list_any (has_passed below (input_front b n)) (lot_of b.stations n k).held
 
-  -- nothing is in flight or in hand, and whatever is held waits for what may still come to its node
+  -- whatever is held waits for what may still come to its node
+  abbrev pub all_wait : Shown T → Bool
+  all_wait b = list_all (λ m. nat_lt m.node (length b.dataflow.nodes) && is_beyond below (input_front b m.node) m.time) (all_held b.stations)
+
+  -- nothing is in flight or in hand, and whatever is held waits
   abbrev pub is_quiet_board : Shown T → Bool
-  is_quiet_board b = is_none (all_bundles b.stations) && (is_free b.hand && list_all (λ m. nat_lt m.node (length b.dataflow.nodes) && is_beyond below (input_front b m.node) m.time) (all_held b.stations))
+  is_quiet_board b = is_none (all_bundles b.stations) && (is_free b.hand && all_wait b)
 
   -- what refuses a read, in the order of testing
   abbrev pub read_refusal : Shown T → ℕ → T → Option Refusal
@@ -75,3 +81,14 @@ module _ {T : Type 0} (below : T → T → Bool) where
   -- what refuses the changes of a view
   abbrev pub changes_refusal : T → Shown T → ℕ → Option Refusal
   changes_refusal minimum b v = first_refusal ((not (is_from_start below minimum (since_of b v)), GivenUp) ∷ [])
+
+  -- of what a view captured, what is at times that its frontier has passed
+  abbrev pub passed_captured : Shown T → ℕ → List (Update T)
+  passed_captured b v = filter (λ u. has_passed below (front b v) u.time) (captured_of b v)
+
+  -- a refusal of a read, and of the changes of a view: a fault, want of memory, or a number that is too large
+  abbrev pub IsReadRefusal : Shown T → ℕ → T → Refusal → Type 0
+  IsReadRefusal b v t refusal = IsRefusalOr (HasLargeSum below (captured_of b v) t) (read_refusal b v t) refusal
+
+  abbrev pub IsChangesRefusal : T → Shown T → ℕ → Refusal → Type 0
+  IsChangesRefusal minimum b v refusal = IsRefusalOr (HasLargeTotal below (passed_captured b v)) (changes_refusal minimum b v) refusal

@@ -44,6 +44,10 @@ abbrev pub same_place : Site → Site → Bool
 same_place a b = eqb a.node b.node && (eqb a.port b.port && eqb a.worker b.worker)
 
 module _ {T : Type 0} where
+  -- this update as a change of an input
+  abbrev pub change_to : ℕ → Update T → Fed T
+  change_to i u = record { input = i; update = u }
+
   abbrev pub times : List (Update T) → List T
   times us = map (λ u. u.time) us
 

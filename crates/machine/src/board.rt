@@ -4,7 +4,7 @@
 //! there, the times that workers hold, the frontiers of the inputs, each worker's piece in hand, what views captured, and how many changes
 //! each input accepted. There is no list of the changes. Which histories it may stand for is said by `Stands`; every call
 //! says what it makes of them: whatever history the board stood for, it then stands for one event more.
-ghost use Rattle.std.specs.Prelude.{◌≡◌, ◌≤◌, List, [], ◌∷◌, None, IfErr, IfOk, length, replicate};
+ghost use Rattle.std.specs.Prelude.{◌≡◌, ◌≤◌, List, [], ◌∷◌, None, IfErr, IfOk, replicate};
 ghost use Rattle.update.specs.declared.refusal.Refusal.TheVariants.{OutOfMemory};
 ghost use Rattle.machine.specs.Dataflows.{IsDataflow};
 ghost use Rattle.machine.specs.declared.event.Event.{Event};
@@ -70,7 +70,8 @@ impl<T: Minimum> Board<T> {
     /// Cost: the square of the nodes, of which a plan has 256 at most, and the nodes times the workers.
     pub fn open(alloc: Global, plan: Plan, workers: usize) -> Result<Board<T>, Refusal>
         requires { 1 ≤ workers }
-        ensures first { IfOk result (λ board. board ≡ first_board T.least (record { nodes = plan; workers = workers })) }
+        ensures first { IfOk result (λ board.
+            board ≡ first_board T.least (record { nodes = plan; workers = workers })) }
         ensures stands { IfOk result (λ board. Stands T.below T.least board []) }
         ensures refused { IfErr result (λ refusal. refusal ≡ OutOfMemory) }
     {
@@ -81,7 +82,8 @@ impl<T: Minimum> Board<T> {
     // The same of a graph, without the histories.
     fn first(alloc: Global, plan: Graph, workers: usize) -> Result<Board<T>, Refusal>
         requires { 1 ≤ workers }
-        ensures first { IfOk result (λ board. board ≡ first_board T.least (record { nodes = plan; workers = workers })) }
+        ensures first { IfOk result (λ board.
+            board ≡ first_board T.least (record { nodes = plan; workers = workers })) }
         ensures refused { IfErr result (λ refusal. refusal ≡ OutOfMemory) }
     {
         let stations = Stations::first(alloc, plan.len(), workers)?;
@@ -129,7 +131,8 @@ impl<T: Minimum> Board<T> {
     /// A client or worker looks, and the board is as it was. Takes no memory.
     pub fn look(&mut self, actor: usize)
         ensures looked { self.new ≡ looked actor self.old }
-        ensures stands { (h : List (Event T)) → Stands T.below T.least self.old h → Stands T.below T.least self.new (self.new.last ∷ h) }
+        ensures stands { (h : List (Event T)) → Stands T.below T.least self.old h
+            → Stands T.below T.least self.new (self.new.last ∷ h) }
     {
         self.note(Snapshot::of(&Event::Look { actor }));
     }
@@ -161,7 +164,8 @@ fn no_changes(alloc: Global, nodes: usize) -> Result<Vec<usize>, Refusal>
 
 // No view has captured anything, and each may be read at all times.
 fn first_views<T: Minimum>(alloc: Global, nodes: usize) -> Result<Vec<View<T>>, Refusal>
-    ensures first { IfOk result (λ views. views.items ≡ replicate nodes (record { since = T.least ∷ []; captured = [] })) }
+    ensures first { IfOk result (λ views.
+        views.items ≡ replicate nodes (record { since = T.least ∷ []; captured = [] })) }
     ensures refused { IfErr result (λ refusal. refusal ≡ OutOfMemory) }
 {
     let mut views = Vec::new(alloc);

@@ -1,11 +1,12 @@
 //! The events of clients: changes of the inputs' tables, and the inputs' frontiers. A change that may not be fed, or a
 //! frontier that would go back, is refused, and then the event is a look: the history shows that the client was there, and
 //! that it did nothing.
-ghost use Rattle.std.specs.Prelude.{◌≡◌, ◌<◌, ◌≤◌, ◌+◌, ◌++◌, List, [], ◌∷◌, None, Some, IfErr, IfOk, OnErr, OnOk, get_or, length, set};
+ghost use Rattle.std.specs.Prelude.{◌≡◌, ◌<◌, ◌≤◌, ◌+◌, List, [], ◌∷◌, None, Some, IfErr, IfOk, OnErr, OnOk, length};
 ghost use Rattle.update.specs.declared.refusal.Refusal.TheVariants.{OutOfMemory};
 ghost use Rattle.plan.specs.Rules.{IsRefusalBy};
 ghost use Rattle.machine.specs.declared.event.Event.{Event};
 ghost use Rattle.machine.specs.declared.event.Event.TheVariants.{Feed};
+ghost use Rattle.machine.specs.Worlds.{change_to};
 ghost use Rattle.machine.specs.Histories.{IsInput};
 ghost use Rattle.machine.specs.Boards.{Shown, IsBoard, Stands, looked, sending, accepting, fed, advanced, feed_refusal, advance_refusal};
 
@@ -37,11 +38,14 @@ impl<T: Minimum> Board<T> {
     pub fn feed(&mut self, client: usize, input: NodeId, update: Update<T>) -> Result<(), Refusal>
         requires client { self.old.dataflow.workers ≤ client }
         requires input { IsInput self.old.dataflow input }
-        ensures fed { OnOk result (self.new ≡ fed client (record { input = input; update = update }) self.old) }
-        ensures accepted { OnOk result (feed_refusal T.below self.old (record { input = input; update = update }) ≡ None) }
-        ensures refused { IfErr result (λ refusal. IsRefusalBy (feed_refusal T.below self.old (record { input = input; update = update })) refusal) }
+        ensures fed { OnOk result (self.new ≡ fed client (change_to input update) self.old) }
+        ensures accepted { OnOk result
+            (feed_refusal T.below self.old (change_to input update) ≡ None) }
+        ensures refused { IfErr result
+            (IsRefusalBy (feed_refusal T.below self.old (change_to input update))) }
         ensures unchanged { OnErr result (self.new ≡ looked client self.old) }
-        ensures stands { (h : List (Event T)) → Stands T.below T.least self.old h → Stands T.below T.least self.new (self.new.last ∷ h) }
+        ensures stands { (h : List (Event T)) → Stands T.below T.least self.old h
+            → Stands T.below T.least self.new (self.new.last ∷ h) }
     {
         self.try_feed(client, input, update)
     }
@@ -49,9 +53,11 @@ impl<T: Minimum> Board<T> {
     // The same, without the histories.
     fn try_feed(&mut self, client: usize, input: NodeId, update: Update<T>) -> Result<(), Refusal>
         requires { IsInput self.old.dataflow input }
-        ensures fed { OnOk result (self.new ≡ fed client (record { input = input; update = update }) self.old) }
-        ensures accepted { OnOk result (feed_refusal T.below self.old (record { input = input; update = update }) ≡ None) }
-        ensures refused { IfErr result (λ refusal. IsRefusalBy (feed_refusal T.below self.old (record { input = input; update = update })) refusal) }
+        ensures fed { OnOk result (self.new ≡ fed client (change_to input update) self.old) }
+        ensures accepted { OnOk result
+            (feed_refusal T.below self.old (change_to input update) ≡ None) }
+        ensures refused { IfErr result
+            (IsRefusalBy (feed_refusal T.below self.old (change_to input update))) }
         ensures board { OnOk result (IsBoard self.old) }
         ensures unchanged { OnErr result (self.new ≡ looked client self.old) }
     {
@@ -75,10 +81,12 @@ impl<T: Minimum> Board<T> {
         update: Update<T>,
     ) -> Result<Snapshot<Event<T>>, Refusal>
         requires { IsInput self.old.dataflow input }
-        ensures event { IfOk result (λ event. event.value ≡ Feed client (record { input = input; update = update })) }
-        ensures fed { OnOk result (self.new ≡ accepting (record { input = input; update = update }) self.old) }
-        ensures accepted { OnOk result (feed_refusal T.below self.old (record { input = input; update = update }) ≡ None) }
-        ensures refused { IfErr result (λ refusal. IsRefusalBy (feed_refusal T.below self.old (record { input = input; update = update })) refusal) }
+        ensures event { IfOk result (λ event. event.value ≡ Feed client (change_to input update)) }
+        ensures fed { OnOk result (self.new ≡ accepting (change_to input update) self.old) }
+        ensures accepted { OnOk result
+            (feed_refusal T.below self.old (change_to input update) ≡ None) }
+        ensures refused { IfErr result
+            (IsRefusalBy (feed_refusal T.below self.old (change_to input update))) }
         ensures board { IsBoard self.old }
         ensures unchanged { OnErr result (self.new ≡ self.old) }
     {
@@ -97,7 +105,7 @@ impl<T: Minimum> Board<T> {
 
     // The change waits at its input, and moves there.
     fn send_change(&mut self, input: NodeId, update: Update<T>) -> Result<(), Refusal>
-        ensures sent { OnOk result (self.new ≡ sending (record { input = input; update = update }) self.old) }
+        ensures sent { OnOk result (self.new ≡ sending (change_to input update) self.old) }
         ensures refused { IfErr result (λ refusal. refusal ≡ OutOfMemory) }
         ensures unchanged { OnErr result (self.new ≡ self.old) }
     {
@@ -122,9 +130,11 @@ impl<T: Minimum> Board<T> {
         requires input { IsInput self.old.dataflow input }
         ensures advanced { OnOk result (self.new ≡ advanced client input times self.old) }
         ensures accepted { OnOk result (advance_refusal T.below self.old input times ≡ None) }
-        ensures refused { IfErr result (λ refusal. advance_refusal T.below self.old input times ≡ Some refusal) }
+        ensures refused { IfErr result (λ refusal.
+            advance_refusal T.below self.old input times ≡ Some refusal) }
         ensures unchanged { OnErr result (self.new ≡ looked client self.old) }
-        ensures stands { (h : List (Event T)) → Stands T.below T.least self.old h → Stands T.below T.least self.new (self.new.last ∷ h) }
+        ensures stands { (h : List (Event T)) → Stands T.below T.least self.old h
+            → Stands T.below T.least self.new (self.new.last ∷ h) }
     {
         self.try_advance(client, input, times)
     }
@@ -134,7 +144,8 @@ impl<T: Minimum> Board<T> {
         requires { input < length self.old.dataflow.nodes }
         ensures advanced { OnOk result (self.new ≡ advanced client input times self.old) }
         ensures accepted { OnOk result (advance_refusal T.below self.old input times ≡ None) }
-        ensures refused { IfErr result (λ refusal. advance_refusal T.below self.old input times ≡ Some refusal) }
+        ensures refused { IfErr result (λ refusal.
+            advance_refusal T.below self.old input times ≡ Some refusal) }
         ensures board { IsBoard self.old }
         ensures unchanged { OnErr result (self.new ≡ looked client self.old) }
     {
@@ -156,7 +167,8 @@ impl<T: Minimum> Board<T> {
         requires client { self.old.dataflow.workers ≤ client }
         requires input { IsInput self.old.dataflow input }
         ensures closed { self.new ≡ advanced client input [] self.old }
-        ensures stands { (h : List (Event T)) → Stands T.below T.least self.old h → Stands T.below T.least self.new (self.new.last ∷ h) }
+        ensures stands { (h : List (Event T)) → Stands T.below T.least self.old h
+            → Stands T.below T.least self.new (self.new.last ∷ h) }
     {
         self.try_close(client, input);
     }

@@ -25,7 +25,8 @@ pub(crate) fn push_for_giver<T: Minimum>(
     emission: &Emission<T>,
 ) -> Result<(), Refusal>
     ensures more { OnOk result (sent.new.items ≡ sent.old.items
-        ++ bundled T.below (place edge.now.reader edge.now.port emission.now.worker) emission.now.updates) }
+        ++ bundled T.below (place edge.now.reader edge.now.port emission.now.worker)
+        emission.now.updates) }
     ensures refused { IfErr result (λ refusal. refusal ≡ OutOfMemory) }
 {
     let updates = copied(*sent.allocator(), emission.updates.as_slice())?;
@@ -42,7 +43,8 @@ pub(crate) fn push_for_workers<T: Minimum>(
 ) -> Result<(), Refusal>
     requires { 1 ≤ workers }
     ensures more { OnOk result (sent.new.items ≡ sent.old.items
-        ++ bundles_along T.below edge.now workers (part_by_key columns workers emission.now.updates)) }
+        ++ bundles_along T.below edge.now workers
+        (part_by_key columns workers emission.now.updates)) }
     ensures refused { IfErr result (λ refusal. refusal ≡ OutOfMemory) }
 {
     let alloc = *sent.allocator();

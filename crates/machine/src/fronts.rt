@@ -1,23 +1,21 @@
 //! Frontiers, found on a board from scratch: from what is in flight, what is held and what the inputs leave open, at a node
 //! or above it, on every worker. Nothing is kept between two questions but the plan's graph, which never changes. So nothing
 //! can be out of date.
-ghost use Rattle.std.specs.Prelude.{List, ◌≡◌, ◌<◌, ◌++◌, ◌&&◌, not, eqb, if◌then◌else◌, [], ◌∷◌, IfErr, IfOk, OnOk, length};
+ghost use Rattle.std.specs.Prelude.{List, ◌≡◌, ◌<◌, ◌++◌, ◌&&◌, not, eqb, if◌then◌else◌, [], IfErr, IfOk, OnOk, length};
 ghost use Rattle.std.specs.List.{flat_map, list_any};
 ghost use Rattle.lattice.specs.Frontiers.{is_beyond};
 ghost use Rattle.antichain.specs.Antichains.{SameElements, least};
 ghost use Rattle.update.specs.declared.refusal.Refusal.TheVariants.{OutOfMemory};
 ghost use Rattle.plan.specs.Ancestors.{is_above, numbers_below};
 ghost use Rattle.plan.specs.Changes.{has_passed};
-ghost use Rattle.machine.specs.Worlds.{held_at};
-ghost use Rattle.machine.specs.Outstanding.{stamps, held_where, open_where, outstanding, frontier, input_frontier, strictly_above};
+ghost use Rattle.machine.specs.Dataflows.{above};
+ghost use Rattle.machine.specs.Outstanding.{stamps, held_where, open_where, outstanding, strictly_above};
 ghost use Rattle.machine.specs.declared.event.Event.{Event};
-ghost use Rattle.machine.specs.Histories.{world};
-ghost use Rattle.machine.specs.Boards.{left_on, plan_on, Stands};
-ghost use Rattle.machine.specs.Boards.{IsBoard};
+ghost use Rattle.machine.specs.Boards.{IsBoard, Stands, frontier_on, input_frontier_on, held_on};
 ghost use Rattle.machine.specs.Loads.{all_bundles, all_held, stamps_at, times_at};
 ghost use Rattle.machine.specs.Stations.{lots};
 ghost use Rattle.machine.specs.Inputs.{front_at};
-ghost use Rattle.machine.specs.Reads.{on_board, open_on, front, input_front, is_ready};
+ghost use Rattle.machine.specs.Reads.{open_on, front, input_front, is_ready};
 
 use crate::board::Board;
 use crate::graph::Graph;
@@ -32,7 +30,9 @@ use update::Refusal;
 // Whether the stamp of a bundle at the node or above it is at or before a time.
 fn are_in_flight<T: Minimum>(plan: &Graph, stations: &Stations<T>, node: NodeId, t: &T) -> bool
     requires { node < length plan.now }
-    ensures { result ≡ list_any (λ n. is_above plan.now n node && is_beyond T.below (stamps_at (lots stations.now) n) t.now) (numbers_below (length plan.now)) }
+    ensures { result ≡ list_any (λ n.
+        is_above plan.now n node && is_beyond T.below (stamps_at (lots stations.now) n) t.now)
+        (numbers_below (length plan.now)) }
 {
     for n in 0..plan.len() {
         let above = NodeId::new(n);
@@ -46,7 +46,9 @@ fn are_in_flight<T: Minimum>(plan: &Graph, stations: &Stations<T>, node: NodeId,
 // Whether a time at or before this one is held at the node or above it.
 fn are_held<T: Minimum>(plan: &Graph, stations: &Stations<T>, node: NodeId, t: &T) -> bool
     requires { node < length plan.now }
-    ensures { result ≡ list_any (λ n. is_above plan.now n node && is_beyond T.below (times_at (lots stations.now) n) t.now) (numbers_below (length plan.now)) }
+    ensures { result ≡ list_any (λ n.
+        is_above plan.now n node && is_beyond T.below (times_at (lots stations.now) n) t.now)
+        (numbers_below (length plan.now)) }
 {
     for n in 0..plan.len() {
         let above = NodeId::new(n);
@@ -60,7 +62,10 @@ fn are_held<T: Minimum>(plan: &Graph, stations: &Stations<T>, node: NodeId, t: &
 // The same above the node alone.
 fn are_held_above<T: Minimum>(plan: &Graph, stations: &Stations<T>, node: NodeId, t: &T) -> bool
     requires { node < length plan.now }
-    ensures { result ≡ list_any (λ n. (is_above plan.now n node && not (eqb n node)) && is_beyond T.below (times_at (lots stations.now) n) t.now) (numbers_below (length plan.now)) }
+    ensures { result ≡ list_any (λ n.
+        (is_above plan.now n node && not (eqb n node))
+        && is_beyond T.below (times_at (lots stations.now) n) t.now)
+        (numbers_below (length plan.now)) }
 {
     for n in 0..plan.len() {
         let above = NodeId::new(n);
@@ -83,7 +88,9 @@ fn is_strictly_above(plan: &Graph, above: NodeId, node: NodeId) -> bool
 fn are_open<T: Minimum>(plan: &Graph, inputs: &InputFrontiers<T>, node: NodeId, t: &T) -> bool
     requires node { node < length plan.now }
     requires inputs { length inputs.now ≡ length plan.now }
-    ensures { result ≡ list_any (λ i. is_above plan.now i node && is_beyond T.below (front_at i inputs.now) t.now) (numbers_below (length plan.now)) }
+    ensures { result ≡ list_any (λ i.
+        is_above plan.now i node && is_beyond T.below (front_at i inputs.now) t.now)
+        (numbers_below (length plan.now)) }
 {
     for n in 0..plan.len() {
         let input = NodeId::new(n);
@@ -102,7 +109,9 @@ fn push_in_flight<T: Minimum>(
     node: NodeId,
 ) -> Result<(), Refusal>
     requires { node < length plan.now }
-    ensures more { OnOk result (all.new.items ≡ all.old.items ++ flat_map (λ n. if is_above plan.now n node then stamps_at (lots stations.now) n else []) (numbers_below (length plan.now))) }
+    ensures more { OnOk result (all.new.items ≡ all.old.items
+        ++ flat_map (λ n. if is_above plan.now n node then stamps_at (lots stations.now) n else [])
+        (numbers_below (length plan.now))) }
     ensures refused { IfErr result (λ refusal. refusal ≡ OutOfMemory) }
 {
     for n in 0..plan.len() {
@@ -122,7 +131,9 @@ fn push_held<T: Minimum>(
     node: NodeId,
 ) -> Result<(), Refusal>
     requires { node < length plan.now }
-    ensures more { OnOk result (all.new.items ≡ all.old.items ++ flat_map (λ n. if is_above plan.now n node then times_at (lots stations.now) n else []) (numbers_below (length plan.now))) }
+    ensures more { OnOk result (all.new.items ≡ all.old.items
+        ++ flat_map (λ n. if is_above plan.now n node then times_at (lots stations.now) n else [])
+        (numbers_below (length plan.now))) }
     ensures refused { IfErr result (λ refusal. refusal ≡ OutOfMemory) }
 {
     for n in 0..plan.len() {
@@ -142,7 +153,10 @@ fn push_held_above<T: Minimum>(
     node: NodeId,
 ) -> Result<(), Refusal>
     requires { node < length plan.now }
-    ensures more { OnOk result (all.new.items ≡ all.old.items ++ flat_map (λ n. if is_above plan.now n node && not (eqb n node) then times_at (lots stations.now) n else []) (numbers_below (length plan.now))) }
+    ensures more { OnOk result (all.new.items ≡ all.old.items
+        ++ flat_map (λ n.
+        if is_above plan.now n node && not (eqb n node) then times_at (lots stations.now) n else [])
+        (numbers_below (length plan.now))) }
     ensures refused { IfErr result (λ refusal. refusal ≡ OutOfMemory) }
 {
     for n in 0..plan.len() {
@@ -163,7 +177,9 @@ fn push_open<T: Minimum>(
 ) -> Result<(), Refusal>
     requires node { node < length plan.now }
     requires inputs { length inputs.now ≡ length plan.now }
-    ensures more { OnOk result (all.new.items ≡ all.old.items ++ flat_map (λ i. if is_above plan.now i node then front_at i inputs.now else []) (numbers_below (length plan.now))) }
+    ensures more { OnOk result (all.new.items ≡ all.old.items
+        ++ flat_map (λ i. if is_above plan.now i node then front_at i inputs.now else [])
+        (numbers_below (length plan.now))) }
     ensures refused { IfErr result (λ refusal. refusal ≡ OutOfMemory) }
 {
     for n in 0..plan.len() {
@@ -178,7 +194,8 @@ fn push_open<T: Minimum>(
 // The least of the times.
 fn least_of<T: Minimum>(alloc: Global, times: Vec<T>) -> Result<Antichain<T>, Refusal>
     ensures least { IfOk result (λ frontier. SameElements frontier (least T.below times.items)) }
-    ensures beyond { IfOk result (λ frontier. (t : T) → is_beyond T.below frontier t ≡ is_beyond T.below times.items t) }
+    ensures beyond { IfOk result (λ frontier. (t : T)
+        → is_beyond T.below frontier t ≡ is_beyond T.below times.items t) }
     ensures refused { IfErr result (λ refusal. refusal ≡ OutOfMemory) }
 {
     let frontier = Antichain::least_of(alloc, times.as_slice())?;
@@ -194,7 +211,8 @@ impl<T: Minimum> Board<T> {
         requires { node < length self.old.dataflow.nodes }
         ensures kept { self.new ≡ self.old }
         ensures value { result ≡ has_passed T.below (front T.below self.old node) t.now }
-        ensures stands { (h : List (Event T)) → Stands T.below T.least self.old h → result ≡ has_passed T.below (frontier T.below (plan_on self.old h) (left_on T.below T.least self.old h) node) t.now }
+        ensures stands { (h : List (Event T)) → Stands T.below T.least self.old h
+            → result ≡ has_passed T.below (frontier_on T.below T.least self.old h node) t.now }
     {
         self.is_passed(node, t)
     }
@@ -203,7 +221,8 @@ impl<T: Minimum> Board<T> {
     pub(crate) fn is_passed(&self, node: NodeId, t: &T) -> bool
         requires { node < length self.now.dataflow.nodes }
         ensures value { result ≡ has_passed T.below (front T.below self.now node) t.now }
-        ensures stands { (h : List (Event T)) → Stands T.below T.least self.now h → result ≡ has_passed T.below (frontier T.below (plan_on self.now h) (left_on T.below T.least self.now h) node) t.now }
+        ensures stands { (h : List (Event T)) → Stands T.below T.least self.now h
+            → result ≡ has_passed T.below (frontier_on T.below T.least self.now h node) t.now }
     {
         !(self.is_in_flight(node, t) | self.is_held(node, t) | self.is_open(node, t))
     }
@@ -216,7 +235,9 @@ impl<T: Minimum> Board<T> {
         requires { node < length self.old.dataflow.nodes }
         ensures kept { self.new ≡ self.old }
         ensures value { result ≡ has_passed T.below (input_front T.below self.old node) t.now }
-        ensures stands { (h : List (Event T)) → Stands T.below T.least self.old h → result ≡ has_passed T.below (input_frontier T.below (plan_on self.old h) (left_on T.below T.least self.old h) node) t.now }
+        ensures stands { (h : List (Event T)) → Stands T.below T.least self.old h
+            → result
+            ≡ has_passed T.below (input_frontier_on T.below T.least self.old h node) t.now }
     {
         self.is_input_passed(node, t)
     }
@@ -225,7 +246,9 @@ impl<T: Minimum> Board<T> {
     pub(crate) fn is_input_passed(&self, node: NodeId, t: &T) -> bool
         requires { node < length self.now.dataflow.nodes }
         ensures value { result ≡ has_passed T.below (input_front T.below self.now node) t.now }
-        ensures stands { (h : List (Event T)) → Stands T.below T.least self.now h → result ≡ has_passed T.below (input_frontier T.below (plan_on self.now h) (left_on T.below T.least self.now h) node) t.now }
+        ensures stands { (h : List (Event T)) → Stands T.below T.least self.now h
+            → result
+            ≡ has_passed T.below (input_frontier_on T.below T.least self.now h node) t.now }
     {
         !(self.is_in_flight(node, t) | self.is_held_above(node, t) | self.is_open(node, t))
     }
@@ -233,7 +256,9 @@ impl<T: Minimum> Board<T> {
     // Whether the stamp of a bundle at the node or above it is at or before a time.
     fn is_in_flight(&self, node: NodeId, t: &T) -> bool
         requires { node < length self.now.dataflow.nodes }
-        ensures { result ≡ list_any (λ b. is_above self.now.dataflow.nodes b.place.node node && is_beyond T.below b.stamp t.now) (all_bundles self.now.stations) }
+        ensures { result ≡ list_any (λ b.
+            above self.now.dataflow node b.place.node && is_beyond T.below b.stamp t.now)
+            (all_bundles self.now.stations) }
     {
         are_in_flight(&self.plan, &self.stations, node, t)
     }
@@ -241,7 +266,9 @@ impl<T: Minimum> Board<T> {
     // Whether a time at or before this one is held at the node or above it.
     fn is_held(&self, node: NodeId, t: &T) -> bool
         requires { node < length self.now.dataflow.nodes }
-        ensures { result ≡ list_any (λ m. is_above self.now.dataflow.nodes m.node node && T.below m.time t.now) (all_held self.now.stations) }
+        ensures { result ≡ list_any (λ m.
+            above self.now.dataflow node m.node && T.below m.time t.now)
+            (all_held self.now.stations) }
     {
         are_held(&self.plan, &self.stations, node, t)
     }
@@ -249,7 +276,9 @@ impl<T: Minimum> Board<T> {
     // The same above the node alone.
     fn is_held_above(&self, node: NodeId, t: &T) -> bool
         requires { node < length self.now.dataflow.nodes }
-        ensures { result ≡ list_any (λ m. (is_above self.now.dataflow.nodes m.node node && not (eqb m.node node)) && T.below m.time t.now) (all_held self.now.stations) }
+        ensures { result ≡ list_any (λ m.
+            strictly_above self.now.dataflow node m.node && T.below m.time t.now)
+            (all_held self.now.stations) }
     {
         are_held_above(&self.plan, &self.stations, node, t)
     }
@@ -257,7 +286,8 @@ impl<T: Minimum> Board<T> {
     // Whether an input at the node or above it is open at or before a time.
     fn is_open(&self, node: NodeId, t: &T) -> bool
         requires { node < length self.now.dataflow.nodes }
-        ensures any { result ≡ list_any (λ o. is_above self.now.dataflow.nodes o.input node && T.below o.time t.now) (open_on self.now) }
+        ensures any { result ≡ list_any (λ o.
+            above self.now.dataflow node o.input && T.below o.time t.now) (open_on self.now) }
         ensures board { IsBoard self.now }
     {
         are_open(&self.plan, &self.inputs, node, t)
@@ -270,9 +300,13 @@ impl<T: Minimum> Board<T> {
     pub fn frontier(&mut self, node: NodeId) -> Result<Antichain<T>, Refusal>
         requires { node < length self.old.dataflow.nodes }
         ensures kept { self.new ≡ self.old }
-        ensures least { IfOk result (λ frontier. SameElements frontier (front T.below self.old node)) }
-        ensures beyond { IfOk result (λ frontier. (t : T) → is_beyond T.below frontier t ≡ is_beyond T.below (front T.below self.old node) t) }
-        ensures stands { (h : List (Event T)) → Stands T.below T.least self.old h → IfOk result (λ found. SameElements found (frontier T.below (plan_on self.old h) (left_on T.below T.least self.old h) node)) }
+        ensures least { IfOk result (λ found.
+            SameElements found (front T.below self.old node)) }
+        ensures beyond { IfOk result (λ found. (t : T)
+            → is_beyond T.below found t ≡ is_beyond T.below (front T.below self.old node) t) }
+        ensures stands { (h : List (Event T)) → Stands T.below T.least self.old h
+            → IfOk result (λ found.
+            SameElements found (frontier_on T.below T.least self.old h node)) }
         ensures refused { IfErr result (λ refusal. refusal ≡ OutOfMemory) }
     {
         self.front_of(node)
@@ -281,9 +315,13 @@ impl<T: Minimum> Board<T> {
     // The same, for other questions.
     pub(crate) fn front_of(&self, node: NodeId) -> Result<Antichain<T>, Refusal>
         requires { node < length self.now.dataflow.nodes }
-        ensures least { IfOk result (λ frontier. SameElements frontier (front T.below self.now node)) }
-        ensures beyond { IfOk result (λ frontier. (t : T) → is_beyond T.below frontier t ≡ is_beyond T.below (front T.below self.now node) t) }
-        ensures stands { (h : List (Event T)) → Stands T.below T.least self.now h → IfOk result (λ found. SameElements found (frontier T.below (plan_on self.now h) (left_on T.below T.least self.now h) node)) }
+        ensures least { IfOk result (λ found.
+            SameElements found (front T.below self.now node)) }
+        ensures beyond { IfOk result (λ found. (t : T)
+            → is_beyond T.below found t ≡ is_beyond T.below (front T.below self.now node) t) }
+        ensures stands { (h : List (Event T)) → Stands T.below T.least self.now h
+            → IfOk result (λ found.
+            SameElements found (frontier_on T.below T.least self.now h node)) }
         ensures refused { IfErr result (λ refusal. refusal ≡ OutOfMemory) }
     {
         let times = self.outstanding(node)?;
@@ -297,9 +335,13 @@ impl<T: Minimum> Board<T> {
     pub fn input_frontier(&mut self, node: NodeId) -> Result<Antichain<T>, Refusal>
         requires { node < length self.old.dataflow.nodes }
         ensures kept { self.new ≡ self.old }
-        ensures least { IfOk result (λ frontier. SameElements frontier (input_front T.below self.old node)) }
-        ensures beyond { IfOk result (λ frontier. (t : T) → is_beyond T.below frontier t ≡ is_beyond T.below (input_front T.below self.old node) t) }
-        ensures stands { (h : List (Event T)) → Stands T.below T.least self.old h → IfOk result (λ found. SameElements found (input_frontier T.below (plan_on self.old h) (left_on T.below T.least self.old h) node)) }
+        ensures least { IfOk result (λ found.
+            SameElements found (input_front T.below self.old node)) }
+        ensures beyond { IfOk result (λ found. (t : T)
+            → is_beyond T.below found t ≡ is_beyond T.below (input_front T.below self.old node) t) }
+        ensures stands { (h : List (Event T)) → Stands T.below T.least self.old h
+            → IfOk result (λ found.
+            SameElements found (input_frontier_on T.below T.least self.old h node)) }
         ensures refused { IfErr result (λ refusal. refusal ≡ OutOfMemory) }
     {
         self.input_front_of(node)
@@ -308,9 +350,13 @@ impl<T: Minimum> Board<T> {
     // The same, where the board is only lent.
     fn input_front_of(&self, node: NodeId) -> Result<Antichain<T>, Refusal>
         requires { node < length self.now.dataflow.nodes }
-        ensures least { IfOk result (λ frontier. SameElements frontier (input_front T.below self.now node)) }
-        ensures beyond { IfOk result (λ frontier. (t : T) → is_beyond T.below frontier t ≡ is_beyond T.below (input_front T.below self.now node) t) }
-        ensures stands { (h : List (Event T)) → Stands T.below T.least self.now h → IfOk result (λ found. SameElements found (input_frontier T.below (plan_on self.now h) (left_on T.below T.least self.now h) node)) }
+        ensures least { IfOk result (λ found.
+            SameElements found (input_front T.below self.now node)) }
+        ensures beyond { IfOk result (λ found. (t : T)
+            → is_beyond T.below found t ≡ is_beyond T.below (input_front T.below self.now node) t) }
+        ensures stands { (h : List (Event T)) → Stands T.below T.least self.now h
+            → IfOk result (λ found.
+            SameElements found (input_frontier_on T.below T.least self.now h node)) }
         ensures refused { IfErr result (λ refusal. refusal ≡ OutOfMemory) }
     {
         let times = self.outstanding_above(node)?;
@@ -320,8 +366,10 @@ impl<T: Minimum> Board<T> {
     // All times that are in flight, held or open at the node or above it.
     pub(crate) fn outstanding(&self, node: NodeId) -> Result<Vec<T>, Refusal>
         requires { node < length self.now.dataflow.nodes }
-        ensures times { IfOk result (λ all. all.items ≡ (stamps (λ site. is_above self.now.dataflow.nodes site.node node) (all_bundles self.now.stations)
-            ++ held_where (λ m. is_above self.now.dataflow.nodes m node) (all_held self.now.stations)) ++ open_where (λ m. is_above self.now.dataflow.nodes m node) (open_on self.now)) }
+        ensures times { IfOk result (λ all. all.items
+            ≡ (stamps (λ s. above self.now.dataflow node s.node) (all_bundles self.now.stations)
+            ++ held_where (above self.now.dataflow node) (all_held self.now.stations))
+            ++ open_where (above self.now.dataflow node) (open_on self.now)) }
         ensures refused { IfErr result (λ refusal. refusal ≡ OutOfMemory) }
         ensures board { IsBoard self.now }
     {
@@ -335,8 +383,10 @@ impl<T: Minimum> Board<T> {
     // The same times, but those that are held at the node itself.
     fn outstanding_above(&self, node: NodeId) -> Result<Vec<T>, Refusal>
         requires { node < length self.now.dataflow.nodes }
-        ensures times { IfOk result (λ all. all.items ≡ (stamps (λ site. is_above self.now.dataflow.nodes site.node node) (all_bundles self.now.stations)
-            ++ held_where (strictly_above self.now.dataflow node) (all_held self.now.stations)) ++ open_where (λ m. is_above self.now.dataflow.nodes m node) (open_on self.now)) }
+        ensures times { IfOk result (λ all. all.items
+            ≡ (stamps (λ s. above self.now.dataflow node s.node) (all_bundles self.now.stations)
+            ++ held_where (strictly_above self.now.dataflow node) (all_held self.now.stations))
+            ++ open_where (above self.now.dataflow node) (open_on self.now)) }
         ensures refused { IfErr result (λ refusal. refusal ≡ OutOfMemory) }
         ensures board { IsBoard self.now }
     {
@@ -356,7 +406,9 @@ impl<T: Minimum> Board<T> {
         ensures kept { self.new ≡ self.old }
         ensures value { result ≡ is_ready T.below self.old worker node }
         ensures stands { (h : List (Event T)) → Stands T.below T.least self.old h
-            → result ≡ list_any (has_passed T.below (input_frontier T.below (plan_on self.old h) (left_on T.below T.least self.old h) node)) (held_at node worker (left_on T.below T.least self.old h).held) }
+            → result ≡ list_any
+            (has_passed T.below (input_frontier_on T.below T.least self.old h node))
+            (held_on T.below T.least self.old h node worker) }
     {
         self.holds_passed(worker, node)
     }
@@ -373,7 +425,8 @@ impl<T: Minimum> Board<T> {
     // Whether one of these times is passed at the node.
     fn any_ready(&self, node: NodeId, held: &[T]) -> bool
         requires { node < length self.now.dataflow.nodes }
-        ensures { result ≡ list_any (has_passed T.below (input_front T.below self.now node)) held.now }
+        ensures { result
+            ≡ list_any (has_passed T.below (input_front T.below self.now node)) held.now }
     {
         for t in held {
             if self.is_input_passed(node, t) {

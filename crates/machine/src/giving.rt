@@ -1,11 +1,9 @@
 //! What a worker computed is given: it goes on to the next nodes, and what a view gets is captured.
-ghost use Rattle.std.specs.Prelude.{◌≡◌, ◌<◌, ◌++◌, List, [], ◌∷◌, Some, None, if◌then◌else◌, IfErr, IfOk, OnErr, OnOk, length, get_or, set, take};
+ghost use Rattle.std.specs.Prelude.{◌≡◌, ◌<◌, List, ◌∷◌, None, if◌then◌else◌, IfErr, OnErr, OnOk, length};
 ghost use Rattle.std.specs.List.{All};
-ghost use Rattle.update.specs.declared.refusal.Refusal.TheVariants.{OutOfMemory};
 ghost use Rattle.machine.specs.declared.event.Event.{Event};
-ghost use Rattle.machine.specs.Histories.{world, IsGive};
 ghost use Rattle.machine.specs.Stations.{lots, HasRoom};
-ghost use Rattle.machine.specs.Boards.{left_on, plan_on, Shown, IsBoard, Stands, looked, giving, given, captured_at, capturing, no_view};
+ghost use Rattle.machine.specs.Boards.{Shown, IsBoard, IsGiveOn, Stands, looked, giving, given, capturing_at};
 
 use crate::board::Board;
 use crate::event::{Bundle, Bundles, Emission, remembered_give};
@@ -48,10 +46,11 @@ impl<T: Minimum> Board<T> {
         requires worker { emission.worker < self.old.dataflow.workers }
         requires within { emission.node < length self.old.dataflow.nodes }
         ensures given { OnOk result (self.new ≡ given emission held sent self.old) }
-        ensures returned { IfErr result (λ r. r ≡ record { emission = emission; held = held; sent = sent }) }
+        ensures returned { IfErr result (λ r.
+            r ≡ record { emission = emission; held = held; sent = sent }) }
         ensures unchanged { OnErr result (self.new ≡ looked emission.worker self.old) }
         ensures stands { (h : List (Event T)) → Stands T.below T.least self.old h
-            → IsGive T.below (plan_on self.old h) (left_on T.below T.least self.old h) emission held sent
+            → IsGiveOn T.below T.least self.old h emission held sent
             → Stands T.below T.least self.new (self.new.last ∷ h) }
     {
         self.give_or_look(emission, held, sent)
@@ -67,7 +66,8 @@ impl<T: Minimum> Board<T> {
         requires worker { emission.worker < self.old.dataflow.workers }
         requires within { emission.node < length self.old.dataflow.nodes }
         ensures given { OnOk result (self.new ≡ given emission held sent self.old) }
-        ensures returned { IfErr result (λ r. r ≡ record { emission = emission; held = held; sent = sent }) }
+        ensures returned { IfErr result (λ r.
+            r ≡ record { emission = emission; held = held; sent = sent }) }
         ensures unchanged { OnErr result (self.new ≡ looked emission.worker self.old) }
         ensures board { OnOk result (IsBoard self.old) }
     {
@@ -95,7 +95,8 @@ impl<T: Minimum> Board<T> {
         requires worker { emission.worker < self.old.dataflow.workers }
         requires within { emission.node < length self.old.dataflow.nodes }
         ensures given { OnOk result (self.new ≡ giving emission held sent self.old) }
-        ensures returned { IfErr result (λ r. r ≡ record { emission = emission; held = held; sent = sent }) }
+        ensures returned { IfErr result (λ r.
+            r ≡ record { emission = emission; held = held; sent = sent }) }
         ensures unchanged { OnErr result (self.new ≡ self.old) }
         ensures board { IsBoard self.old }
     {
@@ -133,7 +134,9 @@ fn prepare<T: Minimum>(
     requires { emission.old.node < length views.old.items }
     ensures stations { lots stations.new ≡ lots stations.old }
     ensures room { OnOk result (All (λ b. HasRoom (length sent.now) stations.new b.place) sent.now) }
-    ensures captured { OnOk result (views.new.items ≡ (if is_view then set views.old.items emission.old.node (capturing (get_or views.old.items emission.old.node no_view) emission.old.updates) else views.old.items)) }
+    ensures captured { OnOk result (views.new.items ≡ (if is_view
+        then capturing_at emission.old.node emission.old.updates views.old.items
+        else views.old.items)) }
     ensures len { length views.new.items ≡ length views.old.items }
     ensures node { emission.new.node ≡ emission.old.node }
     ensures worker { emission.new.worker ≡ emission.old.worker }
@@ -151,7 +154,9 @@ fn capture<T: Minimum>(
     emission: &mut Emission<T>,
 ) -> Result<(), Refusal>
     requires { emission.old.node < length views.old.items }
-    ensures captured { OnOk result (views.new.items ≡ (if is_view then set views.old.items emission.old.node (capturing (get_or views.old.items emission.old.node no_view) emission.old.updates) else views.old.items)) }
+    ensures captured { OnOk result (views.new.items ≡ (if is_view
+        then capturing_at emission.old.node emission.old.updates views.old.items
+        else views.old.items)) }
     ensures len { length views.new.items ≡ length views.old.items }
     ensures node { emission.new.node ≡ emission.old.node }
     ensures worker { emission.new.worker ≡ emission.old.worker }

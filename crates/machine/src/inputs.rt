@@ -7,6 +7,7 @@ ghost use Rattle.std.specs.Prelude.{◌≡◌, ◌<◌, IfErr, IfOk, OnOk, OnErr
 ghost use Rattle.lattice.specs.Frontiers.{is_beyond};
 ghost use Rattle.update.specs.declared.refusal.Refusal.TheVariants.{OutOfMemory};
 ghost use Rattle.plan.specs.Rules.{first_refusal};
+ghost use Rattle.machine.specs.Worlds.{change_to};
 ghost use Rattle.machine.specs.Inputs.{front_at, first_inputs, feed_faults, advance_faults};
 
 use crate::lists::Times;
@@ -93,7 +94,8 @@ impl<T: Minimum> InputFrontiers<T> {
     ) -> Option<Refusal>
         requires within { input < length self.now }
         requires node { input < length plan.now }
-        ensures { result ≡ first_refusal (feed_faults T.below plan.now (front_at input self.now) taken (record { input = input; update = update.now })) }
+        ensures { result ≡ first_refusal (feed_faults T.below plan.now (front_at input self.now)
+            taken (change_to input update.now)) }
     {
         if update.row.width() != plan.width(input) {
             Some(Refusal::WrongWidth)
@@ -117,8 +119,10 @@ impl<T: Minimum> InputFrontiers<T> {
     pub fn advance(&mut self, input: NodeId, times: Times<T>) -> Result<(), Refusal>
         requires { input < length self.old }
         ensures moved { OnOk result (self.new ≡ set self.old input times) }
-        ensures accepted { OnOk result (first_refusal (advance_faults T.below (front_at input self.old) times) ≡ None) }
-        ensures refused { IfErr result (λ refusal. first_refusal (advance_faults T.below (front_at input self.old) times) ≡ Some refusal) }
+        ensures accepted { OnOk result
+            (first_refusal (advance_faults T.below (front_at input self.old) times) ≡ None) }
+        ensures refused { IfErr result (λ refusal.
+            first_refusal (advance_faults T.below (front_at input self.old) times) ≡ Some refusal) }
         ensures unchanged { OnErr result (self.new ≡ self.old) }
     {
         if !all_beyond(self.of(input), times.as_slice()) {

@@ -40,7 +40,10 @@ impl<T> Model for Queue<T> {
 
     ghost Value = { Queued T };
 
-    ghost view = { λ q. record { loads = map load_of q.parcels.items; room = deque_capacity q.parcels - deque_len q.parcels } };
+    ghost view = { λ q. record {
+      loads = map load_of q.parcels.items;
+      room = deque_capacity q.parcels - deque_len q.parcels;
+    } };
 }
 
 impl<T: Minimum> Queue<T> {
@@ -102,7 +105,8 @@ impl<T: Minimum> Queue<T> {
         held: &mut Vec<T>,
     ) -> Result<(Updates<T>, Times<T>), Refusal>
         requires { number < length self.old.loads }
-        ensures load { IfOk result (λ load. slice_get self.old.loads number ≡ Some (record { updates = load.0; stamp = load.1 })) }
+        ensures load { IfOk result (λ load. slice_get self.old.loads number
+            ≡ Some (record { updates = load.0; stamp = load.1 })) }
         ensures rest { OnOk result (self.new.loads ≡ remove self.old.loads number) }
         ensures held { IfOk result (λ load. held.new.items ≡ held.old.items ++ load.1) }
         ensures refused { IfErr result (λ refusal. refusal ≡ OutOfMemory) }
@@ -136,7 +140,8 @@ impl<T: Minimum> Queue<T> {
     ///
     /// Cost: linear in the elements of the stamps.
     pub(crate) fn push_stamps(&self, all: &mut Vec<T>) -> Result<(), Refusal>
-        ensures more { OnOk result (all.new.items ≡ all.old.items ++ flat_map (λ load. load.stamp) self.now.loads) }
+        ensures more { OnOk result (all.new.items
+            ≡ all.old.items ++ flat_map (λ load. load.stamp) self.now.loads) }
         ensures refused { IfErr result (λ refusal. refusal ≡ OutOfMemory) }
     {
         for number in 0..self.parcels.len() {
@@ -149,7 +154,8 @@ impl<T: Minimum> Queue<T> {
 impl<T: Minimum> Parcel<T> {
     // A change in two lists of its own, as a worker would send it.
     fn sent_alone(alloc: Global, update: &Update<T>) -> Result<Parcel<T>, Refusal>
-        ensures sent { IfOk result (λ parcel. parcel ≡ Sent (update.now ∷ []) (update.now.time ∷ [])) }
+        ensures sent { IfOk result (λ parcel.
+            parcel ≡ Sent (update.now ∷ []) (update.now.time ∷ [])) }
         ensures refused { IfErr result (λ refusal. refusal ≡ OutOfMemory) }
     {
         let mut updates = Vec::with_capacity(alloc, 1)?;
@@ -161,7 +167,8 @@ impl<T: Minimum> Parcel<T> {
 
     // Puts a change into lists of its own, where it waits. What a worker sent stays as it is.
     fn unpack(&mut self, alloc: Global) -> Result<(), Refusal>
-        ensures sent { OnOk result ((updates : List (Update T)) × ((stamp : List T) × (self.new ≡ Sent updates stamp))) }
+        ensures sent { OnOk result ((updates : List (Update T)) × ((stamp : List T)
+            × (self.new ≡ Sent updates stamp))) }
         ensures unchanged { load_of self.new ≡ load_of self.old }
         ensures refused { IfErr result (λ refusal. refusal ≡ OutOfMemory) }
     {

@@ -1,24 +1,22 @@
 //! What a client reads on a board: a view's frontier is found in `fronts`; here are its rows at a time, its changes, and
 //! whether the board is quiet. Each is a function of what lies on the board at one moment, so that rows and frontier are of
 //! one history; and each says what it is of whatever history that is.
-ghost use Rattle.std.specs.Prelude.{◌≡◌, ◌<◌, ◌↔◌, ◌⊎◌, ◌&&◌, Bool, None, not, List, [], IfErr, IfOk, OnOk, IsTrue, length, nat_lt};
+ghost use Rattle.std.specs.Prelude.{◌≡◌, ◌<◌, ◌↔◌, ◌&&◌, None, not, List, [], IfErr, IfOk, OnOk, IsTrue, length};
 ghost use Rattle.std.specs.List.{filter, list_all};
 ghost use Rattle.lattice.specs.Frontiers.{is_beyond};
-ghost use Rattle.update.specs.Bags.{Alike, IsBag, HasLargeCount};
+ghost use Rattle.update.specs.Bags.{Alike, IsBag};
 ghost use Rattle.update.specs.Updates.{as_of, IsConsolidated, HasLargeTotal};
 ghost use Rattle.update.specs.declared.refusal.Refusal.TheVariants.{OutOfMemory, Overflow};
-ghost use Rattle.plan.specs.Changes.{has_passed, query_at, AreDifferences};
+ghost use Rattle.plan.specs.Changes.{has_passed, AreDifferences};
 ghost use Rattle.plan.specs.Rules.{is_output};
 ghost use Rattle.machine.specs.declared.event.Event.{Event};
 ghost use Rattle.machine.specs.Dataflows.{IsDataflow, node_of};
-ghost use Rattle.machine.specs.Outstanding.{frontier, with_times};
-ghost use Rattle.machine.specs.Histories.{world};
-ghost use Rattle.machine.specs.Promises.{changes_in};
-ghost use Rattle.machine.specs.Readings.{IsQuiet};
-ghost use Rattle.machine.specs.Boards.{left_on, plan_on, Stands, IsBoard, is_from_start};
+ghost use Rattle.machine.specs.Outstanding.{with_times};
+ghost use Rattle.machine.specs.Views.{IsMemoryOrOverflow, IsSumRefusal};
+ghost use Rattle.machine.specs.Boards.{plan_on, frontier_on, changes_on, query_on, IsQuietOn, Stands, IsBoard, is_from_start};
 ghost use Rattle.plan.specs.Ancestors.{numbers_below};
-ghost use Rattle.machine.specs.Loads.{all_held, lot_of};
-ghost use Rattle.machine.specs.Reads.{front, input_front, captured_of, since_of, is_free, is_quiet_board, read_refusal, changes_refusal, IsRefusalOr};
+ghost use Rattle.machine.specs.Loads.{lot_of};
+ghost use Rattle.machine.specs.Reads.{front, input_front, captured_of, passed_captured, since_of, is_free, all_wait, is_quiet_board, read_refusal, changes_refusal, IsReadRefusal, IsChangesRefusal};
 
 use crate::board::Board;
 use crate::workers::insert;
@@ -53,7 +51,8 @@ fn passed_by<T: Minimum>(
     updates: &[Update<T>],
     times: &[T],
 ) -> Result<Vec<Update<T>>, Refusal>
-    ensures passed { IfOk result (λ passed. passed.items ≡ filter (λ u. not (is_beyond T.below times.now u.time)) updates.now) }
+    ensures passed { IfOk result (λ passed. passed.items
+        ≡ filter (λ u. not (is_beyond T.below times.now u.time)) updates.now) }
     ensures refused { IfErr result (λ refusal. refusal ≡ OutOfMemory) }
 {
     let mut passed = Vec::new(alloc);
@@ -113,11 +112,11 @@ impl<T: Minimum> Board<T> {
         requires view { IsTrue (is_output (node_of self.old.dataflow view)) }
         ensures kept { self.new ≡ self.old }
         ensures accepted { OnOk result (read_refusal T.below self.old view t ≡ None) }
-        ensures refused { IfErr result (IsRefusalOr (HasLargeCount (as_of T.below t (captured_of self.old view))) (read_refusal T.below self.old view t)) }
+        ensures refused { IfErr result (IsReadRefusal T.below self.old view t) }
         ensures bag { IfOk result IsBag }
         ensures sum { IfOk result (λ bag. Alike bag (as_of T.below t (captured_of self.old view))) }
         ensures query { (h : List (Event T)) → Stands T.below T.least self.old h
-            → IfOk result (λ bag. Alike bag (query_at T.below (plan_on self.old h).nodes (changes_in (left_on T.below T.least self.old h)) view t)) }
+            → IfOk result (λ bag. Alike bag (query_on T.below T.least self.old h view t)) }
     {
         self.read_captured(view, t)
     }
@@ -127,7 +126,7 @@ impl<T: Minimum> Board<T> {
         requires within { view < length self.old.dataflow.nodes }
         ensures kept { self.new ≡ self.old }
         ensures accepted { OnOk result (read_refusal T.below self.old view t ≡ None) }
-        ensures refused { IfErr result (IsRefusalOr (HasLargeCount (as_of T.below t (captured_of self.old view))) (read_refusal T.below self.old view t)) }
+        ensures refused { IfErr result (IsReadRefusal T.below self.old view t) }
         ensures bag { IfOk result IsBag }
         ensures sum { IfOk result (λ bag. Alike bag (as_of T.below t (captured_of self.old view))) }
         ensures board { IsBoard self.old }
@@ -143,7 +142,7 @@ impl<T: Minimum> Board<T> {
     fn captured_at(&mut self, view: NodeId, t: T) -> Result<Bag, Refusal>
         requires within { view < length self.old.dataflow.nodes }
         ensures kept { self.new ≡ self.old }
-        ensures refused { IfErr result (λ refusal. (refusal ≡ OutOfMemory) ⊎ ((refusal ≡ Overflow) × HasLargeCount (as_of T.below t (captured_of self.old view)))) }
+        ensures refused { IfErr result (IsSumRefusal T.below (captured_of self.old view) t) }
         ensures bag { IfOk result IsBag }
         ensures sum { IfOk result (λ bag. Alike bag (as_of T.below t (captured_of self.old view))) }
     {
@@ -178,9 +177,11 @@ impl<T: Minimum> Board<T> {
         requires view { IsTrue (is_output (node_of self.old.dataflow view)) }
         ensures kept { self.new ≡ self.old }
         ensures accepted { OnOk result (changes_refusal T.below T.least self.old view ≡ None) }
-        ensures refused { IfErr result (IsRefusalOr (HasLargeTotal T.below (filter (λ u. has_passed T.below (front T.below self.old view) u.time) (captured_of self.old view))) (changes_refusal T.below T.least self.old view)) }
+        ensures refused { IfErr result (IsChangesRefusal T.below T.least self.old view) }
         ensures differences { (h : List (Event T)) → Stands T.below T.least self.old h
-            → IfOk result (λ us. AreDifferences T.below T.cmp (plan_on self.old h).nodes (changes_in (left_on T.below T.least self.old h)) (frontier T.below (plan_on self.old h) (left_on T.below T.least self.old h) view) view us.items) }
+            → IfOk result (λ us. AreDifferences T.below T.cmp (plan_on self.old h).nodes
+            (changes_on T.below T.least self.old h) (frontier_on T.below T.least self.old h view)
+            view us.items) }
     {
         self.passed_changes(view)
     }
@@ -189,10 +190,13 @@ impl<T: Minimum> Board<T> {
     fn passed_changes(&self, view: NodeId) -> Result<Vec<Update<T>>, Refusal>
         requires within { view < length self.now.dataflow.nodes }
         ensures accepted { OnOk result (changes_refusal T.below T.least self.now view ≡ None) }
-        ensures refused { IfErr result (IsRefusalOr (HasLargeTotal T.below (filter (λ u. has_passed T.below (front T.below self.now view) u.time) (captured_of self.now view))) (changes_refusal T.below T.least self.now view)) }
+        ensures refused { IfErr result (IsChangesRefusal T.below T.least self.now view) }
         ensures consolidated { IfOk result (λ us. IsConsolidated T.cmp us.items) }
-        ensures passed { IfOk result (λ us. IsTrue (list_all (λ u. has_passed T.below (front T.below self.now view) u.time) us.items)) }
-        ensures sums { IfOk result (λ us. (t : T) → IsTrue (has_passed T.below (front T.below self.now view) t) → Alike (as_of T.below t us.items) (as_of T.below t (captured_of self.now view))) }
+        ensures passed { IfOk result (λ us. IsTrue (list_all
+            (λ u. has_passed T.below (front T.below self.now view) u.time) us.items)) }
+        ensures sums { IfOk result (λ us. (t : T)
+            → IsTrue (has_passed T.below (front T.below self.now view) t)
+            → Alike (as_of T.below t us.items) (as_of T.below t (captured_of self.now view))) }
         ensures board { IsBoard self.now }
     {
         let _count = self.workers();
@@ -217,10 +221,14 @@ impl<T: Minimum> Board<T> {
     // The changes of a view, where nothing refuses them.
     fn consolidated_changes(&self, view: NodeId) -> Result<Vec<Update<T>>, Refusal>
         requires within { view < length self.now.dataflow.nodes }
-        ensures refused { IfErr result (λ refusal. (refusal ≡ OutOfMemory) ⊎ ((refusal ≡ Overflow) × HasLargeTotal T.below (filter (λ u. has_passed T.below (front T.below self.now view) u.time) (captured_of self.now view)))) }
+        ensures refused { IfErr result
+            (IsMemoryOrOverflow (HasLargeTotal T.below (passed_captured T.below self.now view))) }
         ensures consolidated { IfOk result (λ us. IsConsolidated T.cmp us.items) }
-        ensures passed { IfOk result (λ us. IsTrue (list_all (λ u. has_passed T.below (front T.below self.now view) u.time) us.items)) }
-        ensures sums { IfOk result (λ us. (t : T) → IsTrue (has_passed T.below (front T.below self.now view) t) → Alike (as_of T.below t us.items) (as_of T.below t (captured_of self.now view))) }
+        ensures passed { IfOk result (λ us. IsTrue (list_all
+            (λ u. has_passed T.below (front T.below self.now view) u.time) us.items)) }
+        ensures sums { IfOk result (λ us. (t : T)
+            → IsTrue (has_passed T.below (front T.below self.now view) t)
+            → Alike (as_of T.below t us.items) (as_of T.below t (captured_of self.now view))) }
     {
         let passed = self.passed_captured(view)?;
         consolidate(passed)
@@ -229,7 +237,8 @@ impl<T: Minimum> Board<T> {
     // Copies of what a view captured at times that its frontier has passed.
     fn passed_captured(&self, view: NodeId) -> Result<Vec<Update<T>>, Refusal>
         requires within { view < length self.now.dataflow.nodes }
-        ensures passed { IfOk result (λ passed. passed.items ≡ filter (λ u. has_passed T.below (front T.below self.now view) u.time) (captured_of self.now view)) }
+        ensures passed { IfOk result (λ passed.
+            passed.items ≡ passed_captured T.below self.now view) }
         ensures refused { IfErr result (λ refusal. refusal ≡ OutOfMemory) }
     {
         let times = self.outstanding(view)?;
@@ -240,7 +249,8 @@ impl<T: Minimum> Board<T> {
     // Copies of what a view captured that are at or after none of the times.
     fn captured_passed_by(&self, view: NodeId, times: Vec<T>) -> Result<Vec<Update<T>>, Refusal>
         requires within { view < length self.now.dataflow.nodes }
-        ensures passed { IfOk result (λ passed. passed.items ≡ filter (λ u. not (is_beyond T.below times.items u.time)) (captured_of self.now view)) }
+        ensures passed { IfOk result (λ passed. passed.items ≡ filter (λ u.
+            not (is_beyond T.below times.items u.time)) (captured_of self.now view)) }
         ensures refused { IfErr result (λ refusal. refusal ≡ OutOfMemory) }
     {
         passed_by(
@@ -258,7 +268,7 @@ impl<T: Minimum> Board<T> {
         ensures kept { self.new ≡ self.old }
         ensures value { result ≡ is_quiet_board T.below self.old }
         ensures quiet { (h : List (Event T)) → Stands T.below T.least self.old h
-            → (IsTrue result ↔ IsQuiet T.below (plan_on self.old h) (left_on T.below T.least self.old h)) }
+            → (IsTrue result ↔ IsQuietOn T.below T.least self.old h) }
     {
         self.rests()
     }
@@ -273,7 +283,7 @@ impl<T: Minimum> Board<T> {
 
     // Whether each time that is held waits for what may still come to its node.
     fn all_wait(&self) -> bool
-        ensures { result ≡ list_all (λ m. nat_lt m.node (length self.now.dataflow.nodes) && is_beyond T.below (input_front T.below self.now m.node) m.time) (all_held self.now.stations) }
+        ensures { result ≡ all_wait T.below self.now }
     {
         for n in 0..self.plan.len() {
             if !self.all_wait_at(NodeId::new(n)) {
@@ -286,7 +296,9 @@ impl<T: Minimum> Board<T> {
     // Whether each time that is held at a node does.
     fn all_wait_at(&self, node: NodeId) -> bool
         requires { node < length self.now.dataflow.nodes }
-        ensures { result ≡ list_all (λ k. list_all (is_beyond T.below (input_front T.below self.now node)) (lot_of self.now.stations node k).held) (numbers_below self.now.dataflow.workers) }
+        ensures { result ≡ list_all (λ k.
+            list_all (is_beyond T.below (input_front T.below self.now node))
+            (lot_of self.now.stations node k).held) (numbers_below self.now.dataflow.workers) }
     {
         for worker in 0..self.workers {
             if !self.are_waiting(node, self.stations.held(node, worker)) {
@@ -299,7 +311,8 @@ impl<T: Minimum> Board<T> {
     // Whether something may still come to the node at or before each of these times.
     fn are_waiting(&self, node: NodeId, held: &[T]) -> bool
         requires { node < length self.now.dataflow.nodes }
-        ensures { result ≡ list_all (is_beyond T.below (input_front T.below self.now node)) held.now }
+        ensures { result
+            ≡ list_all (is_beyond T.below (input_front T.below self.now node)) held.now }
     {
         for t in held {
             if self.is_input_passed(node, t) {

@@ -68,7 +68,8 @@ impl Model for Routing {
     ghost view = { λ r. record { nodes = r.plan.value; workers = r.workers } };
 
     ghost invariant = { λ r.
-        IsRouting (record { nodes = r.plan.value; workers = r.workers }) r.edges.items r.arranged.items };
+        IsRouting (record { nodes = r.plan.value; workers = r.workers })
+        r.edges.items r.arranged.items };
 }
 
 impl Routing {
@@ -77,7 +78,8 @@ impl Routing {
     /// Cost: the square of the nodes, of which a plan has 256 at most.
     pub fn of(alloc: Global, plan: &Plan, workers: usize) -> Result<Routing, Refusal>
         requires { 1 ≤ workers }
-        ensures routing { IfOk result (λ routing. routing ≡ record { nodes = plan.now; workers = workers }) }
+        ensures routing { IfOk result (λ routing.
+            routing ≡ record { nodes = plan.now; workers = workers }) }
         ensures refused { IfErr result (λ refusal. refusal ≡ OutOfMemory) }
     {
         let edges = edges_of(alloc, plan)?;
@@ -105,10 +107,15 @@ impl Routing {
     ) -> Result<Bundles<T>, Refusal>
         requires { emission.now.worker < self.now.workers }
         ensures cut { IfOk result (λ sent. sent ≡ cut T.below self.now emission.now) }
-        ensures whole { IfOk result (λ sent. (site : Site) → updates_at site sent ≡ share self.now site emission.now) }
-        ensures filled { IfOk result (λ sent. IsTrue (list_all (λ b. not (eqb (length b.updates) 0)) sent)) }
-        ensures stamped { IfOk result (λ sent. (held : List T) → IsTrue (all_beyond T.below held (times emission.now.updates))
-            → IsTrue (list_all (λ b. all_beyond T.below held b.stamp && all_beyond T.below b.stamp (times b.updates)) sent)) }
+        ensures whole { IfOk result (λ sent. (site : Site)
+            → updates_at site sent ≡ share self.now site emission.now) }
+        ensures filled { IfOk result (λ sent.
+            IsTrue (list_all (λ b. not (eqb (length b.updates) 0)) sent)) }
+        ensures stamped { IfOk result (λ sent. (held : List T)
+            → IsTrue (all_beyond T.below held (times emission.now.updates))
+            → IsTrue (list_all (λ b.
+            all_beyond T.below held b.stamp && all_beyond T.below b.stamp (times b.updates))
+            sent)) }
         ensures refused { IfErr result (λ refusal. refusal ≡ OutOfMemory) }
     {
         let _edges = &self.edges;

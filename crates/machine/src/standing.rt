@@ -1,7 +1,6 @@
 //! What holds of a board. A crate above calls this, and has the theorems of whatever history the board stands for.
 ghost use Rattle.std.specs.Prelude.{ℕ, List};
 ghost use Rattle.machine.specs.declared.event.Event.{Event};
-ghost use Rattle.machine.specs.Histories.{world};
 ghost use Rattle.machine.specs.Promises.{MeetsQuery};
 ghost use Rattle.machine.specs.Readings.{ReadsQuery};
 ghost use Rattle.machine.specs.Boards.{left_on, plan_on, Stands};
@@ -13,7 +12,8 @@ use lattice::Minimum;
 /// passed; and so is any reading of a view, at the times that are passed and that its readers still hold. Costs nothing.
 pub fn meets<T: Minimum>(board: &Board<T>)
     ensures headline { (h : List (Event T)) → Stands T.below T.least board.now h
-        → (n : ℕ) → MeetsQuery T.below (plan_on board.now h) (left_on T.below T.least board.now h) n }
+        → (n : ℕ)
+        → MeetsQuery T.below (plan_on board.now h) (left_on T.below T.least board.now h) n }
     ensures reading { (h : List (Event T)) → Stands T.below T.least board.now h
         → ReadsQuery T.below (plan_on board.now h) (left_on T.below T.least board.now h) }
 {

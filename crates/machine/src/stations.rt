@@ -2,11 +2,11 @@
 //! holds there.
 //!
 //! A place is found by its numbers, so that what happens at it costs the same however much waits anywhere else.
-ghost use Rattle.std.specs.Prelude.{◌≡◌, ◌<◌, ℕ, suc, Some, IfErr, IfOk, IfSome, OnErr, OnOk, length, slice_get, get_or, set, map, replicate};
+ghost use Rattle.std.specs.Prelude.{◌≡◌, ◌<◌, ℕ, suc, Some, IfErr, IfOk, IfSome, OnErr, OnOk, length, slice_get, map, replicate};
 ghost use Rattle.std.specs.List.{All};
 ghost use Rattle.update.specs.declared.refusal.Refusal.TheVariants.{OutOfMemory};
 ghost use Rattle.machine.specs.declared.event.Site.{Site};
-ghost use Rattle.machine.specs.Loads.{load_of, no_lot, loads_at, more_at, less_at, first_stations, put_at, put_all, taken_from, held_from, queue_of};
+ghost use Rattle.machine.specs.Loads.{load_of, no_lot, loads_at, more_at, less_at, lot_in, at_worker, first_stations, put_at, put_all, taken_from, held_from, queue_of};
 ghost use Rattle.machine.specs.Stations.{lot, lots, has_room, HasRoom};
 
 use crate::event::{Bundle, Site};
@@ -96,8 +96,10 @@ impl<T: Minimum> Station<T> {
     // The load of a number leaves its port, and the worker holds its stamp.
     fn take(&mut self, port: usize, number: usize) -> Result<(Updates<T>, Times<T>), Refusal>
         requires { number < length (loads_at port (lot self.old)) }
-        ensures load { IfOk result (λ load. slice_get (loads_at port (lot self.old)) number ≡ Some (record { updates = load.0; stamp = load.1 })) }
-        ensures taken { IfOk result (λ load. lot self.new ≡ less_at port number load.1 (lot self.old)) }
+        ensures load { IfOk result (λ load. slice_get (loads_at port (lot self.old)) number
+            ≡ Some (record { updates = load.0; stamp = load.1 })) }
+        ensures taken { IfOk result (λ load.
+            lot self.new ≡ less_at port number load.1 (lot self.old)) }
         ensures refused { IfErr result (λ refusal. refusal ≡ OutOfMemory) }
         ensures unchanged { OnErr result (lot self.new ≡ lot self.old) }
     {
@@ -131,7 +133,8 @@ impl<T: Minimum> Row<T> {
 
     // A load waits at a worker's port from now on, behind the others; it is dropped if there is no such worker.
     fn put(&mut self, worker: usize, port: usize, parcel: Parcel<T>) -> Result<(), Refusal>
-        ensures put { OnOk result (map lot self.new ≡ set (map lot self.old) worker (more_at port (load_of parcel) (get_or (map lot self.old) worker no_lot))) }
+        ensures put { OnOk result (map lot self.new
+            ≡ at_worker worker (more_at port (load_of parcel)) (map lot self.old)) }
         ensures refused { IfErr result (λ refusal. refusal ≡ OutOfMemory) }
         ensures unchanged { OnErr result (map lot self.new ≡ map lot self.old) }
     {
@@ -158,7 +161,8 @@ impl<T: Minimum> Row<T> {
     // port loses room for one load at most.
     fn put_reserved(&mut self, worker: usize, port: usize, parcel: Parcel<T>)
         requires { IfSome (slice_get self.old worker) (has_room port 1) }
-        ensures put { map lot self.new ≡ set (map lot self.old) worker (more_at port (load_of parcel) (get_or (map lot self.old) worker no_lot)) }
+        ensures put { map lot self.new
+            ≡ at_worker worker (more_at port (load_of parcel)) (map lot self.old) }
         ensures room { (k p n : ℕ) → IfSome (slice_get self.old k) (has_room p (suc n)) → IfSome (slice_get self.new k) (has_room p n) }
     {
         if worker < self.by_worker.len() {
@@ -173,9 +177,12 @@ impl<T: Minimum> Row<T> {
         port: usize,
         number: usize,
     ) -> Result<(Updates<T>, Times<T>), Refusal>
-        requires { number < length (loads_at port (get_or (map lot self.old) worker no_lot)) }
-        ensures load { IfOk result (λ load. slice_get (loads_at port (get_or (map lot self.old) worker no_lot)) number ≡ Some (record { updates = load.0; stamp = load.1 })) }
-        ensures taken { IfOk result (λ load. map lot self.new ≡ set (map lot self.old) worker (less_at port number load.1 (get_or (map lot self.old) worker no_lot))) }
+        requires { number < length (loads_at port (lot_in (map lot self.old) worker)) }
+        ensures load { IfOk result (λ load.
+            slice_get (loads_at port (lot_in (map lot self.old) worker)) number
+            ≡ Some (record { updates = load.0; stamp = load.1 })) }
+        ensures taken { IfOk result (λ load. map lot self.new
+            ≡ at_worker worker (less_at port number load.1) (map lot self.old)) }
         ensures refused { IfErr result (λ refusal. refusal ≡ OutOfMemory) }
         ensures unchanged { OnErr result (map lot self.new ≡ map lot self.old) }
     {
@@ -184,7 +191,8 @@ impl<T: Minimum> Row<T> {
 
     // A worker holds these times from now on, and no other; nothing changes if there is no such worker.
     fn hold(&mut self, worker: usize, times: Times<T>)
-        ensures { map lot self.new ≡ set (map lot self.old) worker (record (get_or (map lot self.old) worker no_lot) { held = times }) }
+        ensures { map lot self.new
+            ≡ at_worker worker (λ l. record l { held = times }) (map lot self.old) }
     {
         if worker < self.by_worker.len() {
             self.by_worker[worker].hold(times);
@@ -227,7 +235,8 @@ impl<T: Minimum> Stations<T> {
     ///
     /// Cost: constant, but for the queue's growth now and then.
     pub(crate) fn put(&mut self, site: &Site, parcel: Parcel<T>) -> Result<(), Refusal>
-        ensures put { OnOk result (lots self.new ≡ put_at site.now (load_of parcel) (lots self.old)) }
+        ensures put { OnOk result
+            (lots self.new ≡ put_at site.now (load_of parcel) (lots self.old)) }
         ensures refused { IfErr result (λ refusal. refusal ≡ OutOfMemory) }
         ensures unchanged { OnErr result (lots self.new ≡ lots self.old) }
     {
@@ -302,9 +311,11 @@ impl<T: Minimum> Stations<T> {
     /// Cost: linear in the stamp, and in the number or in what waits behind it where that is less.
     pub(crate) fn take(&mut self, site: &Site, number: usize) -> Result<Bundle<T>, Refusal>
         requires { number < length (queue_of (lots self.old) site.now) }
-        ensures waited { IfOk result (λ bundle. slice_get (queue_of (lots self.old) site.now) number ≡ Some bundle) }
+        ensures waited { IfOk result (λ bundle.
+            slice_get (queue_of (lots self.old) site.now) number ≡ Some bundle) }
         ensures place { IfOk result (λ bundle. bundle.place ≡ site.now) }
-        ensures taken { IfOk result (λ bundle. lots self.new ≡ taken_from number bundle (lots self.old)) }
+        ensures taken { IfOk result (λ bundle.
+            lots self.new ≡ taken_from number bundle (lots self.old)) }
         ensures refused { IfErr result (λ refusal. refusal ≡ OutOfMemory) }
         ensures unchanged { OnErr result (lots self.new ≡ lots self.old) }
     {

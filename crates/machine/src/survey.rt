@@ -91,8 +91,10 @@ impl<T: Minimum> Stations<T> {
 
     /// The first port of a node at which something waits for a worker. Takes no memory.
     pub(crate) fn port_waiting(&self, node: NodeId, worker: usize) -> Option<usize>
-        ensures waits { IfSome result (λ port. 0 < length (queue_of (lots self.now) (place node port worker))) }
-        ensures none { result ≡ None → (port : ℕ) → queue_of (lots self.now) (place node port worker) ≡ [] }
+        ensures waits { IfSome result (λ port.
+            0 < length (queue_of (lots self.now) (place node port worker))) }
+        ensures none { result ≡ None → (port : ℕ)
+            → queue_of (lots self.now) (place node port worker) ≡ [] }
     {
         for port in 0..2 {
             if self.waiting(&Site { node, port, worker }) > 0 {
@@ -148,7 +150,8 @@ impl<T: Minimum> Stations<T> {
     ///
     /// Cost: linear in the workers and in the stamps.
     pub(crate) fn push_stamps(&self, all: &mut Vec<T>, node: NodeId) -> Result<(), Refusal>
-        ensures more { OnOk result (all.new.items ≡ all.old.items ++ stamps_at (lots self.now) node) }
+        ensures more { OnOk result
+            (all.new.items ≡ all.old.items ++ stamps_at (lots self.now) node) }
         ensures refused { IfErr result (λ refusal. refusal ≡ OutOfMemory) }
     {
         let row = self.row(node);
@@ -162,7 +165,8 @@ impl<T: Minimum> Stations<T> {
     ///
     /// Cost: linear in the workers and in the times.
     pub(crate) fn push_held(&self, all: &mut Vec<T>, node: NodeId) -> Result<(), Refusal>
-        ensures more { OnOk result (all.new.items ≡ all.old.items ++ times_at (lots self.now) node) }
+        ensures more { OnOk result
+            (all.new.items ≡ all.old.items ++ times_at (lots self.now) node) }
         ensures refused { IfErr result (λ refusal. refusal ≡ OutOfMemory) }
     {
         let row = self.row(node);

@@ -5,12 +5,12 @@
 //! that are not at or before the time. A read at a time at or after that one looks at those positions and at what was
 //! captured since, and adds what is now at or before its time to the bag. So one read after each change costs what the
 //! bag is long, however much was captured. A read at any other time sums anew. Each read becomes the last one.
-ghost use Rattle.std.specs.Prelude.{◌≡◌, ◌≤◌, ◌<◌, ◌++◌, ◌⊎◌, List, [], IfErr, IfOk, OnErr, OnOk, IsTrue, length, drop};
+ghost use Rattle.std.specs.Prelude.{◌≡◌, ◌≤◌, ◌<◌, ◌++◌, List, [], IfErr, IfOk, OnErr, OnOk, IsTrue, length, drop};
 ghost use Rattle.std.specs.List.{All, filter, flat_map};
-ghost use Rattle.update.specs.Bags.{Alike, IsBag, HasLargeCount};
+ghost use Rattle.update.specs.Bags.{Alike, IsBag};
 ghost use Rattle.update.specs.Updates.{as_of};
 ghost use Rattle.update.specs.declared.refusal.Refusal.TheVariants.{OutOfMemory, Overflow};
-ghost use Rattle.machine.specs.Views.{update_at, is_later_at, later_below, IsReadOf};
+ghost use Rattle.machine.specs.Views.{update_at, is_later_at, later_below, IsReadOf, IsSumRefusal};
 
 use crate::lists::{Times, Updates};
 use lattice::Minimum;
@@ -46,7 +46,8 @@ impl<T: Minimum> Model for View<T> {
 
     ghost view = { λ v. record { since = v.since; captured = v.captured } };
 
-    ghost invariant = { λ v. IfSome v.last (λ r. IsReadOf T.below v.captured r.time r.bag r.known r.later.items) };
+    ghost invariant = { λ v. IfSome v.last (λ r.
+        IsReadOf T.below v.captured r.time r.bag r.known r.later.items) };
 }
 
 impl<T: Minimum> View<T> {
@@ -77,7 +78,8 @@ impl<T: Minimum> View<T> {
 
     /// Captures all of these updates. Refused only with `OutOfMemory`, and then nothing changed.
     pub(crate) fn append(&mut self, more: &mut Updates<T>) -> Result<(), Refusal>
-        ensures more { OnOk result (self.new ≡ record self.old { captured = self.old.captured ++ more.old }) }
+        ensures more { OnOk result
+            (self.new ≡ record self.old { captured = self.old.captured ++ more.old }) }
         ensures refused { IfErr result (λ refusal. refusal ≡ OutOfMemory) }
         ensures unchanged { OnErr result (self.new ≡ self.old) }
         ensures kept { OnErr result (more.new ≡ more.old) }
@@ -95,7 +97,7 @@ impl<T: Minimum> View<T> {
         ensures kept { self.new ≡ self.old }
         ensures bag { IfOk result IsBag }
         ensures sum { IfOk result (λ bag. Alike bag (as_of T.below t self.old.captured)) }
-        ensures refused { IfErr result (λ refusal. (refusal ≡ OutOfMemory) ⊎ ((refusal ≡ Overflow) × HasLargeCount (as_of T.below t self.old.captured))) }
+        ensures refused { IfErr result (IsSumRefusal T.below self.old.captured t) }
     {
         let read = self.read_at(alloc, t)?;
         let bag = read.bag.clone()?;
@@ -105,10 +107,11 @@ impl<T: Minimum> View<T> {
 
     // A read of all that was captured, from the last read where that is at or before the time.
     fn read_at(&self, alloc: Global, t: T) -> Result<LastRead<T>, Refusal>
-        ensures read { IfOk result (λ r. IsReadOf T.below self.now.captured r.time r.bag r.known r.later.items) }
+        ensures read { IfOk result (λ r.
+            IsReadOf T.below self.now.captured r.time r.bag r.known r.later.items) }
         ensures bag { IfOk result (λ r. IsBag r.bag) }
         ensures sum { IfOk result (λ r. Alike r.bag (as_of T.below t self.now.captured)) }
-        ensures refused { IfErr result (λ refusal. (refusal ≡ OutOfMemory) ⊎ ((refusal ≡ Overflow) × HasLargeCount (as_of T.below t self.now.captured))) }
+        ensures refused { IfErr result (IsSumRefusal T.below self.now.captured t) }
     {
         let captured = self.captured.as_slice();
         match &self.last {
@@ -124,10 +127,11 @@ fn read_anew<T: Minimum>(
     captured: &[Update<T>],
     t: T,
 ) -> Result<LastRead<T>, Refusal>
-    ensures read { IfOk result (λ r. IsReadOf T.below captured.now r.time r.bag r.known r.later.items) }
+    ensures read { IfOk result (λ r.
+        IsReadOf T.below captured.now r.time r.bag r.known r.later.items) }
     ensures bag { IfOk result (λ r. IsBag r.bag) }
     ensures sum { IfOk result (λ r. Alike r.bag (as_of T.below t captured.now)) }
-    ensures refused { IfErr result (λ refusal. (refusal ≡ OutOfMemory) ⊎ ((refusal ≡ Overflow) × HasLargeCount (as_of T.below t captured.now))) }
+    ensures refused { IfErr result (IsSumRefusal T.below captured.now t) }
 {
     let bag = sum_at(alloc, captured, t)?;
     let mut later = Vec::new(alloc);
@@ -147,12 +151,14 @@ fn read_on<T: Minimum>(
     last: &LastRead<T>,
     t: T,
 ) -> Result<LastRead<T>, Refusal>
-    requires last { IsReadOf T.below captured.now last.now.time last.now.bag last.now.known last.now.later.items }
+    requires last { IsReadOf T.below captured.now
+        last.now.time last.now.bag last.now.known last.now.later.items }
     requires onward { IsTrue (T.below last.now.time t) }
-    ensures read { IfOk result (λ r. IsReadOf T.below captured.now r.time r.bag r.known r.later.items) }
+    ensures read { IfOk result (λ r.
+        IsReadOf T.below captured.now r.time r.bag r.known r.later.items) }
     ensures bag { IfOk result (λ r. IsBag r.bag) }
     ensures sum { IfOk result (λ r. Alike r.bag (as_of T.below t captured.now)) }
-    ensures refused { IfErr result (λ refusal. (refusal ≡ OutOfMemory) ⊎ ((refusal ≡ Overflow) × HasLargeCount (as_of T.below t captured.now))) }
+    ensures refused { IfErr result (IsSumRefusal T.below captured.now t) }
 {
     let arrived = arrived_since(alloc, captured, last, &t)?;
     let later = later_since(alloc, captured, last, &t)?;
@@ -172,8 +178,11 @@ fn arrived_since<T: Minimum>(
     last: &LastRead<T>,
     t: &T,
 ) -> Result<Vec<Update<T>>, Refusal>
-    requires { IsReadOf T.below captured.now last.now.time last.now.bag last.now.known last.now.later.items }
-    ensures arrived { IfOk result (λ arrived. arrived.items ≡ flat_map (λ k. filter (λ u. T.below u.time t.now) (update_at captured.now k)) last.now.later.items
+    requires { IsReadOf T.below captured.now
+        last.now.time last.now.bag last.now.known last.now.later.items }
+    ensures arrived { IfOk result (λ arrived. arrived.items
+        ≡ flat_map (λ k. filter (λ u. T.below u.time t.now) (update_at captured.now k))
+        last.now.later.items
         ++ filter (λ u. T.below u.time t.now) (drop last.now.known captured.now)) }
     ensures refused { IfErr result (λ refusal. refusal ≡ OutOfMemory) }
 {
@@ -189,9 +198,11 @@ fn later_since<T: Minimum>(
     last: &LastRead<T>,
     t: &T,
 ) -> Result<Vec<usize>, Refusal>
-    requires last { IsReadOf T.below captured.now last.now.time last.now.bag last.now.known last.now.later.items }
+    requires last { IsReadOf T.below captured.now
+        last.now.time last.now.bag last.now.known last.now.later.items }
     requires onward { IsTrue (T.below last.now.time t.now) }
-    ensures later { IfOk result (λ later. later.items ≡ later_below T.below t.now captured.now (length captured.now)) }
+    ensures later { IfOk result (λ later. later.items
+        ≡ later_below T.below t.now captured.now (length captured.now)) }
     ensures refused { IfErr result (λ refusal. refusal ≡ OutOfMemory) }
 {
     let mut later = still_later(alloc, captured, &last.later, t)?;
@@ -207,7 +218,9 @@ fn arrived_at<T: Minimum>(
     t: &T,
 ) -> Result<Vec<Update<T>>, Refusal>
     requires { All (λ k. k < length captured.now) positions.now }
-    ensures arrived { IfOk result (λ arrived. arrived.items ≡ flat_map (λ k. filter (λ u. T.below u.time t.now) (update_at captured.now k)) positions.now) }
+    ensures arrived { IfOk result (λ arrived. arrived.items
+        ≡ flat_map (λ k. filter (λ u. T.below u.time t.now) (update_at captured.now k))
+        positions.now) }
     ensures refused { IfErr result (λ refusal. refusal ≡ OutOfMemory) }
 {
     let mut arrived = Vec::new(alloc);
@@ -226,7 +239,8 @@ fn push_arrived<T: Minimum>(
     updates: &[Update<T>],
     t: &T,
 ) -> Result<(), Refusal>
-    ensures more { OnOk result (arrived.new.items ≡ arrived.old.items ++ filter (λ u. T.below u.time t.now) updates.now) }
+    ensures more { OnOk result (arrived.new.items ≡ arrived.old.items
+        ++ filter (λ u. T.below u.time t.now) updates.now) }
     ensures refused { IfErr result (λ refusal. refusal ≡ OutOfMemory) }
 {
     for update in updates {
@@ -245,7 +259,8 @@ fn still_later<T: Minimum>(
     t: &T,
 ) -> Result<Vec<usize>, Refusal>
     requires { All (λ k. k < length captured.now) positions.now }
-    ensures later { IfOk result (λ later. later.items ≡ filter (is_later_at T.below t.now captured.now) positions.now) }
+    ensures later { IfOk result (λ later. later.items
+        ≡ filter (is_later_at T.below t.now captured.now) positions.now) }
     ensures refused { IfErr result (λ refusal. refusal ≡ OutOfMemory) }
 {
     let mut later = Vec::new(alloc);
@@ -267,7 +282,8 @@ fn push_later<T: Minimum>(
 ) -> Result<(), Refusal>
     requires within { known ≤ length captured.now }
     requires before { later.old.items ≡ later_below T.below t.now captured.now known }
-    ensures later { OnOk result (later.new.items ≡ later_below T.below t.now captured.now (length captured.now)) }
+    ensures later { OnOk result (later.new.items
+        ≡ later_below T.below t.now captured.now (length captured.now)) }
     ensures refused { IfErr result (λ refusal. refusal ≡ OutOfMemory) }
 {
     for position in known..captured.len() {

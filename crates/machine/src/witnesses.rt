@@ -9,7 +9,7 @@ ghost use Rattle.plan.specs.Rules.{IsPlan};
 ghost use Rattle.plan.specs.Weights.{weight_by};
 ghost use Rattle.machine.specs.declared.event.Event.TheVariants.{Allow, Give};
 ghost use Rattle.machine.specs.Dataflows.{IsDataflow};
-ghost use Rattle.machine.specs.Worlds.{place};
+ghost use Rattle.machine.specs.Worlds.{place, change_to};
 ghost use Rattle.machine.specs.Shares.{home};
 ghost use Rattle.machine.specs.Outstanding.{stamp};
 ghost use Rattle.machine.specs.Histories.{IsAllowed, IsLegal, world};
@@ -40,23 +40,38 @@ pub fn definitions_fit_examples()
     ensures plans { IsPlan joining × IsPlan doubling × IsPlan linear_row }
     ensures distinct { IsAllowed at_or_below listing came_twice
         (Give (given_at_node 2 (seven_comes 0 3 ∷ seven_comes 3 0 ∷ seven_goes 3 3 ∷ [])) []
-        (cut at_or_below listing (given_at_node 2 (seven_comes 0 3 ∷ seven_comes 3 0 ∷ seven_goes 3 3 ∷ [])))) }
-    ensures cut_in_two { IsAllowed at_or_below copying (came_at_input (seven_comes 0 3 ∷ seven_comes 3 0 ∷ seven_goes 3 3 ∷ []))
+        (cut at_or_below listing
+        (given_at_node 2 (seven_comes 0 3 ∷ seven_comes 3 0 ∷ seven_goes 3 3 ∷ [])))) }
+    ensures cut_in_two { IsAllowed at_or_below copying
+        (came_at_input (seven_comes 0 3 ∷ seven_comes 3 0 ∷ seven_goes 3 3 ∷ []))
         (Give (given_at_node 0 (seven_comes 0 3 ∷ seven_comes 3 0 ∷ seven_goes 3 3 ∷ [])) []
-        (bundle_of (place 1 0 1) (seven_comes 0 3 ∷ seven_goes 3 3 ∷ []) ∷ bundle_of (place 1 0 1) (seven_comes 3 0 ∷ []) ∷ [])) }
-    ensures allow { IsLegal at_or_below (make_pair 0 0) counting (Allow 2 3 (make_pair 4 4 ∷ []) ∷ []) }
-    ensures allowed { (world at_or_below (make_pair 0 0) counting (Allow 2 3 (make_pair 4 4 ∷ []) ∷ [])).since 3 ≡ make_pair 4 4 ∷ [] }
-    ensures in_flight { HasFrontiers waits_at_count (make_pair 10 1 ∷ make_pair 0 2 ∷ []) (make_pair 10 1 ∷ make_pair 0 2 ∷ []) }
-    ensures held { HasFrontiers (held_at_count 10 1) (make_pair 0 2 ∷ []) (make_pair 10 1 ∷ make_pair 0 2 ∷ []) }
-    ensures gone { HasFrontiers (open_from (make_pair 0 2)) (make_pair 0 2 ∷ []) (make_pair 0 2 ∷ []) }
+        (bundle_of (place 1 0 1) (seven_comes 0 3 ∷ seven_goes 3 3 ∷ [])
+        ∷ bundle_of (place 1 0 1) (seven_comes 3 0 ∷ []) ∷ [])) }
+    ensures allow { IsLegal at_or_below (make_pair 0 0) counting
+        (Allow 2 3 (make_pair 4 4 ∷ []) ∷ []) }
+    ensures allowed { (world at_or_below (make_pair 0 0) counting
+        (Allow 2 3 (make_pair 4 4 ∷ []) ∷ [])).since 3 ≡ make_pair 4 4 ∷ [] }
+    ensures in_flight { HasFrontiers waits_at_count (make_pair 10 1 ∷ make_pair 0 2 ∷ [])
+        (make_pair 10 1 ∷ make_pair 0 2 ∷ []) }
+    ensures held { HasFrontiers (held_at_count 10 1) (make_pair 0 2 ∷ [])
+        (make_pair 10 1 ∷ make_pair 0 2 ∷ []) }
+    ensures gone { HasFrontiers (open_from (make_pair 0 2)) (make_pair 0 2 ∷ [])
+        (make_pair 0 2 ∷ []) }
     ensures quiet { IsQuiet at_or_below counting (held_at_count 10 3) }
-    ensures stamp { stamp at_or_below (seven_comes 0 3 ∷ seven_comes 3 3 ∷ seven_comes 3 0 ∷ []) ≡ make_pair 0 3 ∷ make_pair 3 0 ∷ [] }
-    ensures stamp_of_one { stamp at_or_below (seven_comes 10 1 ∷ seven_goes 10 1 ∷ []) ≡ make_pair 10 1 ∷ [] }
+    ensures stamp { stamp at_or_below (seven_comes 0 3 ∷ seven_comes 3 3 ∷ seven_comes 3 0 ∷ [])
+        ≡ make_pair 0 3 ∷ make_pair 3 0 ∷ [] }
+    ensures stamp_of_one { stamp at_or_below (seven_comes 10 1 ∷ seven_goes 10 1 ∷ [])
+        ≡ make_pair 10 1 ∷ [] }
     ensures home { home (record counting { workers = 4 })
-        (record { input = 0; update = record (seven_comes 10 1) { row = pos 5 ∷ negsuc 6 ∷ [] } }) ≡ place 0 0 2 }
+        (change_to 0 (record (seven_comes 10 1) { row = pos 5 ∷ negsuc 6 ∷ [] })) ≡ place 0 0 2 }
     ensures product { weight_by joining (λ n. 0) (λ input. 2147483647) 5 ≡ 4611686014132420609 }
-    ensures doubled { map (weight_by doubling (λ n. 0) (λ input. 1073741824)) (4 ∷ 6 ∷ []) ≡ 4611686018427387904 ∷ 9223372036854775808 ∷ [] }
-    ensures linear { map (weight_by linear_row (λ n. 0) (λ input. 4)) (0 ∷ 1 ∷ 2 ∷ 3 ∷ 4 ∷ []) ≡ 4 ∷ 4 ∷ 4 ∷ 4 ∷ 8 ∷ [] }
-    ensures from_start { map (is_from_start at_or_below (make_pair 0 0)) ((make_pair 0 0 ∷ []) ∷ (make_pair 0 0 ∷ make_pair 3 3 ∷ []) ∷ []) ≡ true ∷ true ∷ [] }
-    ensures given_up { map (is_from_start at_or_below (make_pair 0 0)) ([] ∷ (make_pair 4 4 ∷ []) ∷ (make_pair 0 3 ∷ make_pair 3 0 ∷ []) ∷ []) ≡ false ∷ false ∷ false ∷ [] }
+    ensures doubled { map (weight_by doubling (λ n. 0) (λ input. 1073741824)) (4 ∷ 6 ∷ [])
+        ≡ 4611686018427387904 ∷ 9223372036854775808 ∷ [] }
+    ensures linear { map (weight_by linear_row (λ n. 0) (λ input. 4)) (0 ∷ 1 ∷ 2 ∷ 3 ∷ 4 ∷ [])
+        ≡ 4 ∷ 4 ∷ 4 ∷ 4 ∷ 8 ∷ [] }
+    ensures from_start { map (is_from_start at_or_below (make_pair 0 0))
+        ((make_pair 0 0 ∷ []) ∷ (make_pair 0 0 ∷ make_pair 3 3 ∷ []) ∷ []) ≡ true ∷ true ∷ [] }
+    ensures given_up { map (is_from_start at_or_below (make_pair 0 0))
+        ([] ∷ (make_pair 4 4 ∷ []) ∷ (make_pair 0 3 ∷ make_pair 3 0 ∷ []) ∷ [])
+        ≡ false ∷ false ∷ false ∷ [] }
 {}

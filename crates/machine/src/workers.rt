@@ -1,6 +1,6 @@
 //! The events of workers: a worker with nothing in hand takes a bundle that waits for it, or turns to times that it holds.
-ghost use Rattle.std.specs.Prelude.{◌≡◌, ◌<◌, ◌≤◌, ◌++◌, List, [], ◌∷◌, Some, None, IfErr, IfOk, OnErr, OnOk, IsTrue, length, get_or, slice_get, set, map, not, ◌||◌};
-ghost use Rattle.std.specs.List.{filter, list_all, remove};
+ghost use Rattle.std.specs.Prelude.{◌≡◌, ◌<◌, List, ◌∷◌, Some, None, IfErr, IfOk, OnErr, OnOk, IsTrue, length, get_or, slice_get, set, not};
+ghost use Rattle.std.specs.List.{filter};
 ghost use Rattle.update.specs.declared.refusal.Refusal.TheVariants.{OutOfMemory};
 ghost use Rattle.plan.specs.Nodes.{arranged_by};
 ghost use Rattle.machine.specs.declared.event.Bundle.{Bundle};
@@ -84,12 +84,14 @@ impl<T: Minimum> Board<T> {
         requires free { get_or self.old.hand place.worker None ≡ None }
         requires waits { number < length (queue_of self.old.stations place) }
         requires turn { arranged_by (node_of self.old.dataflow place.node) ≡ None → number ≡ 0 }
-        ensures waited { IfOk result (λ bundle. slice_get (queue_of self.old.stations place) number ≡ Some bundle) }
+        ensures waited { IfOk result (λ bundle.
+            slice_get (queue_of self.old.stations place) number ≡ Some bundle) }
         ensures place { IfOk result (λ bundle. bundle.place ≡ place) }
         ensures taken { IfOk result (λ bundle. self.new ≡ taken number bundle self.old) }
         ensures refused { IfErr result (λ refusal. refusal ≡ OutOfMemory) }
         ensures unchanged { OnErr result (self.new ≡ looked place.worker self.old) }
-        ensures stands { (h : List (Event T)) → Stands T.below T.least self.old h → Stands T.below T.least self.new (self.new.last ∷ h) }
+        ensures stands { (h : List (Event T)) → Stands T.below T.least self.old h
+            → Stands T.below T.least self.new (self.new.last ∷ h) }
     {
         self.try_take(place, number)
     }
@@ -98,7 +100,8 @@ impl<T: Minimum> Board<T> {
     fn try_take(&mut self, place: Site, number: usize) -> Result<Bundle<T>, Refusal>
         requires worker { place.worker < self.old.dataflow.workers }
         requires waits { number < length (queue_of self.old.stations place) }
-        ensures waited { IfOk result (λ bundle. slice_get (queue_of self.old.stations place) number ≡ Some bundle) }
+        ensures waited { IfOk result (λ bundle.
+            slice_get (queue_of self.old.stations place) number ≡ Some bundle) }
         ensures place { IfOk result (λ bundle. bundle.place ≡ place) }
         ensures taken { IfOk result (λ bundle. self.new ≡ taken number bundle self.old) }
         ensures refused { IfErr result (λ refusal. refusal ≡ OutOfMemory) }
@@ -138,7 +141,8 @@ impl<T: Minimum> Board<T> {
         requires free { get_or self.old.hand worker None ≡ None }
         requires ready { IsTrue (is_ready T.below self.old worker node) }
         ensures turned { self.new ≡ turned worker node self.old }
-        ensures stands { (h : List (Event T)) → Stands T.below T.least self.old h → Stands T.below T.least self.new (self.new.last ∷ h) }
+        ensures stands { (h : List (Event T)) → Stands T.below T.least self.old h
+            → Stands T.below T.least self.new (self.new.last ∷ h) }
     {
         self.turn(worker, node);
     }

@@ -1,7 +1,7 @@
 use Rattle.std.proofs.Common.{◌<◌, [], map, length, arith}
-use Rattle.machine.specs.Loads.{Lot}
+use Rattle.machine.specs.Loads.{Lot, at_worker}
 use Rattle.machine.specs.Stations.{lot}
-use Rattle.machine.proofs.StationLemmas.{one_put, at_worker}
+use Rattle.machine.proofs.StationLemmas.{one_put}
 use Rattle.machine.proofs.stations.Stations.hold.Goals as goal
 
 pub returns-then-node-len : goal.returns-then-node-len

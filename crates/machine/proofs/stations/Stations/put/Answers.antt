@@ -1,8 +1,8 @@
 use Rattle.std.proofs.Common.{◌<◌, [], map, length, arith}
 use Rattle.std.proofs.lemmas.Result.{on_ok_weaker, on_err_weaker}
-use Rattle.machine.specs.Loads.{more_at, load_of}
+use Rattle.machine.specs.Loads.{more_at, load_of, at_worker}
 use Rattle.machine.specs.Stations.{lot}
-use Rattle.machine.proofs.StationLemmas.{one_put, none_put, at_worker}
+use Rattle.machine.proofs.StationLemmas.{one_put, none_put}
 use Rattle.machine.proofs.stations.Stations.put.Goals as goal
 
 pub returns-clause-put : goal.returns-clause-put

@@ -1,9 +1,9 @@
 use Rattle.std.proofs.Common.{suc, ◌<◌, [], map, length, slice_get, List, arith}
 use Rattle.std.specs.Option.{IfSome}
-use Rattle.machine.specs.Loads.{more_at, load_of}
+use Rattle.machine.specs.Loads.{more_at, load_of, at_worker}
 use Rattle.machine.specs.Stations.{lot, has_room}
 use Rattle.machine.specs.declared.stations.Station.{Station}
-use Rattle.machine.proofs.StationLemmas.{one_put, one_kept, at_worker, less_room_at}
+use Rattle.machine.proofs.StationLemmas.{one_put, one_kept, less_room_at}
 use Rattle.machine.proofs.stations.Stations.put_reserved.Goals as goal
 
 pub returns-then-node-len-clause-put : goal.returns-then-node-len-clause-put

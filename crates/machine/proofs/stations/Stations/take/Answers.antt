@@ -1,7 +1,7 @@
 use Rattle.std.proofs.Common.{◌<◌, [], map, length, arith}
-use Rattle.machine.specs.Loads.{Load, less_at}
+use Rattle.machine.specs.Loads.{Load, less_at, at_worker}
 use Rattle.machine.specs.Stations.{lot, lots}
-use Rattle.machine.proofs.StationLemmas.{on_err_plain, seen_within, one_put, none_put, one_seen, at_worker, waits_at_node, waits_as_bundle}
+use Rattle.machine.proofs.StationLemmas.{on_err_plain, seen_within, one_put, none_put, one_seen, waits_at_node, waits_as_bundle}
 use Rattle.machine.proofs.stations.Stations.take.Goals as goal
 
 pub index_mut-row-requires : goal.index_mut-row-requires
