@@ -17,6 +17,7 @@ pub mod PlaceLemmas
 pub mod LotLemmas
 pub mod QueueLemmas
 pub mod StationLemmas
+pub mod RoomLemmas
 pub mod PlacingLemmas
 pub mod BoardLemmas
 pub mod MeetsLemmas

@@ -126,7 +126,7 @@ apart i j e = step (eqb j i) refl
     step true s = absurd (e (sym (eqb-true j i s)))
     step false s = s
 
-same_self : (s : Site) → same_place s s ≡ true
+pub same_self : (s : Site) → same_place s s ≡ true
 same_self s = and_from (eqb s.node s.node) (eqb s.port s.port && eqb s.worker s.worker) (eq-eqb s.node s.node refl) (and_from (eqb s.port s.port) (eqb s.worker s.worker) (eq-eqb s.port s.port refl) (eq-eqb s.worker s.worker refl))
 
 module _ {T : Type 0} where

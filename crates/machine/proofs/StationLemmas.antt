@@ -1,4 +1,4 @@
--- Where a queue, a row or all stations are written: how what a contract sees of them changes, and how much room is left.
+-- Where a queue, a row or all stations are written: how what a contract sees of them changes.
 use Rattle.std.proofs.Common.{◌≡◌, ℕ, zero, suc, ◌+◌, ◌<◌, ◌≤◌, List, [], ◌∷◌, map, take, length, get_or, set, slice_get, Some, Result, Ok, Err, refl, sym, ap, subst, ◌∙◌, arith}
 use Rattle.std.specs.List.{remove, All}
 use Rattle.std.specs.Option.{IfSome, option_map}
@@ -62,32 +62,44 @@ module _ {X : Type 0} (xs now : List X) (v : xs ≡ now) (i n : ℕ) (k : i ≡ 
         ∙ (slice_get-get_or (map f xs) i (f old) (omega (arith, length-map xs f, l))
         ∙ ap Some (get_or-map f xs i old (f old) l ∙ (ap f (sym e) ∙ (sym h ∙ ap f (sym (r ∙ get_or-set_same xs i new x l)))))))
 
-  -- a property of each element, by number, that may become weaker
-  pub each_kept : (P Q : X → Type 0) → ((x : X) → P x → Q x) → (P old → Q new) → (j : ℕ) → IfSome (slice_get now j) P → IfSome (slice_get (set xs i new) j) Q
-  each_kept P Q weaker step j h = go xs i e j (subst (λ ys. IfSome (slice_get ys j) P) (sym v) h)
+  -- a property of each element, by number, is kept if the element that is written keeps it
+  pub each_kept : (P : X → Type 0) (j : ℕ) → (n ≡ j → P old → P new) → IfSome (slice_get now j) P → IfSome (slice_get (set xs i new) j) P
+  each_kept P j step h = go xs i e j (λ s. step (sym k ∙ s)) (subst (λ ys. IfSome (slice_get ys j) P) (sym v) h)
     where
-      go : (ys : List X) (m : ℕ) → old ≡ get_or ys m old → (j : ℕ) → IfSome (slice_get ys j) P → IfSome (slice_get (set ys m new) j) Q
-      go [] m e j h = h
-      go (y ∷ ys) zero e zero h = step (subst P (sym e) h)
-      go (y ∷ ys) zero e (suc j) h = same ys j h
-        where
-          same : (zs : List X) (j : ℕ) → IfSome (slice_get zs j) P → IfSome (slice_get zs j) Q
-          same [] j h = h
-          same (z ∷ zs) zero h = weaker z h
-          same (z ∷ zs) (suc j) h = same zs j h
-      go (y ∷ ys) (suc m) e zero h = weaker y h
-      go (y ∷ ys) (suc m) e (suc j) h = go ys m e j h
+      go : (ys : List X) (m : ℕ) → old ≡ get_or ys m old → (j : ℕ) → (m ≡ j → P old → P new) → IfSome (slice_get ys j) P → IfSome (slice_get (set ys m new) j) P
+      go [] m e j step h = h
+      go (y ∷ ys) zero e zero step h = step refl (subst P (sym e) h)
+      go (y ∷ ys) zero e (suc j) step h = h
+      go (y ∷ ys) (suc m) e zero step h = h
+      go (y ∷ ys) (suc m) e (suc j) step h = go ys m e j (λ s. step (ap suc s)) h
 
   -- the same of the element or the default that a number reads
-  pub one_kept : (P Q : X → Type 0) → ((x : X) → P x → Q x) → (P old → Q new) → (d : X) (j : ℕ) → P (get_or now j d) → Q (get_or (set xs i new) j d)
-  one_kept P Q weaker step d j h = go xs i e j (subst (λ ys. P (get_or ys j d)) (sym v) h)
+  pub one_kept : (P : X → Type 0) (d : X) (j : ℕ) → (n ≡ j → P old → P new) → P (get_or now j d) → P (get_or (set xs i new) j d)
+  one_kept P d j step h = go xs i e j (λ s. step (sym k ∙ s)) (subst (λ ys. P (get_or ys j d)) (sym v) h)
     where
-      go : (ys : List X) (m : ℕ) → old ≡ get_or ys m old → (j : ℕ) → P (get_or ys j d) → Q (get_or (set ys m new) j d)
-      go [] m e j h = weaker d h
-      go (y ∷ ys) zero e zero h = step (subst P (sym e) h)
-      go (y ∷ ys) zero e (suc j) h = weaker (get_or ys j d) h
-      go (y ∷ ys) (suc m) e zero h = weaker y h
-      go (y ∷ ys) (suc m) e (suc j) h = go ys m e j h
+      go : (ys : List X) (m : ℕ) → old ≡ get_or ys m old → (j : ℕ) → (m ≡ j → P old → P new) → P (get_or ys j d) → P (get_or (set ys m new) j d)
+      go [] m e j step h = h
+      go (y ∷ ys) zero e zero step h = step refl (subst P (sym e) h)
+      go (y ∷ ys) zero e (suc j) step h = h
+      go (y ∷ ys) (suc m) e zero step h = h
+      go (y ∷ ys) (suc m) e (suc j) step h = go ys m e j (λ s. step (ap suc s)) h
+
+  -- what held of the element that is written becomes what holds of the new one
+  pub one_turned : (P Q : X → Type 0) → (P old → Q new) → IfSome (slice_get now n) P → IfSome (slice_get (set xs i new) n) Q
+  one_turned P Q step h = subst (λ j. IfSome (slice_get (set xs i new) j) Q) k (go xs i e (subst (λ j. IfSome (slice_get xs j) P) (sym k) (subst (λ ys. IfSome (slice_get ys n) P) (sym v) h)))
+    where
+      go : (ys : List X) (m : ℕ) → old ≡ get_or ys m old → IfSome (slice_get ys m) P → IfSome (slice_get (set ys m new) m) Q
+      go [] m e h = h
+      go (y ∷ ys) zero e h = step (subst P (sym e) h)
+      go (y ∷ ys) (suc m) e h = go ys m e h
+
+  pub new_turned : (P Q : X → Type 0) (d : X) → (P old → Q new) → P (get_or now n d) → Q (get_or (set xs i new) n d)
+  new_turned P Q d step h = subst (λ j. Q (get_or (set xs i new) j d)) k (go xs i l e (subst (λ j. P (get_or xs j d)) (sym k) (subst (λ ys. P (get_or ys n d)) (sym v) h)))
+    where
+      go : (ys : List X) (m : ℕ) → m < length ys → old ≡ get_or ys m old → P (get_or ys m d) → Q (get_or (set ys m new) m d)
+      go [] m l e h = absurd (omega (arith, l))
+      go (y ∷ ys) zero l e h = step (subst P (sym e) h)
+      go (y ∷ ys) (suc m) l e h = go ys m (omega (arith, l)) e h
 
   -- what holds of the new element holds of what is read there
   pub one_there : (Q : X → Type 0) → Q new → IfSome (slice_get (set xs i new) n) Q
@@ -104,18 +116,6 @@ module _ {X : Type 0} (xs now : List X) (v : xs ≡ now) (i n : ℕ) (k : i ≡ 
   new_there Q d h = subst (λ j. Q (get_or (set xs i new) j d)) k (subst Q (sym (get_or-set_same xs i new d l)) h)
 
 module _ {T : Type 0} where
-  -- room for more is room for less
-  pub less_room : (port more less : ℕ) → less ≤ more → (s : Station T) → has_room port more s → has_room port less s
-  less_room zero more less l s h = omega (arith, l, h)
-  less_room (suc zero) more less l s h = omega (arith, l, h)
-  less_room (suc (suc port)) more less l s h = h
-
-  -- and so at a worker of a row
-  pub less_room_at : (worker port more less : ℕ) → less ≤ more → (row : List (Station T)) → IfSome (slice_get row worker) (has_room port more) → IfSome (slice_get row worker) (has_room port less)
-  less_room_at worker port more less l [] h = h
-  less_room_at zero port more less l (s ∷ row) h = less_room port more less l s h
-  less_room_at (suc worker) port more less l (s ∷ row) h = less_room_at worker port more less l row h
-
   -- if something waits, its worker is there, and its node
   pub worker_within : (port worker number : ℕ) (row : List (Lot T)) → number < length (loads_at port (get_or row worker no_lot)) → worker < length row
   worker_within zero worker number [] l = absurd (omega (arith, l))
@@ -155,24 +155,3 @@ module _ {T : Type 0} where
   pub put_last : (all : List (Bundle T)) (now end : List (List (Lot T))) → length all ≡ 0 → put_all all now ≡ end → now ≡ end
   put_last [] now end e h = h
   put_last (b ∷ bs) now end e h = absurd (omega (arith, e))
-
-  -- at the place of the first one there is room for it
-  pub first_has_room : (all : List (Bundle T)) (b : Bundle T) (rest : List (Bundle T)) (stations : List (List (Station T))) → all ≡ b ∷ rest → All (λ c. HasRoom (length all) stations c.place) all → HasRoom 1 stations b.place
-  first_has_room all b rest stations e h =
-      let room = subst (λ (cs : List (Bundle T)). All (λ (c : Bundle T). HasRoom (length cs) stations c.place) cs) e h in
-      less_room_at b.place.worker b.place.port (length (b ∷ rest)) 1 (omega arith) (get_or stations b.place.node []) (room 0 b (omega arith))
-
-  -- and once it is there, at the places of the others for all of them
-  pub rest_has_room : (all : List (Bundle T)) (b : Bundle T) (rest : List (Bundle T)) (old new : List (List (Station T))) → all ≡ b ∷ rest → ((at : Site) (n : ℕ) → HasRoom (suc n) old at → HasRoom n new at)
-      → All (λ c. HasRoom (length all) old c.place) all → All (λ c. HasRoom (length rest) new c.place) rest
-  rest_has_room all b rest old new e step h = λ k d l.
-      let room = subst (λ (cs : List (Bundle T)). All (λ (c : Bundle T). HasRoom (length cs) old c.place) cs) e h in
-      step (get_or rest k d).place (length rest) (room (suc k) d (omega (arith, l)))
-
-  -- one more place has room, and those before it kept theirs
-  pub room_so_far : (sent : List (Bundle T)) (i : ℕ) (b : Bundle T) (n : ℕ) (old new : List (List (Station T))) → i < length sent → b ≡ get_or sent i b → ((at : Site) (m : ℕ) → HasRoom m old at → HasRoom m new at)
-      → HasRoom n new b.place → All (λ c. HasRoom n old c.place) (take i sent) → All (λ c. HasRoom n new c.place) (take (i + 1) sent)
-  room_so_far sent i b n old new l e kept here h =
-      All-more (λ (c : Bundle T). HasRoom n new c.place) sent i b l
-      (All-weaker (λ (c : Bundle T). HasRoom n old c.place) (λ (c : Bundle T). HasRoom n new c.place) (λ c. kept c.place n) (take i sent) h)
-      (subst (λ (c : Bundle T). HasRoom n new c.place) e here)

@@ -21,7 +21,7 @@ pub record Load (T : Type 0) : Type 0 where
   pub updates : List (Update T)
   pub stamp : List T
 
--- a queue: what waits in it, the oldest first, and how many more it takes without memory
+-- a queue: what waits in it, the oldest first, and for how many more room is reserved, so that they take no memory
 pub record Queued (T : Type 0) : Type 0 where
   pub loads : List (Load T)
   pub room : ℕ

@@ -1,8 +1,10 @@
 -- The stations of a board, what a contract sees of them, and where there is room.
-use Rattle.std.specs.Prelude.{ℕ, zero, suc, ◌≤◌, List, [], map, get_or, slice_get, ⊤}
+use Rattle.std.specs.Prelude.{◌≡◌, ℕ, zero, suc, ◌≤◌, List, [], map, length, get_or, slice_get, ⊤}
 use Rattle.std.specs.Option.{IfSome}
 use Rattle.machine.specs.declared.event.Site.{Site}
+use Rattle.machine.specs.declared.event.Bundle.{Bundle}
 use Rattle.machine.specs.declared.stations.Station.{Station}
+use Rattle.machine.specs.Worlds.{queue}
 use Rattle.machine.specs.Loads.{Lot}
 
 module _ {T : Type 0} where
@@ -14,12 +16,27 @@ module _ {T : Type 0} where
   abbrev pub lots : List (List (Station T)) → List (List (Lot T))
   lots stations = map (map lot) stations
 
-  -- there is room for so many loads at a port
+  -- room is reserved for so many loads at a port
   abbrev pub has_room : ℕ → ℕ → Station T → Type 0
   has_room zero more s = more ≤ s.left.room
   has_room (suc zero) more s = more ≤ s.right.room
   has_room (suc (suc port)) more s = ⊤
 
-  -- there is at a place, if there is such a place
+  -- it is at a worker's port, if there is such a worker
+  abbrev pub RowHasRoom : ℕ → ℕ → ℕ → List (Station T) → Type 0
+  RowHasRoom worker port more row = IfSome (slice_get row worker) (has_room port more)
+
+  -- it is at a place, if there is such a place
   abbrev pub HasRoom : ℕ → List (List (Station T)) → Site → Type 0
-  HasRoom more stations site = IfSome (slice_get (get_or stations site.node []) site.worker) (has_room site.port more)
+  HasRoom more stations site = RowHasRoom site.worker site.port more (get_or stations site.node [])
+
+  -- it is at each place for the bundles that go there
+  abbrev pub HasRoomFor : List (Bundle T) → List (List (Station T)) → Type 0
+  HasRoomFor bundles stations = (site : Site) → HasRoom (length (queue site bundles)) stations site
+
+  -- no room is reserved at a station, and at a place, if there is such a place
+  abbrev pub IsReleased : Station T → Type 0
+  IsReleased s = (s.left.room ≡ 0) × (s.right.room ≡ 0)
+
+  abbrev pub HasReleased : List (List (Station T)) → Site → Type 0
+  HasReleased stations site = IfSome (slice_get (get_or stations site.node []) site.worker) IsReleased

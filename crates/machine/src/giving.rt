@@ -1,8 +1,7 @@
 //! What a worker computed is given: it goes on to the next nodes, and what a view gets is captured.
 ghost use Rattle.std.specs.Prelude.{◌≡◌, ◌<◌, List, ◌∷◌, None, if◌then◌else◌, IfErr, OnErr, OnOk, length};
-ghost use Rattle.std.specs.List.{All};
 ghost use Rattle.machine.specs.declared.event.Event.{Event};
-ghost use Rattle.machine.specs.Stations.{lots, HasRoom};
+ghost use Rattle.machine.specs.Stations.{lots, HasRoomFor};
 ghost use Rattle.machine.specs.Boards.{Shown, IsBoard, IsGiveOn, Stands, looked, giving, given, capturing_at};
 
 use crate::board::Board;
@@ -114,11 +113,14 @@ impl<T: Minimum> Board<T> {
                 self.hand[emission.worker] = None;
                 Ok(())
             }
-            Err(_refused) => Err(Ungiven {
-                emission,
-                held,
-                sent,
-            }),
+            Err(_refused) => {
+                self.stations.release(&sent.items);
+                Err(Ungiven {
+                    emission,
+                    held,
+                    sent,
+                })
+            }
         }
     }
 }
@@ -133,7 +135,7 @@ fn prepare<T: Minimum>(
 ) -> Result<(), Refusal>
     requires { emission.old.node < length views.old.items }
     ensures stations { lots stations.new ≡ lots stations.old }
-    ensures room { OnOk result (All (λ b. HasRoom (length sent.now) stations.new b.place) sent.now) }
+    ensures room { OnOk result (HasRoomFor sent.now stations.new) }
     ensures captured { OnOk result (views.new.items ≡ (if is_view
         then capturing_at emission.old.node emission.old.updates views.old.items
         else views.old.items)) }

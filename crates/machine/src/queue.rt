@@ -27,23 +27,25 @@ pub(crate) enum Parcel<T> {
     Sent(Updates<T>, Times<T>),
 }
 
-/// What waits at a place, the oldest first. A contract sees the loads, and for how many more there is room.
+/// What waits at a place, the oldest first. A contract sees the loads, and for how many more room is reserved.
 #[derive(Drop)]
 pub(crate) struct Queue<T> {
     parcels: VecDeque<Parcel<T>>,
+    // So many more fit without memory. One give reserves room before it puts anything, one bundle after another: without
+    // this number the second bundle of a place would count on the room of the first.
+    reserved: usize,
 }
 
 impl<T> Model for Queue<T> {
-    ghost use Rattle.std.specs.Prelude.{map, ◌-◌};
+    ghost use Rattle.std.specs.Prelude.{map, ◌+◌, ◌≤◌};
     ghost use Rattle.std.specs.VecDeque.{deque_len, deque_capacity};
     ghost use Rattle.machine.specs.Loads.{Queued, load_of};
 
     ghost Value = { Queued T };
 
-    ghost view = { λ q. record {
-      loads = map load_of q.parcels.items;
-      room = deque_capacity q.parcels - deque_len q.parcels;
-    } };
+    ghost view = { λ q. record { loads = map load_of q.parcels.items; room = q.reserved } };
+
+    ghost invariant = { λ q. deque_len q.parcels + q.reserved ≤ deque_capacity q.parcels };
 }
 
 impl<T: Minimum> Queue<T> {
@@ -53,6 +55,7 @@ impl<T: Minimum> Queue<T> {
     {
         Queue {
             parcels: VecDeque::new(alloc),
+            reserved: 0,
         }
     }
 
@@ -63,7 +66,7 @@ impl<T: Minimum> Queue<T> {
         self.parcels.len()
     }
 
-    /// One more, behind. Refused only with `OutOfMemory`.
+    /// One more, behind. No room is reserved any more. Refused only with `OutOfMemory`.
     ///
     /// Cost: constant, but for the queue's growth now and then.
     pub(crate) fn push(&mut self, parcel: Parcel<T>) -> Result<(), Refusal>
@@ -71,28 +74,41 @@ impl<T: Minimum> Queue<T> {
         ensures refused { IfErr result (λ refusal. refusal ≡ OutOfMemory) }
         ensures unchanged { OnErr result (self.new.loads ≡ self.old.loads) }
     {
+        self.reserved = 0;
         self.parcels.push_back(parcel)?;
         Ok(())
     }
 
-    /// Makes room for so many more. Refused only with `OutOfMemory`.
-    pub(crate) fn reserve(&mut self, more: usize) -> Result<(), Refusal>
+    /// Reserves room for one more. Refused only with `OutOfMemory`.
+    ///
+    /// Cost: constant, but for the queue's growth now and then.
+    pub(crate) fn reserve(&mut self) -> Result<(), Refusal>
         ensures unchanged { self.new.loads ≡ self.old.loads }
-        ensures room { OnOk result (more ≤ self.new.room) }
-        ensures kept { self.old.room ≤ self.new.room }
+        ensures room { OnOk result (self.new.room ≡ self.old.room + 1) }
+        ensures kept { OnErr result (self.new.room ≡ self.old.room) }
         ensures refused { IfErr result (λ refusal. refusal ≡ OutOfMemory) }
     {
-        self.parcels.reserve(more)?;
+        self.parcels.reserve(self.reserved + 1)?;
+        self.reserved += 1;
         Ok(())
     }
 
-    /// One more, behind, where there is room for it. Takes no memory.
+    /// One more, behind, where room is reserved for it. Takes no memory.
     pub(crate) fn push_reserved(&mut self, parcel: Parcel<T>)
         requires { 1 ≤ self.old.room }
         ensures pushed { self.new.loads ≡ self.old.loads ++ load_of parcel ∷ [] }
         ensures room { self.new.room + 1 ≡ self.old.room }
     {
+        self.reserved -= 1;
         self.parcels.push_back_reserved(parcel);
+    }
+
+    /// No room is reserved any more. Takes no memory, and constant time.
+    pub(crate) fn release(&mut self)
+        ensures unchanged { self.new.loads ≡ self.old.loads }
+        ensures none { self.new.room ≡ 0 }
+    {
+        self.reserved = 0;
     }
 
     /// Takes the load of a number, from 0, out of the queue, and appends its stamp to `held`. Refused only with

@@ -2,12 +2,13 @@
 //! holds there.
 //!
 //! A place is found by its numbers, so that what happens at it costs the same however much waits anywhere else.
-ghost use Rattle.std.specs.Prelude.{◌≡◌, ◌<◌, ℕ, suc, Some, IfErr, IfOk, IfSome, OnErr, OnOk, length, slice_get, map, replicate};
+ghost use Rattle.std.specs.Prelude.{◌≡◌, ◌<◌, ◌&&◌, ℕ, suc, eqb, false, Some, IfErr, IfOk, IfSome, OnErr, OnOk, length, slice_get, map, replicate};
 ghost use Rattle.std.specs.List.{All};
 ghost use Rattle.update.specs.declared.refusal.Refusal.TheVariants.{OutOfMemory};
 ghost use Rattle.machine.specs.declared.event.Site.{Site};
 ghost use Rattle.machine.specs.Loads.{load_of, no_lot, loads_at, more_at, less_at, lot_in, at_worker, first_stations, put_at, put_all, taken_from, held_from, queue_of};
-ghost use Rattle.machine.specs.Stations.{lot, lots, has_room, HasRoom};
+ghost use Rattle.machine.specs.Worlds.{same_place};
+ghost use Rattle.machine.specs.Stations.{lot, lots, has_room, IsReleased, RowHasRoom, HasRoom, HasReleased, HasRoomFor};
 
 use crate::event::{Bundle, Site};
 use crate::lists::{Times, Updates};
@@ -66,25 +67,36 @@ impl<T: Minimum> Station<T> {
         }
     }
 
-    // Makes room for so many more at a port. No port loses room.
-    fn reserve(&mut self, port: usize, more: usize) -> Result<(), Refusal>
+    // Reserves room for one more at a port. No port loses room.
+    fn reserve(&mut self, port: usize) -> Result<(), Refusal>
         ensures unchanged { lot self.new ≡ lot self.old }
-        ensures room { OnOk result (has_room port more self.new) }
+        ensures room { OnOk result ((n : ℕ) → has_room port n self.old → has_room port (suc n) self.new) }
         ensures kept { (p n : ℕ) → has_room p n self.old → has_room p n self.new }
         ensures refused { IfErr result (λ refusal. refusal ≡ OutOfMemory) }
     {
         match port {
-            0 => self.left.reserve(more),
-            1 => self.right.reserve(more),
+            0 => self.left.reserve(),
+            1 => self.right.reserve(),
             _ => Ok(()),
         }
     }
 
-    // A load waits at a port that has room for it, behind the others. A port loses room for one load at most.
+    // No room is reserved any more.
+    fn release(&mut self)
+        ensures unchanged { lot self.new ≡ lot self.old }
+        ensures none { IsReleased self.new }
+    {
+        self.left.release();
+        self.right.release();
+    }
+
+    // A load waits at a port that has room for it, behind the others. The port loses room for it, and no other port does.
     fn put_reserved(&mut self, port: usize, parcel: Parcel<T>)
         requires { has_room port 1 self.old }
         ensures put { lot self.new ≡ more_at port (load_of parcel) (lot self.old) }
-        ensures room { (p n : ℕ) → has_room p (suc n) self.old → has_room p n self.new }
+        ensures room { (n : ℕ) → has_room port (suc n) self.old → has_room port n self.new }
+        ensures others { (p n : ℕ) → eqb port p ≡ false
+            → has_room p n self.old → has_room p n self.new }
     {
         match port {
             0 => self.left.push_reserved(parcel),
@@ -144,26 +156,42 @@ impl<T: Minimum> Row<T> {
         self.by_worker[worker].put(port, parcel)
     }
 
-    // Makes room for so many more at a worker's port. No port loses room.
-    fn reserve(&mut self, worker: usize, port: usize, more: usize) -> Result<(), Refusal>
+    // Reserves room for one more at a worker's port. No port loses room.
+    fn reserve(&mut self, worker: usize, port: usize) -> Result<(), Refusal>
         ensures unchanged { map lot self.new ≡ map lot self.old }
-        ensures room { OnOk result (IfSome (slice_get self.new worker) (has_room port more)) }
-        ensures kept { (k p n : ℕ) → IfSome (slice_get self.old k) (has_room p n) → IfSome (slice_get self.new k) (has_room p n) }
+        ensures room { OnOk result ((n : ℕ)
+            → RowHasRoom worker port n self.old → RowHasRoom worker port (suc n) self.new) }
+        ensures kept { (k p n : ℕ) → RowHasRoom k p n self.old → RowHasRoom k p n self.new }
         ensures refused { IfErr result (λ refusal. refusal ≡ OutOfMemory) }
     {
         if worker >= self.by_worker.len() {
             return Ok(());
         }
-        self.by_worker[worker].reserve(port, more)
+        self.by_worker[worker].reserve(port)
     }
 
-    // A load waits at a worker's port that has room for it, behind the others; it is dropped if there is no such worker. A
-    // port loses room for one load at most.
+    // No room is reserved for a worker any more.
+    fn release(&mut self, worker: usize)
+        ensures unchanged { map lot self.new ≡ map lot self.old }
+        ensures none { IfSome (slice_get self.new worker) IsReleased }
+        ensures kept { (k : ℕ) → IfSome (slice_get self.old k) IsReleased
+            → IfSome (slice_get self.new k) IsReleased }
+    {
+        if worker < self.by_worker.len() {
+            self.by_worker[worker].release();
+        }
+    }
+
+    // A load waits at a worker's port that has room for it, behind the others; it is dropped if there is no such worker. The
+    // port loses room for it, and no other port does.
     fn put_reserved(&mut self, worker: usize, port: usize, parcel: Parcel<T>)
-        requires { IfSome (slice_get self.old worker) (has_room port 1) }
+        requires { RowHasRoom worker port 1 self.old }
         ensures put { map lot self.new
             ≡ at_worker worker (more_at port (load_of parcel)) (map lot self.old) }
-        ensures room { (k p n : ℕ) → IfSome (slice_get self.old k) (has_room p (suc n)) → IfSome (slice_get self.new k) (has_room p n) }
+        ensures room { (n : ℕ)
+            → RowHasRoom worker port (suc n) self.old → RowHasRoom worker port n self.new }
+        ensures others { (k p n : ℕ) → (eqb port p && eqb worker k) ≡ false
+            → RowHasRoom k p n self.old → RowHasRoom k p n self.new }
     {
         if worker < self.by_worker.len() {
             self.by_worker[worker].put_reserved(port, parcel);
@@ -247,24 +275,26 @@ impl<T: Minimum> Stations<T> {
         self.by_node[node].put(site.worker, site.port, parcel)
     }
 
-    /// Makes room for all of these bundles at their places. Refused only with `OutOfMemory`.
+    /// Reserves room at each place for the bundles of the list that go there. Refused only with `OutOfMemory`.
     ///
-    /// Cost: linear in the bundles, but for the queues' growth now and then.
+    /// Cost: linear in the bundles, but for the queues' growth now and then. In room: a slot for each bundle at its own
+    /// place, and at a queue that grows as many again.
     pub(crate) fn reserve(&mut self, sent: &[Bundle<T>]) -> Result<(), Refusal>
         ensures unchanged { lots self.new ≡ lots self.old }
-        ensures room { OnOk result (All (λ b. HasRoom (length sent.now) self.new b.place) sent.now) }
+        ensures room { OnOk result (HasRoomFor sent.now self.new) }
         ensures refused { IfErr result (λ refusal. refusal ≡ OutOfMemory) }
     {
         for bundle in sent {
-            self.reserve_at(&bundle.place, sent.len())?;
+            self.reserve_at(&bundle.place)?;
         }
         Ok(())
     }
 
-    // Makes room for so many more at a place. No place loses room.
-    fn reserve_at(&mut self, site: &Site, more: usize) -> Result<(), Refusal>
+    // Reserves room for one more at a place. No place loses room.
+    fn reserve_at(&mut self, site: &Site) -> Result<(), Refusal>
         ensures unchanged { lots self.new ≡ lots self.old }
-        ensures room { OnOk result (HasRoom more self.new site.now) }
+        ensures room { OnOk result ((n : ℕ)
+            → HasRoom n self.old site.now → HasRoom (suc n) self.new site.now) }
         ensures kept { (at : Site) (n : ℕ) → HasRoom n self.old at → HasRoom n self.new at }
         ensures refused { IfErr result (λ refusal. refusal ≡ OutOfMemory) }
     {
@@ -272,14 +302,39 @@ impl<T: Minimum> Stations<T> {
         if node >= self.by_node.len() {
             return Ok(());
         }
-        self.by_node[node].reserve(site.worker, site.port, more)
+        self.by_node[node].reserve(site.worker, site.port)
+    }
+
+    /// No room is reserved any more at the places of these bundles, so that a list that was not sent leaves nothing behind
+    /// which a later one would add to. Takes no memory.
+    ///
+    /// Cost: linear in the bundles.
+    pub(crate) fn release(&mut self, sent: &[Bundle<T>])
+        ensures unchanged { lots self.new ≡ lots self.old }
+        ensures none { All (λ b. HasReleased self.new b.place) sent.now }
+    {
+        for bundle in sent {
+            self.release_at(&bundle.place);
+        }
+    }
+
+    // No room is reserved any more at a place, at both of its ports.
+    fn release_at(&mut self, site: &Site)
+        ensures unchanged { lots self.new ≡ lots self.old }
+        ensures none { HasReleased self.new site.now }
+        ensures kept { (at : Site) → HasReleased self.old at → HasReleased self.new at }
+    {
+        let node = site.node.number();
+        if node < self.by_node.len() {
+            self.by_node[node].release(site.worker);
+        }
     }
 
     /// Each bundle waits at its place from now on; one whose place there is not is dropped. Takes no memory.
     ///
     /// Cost: linear in the bundles.
     pub(crate) fn put_all(&mut self, sent: Vec<Bundle<T>>)
-        requires { All (λ b. HasRoom (length sent.items) self.old b.place) sent.items }
+        requires { HasRoomFor sent.items self.old }
         ensures { lots self.new ≡ put_all sent.items (lots self.old) }
     {
         for bundle in sent {
@@ -292,12 +347,14 @@ impl<T: Minimum> Stations<T> {
         }
     }
 
-    // A load waits at a place that has room for it, behind the others; it is dropped if there is no such place. A place
-    // loses room for one load at most.
+    // A load waits at a place that has room for it, behind the others; it is dropped if there is no such place. The place
+    // loses room for it, and no other place does.
     fn put_reserved(&mut self, site: &Site, parcel: Parcel<T>)
         requires { HasRoom 1 self.old site.now }
         ensures put { lots self.new ≡ put_at site.now (load_of parcel) (lots self.old) }
-        ensures room { (at : Site) (n : ℕ) → HasRoom (suc n) self.old at → HasRoom n self.new at }
+        ensures room { (n : ℕ) → HasRoom (suc n) self.old site.now → HasRoom n self.new site.now }
+        ensures others { (at : Site) (n : ℕ) → same_place site.now at ≡ false
+            → HasRoom n self.old at → HasRoom n self.new at }
     {
         let node = site.node.number();
         if node < self.by_node.len() {

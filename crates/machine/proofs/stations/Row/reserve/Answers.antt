@@ -1,7 +1,7 @@
-use Rattle.std.proofs.Common.{◌<◌, refl, length, arith}
+use Rattle.std.proofs.Common.{suc, ◌<◌, refl, length, arith}
 use Rattle.std.proofs.lemmas.Result.{on_ok_weaker}
 use Rattle.machine.specs.Stations.{lot, has_room}
-use Rattle.machine.proofs.StationLemmas.{none_put, each_kept, one_there}
+use Rattle.machine.proofs.StationLemmas.{none_put, each_kept, one_turned}
 use Rattle.machine.proofs.stations.Row.reserve.Goals as goal
 
 pub returns-clause-unchanged : goal.returns-clause-unchanged
@@ -12,9 +12,11 @@ returns-clause-unchanged g c =
 pub returns-clause-room : goal.returns-clause-room
 returns-clause-room g c =
     let within : c.args.worker < length c.self.inside.by_worker.items = omega (arith, c.self.inside.by_worker.ok.0) in
-    on_ok_weaker c.reserve.result (one_there c.self.inside.by_worker.items c.args.self.now c.self.view_is c.args.worker c.args.worker refl c.index_mut.result.now c.reserve.new.self within c.index_mut.ensures.value (has_room c.args.port c.args.more)) c.reserve.ensures.room
+    on_ok_weaker c.reserve.result
+    (λ more n. one_turned c.self.inside.by_worker.items c.args.self.now c.self.view_is c.args.worker c.args.worker refl c.index_mut.result.now c.reserve.new.self within c.index_mut.ensures.value (has_room c.args.port n) (has_room c.args.port (suc n)) (more n))
+    c.reserve.ensures.room
 
 pub returns-clause-kept : goal.returns-clause-kept
 returns-clause-kept g c = λ k p n.
     let within : c.args.worker < length c.self.inside.by_worker.items = omega (arith, c.self.inside.by_worker.ok.0) in
-    each_kept c.self.inside.by_worker.items c.args.self.now c.self.view_is c.args.worker c.args.worker refl c.index_mut.result.now c.reserve.new.self within c.index_mut.ensures.value (has_room p n) (has_room p n) (λ s h. h) (c.reserve.ensures.kept p n) k
+    each_kept c.self.inside.by_worker.items c.args.self.now c.self.view_is c.args.worker c.args.worker refl c.index_mut.result.now c.reserve.new.self within c.index_mut.ensures.value (has_room p n) k (λ _. c.reserve.ensures.kept p n)

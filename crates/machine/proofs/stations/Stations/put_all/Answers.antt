@@ -3,7 +3,8 @@ use Rattle.std.specs.Vec.Iter.{into_iter_items}
 use Rattle.machine.specs.declared.event.Bundle.{Bundle}
 use Rattle.machine.specs.Loads.{put_all}
 use Rattle.machine.specs.Stations.{lots}
-use Rattle.machine.proofs.StationLemmas.{put_next, put_last, first_has_room, rest_has_room}
+use Rattle.machine.proofs.StationLemmas.{put_next, put_last}
+use Rattle.machine.proofs.RoomLemmas.{first_has_room, rest_has_room}
 use Rattle.machine.proofs.stations.Stations.put_all.Goals as goal
 
 pub put_reserved-requires : goal.put_reserved-requires
@@ -21,7 +22,7 @@ loop-bundle-preserved g c =
     let end = put_all (into_iter_items c.into_iter-bundle-iterator.result) (lots c.args.self.now) in
     record {
       put = put_next all c.in-Some.bundle rest (lots i.self) (lots c.put_reserved.new.self) end steps c.put_reserved.ensures.put i.invariant.put;
-      room = rest_has_room all c.in-Some.bundle rest i.self c.put_reserved.new.self steps c.put_reserved.ensures.room i.invariant.room;
+      room = rest_has_room all c.in-Some.bundle rest i.self c.put_reserved.new.self steps c.put_reserved.ensures.room c.put_reserved.ensures.others i.invariant.room;
       left = let was = i.invariant.left in let gone = c.in-Some.ensures.steps.1 in let short = ap length steps in omega arith;
     }
 

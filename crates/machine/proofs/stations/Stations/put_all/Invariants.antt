@@ -1,14 +1,13 @@
 use Rattle.std.proofs.Common.{◌≡◌, length}
-use Rattle.std.specs.List.{All}
 use Rattle.std.specs.Vec.Iter.{into_iter_items, into_iter_len}
 use Rattle.machine.specs.Loads.{put_all}
-use Rattle.machine.specs.Stations.{lots, HasRoom}
+use Rattle.machine.specs.Stations.{lots, HasRoomFor}
 use Rattle.machine.proofs.stations.Stations.put_all.Given as goal
 
 -- the bundles that are left, put from here on, give what all of them give; there is room for them at each of their places
 abbrev pub invariant-loop-bundle : goal.invariant-loop-bundle
 invariant-loop-bundle g l = record {
   put : put_all (into_iter_items l.bundle-iterator) (lots l.self) ≡ put_all (into_iter_items l.initial.bundle-iterator) (lots l.fn.self);
-  room : All (λ b. HasRoom (length (into_iter_items l.bundle-iterator)) l.self b.place) (into_iter_items l.bundle-iterator);
+  room : HasRoomFor (into_iter_items l.bundle-iterator) l.self;
   left : into_iter_len l.bundle-iterator ≡ length (into_iter_items l.bundle-iterator);
 }

@@ -1,13 +1,12 @@
-use Rattle.std.proofs.Common.{◌∙◌, length}
-use Rattle.machine.proofs.StationLemmas.{room_so_far}
+use Rattle.std.proofs.Common.{◌∙◌}
+use Rattle.machine.proofs.RoomLemmas.{one_more_needed}
 use Rattle.machine.proofs.stations.Stations.reserve.Goals as goal
 
 pub loop-bundle-preserved : goal.loop-bundle-preserved
 loop-bundle-preserved g c =
     let i = c.loop-bundle in
-    let sent = c.args.sent.now in
-    let b = c.bundle-item.result in
+    let r = c.reserve_at in
     record {
-      same = c.reserve_at.ensures.unchanged ∙ i.invariant.same;
-      room = room_so_far sent i.bundle-index b (length sent) i.self c.reserve_at.new.self c.loop-bundle-test.true c.bundle-item.is c.reserve_at.ensures.kept c.in_ok-reserve_at.ensures.room i.invariant.room;
+      same = r.ensures.unchanged ∙ i.invariant.same;
+      room = one_more_needed c.args.sent.now i.bundle-index c.bundle-item.result i.self r.new.self c.loop-bundle-test.true c.bundle-item.is r.ensures.kept c.in_ok-reserve_at.ensures.room i.invariant.room;
     }

@@ -1,11 +1,10 @@
-use Rattle.std.proofs.Common.{◌≡◌, take, length}
-use Rattle.std.specs.List.{All}
-use Rattle.machine.specs.Stations.{lots, HasRoom}
+use Rattle.std.proofs.Common.{◌≡◌, take}
+use Rattle.machine.specs.Stations.{lots, HasRoomFor}
 use Rattle.machine.proofs.stations.Stations.reserve.Given as goal
 
--- the places of the bundles read so far have room
+-- room is reserved for the bundles read so far
 abbrev pub invariant-loop-bundle : goal.invariant-loop-bundle
 invariant-loop-bundle g l = record {
   same : lots l.self ≡ lots l.fn.self;
-  room : All (λ b. HasRoom (length l.sent) l.self b.place) (take l.bundle-index l.sent);
+  room : HasRoomFor (take l.bundle-index l.sent) l.self;
 }
