@@ -15,6 +15,7 @@ pub mod QuietLemmas
 pub mod PortLemmas
 pub mod PlaceLemmas
 pub mod LotLemmas
+pub mod SurveyLemmas
 pub mod QueueLemmas
 pub mod StationLemmas
 pub mod RoomLemmas

@@ -93,6 +93,8 @@ impl<T: Minimum> Stations<T> {
     pub(crate) fn port_waiting(&self, node: NodeId, worker: usize) -> Option<usize>
         ensures waits { IfSome result (λ port.
             0 < length (queue_of (lots self.now) (place node port worker))) }
+        ensures first { IfSome result (λ port. (p : ℕ) → p < port
+            → queue_of (lots self.now) (place node p worker) ≡ []) }
         ensures none { result ≡ None → (port : ℕ)
             → queue_of (lots self.now) (place node port worker) ≡ [] }
     {

@@ -15,6 +15,8 @@ impl<T: Minimum> Board<T> {
         ensures node { IfSome result (λ site. site.node ≡ node) }
         ensures worker { IfSome result (λ site. site.worker ≡ worker) }
         ensures waits { IfSome result (λ site. 0 < length (queue_of self.now.stations site)) }
+        ensures first { IfSome result (λ site. (port : ℕ) → port < site.port
+            → queue_of self.now.stations (place node port worker) ≡ []) }
         ensures none { result ≡ None → (port : ℕ)
             → queue_of self.now.stations (place node port worker) ≡ [] }
     {

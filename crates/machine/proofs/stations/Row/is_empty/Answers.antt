@@ -1,5 +1,5 @@
 use Rattle.std.proofs.Common.{◌∙◌}
-use Rattle.machine.proofs.LotLemmas.{row_none, row_some}
+use Rattle.machine.proofs.SurveyLemmas.{row_none, row_some}
 use Rattle.machine.proofs.stations.Row.is_empty.Goals as goal
 
 pub returns-then-not-is_empty : goal.returns-then-not-is_empty

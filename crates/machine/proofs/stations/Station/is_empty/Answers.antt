@@ -1,5 +1,5 @@
 use Rattle.std.proofs.Common.{nat_eq, ap, ◌∙◌}
-use Rattle.machine.proofs.LotLemmas.{first_there}
+use Rattle.machine.proofs.SurveyLemmas.{first_there}
 use Rattle.machine.proofs.stations.Station.is_empty.Goals as goal
 
 pub returns-else-len-eq0 : goal.returns-else-len-eq0

@@ -1,7 +1,7 @@
 use Rattle.std.proofs.Common.{◌≡◌, subst}
 use Rattle.lattice.specs.Frontiers.{is_beyond}
 use Rattle.machine.specs.Loads.{Lot}
-use Rattle.machine.proofs.LotLemmas.{station_reaches, no_station_reaches}
+use Rattle.machine.proofs.SurveyLemmas.{station_reaches, no_station_reaches}
 use Rattle.machine.proofs.stations.Stations.holds.Goals as goal
 
 pub returns-then-is_beyond : goal.returns-then-is_beyond

@@ -1,5 +1,5 @@
 use Rattle.std.proofs.Common.{◌∙◌}
-use Rattle.machine.proofs.LotLemmas.{all_none, all_some}
+use Rattle.machine.proofs.SurveyLemmas.{all_none, all_some}
 use Rattle.machine.proofs.stations.Stations.is_empty.Goals as goal
 
 pub returns-then-not-is_empty : goal.returns-then-not-is_empty

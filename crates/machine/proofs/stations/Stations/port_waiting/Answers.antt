@@ -3,7 +3,7 @@ use Rattle.std.proofs.lemmas.List.{nil_from_length}
 use Rattle.machine.specs.Worlds.{place}
 use Rattle.machine.specs.Loads.{queue_of}
 use Rattle.machine.specs.Stations.{lots}
-use Rattle.machine.proofs.LotLemmas.{none_at_ports}
+use Rattle.machine.proofs.SurveyLemmas.{none_at_ports}
 use Rattle.machine.proofs.stations.Stations.port_waiting.Goals as goal
 
 pub loop-port-preserved : goal.loop-port-preserved

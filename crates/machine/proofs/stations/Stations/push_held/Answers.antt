@@ -1,5 +1,5 @@
 use Rattle.machine.specs.Loads.{Lot}
-use Rattle.machine.proofs.LotLemmas.{station_by_station}
+use Rattle.machine.proofs.SurveyLemmas.{station_by_station}
 use Rattle.machine.proofs.stations.Stations.push_held.Goals as goal
 
 pub returns-clause-more : goal.returns-clause-more

@@ -1,5 +1,5 @@
 use Rattle.machine.specs.Loads.{stamps_of}
-use Rattle.machine.proofs.LotLemmas.{station_reaches, no_station_reaches}
+use Rattle.machine.proofs.SurveyLemmas.{station_reaches, no_station_reaches}
 use Rattle.machine.proofs.stations.Stations.reaches.Goals as goal
 
 pub returns-then-reaches : goal.returns-then-reaches
