@@ -16,7 +16,6 @@ use Rattle.machine.specs.Outstanding.{stamps, held_where}
 use Rattle.machine.specs.Histories.{holding}
 use Rattle.machine.specs.Loads.{is_none, Load, Lot, bundle_at, no_lot, loads_at, lot_of, queue_of, bundles_of, bundles_in, all_bundles, held_in, all_held, stamps_of, stamps_at, times_at}
 use Rattle.machine.specs.Stations.{lot}
-use Rattle.machine.proofs.FoundLemmas.{found}
 
 -- ---- lists of lists, one after another
 

@@ -1,16 +1,13 @@
 -- Where a queue, a row or all stations are written: how what a contract sees of them changes.
-use Rattle.std.proofs.Common.{◌≡◌, ℕ, zero, suc, ◌+◌, ◌<◌, ◌≤◌, List, [], ◌∷◌, map, take, length, get_or, set, slice_get, Some, Result, Ok, Err, refl, sym, ap, subst, ◌∙◌, arith}
-use Rattle.std.specs.List.{remove, All}
+use Rattle.std.proofs.Common.{◌≡◌, ℕ, zero, suc, ◌<◌, List, [], ◌∷◌, map, length, get_or, set, slice_get, Some, Result, Ok, Err, refl, sym, ap, subst, ◌∙◌, arith}
+use Rattle.std.specs.List.{remove}
 use Rattle.std.specs.Option.{IfSome, option_map}
 use Rattle.std.specs.Result.{OnErr}
 use Rattle.std.proofs.lemmas.List.{length-map, get_or-map, map-set, set-get_or, get_or-set_same}
-use Rattle.std.proofs.lemmas.List.Elements.{All-more, All-weaker}
 use Rattle.std.proofs.lemmas.Option.{slice_get-get_or, slice_get-map}
-use Rattle.machine.specs.declared.stations.Station.{Station}
 use Rattle.machine.specs.declared.event.Site.{Site}
 use Rattle.machine.specs.declared.event.Bundle.{Bundle}
 use Rattle.machine.specs.Loads.{Load, Lot, no_lot, load_in, loads_at, lot_of, bundle_at, queue_of, put_at, put_all}
-use Rattle.machine.specs.Stations.{has_room, HasRoom}
 
 -- ---- one element of a list that is seen by a function
 

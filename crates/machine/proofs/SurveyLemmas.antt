@@ -6,8 +6,7 @@ use Rattle.std.proofs.lemmas.List.Folds.{flat_map-map, list_all-map}
 use Rattle.lattice.specs.Frontiers.{is_beyond}
 use Rattle.machine.specs.declared.queue.Parcel.{Parcel}
 use Rattle.machine.specs.declared.stations.Station.{Station}
-use Rattle.machine.specs.Worlds.{place, queue}
-use Rattle.machine.specs.Outstanding.{stamps}
+use Rattle.machine.specs.Worlds.{place}
 use Rattle.machine.specs.Loads.{is_none, Load, Lot, queue_of, all_bundles, load_of}
 use Rattle.machine.specs.Stations.{lot, lots}
 use Rattle.machine.proofs.FoundLemmas.{found}

@@ -1,4 +1,4 @@
-use Rattle.std.proofs.Common.{suc, ◌<◌, [], map, length, List, arith}
+use Rattle.std.proofs.Common.{suc, ◌<◌, [], map, length, arith}
 use Rattle.std.proofs.lemmas.Result.{on_ok_weaker}
 use Rattle.machine.specs.Stations.{lot, RowHasRoom}
 use Rattle.machine.proofs.StationLemmas.{none_put, one_kept, new_turned}
