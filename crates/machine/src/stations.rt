@@ -122,11 +122,15 @@ impl<T: Minimum> Station<T> {
         }
     }
 
-    // The worker holds these times from now on, and no other.
+    // The worker holds these times from now on, and no other. If there are none, the list keeps its memory for the next stamp.
     fn hold(&mut self, times: Times<T>)
         ensures { lot self.new ≡ record (lot self.old) { held = times } }
     {
-        self.held = times.into_vec();
+        if times.as_slice().is_empty() {
+            self.held.clear();
+        } else {
+            self.held = times.into_vec();
+        }
     }
 }
 
