@@ -1,9 +1,10 @@
 //! The board: what lies between clients and workers.
 //!
-//! A board holds what a history leaves, and no more of the history than its last event: at each place the bundles that wait
-//! there, the times that workers hold, the frontiers of the inputs, each worker's piece in hand, what views captured, and how many changes
-//! each input accepted. There is no list of the changes. Which histories it may stand for is said by `Stands`; every call
-//! says what it makes of them: whatever history the board stood for, it then stands for one event more.
+//! A board holds what a history leaves, and no more of the history than its last event: at each place the bundles that
+//! wait there, the times that workers hold, the frontiers of the inputs, each worker's piece in hand, what views captured,
+//! and how many changes each input accepted. There is no list of the changes. Which histories it may stand for is said by
+//! `Stands`; every call says what it makes of them: whatever history the board stood for, it then stands for one event
+//! more.
 ghost use Rattle.std.specs.Prelude.{◌≡◌, ◌≤◌, List, [], ◌∷◌, None, IfErr, IfOk, replicate};
 ghost use Rattle.update.specs.declared.refusal.Refusal.TheVariants.{OutOfMemory};
 ghost use Rattle.machine.specs.Dataflows.{IsDataflow};

@@ -19,6 +19,9 @@ use std::alloc::Global;
 use std::marker::Model;
 use update::Refusal;
 
+// A list of more held times than these gives its memory back once no time is held.
+const MAX_KEPT: usize = 64;
+
 /// What lies at a node for a worker.
 #[derive(Drop)]
 pub(crate) struct Station<T> {
@@ -70,7 +73,8 @@ impl<T: Minimum> Station<T> {
     // Reserves room for one more at a port. No port loses room.
     fn reserve(&mut self, port: usize) -> Result<(), Refusal>
         ensures unchanged { lot self.new ≡ lot self.old }
-        ensures room { OnOk result ((n : ℕ) → has_room port n self.old → has_room port (suc n) self.new) }
+        ensures room { OnOk result ((n : ℕ)
+            → has_room port n self.old → has_room port (suc n) self.new) }
         ensures kept { (p n : ℕ) → has_room p n self.old → has_room p n self.new }
         ensures refused { IfErr result (λ refusal. refusal ≡ OutOfMemory) }
     {
@@ -122,11 +126,12 @@ impl<T: Minimum> Station<T> {
         }
     }
 
-    // The worker holds these times from now on, and no other. If there are none, the list keeps its memory for the next stamp.
+    // The worker holds these times from now on, and no other. If there are none, a short list keeps its memory: the next
+    // stamp goes there.
     fn hold(&mut self, times: Times<T>)
         ensures { lot self.new ≡ record (lot self.old) { held = times } }
     {
-        if times.as_slice().is_empty() {
+        if times.as_slice().is_empty() && self.held.len() <= MAX_KEPT {
             self.held.clear();
         } else {
             self.held = times.into_vec();
