@@ -13,10 +13,12 @@ use smallvec::SmallVec;
 // Puts `t` into elements in `Ord` order, and removes those that it is at or before. It is refused only where there is
 // none of these and no room.
 pub(crate) fn insert_new<T: Lattice>(elements: &mut SmallVec<T, 4>, t: T) -> Result<(), NoMemory>
-    ensures ok { OnOk result (elements.new.items ≡ placed T.cmp t (not_above T.below t elements.old.items)) }
+    ensures ok { OnOk result
+        (elements.new.items ≡ placed T.cmp t (not_above T.below t elements.old.items)) }
     ensures err { OnErr result (elements.new.items ≡ elements.old.items) }
     ensures full { OnErr result (elements.old.capacity ≤ small_vec_len elements.old) }
-    ensures none_above { OnErr result (not_above T.below t elements.old.items ≡ elements.old.items) }
+    ensures none_above { OnErr result
+        (not_above T.below t elements.old.items ≡ elements.old.items) }
     ensures capacity { elements.old.capacity ≤ elements.new.capacity }
 {
     make_way(elements, t)?;
@@ -31,7 +33,8 @@ fn make_way<T: Lattice>(elements: &mut SmallVec<T, 4>, t: T) -> Result<(), NoMem
     ensures room { OnOk result (HasRoomFor elements.new 1) }
     ensures err { OnErr result (elements.new.items ≡ elements.old.items) }
     ensures full { OnErr result (elements.old.capacity ≤ small_vec_len elements.old) }
-    ensures none_above { OnErr result (not_above T.below t elements.old.items ≡ elements.old.items) }
+    ensures none_above { OnErr result
+        (not_above T.below t elements.old.items ≡ elements.old.items) }
     ensures capacity { elements.old.capacity ≤ elements.new.capacity }
 {
     let before = elements.len();

@@ -31,7 +31,8 @@ impl<T: Lattice> Model for Antichain<T> {
 
     ghost view = { λ a. a.elements.items };
 
-    ghost invariant = { λ a. IsFrontier T.below T.cmp a.elements.items × (4 ≤ a.elements.capacity) };
+    ghost invariant = { λ a. IsFrontier T.below T.cmp a.elements.items
+        × (4 ≤ a.elements.capacity) };
 }
 
 impl<T: Lattice> Antichain<T> {
@@ -147,7 +148,8 @@ impl<T: Lattice> Antichain<T> {
     /// Cost: the product of both numbers of elements by the number of elements of the result.
     pub fn joined(&self, other: &Antichain<T>) -> Result<Antichain<T>, NoMemory>
         ensures beyond { IfOk result (λ both. (t : T)
-            → is_beyond T.below both t ≡ (is_beyond T.below self.now t && is_beyond T.below other.now t)) }
+            → is_beyond T.below both t
+            ≡ (is_beyond T.below self.now t && is_beyond T.below other.now t)) }
         ensures small { OnErr result (4 < length self.now * length other.now) }
     {
         let mut both = Antichain::new(*self.elements.allocator());

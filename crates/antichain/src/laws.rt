@@ -20,5 +20,6 @@ pub fn least_elements_stand_for_all<T: Lattice>()
     ensures beyond { (times : List T) (t : T)
         → is_beyond T.below (least T.below times) t ≡ is_beyond T.below times t }
     ensures one { (F times : List T) → IsTrue (is_antichain T.below F)
-        → ((t : T) → is_beyond T.below F t ≡ is_beyond T.below times t) → SameElements F (least T.below times) }
+        → ((t : T) → is_beyond T.below F t ≡ is_beyond T.below times t)
+        → SameElements F (least T.below times) }
 {}

@@ -48,7 +48,8 @@ impl<T: Lattice> Builder<T> {
     /// Adds an update, of whatever row, time and difference. [`Refusal::OutOfMemory`] only where memory for one more was
     /// refused; then nothing changes.
     pub fn push(&mut self, update: Update<T>) -> Result<(), Refusal>
-        ensures ok { OnOk result (self.new ≡ record self.old { updates = self.old.updates ++ update ∷ [] }) }
+        ensures ok { OnOk result
+            (self.new ≡ record self.old { updates = self.old.updates ++ update ∷ [] }) }
         ensures err { OnErr result (self.new ≡ self.old) }
         ensures only { IfErr result (λ refused. refused ≡ Refusal.OutOfMemory) }
     {
@@ -78,7 +79,8 @@ impl<T: Minimum> Builder<T> {
           since = T.least ∷ [];
         }) }
         ensures sealed { IfOk result (λ batch. IsSealed T.cmp batch.updates) }
-        ensures between { IfOk result (λ batch. IsTrue (all_between T.below lower.now upper.now batch.updates)) }
+        ensures between { IfOk result
+            (λ batch. IsTrue (all_between T.below lower.now upper.now batch.updates)) }
         ensures totals { IfOk result (λ batch. (p : List ℤ → T → Bool)
             → total_where p batch.updates ≡ total_where p self.updates) }
         ensures sums { IfOk result (λ batch. (t : T)

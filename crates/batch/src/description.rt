@@ -31,7 +31,13 @@ impl<T: Lattice> Model for Description<T> {
 
     ghost Value = { Described T };
 
-    ghost view = { λ d. record { worker = d.worker; node = d.node; lower = d.lower.items; upper = d.upper.items; since = d.since.items } };
+    ghost view = { λ d. record {
+      worker = d.worker;
+      node = d.node;
+      lower = d.lower.items;
+      upper = d.upper.items;
+      since = d.since.items;
+    } };
 
     ghost invariant = { λ d. IsInterval T.below T.cmp d.lower.items d.upper.items d.since.items };
 }
@@ -48,7 +54,13 @@ impl<T: Lattice> Description<T> {
     ) -> Result<Description<T>, Refusal>
         requires { IsInterval T.below T.cmp lower.now upper.now since.now }
         ensures made { IfOk result (λ made. made
-            ≡ record { worker = worker; node = node; lower = lower.now; upper = upper.now; since = since.now }) }
+            ≡ record {
+              worker = worker;
+              node = node;
+              lower = lower.now;
+              upper = upper.now;
+              since = since.now;
+            }) }
         ensures only { IfErr result (λ refused. refused ≡ Refusal.OutOfMemory) }
     {
         Ok(Description {
@@ -76,10 +88,12 @@ impl<T: Lattice> Description<T> {
           since = since.now;
         }) }
         ensures forward { OnOk result (IsTrue (all_beyond T.below self.now.lower self.now.upper)) }
-        ensures next_forward { OnOk result (IsTrue (all_beyond T.below next.now.lower next.now.upper)) }
+        ensures next_forward { OnOk result
+            (IsTrue (all_beyond T.below next.now.lower next.now.upper)) }
         ensures follows { OnOk result (Follows self.now next.now) }
         ensures stray { (result ≡ Err Refusal.Stray) ↔ (Follows self.now next.now → ⊥) }
-        ensures only { IfErr result (λ refused. (refused ≡ Refusal.OutOfMemory) ⊎ (refused ≡ Refusal.Stray)) }
+        ensures only { IfErr result (λ refused. (refused ≡ Refusal.OutOfMemory)
+            ⊎ (refused ≡ Refusal.Stray)) }
     {
         if !self.is_followed_by(next) {
             return Err(Refusal::Stray);

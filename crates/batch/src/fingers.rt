@@ -52,7 +52,8 @@ fn push_sum<T: Lattice>(
     u: &Update<T>,
     v: &Update<T>,
 ) -> Result<(), Refusal>
-    ensures written { OnOk result (out.new.items ≡ out.old.items ++ settled u.now (u.now.diff +ℤ v.now.diff)) }
+    ensures written { OnOk result
+        (out.new.items ≡ out.old.items ++ settled u.now (u.now.diff +ℤ v.now.diff)) }
     ensures fits { OnOk result (FitsSigned w64 (u.now.diff +ℤ v.now.diff)) }
     ensures refused { IfErr result (λ refused. (refused ≡ Refusal.OutOfMemory)
         ⊎ ((refused ≡ Refusal.Overflow) × (FitsSigned w64 (u.now.diff +ℤ v.now.diff) → ⊥))) }
@@ -84,8 +85,10 @@ fn take_next<T: Lattice>(
     ensures forward { IfOk result (λ next. at.left + at.right < next.left + next.right) }
     ensures merging { IfOk result (λ next.
         IsMerging T.cmp us.now vs.now out.old.items (drop at.left us.now) (drop at.right vs.now)
-        → IsMerging T.cmp us.now vs.now out.new.items (drop next.left us.now) (drop next.right vs.now)) }
-    ensures refused { IfErr result (λ refused. (refused ≡ Refusal.OutOfMemory) ⊎ ((refused ≡ Refusal.Overflow)
+        → IsMerging T.cmp us.now vs.now out.new.items (drop next.left us.now)
+        (drop next.right vs.now)) }
+    ensures refused { IfErr result (λ refused. (refused ≡ Refusal.OutOfMemory)
+        ⊎ ((refused ≡ Refusal.Overflow)
         × (IsMerging T.cmp us.now vs.now out.old.items (drop at.left us.now) (drop at.right vs.now)
         → HasLargeTotal T.below (us.now ++ vs.now)))) }
 {
@@ -163,7 +166,8 @@ pub(crate) fn merged_list<T: Lattice>(
     ensures totals { IfOk result (λ out. (p : List ℤ → T → Bool)
         → total_where p out.items ≡ total_where p (us.now ++ vs.now)) }
     ensures among { IfOk result (λ out. (p : List ℤ → T → Bool)
-        → IsTrue (list_all (λ u. p u.row u.time) us.now) → IsTrue (list_all (λ u. p u.row u.time) vs.now)
+        → IsTrue (list_all (λ u. p u.row u.time) us.now)
+        → IsTrue (list_all (λ u. p u.row u.time) vs.now)
         → IsTrue (list_all (λ u. p u.row u.time) out.items)) }
     ensures size { IfOk result (λ out. size out.items ≤ size us.now + size vs.now) }
     ensures fits { OnOk result (HasLargeTotal T.below (us.now ++ vs.now) → ⊥) }

@@ -46,7 +46,8 @@ pub(crate) fn range_of<T: Lattice>(updates: &[Update<T>], key: &[i64]) -> Range<
     requires { IsStrictlySortedBy (by_row_then_time T.cmp) updates.now }
     ensures ordered { result.start ≤ result.end }
     ensures within { result.end ≤ length updates.now }
-    ensures exact { slice_range updates.now result.start result.end ≡ filter (has_key key.now) updates.now }
+    ensures exact { slice_range updates.now result.start result.end
+        ≡ filter (has_key key.now) updates.now }
 {
     first_not_before(updates, key)..first_after(updates, key)
 }

@@ -12,7 +12,8 @@ use lattice::Lattice;
 /// what a seal or a merge keeps says which list it gives.
 pub fn sealed_lists_are_determined<T: Lattice>()
     ensures totals { (us vs : List (Update T)) → IsSealed T.cmp us → IsSealed T.cmp vs
-        → ((row : List ℤ) (t : T) → total_at T.below row t us ≡ total_at T.below row t vs) → us ≡ vs }
+        → ((row : List ℤ) (t : T) → total_at T.below row t us ≡ total_at T.below row t vs)
+        → us ≡ vs }
     ensures sums { (us vs : List (Update T)) → IsSealed T.cmp us → IsSealed T.cmp vs
         → ((t : T) → Alike (as_of T.below t us) (as_of T.below t vs)) → us ≡ vs }
 {}

@@ -42,7 +42,8 @@ pub fn merge<T: Lattice>(
     ensures between { IfOk result (λ both.
         IsTrue (all_between T.below a.now.description.lower a.now.description.upper a.now.updates)
         → IsTrue (all_between T.below b.now.description.lower b.now.description.upper b.now.updates)
-        → IsTrue (all_between T.below a.now.description.lower b.now.description.upper both.updates)) }
+        → IsTrue
+        (all_between T.below a.now.description.lower b.now.description.upper both.updates)) }
     ensures totals { IfOk result (λ both. (p : List ℤ → T → Bool)
         → total_where p both.updates ≡ total_where p (a.now.updates ++ b.now.updates)) }
     ensures sums { IfOk result (λ both. (t : T)
@@ -51,11 +52,15 @@ pub fn merge<T: Lattice>(
         → IsTrue (list_all (λ u. p u.row u.time) a.now.updates)
         → IsTrue (list_all (λ u. p u.row u.time) b.now.updates)
         → IsTrue (list_all (λ u. p u.row u.time) both.updates)) }
-    ensures size { IfOk result (λ both. size both.updates ≤ size a.now.updates + size b.now.updates) }
+    ensures size { IfOk result
+        (λ both. size both.updates ≤ size a.now.updates + size b.now.updates) }
     ensures fits { OnOk result (HasLargeTotal T.below (a.now.updates ++ b.now.updates) → ⊥) }
-    ensures stray { (result ≡ Err Refusal.Stray) ↔ (Follows a.now.description b.now.description → ⊥) }
-    ensures refused { IfErr result (λ refused. (refused ≡ Refusal.OutOfMemory) ⊎ ((refused ≡ Refusal.Stray)
-        ⊎ ((refused ≡ Refusal.Overflow) × HasLargeTotal T.below (a.now.updates ++ b.now.updates)))) }
+    ensures stray { (result ≡ Err Refusal.Stray)
+        ↔ (Follows a.now.description b.now.description → ⊥) }
+    ensures refused { IfErr result (λ refused. (refused ≡ Refusal.OutOfMemory)
+        ⊎ ((refused ≡ Refusal.Stray)
+        ⊎ ((refused ≡ Refusal.Overflow)
+        × HasLargeTotal T.below (a.now.updates ++ b.now.updates)))) }
 {
     let alloc = a.allocator();
     let description = a.description().followed_by(alloc, b.description(), since)?;

@@ -19,11 +19,14 @@ pub fn bounds_are_tested_apart<T: Lattice>()
 pub fn later_frontiers_are_beyond<T: Lattice>()
     ensures upward { (F : List T) (t u : T) → IsTrue (is_beyond T.below F t) → IsTrue (T.below t u)
         → IsTrue (is_beyond T.below F u) }
-    ensures later { (F G : List T) (t : T) → IsTrue (all_beyond T.below F G) → IsTrue (is_beyond T.below G t)
+    ensures later { (F G : List T) (t : T) → IsTrue (all_beyond T.below F G)
+        → IsTrue (is_beyond T.below G t)
         → IsTrue (is_beyond T.below F t) }
-    ensures covers { (F G : List T) → ((t : T) → IsTrue (is_beyond T.below G t) → IsTrue (is_beyond T.below F t))
+    ensures covers { (F G : List T)
+        → ((t : T) → IsTrue (is_beyond T.below G t) → IsTrue (is_beyond T.below F t))
         → IsTrue (all_beyond T.below F G) }
     ensures itself { (F : List T) → IsTrue (all_beyond T.below F F) }
-    ensures transitive { (F G H : List T) → IsTrue (all_beyond T.below F G) → IsTrue (all_beyond T.below G H)
+    ensures transitive { (F G H : List T) → IsTrue (all_beyond T.below F G)
+        → IsTrue (all_beyond T.below G H)
         → IsTrue (all_beyond T.below F H) }
 {}

@@ -125,7 +125,8 @@ fn push_counts<T: Lattice>(
     entries: &mut Vec<Update<Moment>>,
     updates: &[Update<T>],
 ) -> Result<(), Refusal>
-    ensures more { OnOk result (entries.new.items ≡ entries.old.items ++ map at_moment updates.now) }
+    ensures more { OnOk result
+        (entries.new.items ≡ entries.old.items ++ map at_moment updates.now) }
     ensures refused { IfErr result (λ refused. refused ≡ Refusal.OutOfMemory) }
 {
     for update in updates {

@@ -33,7 +33,8 @@ fn settle<T: Lattice>(updates: &mut [Update<T>], at: usize, total: i128) -> Resu
     requires { at < length updates.old }
     ensures next { IfOk result (λ next. next ≤ at + 1) }
     ensures settled { IfOk result (λ next. (d : Update T)
-        → take next updates.new ≡ take at updates.old ++ settled (slice_index_or updates.old at d) total) }
+        → take next updates.new
+        ≡ take at updates.old ++ settled (slice_index_or updates.old at d) total) }
     ensures rest { drop (at + 1) updates.new ≡ drop (at + 1) updates.old }
     ensures fits { OnOk result (FitsSigned w64 total) }
     ensures large { IsErr result → FitsSigned w64 total → ⊥ }
@@ -61,7 +62,8 @@ fn next_run<T: Lattice>(
     requires within { from < length updates.old }
     ensures next { IfOk result (λ next. next ≤ from) }
     ensures settled { IfOk result (λ next. (d : Update T)
-        → take next updates.new ≡ take at updates.old ++ settled (slice_index_or updates.old at d) total) }
+        → take next updates.new
+        ≡ take at updates.old ++ settled (slice_index_or updates.old at d) total) }
     ensures first { IfOk result (λ next. (d : Update T)
         → slice_index_or updates.new next d ≡ slice_index_or updates.old from d) }
     ensures rest { OnOk result (drop (from + 1) updates.new ≡ drop (from + 1) updates.old) }
@@ -93,18 +95,23 @@ fn take_in<T: Lattice>(
     ensures before { IfOk result (λ new. new.at ≤ next) }
     ensures small { IfOk result (λ new. unsigned_abs new.total ≤ (next + 1) * 2 ^ 63) }
     ensures gathered { IfOk result (λ new. (d : Update T) (more : List (Update T))
-        → take new.at updates.new ++ settled_runs (runs_of T.cmp (slice_index_or updates.new new.at d) new.total more)
-        ≡ take run.at updates.old ++ settled_runs (runs_of T.cmp (slice_index_or updates.old run.at d) run.total
+        → take new.at updates.new ++ settled_runs
+        (runs_of T.cmp (slice_index_or updates.new new.at d) new.total more)
+        ≡ take run.at updates.old ++ settled_runs
+        (runs_of T.cmp (slice_index_or updates.old run.at d) run.total
         (slice_index_or updates.old next d ∷ more))) }
     ensures fits { IfOk result (λ new. (d : Update T) (more : List (Update T))
-        → AllFit (runs_of T.cmp (slice_index_or updates.old run.at d) run.total (slice_index_or updates.old next d ∷ more))
+        → AllFit (runs_of T.cmp (slice_index_or updates.old run.at d) run.total
+        (slice_index_or updates.old next d ∷ more))
         → AllFit (runs_of T.cmp (slice_index_or updates.new new.at d) new.total more)) }
     ensures so_far { IfOk result (λ new. (d : Update T) (more : List (Update T))
         → AllFit (runs_of T.cmp (slice_index_or updates.new new.at d) new.total more)
-        → AllFit (runs_of T.cmp (slice_index_or updates.old run.at d) run.total (slice_index_or updates.old next d ∷ more))) }
+        → AllFit (runs_of T.cmp (slice_index_or updates.old run.at d) run.total
+        (slice_index_or updates.old next d ∷ more))) }
     ensures rest { OnOk result (drop (next + 1) updates.new ≡ drop (next + 1) updates.old) }
     ensures large { IsErr result → (d : Update T) (more : List (Update T))
-        → AllFit (runs_of T.cmp (slice_index_or updates.old run.at d) run.total (slice_index_or updates.old next d ∷ more))
+        → AllFit (runs_of T.cmp (slice_index_or updates.old run.at d) run.total
+        (slice_index_or updates.old next d ∷ more))
         → ⊥ }
     ensures only { IfErr result (λ refused. refused ≡ Refusal.Overflow) }
 {
@@ -122,7 +129,8 @@ fn take_in<T: Lattice>(
 // Gathers the runs of a sorted list at its front, one update for each whose total is not 0, and gives how many there are.
 fn gather<T: Lattice>(updates: &mut [Update<T>]) -> Result<usize, Refusal>
     requires { 0 < length updates.old }
-    ensures gathered { IfOk result (λ kept. take kept updates.new ≡ settled_runs (runs_from T.cmp updates.old)) }
+    ensures gathered { IfOk result
+        (λ kept. take kept updates.new ≡ settled_runs (runs_from T.cmp updates.old)) }
     ensures fits { OnOk result (AllFit (runs_from T.cmp updates.old)) }
     ensures large { IsErr result → AllFit (runs_from T.cmp updates.old) → ⊥ }
     ensures only { IfErr result (λ refused. refused ≡ Refusal.Overflow) }
@@ -139,7 +147,8 @@ fn gather<T: Lattice>(updates: &mut [Update<T>]) -> Result<usize, Refusal>
 
 // Leaves in a sorted list one update for each run whose total is not 0.
 fn keep_totals<T: Lattice>(updates: &mut Vec<Update<T>>) -> Result<(), Refusal>
-    ensures kept { OnOk result (updates.new.items ≡ settled_runs (runs_from T.cmp updates.old.items)) }
+    ensures kept { OnOk result
+        (updates.new.items ≡ settled_runs (runs_from T.cmp updates.old.items)) }
     ensures fits { OnOk result (AllFit (runs_from T.cmp updates.old.items)) }
     ensures large { IsErr result → AllFit (runs_from T.cmp updates.old.items) → ⊥ }
     ensures only { IfErr result (λ refused. refused ≡ Refusal.Overflow) }
@@ -163,7 +172,8 @@ pub fn consolidate<T: Lattice>(mut updates: Vec<Update<T>>) -> Result<Vec<Update
     ensures consolidated { IfOk result (λ out. IsConsolidated T.cmp out.items) }
     ensures totals { IfOk result (λ out. (p : List ℤ → T → Bool)
         → total_where p out.items ≡ total_where p updates.items) }
-    ensures sums { IfOk result (λ out. (t : T) → Alike (as_of T.below t out.items) (as_of T.below t updates.items)) }
+    ensures sums { IfOk result (λ out. (t : T)
+        → Alike (as_of T.below t out.items) (as_of T.below t updates.items)) }
     ensures among { IfOk result (λ out. (p : List ℤ → T → Bool)
         → IsTrue (list_all (λ u. p u.row u.time) updates.items)
         → IsTrue (list_all (λ u. p u.row u.time) out.items)) }
@@ -184,7 +194,8 @@ pub(crate) fn consolidate_behind<T: Lattice>(
     mut updates: Vec<Update<T>>,
 ) -> Result<Vec<Update<T>>, Refusal>
     ensures consolidated { IfOk result (λ out. IsConsolidated T.cmp out.items) }
-    ensures sums { IfOk result (λ out. (t : T) → Alike (as_of T.below t out.items) (as_of T.below t updates.items)) }
+    ensures sums { IfOk result (λ out. (t : T)
+        → Alike (as_of T.below t out.items) (as_of T.below t updates.items)) }
     ensures fits { OnOk result (HasLargeTotal T.below updates.items → ⊥) }
     ensures refused { IfErr result (λ refused. (refused ≡ Refusal.OutOfMemory)
         ⊎ ((refused ≡ Refusal.Overflow) × HasLargeTotal T.below updates.items)) }

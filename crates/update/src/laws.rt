@@ -15,7 +15,8 @@ pub fn sums_determine_a_list<T: Lattice>()
     ensures totals { (among : T → Bool) (us vs : List (Update T))
         → ((s t : T) → IsTrue (T.below s t) → IsTrue (among t) → IsTrue (among s))
         → ((t : T) → IsTrue (among t) → Alike (as_of T.below t us) (as_of T.below t vs))
-        → (row : List ℤ) (t : T) → IsTrue (among t) → total_at T.below row t us ≡ total_at T.below row t vs }
+        → (row : List ℤ) (t : T) → IsTrue (among t)
+        → total_at T.below row t us ≡ total_at T.below row t vs }
     ensures updates { (among : T → Bool) (us vs : List (Update T))
         → ((s t : T) → IsTrue (T.below s t) → IsTrue (among t) → IsTrue (among s))
         → ((t : T) → IsTrue (among t) → Alike (as_of T.below t us) (as_of T.below t vs))

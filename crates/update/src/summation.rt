@@ -17,7 +17,8 @@ fn gone_by<T: Lattice>(
     updates: &[Update<T>],
     t: T,
 ) -> Result<Vec<Update<Moment>>, Refusal>
-    ensures gone { IfOk result (λ gone. gone.items ≡ map at_moment (filter (λ u. T.below u.time t) updates.now)) }
+    ensures gone { IfOk result
+        (λ gone. gone.items ≡ map at_moment (filter (λ u. T.below u.time t) updates.now)) }
     ensures only { IfErr result (λ refused. refused ≡ Refusal.OutOfMemory) }
 {
     let mut gone = Vec::new(alloc);

@@ -13,15 +13,18 @@ pub trait Weight {
 
     /// The sum, or nothing exactly where the type does not hold it. Takes no memory.
     fn plus(self, other: Self) -> Option<Self>
-        ensures { let sum = whole self +ℤ whole other in SomeIff (option_map whole result) (holds sum) sum };
+        ensures { let sum = whole self +ℤ whole other in SomeIff (option_map whole result)
+            (holds sum) sum };
 
     /// The number with the other sign, or nothing exactly where the type does not hold it. Takes no memory.
     fn negate(self) -> Option<Self>
-        ensures { let other = neg_ℤ (whole self) in SomeIff (option_map whole result) (holds other) other };
+        ensures { let other = neg_ℤ (whole self) in SomeIff (option_map whole result)
+            (holds other) other };
 
     /// The product, or nothing exactly where the type does not hold it. Takes no memory.
     fn times(self, other: Self) -> Option<Self>
-        ensures { let product = whole self *ℤ whole other in SomeIff (option_map whole result) (holds product) product };
+        ensures { let product = whole self *ℤ whole other in SomeIff (option_map whole result)
+            (holds product) product };
 }
 
 /// The numbers from -9223372036854775808 to 9223372036854775807.
