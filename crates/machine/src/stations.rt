@@ -286,8 +286,8 @@ impl<T: Minimum> Stations<T> {
 
     /// Reserves room at each place for the bundles of the list that go there. Refused only with `OutOfMemory`.
     ///
-    /// Cost: linear in the bundles, but for the queues' growth now and then. In room: a slot for each bundle at its own
-    /// place, and at a queue that grows as many again.
+    /// Cost: linear in the bundles, but for the queues' growth now and then. Room: one slot for each bundle, at its own place
+    /// alone, and what a queue that grows takes ahead.
     pub(crate) fn reserve(&mut self, sent: &[Bundle<T>]) -> Result<(), Refusal>
         ensures unchanged { lots self.new ≡ lots self.old }
         ensures room { OnOk result (HasRoomFor sent.now self.new) }
