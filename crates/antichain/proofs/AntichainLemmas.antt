@@ -19,6 +19,7 @@ pub not_true : (b : Bool) → IsTrue (not b) → IsTrue b → ⊥
 not_true true h k = true≢false (sym h)
 not_true false h k = true≢false (sym k)
 
+-- turns a refuted test into its negation
 pub not_from : (b : Bool) → (IsTrue b → ⊥) → IsTrue (not b)
 not_from true h = absurd (h refl)
 not_from false h = refl
@@ -39,6 +40,7 @@ module _ {T : Type 0} (below : T → T → Bool) where
   beyond_has (f ∷ F) t h =
       ⊎_elim (λ e. (f, inl refl, e)) (λ e. let r = beyond_has F t e in (r.0, inr r.1, r.2)) (or_cases _ _ h)
 
+  -- one element at or before a time puts it beyond
   pub has_beyond : (F : List T) (f t : T) → Among f F → IsTrue (below f t) → IsTrue (is_beyond below F t)
   has_beyond [] f t m h = absurd m
   has_beyond (g ∷ F) f t m h =
@@ -126,6 +128,7 @@ module _ {T : Type 0} {cmp : T → T → Ordering} (total : IsTotalOrder cmp) wh
       n)
       m
 
+  -- a sorted list is determined by its elements
   pub sorted_same : (xs ys : List T) → IsStrictlySortedBy cmp xs → IsStrictlySortedBy cmp ys → ((t : T) → Among t xs → Among t ys) → ((t : T) → Among t ys → Among t xs) → xs ≡ ys
   unfolding IsStrictlySortedBy
   sorted_same [] [] s r h k = refl
@@ -163,16 +166,19 @@ module _ {T : Type 0} {below : T → T → Bool} {cmp : T → T → Ordering} (o
       sorted_same total F G f.ascending g.ascending (element_of F G f.antichain same) (element_of G F g.antichain (λ t. sym (same t)))
 
 module _ {T : Type 0} (below : T → T → Bool) (cmp : T → T → Ordering) where
+  -- no times are a frontier
   pub frontier_none : IsFrontier below cmp []
   unfolding IsStrictlySortedBy
   frontier_none = record { antichain = refl; ascending = tt }
 
+  -- one time is a frontier
   pub frontier_one_time : (t : T) → IsFrontier below cmp (t ∷ [])
   unfolding IsStrictlySortedBy
   frontier_one_time t = record { antichain = refl; ascending = (tt, tt) }
 
 -- lists of which a comparison says that they are equal are identical, if it says so of identical elements alone
 module _ {T : Type 0} {eq : T → T → Bool} (exact : (x y : T) → eq x y ≡ true → x ≡ y) (same : (x : T) → eq x x ≡ true) where
+  -- lists that compare equal are equal
   pub pointwise_exact : (xs ys : List T) → IsTrue (pointwise eq xs ys) → xs ≡ ys
   pointwise_exact [] [] h = refl
   pointwise_exact [] (y ∷ ys) h = absurd (true≢false (sym h))
@@ -187,9 +193,11 @@ module _ {T : Type 0} {eq : T → T → Bool} (exact : (x y : T) → eq x y ≡ 
   pointwise_itself [] = refl
   pointwise_itself (x ∷ xs) = and_from (eq x x) (pointwise eq xs xs) (same x) (pointwise_itself xs)
 
+  -- and equal lists compare equal
   pub pointwise_same : (xs ys : List T) → xs ≡ ys → IsTrue (pointwise eq xs ys)
   pointwise_same xs ys e = ap (pointwise eq xs) (sym e) ∙ pointwise_itself xs
 
+-- reads the answer of a comparison
 pub equal_answer : (a : Ordering) → is_eq a ≡ true → a ≡ Equal
 equal_answer Less e = absurd (true≢false (sym e))
 equal_answer Equal e = refl

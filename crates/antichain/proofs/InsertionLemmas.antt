@@ -12,7 +12,7 @@ use Rattle.lattice.specs.Frontiers.{is_beyond}
 use Rattle.lattice.proofs.BoundLemmas.{same_test}
 use Rattle.lattice.proofs.FrontierLemmas.{beyond_up}
 use Rattle.antichain.specs.Antichains.{is_incomparable, is_antichain, least, SameElements, IsFrontier}
-use Rattle.antichain.specs.Insertion.{placed, not_above}
+use Rattle.antichain.specs.Insertion.{insertion, not_above}
 use Rattle.antichain.proofs.Lists.{Among, among_contains, contains_among, all_from, all_filter, filter_has, filter_takes}
 use Rattle.antichain.proofs.AntichainLemmas.{beyond_has, has_beyond, not_from, frontier_least}
 
@@ -55,45 +55,46 @@ less_is Greater e = absurd (true≢false (sym e))
 
 module _ {T : Type 0} (cmp : T → T → Ordering) where
   -- what holds of the new element and of the old ones holds of all
-  all_placed : (P : T → Type 0) (t : T) (xs : List T) → P t → AllByRecursion P xs → AllByRecursion P (placed cmp t xs)
+  all_placed : (P : T → Type 0) (t : T) (xs : List T) → P t → AllByRecursion P xs → AllByRecursion P (insertion cmp t xs)
   all_placed P t [] p a = (p, tt)
   all_placed P t (x ∷ xs) p a =
-      elim (is_lt (cmp t x)) as (λ b. AllByRecursion P (cond b (t ∷ (x ∷ xs)) (x ∷ placed cmp t xs))) [
+      elim (is_lt (cmp t x)) as (λ b. AllByRecursion P (cond b (t ∷ (x ∷ xs)) (x ∷ insertion cmp t xs))) [
         | true ↦ (p, a)
         | false ↦ (a.0, all_placed P t xs p a.1)
       ]
 
-  all_test_placed : (p : T → Bool) (t : T) (xs : List T) → IsTrue (p t) → IsTrue (list_all p xs) → IsTrue (list_all p (placed cmp t xs))
+  all_test_placed : (p : T → Bool) (t : T) (xs : List T) → IsTrue (p t) → IsTrue (list_all p xs) → IsTrue (list_all p (insertion cmp t xs))
   all_test_placed p t [] h a = and_from _ _ h refl
   all_test_placed p t (x ∷ xs) h a =
       let parts = and_parts _ _ a in
-      elim (is_lt (cmp t x)) as (λ b. IsTrue (list_all p (cond b (t ∷ (x ∷ xs)) (x ∷ placed cmp t xs)))) [
+      elim (is_lt (cmp t x)) as (λ b. IsTrue (list_all p (cond b (t ∷ (x ∷ xs)) (x ∷ insertion cmp t xs)))) [
         | true ↦ and_from _ _ h a
         | false ↦ and_from _ _ parts.0 (all_test_placed p t xs h parts.1)
       ]
 
-  any_placed : (p : T → Bool) (t : T) (xs : List T) → list_any p (placed cmp t xs) ≡ (p t || list_any p xs)
+  any_placed : (p : T → Bool) (t : T) (xs : List T) → list_any p (insertion cmp t xs) ≡ (p t || list_any p xs)
   any_placed p t [] = refl
   any_placed p t (x ∷ xs) =
-      elim (is_lt (cmp t x)) as (λ b. list_any p (cond b (t ∷ (x ∷ xs)) (x ∷ placed cmp t xs)) ≡ (p t || (p x || list_any p xs))) [
+      elim (is_lt (cmp t x)) as (λ b. list_any p (cond b (t ∷ (x ∷ xs)) (x ∷ insertion cmp t xs)) ≡ (p t || (p x || list_any p xs))) [
         | true ↦ refl
         | false ↦ ap (λ b. p x || b) (any_placed p t xs) ∙ or_swap (p x) (p t) (list_any p xs)
       ]
 
-  pub length_placed : (t : T) (xs : List T) → length (placed cmp t xs) ≡ length (t ∷ xs)
+  -- an insertion makes a list longer by one
+  pub length_placed : (t : T) (xs : List T) → length (insertion cmp t xs) ≡ length (t ∷ xs)
   length_placed t [] = refl
   length_placed t (x ∷ xs) =
-      elim (is_lt (cmp t x)) as (λ b. length (cond b (t ∷ (x ∷ xs)) (x ∷ placed cmp t xs)) ≡ length (t ∷ (x ∷ xs))) [
+      elim (is_lt (cmp t x)) as (λ b. length (cond b (t ∷ (x ∷ xs)) (x ∷ insertion cmp t xs)) ≡ length (t ∷ (x ∷ xs))) [
         | true ↦ refl
         | false ↦ let h = length_placed t xs in omega (arith, h)
       ]
 
   -- a list in order keeps its order, if the new element is none of the old ones
-  sorted_placed : IsTotalOrder cmp → (t : T) (xs : List T) → ((x : T) → Among x xs → cmp t x ≢ Equal) → IsStrictlySortedBy cmp xs → IsStrictlySortedBy cmp (placed cmp t xs)
+  sorted_placed : IsTotalOrder cmp → (t : T) (xs : List T) → ((x : T) → Among x xs → cmp t x ≢ Equal) → IsStrictlySortedBy cmp xs → IsStrictlySortedBy cmp (insertion cmp t xs)
   unfolding IsStrictlySortedBy
   sorted_placed o t [] other s = (tt, tt)
   sorted_placed o t (x ∷ xs) other s =
-      elim (is_lt (cmp t x)) as (λ b. is_lt (cmp t x) ≡ b → IsStrictlySortedBy cmp (cond b (t ∷ (x ∷ xs)) (x ∷ placed cmp t xs))) [
+      elim (is_lt (cmp t x)) as (λ b. is_lt (cmp t x) ≡ b → IsStrictlySortedBy cmp (cond b (t ∷ (x ∷ xs)) (x ∷ insertion cmp t xs))) [
         | true ↦ λ e. ((less_is _ e, all_after t x xs (less_is _ e) s.0), s)
         | false ↦ λ e. (all_placed (λ y. cmp x y ≡ Less) t xs (turned e) s.0, sorted_placed o t xs (λ y m. other y (inr m)) s.1)
       ] refl
@@ -141,12 +142,12 @@ module _ {T : Type 0} (below : T → T → Bool) where
       let p = and_parts (not (below s t)) (not (below t s)) h in
       and_from (not (below t s)) (not (below s t)) p.1 p.0
 
-  antichain_placed : (cmp : T → T → Ordering) (t : T) (xs : List T) → IsTrue (list_all (is_incomparable below t) xs) → IsTrue (is_antichain below xs) → IsTrue (is_antichain below (placed cmp t xs))
+  antichain_placed : (cmp : T → T → Ordering) (t : T) (xs : List T) → IsTrue (list_all (is_incomparable below t) xs) → IsTrue (is_antichain below xs) → IsTrue (is_antichain below (insertion cmp t xs))
   antichain_placed cmp t [] h a = refl
   antichain_placed cmp t (x ∷ xs) h a =
       let apart = and_parts _ _ h in
       let parts = and_parts _ _ a in
-      elim (is_lt (cmp t x)) as (λ b. IsTrue (is_antichain below (cond b (t ∷ (x ∷ xs)) (x ∷ placed cmp t xs)))) [
+      elim (is_lt (cmp t x)) as (λ b. IsTrue (is_antichain below (cond b (t ∷ (x ∷ xs)) (x ∷ insertion cmp t xs)))) [
         | true ↦ and_from _ _ h a
         | false ↦ and_from _ _ (all_test_placed cmp (is_incomparable below x) t xs (incomparable_back t x apart.0) parts.0) (antichain_placed cmp t xs apart.1 parts.1)
       ]
@@ -181,7 +182,7 @@ module _ {T : Type 0} {below : T → T → Bool} (order : PartialOrderLaws below
           ] refl
 
   -- what is beyond after an insertion
-  pub beyond_inserted : (cmp : T → T → Ordering) (t s : T) (xs : List T) → is_beyond below (placed cmp t (not_above below t xs)) s ≡ (below t s || is_beyond below xs s)
+  pub beyond_inserted : (cmp : T → T → Ordering) (t s : T) (xs : List T) → is_beyond below (insertion cmp t (not_above below t xs)) s ≡ (below t s || is_beyond below xs s)
   beyond_inserted cmp t s xs = any_placed cmp (λ f. below f s) t (not_above below t xs) ∙ beyond_rest t s xs
 
   -- a time that is beyond opens nothing
@@ -192,7 +193,7 @@ module _ {T : Type 0} {below : T → T → Bool} (order : PartialOrderLaws below
       (λ k. ⊎_elim (λ b. beyond_up order xs t s h b) (λ b. b) (or_cases _ _ k))
 
   -- an insertion of a time that is not beyond keeps a frontier one
-  pub frontier_inserted : {cmp : T → T → Ordering} → IsTotalOrder cmp → ExtendsLaws below cmp → (t : T) (xs : List T) → is_beyond below xs t ≡ false → IsFrontier below cmp xs → IsFrontier below cmp (placed cmp t (not_above below t xs))
+  pub frontier_inserted : {cmp : T → T → Ordering} → IsTotalOrder cmp → ExtendsLaws below cmp → (t : T) (xs : List T) → is_beyond below xs t ≡ false → IsFrontier below cmp xs → IsFrontier below cmp (insertion cmp t (not_above below t xs))
   frontier_inserted {cmp} total extends t xs h f = record {
     antichain = antichain_placed below cmp t (not_above below t xs) (apart_from_rest below t xs h) (antichain_filter below (λ y. not (below t y)) xs f.antichain);
     ascending = sorted_placed cmp total t (not_above below t xs)
@@ -204,12 +205,13 @@ module _ {T : Type 0} {below : T → T → Bool} (order : PartialOrderLaws below
   }
 
   -- after an insertion the elements are the least of the old ones and the time
-  pub least_inserted : {cmp : T → T → Ordering} → IsTotalOrder cmp → ExtendsLaws below cmp → (t : T) (xs : List T) → is_beyond below xs t ≡ false → IsFrontier below cmp xs → SameElements (placed cmp t (not_above below t xs)) (least below (t ∷ xs))
+  pub least_inserted : {cmp : T → T → Ordering} → IsTotalOrder cmp → ExtendsLaws below cmp → (t : T) (xs : List T) → is_beyond below xs t ≡ false → IsFrontier below cmp xs → SameElements (insertion cmp t (not_above below t xs)) (least below (t ∷ xs))
   least_inserted {cmp} total extends t xs h f =
-      frontier_least below order (placed cmp t (not_above below t xs)) (t ∷ xs)
+      frontier_least below order (insertion cmp t (not_above below t xs)) (t ∷ xs)
       (frontier_inserted total extends t xs h f).antichain
       (λ s. beyond_inserted cmp t s xs)
 
+  -- a time that is beyond already adds nothing
   pub least_already : {cmp : T → T → Ordering} (t : T) (xs : List T) → is_beyond below xs t ≡ true → IsFrontier below cmp xs → SameElements xs (least below (t ∷ xs))
   least_already t xs h f = frontier_least below order xs (t ∷ xs) f.antichain (λ s. beyond_already t s xs h)
 

@@ -13,9 +13,11 @@ among_at t [] k h e = absurd (omega (arith, h))
 among_at t (x ∷ xs) zero h e = inl e
 among_at t (x ∷ xs) (suc k) h e = inr (among_at t xs k (omega (arith, h)) e)
 
+-- from membership in the sense of std to membership by recursion
 pub among_contains : {T : Type 0} (t : T) (xs : List T) → Contains xs t → Among t xs
 among_contains t xs h = among_at t xs h.0 h.1 h.2
 
+-- and back
 pub contains_among : {T : Type 0} (t : T) (xs : List T) → Among t xs → Contains xs t
 contains_among t [] h = absurd h
 contains_among t (x ∷ xs) h =
@@ -24,12 +26,14 @@ contains_among t (x ∷ xs) h =
     (λ a. let c = contains_among t xs a in (suc c.0, (let lt : c.0 < length xs = c.1 in omega arith), c.2))
     h
 
+-- what holds of all elements holds of each
 pub all_at : {T : Type 0} (p : T → Bool) (xs : List T) (t : T) → IsTrue (list_all p xs) → Among t xs → IsTrue (p t)
 all_at p [] t a h = absurd h
 all_at p (x ∷ xs) t a h =
     let parts = and_parts _ _ a in
     ⊎_elim (λ e. ap p (sym e) ∙ parts.0) (λ m. all_at p xs t parts.1 m) h
 
+-- what holds of each element holds of all
 pub all_from : {T : Type 0} (p : T → Bool) (xs : List T) → ((t : T) → Among t xs → IsTrue (p t)) → IsTrue (list_all p xs)
 all_from p [] h = refl
 all_from p (x ∷ xs) h = and_from _ _ (h x (inl refl)) (all_from p xs (λ t m. h t (inr m)))
@@ -43,6 +47,7 @@ filter_has p (x ∷ xs) t h =
       | false ↦ λ e m. let r = filter_has p xs t m in (inr r.0, r.1)
     ] refl h
 
+-- a filter keeps what passes
 pub filter_takes : {T : Type 0} (p : T → Bool) (xs : List T) (t : T) → Among t xs → IsTrue (p t) → Among t (filter p xs)
 filter_takes p [] t h k = absurd h
 filter_takes p (x ∷ xs) t h k =
@@ -51,6 +56,7 @@ filter_takes p (x ∷ xs) t h k =
       | false ↦ λ e. ⊎_elim (λ s. absurd (true≢false (sym k ∙ ap p (sym s) ∙ e))) (λ n. filter_takes p xs t n k) h
     ] refl
 
+-- a filter makes no list longer
 pub filter_shorter : {T : Type 0} (p : T → Bool) (xs : List T) → length (filter p xs) ≤ length xs
 filter_shorter p [] = omega arith
 filter_shorter p (x ∷ xs) =

@@ -5,9 +5,9 @@ use Rattle.std.specs.Ordering.{is_lt}
 use Rattle.std.specs.declared.cmp.Ordering.{Ordering}
 
 -- the list with t before the first element that is greater
-abbrev pub placed : {T : Type 0} → (T → T → Ordering) → T → List T → List T
-placed cmp t [] = t ∷ []
-placed cmp t (x ∷ xs) = cond (is_lt (cmp t x)) (t ∷ (x ∷ xs)) (x ∷ placed cmp t xs)
+abbrev pub insertion : {T : Type 0} → (T → T → Ordering) → T → List T → List T
+insertion cmp t [] = t ∷ []
+insertion cmp t (x ∷ xs) = cond (is_lt (cmp t x)) (t ∷ (x ∷ xs)) (x ∷ insertion cmp t xs)
 
 -- the elements that t is not at or below
 abbrev pub not_above : {T : Type 0} → (T → T → Bool) → T → List T → List T

@@ -4,7 +4,7 @@
 ghost use Rattle.std.specs.Prelude.{◌≡◌, ◌≤◌, length, OnOk, OnErr};
 ghost use Rattle.std.specs.List.{insert};
 ghost use Rattle.smallvec.specs.SmallVec.{small_vec_len, HasRoomFor};
-ghost use Rattle.antichain.specs.Insertion.{placed, not_above};
+ghost use Rattle.antichain.specs.Insertion.{insertion, not_above};
 
 use crate::NoMemory;
 use lattice::Lattice;
@@ -14,7 +14,7 @@ use smallvec::SmallVec;
 // none of these and no room.
 pub(crate) fn insert_new<T: Lattice>(elements: &mut SmallVec<T, 4>, t: T) -> Result<(), NoMemory>
     ensures ok { OnOk result
-        (elements.new.items ≡ placed T.cmp t (not_above T.below t elements.old.items)) }
+        (elements.new.items ≡ insertion T.cmp t (not_above T.below t elements.old.items)) }
     ensures err { OnErr result (elements.new.items ≡ elements.old.items) }
     ensures full { OnErr result (elements.old.capacity ≤ small_vec_len elements.old) }
     ensures none_above { OnErr result
@@ -56,7 +56,7 @@ fn remove_above<T: Lattice>(elements: &mut SmallVec<T, 4>, t: T)
 // The index of the first element that comes after `t` in order, or the length.
 fn place_of<T: Lattice>(elements: &[T], t: T) -> usize
     ensures within { result ≤ length elements.now }
-    ensures place { insert elements.now result t ≡ placed T.cmp t elements.now }
+    ensures place { insert elements.now result t ≡ insertion T.cmp t elements.now }
 {
     for (i, e) in elements.iter().enumerate() {
         if t < *e {

@@ -57,7 +57,7 @@ impl<T: Lattice> Antichain<T> {
     /// The least of the times, in whatever order and number they are given. [`NoMemory`] only where they are more than
     /// four.
     ///
-    /// Cost: the number of times by that of the least of them.
+    /// Cost: each time is compared with the elements so far, of which there may be more on the way than at the end.
     pub fn least_of(alloc: Global, times: &[T]) -> Result<Self, NoMemory>
         ensures least { IfOk result (λ frontier. SameElements frontier (least T.below times.now)) }
         ensures beyond { IfOk result (λ frontier. (s : T)
@@ -77,6 +77,13 @@ impl<T: Lattice> Antichain<T> {
         ensures frontier { IsFrontier T.below T.cmp self.now }
     {
         self.elements.as_slice()
+    }
+
+    /// Costs nothing; it tells the prover that the elements are a frontier.
+    pub fn known(&self)
+        ensures { IsFrontier T.below T.cmp self.now }
+    {
+        let _ = &self.elements;
     }
 
     /// How many elements there are. Takes no memory.
@@ -145,7 +152,8 @@ impl<T: Lattice> Antichain<T> {
     /// The antichain of the times that are beyond both: a time is beyond the result exactly when it is beyond this one
     /// and the other. [`NoMemory`] only where there are more than four pairs of elements.
     ///
-    /// Cost: the product of both numbers of elements by the number of elements of the result.
+    /// Cost: the join of each pair of elements is compared with the elements so far, of which there may be more on the
+    /// way than at the end.
     pub fn joined(&self, other: &Antichain<T>) -> Result<Antichain<T>, NoMemory>
         ensures beyond { IfOk result (λ both. (t : T)
             → is_beyond T.below both t

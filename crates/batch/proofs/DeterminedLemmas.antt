@@ -50,12 +50,14 @@ module _ {T : Type 0} {below : T → T → Bool} {cmp : T → T → Ordering} (o
           let diff : v.diff ≡ u.diff = sym (own_total vs b.ascending v k) ∙ (λ i. total_at below (row i) (time i) vs) ∙ there in
           λ i. record { time = time i; row = row i; diff = diff i }
 
+  -- a sealed list is determined by its totals
   pub same_sealed : (us vs : List (Update T)) → IsSealed cmp us → IsSealed cmp vs → ((row : List ℤ) (t : T) → total_at below row t us ≡ total_at below row t vs) → us ≡ vs
   same_sealed us vs a b same =
       sorted_same (by_row_total total) us vs a.ascending b.ascending
       (update_of us vs same a b)
       (update_of vs us (λ row t. sym (same row t)) b a)
 
+  -- and so by its sums
   pub same_by_sums : (us vs : List (Update T)) → IsSealed cmp us → IsSealed cmp vs → ((t : T) → Alike (as_of below t us) (as_of below t vs)) → us ≡ vs
   same_by_sums us vs a b same =
       same_sealed us vs a b (λ row t. same_totals o (λ _. true) us vs (λ s u h k. refl) (λ u h. same u) row t refl)

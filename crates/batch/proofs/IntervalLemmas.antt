@@ -12,6 +12,7 @@ use Rattle.batch.specs.Descriptions.{IsInterval}
 use Rattle.batch.specs.Intervals.{is_between, all_between}
 
 module _ {T : Type 0} {below : T → T → Bool} (o : PartialOrderLaws below) where
+  -- a merged batch covers the interval of both
   pub whole_interval : {cmp : T → T → Ordering} (A B C D S : List T) → IsFrontier below cmp A → IsFrontier below cmp D → IsFrontier below cmp S → IsTrue (all_beyond below A B) → IsTrue (all_beyond below C D) → B ≡ C → IsInterval below cmp A D S
   whole_interval A B C D S a d s f g e = record {
     lower_frontier = a;

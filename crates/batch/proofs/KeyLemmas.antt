@@ -13,7 +13,7 @@ use Rattle.std.proofs.lemmas.Bool.{true≢false}
 use Rattle.std.proofs.lemmas.List.Elements.{All-from_recursion}
 use Rattle.std.proofs.lemmas.Map.Keys.{sorted_head, sorted_tail}
 use Rattle.update.specs.declared.change.Update.{Update}
-use Rattle.batch.specs.Batches.{by_row_then_time, has_key, at_key}
+use Rattle.batch.specs.Batches.{by_row_then_time, begins_with, at_key}
 
 module _ {X : Type 0} where
   -- a test that passes at an element where it passes at a later one parts a list in order
@@ -118,6 +118,7 @@ module _ {T : Type 0} (cmp : T → T → Ordering) (key : List ℤ) where
   in_order : (u v : Update T) → by_row_then_time cmp u v ≡ Less → is_gt (slice_cmp int_cmp (take (length key) u.row) (take (length key) v.row)) ≡ false
   in_order u v h = beginnings (length key) u.row v.row (first_not_above (slice_cmp int_cmp u.row v.row) (cmp u.time v.time) h)
 
+  -- rows up to the key stand in front
   pub keeps_upto : (u v : Update T) → by_row_then_time cmp u v ≡ Less → is_le (at_key key v) ≡ true → is_le (at_key key u) ≡ true
   keeps_upto u v h e =
       not_above_is_upto (at_key key u)
@@ -126,6 +127,7 @@ module _ {T : Type 0} (cmp : T → T → Ordering) (key : List ℤ) where
   back : (r : List ℤ) → is_gt (slice_cmp int_cmp key r) ≡ is_lt (slice_cmp int_cmp r key)
   back r = ap is_gt (rows_total.antisymm key r) ∙ turned (slice_cmp int_cmp r key)
 
+  -- rows before the key stand in front
   pub keeps_before : (u v : Update T) → by_row_then_time cmp u v ≡ Less → is_lt (at_key key v) ≡ true → is_lt (at_key key u) ≡ true
   keeps_before u v h e =
       less_or_not (is_lt (at_key key u))
@@ -133,18 +135,20 @@ module _ {T : Type 0} (cmp : T → T → Ordering) (key : List ℤ) where
       let later = upto rows_total key (take (length key) u.row) (take (length key) v.row) (back (take (length key) u.row) ∙ f) (in_order u v h) in
       true≢false (sym e ∙ sym (back (take (length key) v.row)) ∙ later))
 
-  at_key_is : (u : Update T) → has_key key u ≡ is_eq (at_key key u)
+  at_key_is : (u : Update T) → begins_with key u ≡ is_eq (at_key key u)
   at_key_is u = lists_ties int_cmp (λ x y. refl) (take (length key) u.row) key
 
+  -- the first bound of a key stands at or before the second
   pub ends_in_order : (us : List (Update T)) (i j : ℕ) → i ≤ length us → IsPartitionPoint (λ u. is_lt (at_key key u) ≡ true) (λ u. is_lt (at_key key u) ≡ false) us i → IsPartitionPoint (λ u. is_le (at_key key u) ≡ true) (λ u. is_le (at_key key u) ≡ false) us j → i ≤ j
   ends_in_order [] i j l p q = omega (arith, l)
   ends_in_order (d ∷ us) i j l p q =
       let other : j < i → ⊥ = λ m. true≢false (sym (less_is_upto (at_key key (get_or (d ∷ us) j d)) (p.0 j d (omega arith) m)) ∙ q.1 j d (omega arith) (omega (arith, l, m))) in
       omega (arith, other)
 
-  pub range_is_filter : (us : List (Update T)) (i j : ℕ) → i ≤ j → IsPartitionPoint (λ u. is_lt (at_key key u) ≡ true) (λ u. is_lt (at_key key u) ≡ false) us i → IsPartitionPoint (λ u. is_le (at_key key u) ≡ true) (λ u. is_le (at_key key u) ≡ false) us j → slice_range us i j ≡ filter (has_key key) us
+  -- what stands between the bounds are exactly the rows of the key
+  pub range_is_filter : (us : List (Update T)) (i j : ℕ) → i ≤ j → IsPartitionPoint (λ u. is_lt (at_key key u) ≡ true) (λ u. is_lt (at_key key u) ≡ false) us i → IsPartitionPoint (λ u. is_le (at_key key u) ≡ true) (λ u. is_le (at_key key u) ≡ false) us j → slice_range us i j ≡ filter (begins_with key) us
   range_is_filter us i j l p q =
-      run_is_filter (has_key key) us i (j - i)
+      run_is_filter (begins_with key) us i (j - i)
       (λ k d m n. at_key_is (get_or us k d) ∙ less_not_equal (at_key key (get_or us k d)) (p.0 k d (omega arith) m))
       (λ k d g m n. at_key_is (get_or us k d) ∙ between_is_equal (at_key key (get_or us k d)) (p.1 k d g n) (q.0 k d (omega arith) (omega (arith, m, l))))
       (λ k d g n. at_key_is (get_or us k d) ∙ above_not_equal (at_key key (get_or us k d)) (q.1 k d (omega (arith, g, l)) n))

@@ -21,7 +21,7 @@ use Rattle.lattice.specs.Order.{PartialOrderLaws}
 use Rattle.update.specs.declared.change.Update.{Update}
 use Rattle.update.specs.Bags.{same_row}
 use Rattle.update.specs.Updates.{total_where, total_at, HasLargeTotal, size}
-use Rattle.update.specs.Gathering.{settled}
+use Rattle.update.specs.Groups.{group_sum}
 use Rattle.update.proofs.SumLemmas.{total_by-append, sum_where-none}
 use Rattle.update.proofs.UniqueLemmas.{at_each, meets, meets_row, meets_time}
 use Rattle.update.proofs.TotalLemmas.{fits_zero}
@@ -42,11 +42,13 @@ module _ {X : Type 0} (P : X → Type 0) where
   second_part [] ys a = a
   second_part (x ∷ xs) ys a = second_part xs ys a.1
 
+-- the step past one element of a loop over a list
 pub one_more : {X : Type 0} (P : X → Type 0) (xs : List X) (i : ℕ) (x : X) → i < length xs → x ≡ get_or xs i x → AllByRecursion P (take i xs) → P x → AllByRecursion P (take (i + 1) xs)
 one_more P xs i x h e a p =
     let more : take (i + 1) xs ≡ take i xs ++ x ∷ [] = take_more xs i x h ∙ ap (λ y. take i xs ++ (y ∷ [])) (sym e) in
     subst (AllByRecursion P) (sym more) (both P (take i xs) (x ∷ []) a (p, tt))
 
+-- the step that writes one element
 pub one_more_written : {X : Type 0} (old mid new xs : List X) (i : ℕ) (x : X) → i < length xs → x ≡ get_or xs i x → mid ≡ old ++ take i xs → new ≡ mid ++ x ∷ [] → new ≡ old ++ take (i + 1) xs
 one_more_written old mid new xs i x h e k l =
     let more : take (i + 1) xs ≡ take i xs ++ x ∷ [] = take_more xs i x h ∙ ap (λ y. take i xs ++ (y ∷ [])) (sym e) in
@@ -110,28 +112,28 @@ tied n e = (signed_Decides n (pos 0)).1 e
 
 -- an update with a total in place of its diff, or none where that is 0
 module _ {T : Type 0} where
-  settled_all : (P : Update T → Type 0) (u : Update T) (n : ℤ) → P (record u { diff = n }) → AllByRecursion P (settled u n)
+  settled_all : (P : Update T → Type 0) (u : Update T) (n : ℤ) → P (record u { diff = n }) → AllByRecursion P (group_sum u n)
   settled_all P u n h =
       elim (int_eq n (pos 0)) as (λ b. AllByRecursion P (cond b [] (record u { diff = n } ∷ []))) [
         | true ↦ tt
         | false ↦ (h, tt)
       ]
 
-  settled_nonzero : (u : Update T) (n : ℤ) → AllByRecursion (λ w. w.diff ≢ pos 0) (settled u n)
+  settled_nonzero : (u : Update T) (n : ℤ) → AllByRecursion (λ w. w.diff ≢ pos 0) (group_sum u n)
   settled_nonzero u n =
       elim (int_eq n (pos 0)) as (λ b. int_eq n (pos 0) ≡ b → AllByRecursion (λ w. w.diff ≢ pos 0) (cond b [] (record u { diff = n } ∷ []))) [
         | true ↦ λ e. tt
         | false ↦ λ e. ((λ z. true≢false (sym (tied n z) ∙ e)), tt)
       ] refl
 
-  settled_size : (u : Update T) (n : ℤ) → size (settled u n) ≤ unsigned_abs n
+  settled_size : (u : Update T) (n : ℤ) → size (group_sum u n) ≤ unsigned_abs n
   settled_size u n =
       elim (int_eq n (pos 0)) as (λ b. size (cond b [] (record u { diff = n } ∷ [])) ≤ unsigned_abs n) [
         | true ↦ omega arith
         | false ↦ let one = sum_by-cons (λ (w : Update T). unsigned_abs w.diff) (record u { diff = n }) [] in omega (arith, one)
       ]
 
-  settled_total : (p : List ℤ → T → Bool) (u : Update T) (n : ℤ) → total_where p (settled u n) ≡ cond (p u.row u.time) n (pos 0)
+  settled_total : (p : List ℤ → T → Bool) (u : Update T) (n : ℤ) → total_where p (group_sum u n) ≡ cond (p u.row u.time) n (pos 0)
   settled_total p u n =
       elim (int_eq n (pos 0)) as (λ b. int_eq n (pos 0) ≡ b → total_where p (cond b [] (record u { diff = n } ∷ [])) ≡ cond (p u.row u.time) n (pos 0)) [
         | true ↦ λ e. nothing (p u.row u.time) n ((signed_Decides n (pos 0)).0 e)
@@ -142,7 +144,7 @@ module _ {T : Type 0} where
       nothing true n e = sym e
       nothing false n e = refl
 
-  settled_same : (u v : Update T) (n : ℤ) → u.row ≡ v.row → u.time ≡ v.time → settled u n ≡ settled v n
+  settled_same : (u v : Update T) (n : ℤ) → u.row ≡ v.row → u.time ≡ v.time → group_sum u n ≡ group_sum v n
   settled_same u v n e d = λ i. cond (int_eq n (pos 0)) [] (record { time = d i; row = e i; diff = n } ∷ [])
 
 two_of : (b c : Bool) (n d e : ℤ) → b ≡ c → n ≡ (d +ℤ e) → (cond b d (pos 0) +ℤ cond c e (pos 0)) ≡ cond b n (pos 0)
@@ -221,25 +223,25 @@ module _ {T : Type 0} {cmp : T → T → Ordering} (total : IsTotalOrder cmp) wh
         step out xs (y ∷ ys) x m (l, after_all x y ys l (sorted_head order y ys (rest_sorted order out (y ∷ ys) m.ascending_right))) f
 
     -- updates of one row and time become one, or none where their diffs add to 0
-    pub step_both : (out xs ys : List (Update T)) (x y : Update T) (n : ℤ) → x.row ≡ y.row → x.time ≡ y.time → n ≡ (x.diff +ℤ y.diff) → FitsSigned w64 n → IsMerging cmp us vs out (x ∷ xs) (y ∷ ys) → IsMerging cmp us vs (out ++ settled x n) xs ys
+    pub step_both : (out xs ys : List (Update T)) (x y : Update T) (n : ℤ) → x.row ≡ y.row → x.time ≡ y.time → n ≡ (x.diff +ℤ y.diff) → FitsSigned w64 n → IsMerging cmp us vs out (x ∷ xs) (y ∷ ys) → IsMerging cmp us vs (out ++ group_sum x n) xs ys
     step_both out xs ys x y n e d k f m =
         let abs : Update T → ℕ = λ u. unsigned_abs u.diff in
         record {
-          ascending_left = subst (IsStrictlySortedBy order) (sym (append_assoc out (settled x n) xs)) (kept out xs x m.ascending_left);
-          ascending_right = subst (λ zs. IsStrictlySortedBy order ((out ++ zs) ++ ys)) (sym (settled_same x y n e d)) (subst (IsStrictlySortedBy order) (sym (append_assoc out (settled y n) ys)) (kept out ys y m.ascending_right));
-          nonzero = both (λ u. u.diff ≢ pos 0) out (settled x n) m.nonzero (settled_nonzero x n);
+          ascending_left = subst (IsStrictlySortedBy order) (sym (append_assoc out (group_sum x n) xs)) (kept out xs x m.ascending_left);
+          ascending_right = subst (λ zs. IsStrictlySortedBy order ((out ++ zs) ++ ys)) (sym (settled_same x y n e d)) (subst (IsStrictlySortedBy order) (sym (append_assoc out (group_sum y n) ys)) (kept out ys y m.ascending_right));
+          nonzero = both (λ u. u.diff ≢ pos 0) out (group_sum x n) m.nonzero (settled_nonzero x n);
           nonzero_left = m.nonzero_left.1;
           nonzero_right = m.nonzero_right.1;
-          fit = both (λ u. FitsSigned w64 u.diff) out (settled x n) m.fit (settled_all (λ u. FitsSigned w64 u.diff) x n f);
+          fit = both (λ u. FitsSigned w64 u.diff) out (group_sum x n) m.fit (settled_all (λ u. FitsSigned w64 u.diff) x n f);
           totals = λ p.
               let h = m.totals p in
-              let a = total_by-append (λ (u : Update T). cond (p u.row u.time) u.diff (pos 0)) out (settled x n) in
+              let a = total_by-append (λ (u : Update T). cond (p u.row u.time) u.diff (pos 0)) out (group_sum x n) in
               let b = settled_total p x n in
               let two = two_of (p x.row x.time) (p y.row y.time) n x.diff y.diff (λ i. p (e i) (d i)) k in
               omega (arith, ints);
           smaller =
               let h = m.smaller in
-              let a = sum_by-append abs out (settled x n) in
+              let a = sum_by-append abs out (group_sum x n) in
               let b = settled_size x n in
               let less : unsigned_abs n ≤ unsigned_abs x.diff + unsigned_abs y.diff = rw k (no_larger x.diff y.diff) in
               let left = sum_by-cons abs x xs in
@@ -247,10 +249,10 @@ module _ {T : Type 0} {cmp : T → T → Ordering} (total : IsTotalOrder cmp) wh
               omega (arith, h, a, b, less, left, right);
           among = λ p h g.
               let a = m.among p h g in
-              (both (λ u. IsTrue (p u.row u.time)) out (settled x n) a.0 (settled_all (λ u. IsTrue (p u.row u.time)) x n a.1.0), a.1.1, a.2.1);
+              (both (λ u. IsTrue (p u.row u.time)) out (group_sum x n) a.0 (settled_all (λ u. IsTrue (p u.row u.time)) x n a.1.0), a.1.1, a.2.1);
         }
       where
-        kept : (out xs : List (Update T)) (x : Update T) → IsStrictlySortedBy order (out ++ (x ∷ xs)) → IsStrictlySortedBy order (out ++ (settled x n ++ xs))
+        kept : (out xs : List (Update T)) (x : Update T) → IsStrictlySortedBy order (out ++ (x ∷ xs)) → IsStrictlySortedBy order (out ++ (group_sum x n ++ xs))
         kept out xs x s =
             elim (int_eq n (pos 0)) as (λ b. IsStrictlySortedBy order (out ++ (cond b [] (record x { diff = n } ∷ []) ++ xs))) [
               | true ↦ left_out order out xs x s
@@ -292,6 +294,7 @@ module _ {T : Type 0} {cmp : T → T → Ordering} (total : IsTotalOrder cmp) wh
       subst (λ zs. IsMerging cmp us vs zs [] []) (sym (append-nil (out ++ (x ∷ xs)))) (rest out (x ∷ xs) m f)
   rests out (x ∷ xs) (y ∷ ys) n f g m = absurd (n (omega arith) (omega arith))
 
+  -- writing the left update keeps the merge
   pub take_left : {us vs out new : List (Update T)} (i j : ℕ) (u v : Update T) → i < length us → j < length vs → u ≡ get_or us i u → v ≡ get_or vs j v → order u v ≡ Less → FitsSigned w64 u.diff → new ≡ out ++ u ∷ [] → IsMerging cmp us vs out (drop i us) (drop j vs) → IsMerging cmp us vs new (drop (i + 1) us) (drop j vs)
   take_left {us} {vs} {out} {new} i j u v h k e d l f w m =
       let left = standing us i u h e in
@@ -300,11 +303,13 @@ module _ {T : Type 0} {cmp : T → T → Ordering} (total : IsTotalOrder cmp) wh
       subst (λ zs. IsMerging cmp us vs zs (drop (i + 1) us) (drop j vs)) (sym w)
       (subst (λ zs. IsMerging cmp us vs (out ++ u ∷ []) (drop (i + 1) us) zs) (sym right) (step_left out (drop (i + 1) us) (drop (j + 1) vs) u v l f here))
 
+  -- writing the right update keeps it
   pub take_right : {us vs out new : List (Update T)} (i j : ℕ) (u v : Update T) → i < length us → j < length vs → u ≡ get_or us i u → v ≡ get_or vs j v → order u v ≡ Greater → FitsSigned w64 v.diff → new ≡ out ++ v ∷ [] → IsMerging cmp us vs out (drop i us) (drop j vs) → IsMerging cmp us vs new (drop i us) (drop (j + 1) vs)
   take_right {us} {vs} {out} {new} i j u v h k e d l f w m =
       let less : order v u ≡ Less = (by_row_total total).antisymm v u ∙ ap ordering_reverse l in
       turned new (drop (j + 1) vs) (drop i us) (take_left j i v u k h d e less f w (turned out (drop i us) (drop j vs) m))
 
+  -- writing the rest of both lists keeps it
   pub whole : {us vs out mid new : List (Update T)} (i j : ℕ) → (i < length us → j < length vs → ⊥) → IsMerging cmp us vs out (drop i us) (drop j vs) → mid ≡ out ++ take (length us - i) (drop i us) → new ≡ mid ++ take (length vs - j) (drop j vs) → AllByRecursion (λ u. FitsSigned w64 u.diff) (take (length us - i) (drop i us)) → AllByRecursion (λ u. FitsSigned w64 u.diff) (take (length vs - j) (drop j vs)) → IsMerging cmp us vs new [] []
   whole {us} {vs} {out} {mid} {new} i j n m e d f g =
       let left = length-drop i us in
@@ -327,7 +332,8 @@ module _ {T : Type 0} {cmp : T → T → Ordering} (total : IsTotalOrder cmp) wh
       let parts = then_tied (slice_cmp int_cmp u.row v.row) (cmp u.time v.time) e in
       ((signed_items u.row v.row).0 (lists_ties int_cmp (λ x y. refl) u.row v.row ∙ ap is_eq parts.0), exact u.time v.time parts.1)
 
-  pub take_both : {us vs out new : List (Update T)} (i j : ℕ) (u v : Update T) → i < length us → j < length vs → u ≡ get_or us i u → v ≡ get_or vs j v → ((s t : T) → cmp s t ≡ Equal → s ≡ t) → order u v ≡ Equal → FitsSigned w64 (u.diff +ℤ v.diff) → new ≡ out ++ settled u (u.diff +ℤ v.diff) → IsMerging cmp us vs out (drop i us) (drop j vs) → IsMerging cmp us vs new (drop (i + 1) us) (drop (j + 1) vs)
+  -- writing the sum of both updates keeps it
+  pub take_both : {us vs out new : List (Update T)} (i j : ℕ) (u v : Update T) → i < length us → j < length vs → u ≡ get_or us i u → v ≡ get_or vs j v → ((s t : T) → cmp s t ≡ Equal → s ≡ t) → order u v ≡ Equal → FitsSigned w64 (u.diff +ℤ v.diff) → new ≡ out ++ group_sum u (u.diff +ℤ v.diff) → IsMerging cmp us vs out (drop i us) (drop j vs) → IsMerging cmp us vs new (drop (i + 1) us) (drop (j + 1) vs)
   take_both {us} {vs} {out} {new} i j u v h k e d exact l f w m =
       let left = standing us i u h e in
       let right = standing vs j v k d in
@@ -337,6 +343,7 @@ module _ {T : Type 0} {cmp : T → T → Ordering} (total : IsTotalOrder cmp) wh
       (step_both out (drop (i + 1) us) (drop (j + 1) vs) u v (u.diff +ℤ v.diff) one.0 one.1 refl f here)
 
 module _ {T : Type 0} {below : T → T → Bool} {cmp : T → T → Ordering} (o : PartialOrderLaws below) (total : IsTotalOrder cmp) where
+  -- an update cannot stand before one of its row and time
   pub no_tie : (x z : Update T) → z.row ≡ x.row → z.time ≡ x.time → (by_row_then_time cmp x z ≡ Less → ⊥) × (by_row_then_time cmp z x ≡ Less → ⊥)
   no_tie x z e d =
       let itself = tied_itself (by_row_total total) x in
@@ -354,6 +361,7 @@ module _ {T : Type 0} {below : T → T → Bool} {cmp : T → T → Ordering} (o
       sum_where-none (λ (u : Update T). u.diff) (meets below x) zs
       (λ z m. false_from_ne_true (meets below x z) (λ k. (no_tie x z (meets_row o x z k) (meets_time o x z k)).1 (at_each (λ y. by_row_then_time cmp y x ≡ Less) zs z a m)))
 
+  -- the total of the first row and time is its own difference
   pub own_first : (x : Update T) (xs : List (Update T)) → IsStrictlySortedBy (by_row_then_time cmp) (x ∷ xs) → total_at below x.row x.time (x ∷ xs) ≡ x.diff
   own_first x xs s =
       let here : meets below x x ≡ true = and_from (same_row x.row x.row) (below x.time x.time && below x.time x.time) ((signed_items x.row x.row).1 refl) (and_from (below x.time x.time) (below x.time x.time) (o.reflexive x.time) (o.reflexive x.time)) in
@@ -372,6 +380,7 @@ module _ {T : Type 0} {below : T → T → Bool} {cmp : T → T → Ordering} (o
       let sum : total_at below x.row x.time (us ++ vs) ≡ (x.diff +ℤ y.diff) = omega (arith, ints) in
       (x.row, x.time, λ f. large (subst (FitsSigned w64) sum f))
 
+  -- a sum that is no 64-bit number is a total that is too large
   pub large_at : {us vs out : List (Update T)} (i j : ℕ) (u v : Update T) → i < length us → j < length vs → u ≡ get_or us i u → v ≡ get_or vs j v → ((s t : T) → cmp s t ≡ Equal → s ≡ t) → by_row_then_time cmp u v ≡ Equal → (FitsSigned w64 (u.diff +ℤ v.diff) → ⊥) → IsMerging cmp us vs out (drop i us) (drop j vs) → HasLargeTotal below (us ++ vs)
   large_at {us} {vs} {out} i j u v h k e d exact l large m =
       let left = standing us i u h e in
@@ -397,18 +406,22 @@ module _ {T : Type 0} {below : T → T → Bool} {cmp : T → T → Ordering} (o
       ] refl
 
   module _ {us vs out : List (Update T)} (m : IsMerging cmp us vs out [] []) where
+    -- at the end of a merge the output is sealed
     pub ends_sealed : IsSealed cmp out
     ends_sealed = record { ascending = subst (IsStrictlySortedBy (by_row_then_time cmp)) (append-nil out) m.ascending_left; nonzero = m.nonzero }
 
+    -- it has the totals of both lists
     pub ends_total : (p : List ℤ → T → Bool) → total_where p out ≡ total_where p (us ++ vs)
     ends_total p =
         let h = m.totals p in
         let e = total_by-append (λ (u : Update T). cond (p u.row u.time) u.diff (pos 0)) us vs in
         omega (arith, ints)
 
+    -- it is no larger than both
     pub ends_size : size out ≤ size us + size vs
     ends_size = let h = m.smaller in omega arith
 
+    -- it has no update that is not like one of theirs
     pub ends_among : (p : List ℤ → T → Bool) → IsTrue (list_all (λ u. p u.row u.time) us) → IsTrue (list_all (λ u. p u.row u.time) vs) → IsTrue (list_all (λ u. p u.row u.time) out)
     ends_among p a b =
         let test : Update T → Bool = λ u. p u.row u.time in
@@ -416,6 +429,7 @@ module _ {T : Type 0} {below : T → T → Bool} {cmp : T → T → Ordering} (o
         let all = m.among p (recursion_from_All pass us (AllPass-from_list_all test us a)) (recursion_from_All pass vs (AllPass-from_list_all test vs b)) in
         list_all-from_AllPass test out (All-from_recursion pass out all.0)
 
+    -- and no total is too large
     pub ends_fit : HasLargeTotal below (us ++ vs) → ⊥
     ends_fit large =
         large.2 (subst (FitsSigned w64) (ends_total (λ r s. same_row r large.0 && (below s large.1 && below large.1 s))) (sorted_fit out (ends_sealed).ascending m.fit large.0 large.1))

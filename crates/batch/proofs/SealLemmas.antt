@@ -63,6 +63,7 @@ module _ {X : Type 0} {order : X → X → Ordering} (total : IsTotalOrder order
   ties_turn x y = ap is_eq (total.antisymm x y) ∙ turned_tie (order y x)
 
 module _ {T : Type 0} {cmp : T → T → Ordering} (total : IsTotalOrder cmp) where
+  -- the order inside a batch is total
   pub by_row_total : IsTotalOrder (by_row_then_time cmp)
   by_row_total = then_total (on_total (λ u. u.row) (lists_total int_cmp_total)) (on_total (λ u. u.time) total)
 
@@ -74,6 +75,7 @@ module _ {T : Type 0} {cmp : T → T → Ordering} (total : IsTotalOrder cmp) wh
       let same : eq_by_cmp (by_time_then_row cmp) ≡ eq_by_cmp (by_row_then_time cmp) = λ i u v. same_ties u v i in
       subst (λ e. IsDistinct e us) same (IsDistinct-from_sorted (by_time_then_row cmp) us a.ascending)
 
+  -- sorting a consolidated list by row seals it
   pub sorted_sealed : (us vs : List (Update T)) → IsConsolidated cmp us → IsPermutation us vs → IsSortedBy (λ u v. is_lt (by_row_then_time cmp u v)) vs → IsSealed cmp vs
   sorted_sealed us vs a q s = record {
     ascending = strictly by_row_total vs s (IsDistinct-IsPermutation (eq_by_cmp (by_row_then_time cmp)) (ties_turn by_row_total) us vs q (apart us a));
@@ -81,12 +83,15 @@ module _ {T : Type 0} {cmp : T → T → Ordering} (total : IsTotalOrder cmp) wh
   }
 
 module _ {T : Type 0} (us vs : List (Update T)) (q : IsPermutation us vs) where
+  -- sorting changes no total
   pub moved_total : (p : List ℤ → T → Bool) → total_where p vs ≡ total_where p us
   moved_total p = sym (total_by-permutation (λ u. cond (p u.row u.time) u.diff (pos 0)) us vs q)
 
+  -- sorting changes no size
   pub moved_size : size vs ≡ size us
   moved_size = sum_by-IsPermutation (λ u. unsigned_abs u.diff) us vs q
 
+  -- sorting keeps what holds of all
   pub moved_among : (p : List ℤ → T → Bool) → IsTrue (list_all (λ u. p u.row u.time) us) → IsTrue (list_all (λ u. p u.row u.time) vs)
   moved_among p a =
       let test = λ (u : Update T). p u.row u.time in

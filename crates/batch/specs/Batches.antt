@@ -18,8 +18,8 @@ pub record IsSealed {T : Type 0} (cmp : T → T → Ordering) (us : List (Update
   pub nonzero : AllByRecursion (λ u. u.diff ≢ pos 0) us
 
 -- the update's row begins with the columns of the key
-abbrev pub has_key : {T : Type 0} → List ℤ → Update T → Bool
-has_key key u = same_row (take (length key) u.row) key
+abbrev pub begins_with : {T : Type 0} → List ℤ → Update T → Bool
+begins_with key u = same_row (take (length key) u.row) key
 
 -- how the beginning of the update's row, cut to the length of the key, compares with it
 abbrev pub at_key : {T : Type 0} → List ℤ → Update T → Ordering

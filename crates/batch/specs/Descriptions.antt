@@ -6,7 +6,7 @@ use Rattle.antichain.specs.Antichains.{IsFrontier}
 use Rattle.update.specs.declared.change.Update.{Update}
 
 -- whose updates these are, the frontiers between which they happened, and the one as of which they may be compacted
-pub record Described (T : Type 0) : Type 0 where
+pub record DescriptionState (T : Type 0) : Type 0 where
   pub worker : ℕ
   pub node : ℕ
   pub lower : List T
@@ -14,12 +14,12 @@ pub record Described (T : Type 0) : Type 0 where
   pub since : List T
 
 -- a description and updates
-pub record Sealed (T : Type 0) : Type 0 where
-  pub description : Described T
+pub record BatchState (T : Type 0) : Type 0 where
+  pub description : DescriptionState T
   pub updates : List (Update T)
 
 -- updates as they were pushed, the latest last, and whose they are
-pub record Gathered (T : Type 0) : Type 0 where
+pub record BuilderState (T : Type 0) : Type 0 where
   pub worker : ℕ
   pub node : ℕ
   pub updates : List (Update T)
@@ -32,5 +32,5 @@ pub record IsInterval {T : Type 0} (below : T → T → Bool) (cmp : T → T →
   pub forward : IsTrue (all_beyond below lower upper)
 
 -- b goes on where a ends, and is of the same worker and node
-abbrev pub Follows : {T : Type 0} → Described T → Described T → Type 0
+abbrev pub Follows : {T : Type 0} → DescriptionState T → DescriptionState T → Type 0
 Follows a b = (a.worker ≡ b.worker) × (a.node ≡ b.node) × (a.upper ≡ b.lower)

@@ -23,9 +23,9 @@ pub struct Batch<T: Lattice> {
 
 impl<T: Lattice> Model for Batch<T> {
     ghost use Rattle.batch.specs.Batches.{IsSealed};
-    ghost use Rattle.batch.specs.Descriptions.{Sealed};
+    ghost use Rattle.batch.specs.Descriptions.{BatchState};
 
-    ghost Value = { Sealed T };
+    ghost Value = { BatchState T };
 
     ghost view = { λ b. record { description = b.description; updates = b.updates.items } };
 

@@ -8,7 +8,7 @@ ghost use Rattle.update.specs.declared.refusal.Refusal.{Refusal};
 ghost use Rattle.batch.specs.Batches.{IsSealed};
 ghost use Rattle.batch.specs.Intervals.{all_between, is_interval_of};
 
-use crate::sealing::sealed_list;
+use crate::seal::sealed_list;
 use crate::{Batch, Description};
 use antichain::{Antichain, is_beyond};
 use lattice::{Lattice, Minimum};
@@ -26,9 +26,9 @@ pub struct Builder<T: Lattice> {
 }
 
 impl<T: Lattice> Model for Builder<T> {
-    ghost use Rattle.batch.specs.Descriptions.{Gathered};
+    ghost use Rattle.batch.specs.Descriptions.{BuilderState};
 
-    ghost Value = { Gathered T };
+    ghost Value = { BuilderState T };
 
     ghost view = { λ b. record { worker = b.worker; node = b.node; updates = b.updates.items } };
 }
@@ -45,8 +45,8 @@ impl<T: Lattice> Builder<T> {
         }
     }
 
-    /// Adds an update, of whatever row, time and difference. [`Refusal::OutOfMemory`] only where memory for one more was
-    /// refused; then nothing changes.
+    /// Adds an update, of whatever row, time and difference. [`Refusal::OutOfMemory`] only if memory for one more was
+    /// refused; then the builder stays as it was, and the update is dropped.
     pub fn push(&mut self, update: Update<T>) -> Result<(), Refusal>
         ensures ok { OnOk result
             (self.new ≡ record self.old { updates = self.old.updates ++ update ∷ [] }) }

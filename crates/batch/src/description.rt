@@ -27,9 +27,9 @@ pub struct Description<T: Lattice> {
 }
 
 impl<T: Lattice> Model for Description<T> {
-    ghost use Rattle.batch.specs.Descriptions.{Described, IsInterval};
+    ghost use Rattle.batch.specs.Descriptions.{DescriptionState, IsInterval};
 
-    ghost Value = { Described T };
+    ghost Value = { DescriptionState T };
 
     ghost view = { λ d. record {
       worker = d.worker;

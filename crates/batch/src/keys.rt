@@ -5,7 +5,7 @@ ghost use Rattle.std.specs.List.{filter};
 ghost use Rattle.std.specs.List.Sorted.{IsStrictlySortedBy, IsPartitionPoint};
 ghost use Rattle.std.specs.Cmp.Lexicographic.{slice_cmp};
 ghost use Rattle.std.specs.Ordering.{int_cmp, is_lt, is_le};
-ghost use Rattle.batch.specs.Batches.{by_row_then_time, has_key, at_key};
+ghost use Rattle.batch.specs.Batches.{by_row_then_time, begins_with, at_key};
 
 use lattice::Lattice;
 use row::Row;
@@ -47,7 +47,7 @@ pub(crate) fn range_of<T: Lattice>(updates: &[Update<T>], key: &[i64]) -> Range<
     ensures ordered { result.start ≤ result.end }
     ensures within { result.end ≤ length updates.now }
     ensures exact { slice_range updates.now result.start result.end
-        ≡ filter (has_key key.now) updates.now }
+        ≡ filter (begins_with key.now) updates.now }
 {
     first_not_before(updates, key)..first_after(updates, key)
 }

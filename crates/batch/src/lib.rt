@@ -1,12 +1,12 @@
 //! Batches: sealed, immutable lists of updates.
 //!
 //! Once no more changes can come for an interval of times, what a worker gathered at a node is sealed: consolidated, put
-//! in order, and never changed again. That is what makes a batch worth keeping. A spine keeps many, a join reads them, a
-//! reduction reads them again, and each may do so without asking the others, since none can change what another reads.
+//! in order, and never changed again. That is what makes a batch worth keeping. A spine will keep many of them, and joins and
+//! reductions will read them without asking each other, since nobody can change what another reads.
 //!
 //! The one invariant is the order: by row, then by time, one update for each row and time, and none of nothing. Rows come
 //! first, so that the updates of a key stand together, whatever its width: [`BatchReader::key_range`] finds them by two
-//! binary searches, and a join goes through two batches side by side. A list of updates that travels is sorted by time
+//! binary searches, and a join can go through two batches side by side. A list of updates that travels is sorted by time
 //! first; here nobody asks what happened when, but what happened to a key.
 //!
 //! - A [`Builder`] gathers updates in any order and seals them between two frontiers.
@@ -21,12 +21,12 @@
 mod batch;
 mod builder;
 mod description;
-mod fingers;
 mod keys;
 mod laws;
+mod merge_cursors;
 mod merging;
 mod reader;
-mod sealing;
+mod seal;
 
 pub use batch::Batch;
 pub use builder::Builder;

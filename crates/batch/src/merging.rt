@@ -8,7 +8,7 @@ ghost use Rattle.batch.specs.Batches.{IsSealed};
 ghost use Rattle.batch.specs.Descriptions.{Follows};
 ghost use Rattle.batch.specs.Intervals.{all_between};
 
-use crate::fingers::merged_list;
+use crate::merge_cursors::merged_list;
 use crate::{Batch, BatchReader};
 use antichain::Antichain;
 use lattice::Lattice;

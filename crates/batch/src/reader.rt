@@ -1,8 +1,8 @@
-//! How a batch is read. Joins and reductions are written against this trait and never against a batch, so that how
-//! updates are laid out is nobody else's business.
+//! How a batch is read. Operators are written against this trait and never against a batch, so that how updates
+//! are laid out may change without them.
 ghost use Rattle.std.specs.Prelude.{◌≡◌, ◌<◌, ◌≤◌, List, length, slice_get, slice_range, IsSomeAnd};
 ghost use Rattle.std.specs.List.{filter};
-ghost use Rattle.batch.specs.Batches.{IsSealed, has_key};
+ghost use Rattle.batch.specs.Batches.{IsSealed, begins_with};
 
 use crate::Description;
 use lattice::Lattice;
@@ -13,13 +13,13 @@ use std::ops::Range;
 /// read by index. So the updates of a key stand next to one another.
 pub trait BatchReader {
     ghost use Rattle.update.specs.declared.change.Update.{Update};
-    ghost use Rattle.batch.specs.Descriptions.{Described};
+    ghost use Rattle.batch.specs.Descriptions.{DescriptionState};
 
     type Time: Lattice;
 
     ghost content: { Self → List (Update Self.Time) };
 
-    ghost described: { Self → Described Self.Time };
+    ghost described: { Self → DescriptionState Self.Time };
 
     /// Whose updates these are, and between which frontiers. Takes no memory.
     fn description(&self) -> &Description<Self::Time>
@@ -51,5 +51,5 @@ pub trait BatchReader {
         ensures ordered { result.start ≤ result.end }
         ensures within { result.end ≤ length (content self.now) }
         ensures exact { slice_range (content self.now) result.start result.end
-            ≡ filter (has_key key.now) (content self.now) };
+            ≡ filter (begins_with key.now) (content self.now) };
 }

@@ -2,7 +2,7 @@
 use Rattle.std.specs.Prelude.{◌≡◌, ◌⊎◌, ℕ, eqb, if◌then◌else◌, List, [], Option, Some, None, Result, Ok, Err}
 use Rattle.update.specs.declared.refusal.Refusal.{Refusal}
 use Rattle.grammar.specs.Scripts.{script_of}
-use Rattle.grammar.specs.Told.{Told}
+use Rattle.grammar.specs.ScriptModels.{ScriptModel}
 use Rattle.script.specs.Outs.{IsBeginning}
 use Rattle.script.specs.declared.fault.RunFault.{RunFault}
 use Rattle.script.specs.declared.fault.RunFault.TheVariants.{Refused, Write}
@@ -17,19 +17,20 @@ status_of Write = 3
 abbrev pub fault_status : Fault → ℕ
 fault_status fault = if eqb fault.code 1 then 3 else 2
 
--- the bytes that the output took in this call, and how many of its calls failed; what is to be written of a script; and which
--- part of that is written where a number is too large
-module _ (took : List ℕ → ℕ → Type 0) (wanted : Told → List ℕ) (IsBeforeOverflow : Told → List ℕ → Type 0) where
-  -- what is done with what the bytes are: of a script 0 says that exactly what is wanted was written, 3 that a beginning of it
-  -- was, and 4 that exactly the part before a number that is too large was; a fault writes nothing, and 2 says that the file
-  -- is at fault
-  abbrev pub IsDone : Result Told (ℕ × Refusal) → ℕ → Type 0
+-- the bytes that the output took in this call, and how many of its calls failed; what is to be
+-- written of a script; and which part of that is written where a number is too large
+module _ (took : List ℕ → ℕ → Type 0) (wanted : ScriptModel → List ℕ) (IsBeforeOverflow : ScriptModel → List ℕ → Type 0) where
+  -- what is done with what the bytes are: of a script 0 says that exactly what is wanted was
+  -- written, 3 that a beginning of it was, and 4 that exactly the part before a number that is too
+  -- large was; a fault writes nothing, and 2 says that the file is at fault
+  abbrev pub IsDone : Result ScriptModel (ℕ × Refusal) → ℕ → Type 0
   IsDone (Ok t) status = ((status ≡ 0) × took (wanted t) 0)
       ⊎ (((status ≡ 3) × (part : List ℕ) × (failures : ℕ) × IsBeginning part (wanted t) × took part failures)
       ⊎ ((status ≡ 4) × (part : List ℕ) × IsBeginning part (wanted t) × IsBeforeOverflow t part × took part 0))
   IsDone (Err fault) status = (status ≡ 2) × took [] 0
 
-  -- where the file was not read, or memory was refused while it was, nothing is written, and the status is 3
+  -- where the file was not read, or memory was refused while it was, nothing is written, and the
+  -- status is 3
   abbrev pub Acts : Option (List ℕ) → ℕ → Type 0
   Acts None status = (status ≡ 3) × took [] 0
   Acts (Some bytes) status = IsDone (script_of bytes) status ⊎ ((status ≡ 3) × took [] 0)

@@ -1,6 +1,7 @@
 //! What the program does with a file's bytes, whatever the outputs are.
 //!
-//! A failure of the second output, standard error, changes nothing: what went wrong is then told by the status alone.
+//! A failure of the second output, standard error, changes nothing: what went wrong is then told by
+//! the status alone.
 ghost use Rattle.std.specs.Prelude.{◌≡◌, ℕ, List, Ok, Some, IfErr, OnOk, option_map};
 ghost use Rattle.script.specs.Engines.{failures};
 ghost use Rattle.script.specs.Outs.{IsBeginning};
@@ -13,16 +14,16 @@ use grammar::{Fault, Script, parse};
 use script::{Out, RunFault, plain_script, put_all, run_script};
 use std::alloc::{AllocError, Global};
 
-/// Does what is asked with the file's bytes, which are `None` where it was not read: writes the script's text, or how many
-/// nodes and commands it has, to the first output, and what went wrong, in one line, to the second. The answer is the
-/// program's status:
+/// Does what is asked with the file's bytes, which are `None` where it was not read: writes the
+/// script's text, or how many nodes and commands it has, to the first output, and what went wrong,
+/// in one line, to the second. The answer is the program's status:
 ///
 /// | Status | When | The line on the second output |
 /// |---|---|---|
 /// | 0 | done, refused commands included | none |
 /// | 2 | the file is at fault | `fault line L code C` |
 /// | 3 | memory was refused; the file was not read; the output failed; no thread | `no memory`; `cannot read FILE`; `cannot write`; `no thread` |
-/// | 4 | a number is no 64-bit number, which needs changes that give some node a weight of 2 to the 63 or more; exactly the text of the lines before the one that asked for it was written | `overflow` |
+/// | 4 | a number is no 64-bit number, which needs changes that give some node a bound of 2 to the 63 or more; exactly the text of the lines before the one that asked for it was written | `overflow` |
 ///
 /// Cost: that of reading the script and of running it.
 pub fn act<W: Out, E: Out>(
@@ -47,7 +48,7 @@ pub fn act<W: Out, E: Out>(
     }
 }
 
-// The same where the file was read.
+// Parses the bytes of a file that was read, and does what is asked.
 fn act_on<W: Out, E: Out>(
     alloc: Global,
     action: Action<'_>,

@@ -6,7 +6,8 @@ use clap::error::ErrorKind;
 use clap::{Arg, ArgAction, ArgMatches, Command, Error};
 use std::alloc::{AllocError, Global};
 
-// What stands below the options when help is asked for. `docs/SCRIPT.md` says the same at more length.
+// What stands below the options when help is asked for. `docs/SCRIPT.md` says the same at more
+// length.
 const AFTER_HELP: &str = "Example:
   bitview run examples/late_correction.bv --workers 1
 
@@ -81,7 +82,8 @@ impl<'a> Action<'a> {
 
 /// Reads the program's words, its name first.
 ///
-/// Where they are not understood, and where help or the version is asked for, the error has the text to print, and its kind.
+/// Where they are not understood, and where help or the version is asked for, the error has the
+/// text to print, and its kind.
 ///
 /// Cost: linear in the words.
 pub fn words<'a>(alloc: Global, words: &'a [&'a str]) -> Result<Action<'a>, Error>

@@ -1,9 +1,11 @@
-//! The program: `bitview run FILE` reads a command file and writes what it asks for, `bitview plain FILE` writes the same,
-//! worked out from scratch, and `bitview check FILE` says how much the file holds.
+//! The program: `bitview run FILE` reads a command file and writes what it asks for, `bitview plain
+//! FILE` writes the same, worked out from scratch, and `bitview check FILE` says how much the file
+//! holds.
 //!
-//! The command line is read by [`words`], the file is read here, and [`act`] does the rest: it knows no file and no process,
-//! only bytes and two outputs, so that its promise can be stated. What is left to `main` is what no promise reaches: the
-//! arguments, the file, and where standard output and standard error go.
+//! The command line is read by [`words`], the file is read here, and [`act`] does the rest: it
+//! knows no file and no process, only bytes and two outputs, so that its promise can be stated.
+//! What is left to `main` is what no promise reaches: the arguments, the file, and where standard
+//! output and standard error go.
 #![tactic(auto)]
 
 ghost use Rattle.bitview.specs.Actions.{IsInRange};
@@ -58,7 +60,7 @@ fn arguments<R: Env + AllocGlobal>(rt: &R, alloc: Global) -> io::Result<Vec<Stri
     Ok(given)
 }
 
-// The same, as slices.
+// The words as slices, which is what [`words`] reads.
 fn slices<'a>(alloc: Global, given: &'a [String]) -> Result<Vec<&'a str>, AllocError> {
     let mut slices = Vec::new(alloc);
     for word in given {
@@ -70,13 +72,17 @@ fn slices<'a>(alloc: Global, given: &'a [String]) -> Result<Vec<&'a str>, AllocE
 // Does what the words ask for, and says how it went.
 fn answer<R: Files + AllocGlobal + Print + Eprint>(rt: &R, alloc: Global, given: &[String]) -> u8 {
     match slices(alloc, given) {
-        Ok(given) => obey(rt, alloc, given.as_slice()),
+        Ok(given) => parse_and_perform(rt, alloc, given.as_slice()),
         Err(_refused) => without_memory(rt),
     }
 }
 
-// The same, from slices.
-fn obey<R: Files + AllocGlobal + Print + Eprint>(rt: &R, alloc: Global, given: &[&str]) -> u8 {
+// Finds the action that the words ask for, and performs it.
+fn parse_and_perform<R: Files + AllocGlobal + Print + Eprint>(
+    rt: &R,
+    alloc: Global,
+    given: &[&str],
+) -> u8 {
     match words(alloc, given) {
         Ok(action) => perform(rt, alloc, action),
         Err(error) => explain(rt, &error),

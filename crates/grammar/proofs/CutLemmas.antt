@@ -5,7 +5,7 @@ use Rattle.std.specs.List.{slice_split, onto_first, All}
 use Rattle.std.proofs.lemmas.List.Elements.{All-nil, All-cons, All-weaker}
 use Rattle.std.proofs.lemmas.List.Splits.{slice_split_at, slice_split_none, length-slice_split}
 use Rattle.grammar.specs.Text.{without_empty_end, lines_of, words_of}
-use Rattle.grammar.specs.Joining.{joined, spaced, AreWords, AreLines}
+use Rattle.grammar.specs.JoinedText.{joined_lines, joined_words, AreWords, AreLines}
 use Rattle.grammar.proofs.TextLemmas.{at_newline, without_empty_end-cons}
 
 abbrev at_space : ℕ → Bool
@@ -17,23 +17,25 @@ is_kept word = not (eqb (length word) 0)
 lacks : (byte : ℕ) (xs : List ℕ) → All (λ b. b ≢ byte) xs → All (λ b. eqb b byte ≡ false) xs
 lacks byte xs h = All-weaker (λ b. b ≢ byte) (λ b. eqb b byte ≡ false) (λ b ne. ne_eqb b byte ne) xs h
 
-pub lines_joined : (lines : List (List ℕ)) → AreLines lines → lines_of (joined lines) ≡ lines
+-- answers the clause `lines` of joined_texts_are_cut_again
+pub lines_joined : (lines : List (List ℕ)) → AreLines lines → lines_of (joined_lines lines) ≡ lines
 lines_joined [] h = refl
 lines_joined (line ∷ lines) h =
-    ap lines_of (append_assoc line (10 ∷ []) (joined lines))
-    ∙ ap without_empty_end (slice_split_at at_newline line 10 (joined lines) (lacks 10 line h.0) refl)
-    ∙ without_empty_end-cons line (slice_split at_newline (joined lines)) (omega (arith, length-slice_split at_newline (joined lines)))
+    ap lines_of (append_assoc line (10 ∷ []) (joined_lines lines))
+    ∙ ap without_empty_end (slice_split_at at_newline line 10 (joined_lines lines) (lacks 10 line h.0) refl)
+    ∙ without_empty_end-cons line (slice_split at_newline (joined_lines lines)) (omega (arith, length-slice_split at_newline (joined_lines lines)))
     ∙ ap (λ (ls : List (List ℕ)). line ∷ ls) (lines_joined lines h.1)
 
 keep : (word : List ℕ) (words : List (List ℕ)) → 0 < length word → filter is_kept (word ∷ words) ≡ word ∷ filter is_kept words
 keep word words l = ap (λ b. cond (not b) (word ∷ filter is_kept words) (filter is_kept words)) (ne_eqb (length word) 0 (λ z. omega arith))
 
-pub words_spaced : (words : List (List ℕ)) → AreWords words → words_of (spaced words) ≡ words
+-- answers the clause `words` of joined_texts_are_cut_again
+pub words_spaced : (words : List (List ℕ)) → AreWords words → words_of (joined_words words) ≡ words
 words_spaced [] h = refl
 words_spaced (word ∷ []) h = ap (filter is_kept) (slice_split_none at_space word (lacks 32 word h.0.1)) ∙ keep word [] h.0.0
 words_spaced (word ∷ next ∷ words) h =
-    ap (filter is_kept) (slice_split_at at_space word 32 (spaced (next ∷ words)) (lacks 32 word h.0.1) refl)
-    ∙ keep word (slice_split at_space (spaced (next ∷ words))) h.0.0
+    ap (filter is_kept) (slice_split_at at_space word 32 (joined_words (next ∷ words)) (lacks 32 word h.0.1) refl)
+    ∙ keep word (slice_split at_space (joined_words (next ∷ words))) h.0.0
     ∙ ap (λ (ws : List (List ℕ)). word ∷ ws) (words_spaced (next ∷ words) h.1)
 
 -- no piece has a space
@@ -62,5 +64,6 @@ kept_pieces : (pieces : List (List ℕ)) → Clean pieces → AreWords (filter i
 kept_pieces [] c = tt
 kept_pieces (piece ∷ pieces) c = kept_piece piece (filter is_kept pieces) (eqb (length piece) 0) refl c.0 (kept_pieces pieces c.1)
 
+-- shows that the words of a line meet what words_spaced asks for
 pub own_words : (line : List ℕ) → AreWords (words_of line)
 own_words line = kept_pieces (slice_split at_space line) (pieces_clean line)

@@ -38,6 +38,7 @@ lead_decimal n lt h =
       | inr none ↦ let zero : n ≡ 0 = omega arith in ap (λ m. length (decimal m)) zero ∙ ap length (decimal_digit 0 (omega arith))
     ]
 
+-- reads a printed number again, if it fits in 64 bits
 pub whole_again : (n : ℕ) → n < 2 ^ 64 → whole_of (decimal n) ≡ Some n
 whole_again n lt = whole_is (decimal n) n (is_one (decimal n) (digits_decimal own n lt) (decimal_nonempty n lt) (lead_decimal n lt)) (digits_value-decimal own n lt) lt
 

@@ -4,9 +4,9 @@ use Rattle.std.specs.Option.{option_map}
 use Rattle.row.specs.Text.{item_text, cmp_text}
 use Rattle.row.specs.declared.projection.Item.{Item}
 use Rattle.row.specs.declared.projection.Item.TheVariants.{Column, Constant}
-use Rattle.row.specs.declared.testing.Cmp.{Cmp}
-use Rattle.row.specs.declared.testing.Cmp.TheVariants.{Eq, Ne, Lt, Le, Gt, Ge}
-use Rattle.row.specs.declared.testing.Test.{Test}
+use Rattle.row.specs.declared.test.Cmp.{Cmp}
+use Rattle.row.specs.declared.test.Cmp.TheVariants.{Eq, Ne, Lt, Le, Gt, Ge}
+use Rattle.row.specs.declared.test.Test.{Test}
 use Rattle.update.specs.declared.refusal.Refusal.TheVariants.{UnknownCommand, BadNumber}
 use Rattle.grammar.specs.Numbers.{whole_of, signed_of}
 use Rattle.grammar.specs.Words.{each}
@@ -42,6 +42,7 @@ pub item_ok : (word : List ℕ) (found : Item) → item word ≡ Ok found → wo
 unfolding item
 item_ok word found e = item_of_text word found (or_refused_ok BadNumber (item_of word) found e)
 
+-- spells the items of a map line
 pub items_ok : (words : List (List ℕ)) (found : List Item) → items words ≡ Ok found → words ≡ map item_text found
 unfolding items
 items_ok words found e = each_text item_of item_text item_of_text words found (or_refused_ok BadNumber (each item_of words) found e)
@@ -59,6 +60,7 @@ comparison_ok word found e =
 abbrev made : Item → Cmp → Item → Test
 made left op right = record { left = left; op = op; right = right }
 
+-- spells the test of a filter line
 pub test_ok : (left op right : List ℕ) (found : Test) → filter_test left op right ≡ Ok found → (left ∷ op ∷ right ∷ []) ≡ test_words found
 unfolding filter_test
 test_ok left op right found e =

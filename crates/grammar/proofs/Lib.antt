@@ -4,12 +4,12 @@ pub mod DecimalLemmas
 pub mod StepLemmas
 pub mod WordLemmas
 pub mod ItemLemmas
-pub mod DeclaringLemmas
-pub mod SayingLemmas
-pub mod EachLemmas
+pub mod DeclarationLemmas
+pub mod LineLemmas
+pub mod WordLoopLemmas
 pub mod PlaceLemmas
 pub mod RunLemmas
 pub mod FaultLemmas
-pub mod WholeLemmas
-pub mod AgainLemmas
+pub mod ScriptLemmas
+pub mod RoundTripLemmas
 pub mod CutLemmas

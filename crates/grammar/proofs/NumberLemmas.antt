@@ -8,6 +8,7 @@ use Rattle.std.specs.Str.Parse.{digits_value, ParsesUnsigned, ParsesSigned}
 use Rattle.std.proofs.lemmas.Str.Parse.{IsNumeralModel, numerals_by_value, parse_digits, parse_signed_digits, parse_signed_minus}
 use Rattle.grammar.specs.Numbers.{is_numeral, whole_of, has_minus, is_signed_numeral, is_in_range, signed_value, signed_of}
 
+-- lets the lemmas of std about parsing speak of numerals in our form
 pub own : IsNumeralModel (λ ds. list_all is_ascii_digit ds ≡ true) (digits_value 10)
 own = numerals_by_value _ (search rules)
 
@@ -18,10 +19,12 @@ ok_when (Ok y) P false x h f g = let e = g h.0 in absurd cc
 ok_when (Err e) P true x h f g = absurd (h (f refl))
 ok_when (Err e) P false x h f g = refl
 
+-- takes a conjunction of tests apart
 pub and-left : (a b : Bool) → (a && b) ≡ true → a ≡ true
 and-left true b e = refl
 and-left false b e = e
 
+-- takes a conjunction of tests apart, from the right
 pub and-right : (a b : Bool) → (a && b) ≡ true → b ≡ true
 and-right true b e = e
 and-right false b e = absurd cc
@@ -30,11 +33,13 @@ pub record Digits (word : List ℕ) : Type 0 where
   pub all : list_all is_ascii_digit word ≡ true
   pub some : 0 < length word
 
+-- gives what std asks for before it parses a word
 pub numeral_digits : (word : List ℕ) → is_numeral word ≡ true → Digits word
 numeral_digits [] e = absurd cc
 numeral_digits (only ∷ []) e = record { all = ap (λ b. b && true) e; some = omega arith }
 numeral_digits (first ∷ second ∷ rest) e = record { all = and-right (not (eqb first 0x30)) (list_all is_ascii_digit (first ∷ second ∷ rest)) e; some = omega arith }
 
+-- answers whole_number from the contract of parse
 pub whole_parsed : {E : Type 0} (word : List ℕ) (r : Result ℕ E) → is_numeral word ≡ true → ParsesUnsigned 64 10 word r → result_ok r ≡ whole_of word
 whole_parsed word r e h =
     let d = numeral_digits word e in
@@ -68,6 +73,7 @@ parsed_by word r false m e h =
     ok_when r _ small _ (parse_signed_digits own w64 word r h d.all) (λ t. (d.some, ltb-true _ _ t)) (λ p. lt-ltb _ _ p.1) in
     one ∙ ap (λ b. cond (b && small) (Some (pos (digits_value 10 word))) None) (sym e)
 
+-- answers signed_number from the contract of parse
 pub signed_parsed : {E : Type 0} (word : List ℕ) (r : Result ℤ E) → is_signed_numeral word ≡ true → ParsesSigned w64 10 word r → result_ok r ≡ signed_of word
 signed_parsed word r e h = parsed_by word r (has_minus word) refl e h
 

@@ -12,10 +12,12 @@ use Rattle.grammar.specs.Spelling.{time_words}
 use Rattle.grammar.proofs.DecimalLemmas.{whole_text, signed_text}
 use Rattle.grammar.proofs.StepLemmas.{or_refused_ok}
 
+-- spells a whole number of a line
 pub whole_ok : (word : List ℕ) (n : ℕ) → whole word ≡ Ok n → word ≡ decimal n
 unfolding whole
 whole_ok word n e = whole_text word n (or_refused_ok BadNumber (whole_of word) n e)
 
+-- spells a signed number of a line
 pub signed_ok : (word : List ℕ) (z : ℤ) → signed word ≡ Ok z → word ≡ signed_decimal z
 unfolding signed
 signed_ok word z e = signed_text word z (or_refused_ok BadNumber (signed_of word) z e)
@@ -30,6 +32,7 @@ module _ {A : Type 0} (read : List ℕ → Option A) (text : A → List ℕ) (ex
   some_map x (Some ys) xs e = (ys, refl, cc)
   some_map x None xs e = absurd cc
 
+  -- carries the spelling of one word to all words
   pub each_text : (words : List (List ℕ)) (xs : List A) → each read words ≡ Some xs → words ≡ map text xs
   each_text [] xs e = let none : [] ≡ xs = cc in ap (map text) none
   each_text (word ∷ words) xs e =
@@ -40,10 +43,12 @@ module _ {A : Type 0} (read : List ℕ → Option A) (text : A → List ℕ) (ex
         | inr none ↦ absurd (none-some xs (sym (ap (option_and_then (λ x. option_map (λ ys. x ∷ ys) (each read words))) none) ∙ e))
       ]
 
+-- spells the pairs of an advance line
 pub wholes_ok : (words : List (List ℕ)) (ns : List ℕ) → wholes words ≡ Ok ns → words ≡ map decimal ns
 unfolding wholes
 wholes_ok words ns e = each_text whole_of decimal whole_text words ns (or_refused_ok BadNumber (each whole_of words) ns e)
 
+-- spells the row of a change line
 pub columns_ok : (words : List (List ℕ)) (zs : List ℤ) → columns words ≡ Ok zs → words ≡ map signed_decimal zs
 unfolding columns
 columns_ok words zs e = each_text signed_of signed_decimal signed_text words zs (or_refused_ok BadNumber (each signed_of words) zs e)

@@ -4,9 +4,9 @@ use Rattle.std.specs.Option.{option_map}
 use Rattle.std.specs.Str.{bytes_eq}
 use Rattle.row.specs.declared.projection.Item.{Item}
 use Rattle.row.specs.declared.projection.Item.TheVariants.{Column, Constant}
-use Rattle.row.specs.declared.testing.Cmp.{Cmp}
-use Rattle.row.specs.declared.testing.Cmp.TheVariants.{Eq, Ne, Lt, Le, Gt, Ge}
-use Rattle.row.specs.declared.testing.Test.{Test}
+use Rattle.row.specs.declared.test.Cmp.{Cmp}
+use Rattle.row.specs.declared.test.Cmp.TheVariants.{Eq, Ne, Lt, Le, Gt, Ge}
+use Rattle.row.specs.declared.test.Test.{Test}
 use Rattle.update.specs.declared.refusal.Refusal.{Refusal}
 use Rattle.update.specs.declared.refusal.Refusal.TheVariants.{UnknownCommand}
 use Rattle.grammar.specs.Outcomes.{◌>>=◌, or_refused}
@@ -18,6 +18,7 @@ abbrev pub item_of : List ℕ → Option Item
 item_of word = if slice_index word 0 == 0x63 then option_map (λ n. Column n) (whole_of (drop 1 word))
     else if slice_index word 0 == 0x3d then option_map (λ z. Constant z) (signed_of (drop 1 word)) else None
 
+-- the comparison that a word names
 abbrev pub comparison_of : List ℕ → Option Cmp
 comparison_of word = if bytes_eq word (codes "eq") then Some Eq
     else if bytes_eq word (codes "ne") then Some Ne
@@ -26,12 +27,15 @@ comparison_of word = if bytes_eq word (codes "eq") then Some Eq
     else if bytes_eq word (codes "gt") then Some Gt
     else if bytes_eq word (codes "ge") then Some Ge else None
 
+-- a word that must be an item
 unfoldable pub item : List ℕ → Result Item Refusal
 item word = number (item_of word)
 
+-- words that must all be items
 unfoldable pub items : List (List ℕ) → Result (List Item) Refusal
 items words = number (each item_of words)
 
+-- a word that must be a comparison
 unfoldable pub comparison : List ℕ → Result Cmp Refusal
 comparison word = or_refused UnknownCommand (comparison_of word)
 

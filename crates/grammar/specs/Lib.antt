@@ -4,12 +4,12 @@ pub mod Numbers
 pub mod Faults
 pub mod Outcomes
 pub mod Commands
-pub mod Told
-pub mod Known
+pub mod ScriptModels
+pub mod ParseStates
 pub mod Words
 pub mod Items
-pub mod Declaring
+pub mod Declarations
 pub mod Lines
 pub mod Scripts
 pub mod Spelling
-pub mod Joining
+pub mod JoinedText

@@ -1,74 +1,78 @@
--- What each line says, or what it is refused for: the first test that fails. The order of the steps is the order of the
--- tests, and a line of another number of words than those that stand here has too few or too many.
+-- What each line says, or what it is refused for: the first test that fails. The order of the steps
+-- is the order of the tests, and a line of another number of words than those that stand here has
+-- too few or too many.
 use Rattle.std.specs.Prelude.{ℕ, ◌%◌, Bool, true, false, not, ◌&&◌, List, [], ◌∷◌, ◌++◌, length, Option, Some, None, Result, Ok, Err, nat_lt, ◌==◌, codes, if◌then◌else◌}
 use Rattle.std.specs.Str.{bytes_eq, is_utf8}
 use Rattle.update.specs.declared.refusal.Refusal.{Refusal}
 use Rattle.update.specs.declared.refusal.Refusal.TheVariants.{UnknownCommand, WrongWordCount, BadOrder, LineTooLong, NotUtf8}
 use Rattle.lattice.specs.Pairs.{make_pair}
 use Rattle.grammar.specs.declared.command.Command.{Command}
-use Rattle.grammar.specs.declared.command.Command.TheVariants.{Change, Advance, Close, Read, Changes, Frontier}
+use Rattle.grammar.specs.declared.command.Command.TheVariants.{Input, View}
+use Rattle.grammar.specs.declared.command.InputCommand.TheVariants.{Change, Advance, Close}
+use Rattle.grammar.specs.declared.command.ViewCommand.TheVariants.{Read, Changes, Frontier}
 use Rattle.grammar.specs.declared.keyword.Keyword.{Keyword}
 use Rattle.grammar.specs.declared.keyword.Keyword.TheVariants as keyword
 use Rattle.grammar.specs.Outcomes.{◌>>=◌, or_refused}
 use Rattle.grammar.specs.Text.{words_of, opens_comment}
-use Rattle.grammar.specs.Known.{Known, input, view}
+use Rattle.grammar.specs.ParseStates.{ParseState, input, view}
 use Rattle.grammar.specs.Words.{whole, signed, wholes, columns, pairs_of}
-use Rattle.grammar.specs.Declaring.{input_line, node_line, view_line}
+use Rattle.grammar.specs.Declarations.{input_line, node_line, view_line}
 
 -- start
-unfoldable pub start_line : Known → List (List ℕ) → Result Known Refusal
+unfoldable pub start_line : ParseState → List (List ℕ) → Result ParseState Refusal
 start_line k [] = Ok (record k { started = true })
 start_line k _ = Err WrongWordCount
 
 -- change INPUT V S DIFF C .., with 1 to 8 columns
-unfoldable pub change_line : Known → List (List ℕ) → Result Command Refusal
+unfoldable pub change_line : ParseState → List (List ℕ) → Result Command Refusal
 change_line k (name ∷ v ∷ s ∷ diff ∷ row) = if nat_lt 0 (length row) && nat_lt (length row) 9 then (do
   name ← input k name
   v ← whole v
   s ← whole s
   diff ← signed diff
   row ← columns row
-  Ok (Change name (make_pair v s) diff row)) else Err WrongWordCount
+  Ok (Input (Change name (make_pair v s) diff row))) else Err WrongWordCount
 change_line k _ = Err WrongWordCount
 
 -- advance INPUT V S .., with one pair or more
-unfoldable pub advance_line : Known → List (List ℕ) → Result Command Refusal
+unfoldable pub advance_line : ParseState → List (List ℕ) → Result Command Refusal
 advance_line k (name ∷ times) = if nat_lt 0 (length times) && (length times % 2 == 0) then (do
   name ← input k name
   times ← wholes times
-  Ok (Advance name (pairs_of times))) else Err WrongWordCount
+  Ok (Input (Advance name (pairs_of times)))) else Err WrongWordCount
 advance_line k _ = Err WrongWordCount
 
 -- close INPUT
-unfoldable pub close_line : Known → List (List ℕ) → Result Command Refusal
+unfoldable pub close_line : ParseState → List (List ℕ) → Result Command Refusal
 close_line k (name ∷ []) = do
   name ← input k name
-  Ok (Close name)
+  Ok (Input (Close name))
 close_line k _ = Err WrongWordCount
 
 -- read VIEW V S
-unfoldable pub read_line : Known → List (List ℕ) → Result Command Refusal
+unfoldable pub read_line : ParseState → List (List ℕ) → Result Command Refusal
 read_line k (name ∷ v ∷ s ∷ []) = do
   name ← view k name
   v ← whole v
   s ← whole s
-  Ok (Read name (make_pair v s))
+  Ok (View (Read name (make_pair v s)))
 read_line k _ = Err WrongWordCount
 
 -- changes VIEW
-unfoldable pub changes_line : Known → List (List ℕ) → Result Command Refusal
+unfoldable pub changes_line : ParseState → List (List ℕ) → Result Command Refusal
 changes_line k (name ∷ []) = do
   name ← view k name
-  Ok (Changes name)
+  Ok (View (Changes name))
 changes_line k _ = Err WrongWordCount
 
 -- frontier VIEW
-unfoldable pub frontier_line : Known → List (List ℕ) → Result Command Refusal
+unfoldable pub frontier_line : ParseState → List (List ℕ) → Result Command Refusal
 frontier_line k (name ∷ []) = do
   name ← view k name
-  Ok (Frontier name)
+  Ok (View (Frontier name))
 frontier_line k _ = Err WrongWordCount
 
+-- the keyword that the first word of a line is
 abbrev pub keyword_of : List ℕ → Option Keyword
 keyword_of word = if bytes_eq word (codes "input") then Some keyword.Input
     else if bytes_eq word (codes "node") then Some keyword.Node
@@ -82,29 +86,29 @@ keyword_of word = if bytes_eq word (codes "input") then Some keyword.Input
     else if bytes_eq word (codes "frontier") then Some keyword.Frontier else None
 
 -- the line stands before `start`, or is `start`
-abbrev pub is_early : Keyword → Bool
-is_early keyword.Input = true
-is_early keyword.Node = true
-is_early keyword.View = true
-is_early keyword.Start = true
-is_early keyword.Change = false
-is_early keyword.Advance = false
-is_early keyword.Close = false
-is_early keyword.Read = false
-is_early keyword.Changes = false
-is_early keyword.Frontier = false
+abbrev pub is_declaring : Keyword → Bool
+is_declaring keyword.Input = true
+is_declaring keyword.Node = true
+is_declaring keyword.View = true
+is_declaring keyword.Start = true
+is_declaring keyword.Change = false
+is_declaring keyword.Advance = false
+is_declaring keyword.Close = false
+is_declaring keyword.Read = false
+is_declaring keyword.Changes = false
+is_declaring keyword.Frontier = false
 
 -- the keyword of a line whose first word this is, if it may stand here
-unfoldable pub opening : Known → List ℕ → Result Keyword Refusal
+unfoldable pub opening : ParseState → List ℕ → Result Keyword Refusal
 opening k word = or_refused UnknownCommand (keyword_of word)
-    >>= λ keyword. if (if is_early keyword then k.started else not k.started) then Err BadOrder else Ok keyword
+    >>= λ keyword. if (if is_declaring keyword then k.started else not k.started) then Err BadOrder else Ok keyword
 
 -- the command is added, with the number of its line
-abbrev pub with_command : ℕ → Known → Result Command Refusal → Result Known Refusal
+abbrev pub with_command : ℕ → ParseState → Result Command Refusal → Result ParseState Refusal
 with_command n k outcome = outcome >>= λ command. Ok (record k { commands = k.commands ++ record { line = n; command = command } ∷ [] })
 
 -- what is known behind line n, with these words behind its keyword
-abbrev pub keyword_line : ℕ → Known → Keyword → List (List ℕ) → Result Known Refusal
+abbrev pub keyword_line : ℕ → ParseState → Keyword → List (List ℕ) → Result ParseState Refusal
 keyword_line n k keyword.Input words = input_line k words
 keyword_line n k keyword.Node words = node_line k words
 keyword_line n k keyword.View words = view_line k words
@@ -117,7 +121,7 @@ keyword_line n k keyword.Changes words = with_command n k (changes_line k words)
 keyword_line n k keyword.Frontier words = with_command n k (frontier_line k words)
 
 -- a line without words is skipped, and so is one whose first word begins with #
-unfoldable pub words_line : ℕ → Known → List (List ℕ) → Result Known Refusal
+unfoldable pub words_line : ℕ → ParseState → List (List ℕ) → Result ParseState Refusal
 words_line n k [] = Ok k
 words_line n k (first ∷ words) = if opens_comment first then Ok k else (do
   keyword ← opening k first
@@ -128,7 +132,7 @@ unfoldable pub text_of : List ℕ → Result (List ℕ) Refusal
 text_of line = if nat_lt 4096 (length line) then Err LineTooLong else if is_utf8 line then Ok line else Err NotUtf8
 
 -- what is known behind line n
-unfoldable pub line_of : ℕ → Known → List ℕ → Result Known Refusal
+unfoldable pub line_of : ℕ → ParseState → List ℕ → Result ParseState Refusal
 line_of n k line = do
   text ← text_of line
   words_line n k (words_of text)

@@ -26,6 +26,7 @@ is_signed_numeral word = if has_minus word then is_numeral (drop 1 word) && not 
 abbrev pub is_in_range : List ℕ → Bool
 is_in_range word = if has_minus word then not (nat_lt (2 ^ 63) (digits_value 10 (drop 1 word))) else nat_lt (digits_value 10 word) (2 ^ 63)
 
+-- the value of a signed numeral
 abbrev pub signed_value : List ℕ → ℤ
 signed_value word = if has_minus word then neg_ℤ (pos (digits_value 10 (drop 1 word))) else pos (digits_value 10 word)
 

@@ -6,48 +6,51 @@ use Rattle.update.specs.declared.refusal.Refusal.TheVariants.{BadOrder}
 use Rattle.grammar.specs.declared.fault.Fault.{Fault}
 use Rattle.grammar.specs.Outcomes.{◌>>=◌}
 use Rattle.grammar.specs.Text.{lines_of}
-use Rattle.grammar.specs.Known.{Known}
+use Rattle.grammar.specs.ParseStates.{ParseState}
 use Rattle.grammar.specs.Lines.{line_of}
-use Rattle.grammar.specs.Told.{Told}
+use Rattle.grammar.specs.ScriptModels.{ScriptModel}
 
-abbrev pub told : Known → Told
-told k = record { names = k.names; plan = k.plan; commands = k.commands }
+-- what is left of a parse state once all lines have been read
+abbrev pub model_of : ParseState → ScriptModel
+model_of k = record { names = k.names; plan = k.plan; commands = k.commands }
 
-abbrev pub nothing_known : Known
-nothing_known = record { names = []; plan = []; started = false; commands = [] }
+-- the parse state before the first line
+abbrev pub first_parse_state : ParseState
+first_parse_state = record { names = []; plan = []; started = false; commands = [] }
 
 -- a fault on line n ends it
-abbrev pub on_line : {A : Type 0} → ℕ → Result Known Refusal → (Known → Result A (ℕ × Refusal)) → Result A (ℕ × Refusal)
+abbrev pub on_line : {A : Type 0} → ℕ → Result ParseState Refusal → (ParseState → Result A (ℕ × Refusal)) → Result A (ℕ × Refusal)
 on_line n (Ok k) more = more k
 on_line n (Err refusal) more = Err (n, refusal)
 
 -- the lines from number n on, where so much is known before; at the end `start` must have come
-unfoldable pub lines_from : ℕ → Known → List (List ℕ) → Result Told (ℕ × Refusal)
-lines_from n k [] = if k.started then Ok (told k) else Err (n, BadOrder)
+unfoldable pub lines_from : ℕ → ParseState → List (List ℕ) → Result ScriptModel (ℕ × Refusal)
+lines_from n k [] = if k.started then Ok (model_of k) else Err (n, BadOrder)
 lines_from n k (line ∷ lines) = on_line n (line_of n k line) (λ k. lines_from (n + 1) k lines)
 
 -- the script, or the line of the one fault and what it is refused for
-abbrev pub script_of : List ℕ → Result Told (ℕ × Refusal)
-script_of bytes = lines_from 1 nothing_known (lines_of bytes)
+abbrev pub script_of : List ℕ → Result ScriptModel (ℕ × Refusal)
+script_of bytes = lines_from 1 first_parse_state (lines_of bytes)
 
 -- what is known behind lines, the first of which is number n, of which none is at fault
-abbrev pub after : ℕ → Known → List (List ℕ) → Result Known Refusal
-after n k [] = Ok k
-after n k (line ∷ lines) = line_of n k line >>= λ k. after (n + 1) k lines
+abbrev pub parse_lines : ℕ → ParseState → List (List ℕ) → Result ParseState Refusal
+parse_lines n k [] = Ok k
+parse_lines n k (line ∷ lines) = line_of n k line >>= λ k. parse_lines (n + 1) k lines
 
 -- all lines are in order, and `start` is among them
-abbrev pub IsScript : List (List ℕ) → Told → Type 0
-IsScript lines t = (k : Known) × (after 1 nothing_known lines ≡ Ok k) × (k.started ≡ true) × (told k ≡ t)
+abbrev pub IsScript : List (List ℕ) → ScriptModel → Type 0
+IsScript lines t = (k : ParseState) × (parse_lines 1 first_parse_state lines ≡ Ok k) × (k.started ≡ true) × (model_of k ≡ t)
 
 -- the lines before number n are in order
 abbrev pub IsReached : List (List ℕ) → ℕ → Type 0
-IsReached lines n = (before : List (List ℕ)) × (rest : List (List ℕ)) × (k : Known) × (lines ≡ before ++ rest) × (n ≡ length before + 1) × (after 1 nothing_known before ≡ Ok k)
+IsReached lines n = (before : List (List ℕ)) × (rest : List (List ℕ)) × (k : ParseState) × (lines ≡ before ++ rest) × (n ≡ length before + 1) × (parse_lines 1 first_parse_state before ≡ Ok k)
 
--- the lines before number n are in order, and that line is not; or all are, none is `start`, and n is one past the last
+-- the lines before number n are in order, and that line is not; or all are, none is `start`, and n
+-- is one past the last
 abbrev pub IsFirstFault : List (List ℕ) → ℕ → Refusal → Type 0
 IsFirstFault lines n refusal =
-    ((before : List (List ℕ)) × (line : List ℕ) × (rest : List (List ℕ)) × (k : Known) × (lines ≡ before ++ line ∷ rest) × (n ≡ length before + 1) × (after 1 nothing_known before ≡ Ok k) × (line_of n k line ≡ Err refusal))
-    ⊎ ((k : Known) × (n ≡ length lines + 1) × (after 1 nothing_known lines ≡ Ok k) × (k.started ≡ false) × (refusal ≡ BadOrder))
+    ((before : List (List ℕ)) × (line : List ℕ) × (rest : List (List ℕ)) × (k : ParseState) × (lines ≡ before ++ line ∷ rest) × (n ≡ length before + 1) × (parse_lines 1 first_parse_state before ≡ Ok k) × (line_of n k line ≡ Err refusal))
+    ⊎ ((k : ParseState) × (n ≡ length lines + 1) × (parse_lines 1 first_parse_state lines ≡ Ok k) × (k.started ≡ false) × (refusal ≡ BadOrder))
 
 -- the outcome is this fault, told by its number; 1 is want of memory
 abbrev pub IsFault : {Y : Type 0} → ℕ → ℕ → Result Y (ℕ × Refusal) → Type 0

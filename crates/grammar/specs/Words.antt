@@ -13,18 +13,23 @@ abbrev pub each : {A : Type 0} → (List ℕ → Option A) → List (List ℕ) �
 each read [] = Some []
 each read (word ∷ words) = option_and_then (λ x. option_map (λ xs. x ∷ xs) (each read words)) (read word)
 
+-- what was read of words, or a refusal: they must be numbers
 abbrev pub number : {A : Type 0} → Option A → Result A Refusal
 number o = or_refused BadNumber o
 
+-- a word that must be a whole number
 unfoldable pub whole : List ℕ → Result ℕ Refusal
 whole word = number (whole_of word)
 
+-- a word that must be a signed number
 unfoldable pub signed : List ℕ → Result ℤ Refusal
 signed word = number (signed_of word)
 
+-- words that must all be whole numbers
 unfoldable pub wholes : List (List ℕ) → Result (List ℕ) Refusal
 wholes words = number (each whole_of words)
 
+-- words that must all be signed numbers
 unfoldable pub columns : List (List ℕ) → Result (List ℤ) Refusal
 columns words = number (each signed_of words)
 

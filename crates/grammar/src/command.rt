@@ -1,50 +1,15 @@
-//! The commands of a script. Their names are resolved: a command names a node by its number, and which sort of node that is
-//! each [`Script`](crate::Script) promises.
-ghost use Rattle.std.specs.Prelude.{◌≡◌, length};
-
+//! The commands of a script. A command either changes an input or asks about a view, and each of
+//! the two is a type of its own: a function that takes one of them has no arm for the other. Names
+//! are resolved, so a command names a node by its number, and each [`Script`](crate::Script)
+//! promises that the node is an input, or a view.
 use lattice::Bitime;
 use plan::NodeId;
 use row::Row;
-use std::marker::Model;
+use update::Times;
 
-/// The pairs of an `advance`, in the order of the line. A contract sees the list of them.
+/// A command that changes an input. It prints nothing if it is accepted.
 #[derive(Drop)]
-pub struct Times {
-    times: Vec<Bitime>,
-}
-
-impl Model for Times {
-    ghost use Rattle.std.specs.Prelude.{List, ℕ};
-    ghost use Rattle.lattice.specs.declared.product.Pair.{Pair};
-
-    ghost Value = { List (Pair ℕ ℕ) };
-
-    ghost view = { λ t. t.times.items };
-}
-
-impl Times {
-    /// The pairs. Takes no memory.
-    pub fn as_slice(&self) -> &[Bitime]
-        ensures { result.now ≡ self.now }
-    {
-        self.times.as_slice()
-    }
-}
-
-/// Takes no memory.
-impl From<Vec<Bitime>> for Times {
-    ghost use Rattle.std.specs.Prelude.{◌≡◌};
-
-    ghost from_gives = { λ v r. r ≡ v.items };
-
-    fn from(times: Vec<Bitime>) -> Times {
-        Times { times }
-    }
-}
-
-/// What a line after `start` asks for.
-#[derive(Drop)]
-pub enum Command {
+pub enum InputCommand {
     /// Adds `diff` to the weight of the row from the time on.
     Change {
         input: NodeId,
@@ -55,25 +20,32 @@ pub enum Command {
     /// From now on the input changes at or after one of these times alone. There is one at least.
     Advance {
         input: NodeId,
-        times: Times,
+        times: Times<Bitime>,
     },
     /// The input changes no more.
     Close {
         input: NodeId,
     },
+}
+
+/// A command that asks about a view. It prints an answer and changes nothing.
+#[derive(Drop)]
+pub enum ViewCommand {
     /// Asks for the view's rows at the time.
-    Read {
-        view: NodeId,
-        time: Bitime,
-    },
+    Read { view: NodeId, time: Bitime },
     /// Asks for the view's changes at the times that have passed.
-    Changes {
-        view: NodeId,
-    },
+    Changes { view: NodeId },
     /// Asks for the view's frontier.
-    Frontier {
-        view: NodeId,
-    },
+    Frontier { view: NodeId },
+}
+
+/// What a line after `start` says.
+#[derive(Drop)]
+pub enum Command {
+    /// It changes an input.
+    Input(InputCommand),
+    /// It asks about a view.
+    View(ViewCommand),
 }
 
 /// A command, and the line on which it stands, counted from 1, skipped lines too.

@@ -1,8 +1,8 @@
 //! The lines before `start` but those of operators, and `start` itself.
 ghost use Rattle.std.specs.Prelude.{◌≡◌, map};
 ghost use Rattle.update.specs.declared.refusal.Refusal.TheVariants.{WrongWordCount};
-ghost use Rattle.grammar.specs.Known.{known};
-ghost use Rattle.grammar.specs.Declaring.{input_line, view_line};
+ghost use Rattle.grammar.specs.ParseStates.{parse_state};
+ghost use Rattle.grammar.specs.Declarations.{input_line, view_line};
 ghost use Rattle.grammar.specs.Lines.{start_line};
 ghost use Rattle.grammar.specs.Outcomes.{Gives};
 
@@ -20,10 +20,10 @@ pub(crate) fn wrong_count() -> LineError
     LineError::Refused(Refusal::WrongWordCount)
 }
 
-#[tactic(auto, unfolding(crate::specs::Declaring::input_line))]
+#[tactic(auto, unfolding(crate::specs::Declarations::input_line))]
 pub(crate) fn input_line(alloc: Global, draft: &mut Draft, words: &[&str]) -> Result<(), LineError>
-    ensures { Gives (λ _. known draft.new) result
-        (input_line (known draft.old) (map (λ w. w.now) words.now)) }
+    ensures { Gives (λ _. parse_state draft.new) result
+        (input_line (parse_state draft.old) (map (λ w. w.now) words.now)) }
 {
     match words {
         [name, width] => {
@@ -35,10 +35,10 @@ pub(crate) fn input_line(alloc: Global, draft: &mut Draft, words: &[&str]) -> Re
     }
 }
 
-#[tactic(auto, unfolding(crate::specs::Declaring::view_line))]
+#[tactic(auto, unfolding(crate::specs::Declarations::view_line))]
 pub(crate) fn view_line(alloc: Global, draft: &mut Draft, words: &[&str]) -> Result<(), LineError>
-    ensures { Gives (λ _. known draft.new) result
-        (view_line (known draft.old) (map (λ w. w.now) words.now)) }
+    ensures { Gives (λ _. parse_state draft.new) result
+        (view_line (parse_state draft.old) (map (λ w. w.now) words.now)) }
 {
     match words {
         [name, source] => {
@@ -52,8 +52,8 @@ pub(crate) fn view_line(alloc: Global, draft: &mut Draft, words: &[&str]) -> Res
 
 #[tactic(auto, unfolding(crate::specs::Lines::start_line))]
 pub(crate) fn start_line(draft: &mut Draft, words: &[&str]) -> Result<(), LineError>
-    ensures { Gives (λ _. known draft.new) result
-        (start_line (known draft.old) (map (λ w. w.now) words.now)) }
+    ensures { Gives (λ _. parse_state draft.new) result
+        (start_line (parse_state draft.old) (map (λ w. w.now) words.now)) }
 {
     match words {
         [] => {

@@ -1,14 +1,16 @@
-//! A script in the making: what the lines so far have said. Each node has one name, and both are kept in the order of the
-//! lines, so that a name's place among the names is the number of its node.
-ghost use Rattle.std.specs.Prelude.{◌≡◌, [], None, IfOk, string_bytes, false};
+//! A script in the making: what the lines so far have said. Each node has one name, and both are
+//! kept in the order of the lines, so that a name's place among the names is the number of its
+//! node.
+ghost use Rattle.std.specs.Prelude.{◌≡◌, None, IfOk, string_bytes};
 ghost use Rattle.plan.specs.Rules.{is_readable};
 ghost use Rattle.update.specs.declared.refusal.Refusal.TheVariants.{UnknownName};
 ghost use Rattle.grammar.specs.Commands.{is_input_of, is_view_of};
-ghost use Rattle.grammar.specs.Known.{known, place_of, used_name, source, input, view, new_name, plan_with};
-ghost use Rattle.grammar.specs.Declaring.{with_node};
+ghost use Rattle.grammar.specs.ParseStates.{parse_state, number_of_name, source, input, view, new_name, plan_with};
+ghost use Rattle.grammar.specs.Declarations.{with_node};
 ghost use Rattle.grammar.specs.Outcomes.{Gives};
+ghost use Rattle.grammar.specs.Scripts.{first_parse_state};
 
-use crate::command::{Command, CommandLine};
+use crate::command::CommandLine;
 use crate::fault::LineError;
 use crate::names::is_name;
 use indexmap::IndexSet;
@@ -34,7 +36,7 @@ fn unknown() -> LineError
 
 impl Draft {
     pub(crate) fn new(alloc: Global) -> Draft
-        ensures { known result ≡ record { names = []; plan = []; started = false; commands = [] } }
+        ensures { parse_state result ≡ first_parse_state }
     {
         Draft {
             names: IndexSet::new(alloc),
@@ -46,7 +48,7 @@ impl Draft {
 
     // The number of the node that has the name.
     fn place(&self, word: &str) -> Option<usize>
-        ensures { result ≡ place_of (known self.now) word.now }
+        ensures { result ≡ number_of_name (parse_state self.now) word.now }
     {
         self.names.get_index_of(word)
     }
@@ -64,9 +66,9 @@ impl Draft {
     }
 
     // The named node, which others may read.
-    #[tactic(auto, unfolding(crate::specs::Known::source))]
+    #[tactic(auto, unfolding(crate::specs::ParseStates::source))]
     pub(crate) fn source(&self, word: &str) -> Result<NodeId, LineError>
-        ensures { Gives (λ id. id) result (source (known self.now) word.now) }
+        ensures { Gives (λ id. id) result (source (parse_state self.now) word.now) }
     {
         match self.place(word).map(NodeId::new) {
             Some(id) if self.plan.is_readable(id) => Ok(id),
@@ -75,9 +77,9 @@ impl Draft {
     }
 
     // The named input.
-    #[tactic(auto, unfolding(crate::specs::Known::input))]
+    #[tactic(auto, unfolding(crate::specs::ParseStates::input))]
     pub(crate) fn input(&self, word: &str) -> Result<NodeId, LineError>
-        ensures { Gives (λ id. id) result (input (known self.now) word.now) }
+        ensures { Gives (λ id. id) result (input (parse_state self.now) word.now) }
     {
         match self.place(word).map(NodeId::new) {
             Some(id) if self.is_input(id) => Ok(id),
@@ -86,9 +88,9 @@ impl Draft {
     }
 
     // The named view.
-    #[tactic(auto, unfolding(crate::specs::Known::view))]
+    #[tactic(auto, unfolding(crate::specs::ParseStates::view))]
     pub(crate) fn view(&self, word: &str) -> Result<NodeId, LineError>
-        ensures { Gives (λ id. id) result (view (known self.now) word.now) }
+        ensures { Gives (λ id. id) result (view (parse_state self.now) word.now) }
     {
         match self.place(word).map(NodeId::new) {
             Some(id) if self.is_view(id) => Ok(id),
@@ -97,11 +99,12 @@ impl Draft {
     }
 
     // The word as a name that is free.
-    #[tactic(auto, unfolding(crate::specs::Known::new_name))]
+    #[tactic(auto, unfolding(crate::specs::ParseStates::new_name))]
     pub(crate) fn new_name(&self, alloc: Global, word: &str) -> Result<String, LineError>
         ensures name { Gives (λ name. string_bytes name) result
-            (new_name (known self.now) word.now) }
-        ensures free { IfOk result (λ name. place_of (known self.now) (string_bytes name) ≡ None) }
+            (new_name (parse_state self.now) word.now) }
+        ensures free { IfOk result
+            (λ name. number_of_name (parse_state self.now) (string_bytes name) ≡ None) }
     {
         if !is_name(word) {
             return Err(LineError::Refused(Refusal::BadName));
@@ -113,11 +116,11 @@ impl Draft {
     }
 
     // Adds the node under a name that is free.
-    #[tactic(auto, unfolding(crate::specs::Declaring::with_node))]
+    #[tactic(auto, unfolding(crate::specs::Declarations::with_node))]
     pub(crate) fn add(&mut self, alloc: Global, name: String, node: Node) -> Result<(), LineError>
-        requires { place_of (known self.old) (string_bytes name) ≡ None }
-        ensures { Gives (λ _. known self.new) result
-            (with_node (known self.old) (string_bytes name) node) }
+        requires { number_of_name (parse_state self.old) (string_bytes name) ≡ None }
+        ensures { Gives (λ _. parse_state self.new) result
+            (with_node (parse_state self.old) (string_bytes name) node) }
     {
         push_node(alloc, &mut self.plan, node)?;
         self.names.insert(name)?;

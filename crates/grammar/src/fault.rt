@@ -1,5 +1,5 @@
-//! What is wrong with a file: a line, and the number of a refusal. While a file is read, want of memory is kept apart from
-//! what its lines are refused for: it says nothing about the file.
+//! What is wrong with a file: a line, and the number of a refusal. While a file is read, want of
+//! memory is kept apart from what its lines are refused for: it says nothing about the file.
 ghost use Rattle.std.specs.Prelude.{◌≡◌};
 ghost use Rattle.grammar.specs.Faults.{error_code, IsErrorOf};
 
@@ -7,8 +7,8 @@ use std::alloc::{AllocError, AllocFailed};
 use thiserror::Error;
 use update::Refusal;
 
-/// The first line that is at fault, counted from 1, and the number of what it is refused for. Number 1 is want of memory,
-/// at the line that met it.
+/// The first line that is at fault, counted from 1, and the number of what it is refused for.
+/// Number 1 is want of memory, at the line that met it.
 #[derive(Clone, Copy, Debug, PartialEq, Eq, Error)]
 #[error("fault line {line} code {code}")]
 pub struct Fault {

@@ -1,5 +1,6 @@
-//! Words that say what a map or a filter makes of rows: items, each a column or a constant, and tests that compare two.
-//! The first byte of an item says which of both it is, and the rest is a number in the one form that it has.
+//! Words that say what a map or a filter makes of rows: items, each a column or a constant, and
+//! tests that compare two. The first byte of an item says which of both it is, and the rest is a
+//! number in the one form that it has.
 ghost use Rattle.std.specs.Prelude.{◌≡◌, map};
 ghost use Rattle.grammar.specs.Items.{item_of, item, items, comparison_of, comparison, filter_test};
 ghost use Rattle.grammar.specs.Outcomes.{Gives};

@@ -1,6 +1,6 @@
 //! The first words of lines, and on which side of `start` each line stands.
 ghost use Rattle.std.specs.Prelude.{◌≡◌};
-ghost use Rattle.grammar.specs.Lines.{keyword_of, is_early};
+ghost use Rattle.grammar.specs.Lines.{keyword_of, is_declaring};
 
 /// The first word of a line that is not skipped.
 #[derive(Clone, Copy)]
@@ -49,7 +49,7 @@ impl Keyword {
 
     // Whether such a line stands before `start`, or is `start`.
     pub(crate) fn is_early(self) -> bool
-        ensures { result ≡ is_early self }
+        ensures { result ≡ is_declaring self }
     {
         match self {
             Keyword::Input | Keyword::Node | Keyword::View | Keyword::Start => true,

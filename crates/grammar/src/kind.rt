@@ -1,6 +1,7 @@
-//! The kinds of nodes that a `node` line can declare, by their words. Those that need arranged rows are not among them yet.
+//! The kinds of nodes that a `node` line can declare, by their words. Those that need arranged rows
+//! are not among them yet.
 ghost use Rattle.std.specs.Prelude.{◌≡◌};
-ghost use Rattle.grammar.specs.Declaring.{kind_of};
+ghost use Rattle.grammar.specs.Declarations.{kind_word};
 
 /// The third word of a `node` line.
 #[derive(Clone, Copy)]
@@ -14,7 +15,7 @@ pub(crate) enum KindWord {
 impl KindWord {
     // The kind that the word is, if it is one.
     pub(crate) fn of(word: &str) -> Option<KindWord>
-        ensures { result ≡ kind_of word.now }
+        ensures { result ≡ kind_word word.now }
     {
         if word == "map" {
             Some(KindWord::Map)

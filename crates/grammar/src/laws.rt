@@ -1,5 +1,6 @@
-//! Laws of the grammar, over all files. Each is the contract of a function that does nothing: whoever uses a script may cite
-//! them, and whoever doubts the definitions may hold them against these.
+//! Laws of the grammar, over all files. Each is the contract of a function that does nothing:
+//! whoever uses a script may cite them, and whoever doubts the definitions may hold them against
+//! these.
 ghost use Rattle.std.specs.Prelude.{◌≡◌, ℕ, ◌<◌, ◌≤◌, ◌↔◌, ◌^◌, ℤ, List, ◌++◌, length, Some, Ok, Err, decimal};
 ghost use Rattle.std.specs.Fmt.{signed_decimal};
 ghost use Rattle.std.specs.Int.{w64};
@@ -7,11 +8,11 @@ ghost use Rattle.std.specs.Int.RustNames.{FitsSigned};
 ghost use Rattle.update.specs.declared.refusal.Refusal.{Refusal};
 ghost use Rattle.grammar.specs.Numbers.{whole_of, signed_of};
 ghost use Rattle.grammar.specs.Text.{lines_of, words_of};
-ghost use Rattle.grammar.specs.Joining.{joined, spaced, AreWords, AreLines};
-ghost use Rattle.grammar.specs.Told.{Told, IsWhole};
-ghost use Rattle.grammar.specs.Known.{Known};
+ghost use Rattle.grammar.specs.JoinedText.{joined_lines, joined_words, AreWords, AreLines};
+ghost use Rattle.grammar.specs.ScriptModels.{ScriptModel, IsWhole};
+ghost use Rattle.grammar.specs.ParseStates.{ParseState};
 ghost use Rattle.grammar.specs.Lines.{line_of};
-ghost use Rattle.grammar.specs.Scripts.{script_of, lines_from, nothing_known, IsScript, IsFirstFault};
+ghost use Rattle.grammar.specs.Scripts.{script_of, lines_from, first_parse_state, IsScript, IsFirstFault};
 ghost use Rattle.grammar.specs.Spelling.{Says, IsReadAgain, kept_words, script_words};
 
 /// A word is a number exactly where it is what is printed of that number.
@@ -22,39 +23,43 @@ pub fn numbers_have_one_form()
     ensures signed_again { (z : ℤ) → FitsSigned w64 z → signed_of (signed_decimal z) ≡ Some z }
 {}
 
-/// Bytes are a script exactly where all lines are in order and `start` is among them, and else they have the fault of the
-/// first line that is not. What stands behind that line does not matter.
+/// Bytes are a script exactly where all lines are in order and `start` is among them, and else they
+/// have the fault of the first line that is not. What stands behind that line does not matter.
 pub fn first_faults_decide()
-    ensures script { (bytes : List ℕ) (t : Told) → (script_of bytes ≡ Ok t)
+    ensures script { (bytes : List ℕ) (t : ScriptModel) → (script_of bytes ≡ Ok t)
         ↔ IsScript (lines_of bytes) t }
     ensures fault { (bytes : List ℕ) (n : ℕ) (refusal : Refusal)
         → (script_of bytes ≡ Err (n, refusal)) ↔ IsFirstFault (lines_of bytes) n refusal }
     ensures later { (before more other : List (List ℕ)) (n : ℕ) (refusal : Refusal)
         → n ≤ length before
-        → lines_from 1 nothing_known (before ++ more) ≡ Err (n, refusal)
-        → lines_from 1 nothing_known (before ++ other) ≡ Err (n, refusal) }
+        → lines_from 1 first_parse_state (before ++ more) ≡ Err (n, refusal)
+        → lines_from 1 first_parse_state (before ++ other) ≡ Err (n, refusal) }
 {}
 
 /// A line that is in order says one of four things, in the words that are printed of what it says.
 pub fn lines_are_spelled()
-    ensures { (n : ℕ) (k next : Known) (line : List ℕ) → line_of n k line ≡ Ok next
+    ensures { (n : ℕ) (k next : ParseState) (line : List ℕ) → line_of n k line ≡ Ok next
         → Says n k (words_of line) next }
 {}
 
-/// The lines of a script that are not skipped have the words that are printed of it, and no others: its nodes, `start`, its
-/// commands, in this order; and lines of these words are read as that script again, whatever the numbers of the lines of
-/// its nodes are. Each of its nodes has a name, and each of its commands is about a node of the sort that it needs.
+/// The lines of a script that are not skipped have the words that are printed of it, and no others:
+/// its nodes, `start`, its commands, in this order; and lines of these words are read as that
+/// script again, whatever the numbers of the lines of its nodes are. Each of its nodes has a name,
+/// and each of its commands is about a node of the sort that it needs.
 pub fn scripts_are_spelled()
-    ensures words { (bytes : List ℕ) (t : Told) → script_of bytes ≡ Ok t
+    ensures words { (bytes : List ℕ) (t : ScriptModel) → script_of bytes ≡ Ok t
         → kept_words (lines_of bytes) ≡ script_words t }
-    ensures again { (bytes : List ℕ) (t : Told) (any : ℕ) → script_of bytes ≡ Ok t
+    ensures again { (bytes : List ℕ) (t : ScriptModel) (any : ℕ) → script_of bytes ≡ Ok t
         → IsReadAgain any t }
-    ensures whole { (bytes : List ℕ) (t : Told) → script_of bytes ≡ Ok t → IsWhole t }
+    ensures whole { (bytes : List ℕ) (t : ScriptModel) → script_of bytes ≡ Ok t → IsWhole t }
 {}
 
-/// Lines that are joined to bytes are those lines again, and words that are joined to a line are those words again.
+/// Lines that are joined to bytes are those lines again, and words that are joined to a line are
+/// those words again.
 pub fn joined_texts_are_cut_again()
-    ensures lines { (lines : List (List ℕ)) → AreLines lines → lines_of (joined lines) ≡ lines }
-    ensures words { (words : List (List ℕ)) → AreWords words → words_of (spaced words) ≡ words }
+    ensures lines { (lines : List (List ℕ)) → AreLines lines
+        → lines_of (joined_lines lines) ≡ lines }
+    ensures words { (words : List (List ℕ)) → AreWords words
+        → words_of (joined_words words) ≡ words }
     ensures own { (line : List ℕ) → AreWords (words_of line) }
 {}

@@ -1,6 +1,7 @@
-//! One line: its bytes, its first word, and whether it may stand where it stands, in the order of the tests.
-ghost use Rattle.std.specs.Prelude.{◌≡◌, map};
-ghost use Rattle.grammar.specs.Known.{known};
+//! One line: its bytes, its first word, and whether it may stand where it stands, in the order of
+//! the tests.
+ghost use Rattle.std.specs.Prelude.{map};
+ghost use Rattle.grammar.specs.ParseStates.{parse_state};
 ghost use Rattle.grammar.specs.Lines.{opening, keyword_line, words_line, line_of, with_command};
 ghost use Rattle.grammar.specs.Outcomes.{Gives};
 
@@ -20,7 +21,7 @@ use update::Refusal;
 // The keyword of a line that begins so, if there is one and it may stand here.
 #[tactic(auto, unfolding(crate::specs::Lines::opening))]
 fn opening(draft: &Draft, word: &str) -> Result<Keyword, LineError>
-    ensures { Gives (λ keyword. keyword) result (opening (known draft.now) word.now) }
+    ensures { Gives (λ keyword. keyword) result (opening (parse_state draft.now) word.now) }
 {
     match Keyword::of(word) {
         None => Err(LineError::Refused(Refusal::UnknownCommand)),
@@ -41,8 +42,8 @@ fn opening(draft: &Draft, word: &str) -> Result<Keyword, LineError>
 
 // Adds the command of line `number`.
 fn push_command(draft: &mut Draft, number: u64, command: Command) -> Result<(), LineError>
-    ensures { Gives (λ _. known draft.new) result
-        (with_command number (known draft.old) (Ok command)) }
+    ensures { Gives (λ _. parse_state draft.new) result
+        (with_command number (parse_state draft.old) (Ok command)) }
 {
     draft.commands.push(CommandLine {
         line: number,
@@ -59,39 +60,22 @@ fn keyword_line(
     keyword: Keyword,
     words: &[&str],
 ) -> Result<(), LineError>
-    ensures { Gives (λ _. known draft.new) result
-        (keyword_line number (known draft.old) keyword (map (λ w. w.now) words.now)) }
+    ensures { Gives (λ _. parse_state draft.new) result
+        (keyword_line number (parse_state draft.old) keyword (map (λ w. w.now) words.now)) }
 {
-    match keyword {
-        Keyword::Input => input_line(alloc, draft, words),
-        Keyword::Node => node_line(alloc, draft, words),
-        Keyword::View => view_line(alloc, draft, words),
-        Keyword::Start => start_line(draft, words),
-        Keyword::Change => {
-            let command = change_line(alloc, draft, words)?;
-            push_command(draft, number, command)
-        }
-        Keyword::Advance => {
-            let command = advance_line(alloc, draft, words)?;
-            push_command(draft, number, command)
-        }
-        Keyword::Close => {
-            let command = close_line(draft, words)?;
-            push_command(draft, number, command)
-        }
-        Keyword::Read => {
-            let command = read_line(draft, words)?;
-            push_command(draft, number, command)
-        }
-        Keyword::Changes => {
-            let command = changes_line(draft, words)?;
-            push_command(draft, number, command)
-        }
-        Keyword::Frontier => {
-            let command = frontier_line(draft, words)?;
-            push_command(draft, number, command)
-        }
-    }
+    let command = match keyword {
+        Keyword::Input => return input_line(alloc, draft, words),
+        Keyword::Node => return node_line(alloc, draft, words),
+        Keyword::View => return view_line(alloc, draft, words),
+        Keyword::Start => return start_line(draft, words),
+        Keyword::Change => change_line(alloc, draft, words)?,
+        Keyword::Advance => advance_line(alloc, draft, words)?,
+        Keyword::Close => close_line(draft, words)?,
+        Keyword::Read => read_line(draft, words)?,
+        Keyword::Changes => changes_line(draft, words)?,
+        Keyword::Frontier => frontier_line(draft, words)?,
+    };
+    push_command(draft, number, command)
 }
 
 // The words of a line that is text.
@@ -102,8 +86,8 @@ fn words_line(
     number: u64,
     words: &[&str],
 ) -> Result<(), LineError>
-    ensures { Gives (λ _. known draft.new) result
-        (words_line number (known draft.old) (map (λ w. w.now) words.now)) }
+    ensures { Gives (λ _. parse_state draft.new) result
+        (words_line number (parse_state draft.old) (map (λ w. w.now) words.now)) }
 {
     match words {
         [] => Ok(()),
@@ -125,7 +109,8 @@ pub(crate) fn take_line(
     number: u64,
     line: &[u8],
 ) -> Result<(), LineError>
-    ensures { Gives (λ _. known draft.new) result (line_of number (known draft.old) line.now) }
+    ensures { Gives (λ _. parse_state draft.new) result
+        (line_of number (parse_state draft.old) line.now) }
 {
     let text = text(line)?;
     let words = words(alloc, text)?;

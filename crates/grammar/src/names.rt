@@ -16,6 +16,9 @@ fn are_name_bytes(word: &[u8]) -> bool
     word.iter().all(|byte| is_name_byte(*byte))
 }
 
+// The most bytes that a name has.
+const MAX_NAME: usize = 32;
+
 // Whether a new name may have this form.
 pub(crate) fn is_name(word: &str) -> bool
     ensures { result ≡ is_name word.now }
@@ -23,6 +26,8 @@ pub(crate) fn is_name(word: &str) -> bool
     let word = word.as_bytes();
     match word {
         [] => false,
-        [first, ..] => word.len() <= 32 && first.is_ascii_alphabetic() && are_name_bytes(word),
+        [first, ..] => word.len() <= MAX_NAME
+            && first.is_ascii_alphabetic()
+            && are_name_bytes(word),
     }
 }

@@ -1,8 +1,9 @@
-//! The `node` lines. Such a line says its name before its kind, and how many words it has is for the kind to say: so the
-//! kind is looked at first, then the number of words, and only then the words from left to right.
-ghost use Rattle.std.specs.Prelude.{◌≡◌, map};
-ghost use Rattle.grammar.specs.Known.{known};
-ghost use Rattle.grammar.specs.Declaring.{map_line, filter_line, concat_line, negate_line, kind_line, node_line};
+//! The `node` lines. Such a line says its name before its kind, and how many words it has is for
+//! the kind to say: so the kind is looked at first, then the number of words, and only then the
+//! words from left to right.
+ghost use Rattle.std.specs.Prelude.{map};
+ghost use Rattle.grammar.specs.ParseStates.{parse_state};
+ghost use Rattle.grammar.specs.Declarations.{map_line, filter_line, concat_line, negate_line, kind_line, node_line};
 ghost use Rattle.grammar.specs.Outcomes.{Gives};
 
 use crate::declarations::wrong_count;
@@ -14,10 +15,10 @@ use plan::{Items, Node};
 use std::alloc::Global;
 use update::Refusal;
 
-#[tactic(auto, unfolding(crate::specs::Declaring::map_line))]
+#[tactic(auto, unfolding(crate::specs::Declarations::map_line))]
 fn map_line(alloc: Global, draft: &mut Draft, name: &str, words: &[&str]) -> Result<(), LineError>
-    ensures { Gives (λ _. known draft.new) result
-        (map_line (known draft.old) name.now (map (λ w. w.now) words.now)) }
+    ensures { Gives (λ _. parse_state draft.new) result
+        (map_line (parse_state draft.old) name.now (map (λ w. w.now) words.now)) }
 {
     match words {
         [source, rest @ ..] => {
@@ -33,15 +34,15 @@ fn map_line(alloc: Global, draft: &mut Draft, name: &str, words: &[&str]) -> Res
     }
 }
 
-#[tactic(auto, unfolding(crate::specs::Declaring::filter_line))]
+#[tactic(auto, unfolding(crate::specs::Declarations::filter_line))]
 fn filter_line(
     alloc: Global,
     draft: &mut Draft,
     name: &str,
     words: &[&str],
 ) -> Result<(), LineError>
-    ensures { Gives (λ _. known draft.new) result
-        (filter_line (known draft.old) name.now (map (λ w. w.now) words.now)) }
+    ensures { Gives (λ _. parse_state draft.new) result
+        (filter_line (parse_state draft.old) name.now (map (λ w. w.now) words.now)) }
 {
     match words {
         [source, left, op, right] => {
@@ -54,15 +55,15 @@ fn filter_line(
     }
 }
 
-#[tactic(auto, unfolding(crate::specs::Declaring::concat_line))]
+#[tactic(auto, unfolding(crate::specs::Declarations::concat_line))]
 fn concat_line(
     alloc: Global,
     draft: &mut Draft,
     name: &str,
     words: &[&str],
 ) -> Result<(), LineError>
-    ensures { Gives (λ _. known draft.new) result
-        (concat_line (known draft.old) name.now (map (λ w. w.now) words.now)) }
+    ensures { Gives (λ _. parse_state draft.new) result
+        (concat_line (parse_state draft.old) name.now (map (λ w. w.now) words.now)) }
 {
     match words {
         [left, right] => {
@@ -75,15 +76,15 @@ fn concat_line(
     }
 }
 
-#[tactic(auto, unfolding(crate::specs::Declaring::negate_line))]
+#[tactic(auto, unfolding(crate::specs::Declarations::negate_line))]
 fn negate_line(
     alloc: Global,
     draft: &mut Draft,
     name: &str,
     words: &[&str],
 ) -> Result<(), LineError>
-    ensures { Gives (λ _. known draft.new) result
-        (negate_line (known draft.old) name.now (map (λ w. w.now) words.now)) }
+    ensures { Gives (λ _. parse_state draft.new) result
+        (negate_line (parse_state draft.old) name.now (map (λ w. w.now) words.now)) }
 {
     match words {
         [source] => {
@@ -103,8 +104,8 @@ fn kind_line(
     kind: KindWord,
     words: &[&str],
 ) -> Result<(), LineError>
-    ensures { Gives (λ _. known draft.new) result
-        (kind_line (known draft.old) name.now kind (map (λ w. w.now) words.now)) }
+    ensures { Gives (λ _. parse_state draft.new) result
+        (kind_line (parse_state draft.old) name.now kind (map (λ w. w.now) words.now)) }
 {
     match kind {
         KindWord::Map => map_line(alloc, draft, name, words),
@@ -114,10 +115,10 @@ fn kind_line(
     }
 }
 
-#[tactic(auto, unfolding(crate::specs::Declaring::node_line))]
+#[tactic(auto, unfolding(crate::specs::Declarations::node_line))]
 pub(crate) fn node_line(alloc: Global, draft: &mut Draft, words: &[&str]) -> Result<(), LineError>
-    ensures { Gives (λ _. known draft.new) result
-        (node_line (known draft.old) (map (λ w. w.now) words.now)) }
+    ensures { Gives (λ _. parse_state draft.new) result
+        (node_line (parse_state draft.old) (map (λ w. w.now) words.now)) }
 {
     match words {
         [name, word, rest @ ..] => match KindWord::of(word) {

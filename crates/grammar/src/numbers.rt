@@ -1,7 +1,6 @@
-//! Numbers in words. A word is a number only in the one form in which that number is printed, so no two words are the same
-//! number: no sign before a whole number, no zero in front, no other digits.
-ghost use Rattle.std.specs.Prelude.{◌≡◌, ℕ, ◌<◌, ◌^◌, IfSome};
-ghost use Rattle.std.specs.Fmt.{decimal};
+//! Numbers in words. A word is a number only in the one form in which that number is printed, so no
+//! two words are the same number: no sign before a whole number, no zero in front, no other digits.
+ghost use Rattle.std.specs.Prelude.{◌≡◌, ◌<◌};
 ghost use Rattle.std.specs.List.{list_all};
 ghost use Rattle.std.specs.Char.{is_ascii_digit};
 ghost use Rattle.grammar.specs.Numbers.{is_numeral, is_signed_numeral, whole_of, signed_of};

@@ -1,14 +1,15 @@
 //! The lines after `start`: each is one command. They look names up and change nothing.
-ghost use Rattle.std.specs.Prelude.{◌≡◌, map};
-ghost use Rattle.grammar.specs.Known.{known};
+ghost use Rattle.std.specs.Prelude.{map};
+ghost use Rattle.grammar.specs.ParseStates.{parse_state};
 ghost use Rattle.grammar.specs.Lines.{change_line, advance_line, close_line, read_line, changes_line, frontier_line};
 ghost use Rattle.grammar.specs.Outcomes.{Gives};
 
-use crate::command::Command;
+use crate::command::{Command, InputCommand, ViewCommand};
 use crate::declarations::wrong_count;
 use crate::draft::Draft;
 use crate::fault::LineError;
 use crate::words::{row, signed, time, times, whole, wholes};
+use row::MAX_WIDTH;
 use std::alloc::Global;
 
 #[tactic(auto, unfolding(crate::specs::Lines::change_line))]
@@ -18,11 +19,11 @@ pub(crate) fn change_line(
     words: &[&str],
 ) -> Result<Command, LineError>
     ensures { Gives (λ command. command) result
-        (change_line (known draft.now) (map (λ w. w.now) words.now)) }
+        (change_line (parse_state draft.now) (map (λ w. w.now) words.now)) }
 {
     match words {
         [name, valid, system, diff, rest @ ..] => {
-            if rest.is_empty() || rest.len() > 8 {
+            if rest.is_empty() || rest.len() > MAX_WIDTH {
                 return Err(wrong_count());
             }
             let input = draft.input(name)?;
@@ -30,12 +31,12 @@ pub(crate) fn change_line(
             let system = whole(system)?;
             let diff = signed(diff)?;
             let row = row(alloc, rest)?;
-            Ok(Command::Change {
+            Ok(Command::Input(InputCommand::Change {
                 input,
                 time: time(valid, system),
                 diff,
                 row,
-            })
+            }))
         }
         _ => Err(wrong_count()),
     }
@@ -48,7 +49,7 @@ pub(crate) fn advance_line(
     words: &[&str],
 ) -> Result<Command, LineError>
     ensures { Gives (λ command. command) result
-        (advance_line (known draft.now) (map (λ w. w.now) words.now)) }
+        (advance_line (parse_state draft.now) (map (λ w. w.now) words.now)) }
 {
     match words {
         [name, pairs @ ..] => {
@@ -58,7 +59,7 @@ pub(crate) fn advance_line(
             let input = draft.input(name)?;
             let numbers = wholes(alloc, pairs)?;
             let times = times(alloc, &numbers)?;
-            Ok(Command::Advance { input, times })
+            Ok(Command::Input(InputCommand::Advance { input, times }))
         }
         _ => Err(wrong_count()),
     }
@@ -67,12 +68,12 @@ pub(crate) fn advance_line(
 #[tactic(auto, unfolding(crate::specs::Lines::close_line))]
 pub(crate) fn close_line(draft: &Draft, words: &[&str]) -> Result<Command, LineError>
     ensures { Gives (λ command. command) result
-        (close_line (known draft.now) (map (λ w. w.now) words.now)) }
+        (close_line (parse_state draft.now) (map (λ w. w.now) words.now)) }
 {
     match words {
         [name] => {
             let input = draft.input(name)?;
-            Ok(Command::Close { input })
+            Ok(Command::Input(InputCommand::Close { input }))
         }
         _ => Err(wrong_count()),
     }
@@ -81,17 +82,17 @@ pub(crate) fn close_line(draft: &Draft, words: &[&str]) -> Result<Command, LineE
 #[tactic(auto, unfolding(crate::specs::Lines::read_line))]
 pub(crate) fn read_line(draft: &Draft, words: &[&str]) -> Result<Command, LineError>
     ensures { Gives (λ command. command) result
-        (read_line (known draft.now) (map (λ w. w.now) words.now)) }
+        (read_line (parse_state draft.now) (map (λ w. w.now) words.now)) }
 {
     match words {
         [name, valid, system] => {
             let view = draft.view(name)?;
             let valid = whole(valid)?;
             let system = whole(system)?;
-            Ok(Command::Read {
+            Ok(Command::View(ViewCommand::Read {
                 view,
                 time: time(valid, system),
-            })
+            }))
         }
         _ => Err(wrong_count()),
     }
@@ -100,12 +101,12 @@ pub(crate) fn read_line(draft: &Draft, words: &[&str]) -> Result<Command, LineEr
 #[tactic(auto, unfolding(crate::specs::Lines::changes_line))]
 pub(crate) fn changes_line(draft: &Draft, words: &[&str]) -> Result<Command, LineError>
     ensures { Gives (λ command. command) result
-        (changes_line (known draft.now) (map (λ w. w.now) words.now)) }
+        (changes_line (parse_state draft.now) (map (λ w. w.now) words.now)) }
 {
     match words {
         [name] => {
             let view = draft.view(name)?;
-            Ok(Command::Changes { view })
+            Ok(Command::View(ViewCommand::Changes { view }))
         }
         _ => Err(wrong_count()),
     }
@@ -114,12 +115,12 @@ pub(crate) fn changes_line(draft: &Draft, words: &[&str]) -> Result<Command, Lin
 #[tactic(auto, unfolding(crate::specs::Lines::frontier_line))]
 pub(crate) fn frontier_line(draft: &Draft, words: &[&str]) -> Result<Command, LineError>
     ensures { Gives (λ command. command) result
-        (frontier_line (known draft.now) (map (λ w. w.now) words.now)) }
+        (frontier_line (parse_state draft.now) (map (λ w. w.now) words.now)) }
 {
     match words {
         [name] => {
             let view = draft.view(name)?;
-            Ok(Command::Frontier { view })
+            Ok(Command::View(ViewCommand::Frontier { view }))
         }
         _ => Err(wrong_count()),
     }

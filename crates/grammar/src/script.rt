@@ -1,12 +1,13 @@
-//! A script that was read: a plan, a name for each of its nodes, and the commands in the order of their lines. What a
-//! reader of commands would else have to test is an invariant: each command names an input of the plan, or a view.
+//! A script that was read: a plan, a name for each of its nodes, and the commands in the order of
+//! their lines. What a reader of commands would else have to test is an invariant: each command
+//! names an input of the plan, or a view.
 ghost use Rattle.std.specs.Prelude.{◌≡◌, ◌<◌, IsTrue, length};
 ghost use Rattle.std.specs.List.{All};
-ghost use Rattle.plan.specs.Operators.{is_linear};
+ghost use Rattle.plan.specs.Nodes.{is_linear};
 ghost use Rattle.grammar.specs.Commands.{IsAbout};
-ghost use Rattle.grammar.specs.Known.{known};
-ghost use Rattle.grammar.specs.Scripts.{told};
-ghost use Rattle.grammar.specs.Told.{IsWhole, name_at};
+ghost use Rattle.grammar.specs.ParseStates.{parse_state};
+ghost use Rattle.grammar.specs.Scripts.{model_of};
+ghost use Rattle.grammar.specs.ScriptModels.{IsWhole, name_at};
 
 use crate::command::CommandLine;
 use crate::draft::Draft;
@@ -24,9 +25,9 @@ pub struct Script {
 
 impl Model for Script {
     ghost use Rattle.std.specs.Prelude.{map, string_bytes};
-    ghost use Rattle.grammar.specs.Told.{Told, IsWhole};
+    ghost use Rattle.grammar.specs.ScriptModels.{ScriptModel, IsWhole};
 
-    ghost Value = { Told };
+    ghost Value = { ScriptModel };
 
     ghost view = { λ s. record {
       names = map string_bytes s.names.keys;
@@ -44,8 +45,8 @@ impl Model for Script {
 impl Script {
     // What the lines have said, as a script.
     pub(crate) fn of(draft: Draft) -> Script
-        requires { IsWhole (told (known draft)) }
-        ensures { result ≡ told (known draft) }
+        requires { IsWhole (model_of (parse_state draft)) }
+        ensures { result ≡ model_of (parse_state draft) }
     {
         let Draft {
             names,
@@ -74,7 +75,8 @@ impl Script {
         self.commands.len() as u64
     }
 
-    /// The plan, with the nodes in the order of their lines. None of them is a join or a reduction so far. Takes no memory.
+    /// The plan, with the nodes in the order of their lines. None of them is a join or a reduction
+    /// so far. Takes no memory.
     pub fn plan(&self) -> &Plan
         ensures plan { result.now ≡ self.now.plan }
         ensures linear { All (λ node. IsTrue (is_linear node)) self.now.plan }
@@ -90,8 +92,8 @@ impl Script {
         self.names.get_index(id.number()).unwrap().as_str()
     }
 
-    /// The commands in the order of their lines. Each is about an input of the plan, or a view where it asks one. Takes no
-    /// memory.
+    /// The commands in the order of their lines. Each is about an input of the plan, or a view
+    /// where it asks one. Takes no memory.
     pub fn command_lines(&self) -> &[CommandLine]
         ensures lines { result.now ≡ self.now.commands }
         ensures about { All (λ line. IsAbout self.now.plan line.command) self.now.commands }

@@ -3,14 +3,13 @@ ghost use Rattle.std.specs.Prelude.{◌≡◌, ◌++◌, ◌∷◌, [], ◌≤�
 ghost use Rattle.grammar.specs.Outcomes.{Gives};
 ghost use Rattle.grammar.specs.Words.{whole, signed, wholes, columns, pairs_of};
 
-use crate::command::Times;
 use crate::fault::LineError;
 use crate::numbers::{signed_number, whole_number};
 use lattice::{Bitime, Pair};
 use row::Row;
 use smallvec::SmallVec;
 use std::alloc::Global;
-use update::Refusal;
+use update::{Refusal, Times};
 
 // A word that should be a whole number.
 #[tactic(auto, unfolding(crate::specs::Words::whole))]
@@ -82,7 +81,7 @@ pub(crate) fn wholes(alloc: Global, words: &[&str]) -> Result<Vec<u64>, LineErro
 }
 
 // The numbers two by two, each two as a time.
-pub(crate) fn times(alloc: Global, numbers: &[u64]) -> Result<Times, LineError>
+pub(crate) fn times(alloc: Global, numbers: &[u64]) -> Result<Times<Bitime>, LineError>
     ensures ok { IfOk result (λ times. times ≡ pairs_of numbers.now) }
     ensures err { IfErr result (λ e. e ≡ LineError.Memory) }
 {

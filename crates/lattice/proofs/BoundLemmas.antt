@@ -10,12 +10,14 @@ same_test false true h k = k refl
 same_test false false h k = refl
 
 module _ {T : Type 0} {below : T → T → Bool} {joined met : T → T → T} (o : PartialOrderLaws below) (l : LatticeLaws below joined met) where
+  -- a join is below a time exactly if both are
   pub join_below : (t u s : T) → below (joined t u) s ≡ (below t s && below u s)
   join_below t u s =
       same_test _ _
       (λ h. and_from _ _ (o.transitive _ _ _ (l.join_left t u) h) (o.transitive _ _ _ (l.join_right t u) h))
       (λ h. let p = and_parts _ _ h in l.join_least t u s p.0 p.1)
 
+  -- a time is below a meet exactly if it is below both
   pub below_meet : (t u s : T) → below s (met t u) ≡ (below s t && below s u)
   below_meet t u s =
       same_test _ _
@@ -25,9 +27,11 @@ module _ {T : Type 0} {below : T → T → Bool} {joined met : T → T → T} (o
   join_one_way : (t u : T) → IsTrue (below (joined t u) (joined u t))
   join_one_way t u = l.join_least t u (joined u t) (l.join_right u t) (l.join_left u t)
 
+  -- so the order of the two does not matter
   pub join_commutes : (t u : T) → joined t u ≡ joined u t
   join_commutes t u = o.antisymmetric _ _ (join_one_way t u) (join_one_way u t)
 
+  -- nor does the order of three
   pub join_associates : (t u v : T) → joined (joined t u) v ≡ joined t (joined u v)
   join_associates t u v =
       let left = l.join_left t (joined u v) in
@@ -41,5 +45,6 @@ module _ {T : Type 0} {below : T → T → Bool} {joined met : T → T → T} (o
       (o.transitive _ _ _ (l.join_left t u) first)
       (l.join_least _ _ _ (o.transitive _ _ _ (l.join_right t u) first) (l.join_right (joined t u) v)))
 
+  -- nor how often a time is joined in
   pub join_same : (t : T) → joined t t ≡ t
   join_same t = o.antisymmetric _ _ (l.join_least t t t (o.reflexive t) (o.reflexive t)) (l.join_left t t)

@@ -13,11 +13,13 @@ all_more p q h (t ∷ ts) a =
     and_from _ _ (h t parts.0) (all_more p q h ts parts.1)
 
 module _ {T : Type 0} {below : T → T → Bool} (o : PartialOrderLaws below) where
+  -- what is beyond a frontier stays beyond it at every later time
   pub beyond_up : (F : List T) (t u : T) → IsTrue (is_beyond below F t) → IsTrue (below t u) → IsTrue (is_beyond below F u)
   beyond_up [] t u h k = absurd (true≢false (sym h))
   beyond_up (f ∷ F) t u h k =
       ⊎_elim (λ e. or_left _ _ (o.transitive f t u e k)) (λ e. or_right (below f u) _ (beyond_up F t u e k)) (or_cases _ _ h)
 
+  -- what is beyond the later frontier is beyond the earlier one
   pub beyond_later : (F G : List T) (t : T) → IsTrue (all_beyond below F G) → IsTrue (is_beyond below G t) → IsTrue (is_beyond below F t)
   beyond_later F [] t a h = absurd (true≢false (sym h))
   beyond_later F (g ∷ G) t a h =
@@ -31,6 +33,7 @@ module _ {T : Type 0} {below : T → T → Bool} (o : PartialOrderLaws below) wh
       and_from _ _ (or_left _ _ (o.reflexive f))
       (all_more (is_beyond below F) (is_beyond below (f ∷ F)) (λ t h. or_right (below f t) _ h) F (beyond_itself F))
 
+  -- frontiers that move on step by step move on altogether
   pub all_beyond_later : (F G H : List T) → IsTrue (all_beyond below F G) → IsTrue (all_beyond below G H) → IsTrue (all_beyond below F H)
   all_beyond_later F G H a b = all_more (is_beyond below G) (is_beyond below F) (λ t h. beyond_later F G t a h) H b
 

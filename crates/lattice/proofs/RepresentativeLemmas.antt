@@ -52,14 +52,17 @@ module _ {T : Type 0} {below : T → T → Bool} {joined met : T → T → T} (o
       (λ f b. h (joined t f) (beyond_up o F f (joined t f) b (l.join_right t f)) (l.join_left t f))
       F (beyond_itself o F))
 
+  -- compaction moves a time later, never back
   pub representative_later : (F : List T) (t : T) → IsTrue (below t (representative_of joined met F t))
   representative_later [] t = o.reflexive t
   representative_later (f ∷ F) t = representative_greatest (f ∷ F) t t (λ e. cc) (λ s b k. k)
 
+  -- no read beyond the frontier can tell a time from its representative
   pub representative_keeps : (F : List T) (t : T) → Indistinguishable below F t (representative_of joined met F t)
   representative_keeps F t s h =
       same_test _ _ (representative_below t s F h) (o.transitive _ _ _ (representative_later F t))
 
+  -- a time that is beyond the frontier is its own representative
   pub representative_stays : (F : List T) (t : T) → IsTrue (is_beyond below F t) → representative_of joined met F t ≡ t
   representative_stays F t h = o.antisymmetric _ _ (representative_below t t F h (o.reflexive t)) (representative_later F t)
 
@@ -68,6 +71,7 @@ module _ {T : Type 0} {below : T → T → Bool} {joined met : T → T → T} (o
       representative_greatest F u (representative_of joined met F t) some
       (λ s b k. representative_below t s F b (same s b ∙ k))
 
+  -- times that no read can tell apart have one representative
   pub representative_one : (F : List T) (t u : T) → F ≢ [] → Indistinguishable below F t u → representative_of joined met F t ≡ representative_of joined met F u
   representative_one F t u some same =
       o.antisymmetric _ _ (representative_one_way F t u some same) (representative_one_way F u t some (λ s b. sym (same s b)))
@@ -81,6 +85,7 @@ module _ {T : Type 0} {below : T → T → Bool} {joined met : T → T → T} (o
       (l.join_least _ _ _ (l.join_left t u) (representative_below u (joined t u) F there (l.join_right t u)))
       (l.join_least _ _ _ (l.join_left t r) (o.transitive _ _ _ (representative_later F u) (l.join_right t r)))
 
+  -- compacting in steps leaves the same as compacting once
   pub representative_in_steps : (F G : List T) (t : T) → G ≢ [] → IsTrue (all_beyond below F G) → representative_of joined met G (representative_of joined met F t) ≡ representative_of joined met G t
   representative_in_steps F G t some a =
       sym (representative_one G t (representative_of joined met F t) some (λ s b. representative_keeps F t s (beyond_later o F G s a b)))

@@ -3,3 +3,4 @@ pub mod Frontiers
 pub mod Representatives
 pub mod Naturals
 pub mod Pairs
+pub mod Bitimes

@@ -2,3 +2,5 @@ pub mod SumLemmas
 pub mod SizeLemmas
 pub mod WidthLemmas
 pub mod LoopLemmas
+pub mod PortLemmas
+pub mod OutputLemmas

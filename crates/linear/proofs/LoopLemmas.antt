@@ -7,7 +7,7 @@ use Rattle.std.proofs.lemmas.List.{take_all, length-take-le, length-map, get_or-
 use Rattle.std.proofs.lemmas.List.Elements.{All-map}
 use Rattle.std.proofs.lemmas.List.Sums.{AllPass-from_list_all}
 use Rattle.std.proofs.Math.Seq.{get_or-append_seam}
-use Rattle.row.specs.Projection.{is_within}
+use Rattle.row.specs.Projection.{are_within}
 use Rattle.row.specs.declared.projection.Item.{Item}
 use Rattle.update.specs.declared.change.Update.{Update}
 use Rattle.plan.specs.Rules.{is_width}
@@ -27,6 +27,7 @@ module _ {X : Type 0} where
   pub passes_at : (p : X → Bool) (xs : List X) (i : ℕ) (d : X) → i < length xs → IsTrue (list_all p xs) → IsTrue (p (get_or xs i d))
   passes_at p xs i d l h = AllPass-from_list_all p xs h i d l
 
+  -- what is still to be read holds what all updates held
   pub read_passes : (p : X → Bool) (f : X → X) (xs ys : List X) (i : ℕ) (d : X) → i < length xs → ys ≡ map f (take i xs) ++ drop i xs → IsTrue (list_all p xs) → IsTrue (p (get_or ys i d))
   read_passes p f xs ys i d l e h = subst (λ x. IsTrue (p x)) (sym (unread f xs ys i d l e)) (passes_at p xs i d l h)
 
@@ -45,14 +46,16 @@ module _ {X : Type 0} where
 -- what a map asks of a row
 pub items_some : (items : List Item) (columns : ℕ) → IsTrue (takes_items items columns) → 1 ≤ length items
 items_some items columns h =
-    leb-true 1 (length items) (and_parts (nat_le 1 (length items)) (nat_le (length items) 8) (and_parts (is_width (length items)) (list_all (λ item. is_within item columns) items) h).0).0
+    leb-true 1 (length items) (and_parts (nat_le 1 (length items)) (nat_le (length items) 8) (and_parts (is_width (length items)) (are_within items columns) h).0).0
 
+-- a map has 8 items at most
 pub items_few : (items : List Item) (columns : ℕ) → IsTrue (takes_items items columns) → length items ≤ 8
 items_few items columns h =
-    leb-true (length items) 8 (and_parts (nat_le 1 (length items)) (nat_le (length items) 8) (and_parts (is_width (length items)) (list_all (λ item. is_within item columns) items) h).0).1
+    leb-true (length items) 8 (and_parts (nat_le 1 (length items)) (nat_le (length items) 8) (and_parts (is_width (length items)) (are_within items columns) h).0).1
 
-pub items_within : (items : List Item) (columns : ℕ) → IsTrue (takes_items items columns) → IsTrue (list_all (λ item. is_within item columns) items)
-items_within items columns h = (and_parts (is_width (length items)) (list_all (λ item. is_within item columns) items) h).1
+-- and each names a column that is there
+pub items_within : (items : List Item) (columns : ℕ) → IsTrue (takes_items items columns) → IsTrue (are_within items columns)
+items_within items columns h = (and_parts (is_width (length items)) (are_within items columns) h).1
 
 module _ {T : Type 0} where
   -- the diff that is no 64-bit number stands there

@@ -9,17 +9,18 @@ use Rattle.std.proofs.lemmas.List.{map-append, append-nil}
 use Rattle.std.proofs.lemmas.List.Elements.{filter-append}
 use Rattle.row.specs.Testing.{passes}
 use Rattle.row.specs.declared.projection.Item.{Item}
-use Rattle.row.specs.declared.testing.Test.{Test}
+use Rattle.row.specs.declared.test.Test.{Test}
 use Rattle.update.specs.Bags.{Entry, Alike, count_of}
 use Rattle.update.specs.Updates.{entry, as_of}
 use Rattle.update.specs.declared.change.Update.{Update}
-use Rattle.plan.specs.Operators.{mapped, negated, given, is_linear}
+use Rattle.plan.specs.Operators.{mapped_entry, negated_entry, operator_output}
+use Rattle.plan.specs.Nodes.{is_linear}
 use Rattle.plan.specs.declared.node.Node.{Node}
-use Rattle.plan.specs.declared.node.Node.TheVariants.{Input, Map, Filter, Concat, Negate, Arrange, Join, Reduce, Output}
+use Rattle.plan.specs.declared.node.Node.TheVariants.{Input, Map, Filter, Concat, Negate, Join, Reduce}
 use Rattle.plan.proofs.OperatorLemmas.{given_sum}
-use Rattle.plan.proofs.WeighLemmas.{count_of-append}
-use Rattle.linear.specs.Applied.{mapped_update, negated_update, applied}
-use Rattle.linear.specs.Ports.{is_port, at_port, more_at}
+use Rattle.plan.proofs.CountLemmas.{count_of-append}
+use Rattle.linear.specs.Applied.{mapped_update, negated_update, linear_output}
+use Rattle.linear.specs.Ports.{is_port, at_port, with_more_at}
 
 module _ {X : Type 0} where
   filter-filter : (p q : X → Bool) (xs : List X) → filter p (filter q xs) ≡ filter (λ x. q x && p x) xs
@@ -47,16 +48,11 @@ module _ {X : Type 0} where
       ]
 
 -- what the node makes of two pieces
-pub applied-append : {T : Type 0} (node : Node) (us vs : List (Update T)) → applied node (us ++ vs) ≡ applied node us ++ applied node vs
-applied-append (Input width) us vs = refl
-applied-append (Map source items) us vs = map-append (mapped_update items) us vs
-applied-append (Filter source test) us vs = filter-append (λ u. passes test u.row) us vs
-applied-append (Concat left right) us vs = refl
-applied-append (Negate source) us vs = map-append negated_update us vs
-applied-append (Arrange source key) us vs = refl
-applied-append (Join left right) us vs = refl
-applied-append (Reduce kind source) us vs = refl
-applied-append (Output source) us vs = refl
+pub linear_output-append : {T : Type 0} (node : Node) (us vs : List (Update T)) → linear_output node (us ++ vs) ≡ linear_output node us ++ linear_output node vs
+linear_output-append (Map source items) us vs = map-append (mapped_update items) us vs
+linear_output-append (Filter source test) us vs = filter-append (λ u. passes test u.row) us vs
+linear_output-append (Negate source) us vs = map-append negated_update us vs
+linear_output-append node us vs = refl
 
 -- a node that reads one source, or none, has one port
 one_port : (port : ℕ) → IsTrue (eqb port 0 || nat_lt port 1) → port ≡ 0
@@ -72,28 +68,29 @@ both_ports (suc zero) h es row = refl
 both_ports (suc (suc port)) h es row = absurd (grind (arith, nat_tests))
 
 module _ {T : Type 0} (below : T → T → Bool) (t : T) where
+  -- sums at a time go through lists piece by piece
   pub as_of-append : (us vs : List (Update T)) → as_of below t (us ++ vs) ≡ as_of below t us ++ as_of below t vs
   as_of-append us vs =
       ap (λ l. map entry l) (filter-append (λ u. below u.time t) us vs)
       ∙ map-append entry (filter (λ u. below u.time t) us) (filter (λ u. below u.time t) vs)
 
-  as_of-mapped : (items : List Item) (us : List (Update T)) → as_of below t (map (mapped_update items) us) ≡ map (mapped items) (as_of below t us)
-  as_of-mapped items [] = refl
-  as_of-mapped items (u ∷ us) =
-      let h = as_of-mapped items us in
+  as_of-mapped_entry : (items : List Item) (us : List (Update T)) → as_of below t (map (mapped_update items) us) ≡ map (mapped_entry items) (as_of below t us)
+  as_of-mapped_entry items [] = refl
+  as_of-mapped_entry items (u ∷ us) =
+      let h = as_of-mapped_entry items us in
       elim (below u.time t) as (λ b. map entry (cond b (mapped_update items u ∷ filter (λ v. below v.time t) (map (mapped_update items) us)) (filter (λ v. below v.time t) (map (mapped_update items) us)))
-      ≡ map (mapped items) (map entry (cond b (u ∷ filter (λ v. below v.time t) us) (filter (λ v. below v.time t) us)))) [
-        | true ↦ ap (λ l. mapped items (entry u) ∷ l) h
+      ≡ map (mapped_entry items) (map entry (cond b (u ∷ filter (λ v. below v.time t) us) (filter (λ v. below v.time t) us)))) [
+        | true ↦ ap (λ l. mapped_entry items (entry u) ∷ l) h
         | false ↦ h
       ]
 
-  as_of-negated : (us : List (Update T)) → as_of below t (map negated_update us) ≡ map negated (as_of below t us)
-  as_of-negated [] = refl
-  as_of-negated (u ∷ us) =
-      let h = as_of-negated us in
+  as_of-negated_entry : (us : List (Update T)) → as_of below t (map negated_update us) ≡ map negated_entry (as_of below t us)
+  as_of-negated_entry [] = refl
+  as_of-negated_entry (u ∷ us) =
+      let h = as_of-negated_entry us in
       elim (below u.time t) as (λ b. map entry (cond b (negated_update u ∷ filter (λ v. below v.time t) (map negated_update us)) (filter (λ v. below v.time t) (map negated_update us)))
-      ≡ map negated (map entry (cond b (u ∷ filter (λ v. below v.time t) us) (filter (λ v. below v.time t) us)))) [
-        | true ↦ ap (λ l. negated (entry u) ∷ l) h
+      ≡ map negated_entry (map entry (cond b (u ∷ filter (λ v. below v.time t) us) (filter (λ v. below v.time t) us)))) [
+        | true ↦ ap (λ l. negated_entry (entry u) ∷ l) h
         | false ↦ h
       ]
 
@@ -103,33 +100,33 @@ module _ {T : Type 0} (below : T → T → Bool) (t : T) where
       ∙ map-filter entry (λ e. passes test e.row) (filter (λ u. below u.time t) us)
 
   -- what comes out of one piece
-  pub applied_sums : (k : ℕ) (node : Node) → IsTrue (is_linear node) → (port : ℕ) → IsTrue (is_port node port) → (us : List (Update T)) → Alike (as_of below t (applied node us)) (given k node (at_port port (as_of below t us)))
+  pub applied_sums : (k : ℕ) (node : Node) → IsTrue (is_linear node) → (port : ℕ) → IsTrue (is_port node port) → (us : List (Update T)) → Alike (as_of below t (linear_output node us)) (operator_output k node (at_port port (as_of below t us)))
   applied_sums k (Input width) l port h us row = rw (no_port port h) refl
-  applied_sums k (Map source items) l port h us row = rw (one_port port h) (ap (λ es. count_of es row) (as_of-mapped items us))
+  applied_sums k (Map source items) l port h us row = rw (one_port port h) (ap (λ es. count_of es row) (as_of-mapped_entry items us))
   applied_sums k (Filter source test) l port h us row = rw (one_port port h) (ap (λ es. count_of es row) (as_of-passing test us))
   applied_sums k (Concat left right) l port h us row = both_ports port h (as_of below t us) row
-  applied_sums k (Negate source) l port h us row = rw (one_port port h) (ap (λ es. count_of es row) (as_of-negated us))
-  applied_sums k (Arrange source key) l port h us row = rw (one_port port h) refl
+  applied_sums k (Negate source) l port h us row = rw (one_port port h) (ap (λ es. count_of es row) (as_of-negated_entry us))
   applied_sums k (Join left right) l port h us row = absurd (true≢false (sym l))
   applied_sums k (Reduce kind source) l port h us row = absurd (true≢false (sym l))
-  applied_sums k (Output source) l port h us row = rw (one_port port h) refl
+  applied_sums k node l port h us row = rw (one_port port h) refl
 
   -- one more piece at a port, in the sums of all that came
-  as_of-more : (port : ℕ) (us : List (Update T)) (received : ℕ → List (Update T)) (p : ℕ) → as_of below t (more_at port us received p) ≡ at_port port (as_of below t us) p ++ as_of below t (received p)
+  as_of-more : (port : ℕ) (us : List (Update T)) (received : ℕ → List (Update T)) (p : ℕ) → as_of below t (with_more_at port us received p) ≡ at_port port (as_of below t us) p ++ as_of below t (received p)
   as_of-more port us received p =
       elim (eqb p port) as (λ b. as_of below t (cond b (us ++ received p) (received p)) ≡ cond b (as_of below t us) [] ++ as_of below t (received p)) [
         | true ↦ as_of-append us (received p)
         | false ↦ refl
       ]
 
+  -- working on more updates keeps the output the operator of what was received
   pub applied_goes_on : (k : ℕ) (node : Node) → IsTrue (is_linear node) → (port : ℕ) → IsTrue (is_port node port)
       → (received : ℕ → List (Update T)) (emitted us : List (Update T))
-      → Alike (as_of below t emitted) (given k node (λ p. as_of below t (received p)))
-      → Alike (as_of below t (applied node us ++ emitted)) (given k node (λ p. as_of below t (more_at port us received p)))
+      → Alike (as_of below t emitted) (operator_output k node (λ p. as_of below t (received p)))
+      → Alike (as_of below t (linear_output node us ++ emitted)) (operator_output k node (λ p. as_of below t (with_more_at port us received p)))
   applied_goes_on k node l port h received emitted us before row =
-      ap (λ es. count_of es row) (as_of-append (applied node us) emitted)
-      ∙ (count_of-append (as_of below t (applied node us)) (as_of below t emitted) row
+      ap (λ es. count_of es row) (as_of-append (linear_output node us) emitted)
+      ∙ (count_of-append (as_of below t (linear_output node us)) (as_of below t emitted) row
       ∙ ((λ i. applied_sums k node l port h us row i +ℤ before row i)
-      ∙ (sym (count_of-append (given k node (at_port port (as_of below t us))) (given k node (λ p. as_of below t (received p))) row)
+      ∙ (sym (count_of-append (operator_output k node (at_port port (as_of below t us))) (operator_output k node (λ p. as_of below t (received p))) row)
       ∙ (sym (given_sum k node l (at_port port (as_of below t us)) (λ p. as_of below t (received p)) row)
-      ∙ ap (λ bags. count_of (given k node bags) row) (sym (λ i p. as_of-more port us received p i))))))
+      ∙ ap (λ bags. count_of (operator_output k node bags) row) (sym (λ i p. as_of-more port us received p i))))))

@@ -12,5 +12,5 @@ abbrev pub at_port : {A : Type 0} → ℕ → List A → ℕ → List A
 at_port port xs p = if eqb p port then xs else []
 
 -- these at one port, before what was there, and at the others what was there
-abbrev pub more_at : {A : Type 0} → ℕ → List A → (ℕ → List A) → ℕ → List A
-more_at port xs lists p = if eqb p port then xs ++ lists p else lists p
+abbrev pub with_more_at : {A : Type 0} → ℕ → List A → (ℕ → List A) → ℕ → List A
+with_more_at port xs lists p = if eqb p port then xs ++ lists p else lists p

@@ -1,28 +1,23 @@
 -- Which rows a linear node takes.
 use Rattle.std.specs.Prelude.{ℕ, Bool, true, ◌&&◌, List, length, eqb}
 use Rattle.std.specs.List.{list_all}
-use Rattle.row.specs.Projection.{is_within}
+use Rattle.row.specs.Projection.{are_within}
+use Rattle.row.specs.Testing.{is_test_within}
 use Rattle.row.specs.declared.projection.Item.{Item}
 use Rattle.update.specs.declared.change.Update.{Update}
-use Rattle.plan.specs.Rules.{is_width, is_test_within}
+use Rattle.plan.specs.Rules.{is_width}
 use Rattle.plan.specs.declared.node.Node.{Node}
-use Rattle.plan.specs.declared.node.Node.TheVariants.{Input, Map, Filter, Concat, Negate, Arrange, Join, Reduce, Output}
+use Rattle.plan.specs.declared.node.Node.TheVariants.{Map, Filter}
 
 -- rows of that width have the columns that the items of a map name, and their images are rows
 abbrev pub takes_items : List Item → ℕ → Bool
-takes_items items columns = is_width (length items) && list_all (λ item. is_within item columns) items
+takes_items items columns = is_width (length items) && are_within items columns
 
 -- rows of that width have the columns that the node names, and what it makes of them are rows
 abbrev pub takes_width : Node → ℕ → Bool
-takes_width (Input width) columns = true
 takes_width (Map source items) columns = takes_items items columns
 takes_width (Filter source test) columns = is_test_within test columns
-takes_width (Concat left right) columns = true
-takes_width (Negate source) columns = true
-takes_width (Arrange source key) columns = true
-takes_width (Join left right) columns = true
-takes_width (Reduce kind source) columns = true
-takes_width (Output source) columns = true
+takes_width other columns = true
 
 -- the node takes each of the rows
 abbrev pub takes_rows : {T : Type 0} → Node → List (Update T) → Bool

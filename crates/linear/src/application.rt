@@ -2,15 +2,15 @@
 //!
 //! A map and a negation write each update anew where it stands. A filter moves what passes to the front, in the order in
 //! which it stood, and cuts off the rest. The others hand on what comes: a concat is the merging of two lists of updates
-//! into one, and whoever takes from both ports has merged them already. So no operator asks for memory.
+//! into one, and a caller that takes from both ports has merged them already. So no operator asks for memory.
 ghost use Rattle.std.specs.Prelude.{◌≡◌, ◌≤◌, ◌↔◌, ℕ, Bool, map, length, IfOk, IfErr, IsErr, OnOk, IsTrue};
 ghost use Rattle.std.specs.List.{filter, list_all};
-ghost use Rattle.row.specs.Testing.{passes};
+ghost use Rattle.row.specs.Testing.{passes, is_test_within};
 ghost use Rattle.update.specs.Bags.{Alike};
 ghost use Rattle.update.specs.Updates.{as_of, size};
-ghost use Rattle.plan.specs.Operators.{given, is_linear};
-ghost use Rattle.plan.specs.Rules.{is_test_within};
-ghost use Rattle.linear.specs.Applied.{mapped_update, negated_update, applied, HasLargeDiff, Overflows};
+ghost use Rattle.plan.specs.Operators.{operator_output};
+ghost use Rattle.plan.specs.Nodes.{is_linear};
+ghost use Rattle.linear.specs.Applied.{mapped_update, negated_update, linear_output, HasLargeDiff, Overflows};
 ghost use Rattle.linear.specs.Ports.{is_port, at_port};
 ghost use Rattle.linear.specs.Widths.{takes_items, takes_rows};
 
@@ -75,10 +75,10 @@ pub fn apply<T: Lattice>(
 ) -> Result<Vec<Update<T>>, Refusal>
     requires linear { IsTrue (is_linear node.now) }
     requires rows { IsTrue (takes_rows node.now updates.items) }
-    ensures applied { IfOk result (λ out. out.items ≡ applied node.now updates.items) }
+    ensures applied { IfOk result (λ out. out.items ≡ linear_output node.now updates.items) }
     ensures sums { IfOk result (λ out. (k port : ℕ) (t : T) → IsTrue (is_port node.now port)
         → Alike (as_of T.below t out.items)
-        (given k node.now (at_port port (as_of T.below t updates.items)))) }
+        (operator_output k node.now (at_port port (as_of T.below t updates.items)))) }
     ensures times { IfOk result (λ out. (p : T → Bool)
         → IsTrue (list_all (λ u. p u.time) updates.items)
         → IsTrue (list_all (λ u. p u.time) out.items)) }

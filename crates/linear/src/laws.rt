@@ -5,13 +5,13 @@ ghost use Rattle.std.specs.List.{list_all};
 ghost use Rattle.update.specs.Bags.{Alike};
 ghost use Rattle.update.specs.Updates.{as_of, size};
 ghost use Rattle.update.specs.declared.change.Update.{Update};
-ghost use Rattle.plan.specs.Nodes.{node_at, sources};
-ghost use Rattle.plan.specs.Operators.{given, is_linear};
+ghost use Rattle.plan.specs.Nodes.{node_at, sources, is_linear};
+ghost use Rattle.plan.specs.Operators.{operator_output};
 ghost use Rattle.plan.specs.Rules.{IsPlan};
 ghost use Rattle.plan.specs.Widths.{width_of};
 ghost use Rattle.plan.specs.declared.node.Node.{Node};
-ghost use Rattle.linear.specs.Applied.{applied, Overflows};
-ghost use Rattle.linear.specs.Ports.{is_port, at_port, more_at};
+ghost use Rattle.linear.specs.Applied.{linear_output, Overflows};
+ghost use Rattle.linear.specs.Ports.{is_port, at_port, with_more_at};
 ghost use Rattle.linear.specs.Widths.{takes_rows, are_wide};
 
 use lattice::Lattice;
@@ -22,18 +22,19 @@ use lattice::Lattice;
 /// is no 64-bit number, those that came add up to 2^63 or more.
 pub fn pieces_add_up<T: Lattice>()
     ensures pieces { (node : Node) (us vs : List (Update T))
-        → applied node (us ++ vs) ≡ applied node us ++ applied node vs }
+        → linear_output node (us ++ vs) ≡ linear_output node us ++ linear_output node vs }
     ensures sums { (k : ℕ) (node : Node) → IsTrue (is_linear node) → (port : ℕ)
         → IsTrue (is_port node port) → (us : List (Update T)) (t : T)
-        → Alike (as_of T.below t (applied node us))
-        (given k node (at_port port (as_of T.below t us))) }
+        → Alike (as_of T.below t (linear_output node us))
+        (operator_output k node (at_port port (as_of T.below t us))) }
     ensures goes_on { (k : ℕ) (node : Node) → IsTrue (is_linear node) → (port : ℕ)
         → IsTrue (is_port node port)
         → (received : ℕ → List (Update T)) (emitted us : List (Update T)) (t : T)
-        → Alike (as_of T.below t emitted) (given k node (λ p. as_of T.below t (received p)))
-        → Alike (as_of T.below t (applied node us ++ emitted))
-        (given k node (λ p. as_of T.below t (more_at port us received p))) }
-    ensures size { (node : Node) (us : List (Update T)) → size (applied node us) ≤ size us }
+        → Alike (as_of T.below t emitted)
+        (operator_output k node (λ p. as_of T.below t (received p)))
+        → Alike (as_of T.below t (linear_output node us ++ emitted))
+        (operator_output k node (λ p. as_of T.below t (with_more_at port us received p))) }
+    ensures size { (node : Node) (us : List (Update T)) → size (linear_output node us) ≤ size us }
     ensures large { (node : Node) (us : List (Update T)) → Overflows node us → 2 ^ 63 ≤ size us }
 {}
 
@@ -48,5 +49,5 @@ pub fn plans_fit<T: Lattice>()
         → slice_get (sources (node_at p n)) port ≡ Some source
         → IsTrue (is_linear (node_at p n))
         → (us : List (Update T)) → IsTrue (are_wide (width_of p source) us)
-        → IsTrue (are_wide (width_of p n) (applied (node_at p n) us)) }
+        → IsTrue (are_wide (width_of p n) (linear_output (node_at p n) us)) }
 {}

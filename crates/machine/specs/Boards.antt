@@ -1,4 +1,11 @@
 -- What a contract sees of a board, what each event makes of it, and which histories it may stand for.
+pub mod Loads
+pub mod Stations
+pub mod Inputs
+pub mod Views
+pub mod Reads
+pub mod Routings
+pub mod Graphs
 use Rattle.std.specs.Prelude.{◌≡◌, ℕ, suc, ◌<◌, ◌≤◌, Bool, ◌||◌, if◌then◌else◌, List, [], ◌∷◌, ◌++◌, length, set, get_or, replicate, Option, Some, None, IsTrue, ⊤}
 use Rattle.lattice.specs.Frontiers.{is_beyond}
 use Rattle.update.specs.Bags.{Alike, Entry}
@@ -6,26 +13,27 @@ use Rattle.update.specs.Updates.{as_of, size}
 use Rattle.update.specs.declared.change.Update.{Update}
 use Rattle.update.specs.declared.refusal.Refusal.{Refusal}
 use Rattle.plan.specs.Changes.{query_at}
-use Rattle.plan.specs.Rules.{is_output, first_refusal}
-use Rattle.machine.specs.declared.event.Site.{Site}
-use Rattle.machine.specs.declared.event.Bundle.{Bundle}
-use Rattle.machine.specs.declared.event.Fed.{Fed}
-use Rattle.machine.specs.declared.event.Emission.{Emission}
-use Rattle.machine.specs.declared.event.Event.{Event}
-use Rattle.machine.specs.declared.event.Event.TheVariants.{Feed, Advance, Look, Take, TakeHeld, Give}
-use Rattle.machine.specs.Views.{ViewState}
-use Rattle.machine.specs.Dataflows.{Dataflow, node_of}
-use Rattle.machine.specs.Worlds.{World, queue, held_at, emitted_at, fed_to, open_at}
-use Rattle.machine.specs.Shares.{home}
-use Rattle.machine.specs.Inputs.{front_at, first_inputs, feed_faults, advance_faults}
-use Rattle.machine.specs.Outstanding.{frontier, input_frontier}
-use Rattle.machine.specs.Histories.{alone, world, dataflow_after, IsLegal, IsGive}
-use Rattle.machine.specs.Promises.{changes_in}
-use Rattle.machine.specs.Readings.{IsQuiet}
-use Rattle.machine.specs.Loads.{Lot, load_in, lot_of, first_stations, put_at, put_all, taken_from, held_from, queue_of}
+use Rattle.plan.specs.Rules.{first_refusal}
+use Rattle.plan.specs.Nodes.{is_output}
+use Rattle.machine.specs.declared.histories.event.Site.{Site}
+use Rattle.machine.specs.declared.histories.event.Bundle.{Bundle}
+use Rattle.machine.specs.declared.histories.event.Fed.{Fed}
+use Rattle.machine.specs.declared.histories.event.Emission.{Emission}
+use Rattle.machine.specs.declared.histories.event.Event.{Event}
+use Rattle.machine.specs.declared.histories.event.Event.TheVariants.{Feed, Advance, Look, Take, TakeHeld, Give}
+use Rattle.machine.specs.Boards.Views.{ViewState}
+use Rattle.machine.specs.Histories.Dataflows.{Dataflow, node_of}
+use Rattle.machine.specs.Histories.States.{State, queue, held_at, emitted_at, fed_to, open_at}
+use Rattle.machine.specs.Histories.Shares.{home}
+use Rattle.machine.specs.Boards.Inputs.{front_at, first_inputs, feed_faults, advance_faults}
+use Rattle.machine.specs.Histories.Outstanding.{frontier, input_frontier}
+use Rattle.machine.specs.Histories.{alone, state_after, dataflow_after, IsLegal, IsGive}
+use Rattle.machine.specs.Histories.Promises.{changes_in}
+use Rattle.machine.specs.Histories.Readings.{IsQuiet, is_from_start}
+use Rattle.machine.specs.Boards.Loads.{Lot, load_in, lot_of, first_stations, put_at, put_all, taken_from, held_from, queue_of}
 
 -- what lies on a board
-pub record Shown (T : Type 0) : Type 0 where
+pub record BoardState (T : Type 0) : Type 0 where
   pub dataflow : Dataflow
   -- by node and by worker, what waits there and what is held
   pub stations : List (List (Lot T))
@@ -45,8 +53,8 @@ module _ {T : Type 0} where
   no_view = record { since = []; captured = [] }
 
   -- what every board keeps: a worker there is, and each list has its places
-  pub record IsBoard (b : Shown T) : Type 0 where
-    pub dataflow : Rattle.machine.specs.Dataflows.IsDataflow b.dataflow
+  pub record IsBoard (b : BoardState T) : Type 0 where
+    pub dataflow : Rattle.machine.specs.Histories.Dataflows.IsDataflow b.dataflow
     pub stations : length b.stations ≡ length b.dataflow.nodes
     pub rows : (n : ℕ) → n < length b.dataflow.nodes → length (get_or b.stations n []) ≡ b.dataflow.workers
     pub hand : length b.hand ≡ b.dataflow.workers
@@ -55,7 +63,7 @@ module _ {T : Type 0} where
     pub inputs : length b.inputs ≡ length b.dataflow.nodes
 
   -- a board on which nothing has happened: each input and each view stands at the least time
-  abbrev pub first_board : T → Dataflow → Shown T
+  abbrev pub first_board : T → Dataflow → BoardState T
   first_board minimum p = record {
     dataflow = p;
     stations = first_stations (length p.nodes) p.workers;
@@ -67,56 +75,56 @@ module _ {T : Type 0} where
   }
 
   -- the board after a look, and after a change, a frontier and a since of clients
-  abbrev pub looked : ℕ → Shown T → Shown T
-  looked actor b = record b { last = Look actor }
+  abbrev pub after_look : ℕ → BoardState T → BoardState T
+  after_look actor b = record b { last = Look actor }
 
   -- a change waits at its input from now on, and is counted there
-  abbrev pub sending : Fed T → Shown T → Shown T
-  sending f b = record b { stations = put_at (home b.dataflow f) (load_in (alone b.dataflow f)) b.stations }
+  abbrev pub put_change : Fed T → BoardState T → BoardState T
+  put_change f b = record b { stations = put_at (home b.dataflow f) (load_in (alone b.dataflow f)) b.stations }
 
-  abbrev pub accepting : Fed T → Shown T → Shown T
-  accepting f b = record (sending f b) { accepted = set b.accepted f.input (suc (get_or b.accepted f.input 0)) }
+  abbrev pub accept_change : Fed T → BoardState T → BoardState T
+  accept_change f b = record (put_change f b) { accepted = set b.accepted f.input (suc (get_or b.accepted f.input 0)) }
 
-  abbrev pub fed : ℕ → Fed T → Shown T → Shown T
-  fed client f b = record (accepting f b) { last = Feed client f }
+  abbrev pub after_feed : ℕ → Fed T → BoardState T → BoardState T
+  after_feed client f b = record (accept_change f b) { last = Feed client f }
 
-  abbrev pub advanced : ℕ → ℕ → List T → Shown T → Shown T
-  advanced client i ts b = record b {
+  abbrev pub after_advance : ℕ → ℕ → List T → BoardState T → BoardState T
+  after_advance client i ts b = record b {
     inputs = set b.inputs i ts;
     last = Advance client i ts;
   }
 
   -- what a view captured, and this
-  abbrev pub capturing : ViewState T → List (Update T) → ViewState T
-  capturing view us = record view { captured = view.captured ++ us }
+  abbrev pub capture : ViewState T → List (Update T) → ViewState T
+  capture view us = record view { captured = view.captured ++ us }
 
   -- the views, where this one captured it
-  abbrev pub capturing_at : ℕ → List (Update T) → List (ViewState T) → List (ViewState T)
-  capturing_at n us views = set views n (capturing (get_or views n no_view) us)
+  abbrev pub capture_at : ℕ → List (Update T) → List (ViewState T) → List (ViewState T)
+  capture_at n us views = set views n (capture (get_or views n no_view) us)
 
   -- the views, where a node gave this: only a view captures it
-  abbrev pub captured_at : Dataflow → ℕ → List (Update T) → List (ViewState T) → List (ViewState T)
-  captured_at p n us views = if is_output (node_of p n) then capturing_at n us views else views
+  abbrev pub capture_output : Dataflow → ℕ → List (Update T) → List (ViewState T) → List (ViewState T)
+  capture_output p n us views = if is_output (node_of p n) then capture_at n us views else views
 
   -- what a worker gave is sent, and captured at a view; it then holds these times there, and has nothing in hand
-  abbrev pub giving : Emission T → List T → List (Bundle T) → Shown T → Shown T
-  giving g ts sent b = record b {
+  abbrev pub give_output : Emission T → List T → List (Bundle T) → BoardState T → BoardState T
+  give_output g ts sent b = record b {
     stations = held_from g.node g.worker ts (put_all sent b.stations);
     hand = set b.hand g.worker None;
-    views = captured_at b.dataflow g.node g.updates b.views;
+    views = capture_output b.dataflow g.node g.updates b.views;
   }
 
   -- the board after it
-  abbrev pub given : Emission T → List T → List (Bundle T) → Shown T → Shown T
-  given g ts sent b = record (giving g ts sent b) { last = Give g ts sent }
+  abbrev pub after_give : Emission T → List T → List (Bundle T) → BoardState T → BoardState T
+  after_give g ts sent b = record (give_output g ts sent b) { last = Give g ts sent }
 
   -- the board after a worker turned to the times that it holds at a node
-  abbrev pub turned : ℕ → ℕ → Shown T → Shown T
-  turned worker n b = record b { hand = set b.hand worker (Some n); last = TakeHeld worker n }
+  abbrev pub after_turn : ℕ → ℕ → BoardState T → BoardState T
+  after_turn worker n b = record b { hand = set b.hand worker (Some n); last = TakeHeld worker n }
 
   -- the board after a worker took a bundle
-  abbrev pub taken : ℕ → Bundle T → Shown T → Shown T
-  taken number bundle b = record b {
+  abbrev pub after_take : ℕ → Bundle T → BoardState T → BoardState T
+  after_take number bundle b = record b {
     stations = taken_from number bundle b.stations;
     hand = set b.hand bundle.place.worker (Some bundle.place.node);
     last = Take number bundle;
@@ -124,76 +132,72 @@ module _ {T : Type 0} where
 
 module _ {T : Type 0} (below : T → T → Bool) where
   -- what refuses a change, and an input's frontier
-  abbrev pub feed_refusal : Shown T → Fed T → Option Refusal
+  abbrev pub feed_refusal : BoardState T → Fed T → Option Refusal
   feed_refusal b f = first_refusal (feed_faults below b.dataflow.nodes (front_at f.input b.inputs) (get_or b.accepted f.input 0) f)
 
-  abbrev pub advance_refusal : Shown T → ℕ → List T → Option Refusal
+  abbrev pub advance_refusal : BoardState T → ℕ → List T → Option Refusal
   advance_refusal b i ts = first_refusal (advance_faults below (front_at i b.inputs) ts)
 
 -- the dataflow with which the board was opened: so far it stays as it was
-abbrev pub opened : {T : Type 0} → Shown T → Dataflow
-opened b = b.dataflow
+abbrev pub opened_dataflow : {T : Type 0} → BoardState T → Dataflow
+opened_dataflow b = b.dataflow
 
 -- the dataflow after a history of the board
-abbrev pub plan_on : {T : Type 0} → Shown T → List (Event T) → Dataflow
-plan_on b h = dataflow_after (opened b) h
+abbrev pub plan_on : {T : Type 0} → BoardState T → List (Event T) → Dataflow
+plan_on b h = dataflow_after (opened_dataflow b) h
 
 module _ {T : Type 0} (below : T → T → Bool) (minimum : T) where
   -- what a history leaves on the board
-  abbrev pub left_on : Shown T → List (Event T) → World T
-  left_on b h = world below minimum (opened b) h
+  abbrev pub state_on : BoardState T → List (Event T) → State T
+  state_on b h = state_after below minimum (opened_dataflow b) h
 
   -- the frontiers of a node after a history of the board
-  abbrev pub frontier_on : Shown T → List (Event T) → ℕ → List T
-  frontier_on b h n = frontier below (plan_on b h) (left_on b h) n
+  abbrev pub frontier_on : BoardState T → List (Event T) → ℕ → List T
+  frontier_on b h n = frontier below (plan_on b h) (state_on b h) n
 
-  abbrev pub input_frontier_on : Shown T → List (Event T) → ℕ → List T
-  input_frontier_on b h n = input_frontier below (plan_on b h) (left_on b h) n
+  abbrev pub input_frontier_on : BoardState T → List (Event T) → ℕ → List T
+  input_frontier_on b h n = input_frontier below (plan_on b h) (state_on b h) n
 
   -- the times that a worker then holds at a node
-  abbrev pub held_on : Shown T → List (Event T) → ℕ → ℕ → List T
-  held_on b h n k = held_at n k (left_on b h).held
+  abbrev pub held_on : BoardState T → List (Event T) → ℕ → ℕ → List T
+  held_on b h n k = held_at n k (state_on b h).held
 
   -- the changes that were fed by then, and the query on those up to a time
-  abbrev pub changes_on : Shown T → List (Event T) → ℕ → List (Update T)
-  changes_on b h = changes_in (left_on b h)
+  abbrev pub changes_on : BoardState T → List (Event T) → ℕ → List (Update T)
+  changes_on b h = changes_in (state_on b h)
 
-  abbrev pub query_on : Shown T → List (Event T) → ℕ → T → List Entry
+  abbrev pub query_on : BoardState T → List (Event T) → ℕ → T → List Entry
   query_on b h view t = query_at below (plan_on b h).nodes (changes_on b h) view t
 
   -- a worker may then give this
-  abbrev pub IsGiveOn : Shown T → List (Event T) → Emission T → List T → List (Bundle T) → Type 0
-  IsGiveOn b h g ts sent = IsGive below (plan_on b h) (left_on b h) g ts sent
+  abbrev pub IsGiveOn : BoardState T → List (Event T) → Emission T → List T → List (Bundle T) → Type 0
+  IsGiveOn b h g ts sent = IsGive below (plan_on b h) (state_on b h) g ts sent
 
   -- the history leaves nothing to do
-  abbrev pub IsQuietOn : Shown T → List (Event T) → Type 0
-  IsQuietOn b h = IsQuiet below (plan_on b h) (left_on b h)
+  abbrev pub IsQuietOn : BoardState T → List (Event T) → Type 0
+  IsQuietOn b h = IsQuiet below (plan_on b h) (state_on b h)
 
   -- the event was the last one
-  abbrev pub IsLast : Shown T → List (Event T) → Type 0
+  abbrev pub IsLast : BoardState T → List (Event T) → Type 0
   IsLast b [] = ⊤
   IsLast b (e ∷ h) = b.last ≡ e
-
-  -- the least time is beyond the frontier, so that nothing was given up
-  abbrev pub is_from_start : List T → Bool
-  is_from_start since = is_beyond below since minimum
 
   -- what a view keeps of what it captured: at the times at which it may still be read, and where nothing was given up at
   -- every time, the same sums; and the diffs add to no more
   pub record IsKeptOf (since : List T) (captured emitted : List (Update T)) : Type 0 where
-    pub sums : (t : T) → IsTrue (is_from_start since || is_beyond below since t) → Alike (as_of below t captured) (as_of below t emitted)
+    pub sums : (t : T) → IsTrue (is_from_start below minimum since || is_beyond below since t) → Alike (as_of below t captured) (as_of below t emitted)
     pub small : size captured ≤ size emitted
 
   -- the board may stand after a history: the history is legal, and what lies on the board is what it leaves at each place,
   -- whatever order the board keeps between places
-  pub record Stands (b : Shown T) (h : List (Event T)) : Type 0 where
-    pub legal : IsLegal below minimum (opened b) h
-    pub queues : (site : Site) → queue_of b.stations site ≡ queue site (left_on b h).in_flight
-    pub held : (n k : ℕ) → (lot_of b.stations n k).held ≡ held_at n k (left_on b h).held
-    pub openings : (i : ℕ) → front_at i b.inputs ≡ open_at i (left_on b h).openings
-    pub hand : (k : ℕ) → k < b.dataflow.workers → get_or b.hand k None ≡ (left_on b h).hand k
-    pub accepted : (i : ℕ) → i < length b.dataflow.nodes → get_or b.accepted i 0 ≡ length (fed_to i (left_on b h).fed)
-    pub since : (v : ℕ) → v < length b.dataflow.nodes → (get_or b.views v no_view).since ≡ (left_on b h).since v
+  pub record Stands (b : BoardState T) (h : List (Event T)) : Type 0 where
+    pub legal : IsLegal below minimum (opened_dataflow b) h
+    pub queues : (site : Site) → queue_of b.stations site ≡ queue site (state_on b h).in_flight
+    pub held : (n k : ℕ) → (lot_of b.stations n k).held ≡ held_at n k (state_on b h).held
+    pub open_times : (i : ℕ) → front_at i b.inputs ≡ open_at i (state_on b h).open_times
+    pub hand : (k : ℕ) → k < b.dataflow.workers → get_or b.hand k None ≡ (state_on b h).hand k
+    pub accepted : (i : ℕ) → i < length b.dataflow.nodes → get_or b.accepted i 0 ≡ length (fed_to i (state_on b h).fed)
+    pub since : (v : ℕ) → v < length b.dataflow.nodes → (get_or b.views v no_view).since ≡ (state_on b h).since v
     pub captured : (v : ℕ) → v < length b.dataflow.nodes → IsTrue (is_output (node_of b.dataflow v))
-        → IsKeptOf ((left_on b h).since v) (get_or b.views v no_view).captured (emitted_at v (left_on b h).emitted)
+        → IsKeptOf ((state_on b h).since v) (get_or b.views v no_view).captured (emitted_at v (state_on b h).emitted)
     pub last : IsLast b h

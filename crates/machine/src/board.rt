@@ -7,15 +7,31 @@
 //! more.
 ghost use Rattle.std.specs.Prelude.{◌≡◌, ◌≤◌, List, [], ◌∷◌, None, IfErr, IfOk, replicate};
 ghost use Rattle.update.specs.declared.refusal.Refusal.TheVariants.{OutOfMemory};
-ghost use Rattle.machine.specs.Dataflows.{IsDataflow};
-ghost use Rattle.machine.specs.declared.event.Event.{Event};
-ghost use Rattle.machine.specs.Boards.{Shown, IsBoard, Stands, first_board, looked};
+ghost use Rattle.machine.specs.Histories.Dataflows.{IsDataflow};
+ghost use Rattle.machine.specs.declared.histories.event.Event.{Event};
+ghost use Rattle.machine.specs.Boards.{BoardState, IsBoard, Stands, first_board, after_look};
 
-use crate::event::Event;
-use crate::graph::Graph;
-use crate::inputs::InputFrontiers;
-use crate::stations::Stations;
-use crate::view::View;
+pub(crate) mod clients;
+pub(crate) mod cut;
+pub(crate) mod frontiers;
+pub(crate) mod giving;
+pub(crate) mod graph;
+pub(crate) mod inputs;
+pub(crate) mod queue;
+pub(crate) mod reading;
+pub(crate) mod routing;
+pub(crate) mod standing;
+pub(crate) mod stations;
+pub(crate) mod survey;
+pub(crate) mod view;
+pub(crate) mod waiting;
+pub(crate) mod workers;
+
+use crate::board::graph::Graph;
+use crate::board::inputs::InputFrontiers;
+use crate::board::stations::Stations;
+use crate::board::view::View;
+use crate::histories::event::Event;
 use lattice::Minimum;
 use plan::{NodeId, Plan};
 use std::alloc::Global;
@@ -38,10 +54,10 @@ pub struct Board<T: Minimum> {
 }
 
 impl<T: Minimum> Model for Board<T> {
-    ghost use Rattle.machine.specs.Boards.{Shown, IsBoard};
-    ghost use Rattle.machine.specs.Stations.{lots};
+    ghost use Rattle.machine.specs.Boards.{BoardState, IsBoard};
+    ghost use Rattle.machine.specs.Boards.Stations.{lots};
 
-    ghost Value = { Shown T };
+    ghost Value = { BoardState T };
 
     ghost view = { λ b. record {
       dataflow = record { nodes = b.plan; workers = b.workers };
@@ -80,7 +96,7 @@ impl<T: Minimum> Board<T> {
         Board::first(alloc, graph, workers)
     }
 
-    // The same of a graph, without the histories.
+    // The first board of a graph. `new` adds that it stands for the empty history.
     fn first(alloc: Global, plan: Graph, workers: usize) -> Result<Board<T>, Refusal>
         requires { 1 ≤ workers }
         ensures first { IfOk result (λ board.
@@ -114,6 +130,14 @@ impl<T: Minimum> Board<T> {
         self.workers
     }
 
+    /// Costs nothing; it tells the prover that the board is one, and that its workers run a plan.
+    pub fn known(&self)
+        ensures dataflow { IsDataflow self.now.dataflow }
+        ensures board { IsBoard self.now }
+    {
+        let _ = &self.workers;
+    }
+
     /// The plan.
     pub fn plan(&self) -> &Plan
         ensures { result.now ≡ self.now.dataflow.nodes }
@@ -131,7 +155,7 @@ impl<T: Minimum> Board<T> {
 
     /// A client or worker looks, and the board is as it was. Takes no memory.
     pub fn look(&mut self, actor: usize)
-        ensures looked { self.new ≡ looked actor self.old }
+        ensures looked { self.new ≡ after_look actor self.old }
         ensures stands { (h : List (Event T)) → Stands T.below T.least self.old h
             → Stands T.below T.least self.new (self.new.last ∷ h) }
     {

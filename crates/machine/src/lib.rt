@@ -20,44 +20,25 @@
 //! `input_frontier`, cuts what comes out by `cut`, and gives it by `give`. `cut` belongs to a [`Routing`], which is made
 //! once, from the plan and the number of workers.
 //!
-//! A worker that gives has two duties. The node law: at every time before those that it still holds, what it gave is what
-//! the node makes of what it received. The load rule: it gives no more than that can take, and a reduction gives only what
-//! is final. From the first follows that views are right, from the second that no number is too large unless a weight is.
+//! A worker that gives has two duties. The node law: at every time that is not beyond those it still holds, what it gave
+//! is what the node makes of what it received. The load rule: what it gave is no larger than that can become, and a
+//! reduction gives only what is final. The first makes views right. The second keeps every number within its node's
+//! bound, so that a number is too large only if a bound is.
 #![tactic(auto)]
 
 mod board;
-mod clients;
-mod cutting;
-mod event;
-mod fronts;
-mod giving;
-mod graph;
-mod inputs;
-mod lists;
-mod queue;
-mod reading;
-mod routing;
-mod standing;
-mod stations;
-mod survey;
-mod theorems;
-mod view;
-mod waiting;
-mod witnesses;
-mod workers;
+mod histories;
 
 pub use board::Board;
-pub use event::{Bundle, Bundles, Capability, Emission, Event, Fed, Open, Site};
-pub use giving::Ungiven;
-pub use inputs::{InputFrontiers, MAX_CHANGES, MAX_DIFFERENCE};
-pub use lists::{Times, Updates};
-pub use routing::Routing;
-pub use standing::meets;
-pub use theorems::{
-    clients_are_apart, frontiers_do_not_go_back, headline, nothing_lurks, one_list,
-    parts_of_workers, port_frontiers_are_the_input_frontier, premises_can_be_met,
-    quiet_is_caught_up, stamps_are_frontiers, weights_are_kept, what_waits_has_its_place,
-    workers_are_apart,
+pub use board::giving::Ungiven;
+pub use board::inputs::{InputFrontiers, MAX_CHANGES, MAX_DIFFERENCE};
+pub use board::routing::Routing;
+pub use board::standing::meets;
+pub use board::view::View;
+pub use histories::event::{Bundle, Bundles, Emission, Event, Fed, HeldTime, OpenTime, Site};
+pub use histories::theorems::{
+    bounds_are_kept, clients_are_apart, frontiers_do_not_go_back, headline, nothing_lurks,
+    one_list, parts_of_workers, port_frontiers_are_the_input_frontier, premises_can_be_met,
+    quiet_is_caught_up, stamps_are_frontiers, what_waits_has_its_place, workers_are_apart,
 };
-pub use view::View;
-pub use witnesses::definitions_fit_examples;
+pub use histories::witnesses::definitions_fit_examples;

@@ -22,7 +22,7 @@ use Rattle.update.specs.declared.change.Update.{Update}
 use Rattle.plan.specs.Ancestors.{feeds, numbers_below}
 use Rattle.plan.specs.Changes.{AreDifferences, has_passed, query_at}
 use Rattle.plan.specs.Nodes.{node_at, sources, key_width}
-use Rattle.plan.specs.Queries.{query, handed}
+use Rattle.plan.specs.Queries.{query, source_value}
 use Rattle.plan.specs.Rules.{IsPlan}
 use Rattle.plan.specs.declared.node.Node.{Node}
 use Rattle.plan.proofs.OperatorLemmas.{given_alike, given_nothing}
@@ -30,11 +30,11 @@ use Rattle.plan.proofs.PlanLemmas.{source_smaller}
 use Rattle.plan.proofs.QueryLemmas.{query_alike}
 use Rattle.plan.proofs.StepLemmas.{query_by_sources}
 use Rattle.plan.proofs.UpwardLemmas.{by_smaller}
-use Rattle.plan.proofs.WeighLemmas.{count_of-append}
+use Rattle.plan.proofs.CountLemmas.{count_of-append}
 use Rattle.oracle.specs.Evaluation.{HasLargeAbove, inputs_before, list_of, sums_at}
-use Rattle.oracle.specs.Grid.{Covers, IsGrid}
-use Rattle.oracle.specs.Listing.{at_time, GoesOn, HasLargeDifference, HasLargeGap, IsListed}
-use Rattle.oracle.proofs.GridLemmas.{last_of}
+use Rattle.oracle.specs.JoinClosures.{Covers, IsJoinClosure}
+use Rattle.oracle.specs.Listing.{at_time, ContinuesListing, HasLargeDifference, HasLargeGap, IsListed}
+use Rattle.oracle.proofs.JoinClosureLemmas.{last_of}
 
 -- ---- lists
 
@@ -89,24 +89,24 @@ module _ {T : Type 0} (below : T → T → Bool) where
 query_nothing : (p : List Node) → IsPlan p → (n : ℕ) → Alike (query p (λ input. []) n) []
 query_nothing p plan = by_smaller (λ n. Alike (query p (λ input. []) n) []) (λ n rest row.
     ap (λ es. count_of es row) (query_by_sources p plan (λ input. []) n)
-    ∙ (given_alike (key_width p (node_at p n)) (node_at p n) (λ port. handed [] (query p (λ input. [])) (slice_get (sources (node_at p n)) port)) (λ port. []) (λ port s. at_port n rest port (slice_get (sources (node_at p n)) port) refl) row
+    ∙ (given_alike (key_width p (node_at p n)) (node_at p n) (λ port. source_value [] (query p (λ input. [])) (slice_get (sources (node_at p n)) port)) (λ port. []) (λ port s. at_port n rest port (slice_get (sources (node_at p n)) port) refl) row
     ∙ given_nothing (key_width p (node_at p n)) (node_at p n) row))
   where
-    at_port : (n : ℕ) → ((m : ℕ) → m < n → Alike (query p (λ input. []) m) []) → (port : ℕ) (o : Option ℕ) → slice_get (sources (node_at p n)) port ≡ o → Alike (handed [] (query p (λ input. [])) o) []
+    at_port : (n : ℕ) → ((m : ℕ) → m < n → Alike (query p (λ input. []) m) []) → (port : ℕ) (o : Option ℕ) → slice_get (sources (node_at p n)) port ≡ o → Alike (source_value [] (query p (λ input. [])) o) []
     at_port n rest port None e = λ row. refl
     at_port n rest port (Some s) e = rest s (source_smaller p plan n port s e)
 
-list_covered : {T : Type 0} (p : List Node) (lists : List (List (Update T))) (grid : List T) → Covers grid lists → (n : ℕ) → AllByRecursion (λ u. Contains grid u.time) (list_of p lists n)
-list_covered p lists grid covers n =
+list_covered : {T : Type 0} (p : List Node) (lists : List (List (Update T))) (join_closure : List T) → Covers join_closure lists → (n : ℕ) → AllByRecursion (λ u. Contains join_closure u.time) (list_of p lists n)
+list_covered p lists join_closure covers n =
     ⊎_elim
-    (λ inside. recursion_from_All (λ u. Contains grid u.time) (get_or lists (inputs_before p n) []) (covers (inputs_before p n) [] inside))
-    (λ past. subst (AllByRecursion (λ u. Contains grid u.time)) (sym (get_or_past lists (inputs_before p n) [] past)) tt)
+    (λ inside. recursion_from_All (λ u. Contains join_closure u.time) (get_or lists (inputs_before p n) []) (covers (inputs_before p n) [] inside))
+    (λ past. subst (AllByRecursion (λ u. Contains join_closure u.time)) (sym (get_or_past lists (inputs_before p n) [] past)) tt)
     (cases_lt (inputs_before p n) (length lists))
 
 -- ---- along the grid
 
 module _ {T : Type 0} {below : T → T → Bool} {joined met : T → T → T} {cmp : T → T → Ordering} (o : PartialOrderLaws below) (b : LatticeLaws below joined met) (x : ExtendsLaws below cmp) (total : IsTotalOrder cmp)
-    (p : List Node) (plan : IsPlan p) (lists : List (List (Update T))) (view : ℕ) (frontier grid : List T) (is : IsGrid cmp joined lists grid) where
+    (p : List Node) (plan : IsPlan p) (lists : List (List (Update T))) (view : ℕ) (frontier join_closure : List T) (is : IsJoinClosure cmp joined lists join_closure) where
   abbrev wanted : T → List Entry
   wanted = query_at below p (list_of p lists) view
 
@@ -126,7 +126,7 @@ module _ {T : Type 0} {below : T → T → Bool} {joined met : T → T → T} {c
       step Greater h e = absurd (true≢false (sym h))
 
   -- what the sums are at a time, they are at the last time of the grid before it
-  same_below : (t f : T) → IsTrue (below f t) → ((s : T) → Contains grid s → IsTrue (below s t) → IsTrue (below s f)) → (s : T) → Contains grid s → below s t ≡ below s f
+  same_below : (t f : T) → IsTrue (below f t) → ((s : T) → Contains join_closure s → IsTrue (below s t) → IsTrue (below s f)) → (s : T) → Contains join_closure s → below s t ≡ below s f
   same_below t f h last s c = step (below s t) (below s f) refl refl
     where
       step : (v w : Bool) → below s t ≡ v → below s f ≡ w → v ≡ w
@@ -134,48 +134,48 @@ module _ {T : Type 0} {below : T → T → Bool} {joined met : T → T → T} {c
       step false false e g = refl
       step false true e g = sym e ∙ o.transitive s f t g h
 
-  wanted_same : (t f : T) → IsTrue (below f t) → ((s : T) → Contains grid s → IsTrue (below s t) → IsTrue (below s f)) → Alike (wanted t) (wanted f)
+  wanted_same : (t f : T) → IsTrue (below f t) → ((s : T) → Contains join_closure s → IsTrue (below s t) → IsTrue (below s f)) → Alike (wanted t) (wanted f)
   wanted_same t f h last =
       query_alike p (sums_at below p lists t) (sums_at below p lists f)
-      (λ input row. ap (λ es. count_of es row) (sum_same below t f (list_of p lists input) (all_weaker (λ u. Contains grid u.time) (λ u. below u.time t ≡ below u.time f) (λ u c. same_below t f h last u.time c) (list_of p lists input) (list_covered p lists grid is.covers input))))
+      (λ input row. ap (λ es. count_of es row) (sum_same below t f (list_of p lists input) (all_weaker (λ u. Contains join_closure u.time) (λ u. below u.time t ≡ below u.time f) (λ u c. same_below t f h last u.time c) (list_of p lists input) (list_covered p lists join_closure is.covers input))))
       view
 
-  wanted_none : (t : T) → ((s : T) → Contains grid s → below s t ≡ false) → Alike (wanted t) []
+  wanted_none : (t : T) → ((s : T) → Contains join_closure s → below s t ≡ false) → Alike (wanted t) []
   wanted_none t none row =
       query_alike p (sums_at below p lists t) (λ input. [])
-      (λ input row. ap (λ es. count_of es row) (sum_none below t (list_of p lists input) (all_weaker (λ u. Contains grid u.time) (λ u. below u.time t ≡ false) (λ u c. none u.time c) (list_of p lists input) (list_covered p lists grid is.covers input))))
+      (λ input row. ap (λ es. count_of es row) (sum_none below t (list_of p lists input) (all_weaker (λ u. Contains join_closure u.time) (λ u. below u.time t ≡ false) (λ u c. none u.time c) (list_of p lists input) (list_covered p lists join_closure is.covers input))))
       view row
       ∙ query_nothing p plan view row
 
   -- of the times so far
-  module _ (i : ℕ) (f : T) (inside : i < length grid) (here : f ≡ get_or grid i f) where
-    in_front : (t : T) → Contains (take i grid) t → cmp t f ≡ Less
+  module _ (i : ℕ) (f : T) (inside : i < length join_closure) (here : f ≡ get_or join_closure i f) where
+    in_front : (t : T) → Contains (take i join_closure) t → cmp t f ≡ Less
     in_front t c =
-        let few = length-take-le i grid (omega (arith, inside)) in
+        let few = length-take-le i join_closure (omega (arith, inside)) in
         let k : c.0 < i = omega (arith, c.1, few) in
-        let at : get_or grid c.0 t ≡ t = sym (get_or-take i grid c.0 t k) ∙ c.2 in
-        (λ j. cmp (sym at j) (here j)) ∙ (ap (cmp (get_or grid c.0 t)) (get_or_default grid i f t inside) ∙ sorted_at cmp grid is.ascending c.0 i t k inside)
+        let at : get_or join_closure c.0 t ≡ t = sym (get_or-take i join_closure c.0 t k) ∙ c.2 in
+        (λ j. cmp (sym at j) (here j)) ∙ (ap (cmp (get_or join_closure c.0 t)) (get_or_default join_closure i f t inside) ∙ sorted_at cmp join_closure is.ascending c.0 i t k inside)
 
-    from_grid : (t : T) → Contains (take i grid) t → Contains grid t
-    from_grid t c = subst (λ xs. Contains xs t) (take-append-drop i grid) (Contains-append_left (take i grid) (drop i grid) t c)
+    from_grid : (t : T) → Contains (take i join_closure) t → Contains join_closure t
+    from_grid t c = subst (λ xs. Contains xs t) (take-append-drop i join_closure) (Contains-append_left (take i join_closure) (drop i join_closure) t c)
 
-    next_times : take (i + 1) grid ≡ take i grid ++ f ∷ []
-    next_times = take_more grid i f inside ∙ ap (λ t. take i grid ++ t ∷ []) (sym here)
+    next_times : take (i + 1) join_closure ≡ take i join_closure ++ f ∷ []
+    next_times = take_more join_closure i f inside ∙ ap (λ t. take i join_closure ++ t ∷ []) (sym here)
 
-    next_cases : (t : T) → Contains (take (i + 1) grid) t → Contains (take i grid) t ⊎ (f ≡ t)
-    next_cases t c = Contains-push_cases (take i grid) f t (subst (λ xs. Contains xs t) next_times c)
+    next_cases : (t : T) → Contains (take (i + 1) join_closure) t → Contains (take i join_closure) t ⊎ (f ≡ t)
+    next_cases t c = Contains-push_cases (take i join_closure) f t (subst (λ xs. Contains xs t) next_times c)
 
-    next_old : (t : T) → Contains (take i grid) t → Contains (take (i + 1) grid) t
-    next_old t c = subst (λ xs. Contains xs t) (sym next_times) (Contains-append_left (take i grid) (f ∷ []) t c)
+    next_old : (t : T) → Contains (take i join_closure) t → Contains (take (i + 1) join_closure) t
+    next_old t c = subst (λ xs. Contains xs t) (sym next_times) (Contains-append_left (take i join_closure) (f ∷ []) t c)
 
-    next_new : Contains (take (i + 1) grid) f
-    next_new = subst (λ xs. Contains xs f) (sym next_times) (Contains-push (take i grid) f)
+    next_new : Contains (take (i + 1) join_closure) f
+    next_new = subst (λ xs. Contains xs f) (sym next_times) (Contains-push (take i join_closure) f)
 
     -- a time that has not passed adds nothing
-    pub listed_skip : (us : List (Update T)) → is_beyond below frontier f ≡ true → IsListed below cmp frontier wanted (take i grid) us → IsListed below cmp frontier wanted (take (i + 1) grid) us
+    pub listed_skip : (us : List (Update T)) → is_beyond below frontier f ≡ true → IsListed below cmp frontier wanted (take i join_closure) us → IsListed below cmp frontier wanted (take (i + 1) join_closure) us
     listed_skip us late so = record {
       sums = λ t c h. ⊎_elim (λ d. so.sums t d h) (λ e. absurd (not_true (is_beyond below frontier t) h (subst (λ s. IsTrue (is_beyond below frontier s)) e late))) (next_cases t c);
-      among = all_weaker (λ u. IsTrue (has_passed below frontier u.time) × Contains (take i grid) u.time) (λ u. IsTrue (has_passed below frontier u.time) × Contains (take (i + 1) grid) u.time) (λ u h. (h.0, next_old u.time h.1)) us so.among;
+      among = all_weaker (λ u. IsTrue (has_passed below frontier u.time) × Contains (take i join_closure) u.time) (λ u. IsTrue (has_passed below frontier u.time) × Contains (take (i + 1) join_closure) u.time) (λ u h. (h.0, next_old u.time h.1)) us so.among;
       consolidated = so.consolidated;
     }
 
@@ -196,26 +196,26 @@ module _ {T : Type 0} {below : T → T → Bool} {joined met : T → T → T} {c
     gap_each P h [] = tt
     gap_each P h (e ∷ gap) = (h e, gap_each P h gap)
 
-    listed_more : (us : List (Update T)) (gap : List Entry) → IsTrue (has_passed below frontier f) → IsListed below cmp frontier wanted (take i grid) us → IsBag gap
-        → ((row : List ℤ) → count_of gap row +ℤ count_of (as_of below f us) row ≡ count_of (wanted f) row) → IsListed below cmp frontier wanted (take (i + 1) grid) (us ++ map (at_time f) gap)
+    listed_more : (us : List (Update T)) (gap : List Entry) → IsTrue (has_passed below frontier f) → IsListed below cmp frontier wanted (take i join_closure) us → IsBag gap
+        → ((row : List ℤ) → count_of gap row +ℤ count_of (as_of below f us) row ≡ count_of (wanted f) row) → IsListed below cmp frontier wanted (take (i + 1) join_closure) (us ++ map (at_time f) gap)
     listed_more us gap passed so bag fills = record {
       sums = λ t c h. ⊎_elim (λ d. old t d h) (λ e. subst (λ s. Alike (as_of below s (us ++ map (at_time f) gap)) (wanted s)) e new) (next_cases t c);
-      among = all_both (λ u. IsTrue (has_passed below frontier u.time) × Contains (take (i + 1) grid) u.time) us (map (at_time f) gap)
-          (all_weaker (λ u. IsTrue (has_passed below frontier u.time) × Contains (take i grid) u.time) (λ u. IsTrue (has_passed below frontier u.time) × Contains (take (i + 1) grid) u.time) (λ u h. (h.0, next_old u.time h.1)) us so.among)
-          (gap_each (λ u. IsTrue (has_passed below frontier u.time) × Contains (take (i + 1) grid) u.time) (λ e. (passed, next_new)) gap);
+      among = all_both (λ u. IsTrue (has_passed below frontier u.time) × Contains (take (i + 1) join_closure) u.time) us (map (at_time f) gap)
+          (all_weaker (λ u. IsTrue (has_passed below frontier u.time) × Contains (take i join_closure) u.time) (λ u. IsTrue (has_passed below frontier u.time) × Contains (take (i + 1) join_closure) u.time) (λ u h. (h.0, next_old u.time h.1)) us so.among)
+          (gap_each (λ u. IsTrue (has_passed below frontier u.time) × Contains (take (i + 1) join_closure) u.time) (λ e. (passed, next_new)) gap);
       consolidated = record {
         ascending = sorted_both (by_time_then_row cmp) us (map (at_time f) gap) so.consolidated.ascending (gap_sorted gap bag.ascending)
-            (all_weaker (λ u. IsTrue (has_passed below frontier u.time) × Contains (take i grid) u.time) (λ u. AllByRecursion (λ v. by_time_then_row cmp u v ≡ Less) (map (at_time f) gap))
+            (all_weaker (λ u. IsTrue (has_passed below frontier u.time) × Contains (take i join_closure) u.time) (λ u. AllByRecursion (λ v. by_time_then_row cmp u v ≡ Less) (map (at_time f) gap))
             (λ u h. gap_each (λ v. by_time_then_row cmp u v ≡ Less) (λ e. ap (λ r. ordering_then r (slice_cmp int_cmp u.row e.row)) (in_front u.time h.1)) gap) us so.among);
         nonzero = all_both (λ u. u.diff ≢ pos 0) us (map (at_time f) gap) so.consolidated.nonzero (gap_all (λ u. u.diff ≢ pos 0) (λ e. e.count ≢ pos 0) (λ e n. n) gap bag.nonzero);
       };
     }
       where
-        behind : (t : T) → Contains (take i grid) t → (v : Bool) → below f t ≡ v → below f t ≡ false
+        behind : (t : T) → Contains (take i join_closure) t → (v : Bool) → below f t ≡ v → below f t ≡ false
         behind t c true e = absurd (not_behind t f (in_front t c) e)
         behind t c false e = e
 
-        old : (t : T) → Contains (take i grid) t → IsTrue (has_passed below frontier t) → Alike (as_of below t (us ++ map (at_time f) gap)) (wanted t)
+        old : (t : T) → Contains (take i join_closure) t → IsTrue (has_passed below frontier t) → Alike (as_of below t (us ++ map (at_time f) gap)) (wanted t)
         old t c h row =
             ap (λ es. count_of es row) (sum_both below t us (map (at_time f) gap) ∙ (ap (λ es. as_of below t us ++ es) (sum_at_time below t f gap false (behind t c (below f t) refl)) ∙ append-nil (as_of below t us)))
             ∙ so.sums t c h row
@@ -229,24 +229,24 @@ module _ {T : Type 0} {below : T → T → Bool} {joined met : T → T → T} {c
             swap m n = omega (arith, ints)
 
     -- a time that has passed adds what is wanted
-    pub listed_next : (us vs : List (Update T)) → is_beyond below frontier f ≡ false → GoesOn below f (wanted f) us vs → IsListed below cmp frontier wanted (take i grid) us → IsListed below cmp frontier wanted (take (i + 1) grid) vs
-    listed_next us vs passed on so = subst (IsListed below cmp frontier wanted (take (i + 1) grid)) (sym on.2) (listed_more us on.0 (ap not passed) so on.1 on.3)
+    pub listed_next : (us vs : List (Update T)) → is_beyond below frontier f ≡ false → ContinuesListing below f (wanted f) us vs → IsListed below cmp frontier wanted (take i join_closure) us → IsListed below cmp frontier wanted (take (i + 1) join_closure) vs
+    listed_next us vs passed on so = subst (IsListed below cmp frontier wanted (take (i + 1) join_closure)) (sym on.2) (listed_more us on.0 (ap not passed) so on.1 on.3)
 
     -- what the list sums to at each time before f
-    sums_before : (us : List (Update T)) → IsTrue (has_passed below frontier f) → IsListed below cmp frontier wanted (take i grid) us → (s : T) → IsTrue (below s f) → (s ≡ f → ⊥) → Alike (as_of below s us) (wanted s)
+    sums_before : (us : List (Update T)) → IsTrue (has_passed below frontier f) → IsListed below cmp frontier wanted (take i join_closure) us → (s : T) → IsTrue (below s f) → (s ≡ f → ⊥) → Alike (as_of below s us) (wanted s)
     sums_before us passed so s h n =
         ⊎_elim
         (λ none row.
-        ap (λ es. count_of es row) (sum_none below s us (all_weaker (λ u. IsTrue (has_passed below frontier u.time) × Contains (take i grid) u.time) (λ u. below u.time s ≡ false) (λ u c. none u.time (from_grid u.time c.1)) us so.among))
+        ap (λ es. count_of es row) (sum_none below s us (all_weaker (λ u. IsTrue (has_passed below frontier u.time) × Contains (take i join_closure) u.time) (λ u. below u.time s ≡ false) (λ u c. none u.time (from_grid u.time c.1)) us so.among))
         ∙ sym (wanted_none s none row))
         (λ r.
         let g = r.0 in
-        let same = sum_same below s r.0 us (all_weaker (λ u. IsTrue (has_passed below frontier u.time) × Contains (take i grid) u.time) (λ u. below u.time s ≡ below u.time r.0) (λ u c. same_below s r.0 r.2.0 r.2.1 u.time (from_grid u.time c.1)) us so.among) in
+        let same = sum_same below s r.0 us (all_weaker (λ u. IsTrue (has_passed below frontier u.time) × Contains (take i join_closure) u.time) (λ u. below u.time s ≡ below u.time r.0) (λ u c. same_below s r.0 r.2.0 r.2.1 u.time (from_grid u.time c.1)) us so.among) in
         λ row.
         ap (λ es. count_of es row) same
         ∙ (so.sums r.0 (before r.0 r.1 (o.transitive r.0 s f r.2.0 h) (λ e. n (o.antisymmetric s f h (subst (λ g. IsTrue (below g s)) e r.2.0)))) (passed_down r.0 f (o.transitive r.0 s f r.2.0 h) passed) row
         ∙ sym (wanted_same s r.0 r.2.0 r.2.1 row)))
-        (last_of o b grid is.closed s)
+        (last_of o b join_closure is.closed s)
       where
         less_from : (g : T) → IsTrue (below g f) → (g ≡ f → ⊥) → cmp g f ≡ Less
         less_from g l m = step (cmp g f) refl (x.extends g f l)
@@ -256,20 +256,21 @@ module _ {T : Type 0} {below : T → T → Bool} {joined met : T → T → T} {c
             step Equal e k = absurd (m (x.exact g f e))
             step Greater e k = absurd (true≢false (sym k))
 
-        before : (g : T) → Contains grid g → IsTrue (below g f) → (g ≡ f → ⊥) → Contains (take i grid) g
+        before : (g : T) → Contains join_closure g → IsTrue (below g f) → (g ≡ f → ⊥) → Contains (take i join_closure) g
         before g c l m =
             let less = less_from g l m in
             ⊎_elim
-            (λ k. (c.0, omega (arith, k, length-take-le i grid (omega (arith, inside))), get_or-take i grid c.0 g k ∙ c.2))
+            (λ k. (c.0, omega (arith, k, length-take-le i join_closure (omega (arith, inside))), get_or-take i join_closure c.0 g k ∙ c.2))
             (λ k. absurd (⊎_elim
-            (λ e. m (sym c.2 ∙ (ap (λ j. get_or grid j g) (sym e) ∙ (get_or_default grid i g f inside ∙ sym here))))
+            (λ e. m (sym c.2 ∙ (ap (λ j. get_or join_closure j g) (sym e) ∙ (get_or_default join_closure i g f inside ∙ sym here))))
             (λ j.
-            let back : cmp f g ≡ Less = (λ q. cmp (here q) (sym c.2 q)) ∙ (ap (λ t. cmp t (get_or grid c.0 g)) (get_or_default grid i f g inside) ∙ sorted_at cmp grid is.ascending i c.0 g j c.1) in
+            let back : cmp f g ≡ Less = (λ q. cmp (here q) (sym c.2 q)) ∙ (ap (λ t. cmp t (get_or join_closure c.0 g)) (get_or_default join_closure i f g inside) ∙ sorted_at cmp join_closure is.ascending i c.0 g j c.1) in
             not_behind f g back l)
             (eq-or-lt_of_le k)))
             (cases_lt c.0 i)
 
-    pub listed_large : (us : List (Update T)) → is_beyond below frontier f ≡ false → IsListed below cmp frontier wanted (take i grid) us → HasLargeAbove p (sums_at below p lists f) view ⊎ HasLargeGap below f (wanted f) us → HasLargeDifference below p lists frontier view
+    -- a number too large at one time is one of the whole list
+    pub listed_large : (us : List (Update T)) → is_beyond below frontier f ≡ false → IsListed below cmp frontier wanted (take i join_closure) us → HasLargeAbove p (sums_at below p lists f) view ⊎ HasLargeGap below f (wanted f) us → HasLargeDifference below p lists frontier view
     listed_large us passed so large = (
       f,
       ap not passed,
@@ -278,13 +279,14 @@ module _ {T : Type 0} {below : T → T → Bool} {joined met : T → T → T} {c
           (λ gap. inr (
             us,
             sums_before us (ap not passed) so,
-            all_weaker (λ u. IsTrue (has_passed below frontier u.time) × Contains (take i grid) u.time) (λ u. u.time ≡ f → ⊥) (λ u c e. true≢false (ap is_eq (sym (same_order f) ∙ (ap (λ t. cmp t f) (sym e) ∙ in_front u.time c.1)))) us so.among,
+            all_weaker (λ u. IsTrue (has_passed below frontier u.time) × Contains (take i join_closure) u.time) (λ u. u.time ≡ f → ⊥) (λ u c e. true≢false (ap is_eq (sym (same_order f) ∙ (ap (λ t. cmp t f) (sym e) ∙ in_front u.time c.1)))) us so.among,
             gap,
           ))
           large,
     )
 
-  pub listed_none : IsListed below cmp frontier wanted (take 0 grid) []
+  -- before the first time nothing is listed
+  pub listed_none : IsListed below cmp frontier wanted (take 0 join_closure) []
   unfolding IsStrictlySortedBy
   listed_none = record {
     sums = λ t c h. absurd (omega (arith, c.1));
@@ -293,14 +295,14 @@ module _ {T : Type 0} {below : T → T → Bool} {joined met : T → T → T} {c
   }
 
   -- at its end
-  pub listed_all : (us : List (Update T)) → IsListed below cmp frontier wanted grid us → AreDifferences below cmp p (list_of p lists) frontier view us
+  pub listed_all : (us : List (Update T)) → IsListed below cmp frontier wanted join_closure us → AreDifferences below cmp p (list_of p lists) frontier view us
   listed_all us so = record {
     consolidated = so.consolidated;
     passed = all_passed us so.among;
     sums = sums;
   }
     where
-      all_passed : (us : List (Update T)) → AllByRecursion (λ u. IsTrue (has_passed below frontier u.time) × Contains grid u.time) us → IsTrue (list_all (λ u. has_passed below frontier u.time) us)
+      all_passed : (us : List (Update T)) → AllByRecursion (λ u. IsTrue (has_passed below frontier u.time) × Contains join_closure u.time) us → IsTrue (list_all (λ u. has_passed below frontier u.time) us)
       all_passed [] a = refl
       all_passed (u ∷ us) a = and_from (has_passed below frontier u.time) (list_all (λ u. has_passed below frontier u.time) us) a.0.0 (all_passed us a.1)
 
@@ -308,14 +310,15 @@ module _ {T : Type 0} {below : T → T → Bool} {joined met : T → T → T} {c
       sums t h =
           ⊎_elim
           (λ none row.
-          ap (λ es. count_of es row) (sum_none below t us (all_weaker (λ u. IsTrue (has_passed below frontier u.time) × Contains grid u.time) (λ u. below u.time t ≡ false) (λ u c. none u.time c.1) us so.among))
+          ap (λ es. count_of es row) (sum_none below t us (all_weaker (λ u. IsTrue (has_passed below frontier u.time) × Contains join_closure u.time) (λ u. below u.time t ≡ false) (λ u c. none u.time c.1) us so.among))
           ∙ sym (wanted_none t none row))
           (λ r row.
-          ap (λ es. count_of es row) (sum_same below t r.0 us (all_weaker (λ u. IsTrue (has_passed below frontier u.time) × Contains grid u.time) (λ u. below u.time t ≡ below u.time r.0) (λ u c. same_below t r.0 r.2.0 r.2.1 u.time c.1) us so.among))
+          ap (λ es. count_of es row) (sum_same below t r.0 us (all_weaker (λ u. IsTrue (has_passed below frontier u.time) × Contains join_closure u.time) (λ u. below u.time t ≡ below u.time r.0) (λ u c. same_below t r.0 r.2.0 r.2.1 u.time c.1) us so.among))
           ∙ (so.sums r.0 r.1 (passed_down r.0 t r.2.0 h) row ∙ sym (wanted_same t r.0 r.2.0 r.2.1 row)))
-          (last_of o b grid is.closed t)
+          (last_of o b join_closure is.closed t)
 
-  pub differences_ok : {A E : Type 0} (times : List T) → frontier ≡ times → (r : Result (Vec (Update T) A) E) → IfOk r (λ us. IsListed below cmp frontier wanted grid us.items) → IfOk r (λ us. AreDifferences below cmp p (list_of p lists) times view us.items)
+  -- at the end of the times the list is the differences
+  pub differences_ok : {A E : Type 0} (times : List T) → frontier ≡ times → (r : Result (Vec (Update T) A) E) → IfOk r (λ us. IsListed below cmp frontier wanted join_closure us.items) → IfOk r (λ us. AreDifferences below cmp p (list_of p lists) times view us.items)
   differences_ok times e (Ok us) h = subst (λ fs. AreDifferences below cmp p (list_of p lists) fs view us.items) e (listed_all us.items h)
   differences_ok times e (Err r) h = tt
 
@@ -327,12 +330,14 @@ next_number n = omega arith
 next_feeders : (p : List Node) (view n : ℕ) → filter (λ m. feeds p m view) (numbers_below (n + 1)) ≡ filter (λ m. feeds p m view) (numbers_below n) ++ cond (feeds p n view) (n ∷ []) []
 next_feeders p view n = ap (λ k. filter (λ m. feeds p m view) (numbers_below k)) (next_number n) ∙ filter-append (λ m. feeds p m view) (numbers_below n) (n ∷ [])
 
+-- the step over an input that feeds the view
 pub feeds_more : (T : Type 0) (p : List Node) (frontiers : ℕ → List T) (view n : ℕ) (old new : List T) → feeds p n view ≡ true → old ≡ flat_map frontiers (filter (λ m. feeds p m view) (numbers_below n)) → new ≡ old ++ frontiers n → new ≡ flat_map frontiers (filter (λ m. feeds p m view) (numbers_below (n + 1)))
 feeds_more T p frontiers view n old new h e f =
     f ∙ (ap (λ xs. xs ++ frontiers n) e
     ∙ (flat_map_more frontiers [] (filter (λ m. feeds p m view) (numbers_below n)) n
     ∙ ap (flat_map frontiers) (sym (next_feeders p view n ∙ ap (λ b. filter (λ m. feeds p m view) (numbers_below n) ++ cond b (n ∷ []) []) h))))
 
+-- the step over a node that does not
 pub feeds_same : (T : Type 0) (p : List Node) (frontiers : ℕ → List T) (view n : ℕ) (old : List T) → feeds p n view ≡ false → old ≡ flat_map frontiers (filter (λ m. feeds p m view) (numbers_below n)) → old ≡ flat_map frontiers (filter (λ m. feeds p m view) (numbers_below (n + 1)))
 feeds_same T p frontiers view n old h e =
     e ∙ ap (flat_map frontiers) (sym (next_feeders p view n ∙ (ap (λ b. filter (λ m. feeds p m view) (numbers_below n) ++ cond b (n ∷ []) []) h ∙ append-nil (filter (λ m. feeds p m view) (numbers_below n)))))

@@ -12,15 +12,16 @@ use Rattle.std.proofs.lemmas.Cmp.{int_cmp_total}
 use Rattle.std.proofs.lemmas.Int.{ints}
 use Rattle.update.specs.Bags.{Entry, Alike, IsBag, HasLargeCount, count_of, same_row}
 use Rattle.update.proofs.BagLemmas.{count_absent}
-use Rattle.plan.specs.Operators.{reduced_by_key}
-use Rattle.plan.specs.Reductions.{single, reduced, has_key}
+use Rattle.plan.specs.Operators.{reduction_output}
+use Rattle.plan.specs.Reductions.{single, reduction_answer, has_key}
 use Rattle.plan.specs.declared.node.Kind.TheVariants.{Distinct}
 use Rattle.plan.proofs.AnswerLemmas.{distinct_answered}
 use Rattle.plan.proofs.ReducerLemmas.{all_reduce}
 use Rattle.plan.proofs.ReductionLemmas.{by_key_at}
-use Rattle.plan.proofs.WeighLemmas.{row_same, when_zero, count_of-filter}
+use Rattle.plan.proofs.CountLemmas.{row_same, when_zero, count_of-filter}
 use Rattle.oracle.specs.Keys.{have_keys}
 
+-- each row that counts more than 0 times, once
 abbrev pub present_rows : List Entry → List Entry
 present_rows es = map (λ e. single e.row) (filter (λ e. int_lt (pos 0) e.count) es)
 
@@ -28,9 +29,11 @@ present_rows es = map (λ e. single e.row) (filter (λ e. int_lt (pos 0) e.count
 abbrev pub once : ℤ → ℤ
 once n = cond (int_lt (pos 0) n) (pos 1) (pos 0)
 
+-- 0 adds nothing on the right
 pub plus_zero : (n : ℤ) → n +ℤ pos 0 ≡ n
 plus_zero n = omega (arith, ints)
 
+-- 0 adds nothing on the left
 pub zero_plus : (n : ℤ) → pos 0 +ℤ n ≡ n
 zero_plus n = omega (arith, ints)
 
@@ -75,16 +78,17 @@ narrow k (e ∷ es) row h n =
     step false i wide = i
     step true i wide = absurd (true≢false (sym wide ∙ (ap (λ r. nat_le k (length r)) (row_same e.row row i) ∙ n)))
 
-pub distinct_is : (k : ℕ) (es : List Entry) → IsBag es → IsTrue (have_keys k es) → Alike (present_rows es) (reduced_by_key k (reduced Distinct) es)
+-- these rows are what distinct answers
+pub distinct_is : (k : ℕ) (es : List Entry) → IsBag es → IsTrue (have_keys k es) → Alike (present_rows es) (reduction_output k (reduction_answer Distinct) es)
 distinct_is k es bag keys row =
-    present_at es bag.ascending row ∙ (step (nat_le k (length row)) refl ∙ sym (by_key_at k (reduced Distinct) (all_reduce Distinct k) es row))
+    present_at es bag.ascending row ∙ (step (nat_le k (length row)) refl ∙ sym (by_key_at k (reduction_answer Distinct) (all_reduce Distinct k) es row))
   where
     own : count_of (filter (has_key k (take k row)) es) row ≡ count_of es row
     own =
         count_of-filter (λ r. same_row (take k r) (take k row)) es row
         ∙ ap (λ b. cond b (count_of es row) (pos 0)) ((signed_items (take k row) (take k row)).1 refl)
 
-    step : (b : Bool) → nat_le k (length row) ≡ b → once (count_of es row) ≡ cond b (count_of (reduced Distinct (take k row) (filter (has_key k (take k row)) es)) row) (pos 0)
+    step : (b : Bool) → nat_le k (length row) ≡ b → once (count_of es row) ≡ cond b (count_of (reduction_answer Distinct (take k row) (filter (has_key k (take k row)) es)) row) (pos 0)
     step true i = ap once (sym own) ∙ sym (distinct_answered (take k row) (filter (has_key k (take k row)) es) row)
     step false i = ap once (count_absent es row (narrow k es row keys i))
 

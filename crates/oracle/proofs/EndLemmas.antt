@@ -8,15 +8,15 @@ use Rattle.std.proofs.lemmas.Bool.{cases_lt, and_parts, and_from, true≢false, 
 use Rattle.std.proofs.lemmas.List.{length-take-le, length-take, get_or_default}
 use Rattle.std.proofs.lemmas.List.Folds.{list_any_none, list_any_at}
 use Rattle.update.specs.Bags.{Entry, Alike, IsBag, count_of, same_row}
-use Rattle.plan.specs.Operators.{reduced_by_key}
-use Rattle.plan.specs.Reductions.{reduced, has_key, is_present, is_before}
+use Rattle.plan.specs.Operators.{reduction_output}
+use Rattle.plan.specs.Reductions.{reduction_answer, has_key, is_present, is_before}
 use Rattle.plan.specs.declared.node.Kind.{Kind}
 use Rattle.plan.specs.declared.node.Kind.TheVariants.{Distinct, Min, Max}
 use Rattle.plan.proofs.AnswerLemmas.{distinct_answered, least_answered, greatest_answered, answered_once}
 use Rattle.plan.proofs.ReducerLemmas.{all_reduce}
 use Rattle.plan.proofs.ReductionLemmas.{by_key_at}
-use Rattle.plan.proofs.WeighLemmas.{row_same, count_of-filter, when_zero}
-use Rattle.oracle.specs.Reduced.{is_least, is_greatest}
+use Rattle.plan.proofs.CountLemmas.{row_same, count_of-filter, when_zero}
+use Rattle.oracle.specs.Reduced.{is_least_row, is_greatest_row}
 use Rattle.oracle.proofs.KeyLemmas.{columns_refl, columns_total, in_order, between_up, between_down}
 use Rattle.oracle.proofs.RowLemmas.{any_row, some_row, counts_at}
 use Rattle.oracle.specs.Keys.{have_keys}
@@ -38,9 +38,9 @@ not_false : (b : Bool) → b ≡ false → not b ≡ true
 not_false b e = ap not e
 
 module _ (beats : List ℤ → List ℤ → Bool) (kind : Kind)
-    (answered : (key : List ℤ) (entries : List Entry) (row : List ℤ) → (count_of (reduced kind key entries) row ≡ pos 1)
+    (answered : (key : List ℤ) (entries : List Entry) (row : List ℤ) → (count_of (reduction_answer kind key entries) row ≡ pos 1)
     ↔ (IsTrue (is_present entries row) × ((other : List ℤ) → IsTrue (is_present entries other) → beats other row ≡ false)))
-    (k : ℕ) (es out : List Entry) (bag : IsBag out) (alike : Alike out (reduced_by_key k (reduced Distinct) es)) where
+    (k : ℕ) (es out : List Entry) (bag : IsBag out) (alike : Alike out (reduction_output k (reduction_answer Distinct) es)) where
   abbrev beaten : List ℤ → List ℤ → Bool
   beaten row r = same_row (take k r) (take k row) && beats r row
 
@@ -53,7 +53,7 @@ module _ (beats : List ℤ → List ℤ → Bool) (kind : Kind)
   out_at : (row : List ℤ) → count_of out row ≡ cond (nat_le k (length row)) (cond (is_present (of_key row) row) (pos 1) (pos 0)) (pos 0)
   out_at row =
       alike row
-      ∙ (by_key_at k (reduced Distinct) (all_reduce Distinct k) es row
+      ∙ (by_key_at k (reduction_answer Distinct) (all_reduce Distinct k) es row
       ∙ ap (λ n. cond (nat_le k (length row)) n (pos 0)) (distinct_answered (take k row) (of_key row) row))
 
   -- what is present among the rows of a key is in the bag
@@ -87,26 +87,26 @@ module _ (beats : List ℤ → List ℤ → Bool) (kind : Kind)
       let any = any_row (beaten row) out other there.1 (and_from (same_row (take k other) (take k row)) (beats other row) there.0 t) in
       true≢false (sym u ∙ ap not any))
 
-  none : (row : List ℤ) → nat_le k (length row) ≡ true → (IsTrue (is_present (of_key row) row) × ((other : List ℤ) → IsTrue (is_present (of_key row) other) → beats other row ≡ false) → ⊥) → pos 0 ≡ count_of (reduced kind (take k row) (of_key row)) row
+  none : (row : List ℤ) → nat_le k (length row) ≡ true → (IsTrue (is_present (of_key row) row) × ((other : List ℤ) → IsTrue (is_present (of_key row) other) → beats other row ≡ false) → ⊥) → pos 0 ≡ count_of (reduction_answer kind (take k row) (of_key row)) row
   none row wide n =
       ⊎_elim
       (λ z. sym z)
       (λ o. absurd (n ((answered (take k row) (of_key row) row).0 o)))
       (answered_once kind (take k row) (of_key row) row)
 
-  kept : (row : List ℤ) → nat_le k (length row) ≡ true → (u p : Bool) → unbeaten row ≡ u → is_present (of_key row) row ≡ p → cond u (cond p (pos 1) (pos 0)) (pos 0) ≡ count_of (reduced kind (take k row) (of_key row)) row
+  kept : (row : List ℤ) → nat_le k (length row) ≡ true → (u p : Bool) → unbeaten row ≡ u → is_present (of_key row) row ≡ p → cond u (cond p (pos 1) (pos 0)) (pos 0) ≡ count_of (reduction_answer kind (take k row) (of_key row)) row
   kept row wide true true e p = sym ((answered (take k row) (of_key row) row).1 (p, unbeaten_by row wide e))
   kept row wide true false e p = none row wide (λ h. true≢false (sym h.0 ∙ p))
   kept row wide false p e q = none row wide (λ h. true≢false (sym (unbeaten_is row wide h.1) ∙ e))
 
-  ends_are : Alike (filter (λ e. unbeaten e.row) out) (reduced_by_key k (reduced kind) es)
+  ends_are : Alike (filter (λ e. unbeaten e.row) out) (reduction_output k (reduction_answer kind) es)
   ends_are row =
       count_of-filter unbeaten out row
       ∙ (ap (λ n. cond (unbeaten row) n (pos 0)) (out_at row)
       ∙ (step (nat_le k (length row)) refl
-      ∙ sym (by_key_at k (reduced kind) (all_reduce kind k) es row)))
+      ∙ sym (by_key_at k (reduction_answer kind) (all_reduce kind k) es row)))
     where
-      step : (b : Bool) → nat_le k (length row) ≡ b → cond (unbeaten row) (cond b (cond (is_present (of_key row) row) (pos 1) (pos 0)) (pos 0)) (pos 0) ≡ cond b (count_of (reduced kind (take k row) (of_key row)) row) (pos 0)
+      step : (b : Bool) → nat_le k (length row) ≡ b → cond (unbeaten row) (cond b (cond (is_present (of_key row) row) (pos 1) (pos 0)) (pos 0)) (pos 0) ≡ cond b (count_of (reduction_answer kind (take k row) (of_key row)) row) (pos 0)
       step true e = kept row e (unbeaten row) (is_present (of_key row) row) refl refl
       step false e = when_zero (unbeaten row)
 
@@ -120,7 +120,7 @@ module _ (k : ℕ) (es : List Entry) (bag : IsBag es) where
       (λ h. true≢false (sym t ∙ ap is_lt (columns_total.antisymm (get_or es m d).row (get_or es i d).row ∙ ap ordering_reverse (in_order es bag.ascending i m d h n))))
       (eq-or-lt_of_le l)
 
-  alone_first : (i : ℕ) (d : Entry) → i < length es → ((m : ℕ) → m < i → same_row (take k (get_or es m d).row) (take k (get_or es i d).row) ≡ true → ⊥) → is_least k es (get_or es i d).row ≡ true
+  alone_first : (i : ℕ) (d : Entry) → i < length es → ((m : ℕ) → m < i → same_row (take k (get_or es m d).row) (take k (get_or es i d).row) ≡ true → ⊥) → is_least_row k es (get_or es i d).row ≡ true
   alone_first i d l h =
       let row = (get_or es i d).row in
       ap not (list_any_none (λ e. has_key k (take k row) e && is_before e.row row) es
@@ -130,7 +130,7 @@ module _ (k : ℕ) (es : List Entry) (bag : IsBag es) where
       let parts = and_parts (same_row (take k (get_or es m d).row) (take k row)) (is_before (get_or es m d).row row) both in
       ⊎_elim (λ s. h m s parts.0) (λ s. not_before i m d s n parts.1) (cases_lt m i))))
 
-  alone_last : (i : ℕ) (d : Entry) → i < length es → ((m : ℕ) → i < m → m < length es → same_row (take k (get_or es m d).row) (take k (get_or es i d).row) ≡ true → ⊥) → is_greatest k es (get_or es i d).row ≡ true
+  alone_last : (i : ℕ) (d : Entry) → i < length es → ((m : ℕ) → i < m → m < length es → same_row (take k (get_or es m d).row) (take k (get_or es i d).row) ≡ true → ⊥) → is_greatest_row k es (get_or es i d).row ≡ true
   alone_last i d l h =
       let row = (get_or es i d).row in
       ap not (list_any_none (λ e. has_key k (take k row) e && is_before row e.row) es
@@ -140,26 +140,30 @@ module _ (k : ℕ) (es : List Entry) (bag : IsBag es) where
       let parts = and_parts (same_row (take k (get_or es m d).row) (take k row)) (is_before row (get_or es m d).row) both in
       ⊎_elim (λ s. h m s n parts.0) (λ s. not_before m i d s l parts.1) (cases_lt i m))))
 
-  pub first_of_all : (i : ℕ) (d : Entry) → i < length es → i ≡ 0 → is_least k es (get_or es i d).row ≡ true
+  -- the first row of a bag is the first of its key
+  pub first_of_all : (i : ℕ) (d : Entry) → i < length es → i ≡ 0 → is_least_row k es (get_or es i d).row ≡ true
   first_of_all i d l e = alone_first i d l (λ m s t. absurd (omega (arith, s, e)))
 
-  pub first_by_neighbour : (i : ℕ) (d : Entry) → i < length es → 0 < i → is_least k es (get_or es i d).row ≡ not (has_key k (take k (get_or es i d).row) (get_or es (i - 1) d))
+  -- another row is, unless the row before it has its key
+  pub first_by_neighbour : (i : ℕ) (d : Entry) → i < length es → 0 < i → is_least_row k es (get_or es i d).row ≡ not (has_key k (take k (get_or es i d).row) (get_or es (i - 1) d))
   first_by_neighbour i d l s = step (has_key k (take k (get_or es i d).row) (get_or es (i - 1) d)) refl
     where
-      step : (b : Bool) → has_key k (take k (get_or es i d).row) (get_or es (i - 1) d) ≡ b → is_least k es (get_or es i d).row ≡ not b
+      step : (b : Bool) → has_key k (take k (get_or es i d).row) (get_or es (i - 1) d) ≡ b → is_least_row k es (get_or es i d).row ≡ not b
       step true e =
           let row = (get_or es i d).row in
           ap not (list_any_at (λ e. has_key k (take k row) e && is_before e.row row) es (i - 1) d (omega (arith, l, s))
           (and_from (has_key k (take k row) (get_or es (i - 1) d)) (is_before (get_or es (i - 1) d).row row) e (ap is_lt (in_order es bag.ascending (i - 1) i d (omega (arith, s)) l))))
       step false e = alone_first i d l (λ m n t. true≢false (sym (between_up k es bag m (i - 1) i d (omega (arith, n)) (omega (arith, s)) l t) ∙ e))
 
-  pub last_of_all : (i : ℕ) (d : Entry) → i < length es → i + 1 ≡ length es → is_greatest k es (get_or es i d).row ≡ true
+  -- the last row of a bag is the last of its key
+  pub last_of_all : (i : ℕ) (d : Entry) → i < length es → i + 1 ≡ length es → is_greatest_row k es (get_or es i d).row ≡ true
   last_of_all i d l e = alone_last i d l (λ m s n t. absurd (omega (arith, s, n, e)))
 
-  pub last_by_neighbour : (i : ℕ) (d : Entry) → i + 1 < length es → is_greatest k es (get_or es i d).row ≡ not (has_key k (take k (get_or es i d).row) (get_or es (i + 1) d))
+  -- another row is, unless the row behind it has its key
+  pub last_by_neighbour : (i : ℕ) (d : Entry) → i + 1 < length es → is_greatest_row k es (get_or es i d).row ≡ not (has_key k (take k (get_or es i d).row) (get_or es (i + 1) d))
   last_by_neighbour i d l = step (has_key k (take k (get_or es i d).row) (get_or es (i + 1) d)) refl
     where
-      step : (b : Bool) → has_key k (take k (get_or es i d).row) (get_or es (i + 1) d) ≡ b → is_greatest k es (get_or es i d).row ≡ not b
+      step : (b : Bool) → has_key k (take k (get_or es i d).row) (get_or es (i + 1) d) ≡ b → is_greatest_row k es (get_or es i d).row ≡ not b
       step true e =
           let row = (get_or es i d).row in
           ap not (list_any_at (λ e. has_key k (take k row) e && is_before row e.row) es (i + 1) d l
@@ -168,14 +172,16 @@ module _ (k : ℕ) (es : List Entry) (bag : IsBag es) where
 
 -- ---- each kind
 
-pub least_is : (k : ℕ) (es out : List Entry) → IsBag out → Alike out (reduced_by_key k (reduced Distinct) es) → Alike (filter (λ e. is_least k out e.row) out) (reduced_by_key k (reduced Min) es)
+-- the first rows of all keys are what min answers
+pub least_is : (k : ℕ) (es out : List Entry) → IsBag out → Alike out (reduction_output k (reduction_answer Distinct) es) → Alike (filter (λ e. is_least_row k out e.row) out) (reduction_output k (reduction_answer Min) es)
 least_is k es out bag alike = ends_are is_before Min least_answered k es out bag alike
 
-pub greatest_is : (k : ℕ) (es out : List Entry) → IsBag out → Alike out (reduced_by_key k (reduced Distinct) es) → Alike (filter (λ e. is_greatest k out e.row) out) (reduced_by_key k (reduced Max) es)
+-- the last rows of all keys are what max answers
+pub greatest_is : (k : ℕ) (es out : List Entry) → IsBag out → Alike out (reduction_output k (reduction_answer Distinct) es) → Alike (filter (λ e. is_greatest_row k out e.row) out) (reduction_output k (reduction_answer Max) es)
 greatest_is k es out bag alike = ends_are (λ other row. is_before row other) Max greatest_answered k es out bag alike
 
 -- no row of the bag is too short for the key
-pub present_keys : (k : ℕ) (es out : List Entry) → IsBag out → Alike out (reduced_by_key k (reduced Distinct) es) → IsTrue (have_keys k out)
+pub present_keys : (k : ℕ) (es out : List Entry) → IsBag out → Alike out (reduction_output k (reduction_answer Distinct) es) → IsTrue (have_keys k out)
 present_keys k es out bag alike = list_all-from_AllPass (λ (e : Entry). nat_le k (length e.row)) out (λ i d l. step i d l (nat_le k (length (get_or out i d).row)) refl)
   where
     step : (i : ℕ) (d : Entry) → i < length out → (b : Bool) → nat_le k (length (get_or out i d).row) ≡ b → nat_le k (length (get_or out i d).row) ≡ true
@@ -183,4 +189,4 @@ present_keys k es out bag alike = list_all-from_AllPass (λ (e : Entry). nat_le 
     step i d l false e =
         let row = (get_or out i d).row in
         absurd (counts_at out bag i d l (sym (count_at out i d l bag.ascending)
-        ∙ (alike row ∙ (by_key_at k (reduced Distinct) (all_reduce Distinct k) es row ∙ ap (λ b. cond b (count_of (reduced Distinct (take k row) (filter (has_key k (take k row)) es)) row) (pos 0)) e))))
+        ∙ (alike row ∙ (by_key_at k (reduction_answer Distinct) (all_reduce Distinct k) es row ∙ ap (λ b. cond b (count_of (reduction_answer Distinct (take k row) (filter (has_key k (take k row)) es)) row) (pos 0)) e))))

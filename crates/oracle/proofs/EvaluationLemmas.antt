@@ -2,15 +2,15 @@
 use Rattle.std.proofs.Common.{◌≡◌, ℕ, zero, suc, ◌+◌, ◌<◌, ◌≤◌, Bool, true, false, cond, List, [], ◌∷◌, ◌++◌, ℤ, map, take, length, IsTrue, ⊎_elim, inl, inr, refl, ap, sym, subst, ◌∙◌, length-append, Option, Some, None, Result, w64, FitsSigned, eq-or-lt_of_le, arith}
 use Rattle.std.specs.Prelude.{pos, IfOk, IfErr, ◌+ℤ◌, ◌*ℤ◌, eqb, slice_get}
 use Rattle.std.specs.List.{filter, list_all}
-use Rattle.std.proofs.lemmas.Bool.{and_parts, and_from}
+use Rattle.std.proofs.lemmas.Bool.{and_parts, and_from, true≢false}
 use Rattle.std.proofs.lemmas.List.{get_or_push}
 use Rattle.std.proofs.lemmas.List.Elements.{filter-append}
 use Rattle.update.specs.Bags.{Entry, Alike, IsBag, count_of, same_row}
 use Rattle.update.specs.Updates.{as_of}
 use Rattle.update.specs.declared.change.Update.{Update}
-use Rattle.plan.specs.Ancestors.{is_above, is_input, numbers_below}
-use Rattle.plan.specs.Nodes.{node_at, sources, key_width}
-use Rattle.plan.specs.Queries.{query, handed}
+use Rattle.plan.specs.Ancestors.{reaches, numbers_below}
+use Rattle.plan.specs.Nodes.{node_at, sources, key_width, is_input, is_linear}
+use Rattle.plan.specs.Queries.{query, source_value}
 use Rattle.plan.specs.Reductions.{has_key, sum_of_counts}
 use Rattle.plan.specs.Rules.{IsPlan}
 use Rattle.plan.specs.Widths.{width_of}
@@ -21,15 +21,22 @@ use Rattle.plan.proofs.OperatorLemmas.{given_alike}
 use Rattle.plan.proofs.PlanLemmas.{source_smaller}
 use Rattle.plan.proofs.StandLemmas.{above_itself, above_from_source, above_transitive}
 use Rattle.plan.proofs.StepLemmas.{query_by_sources}
-use Rattle.plan.proofs.WeighLemmas.{weigh, weigh_alike, when_add}
+use Rattle.plan.proofs.CountLemmas.{weigh, weigh_alike, when_add}
 use Rattle.update.specs.declared.refusal.Refusal.{Refusal}
-use Rattle.oracle.specs.Entries.{all_wide, IsRefusal}
-use Rattle.oracle.specs.Evaluation.{AreBags, AreWide, HasLargeAbove, HasLargeAt, HasLargeStep, bag_of, given_at, inputs_before, list_of, ports, sums_at}
+use Rattle.oracle.specs.Entries.{all_wide}
+use Rattle.update.specs.Refusals.{IsMemoryOrOverflow}
+use Rattle.oracle.specs.Evaluation.{AreBags, AreWide, HasLargeAbove, HasLargeAt, HasLargeStep, nth_bag, output_at, inputs_before, list_of, ports, sums_at}
 use Rattle.oracle.proofs.CountLemmas.{large_alike, refused_by}
 use Rattle.oracle.proofs.NodeLemmas.{given_wide}
 use Rattle.oracle.proofs.ResultLemmas.{ok_more, ok_both, err_more}
 use Rattle.oracle.proofs.RowLemmas.{rows_by_counts}
 use Rattle.oracle.proofs.DistinctLemmas.{zero_plus}
+
+-- a linear node multiplies and counts nothing, so only what it gives can be too large
+pub linear_no_step : (k : ℕ) (node : Node) → IsTrue (is_linear node) → (bags : ℕ → List Entry) → HasLargeStep k node bags → ⊥
+linear_no_step k (Join left right) l bags step = true≢false (sym l)
+linear_no_step k (Reduce kind source) l bags step = true≢false (sym l)
+linear_no_step k node l bags step = step
 
 -- ---- inputs
 
@@ -42,15 +49,18 @@ inputs_more p n =
     ∙ (ap length (filter-append (λ m. is_input (node_at p m)) (numbers_below n) (n ∷ []))
     ∙ length-append (filter (λ m. is_input (node_at p m)) (numbers_below n)) (cond (is_input (node_at p n)) (n ∷ []) []))
 
+-- an input is one more
 pub inputs_with : (p : List Node) (n : ℕ) → is_input (node_at p n) ≡ true → inputs_before p (n + 1) ≡ inputs_before p n + 1
 inputs_with p n h = inputs_more p n ∙ ap (λ b. inputs_before p n + length (cond b (n ∷ []) [])) h
 
+-- another node is none
 pub inputs_without : (p : List Node) (n : ℕ) → is_input (node_at p n) ≡ false → inputs_before p (n + 1) ≡ inputs_before p n
 inputs_without p n h = inputs_more p n ∙ (ap (λ b. inputs_before p n + length (cond b (n ∷ []) [])) h ∙ none (inputs_before p n))
   where
     none : (m : ℕ) → m + 0 ≡ m
     none m = omega arith
 
+-- there are no more inputs than nodes
 pub inputs_few : (p : List Node) (n : ℕ) → inputs_before p n ≤ n
 inputs_few p zero = omega arith
 inputs_few p (suc n) = step (inputs_few p n) (is_input (node_at p n)) (ap (inputs_before p) (sym (next_number n)) ∙ inputs_more p n)
@@ -80,79 +90,73 @@ large_step_alike : (k : ℕ) (node : Node) (a b : ℕ → List Entry) → ((port
 large_step_alike k (Join left right) a b h large =
     (large.0, large.1, large.2, λ fits. large.3 (subst (FitsSigned w64) (λ i. sym (h 0 large.0) i *ℤ sym (h 1 large.1) i) fits))
 large_step_alike k (Reduce Count source) a b h large = (large.0, λ fits. large.1 (subst (FitsSigned w64) (sym (numbers_alike k large.0 (a 0) (b 0) (h 0))) fits))
-large_step_alike k (Reduce Distinct source) a b h large = large
-large_step_alike k (Reduce Min source) a b h large = large
-large_step_alike k (Reduce Max source) a b h large = large
-large_step_alike k (Input width) a b h large = large
-large_step_alike k (Map source items) a b h large = large
-large_step_alike k (Filter source test) a b h large = large
-large_step_alike k (Concat left right) a b h large = large
-large_step_alike k (Negate source) a b h large = large
-large_step_alike k (Arrange source key) a b h large = large
-large_step_alike k (Output source) a b h large = large
+large_step_alike k node a b h large = large
 
 -- ---- the next bag
 
-module _ (p : List Node) (plan : IsPlan p) (inputs : ℕ → List Entry) (view : ℕ) (bags : List (List Entry)) (are : AreBags p inputs view bags) (above : IsTrue (is_above p (length bags) view)) where
-  ports_alike : (port : ℕ) → Alike (ports p (length bags) (inputs (length bags)) (bag_of bags) port) (ports p (length bags) (inputs (length bags)) (query p inputs) port)
+module _ (p : List Node) (plan : IsPlan p) (inputs : ℕ → List Entry) (view : ℕ) (bags : List (List Entry)) (are : AreBags p inputs view bags) (above : IsTrue (reaches p (length bags) view)) where
+  ports_alike : (port : ℕ) → Alike (ports p (length bags) (inputs (length bags)) (nth_bag bags) port) (ports p (length bags) (inputs (length bags)) (query p inputs) port)
   ports_alike port = step (slice_get (sources (node_at p (length bags))) port) refl
     where
-      step : (o : Option ℕ) → slice_get (sources (node_at p (length bags))) port ≡ o → Alike (handed (inputs (length bags)) (bag_of bags) o) (handed (inputs (length bags)) (query p inputs) o)
+      step : (o : Option ℕ) → slice_get (sources (node_at p (length bags))) port ≡ o → Alike (source_value (inputs (length bags)) (nth_bag bags) o) (source_value (inputs (length bags)) (query p inputs) o)
       step None e = λ row. refl
       step (Some s) e =
           let up = above_from_source p plan s (length bags) port s e (above_itself p plan s) in
           are.found s (source_smaller p plan (length bags) port s e) (above_transitive p plan s (length bags) view up above)
 
-  pub next_query : (out : List Entry) → Alike out (given_at p (length bags) (inputs (length bags)) (bag_of bags)) → Alike out (query p inputs (length bags))
+  pub next_query : (out : List Entry) → Alike out (output_at p (length bags) (inputs (length bags)) (nth_bag bags)) → Alike out (query p inputs (length bags))
   next_query out alike row =
       alike row
-      ∙ (given_alike (key_width p (node_at p (length bags))) (node_at p (length bags)) (ports p (length bags) (inputs (length bags)) (bag_of bags)) (ports p (length bags) (inputs (length bags)) (query p inputs)) (λ port s. ports_alike port) row
+      ∙ (given_alike (key_width p (node_at p (length bags))) (node_at p (length bags)) (ports p (length bags) (inputs (length bags)) (nth_bag bags)) (ports p (length bags) (inputs (length bags)) (query p inputs)) (λ port s. ports_alike port) row
       ∙ ap (λ es. count_of es row) (sym (query_by_sources p plan inputs (length bags))))
 
-  pub next_large : HasLargeAt p (length bags) (inputs (length bags)) (bag_of bags) → HasLargeAbove p inputs view
+  pub next_large : HasLargeAt p (length bags) (inputs (length bags)) (nth_bag bags) → HasLargeAbove p inputs view
   next_large large =
-      let a = ports p (length bags) (inputs (length bags)) (bag_of bags) in
+      let a = ports p (length bags) (inputs (length bags)) (nth_bag bags) in
       let b = ports p (length bags) (inputs (length bags)) (query p inputs) in
       let k = key_width p (node_at p (length bags)) in
       let node = node_at p (length bags) in (
         length bags,
         above,
         ⊎_elim
-            (λ count. inl (large_alike (given_at p (length bags) (inputs (length bags)) (bag_of bags)) (given_at p (length bags) (inputs (length bags)) (query p inputs)) (given_alike k node a b (λ port s. ports_alike port)) count))
+            (λ count. inl (large_alike (output_at p (length bags) (inputs (length bags)) (nth_bag bags)) (output_at p (length bags) (inputs (length bags)) (query p inputs)) (given_alike k node a b (λ port s. ports_alike port)) count))
             (λ step. inr (large_step_alike k node a b ports_alike step))
             large,
       )
 
 module _ (p : List Node) (plan : IsPlan p) (inputs : ℕ → List Entry) (view : ℕ) (bags : List (List Entry)) (are : AreBags p inputs view bags)
     (n : ℕ) (next : n ≡ length bags) (outside : List Entry) (own : outside ≡ inputs (length bags)) (r : Result (List Entry) Refusal) where
-  as_given : IfOk r (λ out. Alike out (given_at p n outside (bag_of bags))) → IfOk r (λ out. Alike out (given_at p (length bags) (inputs (length bags)) (bag_of bags)))
+  as_given : IfOk r (λ out. Alike out (output_at p n outside (nth_bag bags))) → IfOk r (λ out. Alike out (output_at p (length bags) (inputs (length bags)) (nth_bag bags)))
   as_given h =
-      subst (λ (es : List Entry). IfOk r (λ out. Alike out (given_at p (length bags) es (bag_of bags)))) own
-      (subst (λ (m : ℕ). IfOk r (λ out. Alike out (given_at p m outside (bag_of bags)))) next h)
+      subst (λ (es : List Entry). IfOk r (λ out. Alike out (output_at p (length bags) es (nth_bag bags)))) own
+      (subst (λ (m : ℕ). IfOk r (λ out. Alike out (output_at p m outside (nth_bag bags)))) next h)
 
-  pub query_ok : IfOk r (λ out. Alike out (given_at p n outside (bag_of bags))) → IfOk r (λ out. IsTrue (is_above p (length bags) view) → Alike out (query p inputs (length bags)))
+  -- the bag that the operator gives is the query
+  pub query_ok : IfOk r (λ out. Alike out (output_at p n outside (nth_bag bags))) → IfOk r (λ out. IsTrue (reaches p (length bags) view) → Alike out (query p inputs (length bags)))
   query_ok h =
-      ok_more (λ out. Alike out (given_at p (length bags) (inputs (length bags)) (bag_of bags))) (λ out. IsTrue (is_above p (length bags) view) → Alike out (query p inputs (length bags)))
+      ok_more (λ out. Alike out (output_at p (length bags) (inputs (length bags)) (nth_bag bags))) (λ out. IsTrue (reaches p (length bags) view) → Alike out (query p inputs (length bags)))
       (λ out alike above. next_query p plan inputs view bags are above out alike) r (as_given h)
 
-  pub wide_ok : length bags < length p → (is_input (node_at p (length bags)) ≡ true → IsTrue (all_wide (width_of p (length bags)) (inputs (length bags)))) → IfOk r IsBag → IfOk r (λ out. Alike out (given_at p n outside (bag_of bags))) → IfOk r (λ out. IsTrue (all_wide (width_of p (length bags)) out))
+  -- its rows have the width of the node
+  pub wide_ok : length bags < length p → (is_input (node_at p (length bags)) ≡ true → IsTrue (all_wide (width_of p (length bags)) (inputs (length bags)))) → IfOk r IsBag → IfOk r (λ out. Alike out (output_at p n outside (nth_bag bags))) → IfOk r (λ out. IsTrue (all_wide (width_of p (length bags)) out))
   wide_ok l wide bag h =
-      ok_both IsBag (λ out. Alike out (given_at p (length bags) (inputs (length bags)) (bag_of bags))) (λ out. IsTrue (all_wide (width_of p (length bags)) out))
-      (λ out is alike. given_wide p plan (length bags) l (bag_of bags) are.wide (inputs (length bags)) out wide is alike) r bag (as_given h)
+      ok_both IsBag (λ out. Alike out (output_at p (length bags) (inputs (length bags)) (nth_bag bags))) (λ out. IsTrue (all_wide (width_of p (length bags)) out))
+      (λ out is alike. given_wide p plan (length bags) l (nth_bag bags) are.wide (inputs (length bags)) out wide is alike) r bag (as_given h)
 
-  pub large_err : IsTrue (is_above p (length bags) view) → IfErr r (IsRefusal (HasLargeAt p n outside (bag_of bags))) → IfErr r (IsRefusal (HasLargeAbove p inputs view))
+  -- a number too large at the node is one above the view
+  pub large_err : IsTrue (reaches p (length bags) view) → IfErr r (IsMemoryOrOverflow (HasLargeAt p n outside (nth_bag bags))) → IfErr r (IsMemoryOrOverflow (HasLargeAbove p inputs view))
   large_err above h =
-      err_more (IsRefusal (HasLargeAt p n outside (bag_of bags))) (IsRefusal (HasLargeAbove p inputs view))
-      (λ e refused. refused_by (HasLargeAt p n outside (bag_of bags)) (HasLargeAbove p inputs view) e
+      err_more (IsMemoryOrOverflow (HasLargeAt p n outside (nth_bag bags))) (IsMemoryOrOverflow (HasLargeAbove p inputs view))
+      (λ e refused. refused_by (HasLargeAt p n outside (nth_bag bags)) (HasLargeAbove p inputs view) e
       (λ large. next_large p plan inputs view bags are above
-      (subst (λ (es : List Entry). HasLargeAt p (length bags) es (bag_of bags)) own (subst (λ (m : ℕ). HasLargeAt p m outside (bag_of bags)) next large))) refused)
+      (subst (λ (es : List Entry). HasLargeAt p (length bags) es (nth_bag bags)) own (subst (λ (m : ℕ). HasLargeAt p m outside (nth_bag bags)) next large))) refused)
       r h
 
 -- the bag of the view itself
-pub evaluated : (p : List Node) → IsPlan p → (inputs : ℕ → List Entry) (view n : ℕ) → n ≡ view → (r : Result (List Entry) Refusal) → IfOk r (λ out. IsTrue (is_above p n view) → Alike out (query p inputs n)) → IfOk r (λ out. Alike out (query p inputs view))
+pub evaluated : (p : List Node) → IsPlan p → (inputs : ℕ → List Entry) (view n : ℕ) → n ≡ view → (r : Result (List Entry) Refusal) → IfOk r (λ out. IsTrue (reaches p n view) → Alike out (query p inputs n)) → IfOk r (λ out. Alike out (query p inputs view))
 evaluated p plan inputs view n e r h =
-    ok_more (λ out. IsTrue (is_above p view view) → Alike out (query p inputs view)) (λ out. Alike out (query p inputs view)) (λ out f. f (above_itself p plan view)) r
-    (subst (λ (m : ℕ). IfOk r (λ out. IsTrue (is_above p m view) → Alike out (query p inputs m))) e h)
+    ok_more (λ out. IsTrue (reaches p view view) → Alike out (query p inputs view)) (λ out. Alike out (query p inputs view)) (λ out f. f (above_itself p plan view)) r
+    (subst (λ (m : ℕ). IfOk r (λ out. IsTrue (reaches p m view) → Alike out (query p inputs m))) e h)
 
 -- the bag of no entries has rows of every width
 pub empty_wide : (w : ℕ) (r : Result (List Entry) Refusal) → IfOk r IsBag → IfOk r (λ out. Alike out []) → IfOk r (λ out. IsTrue (all_wide w out))
@@ -160,23 +164,23 @@ empty_wide w r bag alike = ok_both IsBag (λ out. Alike out []) (λ out. IsTrue 
 
 -- ---- the bags with one more
 
-bag_before : (bags : List (List Entry)) (out : List Entry) (m : ℕ) → m < length bags → bag_of (bags ++ out ∷ []) m ≡ bag_of bags m
+bag_before : (bags : List (List Entry)) (out : List Entry) (m : ℕ) → m < length bags → nth_bag (bags ++ out ∷ []) m ≡ nth_bag bags m
 bag_before [] out m l = absurd (omega (arith, l))
 bag_before (bag ∷ bags) out zero l = refl
 bag_before (bag ∷ bags) out (suc m) l = bag_before bags out m (omega (arith, l))
 
 pub are_more : (p : List Node) (inputs : ℕ → List Entry) (view : ℕ) (bags : List (List Entry)) (out : List Entry) → AreBags p inputs view bags → IsTrue (all_wide (width_of p (length bags)) out)
-    → (IsTrue (is_above p (length bags) view) → Alike out (query p inputs (length bags))) → AreBags p inputs view (bags ++ out ∷ [])
+    → (IsTrue (reaches p (length bags) view) → Alike out (query p inputs (length bags))) → AreBags p inputs view (bags ++ out ∷ [])
 are_more p inputs view bags out are wide found = record {
   wide = λ m l. both (λ m bag. IsTrue (all_wide (width_of p m) bag)) m l are.wide wide;
-  found = λ m l. both (λ m bag. IsTrue (is_above p m view) → Alike bag (query p inputs m)) m l are.found found;
+  found = λ m l. both (λ m bag. IsTrue (reaches p m view) → Alike bag (query p inputs m)) m l are.found found;
 }
   where
-    both : (P : ℕ → List Entry → Type 0) (m : ℕ) → m < length (bags ++ out ∷ []) → ((m : ℕ) → m < length bags → P m (bag_of bags m)) → P (length bags) out → P m (bag_of (bags ++ out ∷ []) m)
+    both : (P : ℕ → List Entry → Type 0) (m : ℕ) → m < length (bags ++ out ∷ []) → ((m : ℕ) → m < length bags → P m (nth_bag bags m)) → P (length bags) out → P m (nth_bag (bags ++ out ∷ []) m)
     both P m l before last =
         let long = length-append bags (out ∷ []) in
         ⊎_elim
-        (λ e. subst (λ k. P k (bag_of (bags ++ out ∷ []) k)) (sym e) (subst (P (length bags)) (sym (get_or_push bags out [] (length bags) refl)) last))
+        (λ e. subst (λ k. P k (nth_bag (bags ++ out ∷ []) k)) (sym e) (subst (P (length bags)) (sym (get_or_push bags out [] (length bags) refl)) last))
         (λ k. subst (P m) (sym (bag_before bags out m k)) (before m k))
         (eq-or-lt_of_le (omega (arith, l, long)))
 
@@ -198,5 +202,6 @@ sum_wide {T} below t w (u ∷ us) h =
     step rest one true = and_from (eqb (length u.row) w) (all_wide w (as_of below t us)) one rest
     step rest one false = rest
 
+-- the inputs' sums have the width of their inputs
 pub inputs_wide : {T : Type 0} (below : T → T → Bool) (p : List Node) (lists : List (List (Update T))) (t : T) (n : ℕ) → AreWide p lists → n < length p → is_input (node_at p n) ≡ true → IsTrue (all_wide (width_of p n) (sums_at below p lists t n))
 inputs_wide below p lists t n wide l h = sum_wide below t (width_of p n) (list_of p lists n) (wide n l h)

@@ -6,6 +6,7 @@ use Rattle.std.proofs.lemmas.List.{append-nil, get_or_push, get_or_append_left}
 use Rattle.std.proofs.lemmas.List.Elements.{filter-append}
 use Rattle.plan.specs.Ancestors.{numbers_below}
 
+-- the n-th input has n inputs before it
 pub place_of : (test : ℕ → Bool) (m i : ℕ) → i < length (filter test (numbers_below m)) → length (filter test (numbers_below (get_or (filter test (numbers_below m)) i 0))) ≡ i
 place_of test zero i l = absurd (omega (arith, l))
 place_of test (suc m) i l =

@@ -12,15 +12,17 @@ use Rattle.std.proofs.lemmas.Cmp.{int_cmp_total}
 use Rattle.std.proofs.lemmas.List.Elements.{All-from_recursion}
 use Rattle.update.specs.Bags.{Entry, IsBag, same_row}
 use Rattle.update.proofs.BagLemmas.{equal_rows}
-use Rattle.plan.proofs.WeighLemmas.{row_same, row_itself}
+use Rattle.plan.proofs.CountLemmas.{row_same, row_itself}
 use Rattle.oracle.specs.Keys.{precedes, is_before_key}
 
 abbrev pub by_columns : List ℤ → List ℤ → Ordering
 by_columns r s = slice_cmp int_cmp r s
 
+-- the order of rows is total
 pub columns_total : IsTotalOrder by_columns
 columns_total = lists_total int_cmp_total
 
+-- a row compares equal to itself
 pub columns_refl : (r : List ℤ) → by_columns r r ≡ Equal
 columns_refl r = step (by_columns r r) (sym (lists_ties int_cmp (λ x y. refl) r r) ∙ row_itself r)
   where
@@ -59,6 +61,7 @@ precedes_down equal a b key h p =
         ap (precedes equal) less
     step l Greater e p = absurd (true≢false (sym p))
 
+-- in a bag an earlier place has a lesser row
 pub in_order : (es : List Entry) → IsStrictlySortedBy (λ a b. by_columns a.row b.row) es → (i j : ℕ) (d : Entry) → i < j → j < length es → by_columns (get_or es i d).row (get_or es j d).row ≡ Less
 unfolding IsStrictlySortedBy
 in_order [] s i j d l m = absurd (omega (arith, m))
@@ -79,6 +82,7 @@ module _ (equal : Bool) (key : List ℤ) (es : List Entry) (bag : IsBag es) wher
   pub before_up_to : (middle : ℕ) → middle < length es → ((d : Entry) → is_before_key equal key (get_or es middle d) ≡ true) → AllWithin (λ e. is_before_key equal key e ≡ true) es 0 (middle + 1)
   before_up_to middle m h i d l k = before_down i middle d (omega (arith, k)) m (h d)
 
+  -- behind the bound no row is before the key
   pub behind_from : (middle : ℕ) → middle < length es → ((d : Entry) → is_before_key equal key (get_or es middle d) ≡ false) → AllWithin (λ e. is_before_key equal key e ≡ false) es middle (length es)
   behind_from middle m h i d l k = step (is_before_key equal key (get_or es i d)) refl
     where
@@ -112,6 +116,7 @@ module _ (k : ℕ) (es : List Entry) (bag : IsBag es) where
       (λ same. ap (λ r. same_row r (take k (get_or es i d).row)) (sym (equal_rows (take k (get_or es m d).row) (take k (get_or es j d).row) same)) ∙ t)
       (keys_up m j d a (omega (arith, b, l)))
 
+  -- between two rows of a key all rows have it
   pub between_down : (i j m : ℕ) (d : Entry) → i ≤ j → j ≤ m → m < length es → same_row (take k (get_or es m d).row) (take k (get_or es i d).row) ≡ true → same_row (take k (get_or es j d).row) (take k (get_or es i d).row) ≡ true
   between_down i j m d a b l t =
       let one : take k (get_or es m d).row ≡ take k (get_or es i d).row = row_same (take k (get_or es m d).row) (take k (get_or es i d).row) t in

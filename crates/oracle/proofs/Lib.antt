@@ -9,7 +9,7 @@ pub mod ResultLemmas
 pub mod ProductLemmas
 pub mod NodeLemmas
 pub mod EvaluationLemmas
-pub mod GridLemmas
+pub mod JoinClosureLemmas
 pub mod ListingLemmas
 pub mod DifferenceLemmas
 pub mod InputLemmas

@@ -8,8 +8,8 @@ use Rattle.std.proofs.lemmas.List.Elements.{filter_more}
 use Rattle.update.specs.Bags.{Entry, Alike, HasLargeCount, count_of, same_row}
 use Rattle.update.specs.Updates.{as_of, entry}
 use Rattle.update.specs.declared.change.Update.{Update}
-use Rattle.plan.proofs.WeighLemmas.{count_of-append}
-use Rattle.oracle.specs.Entries.{entry_of}
+use Rattle.plan.proofs.CountLemmas.{count_of-append}
+use Rattle.update.specs.Bags.{entry_of}
 use Rattle.oracle.specs.Listing.{HasLargeGap}
 
 -- two entries that take a row off n times
@@ -52,6 +52,7 @@ module _ {T : Type 0} (below : T → T → Bool) (t : T) where
       let one = h r in
       omega (arith, ints, more, one)
 
+  -- a count too large in what is listed is a gap that is too large
   pub large_gap : (entries wanted : List Entry) (us : List (Update T)) → ((r : List ℤ) → count_of entries r +ℤ count_of (as_of below t us) r ≡ count_of wanted r) → HasLargeCount entries → HasLargeGap below t wanted us
   large_gap entries wanted us h large = (large.0, λ fits. large.1 (subst (FitsSigned w64) (less (count_of entries large.0) (count_of (as_of below t us) large.0) (count_of wanted large.0) (h large.0)) fits))
     where

@@ -6,17 +6,16 @@ use Rattle.std.specs.List.{filter, list_all}
 use Rattle.std.specs.Ordering.{int_eq}
 use Rattle.std.proofs.lemmas.Bool.{and_parts, and_from, true≢false, leb-true, le-leb, eqb-true, eq-eqb}
 use Rattle.std.proofs.lemmas.List.{length-take-le, length-map}
-use Rattle.row.specs.Projection.{is_within, projected}
-use Rattle.row.specs.Testing.{passes}
+use Rattle.row.specs.Projection.{projection, are_within}
+use Rattle.row.specs.Testing.{passes, is_test_within}
 use Rattle.row.specs.declared.projection.Item.{Item}
-use Rattle.row.specs.declared.testing.Test.{Test}
+use Rattle.row.specs.declared.test.Test.{Test}
 use Rattle.update.specs.Bags.{Entry, Alike, IsBag, HasLargeCount, count_of, same_row}
-use Rattle.plan.specs.Nodes.{node_at, sources, key_width}
-use Rattle.plan.specs.Operators.{given, is_linear, mapped, paired, joined, reduced_by_key}
-use Rattle.plan.specs.Queries.{handed}
-use Rattle.plan.specs.Ancestors.{is_input}
-use Rattle.plan.specs.Reductions.{reduced, has_key, is_present, sum_of_counts}
-use Rattle.plan.specs.Rules.{IsPlan, faults, first_refusal, is_width, is_test_within}
+use Rattle.plan.specs.Nodes.{node_at, sources, key_width, is_linear, is_input}
+use Rattle.plan.specs.Operators.{operator_output, mapped_entry, joined_entry, join_output, reduction_output}
+use Rattle.plan.specs.Queries.{source_value}
+use Rattle.plan.specs.Reductions.{reduction_answer, has_key, is_present, sum_of_counts}
+use Rattle.plan.specs.Rules.{IsPlan, node_faults, first_refusal, is_width}
 use Rattle.plan.specs.Widths.{width_of, width_from, reduced_width}
 use Rattle.plan.specs.declared.node.Kind.{Kind}
 use Rattle.plan.specs.declared.node.Kind.TheVariants.{Count, Distinct, Min, Max}
@@ -29,12 +28,12 @@ use Rattle.plan.proofs.PlanLemmas.{source_smaller, no_first, no_fault}
 use Rattle.plan.proofs.ReducerLemmas.{all_reduce}
 use Rattle.plan.proofs.ReductionLemmas.{by_key_at}
 use Rattle.plan.proofs.StepLemmas.{width_by_sources}
-use Rattle.plan.proofs.WeighLemmas.{row_same, when_zero, count_of-negated, count_of-filter}
+use Rattle.plan.proofs.CountLemmas.{row_same, when_zero, count_of-negated_entry, count_of-filter}
 use Rattle.plan.proofs.WidthLemmas.{faultless, width_bounds}
 use Rattle.oracle.specs.Entries.{all_wide}
 use Rattle.oracle.specs.Keys.{have_keys}
-use Rattle.oracle.specs.Evaluation.{given_at, HasLargeAt, HasLargeStep, HasLargeProductOf}
-use Rattle.oracle.proofs.CountLemmas.{answer, counted_at}
+use Rattle.oracle.specs.Evaluation.{output_at, HasLargeAt, HasLargeStep, HasLargeProductOf}
+use Rattle.oracle.proofs.CountLemmas.{answer, count_answered}
 use Rattle.oracle.proofs.RowLemmas.{absent_row, rows_by_counts}
 
 -- what holds of a width holds of all rows of it
@@ -49,9 +48,9 @@ add_one k = omega arith
 
 -- ---- widths of what operators give
 
-mapped_wide : (items : List Item) (es : List Entry) → IsTrue (all_wide (length items) (map (mapped items) es))
+mapped_wide : (items : List Item) (es : List Entry) → IsTrue (all_wide (length items) (map (mapped_entry items) es))
 mapped_wide items [] = refl
-mapped_wide items (e ∷ es) = and_from (eqb (length (projected items e.row)) (length items)) (all_wide (length items) (map (mapped items) es)) (eq-eqb (length (projected items e.row)) (length items) (length-map items _)) (mapped_wide items es)
+mapped_wide items (e ∷ es) = and_from (eqb (length (projection items e.row)) (length items)) (all_wide (length items) (map (mapped_entry items) es)) (eq-eqb (length (projection items e.row)) (length items) (length-map items _)) (mapped_wide items es)
 
 kept_wide : (test : Entry → Bool) (w : ℕ) (es : List Entry) → IsTrue (all_wide w es) → IsTrue (all_wide w (filter test es))
 kept_wide test w [] h = refl
@@ -67,18 +66,18 @@ both_wide w (e ∷ a) b h k =
     let parts = and_parts (eqb (length e.row) w) (all_wide w a) h in
     and_from (eqb (length e.row) w) (all_wide w (a ++ b)) parts.0 (both_wide w a b parts.1 k)
 
-pairs_wide : (k w v : ℕ) (x : Entry) (ys : List Entry) → length x.row ≡ w → IsTrue (all_wide v ys) → IsTrue (all_wide (w + (v - k)) (map (paired k x) ys))
+pairs_wide : (k w v : ℕ) (x : Entry) (ys : List Entry) → length x.row ≡ w → IsTrue (all_wide v ys) → IsTrue (all_wide (w + (v - k)) (map (joined_entry k x) ys))
 pairs_wide k w v x [] l h = refl
 pairs_wide k w v x (y ∷ ys) l h =
     let parts = and_parts (eqb (length y.row) v) (all_wide v ys) h in
     let long : length (x.row ++ drop k y.row) ≡ w + (v - k) = length-append x.row (drop k y.row) ∙ (λ i. l i + length-drop k y.row i) ∙ ap (λ m. w + (m - k)) (eqb-true (length y.row) v parts.0) in
-    and_from (eqb (length (x.row ++ drop k y.row)) (w + (v - k))) (all_wide (w + (v - k)) (map (paired k x) ys)) (eq-eqb (length (x.row ++ drop k y.row)) (w + (v - k)) long) (pairs_wide k w v x ys l parts.1)
+    and_from (eqb (length (x.row ++ drop k y.row)) (w + (v - k))) (all_wide (w + (v - k)) (map (joined_entry k x) ys)) (eq-eqb (length (x.row ++ drop k y.row)) (w + (v - k)) long) (pairs_wide k w v x ys l parts.1)
 
-joined_wide : (k w v : ℕ) (left right : List Entry) → IsTrue (all_wide w left) → IsTrue (all_wide v right) → IsTrue (all_wide (w + (v - k)) (joined k left right))
+joined_wide : (k w v : ℕ) (left right : List Entry) → IsTrue (all_wide w left) → IsTrue (all_wide v right) → IsTrue (all_wide (w + (v - k)) (join_output k left right))
 joined_wide k w v [] right h i = refl
 joined_wide k w v (x ∷ left) right h i =
     let parts = and_parts (eqb (length x.row) w) (all_wide w left) h in
-    both_wide (w + (v - k)) (map (paired k x) (filter (has_key k (take k x.row)) right)) (joined k left right)
+    both_wide (w + (v - k)) (map (joined_entry k x) (filter (has_key k (take k x.row)) right)) (join_output k left right)
     (pairs_wide k w v x (filter (has_key k (take k x.row)) right) (eqb-true (length x.row) w parts.0) (kept_wide (has_key k (take k x.row)) v right i))
     (joined_wide k w v left right parts.1 i)
 
@@ -94,26 +93,26 @@ module _ (k : ℕ) (es : List Entry) (row : List ℤ) where
   not_present : count_of es row ≡ pos 0 → is_present of_key row ≡ false
   not_present z = ap (int_lt (pos 0)) (count_of-filter (λ r. same_row (take k r) (take k row)) es row ∙ (ap (λ n. cond (same_row (take k row) (take k row)) n (pos 0)) z ∙ when_zero (same_row (take k row) (take k row))))
 
-  unanswered : (kind : Kind) → (count_of (reduced kind (take k row) of_key) row ≡ pos 1 → is_present of_key row ≡ true) → count_of es row ≡ pos 0 → count_of (reduced kind (take k row) of_key) row ≡ pos 0
+  unanswered : (kind : Kind) → (count_of (reduction_answer kind (take k row) of_key) row ≡ pos 1 → is_present of_key row ≡ true) → count_of es row ≡ pos 0 → count_of (reduction_answer kind (take k row) of_key) row ≡ pos 0
   unanswered kind needs z =
       ⊎_elim
       (λ none. none)
       (λ one. absurd (true≢false (sym (needs one) ∙ not_present z)))
       (answered_once kind (take k row) of_key row)
 
-  of_source : (kind : Kind) → (count_of (reduced kind (take k row) of_key) row ≡ pos 1 → is_present of_key row ≡ true) → count_of es row ≡ pos 0 → count_of (reduced_by_key k (reduced kind) es) row ≡ pos 0
+  of_source : (kind : Kind) → (count_of (reduction_answer kind (take k row) of_key) row ≡ pos 1 → is_present of_key row ≡ true) → count_of es row ≡ pos 0 → count_of (reduction_output k (reduction_answer kind) es) row ≡ pos 0
   of_source kind needs z =
-      by_key_at k (reduced kind) (all_reduce kind k) es row
+      by_key_at k (reduction_answer kind) (all_reduce kind k) es row
       ∙ (ap (λ n. cond (nat_le k (length row)) n (pos 0)) (unanswered kind needs z) ∙ when_zero (nat_le k (length row)))
 
-  distinct_absent : count_of es row ≡ pos 0 → count_of (reduced_by_key k (reduced Distinct) es) row ≡ pos 0
+  distinct_absent : count_of es row ≡ pos 0 → count_of (reduction_output k (reduction_answer Distinct) es) row ≡ pos 0
   distinct_absent z =
-      by_key_at k (reduced Distinct) (all_reduce Distinct k) es row
+      by_key_at k (reduction_answer Distinct) (all_reduce Distinct k) es row
       ∙ (ap (λ n. cond (nat_le k (length row)) n (pos 0)) (distinct_answered (take k row) of_key row ∙ ap (λ b. cond b (pos 1) (pos 0)) (not_present z)) ∙ when_zero (nat_le k (length row)))
 
-  count_absent_row : eqb (length row) (suc k) ≡ false → count_of (reduced_by_key k (reduced Count) es) row ≡ pos 0
+  count_absent_row : eqb (length row) (suc k) ≡ false → count_of (reduction_output k (reduction_answer Count) es) row ≡ pos 0
   count_absent_row h =
-      by_key_at k (reduced Count) (all_reduce Count k) es row
+      by_key_at k (reduction_answer Count) (all_reduce Count k) es row
       ∙ step (nat_le k (length row)) refl
     where
       number : (n : ℤ) (b : Bool) → nat_le k (length row) ≡ true → same_row (take k row ++ n ∷ []) row ≡ b → answer (take k row) n row ≡ pos 0
@@ -126,11 +125,11 @@ module _ (k : ℕ) (es : List Entry) (row : List ℤ) where
           none true = refl
           none false = refl
 
-      step : (b : Bool) → nat_le k (length row) ≡ b → cond b (count_of (reduced Count (take k row) of_key) row) (pos 0) ≡ pos 0
-      step true wide = sym (counted_at (take k row) (sum_of_counts of_key) row) ∙ number (sum_of_counts of_key) (same_row (take k row ++ sum_of_counts of_key ∷ []) row) wide refl
+      step : (b : Bool) → nat_le k (length row) ≡ b → cond b (count_of (reduction_answer Count (take k row) of_key) row) (pos 0) ≡ pos 0
+      step true wide = sym (count_answered (take k row) (sum_of_counts of_key) row) ∙ number (sum_of_counts of_key) (same_row (take k row ++ sum_of_counts of_key ∷ []) row) wide refl
       step false wide = refl
 
-  reduced_absent : (kind : Kind) (w : ℕ) → IsTrue (all_wide w es) → eqb (length row) (reduced_width kind k w) ≡ false → count_of (reduced_by_key k (reduced kind) es) row ≡ pos 0
+  reduced_absent : (kind : Kind) (w : ℕ) → IsTrue (all_wide w es) → eqb (length row) (reduced_width kind k w) ≡ false → count_of (reduction_output k (reduction_answer kind) es) row ≡ pos 0
   reduced_absent Count w h n = count_absent_row n
   reduced_absent Distinct w h n = distinct_absent (absent_wide w es row h n)
   reduced_absent Min w h n = of_source Min (λ one. ((least_answered (take k row) of_key row).0 one).0) (absent_wide w es row h n)
@@ -139,8 +138,8 @@ module _ (k : ℕ) (es : List Entry) (row : List ℤ) where
 -- ---- nodes
 
 module _ (p : List Node) (plan : IsPlan p) (n : ℕ) (l : n < length p) (bags : ℕ → List Entry) (wide : (m : ℕ) → m < n → IsTrue (all_wide (width_of p m) (bags m))) where
-  faults_none : (node : Node) → node_at p n ≡ node → first_refusal (faults p node) ≡ None
-  faults_none node e = subst (λ node. first_refusal (faults p node) ≡ None) e (faultless p plan n l)
+  faults_none : (node : Node) → node_at p n ≡ node → first_refusal (node_faults p node) ≡ None
+  faults_none node e = subst (λ node. first_refusal (node_faults p node) ≡ None) e (faultless p plan n l)
 
   width_is : (node : Node) → node_at p n ≡ node → width_of p n ≡ width_from (key_width p node) node (width_of p)
   width_is node e = width_by_sources p plan n ∙ ap (λ node. width_from (key_width p node) node (width_of p)) e
@@ -148,12 +147,14 @@ module _ (p : List Node) (plan : IsPlan p) (n : ℕ) (l : n < length p) (bags : 
   at_port : (node : Node) → node_at p n ≡ node → (port s : ℕ) → slice_get (sources node) port ≡ Some s → IsTrue (all_wide (width_of p s) (bags s))
   at_port node e port s g = wide s (source_smaller p plan n port s (ap (λ node. slice_get (sources node) port) e ∙ g))
 
-  pub map_within : (source : ℕ) (items : List Item) → node_at p n ≡ Map source items → IsTrue (list_all (λ e. list_all (λ item. is_within item (length e.row)) items) (bags source))
+  -- the rows at a map have the columns that it names
+  pub map_within : (source : ℕ) (items : List Item) → node_at p n ≡ Map source items → IsTrue (list_all (λ e. are_within items (length e.row)) (bags source))
   map_within source items e =
-      let second = (no_first (not (is_width (length items))) BadWidth ((not (list_all (λ item. is_within item (width_of p source)) items), BadColumn) ∷ []) (faults_none (Map source items) e)).1 in
-      let within = no_fault (list_all (λ item. is_within item (width_of p source)) items) (no_first (not (list_all (λ item. is_within item (width_of p source)) items)) BadColumn [] second).0 in
-      all_by_width (λ w. list_all (λ item. is_within item w) items) (width_of p source) (bags source) (at_port (Map source items) e 0 source refl) within
+      let second = (no_first (not (is_width (length items))) BadWidth ((not (are_within items (width_of p source)), BadColumn) ∷ []) (faults_none (Map source items) e)).1 in
+      let within = no_fault (are_within items (width_of p source)) (no_first (not (are_within items (width_of p source))) BadColumn [] second).0 in
+      all_by_width (λ w. are_within items w) (width_of p source) (bags source) (at_port (Map source items) e 0 source refl) within
 
+  -- so have the rows at a filter
   pub filter_within : (source : ℕ) (test : Test) → node_at p n ≡ Filter source test → IsTrue (list_all (λ e. is_test_within test (length e.row)) (bags source))
   filter_within source test e =
       let within = no_fault (is_test_within test (width_of p source)) (no_first (not (is_test_within test (width_of p source))) BadColumn [] (faults_none (Filter source test) e)).0 in
@@ -169,9 +170,11 @@ module _ (p : List Node) (plan : IsPlan p) (n : ℕ) (l : n < length p) (bags : 
   port_keys node e linear port s g =
       all_by_width (nat_le (key_width p (node_at p n))) (width_of p s) (bags s) (at_port node e port s g) (le-leb (key_width p (node_at p n)) (width_of p s) (source_key node e linear port s g).1)
 
+  -- the rows at the left of a join have a key
   pub left_keys : (left right : ℕ) → node_at p n ≡ Join left right → IsTrue (have_keys (key_width p (node_at p n)) (bags left))
   left_keys left right e = port_keys (Join left right) e refl 0 left refl
 
+  -- so have those at the right
   pub right_keys : (left right : ℕ) → node_at p n ≡ Join left right → IsTrue (have_keys (key_width p (node_at p n)) (bags right))
   right_keys left right e = port_keys (Join left right) e refl 1 right refl
 
@@ -184,18 +187,22 @@ module _ (p : List Node) (plan : IsPlan p) (n : ℕ) (l : n < length p) (bags : 
       let fits = (source_key (Join left right) e refl 0 left refl).1 in
       omega (arith, own, fits)
 
+  -- a joined row has 8 columns at most
   pub join_room : (left right : ℕ) → node_at p n ≡ Join left right → IsTrue (list_all (λ x. list_all (λ y. nat_le (length x.row + (length y.row - key_width p (node_at p n))) 8) (bags right)) (bags left))
   join_room left right e =
       let room : width_of p left + (width_of p right - key_width p (node_at p n)) ≤ 8 = omega (arith, few, join_width left right e) in
       all_by_width (λ a. list_all (λ y. nat_le (a + (length y.row - key_width p (node_at p n))) 8) (bags right)) (width_of p left) (bags left) (at_port (Join left right) e 0 left refl)
       (all_by_width (λ b. nat_le (width_of p left + (b - key_width p (node_at p n))) 8) (width_of p right) (bags right) (at_port (Join left right) e 1 right refl) (le-leb (width_of p left + (width_of p right - key_width p (node_at p n))) 8 room))
 
+  -- a reduction has a key
   pub reduce_some : (kind : Kind) (source : ℕ) → node_at p n ≡ Reduce kind source → 1 ≤ key_width p (node_at p n)
   reduce_some kind source e = (source_key (Reduce kind source) e refl 0 source refl).0
 
+  -- the rows at a reduction have a key
   pub reduce_keys : (kind : Kind) (source : ℕ) → node_at p n ≡ Reduce kind source → IsTrue (have_keys (key_width p (node_at p n)) (bags source))
   reduce_keys kind source e = port_keys (Reduce kind source) e refl 0 source refl
 
+  -- a count has room for its number
   pub count_room : (kind : Kind) (source : ℕ) → node_at p n ≡ Reduce kind source → kind ≡ Count → key_width p (node_at p n) ≤ 7
   count_room kind source e c =
       let own : width_of p n ≡ suc (key_width p (node_at p n)) = width_is (Reduce kind source) e ∙ ap (λ node. reduced_width kind (key_width p node) (width_of p source)) (sym e) ∙ ap (λ (kind : Kind). reduced_width kind (key_width p (node_at p n)) (width_of p source)) c in
@@ -203,10 +210,10 @@ module _ (p : List Node) (plan : IsPlan p) (n : ℕ) (l : n < length p) (bags : 
 
   -- a row of another width counts 0
   absent_at : (outside : List Entry) → (is_input (node_at p n) ≡ true → IsTrue (all_wide (width_of p n) outside)) → (row : List ℤ) → eqb (length row) (width_of p n) ≡ false
-      → (node : Node) → node_at p n ≡ node → count_of (given (key_width p node) node (λ port. handed outside bags (slice_get (sources node) port))) row ≡ pos 0
+      → (node : Node) → node_at p n ≡ node → count_of (operator_output (key_width p node) node (λ port. source_value outside bags (slice_get (sources node) port))) row ≡ pos 0
   absent_at outside own row h (Input width) e = absent_wide (width_of p n) outside row (own (ap is_input e)) h
   absent_at outside own row h (Map source items) e =
-      absent_wide (length items) (map (mapped items) (bags source)) row (mapped_wide items (bags source)) (ap (eqb (length row)) (sym (width_is (Map source items) e)) ∙ h)
+      absent_wide (length items) (map (mapped_entry items) (bags source)) row (mapped_wide items (bags source)) (ap (eqb (length row)) (sym (width_is (Map source items) e)) ∙ h)
   absent_at outside own row h (Filter source test) e =
       absent_wide (width_of p source) (filter (λ e. passes test e.row) (bags source)) row (kept_wide (λ e. passes test e.row) (width_of p source) (bags source) (at_port (Filter source test) e 0 source refl)) (ap (eqb (length row)) (sym (width_is (Filter source test) e)) ∙ h)
   absent_at outside own row h (Concat left right) e =
@@ -215,14 +222,14 @@ module _ (p : List Node) (plan : IsPlan p) (n : ℕ) (l : n < length p) (bags : 
       let other = subst (λ w. IsTrue (all_wide w (bags right))) (sym same) (at_port (Concat left right) e 1 right refl) in
       absent_wide (width_of p left) (bags left ++ bags right) row (both_wide (width_of p left) (bags left) (bags right) one other) (ap (eqb (length row)) (sym (width_is (Concat left right) e)) ∙ h)
   absent_at outside own row h (Negate source) e =
-      count_of-negated (bags source) row
+      count_of-negated_entry (bags source) row
       ∙ ap neg_ℤ (absent_wide (width_of p source) (bags source) row (at_port (Negate source) e 0 source refl) (ap (eqb (length row)) (sym (width_is (Negate source) e)) ∙ h))
   absent_at outside own row h (Arrange source key) e =
       absent_wide (width_of p source) (bags source) row (at_port (Arrange source key) e 0 source refl) (ap (eqb (length row)) (sym (width_is (Arrange source key) e)) ∙ h)
   absent_at outside own row h (Join left right) e =
       let k : key_width p (Join left right) ≡ key_width p (node_at p n) = ap (key_width p) (sym e) in
-      ap (λ k. count_of (joined k (bags left) (bags right)) row) k
-      ∙ absent_wide (width_of p left + (width_of p right - key_width p (node_at p n))) (joined (key_width p (node_at p n)) (bags left) (bags right)) row
+      ap (λ k. count_of (join_output k (bags left) (bags right)) row) k
+      ∙ absent_wide (width_of p left + (width_of p right - key_width p (node_at p n))) (join_output (key_width p (node_at p n)) (bags left) (bags right)) row
       (joined_wide (key_width p (node_at p n)) (width_of p left) (width_of p right) (bags left) (bags right) (at_port (Join left right) e 0 left refl) (at_port (Join left right) e 1 right refl))
       (ap (eqb (length row)) (sym (join_width left right e)) ∙ h)
   absent_at outside own row h (Reduce kind source) e =
@@ -231,20 +238,22 @@ module _ (p : List Node) (plan : IsPlan p) (n : ℕ) (l : n < length p) (bags : 
       absent_wide (width_of p source) (bags source) row (at_port (Output source) e 0 source refl) (ap (eqb (length row)) (sym (width_is (Output source) e)) ∙ h)
 
   -- the rows that a node gives have its width
-  pub given_wide : (outside out : List Entry) → (is_input (node_at p n) ≡ true → IsTrue (all_wide (width_of p n) outside)) → IsBag out → Alike out (given_at p n outside bags) → IsTrue (all_wide (width_of p n) out)
+  pub given_wide : (outside out : List Entry) → (is_input (node_at p n) ≡ true → IsTrue (all_wide (width_of p n) outside)) → IsBag out → Alike out (output_at p n outside bags) → IsTrue (all_wide (width_of p n) out)
   given_wide outside out own bag alike = rows_by_counts (λ r. eqb (length r) (width_of p n)) out bag (λ row h. alike row ∙ absent_at outside own row h (node_at p n) refl)
 
 -- ---- what is too large, by the node
 
 module _ (p : List Node) (n : ℕ) (outside : List Entry) (bags : ℕ → List Entry) where
   abbrev pub HasLargeOf : Node → Type 0
-  HasLargeOf node = HasLargeCount (given (key_width p node) node (λ port. handed outside bags (slice_get (sources node) port))) ⊎ HasLargeStep (key_width p node) node (λ port. handed outside bags (slice_get (sources node) port))
+  HasLargeOf node = HasLargeCount (operator_output (key_width p node) node (λ port. source_value outside bags (slice_get (sources node) port))) ⊎ HasLargeStep (key_width p node) node (λ port. source_value outside bags (slice_get (sources node) port))
 
+  -- a number too large for the operator is one at the node
   pub large_of : (node : Node) → node_at p n ≡ node → HasLargeOf node → HasLargeAt p n outside bags
   large_of node e large = subst HasLargeOf (sym e) large
 
-pub join_large : (k m : ℕ) (a b c d : List Entry) → m ≡ k → b ≡ a → d ≡ c → HasLargeCount (joined m b d) ⊎ HasLargeProductOf m b d → HasLargeCount (joined k a c) ⊎ HasLargeProductOf k a c
+-- what is too large at a join depends on the width of the key and the bags alone
+pub join_large : (k m : ℕ) (a b c d : List Entry) → m ≡ k → b ≡ a → d ≡ c → HasLargeCount (join_output m b d) ⊎ HasLargeProductOf m b d → HasLargeCount (join_output k a c) ⊎ HasLargeProductOf k a c
 join_large k m a b c d e f g large =
-    subst (λ (n : ℕ). HasLargeCount (joined n a c) ⊎ HasLargeProductOf n a c) e
-    (subst (λ (x : List Entry). HasLargeCount (joined m x c) ⊎ HasLargeProductOf m x c) f
-    (subst (λ (y : List Entry). HasLargeCount (joined m b y) ⊎ HasLargeProductOf m b y) g large))
+    subst (λ (n : ℕ). HasLargeCount (join_output n a c) ⊎ HasLargeProductOf n a c) e
+    (subst (λ (x : List Entry). HasLargeCount (join_output m x c) ⊎ HasLargeProductOf m x c) f
+    (subst (λ (y : List Entry). HasLargeCount (join_output m b y) ⊎ HasLargeProductOf m b y) g large))

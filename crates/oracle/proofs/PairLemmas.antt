@@ -10,7 +10,7 @@ use Rattle.std.proofs.lemmas.List.{append-nil, map-append, get_or_default}
 use Rattle.std.proofs.lemmas.List.Elements.{filter_more}
 use Rattle.update.specs.Bags.{Entry, same_row}
 use Rattle.update.specs.declared.refusal.Refusal.{Refusal}
-use Rattle.oracle.specs.Entries.{IsRefusal}
+use Rattle.update.specs.Refusals.{IsMemoryOrOverflow}
 use Rattle.oracle.specs.Products.{HasLargeProduct, HasLargePair}
 use Rattle.oracle.specs.Keys.{precedes, is_before_key, IsKeyRange}
 use Rattle.oracle.proofs.PutLemmas.{no_entry}
@@ -116,6 +116,7 @@ module _ (key : List ℤ) (es : List Entry) (from to : ℕ) where
     behind = none_after d;
   }
 
+-- the two bounds found are the range of the key
 pub key_range_is : (k : ℕ) (key own : List ℤ) (es : List Entry) (from to : ℕ) → key ≡ own → length own ≡ k → to ≤ length es → from ≤ length es
     → AllWithin (λ e. is_before_key false key e ≡ true) es 0 from → AllWithin (λ e. is_before_key false key e ≡ false) es from (length es)
     → AllWithin (λ e. is_before_key true key e ≡ true) es 0 to → AllWithin (λ e. is_before_key true key e ≡ false) es to (length es)
@@ -125,7 +126,7 @@ key_range_is k key own es from to e long n l a b c d =
     (subst (λ (key : List ℤ). IsKeyRange (length key) key es from to) e (range_at key es from to n l a b c d))
 
 -- a row on the left with a product that is no 64-bit number
-pub large_pair : (k : ℕ) (left right : List Entry) (i : ℕ) (x : Entry) → i < length left → x ≡ get_or left i no_entry → (r : Refusal) → IsRefusal (HasLargeProduct k x right) r → IsRefusal (HasLargePair k left right) r
+pub large_pair : (k : ℕ) (left right : List Entry) (i : ℕ) (x : Entry) → i < length left → x ≡ get_or left i no_entry → (r : Refusal) → IsMemoryOrOverflow (HasLargeProduct k x right) r → IsMemoryOrOverflow (HasLargePair k left right) r
 large_pair k left right i x l e r refused =
     ⊎_elim
     (λ memory. inl memory)

@@ -4,8 +4,8 @@ use Rattle.std.specs.Prelude.{neg_ℤ, ◌*ℤ◌}
 use Rattle.std.specs.List.{Any}
 use Rattle.update.specs.Bags.{Entry, IsBag, HasLargeCount, count_of}
 use Rattle.update.proofs.BagLemmas.{count_at}
-use Rattle.plan.specs.Operators.{negated}
-use Rattle.plan.proofs.WeighLemmas.{row_same, count_of-negated}
+use Rattle.plan.specs.Operators.{negated_entry}
+use Rattle.plan.proofs.CountLemmas.{row_same, count_of-negated_entry}
 use Rattle.oracle.specs.Evaluation.{HasLargeProductOf}
 use Rattle.oracle.specs.Products.{HasLargePair}
 
@@ -14,11 +14,13 @@ entry_counts : (bag : List Entry) → IsBag bag → (i : ℕ) (e : Entry) → i 
 entry_counts bag is i e l same =
     ap (λ (x : Entry). count_of bag x.row) (sym same) ∙ (count_at bag i e l is.ascending ∙ ap (λ (x : Entry). x.count) same)
 
-pub negated_large : (bag : List Entry) → IsBag bag → Any (λ e. FitsSigned w64 (neg_ℤ e.count) → ⊥) bag → HasLargeCount (map negated bag)
+-- a count without a negative is a bag that is too large
+pub negated_large : (bag : List Entry) → IsBag bag → Any (λ e. FitsSigned w64 (neg_ℤ e.count) → ⊥) bag → HasLargeCount (map negated_entry bag)
 negated_large bag is any =
     let e = any.1 in
-    (e.row, λ fits. any.4 (subst (FitsSigned w64) (count_of-negated bag e.row ∙ ap neg_ℤ (entry_counts bag is any.0 e any.2 any.3)) fits))
+    (e.row, λ fits. any.4 (subst (FitsSigned w64) (count_of-negated_entry bag e.row ∙ ap neg_ℤ (entry_counts bag is any.0 e any.2 any.3)) fits))
 
+-- a product of entries that is too large is one of rows
 pub large_product : (k : ℕ) (left right : List Entry) → IsBag left → IsBag right → HasLargePair k left right → HasLargeProductOf k left right
 large_product k left right one other any =
     let x = any.1 in

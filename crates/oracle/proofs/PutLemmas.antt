@@ -6,13 +6,14 @@ use Rattle.std.proofs.lemmas.List.{take_more, map_more, append-nil, get_or_defau
 use Rattle.std.proofs.lemmas.List.Elements.{filter_more}
 use Rattle.std.proofs.lemmas.List.Sums.{AllPass-from_list_all}
 use Rattle.update.specs.Bags.{Entry}
-use Rattle.oracle.specs.Entries.{entry_of}
+use Rattle.update.specs.Bags.{entry_of}
 
 -- an entry that stands for none
 abbrev pub no_entry : Entry
 no_entry = entry_of [] (pos 0)
 
 module _ {X : Type 0} where
+  -- what holds of all elements holds at a place
   pub passes_at : (p : X → Bool) (xs : List X) (i : ℕ) (d : X) → i < length xs → IsTrue (list_all p xs) → IsTrue (p (get_or xs i d))
   passes_at p xs i d l h = AllPass-from_list_all p xs h i d l
 
@@ -32,6 +33,7 @@ module _ {X : Type 0} where
       let more : filter p (take (i + 1) xs) ≡ filter p (take i xs) ++ cond (p (get_or xs i d)) (get_or xs i d ∷ []) [] = filter_more p xs i d l in
       n ∙ (ap (λ ys. ys ++ get_or xs i d ∷ []) m ∙ (append_assoc old (filter p (take i xs)) (get_or xs i d ∷ []) ∙ ap (λ ys. old ++ ys) (sym (more ∙ ap (λ b. filter p (take i xs) ++ cond b (get_or xs i d ∷ []) []) h))))
 
+  -- the step that passes one over
   pub put_left : (p : X → Bool) (old mid xs : List X) (i : ℕ) (d : X) → i < length xs → p (get_or xs i d) ≡ false → mid ≡ old ++ filter p (take i xs) → mid ≡ old ++ filter p (take (i + 1) xs)
   put_left p old mid xs i d l h m =
       let more : filter p (take (i + 1) xs) ≡ filter p (take i xs) ++ cond (p (get_or xs i d)) (get_or xs i d ∷ []) [] = filter_more p xs i d l in

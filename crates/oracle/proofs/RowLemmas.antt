@@ -9,7 +9,7 @@ use Rattle.std.proofs.lemmas.List.Folds.{Any-from_list_any}
 use Rattle.std.proofs.lemmas.List.Sums.{list_all-from_AllPass}
 use Rattle.update.specs.Bags.{Entry, Alike, IsBag, count_of, same_row}
 use Rattle.update.proofs.BagLemmas.{count_absent, count_at}
-use Rattle.plan.proofs.WeighLemmas.{row_same}
+use Rattle.plan.proofs.CountLemmas.{row_same}
 
 zero_plus : (n : ℤ) → pos 0 +ℤ n ≡ n
 zero_plus n = omega (arith, ints)

@@ -5,10 +5,10 @@ use Rattle.std.specs.List.{filter, list_all}
 use Rattle.update.specs.Bags.{Entry, Alike, HasLargeCount, count_of}
 use Rattle.update.specs.Updates.{as_of}
 use Rattle.update.specs.declared.change.Update.{Update}
-use Rattle.plan.specs.Nodes.{node_at, sources, key_width}
-use Rattle.plan.specs.Ancestors.{is_above, is_input, numbers_below}
-use Rattle.plan.specs.Operators.{given}
-use Rattle.plan.specs.Queries.{query, handed}
+use Rattle.plan.specs.Nodes.{node_at, sources, key_width, is_input}
+use Rattle.plan.specs.Ancestors.{reaches, numbers_below}
+use Rattle.plan.specs.Operators.{operator_output}
+use Rattle.plan.specs.Queries.{query, source_value}
 use Rattle.plan.specs.Widths.{width_of}
 use Rattle.plan.specs.declared.node.Kind.TheVariants.{Count, Distinct, Min, Max}
 use Rattle.plan.specs.declared.node.Node.{Node}
@@ -18,15 +18,15 @@ use Rattle.oracle.specs.Reduced.{HasLargeNumber}
 
 -- what a node has at its ports: the bags of its sources, or, where it is an input, what comes from outside
 abbrev pub ports : List Node → ℕ → List Entry → (ℕ → List Entry) → ℕ → List Entry
-ports p n outside bags port = handed outside bags (slice_get (sources (node_at p n)) port)
+ports p n outside bags port = source_value outside bags (slice_get (sources (node_at p n)) port)
 
 -- what a node gives from these
-abbrev pub given_at : List Node → ℕ → List Entry → (ℕ → List Entry) → List Entry
-given_at p n outside bags = given (key_width p (node_at p n)) (node_at p n) (ports p n outside bags)
+abbrev pub output_at : List Node → ℕ → List Entry → (ℕ → List Entry) → List Entry
+output_at p n outside bags = operator_output (key_width p (node_at p n)) (node_at p n) (ports p n outside bags)
 
 -- the bag of a number in a list of bags
-abbrev pub bag_of : List (List Entry) → ℕ → List Entry
-bag_of bags n = slice_index_or bags n []
+abbrev pub nth_bag : List (List Entry) → ℕ → List Entry
+nth_bag bags n = slice_index_or bags n []
 
 -- of two rows of one key the product of how often they count is no 64-bit number
 abbrev pub HasLargeProductOf : ℕ → List Entry → List Entry → Type 0
@@ -36,24 +36,15 @@ HasLargeProductOf k left right = (row : List ℤ) × (other : List ℤ) × (take
 abbrev pub HasLargeStep : ℕ → Node → (ℕ → List Entry) → Type 0
 HasLargeStep k (Join left right) bags = HasLargeProductOf k (bags 0) (bags 1)
 HasLargeStep k (Reduce Count source) bags = HasLargeNumber k (bags 0)
-HasLargeStep k (Reduce Distinct source) bags = ⊥
-HasLargeStep k (Reduce Min source) bags = ⊥
-HasLargeStep k (Reduce Max source) bags = ⊥
-HasLargeStep k (Input width) bags = ⊥
-HasLargeStep k (Map source items) bags = ⊥
-HasLargeStep k (Filter source test) bags = ⊥
-HasLargeStep k (Concat left right) bags = ⊥
-HasLargeStep k (Negate source) bags = ⊥
-HasLargeStep k (Arrange source key) bags = ⊥
-HasLargeStep k (Output source) bags = ⊥
+HasLargeStep k other bags = ⊥
 
 -- some row counts in what a node gives as often as no 64-bit number says, or one of its steps is too large
 abbrev pub HasLargeAt : List Node → ℕ → List Entry → (ℕ → List Entry) → Type 0
-HasLargeAt p n outside bags = HasLargeCount (given_at p n outside bags) ⊎ HasLargeStep (key_width p (node_at p n)) (node_at p n) (ports p n outside bags)
+HasLargeAt p n outside bags = HasLargeCount (output_at p n outside bags) ⊎ HasLargeStep (key_width p (node_at p n)) (node_at p n) (ports p n outside bags)
 
 -- so it is at a node that stands above node n, or at that node itself
 abbrev pub HasLargeAbove : List Node → (ℕ → List Entry) → ℕ → Type 0
-HasLargeAbove p inputs n = (m : ℕ) × IsTrue (is_above p m n) × HasLargeAt p m (inputs m) (query p inputs)
+HasLargeAbove p inputs n = (m : ℕ) × IsTrue (reaches p m n) × HasLargeAt p m (inputs m) (query p inputs)
 
 -- how many inputs have smaller numbers
 abbrev pub inputs_before : List Node → ℕ → ℕ
@@ -77,5 +68,5 @@ sums_at below p lists t input = as_of below t (list_of p lists input)
 
 -- the bags of the first nodes: their rows have the widths of the nodes, and those above node view are what the query says
 pub record AreBags (p : List Node) (inputs : ℕ → List Entry) (view : ℕ) (bags : List (List Entry)) : Type 0 where
-  pub wide : (m : ℕ) → m < length bags → IsTrue (all_wide (width_of p m) (bag_of bags m))
-  pub found : (m : ℕ) → m < length bags → IsTrue (is_above p m view) → Alike (bag_of bags m) (query p inputs m)
+  pub wide : (m : ℕ) → m < length bags → IsTrue (all_wide (width_of p m) (nth_bag bags m))
+  pub found : (m : ℕ) → m < length bags → IsTrue (reaches p m view) → Alike (nth_bag bags m) (query p inputs m)

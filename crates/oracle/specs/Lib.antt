@@ -3,5 +3,5 @@ pub mod Keys
 pub mod Products
 pub mod Reduced
 pub mod Evaluation
-pub mod Grid
+pub mod JoinClosures
 pub mod Listing

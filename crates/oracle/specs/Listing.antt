@@ -1,4 +1,4 @@
--- How the differences of a view are listed, time by time along a grid.
+-- How the differences of a view are listed, time by time along the join closure.
 use Rattle.std.specs.Prelude.{◌≡◌, ◌⊎◌, ℕ, Bool, List, ◌++◌, map, IsTrue, ◌+ℤ◌, neg_ℤ, FitsSigned, ℤ}
 use Rattle.std.specs.Int.{w64}
 use Rattle.std.specs.List.{AllByRecursion, Contains}
@@ -19,7 +19,7 @@ module _ {T : Type 0} (below : T → T → Bool) where
   abbrev pub HasLargeGap : T → List Entry → List (Update T) → Type 0
   HasLargeGap t wanted us = (row : List ℤ) × (FitsSigned w64 (count_of wanted row +ℤ neg_ℤ (count_of (as_of below t us) row)) → ⊥)
 
-  -- the list goes up to some times of the grid: at these it sums to what is wanted, where they have passed, and it has no
+  -- the list goes up to some times of the closure: at these it sums to what is wanted, where they have passed, and it has no
   -- others
   pub record IsListed (cmp : T → T → Ordering) (frontier : List T) (wanted : T → List Entry) (times : List T) (us : List (Update T)) : Type 0 where
     pub sums : (t : T) → Contains times t → IsTrue (has_passed below frontier t) → Alike (as_of below t us) (wanted t)
@@ -27,8 +27,8 @@ module _ {T : Type 0} (below : T → T → Bool) where
     pub consolidated : IsConsolidated cmp us
 
   -- the list goes on at t: by what is wanted there, less what is listed at or before t
-  abbrev pub GoesOn : T → List Entry → List (Update T) → List (Update T) → Type 0
-  GoesOn t wanted us vs = (gap : List Entry) × IsBag gap × (vs ≡ us ++ map (at_time t) gap) × ((row : List ℤ) → count_of gap row +ℤ count_of (as_of below t us) row ≡ count_of wanted row)
+  abbrev pub ContinuesListing : T → List Entry → List (Update T) → List (Update T) → Type 0
+  ContinuesListing t wanted us vs = (gap : List Entry) × IsBag gap × (vs ≡ us ++ map (at_time t) gap) × ((row : List ℤ) → count_of gap row +ℤ count_of (as_of below t us) row ≡ count_of wanted row)
 
   -- at some passed time the query has too large a number, or what it has more than a list that sums to it at all times before
   abbrev pub HasLargeDifference : List Node → List (List (Update T)) → List T → ℕ → Type 0

@@ -6,20 +6,20 @@ use Rattle.update.specs.Bags.{Entry}
 use Rattle.plan.specs.Reductions.{single, has_key, is_before, sum_of_counts}
 
 -- the row's key, as often
-abbrev pub keyed : ℕ → Entry → Entry
-keyed k e = record { row = take k e.row; count = e.count }
+abbrev pub key_entry : ℕ → Entry → Entry
+key_entry k e = record { row = take k e.row; count = e.count }
 
 -- a row of the row and the number of times that it counts
-abbrev pub numbered : Entry → Entry
-numbered e = single (e.row ++ e.count ∷ [])
+abbrev pub count_entry : Entry → Entry
+count_entry e = single (e.row ++ e.count ∷ [])
 
 -- no row of its key stands before the row
-abbrev pub is_least : ℕ → List Entry → List ℤ → Bool
-is_least k es row = not (list_any (λ e. has_key k (take k row) e && is_before e.row row) es)
+abbrev pub is_least_row : ℕ → List Entry → List ℤ → Bool
+is_least_row k es row = not (list_any (λ e. has_key k (take k row) e && is_before e.row row) es)
 
 -- the row stands before no row of its key
-abbrev pub is_greatest : ℕ → List Entry → List ℤ → Bool
-is_greatest k es row = not (list_any (λ e. has_key k (take k row) e && is_before row e.row) es)
+abbrev pub is_greatest_row : ℕ → List Entry → List ℤ → Bool
+is_greatest_row k es row = not (list_any (λ e. has_key k (take k row) e && is_before row e.row) es)
 
 -- how often the rows of some key count together is no 64-bit number
 abbrev pub HasLargeNumber : ℕ → List Entry → Type 0

@@ -1,16 +1,16 @@
-//! The differences of a view, from the query alone: at each time of the grid that has passed, in order, what the view has
-//! there less what is listed at or before it. The list then sums to the query at the times of the grid, and so at every time
+//! The differences of a view, from the query alone: at each time of the join closure that has passed, in order, what the view has
+//! there less what is listed at or before it. The list then sums to the query at these times, and so at every time
 //! that has passed, since between them neither changes.
 ghost use Rattle.std.specs.Prelude.{◌≡◌, ◌++◌, ◌<◌, ◌⊎◌, map, length, IfOk, IfErr, IsTrue, OnOk};
 ghost use Rattle.plan.specs.Ancestors.{feeds};
 ghost use Rattle.plan.specs.Changes.{AreDifferences, open_for, query_at};
-ghost use Rattle.oracle.specs.Entries.{IsRefusal};
+ghost use Rattle.update.specs.Refusals.{IsMemoryOrOverflow};
 ghost use Rattle.oracle.specs.Evaluation.{AreWide, HasLargeAbove, list_of, sums_at};
-ghost use Rattle.oracle.specs.Grid.{IsGrid};
-ghost use Rattle.oracle.specs.Listing.{GoesOn, HasLargeDifference, HasLargeGap, IsListed};
+ghost use Rattle.oracle.specs.JoinClosures.{IsJoinClosure};
+ghost use Rattle.oracle.specs.Listing.{ContinuesListing, HasLargeDifference, HasLargeGap, IsListed};
 
 use crate::evaluation::{evaluate, inputs_before};
-use crate::grid::grid;
+use crate::join_closure::join_closure;
 use crate::listing::{gap, push_at};
 use antichain::{Antichain, is_beyond};
 use lattice::Lattice;
@@ -29,24 +29,13 @@ fn frontier_of<'a, T: Lattice>(plan: &Plan, frontiers: &'a [Antichain<T>], id: N
     }
 }
 
-// Adds the elements of a frontier.
-fn push_all<T: Lattice>(times: &mut Vec<T>, frontier: &[T]) -> Result<(), Refusal>
-    ensures pushed { OnOk result (times.new.items ≡ times.old.items ++ frontier.now) }
-    ensures refused { IfErr result (λ refused. refused ≡ Refusal.OutOfMemory) }
-{
-    for t in frontier {
-        times.push(*t)?;
-    }
-    Ok(())
-}
-
 // Whether the node is an input that feeds the view.
 fn feeds(plan: &Plan, id: NodeId, view: NodeId) -> bool
     requires inside { id < length plan.now }
     requires view { view < length plan.now }
     ensures { result ≡ feeds plan.now id view }
 {
-    plan.node(id).is_input() && plan.is_above(id, view)
+    plan.node(id).is_input() && plan.reaches(id, view)
 }
 
 // What is open for the view: the elements of the frontiers of all inputs that feed it.
@@ -64,7 +53,7 @@ fn open_for<T: Lattice>(
     let mut times = Vec::new(alloc);
     for n in 0..plan.len() {
         if feeds(plan, NodeId::new(n), view) {
-            push_all(&mut times, frontier_of(plan, frontiers, NodeId::new(n)))?;
+            times.extend_from_slice(frontier_of(plan, frontiers, NodeId::new(n)))?;
         }
     }
     Ok(times)
@@ -82,12 +71,12 @@ fn list_at<T: Lattice>(
     requires view { view < length plan.now }
     requires lists { AreWide plan.now (map (λ v. v.items) changes.now) }
     ensures goes_on { OnOk result
-        (GoesOn T.below t
+        (ContinuesListing T.below t
         (query_at T.below plan.now
         (list_of plan.now
         (map (λ v. v.items) changes.now)) view t) listed.old.items listed.new.items) }
     ensures refused { IfErr result
-        (IsRefusal (HasLargeAbove plan.now
+        (IsMemoryOrOverflow (HasLargeAbove plan.now
         (sums_at T.below plan.now (map (λ v. v.items) changes.now) t) view
         ⊎ HasLargeGap T.below t
         (query_at T.below plan.now
@@ -98,29 +87,30 @@ fn list_at<T: Lattice>(
     push_at(listed, &gap, t)
 }
 
-// Lists what changes at each time of the grid that has passed.
+// Lists what changes at each time of the join closure that has passed.
 fn along<T: Lattice>(
     alloc: Global,
     plan: &Plan,
     view: NodeId,
     changes: &[Vec<Update<T>>],
     frontier: &[T],
-    grid: &[T],
+    join_closure: &[T],
 ) -> Result<Vec<Update<T>>, Refusal>
     requires view { view < length plan.now }
     requires lists { AreWide plan.now (map (λ v. v.items) changes.now) }
-    requires grid { IsGrid T.cmp T.joined (map (λ v. v.items) changes.now) grid.now }
+    requires join_closure { IsJoinClosure T.cmp T.joined
+        (map (λ v. v.items) changes.now) join_closure.now }
     ensures listed { IfOk result
         (λ listed. IsListed T.below T.cmp frontier.now
         (query_at T.below plan.now
-        (list_of plan.now (map (λ v. v.items) changes.now)) view) grid.now listed.items) }
+        (list_of plan.now (map (λ v. v.items) changes.now)) view) join_closure.now listed.items) }
     ensures refused { IfErr result
-        (IsRefusal (HasLargeDifference T.below plan.now
+        (IsMemoryOrOverflow (HasLargeDifference T.below plan.now
         (map (λ v. v.items) changes.now) frontier.now view)) }
 {
-    let _count = plan.len();
+    plan.known();
     let mut listed = Vec::new(alloc);
-    for t in grid {
+    for t in join_closure {
         if !is_beyond(frontier, t) {
             list_at(alloc, plan, view, changes, *t, &mut listed)?;
         }
@@ -140,7 +130,7 @@ fn along<T: Lattice>(
 /// | `Overflow` | at a passed time the query is refused so, or the difference of some row is no 64-bit number |
 /// | `OutOfMemory` | an allocation was refused |
 ///
-/// Cost: a query for each time of the grid, which has the times of all changes and all joins of them, and each time a sort
+/// Cost: a query for each time of the join closure, which has the times of all changes and all joins of them, and each time a sort
 /// of what is listed before it.
 pub fn differences<T: Lattice>(
     alloc: Global,
@@ -156,11 +146,11 @@ pub fn differences<T: Lattice>(
         (list_of plan.now (map (λ v. v.items) changes.now))
         (open_for T.below plan.now (list_of plan.now frontiers.now) view) view listed.items) }
     ensures refused { IfErr result
-        (IsRefusal (HasLargeDifference T.below plan.now (map (λ v. v.items) changes.now)
+        (IsMemoryOrOverflow (HasLargeDifference T.below plan.now (map (λ v. v.items) changes.now)
         (open_for T.below plan.now (list_of plan.now frontiers.now) view) view)) }
 {
-    let _count = plan.len();
+    plan.known();
     let frontier = open_for(alloc, plan, view, frontiers)?;
-    let grid = grid(alloc, changes)?;
-    along(alloc, plan, view, changes, &frontier, &grid)
+    let join_closure = join_closure(alloc, changes)?;
+    along(alloc, plan, view, changes, &frontier, &join_closure)
 }

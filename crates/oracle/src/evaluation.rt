@@ -4,19 +4,19 @@
 ghost use Rattle.std.specs.Prelude.{◌≡◌, ◌≤◌, ◌<◌, ◌↔◌, eqb, map, length, IfOk, IfErr, IsTrue};
 ghost use Rattle.std.specs.List.{list_all};
 ghost use Rattle.update.specs.Bags.{Alike, IsBag};
-ghost use Rattle.plan.specs.Ancestors.{is_above};
+ghost use Rattle.plan.specs.Ancestors.{reaches};
 ghost use Rattle.plan.specs.Changes.{query_at};
 ghost use Rattle.plan.specs.Queries.{query};
 ghost use Rattle.plan.specs.Widths.{width_of};
-ghost use Rattle.oracle.specs.Entries.{all_wide, IsRefusal};
+ghost use Rattle.oracle.specs.Entries.{all_wide};
+ghost use Rattle.update.specs.Refusals.{IsMemoryOrOverflow};
 ghost use Rattle.oracle.specs.Evaluation.{AreBags, AreWide, HasLargeAbove, inputs_before, is_wide_at, list_of, sums_at};
 
-use crate::entries::added_up;
 use crate::node::of_node;
 use lattice::Lattice;
 use plan::{NodeId, Plan};
 use std::alloc::Global;
-use update::{Bag, Refusal, Update};
+use update::{Bag, Entries, Refusal, Update};
 
 /// How many inputs have smaller numbers: the place of an input's list where each input has its own, in the order of their
 /// numbers. Linear in the nodes before it.
@@ -99,18 +99,18 @@ fn next_bag<T: Lattice>(
         (sums_at T.below plan.now (map (λ v. v.items) changes.now) t) view bags.now }
     ensures wide { IfOk result
         (λ out. IsTrue (all_wide (width_of plan.now (length bags.now)) out)) }
-    ensures query { IfOk result (λ out. IsTrue (is_above plan.now (length bags.now) view)
+    ensures query { IfOk result (λ out. IsTrue (reaches plan.now (length bags.now) view)
         → Alike out (query plan.now (sums_at T.below plan.now (map (λ v. v.items) changes.now) t)
         (length bags.now))) }
     ensures bag { IfOk result IsBag }
     ensures refused { IfErr result
-        (IsRefusal (HasLargeAbove plan.now
+        (IsMemoryOrOverflow (HasLargeAbove plan.now
         (sums_at T.below plan.now (map (λ v. v.items) changes.now) t) view)) }
 {
-    let _count = plan.len();
+    plan.known();
     let id = NodeId::new(bags.len());
-    if !plan.is_above(id, view) {
-        return added_up(alloc, &[]);
+    if !plan.reaches(id, view) {
+        return Entries::new(alloc).into_bag();
     }
     of_node(alloc, plan, id, list_of(plan, changes, id), t, bags)
 }
@@ -130,7 +130,7 @@ fn bags_before<T: Lattice>(
         (sums_at T.below plan.now (map (λ v. v.items) changes.now) t) view bags.items) }
     ensures count { IfOk result (λ bags. length bags.items ≡ view) }
     ensures refused { IfErr result
-        (IsRefusal (HasLargeAbove plan.now
+        (IsMemoryOrOverflow (HasLargeAbove plan.now
         (sums_at T.below plan.now (map (λ v. v.items) changes.now) t) view)) }
 {
     let mut bags = Vec::new(alloc);
@@ -166,10 +166,10 @@ pub fn evaluate<T: Lattice>(
         (query_at T.below plan.now (list_of plan.now (map (λ v. v.items) changes.now)) view t)) }
     ensures bag { IfOk result IsBag }
     ensures refused { IfErr result
-        (IsRefusal (HasLargeAbove plan.now
+        (IsMemoryOrOverflow (HasLargeAbove plan.now
         (sums_at T.below plan.now (map (λ v. v.items) changes.now) t) view)) }
 {
-    let _count = plan.len();
+    plan.known();
     let bags = bags_before(alloc, plan, view, changes, t)?;
     next_bag(alloc, plan, view, changes, t, &bags)
 }

@@ -3,16 +3,17 @@
 ghost use Rattle.std.specs.Prelude.{◌≡◌, ◌≤◌, ◌+◌, ◌-◌, ◌++◌, ◌*ℤ◌, map, take, length, nat_le, IfErr, OnOk, IsTrue, FitsSigned};
 ghost use Rattle.std.specs.Int.{w64};
 ghost use Rattle.std.specs.List.{filter, list_all};
-ghost use Rattle.plan.specs.Operators.{paired, joined};
+ghost use Rattle.plan.specs.Operators.{joined_entry, join_output};
 ghost use Rattle.plan.specs.Reductions.{has_key};
-ghost use Rattle.oracle.specs.Entries.{entries_of, entry_of, IsRefusal};
+ghost use Rattle.update.specs.Bags.{entry_of};
+ghost use Rattle.update.specs.Refusals.{IsMemoryOrOverflow};
 ghost use Rattle.oracle.specs.Keys.{have_keys};
 ghost use Rattle.oracle.specs.Products.{HasLargeProduct, HasLargePair};
 
-use crate::entries::{Entries, count_at, put, row_at};
+use crate::entries::{count_at, row_at};
 use crate::keys::key_range;
 use row::Row;
-use update::{Bag, Refusal, Weight};
+use update::{Bag, Entries, Refusal, Weight};
 
 // Adds the pairs of one row with the rows of its key.
 fn put_pairs(
@@ -26,18 +27,18 @@ fn put_pairs(
     requires keys { IsTrue (have_keys k right.now) }
     requires room { IsTrue
         (list_all (λ y. nat_le (length row.now + (length y.row - k)) 8) right.now) }
-    ensures pairs { OnOk result (entries_of entries.new.items ≡ entries_of entries.old.items
-        ++ map (paired k (entry_of row.now count))
+    ensures pairs { OnOk result (entries.new ≡ entries.old
+        ++ map (joined_entry k (entry_of row.now count))
         (filter (has_key k (take k row.now)) right.now)) }
     ensures refused { IfErr result
-        (IsRefusal (HasLargeProduct k (entry_of row.now count) right.now)) }
+        (IsMemoryOrOverflow (HasLargeProduct k (entry_of row.now count) right.now)) }
 {
     let (from, to) = key_range(right, row, k);
     for j in from..to {
         let Some(product) = count.times(count_at(right, j)) else {
             return Err(Refusal::Overflow);
         };
-        put(entries, row.followed_by(row_at(right, j).rest(k)), product)?;
+        entries.push(row.followed_by(row_at(right, j).rest(k)), product)?;
     }
     Ok(())
 }
@@ -57,10 +58,8 @@ pub(crate) fn put_joined(
     requires room { IsTrue
         (list_all (λ x. list_all
         (λ y. nat_le (length x.row + (length y.row - k)) 8) right.now) left.now) }
-    ensures joined { OnOk result
-        (entries_of entries.new.items
-        ≡ entries_of entries.old.items ++ joined k left.now right.now) }
-    ensures refused { IfErr result (IsRefusal (HasLargePair k left.now right.now)) }
+    ensures joined { OnOk result (entries.new ≡ entries.old ++ join_output k left.now right.now) }
+    ensures refused { IfErr result (IsMemoryOrOverflow (HasLargePair k left.now right.now)) }
 {
     for i in 0..left.len() {
         put_pairs(entries, row_at(left, i), count_at(left, i), right, k)?;

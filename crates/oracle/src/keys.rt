@@ -19,7 +19,7 @@ pub(crate) fn key_at(bag: &Bag, i: usize, k: usize) -> &[i64]
     ensures few { k ≤ 8 }
 {
     let row = row_at(bag, i);
-    let _width = row.width();
+    row.known();
     row.key(k)
 }
 

@@ -1,6 +1,6 @@
-//! What the definitions here mean for whoever calls. The function does nothing: its clause is cited for what it promises.
+//! What the definitions here mean for a caller. The function does nothing: its clause is cited for what it promises.
 ghost use Rattle.std.specs.Prelude.{◌≡◌, ◌<◌, ℕ, List, [], length, slice_index, slice_index_or};
-ghost use Rattle.plan.specs.Ancestors.{is_input};
+ghost use Rattle.plan.specs.Nodes.{is_input};
 ghost use Rattle.plan.specs.Edges.{numbers_where};
 ghost use Rattle.plan.specs.declared.node.Node.{Node};
 ghost use Rattle.oracle.specs.Evaluation.{list_of};

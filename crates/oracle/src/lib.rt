@@ -16,8 +16,8 @@
 mod difference;
 mod entries;
 mod evaluation;
-mod grid;
 mod join;
+mod join_closure;
 mod keys;
 mod laws;
 mod linear;

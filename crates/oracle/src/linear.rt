@@ -2,20 +2,18 @@
 ghost use Rattle.std.specs.Prelude.{◌≡◌, ◌≤◌, ◌++◌, map, length, IfErr, OnOk, IsTrue, FitsSigned, neg_ℤ};
 ghost use Rattle.std.specs.Int.{w64};
 ghost use Rattle.std.specs.List.{filter, list_all, Any};
-ghost use Rattle.row.specs.Projection.{is_within};
-ghost use Rattle.row.specs.Testing.{passes};
-ghost use Rattle.plan.specs.Operators.{mapped, negated};
-ghost use Rattle.plan.specs.Rules.{is_test_within};
-ghost use Rattle.oracle.specs.Entries.{entries_of, IsRefusal};
+ghost use Rattle.row.specs.Projection.{are_within};
+ghost use Rattle.row.specs.Testing.{passes, is_test_within};
+ghost use Rattle.plan.specs.Operators.{mapped_entry, negated_entry};
+ghost use Rattle.update.specs.Refusals.{IsMemoryOrOverflow};
 
-use crate::entries::{Entries, count_at, put, put_entry, row_at};
+use crate::entries::{count_at, put_entry, row_at};
 use row::{Item, Test, holds, project};
-use update::{Bag, Refusal, Weight};
+use update::{Bag, Entries, Refusal, Weight};
 
 /// Adds the entries of the bag.
 pub(crate) fn put_all(entries: &mut Entries, bag: &Bag) -> Result<(), Refusal>
-    ensures all { OnOk result
-        (entries_of entries.new.items ≡ entries_of entries.old.items ++ bag.now) }
+    ensures all { OnOk result (entries.new ≡ entries.old ++ bag.now) }
     ensures refused { IfErr result (λ refused. refused ≡ Refusal.OutOfMemory) }
 {
     for i in 0..bag.len() {
@@ -28,16 +26,14 @@ pub(crate) fn put_all(entries: &mut Entries, bag: &Bag) -> Result<(), Refusal>
 pub(crate) fn put_images(entries: &mut Entries, bag: &Bag, items: &[Item]) -> Result<(), Refusal>
     requires some { 1 ≤ length items.now }
     requires few { length items.now ≤ 8 }
-    requires within { IsTrue
-        (list_all (λ e. list_all (λ item. is_within item (length e.row)) items.now) bag.now) }
+    requires within { IsTrue (list_all (λ e. are_within items.now (length e.row)) bag.now) }
     ensures images { OnOk result
-        (entries_of entries.new.items
-        ≡ entries_of entries.old.items ++ map (mapped items.now) bag.now) }
+        (entries.new ≡ entries.old ++ map (mapped_entry items.now) bag.now) }
     ensures refused { IfErr result (λ refused. refused ≡ Refusal.OutOfMemory) }
 {
     for i in 0..bag.len() {
         let image = project(row_at(bag, i), items);
-        put(entries, image, count_at(bag, i))?;
+        entries.push(image, count_at(bag, i))?;
     }
     Ok(())
 }
@@ -46,8 +42,7 @@ pub(crate) fn put_images(entries: &mut Entries, bag: &Bag, items: &[Item]) -> Re
 pub(crate) fn put_passing(entries: &mut Entries, bag: &Bag, test: &Test) -> Result<(), Refusal>
     requires within { IsTrue (list_all (λ e. is_test_within test.now (length e.row)) bag.now) }
     ensures passing { OnOk result
-        (entries_of entries.new.items
-        ≡ entries_of entries.old.items ++ filter (λ e. passes test.now e.row) bag.now) }
+        (entries.new ≡ entries.old ++ filter (λ e. passes test.now e.row) bag.now) }
     ensures refused { IfErr result (λ refused. refused ≡ Refusal.OutOfMemory) }
 {
     for i in 0..bag.len() {
@@ -60,16 +55,15 @@ pub(crate) fn put_passing(entries: &mut Entries, bag: &Bag, test: &Test) -> Resu
 
 /// Adds each row with the other sign. [`Refusal::Overflow`] only where some count is the least of 64 bits.
 pub(crate) fn put_opposites(entries: &mut Entries, bag: &Bag) -> Result<(), Refusal>
-    ensures opposites { OnOk result
-        (entries_of entries.new.items ≡ entries_of entries.old.items ++ map negated bag.now) }
+    ensures opposites { OnOk result (entries.new ≡ entries.old ++ map negated_entry bag.now) }
     ensures refused { IfErr result
-        (IsRefusal (Any (λ e. FitsSigned w64 (neg_ℤ e.count) → ⊥) bag.now)) }
+        (IsMemoryOrOverflow (Any (λ e. FitsSigned w64 (neg_ℤ e.count) → ⊥) bag.now)) }
 {
     for i in 0..bag.len() {
         let Some(count) = count_at(bag, i).negate() else {
             return Err(Refusal::Overflow);
         };
-        put(entries, row_at(bag, i).copy(), count)?;
+        entries.push(row_at(bag, i).copy(), count)?;
     }
     Ok(())
 }

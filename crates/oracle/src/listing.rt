@@ -2,14 +2,14 @@
 ghost use Rattle.std.specs.Prelude.{◌≡◌, ◌++◌, ◌+ℤ◌, ℤ, List, cond, map, pos, IfOk, IfErr, OnOk};
 ghost use Rattle.update.specs.Bags.{IsBag, count_of, same_row};
 ghost use Rattle.update.specs.Updates.{as_of};
-ghost use Rattle.oracle.specs.Entries.{entries_of, IsRefusal};
+ghost use Rattle.update.specs.Refusals.{IsMemoryOrOverflow};
 ghost use Rattle.oracle.specs.Listing.{at_time, HasLargeGap};
 
-use crate::entries::{Entries, added_up, count_at, put, row_at};
+use crate::entries::{count_at, row_at};
 use crate::linear::put_all;
 use lattice::Lattice;
 use std::alloc::Global;
-use update::{Bag, Refusal, Update};
+use update::{Bag, Entries, Refusal, Update};
 
 // One less than the opposite, which is a number of 64 bits whatever the count.
 fn before_opposite(count: i64) -> i64
@@ -21,22 +21,22 @@ fn before_opposite(count: i64) -> i64
 // Takes the update off. In two entries, since the opposite of the least number is none of 64 bits.
 fn put_off<T: Lattice>(entries: &mut Entries, update: &Update<T>) -> Result<(), Refusal>
     ensures counts { OnOk result ((r : List ℤ)
-        → count_of (entries_of entries.new.items) r +ℤ
+        → count_of entries.new r +ℤ
         (cond (same_row update.now.row r) update.now.diff (pos 0))
-        ≡ count_of (entries_of entries.old.items) r) }
+        ≡ count_of entries.old r) }
     ensures refused { IfErr result (λ refused. refused ≡ Refusal.OutOfMemory) }
 {
     let diff = update.diff;
-    put(entries, update.row.copy(), before_opposite(diff))?;
-    put(entries, update.row.copy(), 1)?;
+    entries.push(update.row.copy(), before_opposite(diff))?;
+    entries.push(update.row.copy(), 1)?;
     Ok(())
 }
 
 // Takes off what is listed at or before `t`.
 fn put_listed<T: Lattice>(entries: &mut Entries, listed: &[Update<T>], t: T) -> Result<(), Refusal>
     ensures counts { OnOk result ((r : List ℤ)
-        → count_of (entries_of entries.new.items) r +ℤ count_of (as_of T.below t listed.now) r
-        ≡ count_of (entries_of entries.old.items) r) }
+        → count_of entries.new r +ℤ count_of (as_of T.below t listed.now) r
+        ≡ count_of entries.old r) }
     ensures refused { IfErr result (λ refused. refused ≡ Refusal.OutOfMemory) }
 {
     for update in listed {
@@ -60,12 +60,12 @@ pub(crate) fn gap<T: Lattice>(
     ensures gap { IfOk result (λ gap. (r : List ℤ)
         → count_of gap r +ℤ count_of (as_of T.below t listed.now) r ≡ count_of bag.now r) }
     ensures bag { IfOk result IsBag }
-    ensures refused { IfErr result (IsRefusal (HasLargeGap T.below t bag.now listed.now)) }
+    ensures refused { IfErr result (IsMemoryOrOverflow (HasLargeGap T.below t bag.now listed.now)) }
 {
-    let mut entries = Vec::new(alloc);
+    let mut entries = Entries::new(alloc);
     put_all(&mut entries, bag)?;
     put_listed(&mut entries, listed, t)?;
-    added_up(alloc, &entries)
+    entries.into_bag()
 }
 
 /// Adds the entries of the bag, as changes at `t`. Refused only for want of memory.

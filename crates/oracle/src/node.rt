@@ -4,8 +4,9 @@ ghost use Rattle.std.specs.Prelude.{◌≡◌, ◌≤◌, ◌<◌, ℕ, length, 
 ghost use Rattle.update.specs.Bags.{Alike, IsBag};
 ghost use Rattle.update.specs.Updates.{as_of};
 ghost use Rattle.plan.specs.Widths.{width_of};
-ghost use Rattle.oracle.specs.Entries.{all_wide, IsRefusal};
-ghost use Rattle.oracle.specs.Evaluation.{bag_of, given_at, HasLargeAt};
+ghost use Rattle.oracle.specs.Entries.{all_wide};
+ghost use Rattle.update.specs.Refusals.{IsMemoryOrOverflow};
+ghost use Rattle.oracle.specs.Evaluation.{nth_bag, output_at, HasLargeAt};
 
 use crate::operators::{joined, mapped, opposite, passing, together};
 use crate::reductions::reduced;
@@ -17,7 +18,7 @@ use update::{Bag, Refusal, Update, sum_at};
 // The bag of a node.
 fn bag_at(bags: &[Bag], id: NodeId) -> &Bag
     requires { id < length bags.now }
-    ensures { result.now ≡ bag_of bags.now id }
+    ensures { result.now ≡ nth_bag bags.now id }
 {
     &bags[id.number()]
 }
@@ -28,7 +29,7 @@ fn copied(bag: &Bag) -> Result<Bag, Refusal>
     ensures bag { IfOk result IsBag }
     ensures refused { IfErr result (λ refused. refused ≡ Refusal.OutOfMemory) }
 {
-    let _bag = bag.len();
+    bag.known();
     Ok(bag.clone()?)
 }
 
@@ -46,14 +47,15 @@ pub(crate) fn of_node<T: Lattice>(
 ) -> Result<Bag, Refusal>
     requires inside { id < length plan.now }
     requires bags { id ≤ length bags.now }
-    requires wide { (m : ℕ) → m < id → IsTrue (all_wide (width_of plan.now m) (bag_of bags.now m)) }
+    requires wide { (m : ℕ) → m < id
+        → IsTrue (all_wide (width_of plan.now m) (nth_bag bags.now m)) }
     ensures given { IfOk result
-        (λ out. Alike out (given_at plan.now id (as_of T.below t own.now) (bag_of bags.now))) }
+        (λ out. Alike out (output_at plan.now id (as_of T.below t own.now) (nth_bag bags.now))) }
     ensures bag { IfOk result IsBag }
     ensures refused { IfErr result
-        (IsRefusal (HasLargeAt plan.now id (as_of T.below t own.now) (bag_of bags.now))) }
+        (IsMemoryOrOverflow (HasLargeAt plan.now id (as_of T.below t own.now) (nth_bag bags.now))) }
 {
-    let _count = plan.len();
+    plan.known();
     let k = plan.key_width(id);
     match plan.node(id) {
         Node::Input { .. } => sum_at(alloc, own, t),

@@ -5,7 +5,7 @@ use Rattle.std.specs.List.{filter, list_any}
 use Rattle.std.specs.Ordering.{int_eq}
 use Rattle.std.proofs.lemmas.Bool.{true≢false, false_from_ne_true}
 use Rattle.update.specs.Bags.{Entry, count_of, same_row}
-use Rattle.plan.specs.Reductions.{single, is_present, present, is_before, sum_of_counts, counted, reduced}
+use Rattle.plan.specs.Reductions.{single, is_present, present, is_before, sum_of_counts, count_answer, reduction_answer}
 use Rattle.plan.specs.declared.node.Kind.{Kind}
 use Rattle.plan.specs.declared.node.Kind.TheVariants.{Count, Distinct, Min, Max}
 use Rattle.plan.proofs.ReductionLemmas.{any_at, any_none}
@@ -62,18 +62,21 @@ module _ (beats : List ℤ → List ℤ → Bool) where
 
 -- ---- each kind
 
-pub distinct_answered : (key : List ℤ) (entries : List Entry) (row : List ℤ) → count_of (reduced Distinct key entries) row ≡ cond (is_present entries row) (pos 1) (pos 0)
+-- what distinct answers for a row, from its count alone
+pub distinct_answered : (key : List ℤ) (entries : List Entry) (row : List ℤ) → count_of (reduction_answer Distinct key entries) row ≡ cond (is_present entries row) (pos 1) (pos 0)
 distinct_answered key entries row = count_present entries row
 
-pub least_answered : (key : List ℤ) (entries : List Entry) (row : List ℤ) → (count_of (reduced Min key entries) row ≡ pos 1)
+-- min answers the row exactly if no present row stands before it
+pub least_answered : (key : List ℤ) (entries : List Entry) (row : List ℤ) → (count_of (reduction_answer Min key entries) row ≡ pos 1)
     ↔ (IsTrue (is_present entries row) × ((other : List ℤ) → IsTrue (is_present entries other) → is_before other row ≡ false))
 least_answered key entries row = unbeaten_answered is_before entries row
 
-pub greatest_answered : (key : List ℤ) (entries : List Entry) (row : List ℤ) → (count_of (reduced Max key entries) row ≡ pos 1)
+-- max answers the row exactly if it stands before no present row
+pub greatest_answered : (key : List ℤ) (entries : List Entry) (row : List ℤ) → (count_of (reduction_answer Max key entries) row ≡ pos 1)
     ↔ (IsTrue (is_present entries row) × ((other : List ℤ) → IsTrue (is_present entries other) → is_before row other ≡ false))
 greatest_answered key entries row = unbeaten_answered (λ other row. is_before row other) entries row
 
-counted_once : (key row : List ℤ) (n : ℤ) → (count_of (counted key n) row ≡ pos 0) ⊎ (count_of (counted key n) row ≡ pos 1)
+counted_once : (key row : List ℤ) (n : ℤ) → (count_of (count_answer key n) row ≡ pos 0) ⊎ (count_of (count_answer key n) row ≡ pos 1)
 counted_once key row n =
     elim (int_eq n (pos 0)) as (λ b. (count_of (cond b [] (single (key ++ n ∷ []) ∷ [])) row ≡ pos 0) ⊎ (count_of (cond b [] (single (key ++ n ∷ []) ∷ [])) row ≡ pos 1)) [
       | true ↦ inl refl
@@ -85,7 +88,7 @@ counted_once key row n =
     one_row false e = inl (rw e refl)
 
 -- no row is answered more than once
-pub answered_once : (kind : Kind) (key : List ℤ) (entries : List Entry) (row : List ℤ) → (count_of (reduced kind key entries) row ≡ pos 0) ⊎ (count_of (reduced kind key entries) row ≡ pos 1)
+pub answered_once : (kind : Kind) (key : List ℤ) (entries : List Entry) (row : List ℤ) → (count_of (reduction_answer kind key entries) row ≡ pos 0) ⊎ (count_of (reduction_answer kind key entries) row ≡ pos 1)
 answered_once Count key entries row = counted_once key row (sum_of_counts entries)
 answered_once Distinct key entries row = zero_or_one (is_present entries row) true (count_of (map single (present entries)) row) (count_present entries row)
 answered_once Min key entries row = unbeaten_once is_before entries row

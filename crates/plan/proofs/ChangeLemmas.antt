@@ -1,4 +1,4 @@
--- The differences of a node are determined by what they sum to, and weights by the differences of reductions.
+-- The differences of a node are determined by what they sum to, and bounds by the differences of reductions.
 use Rattle.std.proofs.Common.{◌≡◌, ℕ, zero, suc, Bool, cond, List, [], ◌∷◌, IsTrue, refl, sym, ◌∙◌, ap}
 use Rattle.std.specs.Prelude.{slice_get}
 use Rattle.std.specs.List.{filter, list_all}
@@ -15,12 +15,13 @@ use Rattle.update.specs.declared.change.Update.{Update}
 use Rattle.update.proofs.UniqueLemmas.{same_totals, same_updates}
 use Rattle.plan.specs.Nodes.{node_at, sources}
 use Rattle.plan.specs.Upward.{found_within}
-use Rattle.plan.specs.Queries.{handed}
+use Rattle.plan.specs.Queries.{source_value}
 use Rattle.plan.specs.Changes.{AreDifferences, has_passed}
-use Rattle.plan.specs.Weights.{load, AreOwn, IsWeight}
+use Rattle.plan.specs.Bounds.{output_bound, AreOwn, IsBound}
 use Rattle.plan.specs.declared.node.Kind.{Kind}
 use Rattle.plan.specs.declared.node.Node.{Node}
-use Rattle.plan.specs.declared.node.Node.TheVariants.{Input, Map, Filter, Concat, Negate, Arrange, Join, Reduce, Output}
+use Rattle.plan.specs.declared.node.Node.TheVariants.{Reduce}
+use Rattle.plan.proofs.BoundLemmas.{own_same_bound}
 
 -- a list all of whose elements pass is its filter
 filter_all : {X : Type 0} (p : X → Bool) (xs : List X) → IsTrue (list_all p xs) → xs ≡ filter p xs
@@ -50,46 +51,36 @@ module _ {T : Type 0} {below : T → T → Bool} (o : PartialOrderLaws below) wh
         alike : (t : T) → IsTrue (has_passed below earlier t) → Alike (as_of below t us) (as_of below t vs)
         alike t h row = d.sums t h row ∙ sym (e.sums t (passed_later earlier later t a h) row)
 
+    -- a view has one list of differences, so any two that are found are the same
     pub differences_one : (frontier : List T) (n : ℕ) (us vs : List (Update T)) → AreDifferences below cmp p changes frontier n us → AreDifferences below cmp p changes frontier n vs → us ≡ vs
     differences_one frontier n us vs d e =
         differences_go_on frontier frontier n us vs (beyond_itself o frontier) d e
         ∙ sym (filter_all (λ u. has_passed below frontier u.time) vs e.passed)
 
-    -- a reduction has one own weight
+    -- a reduction has one own bound
     own_same : (v w : ℕ → ℕ) → AreOwn below cmp p changes v → AreOwn below cmp p changes w → (n source : ℕ) (kind : Kind) → node_at p n ≡ Reduce kind source → v n ≡ w n
     own_same v w a b n source kind e =
         let x = a n source kind e in
         let y = b n source kind e in
         x.2 ∙ ap size (differences_one [] n x.0 y.0 x.1 y.1) ∙ sym y.2
 
--- only a reduction's load is its own
-load_same : (node : Node) (v w : ℕ) (weights : ℕ → ℕ) → ((source : ℕ) (kind : Kind) → node ≡ Reduce kind source → v ≡ w) → load node v weights ≡ load node w weights
-load_same (Input width) v w weights h = refl
-load_same (Map source items) v w weights h = refl
-load_same (Filter source test) v w weights h = refl
-load_same (Concat left right) v w weights h = refl
-load_same (Negate source) v w weights h = refl
-load_same (Arrange source key) v w weights h = refl
-load_same (Join left right) v w weights h = refl
-load_same (Reduce kind source) v w weights h = h source kind refl
-load_same (Output source) v w weights h = refl
-
 module _ (p : List Node) (inputs : ℕ → ℕ) where
-  -- a step of finding weights
+  -- a step of finding bounds
   abbrev loaded : (ℕ → ℕ) → ℕ → Node → (ℕ → ℕ) → ℕ
-  loaded own m node weights = load node (own m) (λ port. handed (inputs m) weights (slice_get (sources node) port))
+  loaded own m node bounds_at = output_bound node (own m) (λ port. source_value (inputs m) bounds_at (slice_get (sources node) port))
 
-  -- weights are the same where reductions have the same
-  weights_within : (v w : ℕ → ℕ) → ((n source : ℕ) (kind : Kind) → node_at p n ≡ Reduce kind source → v n ≡ w n) → (d n : ℕ) → found_within 0 (loaded v) p d n ≡ found_within 0 (loaded w) p d n
-  weights_within v w h zero n = refl
-  weights_within v w h (suc d) n =
-      load_same (node_at p n) (v n) (w n) (λ port. handed (inputs n) (found_within 0 (loaded v) p d) (slice_get (sources (node_at p n)) port)) (h n)
-      ∙ (λ i. loaded w n (node_at p n) (λ m. weights_within v w h d m i))
+  -- bounds are the same where reductions have the same
+  bounds_within : (v w : ℕ → ℕ) → ((n source : ℕ) (kind : Kind) → node_at p n ≡ Reduce kind source → v n ≡ w n) → (d n : ℕ) → found_within 0 (loaded v) p d n ≡ found_within 0 (loaded w) p d n
+  bounds_within v w h zero n = refl
+  bounds_within v w h (suc d) n =
+      own_same_bound (node_at p n) (v n) (w n) (λ port. source_value (inputs n) (found_within 0 (loaded v) p d) (slice_get (sources (node_at p n)) port)) (h n)
+      ∙ (λ i. loaded w n (node_at p n) (λ m. bounds_within v w h d m i))
 
 module _ {T : Type 0} {below : T → T → Bool} {cmp : T → T → Ordering} (o : PartialOrderLaws below) (total : IsTotalOrder cmp) where
-  pub one_weight : (p : List Node) (changes : ℕ → List (Update T)) (n v w : ℕ) → IsWeight below cmp p changes n v → IsWeight below cmp p changes n w → v ≡ w
-  unfolding Rattle.plan.specs.Weights.weight_by
-  one_weight p changes n v w a b =
+  -- a node has one bound at most
+  pub one_bound : (p : List Node) (changes : ℕ → List (Update T)) (n v w : ℕ) → IsBound below cmp p changes n v → IsBound below cmp p changes n w → v ≡ w
+  unfolding Rattle.plan.specs.Bounds.bound_by
+  one_bound p changes n v w a b =
       a.2
-      ∙ weights_within p (λ input. size (changes input)) a.0 b.0 (own_same o total p changes a.0 b.0 a.1 b.1) (suc n) n
+      ∙ bounds_within p (λ input. size (changes input)) a.0 b.0 (own_same o total p changes a.0 b.0 a.1 b.1) (suc n) n
       ∙ sym b.2

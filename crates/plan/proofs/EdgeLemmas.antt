@@ -5,7 +5,7 @@ use Rattle.std.proofs.lemmas.List.{get_or-set_same, get_or-set_other}
 use Rattle.std.proofs.lemmas.List.Elements.{filter-append}
 use Rattle.std.proofs.lemmas.List.Concat.{flat_map-append}
 use Rattle.plan.specs.Nodes.{node_at, sources}
-use Rattle.plan.specs.Ancestors.{is_above, numbers_below}
+use Rattle.plan.specs.Ancestors.{reaches, numbers_below}
 use Rattle.plan.specs.Rules.{IsPlan}
 use Rattle.plan.proofs.UpwardLemmas.{list_any_same}
 use Rattle.plan.proofs.PlanLemmas.{source_smaller}
@@ -13,7 +13,7 @@ use Rattle.plan.proofs.StepLemmas.{above_by_sources}
 use Rattle.plan.specs.Edges.{is_marked, leads_from, ports_of}
 use Rattle.plan.specs.declared.edges.Edge.{Edge}
 use Rattle.plan.specs.declared.node.Node.{Node}
-use Rattle.plan.specs.declared.node.Node.TheVariants.{Input, Map, Filter, Concat, Negate, Arrange, Join, Reduce, Output}
+use Rattle.plan.specs.declared.node.Node.TheVariants.{Concat, Join}
 
 or_false : (b : Bool) → (b || false) ≡ b
 or_false true = refl
@@ -21,23 +21,17 @@ or_false false = refl
 
 -- some source is marked exactly where that of the first or of the second port is
 pub marked_at_ports : (marks : List Bool) (node : Node) → list_any (λ source. get_or marks source false) (sources node) ≡ (is_marked marks (slice_get (sources node) 0) || is_marked marks (slice_get (sources node) 1))
-marked_at_ports marks (Input width) = refl
-marked_at_ports marks (Map source items) = refl
-marked_at_ports marks (Filter source test) = refl
 marked_at_ports marks (Concat left right) = ap (λ b. get_or marks left false || b) (or_false (get_or marks right false))
-marked_at_ports marks (Negate source) = refl
-marked_at_ports marks (Arrange source key) = refl
 marked_at_ports marks (Join left right) = ap (λ b. get_or marks left false || b) (or_false (get_or marks right false))
-marked_at_ports marks (Reduce kind source) = refl
-marked_at_ports marks (Output source) = refl
+marked_at_ports marks node = refl
 
 -- with the mark of node n the marks of the nodes up to it are right
-pub marks_with : (p : List Node) → IsPlan p → (above n : ℕ) (marks : List Bool) → n < length marks → ((m : ℕ) → m < n → get_or marks m false ≡ is_above p above m) → (mark : Bool) → mark ≡ (eqb above n || list_any (λ source. get_or marks source false) (sources (node_at p n))) → (m : ℕ) → m < n + 1 → get_or (slice_set marks n mark) m false ≡ is_above p above m
+pub marks_with : (p : List Node) → IsPlan p → (above n : ℕ) (marks : List Bool) → n < length marks → ((m : ℕ) → m < n → get_or marks m false ≡ reaches p above m) → (mark : Bool) → mark ≡ (eqb above n || list_any (λ source. get_or marks source false) (sources (node_at p n))) → (m : ℕ) → m < n + 1 → get_or (slice_set marks n mark) m false ≡ reaches p above m
 marks_with p plan above n marks l kept mark e m j =
     ⊎_elim
     (λ d. ap (λ k. get_or (slice_set marks n mark) k false) d ∙ get_or-set_same marks n mark false l ∙ e
-    ∙ ap (λ b. eqb above n || b) (list_any_same (λ source. get_or marks source false) (is_above p above) (sources (node_at p n)) (λ port s found. kept s (source_smaller p plan n port s found)))
-    ∙ sym (above_by_sources p plan above n) ∙ ap (is_above p above) (sym d))
+    ∙ ap (λ b. eqb above n || b) (list_any_same (λ source. get_or marks source false) (reaches p above) (sources (node_at p n)) (λ port s found. kept s (source_smaller p plan n port s found)))
+    ∙ sym (above_by_sources p plan above n) ∙ ap (reaches p above) (sym d))
     (λ k. get_or-set_other marks n m mark false (λ d. absurd (omega arith)) ∙ kept m k)
     (eq-or-lt_of_le (omega arith))
 

@@ -3,12 +3,11 @@ use Rattle.std.proofs.Common.{◌≡◌, ℕ, zero, suc, ◌<◌, ◌≤◌, fal
 use Rattle.std.proofs.lemmas.Bool.{and_parts, leb-true, eqb-true}
 use Rattle.std.proofs.lemmas.Option.{same_Some}
 use Rattle.update.specs.declared.refusal.Refusal.TheVariants.{NotArranged, KeyMismatch, BadWidth, BadKey}
-use Rattle.plan.specs.Nodes.{node_at, sources, arranged_by, key_of, key_width}
+use Rattle.plan.specs.Nodes.{node_at, sources, arranged_by, key_of, key_width, is_linear}
 use Rattle.plan.specs.Widths.{width_of, width_from}
-use Rattle.plan.specs.Rules.{IsPlan, is_width, is_arranged, faults, first_refusal}
-use Rattle.plan.specs.Operators.{is_linear}
+use Rattle.plan.specs.Rules.{IsPlan, is_width, is_arranged, node_faults, first_refusal}
 use Rattle.plan.specs.declared.node.Node.{Node}
-use Rattle.plan.specs.declared.node.Node.TheVariants.{Input, Map, Filter, Concat, Negate, Arrange, Join, Reduce, Output}
+use Rattle.plan.specs.declared.node.Node.TheVariants.{Arrange, Join, Reduce}
 use Rattle.plan.proofs.PlanLemmas.{no_first, no_fault}
 use Rattle.plan.proofs.StepLemmas.{width_by_sources}
 use Rattle.plan.proofs.WidthLemmas.{faultless, width_bounds}
@@ -23,20 +22,13 @@ module _ (p : List Node) (plan : IsPlan p) where
   arrange_bounds : (n : ℕ) → n < length p → (node : Node) → node_at p n ≡ node → (key : ℕ) → arranged_by node ≡ Some key → (1 ≤ key) × (key ≤ width_of p n)
   arrange_bounds n l (Arrange source columns) e key a =
       let same : columns ≡ key = same_Some columns key a in
-      let fits = no_fault (nat_le 1 columns && nat_le columns (width_of p source)) (no_first (not (nat_le 1 columns && nat_le columns (width_of p source))) BadKey [] (subst (λ node. first_refusal (faults p node) ≡ None) e (faultless p plan n l))).0 in
+      let fits = no_fault (nat_le 1 columns && nat_le columns (width_of p source)) (no_first (not (nat_le 1 columns && nat_le columns (width_of p source))) BadKey [] (subst (λ node. first_refusal (node_faults p node) ≡ None) e (faultless p plan n l))).0 in
       let parts = and_parts (nat_le 1 columns) (nat_le columns (width_of p source)) fits in
       let least = leb-true 1 columns parts.0 in
       let greatest = leb-true columns (width_of p source) parts.1 in
       let width : width_of p n ≡ width_of p source = width_by_sources p plan n ∙ ap (λ node. width_from (key_width p node) node (width_of p)) e in
       (subst (λ k. 1 ≤ k) same least, subst (λ k. k ≤ width_of p n) same (subst (λ w. columns ≤ w) (sym width) greatest))
-  arrange_bounds n l (Input width) e key a = cc
-  arrange_bounds n l (Map source items) e key a = cc
-  arrange_bounds n l (Filter source test) e key a = cc
-  arrange_bounds n l (Concat left right) e key a = cc
-  arrange_bounds n l (Negate source) e key a = cc
-  arrange_bounds n l (Join left right) e key a = cc
-  arrange_bounds n l (Reduce kind source) e key a = cc
-  arrange_bounds n l (Output source) e key a = cc
+  arrange_bounds n l node e key a = cc
 
   -- an arrange node's key has a column, and no more than its rows have
   pub key_bounds : (n key : ℕ) → n < length p → arranged_by (node_at p n) ≡ Some key → (1 ≤ key) × (key ≤ width_of p n)
@@ -53,11 +45,12 @@ module _ (p : List Node) (plan : IsPlan p) where
           let width_fits = leb-true (width_of p n) 8 (and_parts (nat_le 1 (width_of p n)) (nat_le (width_of p n) 8) (width_bounds p plan n l)).1 in
           omega arith
 
+  -- an arrangement has a key of at least one column
   pub key_some : (n : ℕ) → n < length p → IsTrue (is_arranged p n) → 1 ≤ key_of p n
   key_some n l a = (key_bounds n (key_of p n) l (arranged_by_key (arranged_by (node_at p n)) a)).0
 
   -- the sources of a join or a reduction are arranged by one key
-  sources_of : (node : Node) → first_refusal (faults p node) ≡ None → is_linear node ≡ false → (port s : ℕ) → slice_get (sources node) port ≡ Some s → arranged_by (node_at p s) ≡ Some (key_width p node)
+  sources_of : (node : Node) → first_refusal (node_faults p node) ≡ None → is_linear node ≡ false → (port s : ℕ) → slice_get (sources node) port ≡ Some s → arranged_by (node_at p s) ≡ Some (key_width p node)
   sources_of (Join left right) h k port s e =
       let both = is_arranged p left && is_arranged p right in
       let first = no_first (not both) NotArranged ((not (eqb (key_of p left) (key_of p right)), KeyMismatch) ∷ (not (is_width (width_from (key_of p left) (Join left right) (width_of p))), BadWidth) ∷ []) h in
@@ -77,13 +70,8 @@ module _ (p : List Node) (plan : IsPlan p) where
       at_port : (port : ℕ) → slice_get (sources (Reduce kind source)) port ≡ Some s → arranged_by (node_at p source) ≡ Some (key_of p source) → arranged_by (node_at p s) ≡ Some (key_of p source)
       at_port zero e l = ap (λ m. arranged_by (node_at p m)) (sym (same_Some source s e)) ∙ l
       at_port (suc port) e l = cc
-  sources_of (Input width) h k port s e = cc
-  sources_of (Map source items) h k port s e = cc
-  sources_of (Filter source test) h k port s e = cc
-  sources_of (Concat left right) h k port s e = cc
-  sources_of (Negate source) h k port s e = cc
-  sources_of (Arrange source key) h k port s e = cc
-  sources_of (Output source) h k port s e = cc
+  sources_of node h k port s e = cc
 
+  -- the sources of a join or reduction are arranged by its key
   pub source_arranged : (n port s : ℕ) → n < length p → is_linear (node_at p n) ≡ false → slice_get (sources (node_at p n)) port ≡ Some s → arranged_by (node_at p s) ≡ Some (key_width p (node_at p n))
   source_arranged n port s l k e = sources_of (node_at p n) (faultless p plan n l) k port s e

@@ -1,4 +1,5 @@
 pub mod AnswerLemmas
+pub mod BoundLemmas
 pub mod ChangeLemmas
 pub mod EdgeLemmas
 pub mod FedLemmas
@@ -10,9 +11,10 @@ pub mod ReducerLemmas
 pub mod ReductionLemmas
 pub mod RefusalLemmas
 pub mod SameLemmas
+pub mod SortLemmas
 pub mod StageLemmas
 pub mod StandLemmas
 pub mod StepLemmas
 pub mod UpwardLemmas
-pub mod WeighLemmas
+pub mod CountLemmas
 pub mod WidthLemmas

@@ -6,18 +6,18 @@ use Rattle.std.proofs.lemmas.Int.{ints}
 use Rattle.std.proofs.lemmas.Bool.{true≢false, eqb-true, eqb-false, ne_eqb}
 use Rattle.std.proofs.lemmas.List.{map-append}
 use Rattle.std.proofs.lemmas.List.Elements.{filter-append}
-use Rattle.row.specs.Projection.{projected}
+use Rattle.row.specs.Projection.{projection}
 use Rattle.row.specs.Testing.{passes}
 use Rattle.row.specs.declared.projection.Item.{Item}
 use Rattle.update.specs.Bags.{Entry, Alike, count_of, same_row, total_by}
 use Rattle.update.proofs.SumLemmas.{total_by-same, total_by-add, total_by-append, total_by-map, total_by-filter}
-use Rattle.plan.specs.Nodes.{sources}
+use Rattle.plan.specs.Nodes.{sources, is_linear}
 use Rattle.plan.specs.Ancestors.{numbers_below}
-use Rattle.plan.specs.Reductions.{IsReducer, has_key, reduced}
-use Rattle.plan.specs.Operators.{mapped, negated, paired, joined, reduced_by_key, given, is_linear}
+use Rattle.plan.specs.Reductions.{IsReducer, has_key, reduction_answer}
+use Rattle.plan.specs.Operators.{mapped_entry, negated_entry, joined_entry, join_output, reduction_output, operator_output}
 use Rattle.plan.specs.declared.node.Node.{Node}
-use Rattle.plan.specs.declared.node.Node.TheVariants.{Input, Map, Filter, Concat, Negate, Arrange, Join, Reduce, Output}
-use Rattle.plan.proofs.WeighLemmas.{row_same, times_add, add_times, when_zero, when_add, total_by-when, total_by-flat_map, count_of-append, count_of-negated, count_of-filter, AddsUp, weigh, weigh_alike}
+use Rattle.plan.specs.declared.node.Node.TheVariants.{Input, Map, Filter, Concat, Negate, Join, Reduce}
+use Rattle.plan.proofs.CountLemmas.{row_same, times_add, add_times, when_zero, when_add, total_by-when, total_by-flat_map, count_of-append, count_of-negated_entry, count_of-filter, AddsUp, weigh, weigh_alike}
 use Rattle.plan.proofs.ReductionLemmas.{by_key_at}
 use Rattle.plan.proofs.ReducerLemmas.{all_reduce}
 
@@ -26,13 +26,13 @@ use Rattle.plan.proofs.ReducerLemmas.{all_reduce}
 module _ (items : List Item) (row : List ℤ) where
   -- how much a row's count adds to the count of its image
   abbrev image_value : List ℤ → ℤ → ℤ
-  image_value source n = cond (same_row (projected items source) row) n (pos 0)
+  image_value source n = cond (same_row (projection items source) row) n (pos 0)
 
-  count_of-mapped : (a : List Entry) → count_of (map (mapped items) a) row ≡ weigh image_value a
-  count_of-mapped a = total_by-map (λ e. cond (same_row e.row row) e.count (pos 0)) (mapped items) a
+  count_of-mapped_entry : (a : List Entry) → count_of (map (mapped_entry items) a) row ≡ weigh image_value a
+  count_of-mapped_entry a = total_by-map (λ e. cond (same_row e.row row) e.count (pos 0)) (mapped_entry items) a
 
-  map_alike : (a b : List Entry) → Alike a b → count_of (map (mapped items) a) row ≡ count_of (map (mapped items) b) row
-  map_alike a b h = count_of-mapped a ∙ (weigh_alike image_value (λ source m n. when_add (same_row (projected items source) row) m n) a b h ∙ sym (count_of-mapped b))
+  map_alike : (a b : List Entry) → Alike a b → count_of (map (mapped_entry items) a) row ≡ count_of (map (mapped_entry items) b) row
+  map_alike a b h = count_of-mapped_entry a ∙ (weigh_alike image_value (λ source m n. when_add (same_row (projection items source) row) m n) a b h ∙ sym (count_of-mapped_entry b))
 
 -- ---- joins
 
@@ -53,14 +53,14 @@ module _ (k : ℕ) (row : List ℤ) where
   abbrev left_value : List Entry → List ℤ → ℤ → ℤ
   left_value right left m = weigh (pair_value k row left m) right
 
-  count_of-joined : (left right : List Entry) → count_of (joined k left right) row ≡ weigh (left_value right) left
-  count_of-joined left right =
-      total_by-flat_map (λ e. cond (same_row e.row row) e.count (pos 0)) (λ x. map (paired k x) (filter (has_key k (take k x.row)) right)) left
-      ∙ total_by-same (λ x. count_of (map (paired k x) (filter (has_key k (take k x.row)) right)) row) (λ x. left_value right x.row x.count) left one
+  count_of-join_output : (left right : List Entry) → count_of (join_output k left right) row ≡ weigh (left_value right) left
+  count_of-join_output left right =
+      total_by-flat_map (λ e. cond (same_row e.row row) e.count (pos 0)) (λ x. map (joined_entry k x) (filter (has_key k (take k x.row)) right)) left
+      ∙ total_by-same (λ x. count_of (map (joined_entry k x) (filter (has_key k (take k x.row)) right)) row) (λ x. left_value right x.row x.count) left one
     where
-      one : (x : Entry) → count_of (map (paired k x) (filter (has_key k (take k x.row)) right)) row ≡ left_value right x.row x.count
+      one : (x : Entry) → count_of (map (joined_entry k x) (filter (has_key k (take k x.row)) right)) row ≡ left_value right x.row x.count
       one x =
-          total_by-map (λ e. cond (same_row e.row row) e.count (pos 0)) (paired k x) (filter (has_key k (take k x.row)) right)
+          total_by-map (λ e. cond (same_row e.row row) e.count (pos 0)) (joined_entry k x) (filter (has_key k (take k x.row)) right)
           ∙ total_by-filter (λ y. cond (same_row (x.row ++ drop k y.row) row) (x.count *ℤ y.count) (pos 0)) (has_key k (take k x.row)) right
 
   right_adds : (left : List ℤ) (m : ℤ) → AddsUp (pair_value k row left m)
@@ -80,12 +80,12 @@ module _ (k : ℕ) (row : List ℤ) where
           ∙ (ap (λ v. cond (same_row (take k right) (take k left)) v (pos 0)) (when_add (same_row (left ++ drop k right) row) (m *ℤ p) (n *ℤ p))
           ∙ when_add (same_row (take k right) (take k left)) (cond (same_row (left ++ drop k right) row) (m *ℤ p) (pos 0)) (cond (same_row (left ++ drop k right) row) (n *ℤ p) (pos 0)))
 
-  join_alike : (a b c d : List Entry) → Alike a b → Alike c d → count_of (joined k a c) row ≡ count_of (joined k b d) row
+  join_alike : (a b c d : List Entry) → Alike a b → Alike c d → count_of (join_output k a c) row ≡ count_of (join_output k b d) row
   join_alike a b c d h i =
-      count_of-joined a c
+      count_of-join_output a c
       ∙ (weigh_alike (left_value c) (left_adds c) a b h
       ∙ (total_by-same (λ x. left_value c x.row x.count) (λ x. left_value d x.row x.count) b (λ x. weigh_alike (pair_value k row x.row x.count) (right_adds x.row x.count) c d i)
-      ∙ sym (count_of-joined b d)))
+      ∙ sym (count_of-join_output b d)))
 
   module _ (test : List ℤ → Bool) where
     -- a pair that counts has the row's key on both sides
@@ -109,13 +109,13 @@ module _ (k : ℕ) (row : List ℤ) where
             let own : take k row ≡ take k left = sym (ap (take k) (row_same (left ++ drop k right) row i)) ∙ take_pair k left right key in
             rw (key, own) (twice (test (take k left)) (m *ℤ n))
 
-    join_keyed : (left right : List Entry) → count_of (joined k (filter (λ e. test (take k e.row)) left) (filter (λ e. test (take k e.row)) right)) row ≡ cond (test (take k row)) (count_of (joined k left right) row) (pos 0)
+    join_keyed : (left right : List Entry) → count_of (join_output k (filter (λ e. test (take k e.row)) left) (filter (λ e. test (take k e.row)) right)) row ≡ cond (test (take k row)) (count_of (join_output k left right) row) (pos 0)
     join_keyed left right =
-        count_of-joined (filter (λ e. test (take k e.row)) left) (filter (λ e. test (take k e.row)) right)
+        count_of-join_output (filter (λ e. test (take k e.row)) left) (filter (λ e. test (take k e.row)) right)
         ∙ (total_by-filter (λ x. left_value (filter (λ e. test (take k e.row)) right) x.row x.count) (λ e. test (take k e.row)) left
         ∙ (total_by-same (λ x. cond (test (take k x.row)) (left_value (filter (λ e. test (take k e.row)) right) x.row x.count) (pos 0)) (λ x. cond (test (take k row)) (left_value right x.row x.count) (pos 0)) left inner
         ∙ (total_by-when (test (take k row)) (λ x. left_value right x.row x.count) left
-        ∙ ap (λ v. cond (test (take k row)) v (pos 0)) (sym (count_of-joined left right)))))
+        ∙ ap (λ v. cond (test (take k row)) v (pos 0)) (sym (count_of-join_output left right)))))
       where
         inner : (x : Entry) → cond (test (take k x.row)) (left_value (filter (λ e. test (take k e.row)) right) x.row x.count) (pos 0) ≡ cond (test (take k row)) (left_value right x.row x.count) (pos 0)
         inner x =
@@ -130,7 +130,7 @@ filter_alike : (test : List ℤ → Bool) (a b : List Entry) → Alike a b → A
 filter_alike test a b h row = count_of-filter test a row ∙ (ap (λ n. cond (test row) n (pos 0)) (h row) ∙ sym (count_of-filter test b row))
 
 module _ (k : ℕ) (reduce : List ℤ → List Entry → List Entry) (q : IsReducer k reduce) (row : List ℤ) where
-  reduce_alike : (a b : List Entry) → Alike a b → count_of (reduced_by_key k reduce a) row ≡ count_of (reduced_by_key k reduce b) row
+  reduce_alike : (a b : List Entry) → Alike a b → count_of (reduction_output k reduce a) row ≡ count_of (reduction_output k reduce b) row
   reduce_alike a b h =
       by_key_at k reduce q a row
       ∙ (ap (λ n. cond (nat_le k (length row)) n (pos 0)) (q.alike (take k row) (filter (has_key k (take k row)) a) (filter (has_key k (take k row)) b) (filter_alike (λ r. same_row (take k r) (take k row)) a b h) row)
@@ -164,7 +164,7 @@ module _ (k : ℕ) (reduce : List ℤ → List Entry → List Entry) (q : IsRedu
         step true e = ap (λ c. cond c (count_of a r) (pos 0)) (ap test (row_same (take k r) (take k row) e) ∙ h)
         step false e = refl
 
-    reduce_keyed : count_of (reduced_by_key k reduce passing) row ≡ cond (test (take k row)) (count_of (reduced_by_key k reduce a) row) (pos 0)
+    reduce_keyed : count_of (reduction_output k reduce passing) row ≡ cond (test (take k row)) (count_of (reduction_output k reduce a) row) (pos 0)
     reduce_keyed =
         by_key_at k reduce q passing row
         ∙ (step (test (take k row)) refl
@@ -177,21 +177,18 @@ module _ (k : ℕ) (reduce : List ℤ → List Entry → List Entry) (q : IsRedu
 -- ---- the operator table
 
 -- bags that are alike at each port that the node has, and at the first, give alike bags
-pub given_alike : (k : ℕ) (node : Node) (a b : ℕ → List Entry) → ((port : ℕ) → (port ≡ 0) ⊎ (port < length (sources node)) → Alike (a port) (b port)) → Alike (given k node a) (given k node b)
-given_alike k (Input width) a b h row = h 0 (inl refl) row
+pub given_alike : (k : ℕ) (node : Node) (a b : ℕ → List Entry) → ((port : ℕ) → (port ≡ 0) ⊎ (port < length (sources node)) → Alike (a port) (b port)) → Alike (operator_output k node a) (operator_output k node b)
 given_alike k (Map source items) a b h row = map_alike items row (a 0) (b 0) (h 0 (inl refl))
 given_alike k (Filter source test) a b h row = filter_alike (λ r. passes test r) (a 0) (b 0) (h 0 (inl refl)) row
 given_alike k (Concat left right) a b h row = count_of-append (a 0) (a 1) row ∙ (rw (h 0 (inl refl) row, h 1 (inr (omega arith)) row) refl ∙ sym (count_of-append (b 0) (b 1) row))
-given_alike k (Negate source) a b h row = count_of-negated (a 0) row ∙ (ap neg_ℤ (h 0 (inl refl) row) ∙ sym (count_of-negated (b 0) row))
-given_alike k (Arrange source key) a b h row = h 0 (inl refl) row
+given_alike k (Negate source) a b h row = count_of-negated_entry (a 0) row ∙ (ap neg_ℤ (h 0 (inl refl) row) ∙ sym (count_of-negated_entry (b 0) row))
 given_alike k (Join left right) a b h row = join_alike k row (a 0) (b 0) (a 1) (b 1) (h 0 (inl refl)) (h 1 (inr (omega arith)))
-given_alike k (Reduce kind source) a b h row = reduce_alike k (reduced kind) (all_reduce kind k) row (a 0) (b 0) (h 0 (inl refl))
-given_alike k (Output source) a b h row = h 0 (inl refl) row
+given_alike k (Reduce kind source) a b h row = reduce_alike k (reduction_answer kind) (all_reduce kind k) row (a 0) (b 0) (h 0 (inl refl))
+given_alike k node a b h row = h 0 (inl refl) row
 
 -- linear operators give of two bags together what they give of each, together
-pub given_sum : (k : ℕ) (node : Node) → IsTrue (is_linear node) → (a b : ℕ → List Entry) → Alike (given k node (λ port. a port ++ b port)) (given k node a ++ given k node b)
-given_sum k (Input width) l a b row = refl
-given_sum k (Map source items) l a b row = ap (λ es. count_of es row) (map-append (mapped items) (a 0) (b 0))
+pub given_sum : (k : ℕ) (node : Node) → IsTrue (is_linear node) → (a b : ℕ → List Entry) → Alike (operator_output k node (λ port. a port ++ b port)) (operator_output k node a ++ operator_output k node b)
+given_sum k (Map source items) l a b row = ap (λ es. count_of es row) (map-append (mapped_entry items) (a 0) (b 0))
 given_sum k (Filter source test) l a b row = ap (λ es. count_of es row) (filter-append (λ e. passes test e.row) (a 0) (b 0))
 given_sum k (Concat left right) l a b row =
     count_of-append (a 0 ++ b 0) (a 1 ++ b 1) row
@@ -199,40 +196,28 @@ given_sum k (Concat left right) l a b row =
   where
     swapped : (m n p q : ℤ) → (m +ℤ n) +ℤ (p +ℤ q) ≡ (m +ℤ p) +ℤ (n +ℤ q)
     swapped m n p q = omega (arith, ints)
-given_sum k (Negate source) l a b row = ap (λ es. count_of es row) (map-append negated (a 0) (b 0))
-given_sum k (Arrange source key) l a b row = refl
+given_sum k (Negate source) l a b row = ap (λ es. count_of es row) (map-append negated_entry (a 0) (b 0))
 given_sum k (Join left right) l a b row = absurd (true≢false (sym l))
 given_sum k (Reduce kind source) l a b row = absurd (true≢false (sym l))
-given_sum k (Output source) l a b row = refl
+given_sum k node l a b row = refl
 
-pub given_nothing : (k : ℕ) (node : Node) → Alike (given k node (λ port. [])) []
+-- nothing comes from nothing
+pub given_nothing : (k : ℕ) (node : Node) → Alike (operator_output k node (λ port. [])) []
 given_nothing k (Input width) row = refl
-given_nothing k (Map source items) row = refl
-given_nothing k (Filter source test) row = refl
-given_nothing k (Concat left right) row = refl
-given_nothing k (Negate source) row = refl
-given_nothing k (Arrange source key) row = refl
-given_nothing k (Join left right) row = refl
-given_nothing k (Reduce kind source) row = refl
-given_nothing k (Output source) row = refl
+given_nothing k node row = refl
 
 -- what a keyed operator gives of the rows whose keys pass a test
 module _ (k : ℕ) (test : List ℤ → Bool) (bags : ℕ → List Entry) (row : List ℤ) where
   pub given_keyed : (node : Node) → is_linear node ≡ false
-      → count_of (given k node (λ port. filter (λ e. test (take k e.row)) (bags port))) row ≡ cond (test (take k row)) (count_of (given k node bags) row) (pos 0)
-  given_keyed (Input width) l = absurd (true≢false l)
-  given_keyed (Map source items) l = absurd (true≢false l)
-  given_keyed (Filter source t) l = absurd (true≢false l)
-  given_keyed (Concat left right) l = absurd (true≢false l)
-  given_keyed (Negate source) l = absurd (true≢false l)
-  given_keyed (Arrange source key) l = absurd (true≢false l)
+      → count_of (operator_output k node (λ port. filter (λ e. test (take k e.row)) (bags port))) row ≡ cond (test (take k row)) (count_of (operator_output k node bags) row) (pos 0)
   given_keyed (Join left right) l = join_keyed k row test (bags 0) (bags 1)
-  given_keyed (Reduce kind source) l = reduce_keyed k (reduced kind) (all_reduce kind k) row test (bags 0)
-  given_keyed (Output source) l = absurd (true≢false l)
+  given_keyed (Reduce kind source) l = reduce_keyed k (reduction_answer kind) (all_reduce kind k) row test (bags 0)
+  given_keyed node l = absurd (true≢false l)
 
+-- joins and reductions work on each set of keys by itself
 pub given_parts : (k : ℕ) (node : Node) → is_linear node ≡ false → (test : List ℤ → Bool) (bags : ℕ → List Entry)
-    → Alike (given k node (λ port. filter (λ e. test (take k e.row)) (bags port))) (filter (λ e. test (take k e.row)) (given k node bags))
-given_parts k node l test bags row = given_keyed k test bags row node l ∙ sym (count_of-filter (λ r. test (take k r)) (given k node bags) row)
+    → Alike (operator_output k node (λ port. filter (λ e. test (take k e.row)) (bags port))) (filter (λ e. test (take k e.row)) (operator_output k node bags))
+given_parts k node l test bags row = given_keyed k test bags row node l ∙ sym (count_of-filter (λ r. test (take k r)) (operator_output k node bags) row)
 
 -- ---- workers
 
@@ -256,10 +241,11 @@ module _ (worker : ℕ) (v : ℤ) where
       step true e h = let here = eqb-true worker n e in let none = not_below n (omega (arith, here)) in omega (arith, ints)
       step false e h = let m : worker < n = omega (arith, l, eqb-false worker n e) in let all = h m in omega (arith, ints)
 
+-- so the workers' answers together are the answer to all rows
 pub given_workers : (k : ℕ) (node : Node) → is_linear node ≡ false → (workers : ℕ) (route : List ℤ → ℕ) → ((key : List ℤ) → route key < workers) → (bags : ℕ → List Entry)
-    → Alike (flat_map (λ worker. given k node (λ port. filter (λ e. eqb (route (take k e.row)) worker) (bags port))) (numbers_below workers)) (given k node bags)
+    → Alike (flat_map (λ worker. operator_output k node (λ port. filter (λ e. eqb (route (take k e.row)) worker) (bags port))) (numbers_below workers)) (operator_output k node bags)
 given_workers k node l workers route h bags row =
-    total_by-flat_map (λ e. cond (same_row e.row row) e.count (pos 0)) (λ worker. given k node (λ port. filter (λ e. eqb (route (take k e.row)) worker) (bags port))) (numbers_below workers)
-    ∙ (total_by-same (λ worker. count_of (given k node (λ port. filter (λ e. eqb (route (take k e.row)) worker) (bags port))) row) (λ worker. cond (eqb (route (take k row)) worker) (count_of (given k node bags) row) (pos 0)) (numbers_below workers)
+    total_by-flat_map (λ e. cond (same_row e.row row) e.count (pos 0)) (λ worker. operator_output k node (λ port. filter (λ e. eqb (route (take k e.row)) worker) (bags port))) (numbers_below workers)
+    ∙ (total_by-same (λ worker. count_of (operator_output k node (λ port. filter (λ e. eqb (route (take k e.row)) worker) (bags port))) row) (λ worker. cond (eqb (route (take k row)) worker) (count_of (operator_output k node bags) row) (pos 0)) (numbers_below workers)
     (λ worker. given_keyed k (λ key. eqb (route key) worker) bags row node l)
-    ∙ below (route (take k row)) (count_of (given k node bags) row) workers (h (take k row)))
+    ∙ below (route (take k row)) (count_of (operator_output k node bags) row) workers (h (take k row)))

@@ -7,8 +7,8 @@ use Rattle.std.proofs.lemmas.Option.{unwrap_or-slice_get, slice_get_past, none-s
 use Rattle.std.proofs.Math.Seq.{take-append_seam, get_or-append_seam}
 use Rattle.update.specs.declared.refusal.Refusal.{Refusal}
 use Rattle.update.specs.declared.refusal.Refusal.TheVariants.{TooManyNodes, UnknownName}
-use Rattle.plan.specs.Nodes.{node_at, sources}
-use Rattle.plan.specs.Rules.{is_output, is_readable, faults, first_refusal, refusal_of, IsPlan}
+use Rattle.plan.specs.Nodes.{node_at, sources, is_output}
+use Rattle.plan.specs.Rules.{is_readable, node_faults, first_refusal, node_refusal, IsPlan}
 use Rattle.plan.specs.declared.node.Node.{Node}
 use Rattle.plan.specs.declared.node.Node.TheVariants.{Input}
 use Rattle.plan.proofs.UpwardLemmas.{list_all_port, Smaller}
@@ -17,6 +17,7 @@ use Rattle.plan.proofs.UpwardLemmas.{list_all_port, Smaller}
 pub node_before_more : (p more : List Node) (n : ℕ) → n < length p → node_at (p ++ more) n ≡ node_at p n
 node_before_more p more n l = unwrap_or-slice_get (p ++ more) n (Input 0) ∙ get_or_append_left p more (Input 0) n l ∙ sym (unwrap_or-slice_get p n (Input 0))
 
+-- a node that is added is the last one
 pub node_after : (p : List Node) (node : Node) → node_at (p ++ node ∷ []) (length p) ≡ node
 node_after p node = unwrap_or-slice_get (p ++ node ∷ []) (length p) (Input 0) ∙ get_or-append_seam p node [] (Input 0)
 
@@ -24,17 +25,17 @@ node_after p node = unwrap_or-slice_get (p ++ node ∷ []) (length p) (Input 0) 
 pub node_past : (p : List Node) (n : ℕ) → length p ≤ n → node_at p n ≡ Input 0
 node_past p n l = ap (λ o. unwrap_or o (Input 0)) (slice_get_past p n l)
 
-pub refusal_before_more : (p more : List Node) (n : ℕ) → n < length p → refusal_of (take n (p ++ more)) (node_at (p ++ more) n) ≡ refusal_of (take n p) (node_at p n)
-refusal_before_more p more n l = ap₂ refusal_of (take-append-le n p more (omega arith)) (node_before_more p more n l)
+pub refusal_before_more : (p more : List Node) (n : ℕ) → n < length p → node_refusal (take n (p ++ more)) (node_at (p ++ more) n) ≡ node_refusal (take n p) (node_at p n)
+refusal_before_more p more n l = ap₂ node_refusal (take-append-le n p more (omega arith)) (node_before_more p more n l)
 
 pub empty_plan : IsPlan []
 empty_plan n l = absurd (omega (arith, l))
 
 -- a node that nothing refuses makes a plan of a plan
-pub plan_with : (p : List Node) (node : Node) → IsPlan p → refusal_of p node ≡ None → IsPlan (p ++ node ∷ [])
+pub plan_with : (p : List Node) (node : Node) → IsPlan p → node_refusal p node ≡ None → IsPlan (p ++ node ∷ [])
 plan_with p node plan e n l =
     ⊎_elim
-    (λ d. ap (λ m. refusal_of (take m (p ++ node ∷ [])) (node_at (p ++ node ∷ []) m)) d ∙ ap₂ refusal_of (take-append_seam p (node ∷ [])) (node_after p node) ∙ e)
+    (λ d. ap (λ m. node_refusal (take m (p ++ node ∷ [])) (node_at (p ++ node ∷ []) m)) d ∙ ap₂ node_refusal (take-append_seam p (node ∷ [])) (node_after p node) ∙ e)
     (λ k. refusal_before_more p (node ∷ []) n k ∙ plan n k)
     (eq-or-lt_of_le (let s = length-append p (node ∷ []) in omega arith))
 
@@ -42,6 +43,7 @@ plan_with p node plan e n l =
 pub plan_before_more : (p more : List Node) → IsPlan (p ++ more) → IsPlan p
 plan_before_more p more plan n l = sym (refusal_before_more p more n l) ∙ plan n (let s = length-append p more in omega arith)
 
+-- the first nodes of a plan are a plan
 pub plan_take : (p : List Node) (k : ℕ) → IsPlan p → IsPlan (take k p)
 plan_take p k plan = plan_before_more (take k p) (drop k p) (subst IsPlan (sym (take-append-drop k p)) plan)
 
@@ -56,14 +58,15 @@ no_fault true h = refl
 no_fault false h = sym h
 
 -- a node that nothing refuses comes to fewer than 256, reads what may be read, and has no fault
-pub unrefused : (p : List Node) (node : Node) → refusal_of p node ≡ None → (nat_le 256 (length p) ≡ false) × IsTrue (list_all (is_readable p) (sources node)) × (first_refusal (faults p node) ≡ None)
+pub unrefused : (p : List Node) (node : Node) → node_refusal p node ≡ None → (nat_le 256 (length p) ≡ false) × IsTrue (list_all (is_readable p) (sources node)) × (first_refusal (node_faults p node) ≡ None)
 unrefused p node h =
     let unread = not (list_all (is_readable p) (sources node)) in
-    let first = no_first (nat_le 256 (length p)) TooManyNodes ((unread, UnknownName) ∷ faults p node) h in
-    let second = no_first unread UnknownName (faults p node) first.1 in
+    let first = no_first (nat_le 256 (length p)) TooManyNodes ((unread, UnknownName) ∷ node_faults p node) h in
+    let second = no_first unread UnknownName (node_faults p node) first.1 in
     (first.0, no_fault (list_all (is_readable p) (sources node)) second.0, second.1)
 
-pub readable_port : (p : List Node) (node : Node) (port s : ℕ) → refusal_of p node ≡ None → slice_get (sources node) port ≡ Some s → (s < length p) × (is_output (node_at p s) ≡ false)
+-- the source of an accepted node is there and no view
+pub readable_port : (p : List Node) (node : Node) (port s : ℕ) → node_refusal p node ≡ None → slice_get (sources node) port ≡ Some s → (s < length p) × (is_output (node_at p s) ≡ false)
 readable_port p node port s h e =
     let parts = and_parts _ _ (list_all_port (is_readable p) (sources node) port s (unrefused p node h).1 e) in
     (ltb-true s (length p) parts.0, shown (is_output (node_at p s)) parts.1)
@@ -95,11 +98,13 @@ source_smaller p plan n port s e =
     let j = r.0 in
     omega arith
 
+-- so it is in a plan
 pub source_readable : (p : List Node) → IsPlan p → (n port s : ℕ) → slice_get (sources (node_at p n)) port ≡ Some s → is_output (node_at p s) ≡ false
 source_readable p plan n port s e =
     let l = has_source p n port s e in
     let r = readable_port (take n p) (node_at p n) port s (plan n l) e in
     ap is_output (sym (node_in_take p n s (omega arith) (source_smaller p plan n port s e))) ∙ r.1
 
+-- the step of going upwards: sources have smaller numbers
 pub smaller : (p : List Node) → IsPlan p → (limit : ℕ) → Smaller p limit
 smaller p plan limit n port s l e = source_smaller p plan n port s e

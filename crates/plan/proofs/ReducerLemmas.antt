@@ -11,10 +11,10 @@ use Rattle.antichain.proofs.AntichainLemmas.{among_same}
 use Rattle.update.specs.Bags.{Entry, Alike, count_of, same_row}
 use Rattle.update.proofs.SumLemmas.{total_by-zero, total_by-filter, total_by-map}
 use Rattle.update.proofs.UniqueLemmas.{passes_or_none}
-use Rattle.plan.specs.Reductions.{IsReducer, each_once, single, is_present, present, is_before, sum_of_counts, counted, reduced, has_key}
+use Rattle.plan.specs.Reductions.{IsReducer, each_once, single, is_present, present, is_before, sum_of_counts, count_answer, reduction_answer, has_key}
 use Rattle.plan.specs.declared.node.Kind.{Kind}
 use Rattle.plan.specs.declared.node.Kind.TheVariants.{Count, Distinct, Min, Max}
-use Rattle.plan.proofs.WeighLemmas.{row_same, row_itself, when_zero, count_of-filter, weigh_alike}
+use Rattle.plan.proofs.CountLemmas.{row_same, row_itself, when_zero, count_of-filter, weigh_alike}
 use Rattle.plan.proofs.ReductionLemmas.{any_has, any_at, each_once_among, total_by-once}
 
 -- ---- how often all rows count together
@@ -23,7 +23,7 @@ sums_alike : (a b : List Entry) → Alike a b → sum_of_counts a ≡ sum_of_cou
 sums_alike a b h = weigh_alike (λ row n. n) (λ row m n. refl) a b h
 
 -- the answer's one row begins with the key
-counted_keyed : (k : ℕ) (key row : List ℤ) (n : ℤ) → length key ≡ k → same_row (take k row) key ≡ false → count_of (counted key n) row ≡ pos 0
+counted_keyed : (k : ℕ) (key row : List ℤ) (n : ℤ) → length key ≡ k → same_row (take k row) key ≡ false → count_of (count_answer key n) row ≡ pos 0
 counted_keyed k key row n l d =
     elim (int_eq n (pos 0)) as (λ b. count_of (cond b [] (single (key ++ n ∷ []) ∷ [])) row ≡ pos 0) [
       | true ↦ refl
@@ -35,9 +35,9 @@ counted_keyed k key row n l d =
         let own : take k row ≡ key = ap (take k) (sym (row_same (key ++ n ∷ []) row h)) ∙ take_at key (n ∷ []) k l in
         true≢false (sym (ap (λ r. same_row r key) own ∙ row_itself key) ∙ d)
 
-count_reduces : (k : ℕ) → IsReducer k (reduced Count)
+count_reduces : (k : ℕ) → IsReducer k (reduction_answer Count)
 count_reduces k = record {
-  alike = λ key a b h row. ap (λ n. count_of (counted key n) row) (sums_alike a b h);
+  alike = λ key a b h row. ap (λ n. count_of (count_answer key n) row) (sums_alike a b h);
   nothing = λ key row. refl;
   keyed = λ key row entries l d. counted_keyed k key row (sum_of_counts (filter (has_key k key) entries)) l d;
 }
@@ -83,6 +83,7 @@ each_once_has (first ∷ rows) row m =
 pub present_counts : (entries : List Entry) (row : List ℤ) → Among row (present entries) → is_present entries row ≡ true
 present_counts entries row m = (filter_has (is_present entries) (map (λ e. e.row) entries) row (each_once_among (filter (is_present entries) (map (λ e. e.row) entries)) row m)).1
 
+-- a row that counts is among those present
 pub counts_present : (entries : List Entry) (row : List ℤ) → is_present entries row ≡ true → Among row (present entries)
 counts_present entries row h = each_once_has (filter (is_present entries) (map (λ e. e.row) entries)) row (filter_takes (is_present entries) (map (λ e. e.row) entries) row (present_among entries row h) h)
 
@@ -95,13 +96,14 @@ absent_elsewhere k key row entries d = ap (int_lt (pos 0)) (count_of-filter (λ 
 
 -- ---- the distinct rows
 
+-- each of them counts once
 pub count_present : (entries : List Entry) (row : List ℤ) → count_of (map single (present entries)) row ≡ cond (is_present entries row) (pos 1) (pos 0)
 count_present entries row =
     total_by-map (λ e. cond (same_row e.row row) e.count (pos 0)) single (present entries)
     ∙ (total_by-once (λ r. cond (same_row r row) (pos 1) (pos 0)) row (filter (is_present entries) (map (λ e. e.row) entries)) (λ r m d. ap (λ b. cond b (pos 1) (pos 0)) d)
     ∙ rw (found_present entries row, row_itself row) refl)
 
-distinct_reduces : (k : ℕ) → IsReducer k (reduced Distinct)
+distinct_reduces : (k : ℕ) → IsReducer k (reduction_answer Distinct)
 distinct_reduces k = record {
   alike = λ key a b h row. count_present a row ∙ (ap (λ n. cond (int_lt (pos 0) n) (pos 1) (pos 0)) (h row) ∙ sym (count_present b row));
   nothing = λ key row. refl;
@@ -140,13 +142,14 @@ any_same test xs ys h k = same_from_decides (list_any test xs) (list_any test ys
     carry : (xs ys : List (List ℤ)) → ((row : List ℤ) → Among row xs → Among row ys) → list_any test xs ≡ true → list_any test ys ≡ true
     carry xs ys h e = let r = any_has test xs e in any_at test ys r.0 (h r.0 r.1) r.2
 
-min_reduces : (k : ℕ) → IsReducer k (reduced Min)
+min_reduces : (k : ℕ) → IsReducer k (reduction_answer Min)
 min_reduces = kept_reduces (λ rows row. not (list_any (λ other. is_before other row) rows)) (λ xs ys h i row. ap not (any_same (λ other. is_before other row) xs ys h i))
 
-max_reduces : (k : ℕ) → IsReducer k (reduced Max)
+max_reduces : (k : ℕ) → IsReducer k (reduction_answer Max)
 max_reduces = kept_reduces (λ rows row. not (list_any (λ other. is_before row other) rows)) (λ xs ys h i row. ap not (any_same (λ other. is_before row other) xs ys h i))
 
-pub all_reduce : (kind : Kind) (k : ℕ) → IsReducer k (reduced kind)
+-- count, distinct, min and max have the laws of a reducer
+pub all_reduce : (kind : Kind) (k : ℕ) → IsReducer k (reduction_answer kind)
 all_reduce Count k = count_reduces k
 all_reduce Distinct k = distinct_reduces k
 all_reduce Min k = min_reduces k

@@ -9,8 +9,8 @@ use Rattle.antichain.proofs.Lists.{Among, filter_has}
 use Rattle.update.specs.Bags.{Entry, count_of, same_row, total_by}
 use Rattle.update.proofs.SumLemmas.{total_by-same, total_by-zero, total_by-filter}
 use Rattle.plan.specs.Reductions.{IsReducer, each_once, has_key}
-use Rattle.plan.specs.Operators.{keys, reduced_by_key}
-use Rattle.plan.proofs.WeighLemmas.{row_same, row_itself, total_by-flat_map}
+use Rattle.plan.specs.Operators.{keys, reduction_output}
+use Rattle.plan.proofs.CountLemmas.{row_same, row_itself, total_by-flat_map}
 
 -- ---- lists
 
@@ -24,6 +24,7 @@ module _ {X : Type 0} (test : X → Bool) where
         | false ↦ λ e k. let r = any_has xs k in (r.0, inr r.1, r.2)
       ] refl h
 
+  -- one element that passes is enough
   pub any_at : (xs : List X) (x : X) → Among x xs → test x ≡ true → list_any test xs ≡ true
   any_at [] x m h = absurd m
   any_at (y ∷ xs) x m h =
@@ -32,6 +33,7 @@ module _ {X : Type 0} (test : X → Bool) where
       (λ n. or_right (test y) (list_any test xs) (any_at xs x n h))
       m
 
+  -- if none passes, not any does
   pub any_none : (xs : List X) → ((x : X) → Among x xs → test x ≡ false) → list_any test xs ≡ false
   any_none [] h = refl
   any_none (x ∷ xs) h = rw (h x (inl refl)) (any_none xs (λ y m. h y (inr m)))
@@ -42,6 +44,7 @@ row_differs row other h = false_from_ne_true (same_row other row) (λ e. true≢
 
 -- ---- each row once
 
+-- listing each once adds nothing
 pub each_once_among : (rows : List (List ℤ)) (row : List ℤ) → Among row (each_once rows) → Among row rows
 each_once_among [] row m = absurd m
 each_once_among (first ∷ rows) row m =
@@ -110,7 +113,7 @@ module _ (k : ℕ) where
 
   -- a row that has no key of k columns is in no answer; another counts as in the answer for its key
   pub by_key_at : (reduce : List ℤ → List Entry → List Entry) → IsReducer k reduce → (entries : List Entry) (row : List ℤ)
-      → count_of (reduced_by_key k reduce entries) row ≡ cond (nat_le k (length row)) (count_of (reduce (take k row) (filter (has_key k (take k row)) entries)) row) (pos 0)
+      → count_of (reduction_output k reduce entries) row ≡ cond (nat_le k (length row)) (count_of (reduce (take k row) (filter (has_key k (take k row)) entries)) row) (pos 0)
   by_key_at reduce q entries row =
       total_by-flat_map (λ e. cond (same_row e.row row) e.count (pos 0)) (λ key. reduce key (filter (has_key k key) entries)) (keys k entries)
       ∙ (total_by-once answer (take k row) (key_rows k entries) (λ key m d. q.keyed key row entries (key_length entries key m) (row_differs key (take k row) d))
@@ -135,5 +138,5 @@ module _ (k : ℕ) where
 
 -- where a row has a key of k columns, only the rows of that key matter
 pub by_key : (k : ℕ) (reduce : List ℤ → List Entry → List Entry) → IsReducer k reduce → (entries : List Entry) (row : List ℤ) → k ≤ length row
-    → count_of (reduced_by_key k reduce entries) row ≡ count_of (reduce (take k row) (filter (has_key k (take k row)) entries)) row
+    → count_of (reduction_output k reduce entries) row ≡ count_of (reduce (take k row) (filter (has_key k (take k row)) entries)) row
 by_key k reduce q entries row h = by_key_at k reduce q entries row ∙ ap (λ b. cond b (count_of (reduce (take k row) (filter (has_key k (take k row)) entries)) row) (pos 0)) (le-leb k (length row) h)

@@ -12,5 +12,6 @@ same_places [] (y ∷ ys) d e h = absurd (omega arith)
 same_places (x ∷ xs) [] d e h = absurd (omega arith)
 same_places (x ∷ xs) (y ∷ ys) d e h = ap₂ (λ z zs. z ∷ zs) (h 0 (omega arith)) (same_places xs ys d (omega arith) (λ m l. h (suc m) (omega arith)))
 
+-- plans that agree node by node are equal
 pub same_nodes : (p q : List Node) → length p ≡ length q → ((m : ℕ) → m < length p → node_at p m ≡ node_at q m) → p ≡ q
 same_nodes p q e h = same_places p q (Input 0) e (λ m l. sym (unwrap_or-slice_get p m (Input 0)) ∙ h m l ∙ unwrap_or-slice_get q m (Input 0))

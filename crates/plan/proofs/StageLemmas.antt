@@ -6,14 +6,15 @@ use Rattle.std.proofs.lemmas.Bool.{cases_lt}
 use Rattle.std.proofs.Math.Seq.{get_or-append_seam}
 use Rattle.plan.specs.Nodes.{key_width}
 use Rattle.plan.specs.Widths.{width_of, width_from}
-use Rattle.plan.specs.Rules.{IsPlan, refusal_of}
+use Rattle.plan.specs.Rules.{IsPlan, node_refusal}
 use Rattle.plan.specs.Stages.{AreStages, nodes_of}
 use Rattle.plan.specs.declared.node.Node.{Node}
 use Rattle.plan.specs.declared.plan.Stage.{Stage}
 use Rattle.plan.proofs.PlanLemmas.{plan_with}
 use Rattle.plan.proofs.StepLemmas.{width_with, width_before_more}
 
-pub stages_with : (stages : List Stage) (stage : Stage) → AreStages stages → refusal_of (nodes_of stages) stage.node ≡ None → stage.width ≡ width_from (key_width (nodes_of stages) stage.node) stage.node (width_of (nodes_of stages)) → AreStages (stages ++ stage ∷ [])
+-- an accepted node with its width keeps the stages
+pub stages_with : (stages : List Stage) (stage : Stage) → AreStages stages → node_refusal (nodes_of stages) stage.node ≡ None → stage.width ≡ width_from (key_width (nodes_of stages) stage.node) stage.node (width_of (nodes_of stages)) → AreStages (stages ++ stage ∷ [])
 stages_with stages stage kept accepted wide = record {
   plan = subst IsPlan (sym nodes) (plan_with p stage.node kept.plan accepted);
   widths = λ n other e. subst (λ q. other.width ≡ width_of q n) (sym nodes) (width_at n other e);

@@ -1,17 +1,17 @@
--- Width, query, ancestors and weight of a plan's nodes: each is found from the sources, and stays when the plan goes on.
+-- Width, query, ancestors and bound of a plan's nodes: each is found from the sources, and stays when the plan goes on.
 use Rattle.std.proofs.Common.{◌≡◌, ℕ, suc, ◌+◌, ◌-◌, ◌<◌, Bool, false, ◌||◌, eqb, ◌⊎◌, inl, inr, ⊎_elim, Option, Some, None, List, [], ◌∷◌, ◌++◌, length, slice_get, unwrap_or, option_map, refl, ap, ap₂, sym, ◌∙◌, arith}
 use Rattle.std.specs.List.{list_any}
 use Rattle.update.specs.Bags.{Entry}
 use Rattle.plan.specs.Nodes.{node_at, sources, key_of, key_width, arranged_by}
 use Rattle.plan.specs.Upward.{found}
 use Rattle.plan.specs.Widths.{width_from, width_of, reduced_width}
-use Rattle.plan.specs.Operators.{given}
-use Rattle.plan.specs.Queries.{handed, query}
-use Rattle.plan.specs.Ancestors.{is_above}
-use Rattle.plan.specs.Weights.{load, weight_by}
-use Rattle.plan.specs.Rules.{refusal_of, IsPlan}
+use Rattle.plan.specs.Operators.{operator_output}
+use Rattle.plan.specs.Queries.{source_value, query}
+use Rattle.plan.specs.Ancestors.{reaches}
+use Rattle.plan.specs.Bounds.{output_bound, bound_by}
+use Rattle.plan.specs.Rules.{node_refusal, IsPlan}
 use Rattle.plan.specs.declared.node.Node.{Node}
-use Rattle.plan.specs.declared.node.Node.TheVariants.{Input, Map, Filter, Concat, Negate, Arrange, Join, Reduce, Output}
+use Rattle.plan.specs.declared.node.Node.TheVariants.{Input, Map, Join, Reduce}
 use Rattle.plan.proofs.UpwardLemmas.{list_any_same, ports_same, Local, found_same, found_by_sources}
 use Rattle.plan.proofs.PlanLemmas.{node_before_more, node_after, plan_with, readable_port, smaller}
 
@@ -22,25 +22,14 @@ AgreeAt f g node = (port s : ℕ) → slice_get (sources node) port ≡ Some s �
 -- a node is an input or has a source
 pub input_or_source : (node : Node) → ((width : ℕ) × (node ≡ Input width)) ⊎ ((s : ℕ) × (slice_get (sources node) 0 ≡ Some s))
 input_or_source (Input width) = inl (width, refl)
-input_or_source (Map source items) = inr (source, refl)
-input_or_source (Filter source test) = inr (source, refl)
-input_or_source (Concat left right) = inr (left, refl)
-input_or_source (Negate source) = inr (source, refl)
-input_or_source (Arrange source key) = inr (source, refl)
-input_or_source (Join left right) = inr (left, refl)
-input_or_source (Reduce kind source) = inr (source, refl)
-input_or_source (Output source) = inr (source, refl)
+input_or_source node = inr (_, refl)
 
 pub width_from_same : (key : ℕ) (f g : ℕ → ℕ) (node : Node) → AgreeAt f g node → width_from key node f ≡ width_from key node g
 width_from_same key f g (Input width) h = refl
 width_from_same key f g (Map source items) h = refl
-width_from_same key f g (Filter source test) h = h 0 source refl
-width_from_same key f g (Concat left right) h = h 0 left refl
-width_from_same key f g (Negate source) h = h 0 source refl
-width_from_same key f g (Arrange source columns) h = h 0 source refl
 width_from_same key f g (Join left right) h = ap₂ (λ a b. key + ((a - key) + (b - key))) (h 0 left refl) (h 1 right refl)
 width_from_same key f g (Reduce kind source) h = ap (reduced_width kind key) (h 0 source refl)
-width_from_same key f g (Output source) h = h 0 source refl
+width_from_same key f g node h = h 0 _ refl
 
 -- what a list finds by its own steps
 module _ (p : List Node) where
@@ -48,44 +37,48 @@ module _ (p : List Node) where
   width_step m node widths = width_from (key_width p node) node widths
 
   abbrev pub query_step : (ℕ → List Entry) → ℕ → Node → (ℕ → List Entry) → List Entry
-  query_step inputs m node bags = given (key_width p node) node (λ port. handed (inputs m) bags (slice_get (sources node) port))
+  query_step inputs m node bags = operator_output (key_width p node) node (λ port. source_value (inputs m) bags (slice_get (sources node) port))
 
 abbrev pub above_step : ℕ → ℕ → Node → (ℕ → Bool) → Bool
 above_step m k node above = eqb m k || list_any above (sources node)
 
-abbrev pub weight_step : (ℕ → ℕ) → (ℕ → ℕ) → ℕ → Node → (ℕ → ℕ) → ℕ
-weight_step own inputs m node weights = load node (own m) (λ port. handed (inputs m) weights (slice_get (sources node) port))
+abbrev pub bound_step : (ℕ → ℕ) → (ℕ → ℕ) → ℕ → Node → (ℕ → ℕ) → ℕ
+bound_step own inputs m node bounds_at = output_bound node (own m) (λ port. source_value (inputs m) bounds_at (slice_get (sources node) port))
 
 -- the steps look at the sources alone
 pub width_local : (p : List Node) (limit : ℕ) → Local p p (width_step p) (width_step p) limit
 width_local p limit n l f g h = width_from_same (key_width p (node_at p n)) f g (node_at p n) h
 
 pub query_local : (p : List Node) (inputs : ℕ → List Entry) (limit : ℕ) → Local p p (query_step p inputs) (query_step p inputs) limit
-query_local p inputs limit n l f g h = ap (given (key_width p (node_at p n)) (node_at p n)) (ports_same (inputs n) f g (node_at p n) h)
+query_local p inputs limit n l f g h = ap (operator_output (key_width p (node_at p n)) (node_at p n)) (ports_same (inputs n) f g (node_at p n) h)
 
 pub above_local : (p : List Node) (m limit : ℕ) → Local p p (above_step m) (above_step m) limit
 above_local p m limit n l f g h = ap (λ b. eqb m n || b) (list_any_same f g (sources (node_at p n)) h)
 
-pub weight_local : (p : List Node) (own inputs : ℕ → ℕ) (limit : ℕ) → Local p p (weight_step own inputs) (weight_step own inputs) limit
-weight_local p own inputs limit n l f g h = ap (load (node_at p n) (own n)) (ports_same (inputs n) f g (node_at p n) h)
+pub summed_size_local : (p : List Node) (own inputs : ℕ → ℕ) (limit : ℕ) → Local p p (bound_step own inputs) (bound_step own inputs) limit
+summed_size_local p own inputs limit n l f g h = ap (output_bound (node_at p n) (own n)) (ports_same (inputs n) f g (node_at p n) h)
 
 -- what is found of a plan's node is found from its sources
 module _ (p : List Node) (plan : IsPlan p) where
+  -- a width from those of the sources
   pub width_by_sources : (n : ℕ) → width_of p n ≡ width_from (key_width p (node_at p n)) (node_at p n) (width_of p)
   unfolding width_of
   width_by_sources n = found_by_sources 0 p (width_step p) (suc n) (smaller p plan (suc n)) (width_local p (suc n)) n (omega arith)
 
-  pub query_by_sources : (inputs : ℕ → List Entry) (n : ℕ) → query p inputs n ≡ given (key_width p (node_at p n)) (node_at p n) (λ port. handed (inputs n) (query p inputs) (slice_get (sources (node_at p n)) port))
+  -- a query from those of the sources
+  pub query_by_sources : (inputs : ℕ → List Entry) (n : ℕ) → query p inputs n ≡ operator_output (key_width p (node_at p n)) (node_at p n) (λ port. source_value (inputs n) (query p inputs) (slice_get (sources (node_at p n)) port))
   unfolding query
   query_by_sources inputs n = found_by_sources [] p (query_step p inputs) (suc n) (smaller p plan (suc n)) (query_local p inputs (suc n)) n (omega arith)
 
-  pub above_by_sources : (m n : ℕ) → is_above p m n ≡ (eqb m n || list_any (is_above p m) (sources (node_at p n)))
-  unfolding is_above
+  -- the ancestors from those of the sources
+  pub above_by_sources : (m n : ℕ) → reaches p m n ≡ (eqb m n || list_any (reaches p m) (sources (node_at p n)))
+  unfolding reaches
   above_by_sources m n = found_by_sources false p (above_step m) (suc n) (smaller p plan (suc n)) (above_local p m (suc n)) n (omega arith)
 
-  pub weight_by_sources : (own inputs : ℕ → ℕ) (n : ℕ) → weight_by p own inputs n ≡ load (node_at p n) (own n) (λ port. handed (inputs n) (weight_by p own inputs) (slice_get (sources (node_at p n)) port))
-  unfolding weight_by
-  weight_by_sources own inputs n = found_by_sources 0 p (weight_step own inputs) (suc n) (smaller p plan (suc n)) (weight_local p own inputs (suc n)) n (omega arith)
+  -- a bound from those of the sources
+  pub bound_by_sources : (own inputs : ℕ → ℕ) (n : ℕ) → bound_by p own inputs n ≡ output_bound (node_at p n) (own n) (λ port. source_value (inputs n) (bound_by p own inputs) (slice_get (sources (node_at p n)) port))
+  unfolding bound_by
+  bound_by_sources own inputs n = found_by_sources 0 p (bound_step own inputs) (suc n) (smaller p plan (suc n)) (summed_size_local p own inputs (suc n)) n (omega arith)
 
 -- a plan that goes on
 module _ (p more : List Node) (plan : IsPlan p) where
@@ -107,28 +100,33 @@ module _ (p more : List Node) (plan : IsPlan p) where
       (λ k j f g h. local k j f g h ∙ ap (λ s. s g) (same k j) ∙ ap (λ node. other k node g) (sym (node_before_more p more k j)))
       n l)
 
+  -- more nodes change no width
   pub width_before_more : (n : ℕ) → n < length p → width_of (p ++ more) n ≡ width_of p n
   unfolding width_of
   width_before_more = kept 0 (width_step p) (width_step (p ++ more)) (width_local p (length p)) (λ n l. ap (λ key. width_from key (node_at p n)) (sym (key_width_before_more n l)))
 
+  -- nor a query
   pub query_before_more : (inputs : ℕ → List Entry) (n : ℕ) → n < length p → query (p ++ more) inputs n ≡ query p inputs n
   unfolding query
   query_before_more inputs = kept [] (query_step p inputs) (query_step (p ++ more) inputs) (query_local p inputs (length p))
-      (λ n l. ap (λ key bags. given key (node_at p n) (λ port. handed (inputs n) bags (slice_get (sources (node_at p n)) port))) (sym (key_width_before_more n l)))
+      (λ n l. ap (λ key bags. operator_output key (node_at p n) (λ port. source_value (inputs n) bags (slice_get (sources (node_at p n)) port))) (sym (key_width_before_more n l)))
 
-  pub above_before_more : (m n : ℕ) → n < length p → is_above (p ++ more) m n ≡ is_above p m n
-  unfolding is_above
+  -- nor the ancestors
+  pub above_before_more : (m n : ℕ) → n < length p → reaches (p ++ more) m n ≡ reaches p m n
+  unfolding reaches
   above_before_more m = kept false (above_step m) (above_step m) (above_local p m (length p)) (λ n l. refl)
 
-  pub weight_before_more : (own inputs : ℕ → ℕ) (n : ℕ) → n < length p → weight_by (p ++ more) own inputs n ≡ weight_by p own inputs n
-  unfolding weight_by
-  weight_before_more own inputs = kept 0 (weight_step own inputs) (weight_step own inputs) (weight_local p own inputs (length p)) (λ n l. refl)
+  -- nor a bound
+  pub bound_before_more : (own inputs : ℕ → ℕ) (n : ℕ) → n < length p → bound_by (p ++ more) own inputs n ≡ bound_by p own inputs n
+  unfolding bound_by
+  bound_before_more own inputs = kept 0 (bound_step own inputs) (bound_step own inputs) (summed_size_local p own inputs (length p)) (λ n l. refl)
 
 -- a node after a plan's nodes has a width from theirs
-module _ (p : List Node) (node : Node) (plan : IsPlan p) (unrefused : refusal_of p node ≡ None) where
+module _ (p : List Node) (node : Node) (plan : IsPlan p) (unrefused : node_refusal p node ≡ None) where
   pub source_before : (port s : ℕ) → slice_get (sources node) port ≡ Some s → s < length p
   source_before port s e = (readable_port p node port s unrefused e).0
 
+  -- the width of a node that is added
   pub width_with : width_of (p ++ node ∷ []) (length p) ≡ width_from (key_width p node) node (width_of p)
   width_with =
       width_by_sources q (plan_with p node plan unrefused) (length p)

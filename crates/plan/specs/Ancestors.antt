@@ -1,29 +1,17 @@
 -- What stands above a node: its sources, theirs, and so on.
-use Rattle.std.specs.Prelude.{ℕ, zero, suc, Bool, true, false, ◌||◌, ◌&&◌, eqb, List, [], ◌∷◌, ◌++◌, length}
+use Rattle.std.specs.Prelude.{ℕ, zero, suc, Bool, false, ◌||◌, ◌&&◌, eqb, List, [], ◌∷◌, ◌++◌, length}
 use Rattle.std.specs.List.{filter, list_any}
-use Rattle.plan.specs.Nodes.{node_at, sources}
+use Rattle.plan.specs.Nodes.{node_at, sources, is_input}
 use Rattle.plan.specs.Upward.{found}
 use Rattle.plan.specs.declared.node.Node.{Node}
-use Rattle.plan.specs.declared.node.Node.TheVariants.{Input, Map, Filter, Concat, Negate, Arrange, Join, Reduce, Output}
 
 -- m is n or an ancestor of n
-unfoldable pub is_above : List Node → ℕ → ℕ → Bool
-is_above p m n = found false (λ k node above. eqb m k || list_any above (sources node)) p n
-
-abbrev pub is_input : Node → Bool
-is_input (Input width) = true
-is_input (Map source items) = false
-is_input (Filter source test) = false
-is_input (Concat left right) = false
-is_input (Negate source) = false
-is_input (Arrange source key) = false
-is_input (Join left right) = false
-is_input (Reduce kind source) = false
-is_input (Output source) = false
+unfoldable pub reaches : List Node → ℕ → ℕ → Bool
+reaches p m n = found false (λ k node above. eqb m k || list_any above (sources node)) p n
 
 -- m is an input that feeds node n
 abbrev pub feeds : List Node → ℕ → ℕ → Bool
-feeds p m n = is_input (node_at p m) && is_above p m n
+feeds p m n = is_input (node_at p m) && reaches p m n
 
 -- the numbers below n, in order
 abbrev pub numbers_below : ℕ → List ℕ

@@ -12,7 +12,7 @@ pub mod Operators
 pub mod Queries
 pub mod Ancestors
 pub mod Changes
-pub mod Weights
+pub mod Bounds
 pub mod Stages
 pub mod Text
 pub mod Edges

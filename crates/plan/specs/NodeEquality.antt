@@ -1,4 +1,4 @@
--- Equality of nodes and plans, as tests. Nodes are told apart by their parts: a number for the sort of node, the other
+-- Equality of nodes and plans, as tests. Nodes are told apart by their parts: a number for the variant, the other
 -- numbers that it has, and its items.
 use Rattle.std.specs.Prelude.{◌≡◌, ℕ, zero, suc, Bool, ◌&&◌, List, [], ◌∷◌, eqb, get_or, pos}
 use Rattle.std.proofs.Common.{ap, refl, sym, ◌∙◌}
@@ -8,9 +8,9 @@ use Rattle.std.specs.Cmp.{IsEquivalence, decided}
 use Rattle.std.specs.Cmp.Lexicographic.{pointwise, pointwise_decides}
 use Rattle.row.specs.declared.projection.Item.{Item}
 use Rattle.row.specs.declared.projection.Item.TheVariants.{Constant}
-use Rattle.row.specs.declared.testing.Cmp.{Cmp}
-use Rattle.row.specs.declared.testing.Cmp.TheVariants.{Eq, Ne, Lt, Le, Gt, Ge}
-use Rattle.row.specs.declared.testing.Test.{Test}
+use Rattle.row.specs.declared.test.Cmp.{Cmp}
+use Rattle.row.specs.declared.test.Cmp.TheVariants.{Eq, Ne, Lt, Le, Gt, Ge}
+use Rattle.row.specs.declared.test.Test.{Test}
 use Rattle.plan.specs.Equality.{same_items, items_decide}
 use Rattle.plan.specs.declared.node.Kind.{Kind}
 use Rattle.plan.specs.declared.node.Kind.TheVariants.{Count, Distinct, Min, Max}
@@ -33,24 +33,24 @@ kind_number Max = 3
 
 -- what a node is made of
 pub record Parts : Type 0 where
-  pub sort : ℕ
+  pub variant : ℕ
   pub numbers : List ℕ
   pub items : List Item
 
 abbrev pub parts_of : Node → Parts
-parts_of (Input width) = record { sort = 0; numbers = width ∷ []; items = [] }
-parts_of (Map source items) = record { sort = 1; numbers = source ∷ []; items = items }
-parts_of (Filter source test) = record { sort = 2; numbers = source ∷ cmp_number test.op ∷ []; items = test.left ∷ test.right ∷ [] }
-parts_of (Concat left right) = record { sort = 3; numbers = left ∷ right ∷ []; items = [] }
-parts_of (Negate source) = record { sort = 4; numbers = source ∷ []; items = [] }
-parts_of (Arrange source key) = record { sort = 5; numbers = source ∷ key ∷ []; items = [] }
-parts_of (Join left right) = record { sort = 6; numbers = left ∷ right ∷ []; items = [] }
-parts_of (Reduce kind source) = record { sort = 7; numbers = source ∷ kind_number kind ∷ []; items = [] }
-parts_of (Output source) = record { sort = 8; numbers = source ∷ []; items = [] }
+parts_of (Input width) = record { variant = 0; numbers = width ∷ []; items = [] }
+parts_of (Map source items) = record { variant = 1; numbers = source ∷ []; items = items }
+parts_of (Filter source test) = record { variant = 2; numbers = source ∷ cmp_number test.op ∷ []; items = test.left ∷ test.right ∷ [] }
+parts_of (Concat left right) = record { variant = 3; numbers = left ∷ right ∷ []; items = [] }
+parts_of (Negate source) = record { variant = 4; numbers = source ∷ []; items = [] }
+parts_of (Arrange source key) = record { variant = 5; numbers = source ∷ key ∷ []; items = [] }
+parts_of (Join left right) = record { variant = 6; numbers = left ∷ right ∷ []; items = [] }
+parts_of (Reduce kind source) = record { variant = 7; numbers = source ∷ kind_number kind ∷ []; items = [] }
+parts_of (Output source) = record { variant = 8; numbers = source ∷ []; items = [] }
 
--- the nodes are of one sort and have the same numbers and items
+-- the nodes are of one variant and have the same numbers and items
 abbrev pub same_node : Node → Node → Bool
-same_node node other = eqb (parts_of node).sort (parts_of other).sort && (pointwise eqb (parts_of node).numbers (parts_of other).numbers && same_items (parts_of node).items (parts_of other).items)
+same_node node other = eqb (parts_of node).variant (parts_of other).variant && (pointwise eqb (parts_of node).numbers (parts_of other).numbers && same_items (parts_of node).items (parts_of other).items)
 
 -- the plans have the same nodes
 abbrev pub same_plan : List Node → List Node → Bool
@@ -63,13 +63,13 @@ cmp_from (suc zero) = Ne
 cmp_from (suc (suc zero)) = Lt
 cmp_from (suc (suc (suc zero))) = Le
 cmp_from (suc (suc (suc (suc zero)))) = Gt
-cmp_from (suc (suc (suc (suc (suc sort))))) = Ge
+cmp_from (suc (suc (suc (suc (suc variant))))) = Ge
 
 kind_from : ℕ → Kind
 kind_from zero = Count
 kind_from (suc zero) = Distinct
 kind_from (suc (suc zero)) = Min
-kind_from (suc (suc (suc sort))) = Max
+kind_from (suc (suc (suc variant))) = Max
 
 test_from : ℕ → List Item → Test
 test_from n (left ∷ right ∷ items) = record { left = left; op = cmp_from n; right = right }
@@ -85,10 +85,10 @@ node_from (suc (suc (suc (suc zero)))) a b items = Negate a
 node_from (suc (suc (suc (suc (suc zero))))) a b items = Arrange a b
 node_from (suc (suc (suc (suc (suc (suc zero)))))) a b items = Join a b
 node_from (suc (suc (suc (suc (suc (suc (suc zero))))))) a b items = Reduce (kind_from b) a
-node_from (suc (suc (suc (suc (suc (suc (suc (suc sort)))))))) a b items = Output a
+node_from (suc (suc (suc (suc (suc (suc (suc (suc variant)))))))) a b items = Output a
 
 from_parts : Parts → Node
-from_parts parts = node_from parts.sort (get_or parts.numbers 0 0) (get_or parts.numbers 1 0) parts.items
+from_parts parts = node_from parts.variant (get_or parts.numbers 0 0) (get_or parts.numbers 1 0) parts.items
 
 same_cmp_from : (cmp : Cmp) → cmp_from (cmp_number cmp) ≡ cmp
 unfolding cmp_from
@@ -119,7 +119,7 @@ found_again (Reduce kind source) = ap (λ k. Reduce k source) (same_kind_from ki
 found_again (Output source) = refl
 
 make_parts : ℕ → List ℕ → List Item → Parts
-make_parts sort numbers items = record { sort = sort; numbers = numbers; items = items }
+make_parts variant numbers items = record { variant = variant; numbers = numbers; items = items }
 
 numbers_decide : (a b : List ℕ) → Decides (pointwise eqb a b) (a ≡ b)
 numbers_decide = pointwise_decides (λ n m. (eqb-true n m, eq-eqb n m))
@@ -131,13 +131,13 @@ nodes_decide node other = (
   λ h.
       let first = and_parts _ _ h in
       let second = and_parts _ _ first.1 in
-      let sorts = eqb-true _ _ first.0 in
+      let variants = eqb-true _ _ first.0 in
       let numbers = (numbers_decide _ _).0 second.0 in
       let items = (items_decide _ _).0 second.1 in
-      sym (found_again node) ∙ ap from_parts (λ i. make_parts (sorts i) (numbers i) (items i)) ∙ found_again other,
+      sym (found_again node) ∙ ap from_parts (λ i. make_parts (variants i) (numbers i) (items i)) ∙ found_again other,
   λ e.
       let parts = ap parts_of e in
-      and_from _ _ (eq-eqb _ _ (ap (λ (p : Parts). p.sort) parts))
+      and_from _ _ (eq-eqb _ _ (ap (λ (p : Parts). p.variant) parts))
       (and_from _ _ ((numbers_decide _ _).1 (ap (λ (p : Parts). p.numbers) parts)) ((items_decide _ _).1 (ap (λ (p : Parts). p.items) parts))),
 )
 

@@ -1,11 +1,62 @@
--- The nodes of a plan, each by its number, which is its place in the plan's list.
-use Rattle.std.specs.Prelude.{ℕ, List, [], ◌∷◌, Option, Some, None, slice_get, unwrap_or, option_map}
+-- The nodes of a plan, each by its number, which is its place in the plan's list; and the sort of a node, which answers
+-- the questions about how it is run.
+use Rattle.std.specs.Prelude.{ℕ, Bool, true, false, List, [], ◌∷◌, Option, Some, None, slice_get, unwrap_or, option_map}
+use Rattle.plan.specs.declared.sort.Sort.{Sort}
+use Rattle.plan.specs.declared.sort.Sort.TheVariants.{Source, Linear, Arrangement, Bilinear, Reduction, View}
 use Rattle.plan.specs.declared.node.Node.{Node}
 use Rattle.plan.specs.declared.node.Node.TheVariants.{Input, Map, Filter, Concat, Negate, Arrange, Join, Reduce, Output}
 
 -- the node of a number; a number that the plan does not have is read as an input of no columns
 abbrev pub node_at : List Node → ℕ → Node
 node_at p n = unwrap_or (slice_get p n) (Input 0)
+
+-- how the node is run
+abbrev pub sort : Node → Sort
+sort (Input width) = Source
+sort (Map source items) = Linear
+sort (Filter source test) = Linear
+sort (Concat left right) = Linear
+sort (Negate source) = Linear
+sort (Arrange source key) = Arrangement
+sort (Join left right) = Bilinear
+sort (Reduce kind source) = Reduction
+sort (Output source) = View
+
+-- the sorts are the same
+abbrev pub same_sort : Sort → Sort → Bool
+same_sort Source Source = true
+same_sort Linear Linear = true
+same_sort Arrangement Arrangement = true
+same_sort Bilinear Bilinear = true
+same_sort Reduction Reduction = true
+same_sort View View = true
+same_sort one other = false
+
+-- nodes of the sort are neither joins nor reductions: what they make of a sum is the sum of what they make of its parts
+abbrev pub adds_up : Sort → Bool
+adds_up Bilinear = false
+adds_up Reduction = false
+adds_up other = true
+
+-- rows come to the node from outside
+abbrev pub is_input : Node → Bool
+is_input node = same_sort Source (sort node)
+
+-- the node is a view
+abbrev pub is_output : Node → Bool
+is_output node = same_sort View (sort node)
+
+-- the node pairs rows of two sources
+abbrev pub is_join : Node → Bool
+is_join node = same_sort Bilinear (sort node)
+
+-- the node answers each key from all rows of the key
+abbrev pub is_reduction : Node → Bool
+is_reduction node = same_sort Reduction (sort node)
+
+-- the node adds up: it is no join and no reduction
+abbrev pub is_linear : Node → Bool
+is_linear node = adds_up (sort node)
 
 -- the nodes that a node reads, a source for each port
 abbrev pub sources : Node → List ℕ
@@ -22,14 +73,7 @@ sources (Output source) = source ∷ []
 -- by how many columns a node arranges its rows; only an arrange node does
 abbrev pub arranged_by : Node → Option ℕ
 arranged_by (Arrange source key) = Some key
-arranged_by (Input width) = None
-arranged_by (Map source items) = None
-arranged_by (Filter source test) = None
-arranged_by (Concat left right) = None
-arranged_by (Negate source) = None
-arranged_by (Join left right) = None
-arranged_by (Reduce kind source) = None
-arranged_by (Output source) = None
+arranged_by other = None
 
 -- how many columns the key has by which a node is arranged; 0 where it is not
 abbrev pub key_of : List Node → ℕ → ℕ

@@ -41,15 +41,15 @@ abbrev pub sum_of_counts : List Entry → ℤ
 sum_of_counts entries = total_by (λ e. e.count) entries
 
 -- the key and that number, unless it is 0
-abbrev pub counted : List ℤ → ℤ → List Entry
-counted key n = if int_eq n (pos 0) then [] else single (key ++ n ∷ []) ∷ []
+abbrev pub count_answer : List ℤ → ℤ → List Entry
+count_answer key n = if int_eq n (pos 0) then [] else single (key ++ n ∷ []) ∷ []
 
 -- what each kind of reduction answers for a key
-abbrev pub reduced : Kind → List ℤ → List Entry → List Entry
-reduced Count key entries = counted key (sum_of_counts entries)
-reduced Distinct key entries = map single (present entries)
-reduced Min key entries = map single (least_rows (present entries))
-reduced Max key entries = map single (greatest_rows (present entries))
+abbrev pub reduction_answer : Kind → List ℤ → List Entry → List Entry
+reduction_answer Count key entries = count_answer key (sum_of_counts entries)
+reduction_answer Distinct key entries = map single (present entries)
+reduction_answer Min key entries = map single (least_rows (present entries))
+reduction_answer Max key entries = map single (greatest_rows (present entries))
 
 -- the entry's row begins with the key, of k columns
 abbrev pub has_key : ℕ → List ℤ → Entry → Bool

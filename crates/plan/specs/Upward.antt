@@ -1,5 +1,5 @@
 -- What a node is found to be from itself and from what its sources are found to be. The width of a node, its ancestors,
--- its query and its weight are found so.
+-- its query and its bound are found so.
 use Rattle.std.specs.Prelude.{ℕ, zero, suc, List}
 use Rattle.plan.specs.Nodes.{node_at}
 use Rattle.plan.specs.declared.node.Node.{Node}

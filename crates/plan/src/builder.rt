@@ -1,7 +1,8 @@
 //! The making of a plan, node by node. Nodes are tested when they are added and never again: a builder is a plan at every
 //! moment, which is why finishing it can neither fail nor cost anything, and why a finished plan can go on.
 ghost use Rattle.std.specs.Prelude.{◌≡◌, ◌++◌, [], ◌∷◌, None, length, IfOk, IfErr, OnErr};
-ghost use Rattle.plan.specs.Rules.{refusal_of, IsRefusalBy};
+ghost use Rattle.plan.specs.Rules.{node_refusal};
+ghost use Rattle.update.specs.Refusals.{IsRefusalBy};
 
 use crate::node::{Node, NodeId};
 use crate::plan::Plan;
@@ -56,8 +57,9 @@ impl PlanBuilder {
     pub fn add(&mut self, node: Node) -> Result<NodeId, Refusal>
         ensures added { IfOk result (λ id. (id ≡ length self.old)
             × (self.new ≡ self.old ++ node ∷ [])) }
-        ensures accepted { IfOk result (λ id. refusal_of self.old node ≡ None) }
-        ensures refused { IfErr result (λ refusal. IsRefusalBy (refusal_of self.old node) refusal) }
+        ensures accepted { IfOk result (λ id. node_refusal self.old node ≡ None) }
+        ensures refused { IfErr result
+            (λ refusal. IsRefusalBy (node_refusal self.old node) refusal) }
         ensures unchanged { OnErr result (self.new ≡ self.old) }
     {
         if let Some(refusal) = self.plan.refusal_of(&node) {

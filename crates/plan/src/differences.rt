@@ -5,7 +5,7 @@ ghost use Rattle.std.specs.List.{filter};
 ghost use Rattle.lattice.specs.Frontiers.{all_beyond};
 ghost use Rattle.update.specs.declared.change.Update.{Update};
 ghost use Rattle.plan.specs.Changes.{AreDifferences, has_passed};
-ghost use Rattle.plan.specs.Weights.{IsWeight};
+ghost use Rattle.plan.specs.Bounds.{IsBound};
 ghost use Rattle.plan.specs.declared.node.Node.{Node};
 
 use lattice::Lattice;
@@ -25,8 +25,8 @@ pub fn differences_are_one_list<T: Lattice>()
         → us ≡ filter (λ u. has_passed T.below earlier u.time) vs }
 {}
 
-/// A node has one weight: it depends on the plan and the changes alone.
-pub fn weights_are_determined<T: Lattice>()
+/// A node has one bound: it depends on the plan and the changes alone.
+pub fn bounds_are_determined<T: Lattice>()
     ensures { (p : List Node) (changes : ℕ → List (Update T)) (n v w : ℕ)
-        → IsWeight T.below T.cmp p changes n v → IsWeight T.below T.cmp p changes n w → v ≡ w }
+        → IsBound T.below T.cmp p changes n v → IsBound T.below T.cmp p changes n w → v ≡ w }
 {}

@@ -2,9 +2,8 @@
 //! has 256 nodes at most, so nothing of it is kept beside the nodes: each question goes once over the nodes.
 ghost use Rattle.std.specs.Prelude.{◌≡◌, ◌<◌, ◌++◌, false, length, get_or, IfOk, IfErr, OnErr};
 ghost use Rattle.std.specs.List.{filter, list_any};
-ghost use Rattle.plan.specs.Nodes.{sources};
-ghost use Rattle.plan.specs.Rules.{is_output};
-ghost use Rattle.plan.specs.Ancestors.{is_above, is_input};
+ghost use Rattle.plan.specs.Nodes.{sources, is_output, is_input};
+ghost use Rattle.plan.specs.Ancestors.{reaches};
 ghost use Rattle.plan.specs.Edges.{edges_from, leads_from, ports_of, numbers_where, is_marked};
 ghost use Rattle.update.specs.declared.refusal.Refusal.TheVariants.{OutOfMemory};
 
@@ -89,9 +88,9 @@ impl Plan {
     /// Whether the one node is the other or an ancestor of it. Takes no memory.
     ///
     /// Cost: linear in the plan.
-    pub fn is_above(&self, above: NodeId, id: NodeId) -> bool
+    pub fn reaches(&self, above: NodeId, id: NodeId) -> bool
         requires { id < length self.now }
-        ensures { result ≡ is_above self.now above id }
+        ensures { result ≡ reaches self.now above id }
     {
         let mut marks = [false; MAX_NODES];
         for n in 0..self.len() {

@@ -4,14 +4,14 @@ ghost use Rattle.std.specs.Prelude.{◌≡◌, ◌<◌, ◌≤◌, ◌↔◌, �
 ghost use Rattle.std.specs.Ordering.{int_eq};
 ghost use Rattle.std.specs.List.{filter, flat_map, list_any};
 ghost use Rattle.update.specs.Bags.{Entry, Alike, count_of, same_row};
-ghost use Rattle.plan.specs.Nodes.{node_at, sources, arranged_by, key_width};
+ghost use Rattle.plan.specs.Nodes.{node_at, sources, arranged_by, key_width, is_output, is_linear};
 ghost use Rattle.plan.specs.Widths.{width_of, width_from};
-ghost use Rattle.plan.specs.Rules.{IsPlan, is_output, is_width, faults, first_refusal};
-ghost use Rattle.plan.specs.Reductions.{IsReducer, reduced, has_key, is_before, sum_of_counts};
-ghost use Rattle.plan.specs.Operators.{given, is_linear, reduced_by_key};
-ghost use Rattle.plan.specs.Queries.{query, handed};
-ghost use Rattle.plan.specs.Ancestors.{is_above, feeds, numbers_below};
-ghost use Rattle.plan.specs.Weights.{weight_by};
+ghost use Rattle.plan.specs.Rules.{IsPlan, is_width, node_faults, first_refusal};
+ghost use Rattle.plan.specs.Reductions.{IsReducer, reduction_answer, has_key, is_before, sum_of_counts};
+ghost use Rattle.plan.specs.Operators.{operator_output, reduction_output};
+ghost use Rattle.plan.specs.Queries.{query, source_value};
+ghost use Rattle.plan.specs.Ancestors.{reaches, feeds, numbers_below};
+ghost use Rattle.plan.specs.Bounds.{bound_by};
 ghost use Rattle.plan.specs.declared.node.Kind.{Kind};
 ghost use Rattle.plan.specs.declared.node.Kind.TheVariants.{Count, Distinct, Min, Max};
 ghost use Rattle.plan.specs.declared.node.Node.{Node};
@@ -19,10 +19,10 @@ ghost use Rattle.plan.specs.declared.node.Node.{Node};
 /// Each of the four reductions has the laws of a reducer; and of any reducer only the rows of a key matter for what is
 /// answered for the key.
 pub fn reductions_are_reducers()
-    ensures reducers { (kind : Kind) (k : ℕ) → IsReducer k (reduced kind) }
+    ensures reducers { (kind : Kind) (k : ℕ) → IsReducer k (reduction_answer kind) }
     ensures by_key { (k : ℕ) (reduce : List ℤ → List Entry → List Entry) → IsReducer k reduce
         → (entries : List Entry) (row : List ℤ) → k ≤ length row
-        → count_of (reduced_by_key k reduce entries) row
+        → count_of (reduction_output k reduce entries) row
         ≡ count_of (reduce (take k row) (filter (has_key k (take k row)) entries)) row }
 {}
 
@@ -31,32 +31,33 @@ pub fn reductions_are_reducers()
 /// stands before none. No row is answered more than once.
 pub fn reductions_answer_rows()
     ensures count { (key : List ℤ) (entries : List Entry) (row : List ℤ)
-        → count_of (reduced Count key entries) row
+        → count_of (reduction_answer Count key entries) row
         ≡ (if not (int_eq (sum_of_counts entries) (pos 0))
         && same_row (key ++ sum_of_counts entries ∷ []) row then pos 1 else pos 0) }
     ensures distinct { (key : List ℤ) (entries : List Entry) (row : List ℤ)
-        → count_of (reduced Distinct key entries) row
+        → count_of (reduction_answer Distinct key entries) row
         ≡ (if int_lt (pos 0) (count_of entries row) then pos 1 else pos 0) }
     ensures least { (key : List ℤ) (entries : List Entry) (row : List ℤ)
-        → (count_of (reduced Min key entries) row ≡ pos 1)
+        → (count_of (reduction_answer Min key entries) row ≡ pos 1)
         ↔ (IsTrue (int_lt (pos 0) (count_of entries row))
         × ((other : List ℤ) → IsTrue (int_lt (pos 0) (count_of entries other))
         → is_before other row ≡ false)) }
     ensures greatest { (key : List ℤ) (entries : List Entry) (row : List ℤ)
-        → (count_of (reduced Max key entries) row ≡ pos 1)
+        → (count_of (reduction_answer Max key entries) row ≡ pos 1)
         ↔ (IsTrue (int_lt (pos 0) (count_of entries row))
         × ((other : List ℤ) → IsTrue (int_lt (pos 0) (count_of entries other))
         → is_before row other ≡ false)) }
     ensures once { (kind : Kind) (key : List ℤ) (entries : List Entry) (row : List ℤ)
-        → (count_of (reduced kind key entries) row ≡ pos 0)
-        ⊎ (count_of (reduced kind key entries) row ≡ pos 1) }
+        → (count_of (reduction_answer kind key entries) row ≡ pos 0)
+        ⊎ (count_of (reduction_answer kind key entries) row ≡ pos 1) }
 {}
 
 /// Alike bags give alike bags: at every node of every list of nodes, and, of a plan, wherever the inputs that feed the
 /// node have alike bags.
 pub fn queries_depend_on_bags()
     ensures operators { (k : ℕ) (node : Node) (a b : ℕ → List Entry)
-        → ((port : ℕ) → Alike (a port) (b port)) → Alike (given k node a) (given k node b) }
+        → ((port : ℕ) → Alike (a port) (b port))
+        → Alike (operator_output k node a) (operator_output k node b) }
     ensures queries { (p : List Node) (a b : ℕ → List Entry)
         → ((input : ℕ) → Alike (a input) (b input)) → (n : ℕ) → Alike (query p a n) (query p b n) }
     ensures fed { (p : List Node) → IsPlan p → (a b : ℕ → List Entry) (n : ℕ) → n < length p
@@ -68,8 +69,9 @@ pub fn queries_depend_on_bags()
 /// every node gives nothing.
 pub fn linear_operators_add_up()
     ensures sums { (k : ℕ) (node : Node) → IsTrue (is_linear node) → (a b : ℕ → List Entry)
-        → Alike (given k node (λ port. a port ++ b port)) (given k node a ++ given k node b) }
-    ensures nothing { (k : ℕ) (node : Node) → Alike (given k node (λ port. [])) [] }
+        → Alike (operator_output k node (λ port. a port ++ b port))
+        (operator_output k node a ++ operator_output k node b) }
+    ensures nothing { (k : ℕ) (node : Node) → Alike (operator_output k node (λ port. [])) [] }
 {}
 
 /// What joins and reductions give of the rows whose keys pass a test is the part of what they give whose keys pass it. So
@@ -77,15 +79,15 @@ pub fn linear_operators_add_up()
 pub fn keyed_operators_add_up()
     ensures parts { (k : ℕ) (node : Node) → is_linear node ≡ false
         → (test : List ℤ → Bool) (bags : ℕ → List Entry)
-        → Alike (given k node (λ port. filter (λ e. test (take k e.row)) (bags port)))
-        (filter (λ e. test (take k e.row)) (given k node bags)) }
+        → Alike (operator_output k node (λ port. filter (λ e. test (take k e.row)) (bags port)))
+        (filter (λ e. test (take k e.row)) (operator_output k node bags)) }
     ensures workers { (k : ℕ) (node : Node) → is_linear node ≡ false
         → (workers : ℕ) (route : List ℤ → ℕ) → ((key : List ℤ) → route key < workers)
         → (bags : ℕ → List Entry)
         → Alike (flat_map
-        (λ worker. given k node
+        (λ worker. operator_output k node
         (λ port. filter (λ e. eqb (route (take k e.row)) worker) (bags port)))
-        (numbers_below workers)) (given k node bags) }
+        (numbers_below workers)) (operator_output k node bags) }
 {}
 
 /// What every plan has: at most 256 nodes; sources with smaller numbers, none of which is a view; widths of 1 to 8
@@ -99,7 +101,7 @@ pub fn plans_are_in_order()
         → slice_get (sources (node_at p n)) port ≡ Some source
         → is_output (node_at p source) ≡ false }
     ensures faultless { (p : List Node) → IsPlan p → (n : ℕ) → n < length p
-        → first_refusal (faults p (node_at p n)) ≡ None }
+        → first_refusal (node_faults p (node_at p n)) ≡ None }
     ensures widths { (p : List Node) → IsPlan p → (n : ℕ) → n < length p
         → IsTrue (is_width (width_of p n)) }
     ensures keys { (p : List Node) → IsPlan p → (n key : ℕ) → n < length p
@@ -117,13 +119,14 @@ pub fn plans_are_in_order()
 pub fn nodes_stand_on_their_sources()
     ensures query { (p : List Node) → IsPlan p → (inputs : ℕ → List Entry) (n : ℕ)
         → query p inputs n
-        ≡ given (key_width p (node_at p n)) (node_at p n)
-        (λ port. handed (inputs n) (query p inputs) (slice_get (sources (node_at p n)) port)) }
+        ≡ operator_output (key_width p (node_at p n)) (node_at p n)
+        (λ port. source_value (inputs n) (query p inputs)
+        (slice_get (sources (node_at p n)) port)) }
     ensures above { (p : List Node) → IsPlan p → (m n : ℕ)
-        → is_above p m n ≡ (eqb m n || list_any (is_above p m) (sources (node_at p n))) }
-    ensures earlier { (p : List Node) → IsPlan p → (m n : ℕ) → IsTrue (is_above p m n) → m ≤ n }
-    ensures transitive { (p : List Node) → IsPlan p → (l m n : ℕ) → IsTrue (is_above p l m)
-        → IsTrue (is_above p m n) → IsTrue (is_above p l n) }
+        → reaches p m n ≡ (eqb m n || list_any (reaches p m) (sources (node_at p n))) }
+    ensures earlier { (p : List Node) → IsPlan p → (m n : ℕ) → IsTrue (reaches p m n) → m ≤ n }
+    ensures transitive { (p : List Node) → IsPlan p → (l m n : ℕ) → IsTrue (reaches p l m)
+        → IsTrue (reaches p m n) → IsTrue (reaches p l n) }
     ensures fed { (p : List Node) → IsPlan p → (n : ℕ) → n < length p
         → (input : ℕ) × (input < length p) × IsTrue (feeds p input n) }
 {}
@@ -136,7 +139,7 @@ pub fn extensions_keep_plans()
     ensures queries { (p more : List Node) → IsPlan p → (inputs : ℕ → List Entry) (n : ℕ)
         → n < length p → query (p ++ more) inputs n ≡ query p inputs n }
     ensures above { (p more : List Node) → IsPlan p → (m n : ℕ) → n < length p
-        → is_above (p ++ more) m n ≡ is_above p m n }
-    ensures weights { (p more : List Node) → IsPlan p → (own inputs : ℕ → ℕ) (n : ℕ) → n < length p
-        → weight_by (p ++ more) own inputs n ≡ weight_by p own inputs n }
+        → reaches (p ++ more) m n ≡ reaches p m n }
+    ensures bounds { (p more : List Node) → IsPlan p → (own inputs : ℕ → ℕ) (n : ℕ) → n < length p
+        → bound_by (p ++ more) own inputs n ≡ bound_by p own inputs n }
 {}

@@ -6,7 +6,7 @@
 //!
 //! What a plan means is said here too, and here alone: `specs/` has the operator table, the query that follows from it, and
 //! the differences that a view goes through. In the query neither time nor difference, neither worker nor batch occurs. It
-//! is what everything above is held to, and the first page for whoever doubts the rest. The functions with empty bodies
+//! is what everything above is held to, and the first page to read for a reader who doubts the rest. The functions with empty bodies
 //! ([`queries_depend_on_bags`] and those beside it) carry the laws that follow from the definitions.
 #![tactic(auto)]
 
@@ -18,10 +18,11 @@ mod laws;
 mod node;
 mod plan;
 mod rules;
+mod sort;
 mod text;
 
 pub use builder::PlanBuilder;
-pub use differences::{differences_are_one_list, weights_are_determined};
+pub use differences::{bounds_are_determined, differences_are_one_list};
 pub use edges::Edge;
 pub use items::Items;
 pub use laws::{
@@ -32,3 +33,4 @@ pub use laws::{
 pub use node::{Kind, Node, NodeId};
 pub use plan::Plan;
 pub use rules::MAX_NODES;
+pub use sort::Sort;

@@ -3,8 +3,6 @@
 //! to say.
 ghost use Rattle.std.specs.Prelude.{◌≡◌, ◌↔◌, slice_get, IsTrue};
 ghost use Rattle.plan.specs.Nodes.{sources, arranged_by};
-ghost use Rattle.plan.specs.Rules.{is_output};
-ghost use Rattle.plan.specs.Ancestors.{is_input};
 ghost use Rattle.plan.specs.NodeEquality.{same_node};
 
 use crate::items::Items;
@@ -112,23 +110,9 @@ impl Node {
             _ => None,
         }
     }
-
-    /// Whether rows come here from outside. Takes no memory.
-    pub fn is_input(&self) -> bool
-        ensures { result ≡ is_input self.now }
-    {
-        matches!(self, Node::Input { .. })
-    }
-
-    /// Whether this is a view. Takes no memory.
-    pub fn is_output(&self) -> bool
-        ensures { result ≡ is_output self.now }
-    {
-        matches!(self, Node::Output { .. })
-    }
 }
 
-/// Nodes of one sort with the same sources and parameters are equal.
+/// Nodes of one variant with the same sources and parameters are equal.
 impl PartialEq for Node {
     ghost use Rattle.std.specs.Cmp.{partial_equiv_from_equiv};
     ghost use Rattle.plan.specs.NodeEquality.{same_node, nodes_equivalence};
@@ -151,56 +135,29 @@ impl Eq for Node {
     ghost laws = { nodes_equivalence };
 }
 
-// Whether both are of one sort and have the same sources and parameters.
+// Whether both are of one variant and have the same sources and parameters.
 fn is_same(node: &Node, other: &Node) -> bool
     ensures { result ≡ same_node node.now other.now }
 {
     match (node, other) {
-        (Node::Input { width }, Node::Input { width: other }) => width == other,
+        (Node::Input { width }, Node::Input { width: w }) => width == w,
         (
             Node::Map { source, items },
             Node::Map {
-                source: other,
-                items: others,
+                source: s,
+                items: i,
             },
-        ) => { source == other && items == others }
-        (
-            Node::Filter { source, test },
-            Node::Filter {
-                source: other,
-                test: others,
-            },
-        ) => { source == other && test == others }
-        (
-            Node::Concat { left, right },
-            Node::Concat {
-                left: other,
-                right: another,
-            },
-        )
-        | (
-            Node::Join { left, right },
-            Node::Join {
-                left: other,
-                right: another,
-            },
-        ) => { left == other && right == another }
-        (Node::Negate { source }, Node::Negate { source: other })
-        | (Node::Output { source }, Node::Output { source: other }) => source == other,
-        (
-            Node::Arrange { source, key },
-            Node::Arrange {
-                source: other,
-                key: others,
-            },
-        ) => { source == other && key == others }
-        (
-            Node::Reduce { kind, source },
-            Node::Reduce {
-                kind: others,
-                source: other,
-            },
-        ) => { source == other && kind == others }
+        ) => source == s && items == i,
+        (Node::Filter { source, test }, Node::Filter { source: s, test: t }) => source == s
+            && test == t,
+        (Node::Concat { left, right }, Node::Concat { left: l, right: r })
+        | (Node::Join { left, right }, Node::Join { left: l, right: r }) => left == l && right == r,
+        (Node::Negate { source }, Node::Negate { source: s })
+        | (Node::Output { source }, Node::Output { source: s }) => source == s,
+        (Node::Arrange { source, key }, Node::Arrange { source: s, key: k }) => source == s
+            && key == k,
+        (Node::Reduce { kind, source }, Node::Reduce { kind: k, source: s }) => source == s
+            && kind == k,
         _ => false,
     }
 }

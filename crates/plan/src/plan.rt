@@ -8,7 +8,7 @@ ghost use Rattle.std.specs.Prelude.{◌≡◌, ◌<◌, ◌≤◌, ◌↔◌, �
 ghost use Rattle.update.specs.declared.refusal.Refusal.TheVariants.{OutOfMemory};
 ghost use Rattle.plan.specs.Nodes.{node_at, key_of, key_width};
 ghost use Rattle.plan.specs.Widths.{width_of};
-ghost use Rattle.plan.specs.Rules.{IsPlan, is_width, is_arranged, refusal_of};
+ghost use Rattle.plan.specs.Rules.{IsPlan, is_width, is_arranged, node_refusal};
 
 use crate::node::{Node, NodeId};
 use std::alloc::{AllocError, Global};
@@ -61,6 +61,14 @@ impl Plan {
         self.stages.len()
     }
 
+    /// Costs nothing; it tells the prover that the rules accept each node, and that there are 256 at most.
+    pub fn known(&self)
+        ensures few { length self.now ≤ 256 }
+        ensures plan { IsPlan self.now }
+    {
+        let _ = &self.stages;
+    }
+
     /// Whether there are none. Takes no memory.
     pub fn is_empty(&self) -> bool
         ensures { IsTrue result ↔ (self.now ≡ []) }
@@ -106,12 +114,12 @@ impl Plan {
     }
 
     /// How many columns the key has by which the sources of the node are arranged: a join's and a reduction's, 1 to 8; 0
-    /// where its first source is no arrange node. Takes no memory, and constant time.
+    /// if it has no source, as an input, or if its first source is no arrange node. Takes no memory, and constant time.
     pub fn key_width(&self, id: NodeId) -> usize
         requires { id < length self.now }
         ensures { result ≡ key_width self.now (node_at self.now id) }
     {
-        let _count = self.len();
+        self.known();
         match self.node(id).source(0) {
             Some(source) => self.key(source),
             None => 0,
@@ -120,7 +128,7 @@ impl Plan {
 
     /// Adds a node that the rules accept; refused only for want of memory.
     pub(crate) fn push(&mut self, node: Node) -> Result<NodeId, Refusal>
-        requires { refusal_of self.old node ≡ None }
+        requires { node_refusal self.old node ≡ None }
         ensures added { IfOk result (λ id. (id ≡ length self.old)
             × (self.new ≡ self.old ++ node ∷ [])) }
         ensures refused { IfErr result (λ refusal. refusal ≡ OutOfMemory) }

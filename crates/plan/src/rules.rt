@@ -5,14 +5,14 @@ ghost use Rattle.std.specs.Prelude.{◌≡◌, ◌<◌, ◌≤◌, ◌+◌, ◌-
 ghost use Rattle.std.specs.List.{list_all};
 ghost use Rattle.plan.specs.Nodes.{sources, key_of, key_width};
 ghost use Rattle.plan.specs.Widths.{width_of, width_from, reduced_width};
-ghost use Rattle.plan.specs.Rules.{is_width, is_readable, is_test_within, faults, first_refusal, refusal_of};
+ghost use Rattle.plan.specs.Rules.{is_width, is_readable, node_faults, first_refusal, node_refusal};
 ghost use Rattle.plan.specs.declared.node.Node.TheVariants.{Join, Reduce};
-ghost use Rattle.row.specs.Projection.{is_within};
+ghost use Rattle.row.specs.Projection.{are_within};
 ghost use Rattle.update.specs.declared.refusal.Refusal.TheVariants.{BadWidth, BadColumn};
 
 use crate::node::{Kind, Node, NodeId};
 use crate::plan::Plan;
-use row::{Item, Test};
+use row::{Item, MAX_WIDTH, are_within};
 use update::Refusal;
 
 /// How many nodes a plan has at most.
@@ -21,7 +21,7 @@ pub const MAX_NODES: usize = 256;
 impl Plan {
     /// What refuses the node as the next one, if anything does.
     pub(crate) fn refusal_of(&self, node: &Node) -> Option<Refusal>
-        ensures { result ≡ refusal_of self.now node.now }
+        ensures { result ≡ node_refusal self.now node.now }
     {
         if self.len() >= MAX_NODES {
             return Some(Refusal::TooManyNodes);
@@ -53,13 +53,13 @@ impl Plan {
     // What refuses a node whose sources are there.
     fn fault_of(&self, node: &Node) -> Option<Refusal>
         requires { IsTrue (list_all (is_readable self.now) (sources node.now)) }
-        ensures { result ≡ first_refusal (faults self.now node.now) }
+        ensures { result ≡ first_refusal (node_faults self.now node.now) }
     {
         match node {
             Node::Input { width } => refused(!is_width(*width), Refusal::BadWidth),
             Node::Map { source, items } => items_fault(items.as_slice(), self.width(*source)),
             Node::Filter { source, test } => refused(
-                !is_test_within(test, self.width(*source)),
+                !test.is_within(self.width(*source)),
                 Refusal::BadColumn,
             ),
             Node::Concat { left, right } => refused(
@@ -79,7 +79,7 @@ impl Plan {
     fn join_fault(&self, left: NodeId, right: NodeId) -> Option<Refusal>
         requires left { IsTrue (is_readable self.now left) }
         requires right { IsTrue (is_readable self.now right) }
-        ensures { result ≡ first_refusal (faults self.now (Join left right)) }
+        ensures { result ≡ first_refusal (node_faults self.now (Join left right)) }
     {
         if !self.is_arranged(left) || !self.is_arranged(right) {
             return Some(Refusal::NotArranged);
@@ -95,7 +95,7 @@ impl Plan {
     // What refuses a reduction of a node that is there.
     fn reduce_fault(&self, kind: Kind, source: NodeId) -> Option<Refusal>
         requires { IsTrue (is_readable self.now source) }
-        ensures { result ≡ first_refusal (faults self.now (Reduce kind source)) }
+        ensures { result ≡ first_refusal (node_faults self.now (Reduce kind source)) }
     {
         if !self.is_arranged(source) {
             return Some(Refusal::NotArranged);
@@ -159,40 +159,16 @@ fn refused(fault: bool, refusal: Refusal) -> Option<Refusal>
 fn is_width(width: usize) -> bool
     ensures { result ≡ is_width width }
 {
-    1 <= width && width <= 8
+    1 <= width && width <= MAX_WIDTH
 }
 
 // What refuses these items of a map of rows of that width.
 fn items_fault(items: &[Item], width: usize) -> Option<Refusal>
     ensures { result ≡ first_refusal ((not (is_width (length items.now)), BadWidth)
-        ∷ (not (list_all (λ item. is_within item width) items.now), BadColumn) ∷ []) }
+        ∷ (not (are_within items.now width), BadColumn) ∷ []) }
 {
     refused(!is_width(items.len()), Refusal::BadWidth).or(refused(
         !are_within(items, width),
         Refusal::BadColumn,
     ))
-}
-
-// Whether rows of that width have the columns that the items name.
-fn are_within(items: &[Item], width: usize) -> bool
-    ensures { result ≡ list_all (λ item. is_within item width) items.now }
-{
-    items.iter().all(|item| is_within(*item, width))
-}
-
-// Whether rows of that width have the column that the item names, if it names one.
-fn is_within(item: Item, width: usize) -> bool
-    ensures { result ≡ is_within item width }
-{
-    match item {
-        Item::Column(number) => number < width,
-        Item::Constant(_) => true,
-    }
-}
-
-// Whether rows of that width have the columns that the test names.
-fn is_test_within(test: &Test, width: usize) -> bool
-    ensures { result ≡ is_test_within test.now width }
-{
-    is_within(test.left, width) && is_within(test.right, width)
 }

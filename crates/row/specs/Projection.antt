@@ -1,5 +1,6 @@
 -- What a map makes of a row.
 use Rattle.std.specs.Prelude.{ℕ, Bool, true, List, ℤ, pos, map, nat_lt, slice_get, unwrap_or}
+use Rattle.std.specs.List.{list_all}
 use Rattle.row.specs.declared.projection.Item.{Item}
 use Rattle.row.specs.declared.projection.Item.TheVariants.{Column, Constant}
 
@@ -13,6 +14,10 @@ abbrev pub is_within : Item → ℕ → Bool
 is_within (Column number) width = nat_lt number width
 is_within (Constant value) width = true
 
+-- a row of that width has the columns of all the items
+abbrev pub are_within : List Item → ℕ → Bool
+are_within items width = list_all (λ item. is_within item width) items
+
 -- the values of the items at a row, in their order
-abbrev pub projected : List Item → List ℤ → List ℤ
-projected items row = map (λ item. item_value item row) items
+abbrev pub projection : List Item → List ℤ → List ℤ
+projection items row = map (λ item. item_value item row) items

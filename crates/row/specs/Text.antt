@@ -4,9 +4,9 @@ use Rattle.std.specs.List.{join_by}
 use Rattle.std.specs.Fmt.{signed_decimal}
 use Rattle.row.specs.declared.projection.Item.{Item}
 use Rattle.row.specs.declared.projection.Item.TheVariants.{Column, Constant}
-use Rattle.row.specs.declared.testing.Cmp.{Cmp}
-use Rattle.row.specs.declared.testing.Cmp.TheVariants.{Eq, Ne, Lt, Le, Gt, Ge}
-use Rattle.row.specs.declared.testing.Test.{Test}
+use Rattle.row.specs.declared.test.Cmp.{Cmp}
+use Rattle.row.specs.declared.test.Cmp.TheVariants.{Eq, Ne, Lt, Le, Gt, Ge}
+use Rattle.row.specs.declared.test.Test.{Test}
 
 -- the columns as decimal numbers, parted by one space
 abbrev pub row_text : List ℤ → List ℕ

@@ -7,6 +7,9 @@ use smallvec::SmallVec;
 use std::alloc::{AllocError, Global};
 use std::marker::Model;
 
+/// The most columns that a row has.
+pub const MAX_WIDTH: usize = 8;
+
 /// A list of 1 to 8 columns. A contract sees the list.
 #[derive(Drop)]
 pub struct Row {
@@ -29,7 +32,7 @@ impl Row {
         ensures ok { IfOk result (λ row. row ≡ columns.now) }
         ensures width { IsOk result ↔ ((1 ≤ length columns.now) × (length columns.now ≤ 8)) }
     {
-        if columns.is_empty() || columns.len() > 8 {
+        if columns.is_empty() || columns.len() > MAX_WIDTH {
             return Err(WidthRefused);
         }
         Ok(Row::of(alloc, columns))
@@ -67,6 +70,14 @@ impl Row {
         ensures few { result ≤ 8 }
     {
         self.columns.len()
+    }
+
+    /// Costs nothing; it tells the prover that there are 1 to 8 columns.
+    pub fn known(&self)
+        ensures some { 1 ≤ length self.now }
+        ensures few { length self.now ≤ 8 }
+    {
+        let _ = &self.columns;
     }
 
     /// The first `k` columns. Takes no memory.

@@ -1,7 +1,7 @@
 //! Rows: the values that a table holds, of one to eight whole-number columns.
 //!
-//! A row moves through every operator and lies in every batch, so it must cost little and never fail: its columns are
-//! kept in the value itself, and no call here takes memory. The one invariant is its width, 1 to 8, which [`Row::new`]
+//! A row moves through every operator and lies in every batch, so it must cost little: its columns are kept in the
+//! value itself, and no call here takes memory. The one invariant is its width, 1 to 8, which [`Row::new`]
 //! tests once, so that no layer above tests it again.
 //!
 //! Contracts see a row as the list of its columns. Rows are ordered column by column, and equal exactly where their
@@ -12,15 +12,15 @@
 #![tactic(auto)]
 
 mod columns;
-mod comparing;
+mod comparison;
 mod projection;
 mod refusal;
 mod routing;
-mod testing;
+mod test;
 mod text;
 
-pub use columns::Row;
-pub use projection::{Item, project};
+pub use columns::{MAX_WIDTH, Row};
+pub use projection::{Item, are_within, project};
 pub use refusal::WidthRefused;
 pub use routing::{route, routes_are_remainders};
-pub use testing::{Cmp, Test, holds};
+pub use test::{Cmp, Test, holds};

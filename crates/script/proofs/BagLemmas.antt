@@ -11,7 +11,7 @@ use Rattle.std.specs.declared.cmp.Ordering.{Ordering}
 use Rattle.std.specs.declared.cmp.Ordering.TheVariants.{Less, Equal, Greater}
 use Rattle.update.specs.Bags.{same_row, Entry, count_of, Alike, IsBag}
 use Rattle.update.proofs.BagLemmas.{equal_rows, bags_by_counts}
-use Rattle.script.specs.Bags.{in_front, beside, put, bag_of}
+use Rattle.script.specs.Bags.{in_front, beside, put, consolidated_bag}
 
 abbrev by_row : Entry → Entry → Ordering
 by_row a b = slice_cmp int_cmp a.row b.row
@@ -121,21 +121,24 @@ put_says e (x ∷ xs) row = by_order (by_row e x) refl (put_says e xs row)
 
 -- ---- all entries
 
-pub bag_of-sorted : (entries : List Entry) → IsStrictlySortedBy by_row (bag_of entries)
+pub consolidated_bag-sorted : (entries : List Entry) → IsStrictlySortedBy by_row (consolidated_bag entries)
 unfolding IsStrictlySortedBy
-bag_of-sorted [] = tt
-bag_of-sorted (e ∷ entries) = put_sorted e (bag_of entries) (bag_of-sorted entries)
+consolidated_bag-sorted [] = tt
+consolidated_bag-sorted (e ∷ entries) = put_sorted e (consolidated_bag entries) (consolidated_bag-sorted entries)
 
-pub bag_of-counts : (entries : List Entry) → AllByRecursion Counts (bag_of entries)
-bag_of-counts [] = tt
-bag_of-counts (e ∷ entries) = put_counts e (bag_of entries) (bag_of-counts entries)
+pub consolidated_bag-counts : (entries : List Entry) → AllByRecursion Counts (consolidated_bag entries)
+consolidated_bag-counts [] = tt
+consolidated_bag-counts (e ∷ entries) = put_counts e (consolidated_bag entries) (consolidated_bag-counts entries)
 
-pub bag_of-is_bag : (entries : List Entry) → IsBag (bag_of entries)
-bag_of-is_bag entries = record { ascending = bag_of-sorted entries; nonzero = bag_of-counts entries }
+-- answers the clause `bag` of the_bag_of_entries
+pub consolidated_bag-is_bag : (entries : List Entry) → IsBag (consolidated_bag entries)
+consolidated_bag-is_bag entries = record { ascending = consolidated_bag-sorted entries; nonzero = consolidated_bag-counts entries }
 
-pub bag_of-alike : (entries : List Entry) → Alike (bag_of entries) entries
-bag_of-alike [] row = refl
-bag_of-alike (e ∷ entries) row = put_says e (bag_of entries) row ∙ ap (λ n. says e row +ℤ n) (bag_of-alike entries row)
+-- answers the clause `alike` of the_bag_of_entries
+pub consolidated_bag-alike : (entries : List Entry) → Alike (consolidated_bag entries) entries
+consolidated_bag-alike [] row = refl
+consolidated_bag-alike (e ∷ entries) row = put_says e (consolidated_bag entries) row ∙ ap (λ n. says e row +ℤ n) (consolidated_bag-alike entries row)
 
-pub bag_of-only : (entries bag : List Entry) → IsBag bag → Alike bag entries → bag ≡ bag_of entries
-bag_of-only entries bag is alike = bags_by_counts bag (bag_of entries) is (bag_of-is_bag entries) (λ row. alike row ∙ sym (bag_of-alike entries row))
+-- turns a bag that an engine found into the one that the text prints
+pub consolidated_bag-only : (entries bag : List Entry) → IsBag bag → Alike bag entries → bag ≡ consolidated_bag entries
+consolidated_bag-only entries bag is alike = bags_by_counts bag (consolidated_bag entries) is (consolidated_bag-is_bag entries) (λ row. alike row ∙ sym (consolidated_bag-alike entries row))

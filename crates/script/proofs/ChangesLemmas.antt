@@ -1,5 +1,5 @@
--- The list that is built time by time is consolidated, and sums to the query at each time that has passed; and it is the only
--- one.
+-- The list that is built time by time is consolidated, and sums to the query at each time that has
+-- passed; and it is the only one.
 use Rattle.std.proofs.Common.{◌≡◌, ℕ, zero, suc, ◌+◌, ◌<◌, ◌≤◌, Bool, true, false, cond, not, List, [], ◌∷◌, ◌++◌, map, take, drop, length, get_or, IsTrue, ◌⊎◌, inl, inr, ⊎_elim, refl, sym, ◌∙◌, ap, subst, take_all, eqb, arith}
 use Rattle.std.specs.Cmp.{IsTotalOrder}
 use Rattle.std.specs.List.{All, filter, list_all, Contains}
@@ -17,23 +17,23 @@ use Rattle.update.specs.Bags.{Entry, Alike, count_of}
 use Rattle.update.specs.Updates.{as_of}
 use Rattle.update.specs.declared.change.Update.{Update}
 use Rattle.update.proofs.UniqueLemmas.{same_totals, same_updates}
-use Rattle.plan.specs.Ancestors.{is_input}
+use Rattle.plan.specs.Nodes.{is_input}
 use Rattle.plan.specs.Changes.{AreDifferences, has_passed, query_at}
 use Rattle.plan.specs.Edges.{numbers_where}
-use Rattle.plan.specs.Operators.{negated}
+use Rattle.plan.specs.Operators.{negated_entry}
 use Rattle.plan.specs.Rules.{IsPlan}
 use Rattle.plan.specs.declared.node.Node.{Node}
-use Rattle.plan.proofs.WeighLemmas.{count_of-append, count_of-negated}
-use Rattle.machine.specs.declared.event.Fed.{Fed}
-use Rattle.machine.specs.Worlds.{fed_to}
+use Rattle.plan.proofs.CountLemmas.{count_of-append, count_of-negated_entry}
+use Rattle.machine.specs.declared.histories.event.Fed.{Fed}
+use Rattle.machine.specs.Histories.States.{fed_to}
 use Rattle.oracle.specs.Evaluation.{list_of}
-use Rattle.oracle.specs.Grid.{IsClosed, IsGrid}
-use Rattle.oracle.specs.Listing.{at_time, GoesOn, IsListed}
+use Rattle.oracle.specs.JoinClosures.{IsClosed, IsJoinClosure}
+use Rattle.oracle.specs.Listing.{at_time, ContinuesListing, IsListed}
 use Rattle.oracle.proofs.DifferenceLemmas.{listed_none, listed_skip, listed_next, listed_all}
-use Rattle.oracle.proofs.GridLemmas.{more_closed, more_new, more_old, closed_same, closed_none}
+use Rattle.oracle.proofs.JoinClosureLemmas.{more_closed, more_new, more_old, closed_same, closed_none}
 use Rattle.script.specs.Changes.{joins_of, missing, listed_along, changes_along}
 use Rattle.script.specs.Orders.{in_order}
-use Rattle.script.proofs.BagLemmas.{bag_of-is_bag, bag_of-alike}
+use Rattle.script.proofs.BagLemmas.{consolidated_bag-is_bag, consolidated_bag-alike}
 use Rattle.script.proofs.InputLemmas.{query_at_inputs, list_of_input}
 use Rattle.script.proofs.OrderLemmas.{in_order-sorted, in_order-has, in_order-only}
 
@@ -69,8 +69,8 @@ module _ {T : Type 0} {below : T → T → Bool} {joined met : T → T → T} {c
     abbrev pub lists : List (List (Update T))
     lists = map (λ i. fed_to i fed) (numbers_where is_input p)
 
-    in_grid : (s : T) → Among s times → Contains grid s
-    in_grid s h = to_order (joins_of joined times) s (joins_have times s h)
+    in_join_closure : (s : T) → Among s times → Contains grid s
+    in_join_closure s h = to_order (joins_of joined times) s (joins_have times s h)
 
     fed_in : (i : ℕ) (fs : List (Fed T)) (u : Update T) → Among u (fed_to i fs) → Among u.time (map (λ f. f.update.time) fs)
     fed_in i [] u h = absurd h
@@ -87,10 +87,10 @@ module _ {T : Type 0} {below : T → T → Bool} {joined met : T → T → T} {c
         let there : n < length (numbers_where is_input p) = subst (λ (m : ℕ). n < m) (length-map (numbers_where is_input p) (λ i. fed_to i fed)) l in
         let is : get_or lists n d ≡ fed_to i fed = get_or-map (λ (i : ℕ). fed_to i fed) (numbers_where is_input p) n 0 d there in
         let here = Contains-get_or (get_or lists n d) k u within in
-        in_grid (get_or (get_or lists n d) k u).time (fed_in i fed (get_or (get_or lists n d) k u) (subst (λ (us : List (Update T)). Among (get_or (get_or lists n d) k u) us) is (among_contains (get_or (get_or lists n d) k u) (get_or lists n d) here)))
+        in_join_closure (get_or (get_or lists n d) k u).time (fed_in i fed (get_or (get_or lists n d) k u) (subst (λ (us : List (Update T)). Among (get_or (get_or lists n d) k u) us) is (among_contains (get_or (get_or lists n d) k u) (get_or lists n d) here)))
 
-    is_grid : IsGrid cmp joined lists grid
-    is_grid = record {
+    is_join_closure : IsJoinClosure cmp joined lists grid
+    is_join_closure = record {
       ascending = in_order-sorted cmp total (joins_of joined times);
       closed = closed_same joined (joins_of joined times) grid (to_order (joins_of joined times)) (from_order (joins_of joined times)) (joins_closed times);
       covers = covered;
@@ -108,16 +108,16 @@ module _ {T : Type 0} {below : T → T → Bool} {joined met : T → T → T} {c
       same_wanted t = query_at_inputs p plan (λ i. as_of below t (list_of p lists i)) (λ i. as_of below t (fed_to i fed)) (λ n l i row. ap (λ us. count_of (as_of below t us) row) (list_of_input p (λ i. fed_to i fed) n l i)) view within
 
       -- what is missing, and what is listed, are what is wanted
-      fills : (t : T) (us : List (Update T)) → GoesOn below t (listed_wanted t) us (us ++ map (at_time t) (missing below (wanted t) t us))
+      fills : (t : T) (us : List (Update T)) → ContinuesListing below t (listed_wanted t) us (us ++ map (at_time t) (missing below (wanted t) t us))
       fills t us = (
         missing below (wanted t) t us,
-        bag_of-is_bag (wanted t ++ map negated (as_of below t us)),
+        consolidated_bag-is_bag (wanted t ++ map negated_entry (as_of below t us)),
         refl,
         λ row.
-            let entries = wanted t ++ map negated (as_of below t us) in
-            let counts = bag_of-alike entries row in
-            let parts = count_of-append (wanted t) (map negated (as_of below t us)) row in
-            let opposite = count_of-negated (as_of below t us) row in
+            let entries = wanted t ++ map negated_entry (as_of below t us) in
+            let counts = consolidated_bag-alike entries row in
+            let parts = count_of-append (wanted t) (map negated_entry (as_of below t us)) row in
+            let opposite = count_of-negated_entry (as_of below t us) row in
             let same = same_wanted t row in
             omega (arith, ints),
       )
@@ -130,8 +130,8 @@ module _ {T : Type 0} {below : T → T → Bool} {joined met : T → T → T} {c
       step n t us l e so = by (is_beyond below frontier t) refl
         where
           by : (v : Bool) → is_beyond below frontier t ≡ v → IsListedUpTo (n + 1) (cond (not v) (us ++ map (at_time t) (missing below (wanted t) t us)) us)
-          by true late = listed_skip o b x total p plan lists view frontier grid is_grid n t l e us late so
-          by false passed = listed_next o b x total p plan lists view frontier grid is_grid n t l e us (us ++ map (at_time t) (missing below (wanted t) t us)) passed (fills t us) so
+          by true late = listed_skip o b x total p plan lists view frontier grid is_join_closure n t l e us late so
+          by false passed = listed_next o b x total p plan lists view frontier grid is_join_closure n t l e us (us ++ map (at_time t) (missing below (wanted t) t us)) passed (fills t us) so
 
       along : (n : ℕ) (ts : List T) (us : List (Update T)) → drop n grid ≡ ts → IsListedUpTo n us → IsListed below cmp frontier listed_wanted grid (listed_along below frontier wanted ts us)
       along n [] us e so = subst (λ (g : List T). IsListed below cmp frontier listed_wanted g us) (take_all n grid (past grid n e)) so
@@ -159,11 +159,12 @@ module _ {T : Type 0} {below : T → T → Bool} {joined met : T → T → T} {c
           here (x ∷ xs) (suc n) e = let k = here xs n e in (omega (arith, k.0), k.1, k.2)
 
       listed : IsListed below cmp frontier listed_wanted grid (changes_along below cmp joined frontier wanted times)
-      listed = along 0 grid [] refl (listed_none o b x total p plan lists view frontier grid is_grid)
+      listed = along 0 grid [] refl (listed_none o b x total p plan lists view frontier grid is_join_closure)
 
+      -- answers the clause `differences` of the_changes_of_a_view
       pub changes_are : AreDifferences below cmp p (λ i. fed_to i fed) frontier view (changes_along below cmp joined frontier wanted times)
       changes_are =
-          let d = listed_all o b x total p plan lists view frontier grid is_grid (changes_along below cmp joined frontier wanted times) listed in
+          let d = listed_all o b x total p plan lists view frontier grid is_join_closure (changes_along below cmp joined frontier wanted times) listed in
           record {
             consolidated = d.consolidated;
             passed = d.passed;
@@ -180,6 +181,7 @@ module _ {T : Type 0} {below : T → T → Bool} {cmp : T → T → Ordering} (o
       ap (λ v. cond v (u ∷ filter (λ u. has_passed below frontier u.time) us) (filter (λ u. has_passed below frontier u.time) us)) parts.0
       ∙ ap (λ (vs : List (Update T)). u ∷ vs) (all_pass us parts.1)
 
+  -- turns the changes that an engine found into those that the text prints
   pub differences_only : (us vs : List (Update T)) → AreDifferences below cmp p changes frontier view us → AreDifferences below cmp p changes frontier view vs → us ≡ vs
   differences_only us vs d e =
       let down = λ (s t : T) (h : IsTrue (below s t)) (k : IsTrue (has_passed below frontier t)). passed_down s t h k in

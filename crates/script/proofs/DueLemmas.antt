@@ -7,50 +7,27 @@ use Rattle.std.proofs.lemmas.Bool.Decides.{nat_tests}
 use Rattle.std.proofs.lemmas.List.Folds.{list_all-append}
 use Rattle.antichain.proofs.Lists.{Among, all_at, all_from}
 use Rattle.update.specs.declared.change.Update.{Update}
-use Rattle.plan.specs.Nodes.{sources, arranged_by}
-use Rattle.plan.specs.Operators.{is_linear}
+use Rattle.plan.specs.Nodes.{sources, arranged_by, is_linear}
 use Rattle.plan.specs.Widths.{width_of}
-use Rattle.plan.specs.declared.node.Node.{Node}
-use Rattle.plan.specs.declared.node.Node.TheVariants.{Input, Map, Filter, Concat, Negate, Arrange, Join, Reduce, Output}
+use Rattle.plan.specs.declared.node.Node.TheVariants.{Input}
+use Rattle.linear.proofs.PortLemmas.{input_at}
 use Rattle.plan.proofs.PlanLemmas.{source_smaller}
-use Rattle.linear.specs.Applied.{applied}
+use Rattle.linear.specs.Applied.{linear_output}
 use Rattle.linear.specs.Ports.{is_port}
 use Rattle.linear.specs.Widths.{takes_rows, are_wide}
 use Rattle.linear.proofs.WidthLemmas.{plan_takes, plan_gives}
-use Rattle.machine.specs.declared.event.Site.{Site}
-use Rattle.machine.specs.declared.event.Bundle.{Bundle}
-use Rattle.machine.specs.declared.event.Emission.{Emission}
-use Rattle.machine.specs.Dataflows.{Dataflow, IsDataflow, node_of, source_of, route}
-use Rattle.machine.specs.Worlds.{place, same_place, updates_at, queue}
-use Rattle.machine.specs.Shares.{part, share, share_from}
-use Rattle.machine.specs.Loads.{Load, Lot, load_in, bundle_at, loads_at, more_at, less_at, lot_of, put_at, put_all, taken_from, held_from, queue_of}
-use Rattle.machine.proofs.BoardLemmas.{all_there}
-use Rattle.machine.proofs.SiteLemmas.{less}
-use Rattle.machine.proofs.PlacingLemmas.{itself, AreThere, as_many, as_wide, lot_at, there_still, many_put_all, wide_put_all, queue_less_at, queue_put_all, queue_held}
-use Rattle.machine.proofs.PlaceLemmas.{there_some, shared}
+use Rattle.machine.specs.declared.histories.event.Site.{Site}
+use Rattle.machine.specs.declared.histories.event.Bundle.{Bundle}
+use Rattle.machine.specs.declared.histories.event.Emission.{Emission}
+use Rattle.machine.specs.Histories.Dataflows.{Dataflow, IsDataflow, node_of, source_of, route}
+use Rattle.machine.specs.Histories.States.{place, same_place, updates_at, queue}
+use Rattle.machine.specs.Histories.Shares.{part, share, share_from}
+use Rattle.machine.specs.Boards.Loads.{Load, Lot, load_in, bundle_at, loads_at, with_load_at, without_load_at, lot_of, put_at, put_all, taken_from, held_from, queue_of}
+use Rattle.machine.proofs.BoardLemmas.BoardLemmas.{all_there}
+use Rattle.machine.proofs.BoardLemmas.SiteLemmas.{less}
+use Rattle.machine.proofs.BoardLemmas.PlacingLemmas.{itself, AreThere, as_many, as_wide, lot_at, there_still, many_put_all, wide_put_all, queue_less_at, queue_put_all, queue_held}
+use Rattle.machine.proofs.HistoryLemmas.PlaceLemmas.{there_some, shared}
 use Rattle.script.specs.Relays.{width_at, are_small, is_due, AreDue, NothingWaits, waits_at}
-
--- a port at which nothing is read is an input's
-no_reader : (node : Node) (port : ℕ) → IsTrue (is_port node port) → slice_get (sources node) port ≡ None → (width : ℕ) × (node ≡ Input width)
-no_reader (Input width) port h e = (width, refl)
-no_reader (Map source items) zero h e = cc
-no_reader (Map source items) (suc port) h e = absurd (grind (arith, nat_tests))
-no_reader (Filter source test) zero h e = cc
-no_reader (Filter source test) (suc port) h e = absurd (grind (arith, nat_tests))
-no_reader (Concat left right) zero h e = cc
-no_reader (Concat left right) (suc zero) h e = cc
-no_reader (Concat left right) (suc (suc port)) h e = absurd (grind (arith, nat_tests))
-no_reader (Negate source) zero h e = cc
-no_reader (Negate source) (suc port) h e = absurd (grind (arith, nat_tests))
-no_reader (Arrange source key) zero h e = cc
-no_reader (Arrange source key) (suc port) h e = absurd (grind (arith, nat_tests))
-no_reader (Join left right) zero h e = cc
-no_reader (Join left right) (suc zero) h e = cc
-no_reader (Join left right) (suc (suc port)) h e = absurd (grind (arith, nat_tests))
-no_reader (Reduce kind source) zero h e = cc
-no_reader (Reduce kind source) (suc port) h e = absurd (grind (arith, nat_tests))
-no_reader (Output source) zero h e = cc
-no_reader (Output source) (suc port) h e = absurd (grind (arith, nat_tests))
 
 le_from : (m n : ℕ) → nat_le m n ≡ true → m ≤ n
 le_from m n h = grind (arith, nat_tests)
@@ -75,17 +52,17 @@ module _ {T : Type 0} where
     fitting = step (source_of p site.node site.port) refl
       where
         step : (x : Option ℕ) → source_of p site.node site.port ≡ x → IsTrue (takes_rows (node_of p site.node) us)
-        step None e = let n = no_reader (node_of p site.node) site.port port e in subst (λ node. IsTrue (takes_rows node us)) (sym n.1) (any_row n.0 us)
+        step None e = let n = input_at (node_of p site.node) site.port port e in subst (λ node. IsTrue (takes_rows node us)) (sym n.1) (any_row n.0 us)
         step (Some s) e = plan_takes p.nodes q.plan site.node site.port s e us (subst (λ x. IsTrue (are_wide (width_of p.nodes (unwrap_or x site.node)) us)) e wide)
 
     -- and what it makes of them is as wide as the plan says
-    pub widened : IsTrue (is_linear (node_of p site.node)) → IsTrue (are_wide (width_of p.nodes site.node) (applied (node_of p site.node) us))
+    pub widened : IsTrue (is_linear (node_of p site.node)) → IsTrue (are_wide (width_of p.nodes site.node) (linear_output (node_of p site.node) us))
     widened l = step (source_of p site.node site.port) refl
       where
-        step : (x : Option ℕ) → source_of p site.node site.port ≡ x → IsTrue (are_wide (width_of p.nodes site.node) (applied (node_of p site.node) us))
+        step : (x : Option ℕ) → source_of p site.node site.port ≡ x → IsTrue (are_wide (width_of p.nodes site.node) (linear_output (node_of p site.node) us))
         step None e =
-            let n = no_reader (node_of p site.node) site.port port e in
-            subst (λ node. IsTrue (are_wide (width_of p.nodes site.node) (applied node us))) (sym n.1) (subst (λ x. IsTrue (are_wide (width_of p.nodes (unwrap_or x site.node)) us)) e wide)
+            let n = input_at (node_of p site.node) site.port port e in
+            subst (λ node. IsTrue (are_wide (width_of p.nodes site.node) (linear_output node us))) (sym n.1) (subst (λ x. IsTrue (are_wide (width_of p.nodes (unwrap_or x site.node)) us)) e wide)
         step (Some s) e = plan_gives p.nodes q.plan site.node site.port s e l us (subst (λ x. IsTrue (are_wide (width_of p.nodes (unwrap_or x site.node)) us)) e wide)
 
   -- the parts of what is due
@@ -106,6 +83,7 @@ module _ {T : Type 0} where
       let v = and_parts (is_port (node_of p b.place.node) b.place.port) (eqb b.place.worker 0) z.0 in
       record { later = le_from n b.place.node y.0; within = lt_from b.place.node (length p.nodes) y.1; port = v.0; worker = eqb-true b.place.worker 0 v.1; wide = r.0; small = r.1 }
 
+  -- puts a due bundle back together from its parts
   pub due_from : (p : Dataflow) (n : ℕ) (b : Bundle T) → IsDue p n b → is_due p n b ≡ true
   due_from p n b d =
       and_from (nat_le n b.place.node && nat_lt b.place.node (length p.nodes)) ((is_port (node_of p b.place.node) b.place.port && eqb b.place.worker 0) && (are_wide (width_at p b.place) b.updates && are_small b.updates))
@@ -130,6 +108,7 @@ module _ {T : Type 0} where
   less_due test [] h = refl
   less_due test (b ∷ bundles) h = (and_parts (test b) (list_all test bundles) h).1
 
+  -- carries a test of all that waits to one queue
   pub queue_due : (test : Bundle T → Bool) (site : Site) (bundles : List (Bundle T)) → list_all test bundles ≡ true → list_all test (queue site bundles) ≡ true
   queue_due test site [] h = refl
   queue_due test site (b ∷ bundles) h =
@@ -268,7 +247,7 @@ module _ {T : Type 0} where
   abbrev count : Lot T → ℕ
   count lot = length lot.left + length lot.right
 
-  count_less : (site : Site) (port : ℕ) (stamp : List T) (lot : Lot T) (bundle : Bundle T) → slice_get (map (bundle_at site) (loads_at port lot)) 0 ≡ Some bundle → suc (count (less_at port 0 stamp lot)) ≡ count lot
+  count_less : (site : Site) (port : ℕ) (stamp : List T) (lot : Lot T) (bundle : Bundle T) → slice_get (map (bundle_at site) (loads_at port lot)) 0 ≡ Some bundle → suc (count (without_load_at port 0 stamp lot)) ≡ count lot
   count_less site zero stamp lot bundle e = let one = shorter lot.left e in omega (arith, one)
     where
       shorter : (loads : List (Load T)) → slice_get (map (bundle_at site) loads) 0 ≡ Some bundle → suc (length (remove loads 0)) ≡ length loads
@@ -281,14 +260,15 @@ module _ {T : Type 0} where
       shorter (load ∷ loads) e = refl
   count_less site (suc (suc port)) stamp lot bundle e = cc
 
+  -- counts the bundles behind a take
   pub one_less : (stations : List (List (Lot T))) (bundle : Bundle T) → bundle.place.node < length stations → bundle.place.worker < length (get_or stations bundle.place.node []) → bundle.place.worker ≡ 0
       → slice_get (queue_of stations bundle.place) 0 ≡ Some bundle → suc (waits_at bundle.place.node (taken_from 0 bundle stations)) ≡ waits_at bundle.place.node stations
   one_less stations bundle within staffed w e =
       let site = bundle.place in
       let own : (eqb site.node site.node && eqb 0 site.worker) ≡ true = and_from (eqb site.node site.node) (eqb 0 site.worker) (eq-eqb site.node site.node refl) (eq-eqb 0 site.worker (sym w)) in
       ap (λ lot. suc (count lot))
-      (lot_at stations site.node site.worker (less_at site.port 0 bundle.stamp) within staffed site.node 0
-      ∙ ap (λ c. cond c (less_at site.port 0 bundle.stamp (lot_of stations site.node site.worker)) (lot_of stations site.node 0)) own)
+      (lot_at stations site.node site.worker (without_load_at site.port 0 bundle.stamp) within staffed site.node 0
+      ∙ ap (λ c. cond c (without_load_at site.port 0 bundle.stamp (lot_of stations site.node site.worker)) (lot_of stations site.node 0)) own)
       ∙ (count_less site site.port bundle.stamp (lot_of stations site.node site.worker) bundle e
       ∙ ap (λ k. count (lot_of stations site.node k)) w)
 
@@ -296,13 +276,14 @@ module _ {T : Type 0} where
   lot_put_other [] stations n there apart = refl
   lot_put_other (b ∷ sent) stations n there apart =
       lot_put_other sent (put_at b.place (load_in b) stations) n (still sent there.1) (λ x m. apart x (inr m))
-      ∙ (lot_at stations b.place.node b.place.worker (more_at b.place.port (load_in b)) there.0.0 there.0.1 n 0
-      ∙ ap (λ c. cond (c && eqb 0 b.place.worker) (more_at b.place.port (load_in b) (lot_of stations b.place.node b.place.worker)) (lot_of stations n 0)) (ne_eqb n b.place.node (apart b (inl refl))))
+      ∙ (lot_at stations b.place.node b.place.worker (with_load_at b.place.port (load_in b)) there.0.0 there.0.1 n 0
+      ∙ ap (λ c. cond (c && eqb 0 b.place.worker) (with_load_at b.place.port (load_in b) (lot_of stations b.place.node b.place.worker)) (lot_of stations n 0)) (ne_eqb n b.place.node (apart b (inl refl))))
     where
       still : (more : List (Bundle T)) → AreThere stations more → AreThere (put_at b.place (load_in b) stations) more
       still [] t = tt
-      still (c ∷ more) t = (there_still stations b.place.node b.place.worker (more_at b.place.port (load_in b)) c.place t.0, still more t.1)
+      still (c ∷ more) t = (there_still stations b.place.node b.place.worker (with_load_at b.place.port (load_in b)) c.place t.0, still more t.1)
 
+  -- counts the bundles behind a give: none is sent to the node itself
   pub no_more_wait : (p : Dataflow) (n k : ℕ) (ts : List T) (stations : List (List (Lot T))) (sent : List (Bundle T)) → n < length (put_all sent stations) → k < length (get_or (put_all sent stations) n []) → AreThere stations sent
       → are_due p (suc n) sent ≡ true → waits_at n (held_from n k ts (put_all sent stations)) ≡ waits_at n stations
   no_more_wait p n k ts stations sent within staffed there h =
@@ -336,8 +317,8 @@ module _ {T : Type 0} where
   piece_due p bundle ts stations sent within staffed there due later site =
       let n = bundle.place.node in
       let left = taken_from 0 bundle stations in
-      let long : n < length (put_all sent left) = subst (λ z. n < z) (sym (many_put_all sent left ∙ as_many stations n bundle.place.worker (less_at bundle.place.port 0 bundle.stamp))) within in
-      let wide : bundle.place.worker < length (get_or (put_all sent left) n []) = subst (λ z. bundle.place.worker < z) (sym (wide_put_all sent left n ∙ as_wide stations n bundle.place.worker (less_at bundle.place.port 0 bundle.stamp) n)) staffed in
+      let long : n < length (put_all sent left) = subst (λ z. n < z) (sym (many_put_all sent left ∙ as_many stations n bundle.place.worker (without_load_at bundle.place.port 0 bundle.stamp))) within in
+      let wide : bundle.place.worker < length (get_or (put_all sent left) n []) = subst (λ z. bundle.place.worker < z) (sym (wide_put_all sent left n ∙ as_wide stations n bundle.place.worker (without_load_at bundle.place.port 0 bundle.stamp) n)) staffed in
       ap (are_due p n)
       (queue_held (put_all sent left) n bundle.place.worker ts long wide site
       ∙ (queue_put_all sent left there site

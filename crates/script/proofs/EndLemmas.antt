@@ -5,24 +5,26 @@ use Rattle.std.specs.List.{list_all}
 use Rattle.std.proofs.lemmas.Bool.{and_parts, true≢false}
 use Rattle.lattice.specs.Frontiers.{is_beyond}
 use Rattle.lattice.specs.Pairs.{make_pair}
-use Rattle.update.specs.Refusals.{code_of}
+use Rattle.update.specs.Refusals.{code_of, IsMemoryOrOverflow}
 use Rattle.update.specs.declared.refusal.Refusal.{Refusal}
 use Rattle.update.specs.declared.refusal.Refusal.TheVariants.{OutOfMemory, Overflow, NotPassed, GivenUp}
 use Rattle.plan.specs.Rules.{first_refusal}
 use Rattle.plan.specs.declared.node.Node.{Node}
 use Rattle.grammar.specs.declared.command.Command.{Command}
-use Rattle.grammar.specs.declared.command.Command.TheVariants.{Change, Advance, Close, Read, Changes, Frontier}
+use Rattle.grammar.specs.declared.command.Command.TheVariants as command
+use Rattle.grammar.specs.declared.command.InputCommand.TheVariants.{Change, Advance, Close}
+use Rattle.grammar.specs.declared.command.ViewCommand.TheVariants.{Read, Changes, Frontier}
 use Rattle.grammar.specs.declared.command.CommandLine.{CommandLine}
-use Rattle.grammar.specs.Told.{Told}
-use Rattle.machine.specs.Boards.{is_from_start}
-use Rattle.machine.specs.Inputs.{front_at, feed_faults, advance_faults}
-use Rattle.machine.specs.Worlds.{fed_to}
-use Rattle.oracle.specs.Entries.{IsRefusal}
+use Rattle.grammar.specs.ScriptModels.{ScriptModel}
+use Rattle.machine.specs.Histories.Readings.{is_from_start}
+use Rattle.machine.specs.Boards.Inputs.{front_at, feed_faults, advance_faults}
+use Rattle.machine.specs.Histories.States.{fed_to}
 use Rattle.script.specs.Ends.{IsTextBefore}
 use Rattle.script.specs.Engines.{EndsRun, IsEnd, IsRunEnd}
 use Rattle.script.specs.Sessions.{view_frontier}
-use Rattle.script.specs.Text.{Sitting, HoldsAlong, refusal_of, at_or_below}
-use Rattle.script.specs.Weights.{IsLarge, IsLargeAlong, EndsByWeight}
+use Rattle.script.specs.Text.{BitemporalSession, HoldsAlong, command_refusal}
+use Rattle.lattice.specs.Bitimes.{bitime_below}
+use Rattle.script.specs.Bounds.{IsLarge, IsLargeAlong, EndsByBound}
 use Rattle.script.specs.declared.fault.RunFault.{RunFault}
 use Rattle.script.specs.declared.fault.RunFault.TheVariants as fault
 
@@ -32,6 +34,7 @@ end_weaker h (fault.Refused code) (inl memory) = inl memory
 end_weaker h (fault.Refused code) (inr end) = inr (end.0, end.1, h end.0 end.2)
 end_weaker h fault.Write u = u
 
+-- carries the cause of an end to a weaker one, through a result
 pub ends_weaker : {A B : Refusal → Type 0} {X : Type 0} → ((refusal : Refusal) → A refusal → B refusal) → (r : Result X RunFault) → IfErr r (IsEnd A) → IfErr r (IsEnd B)
 ends_weaker h (Ok x) e = tt
 ends_weaker h (Err f) e = end_weaker h f e
@@ -65,61 +68,66 @@ first_goes_on ((true, name) ∷ faults) all refusal e ends =
     true≢false (sym (sym (ap (λ b. not b) (ap is_ending same ∙ shown refusal ends)) ∙ (and_parts _ _ all).0))
 first_goes_on ((false, name) ∷ faults) all refusal e ends = first_goes_on faults (and_parts _ _ all).1 refusal e ends
 
-pub session_goes_on : (p : List Node) (s : Sitting) (command : Command) (refusal : Refusal) → refusal_of p s command ≡ Some refusal → EndsRun refusal → ⊥
-session_goes_on p s (Change input time diff row) refusal e ends =
-    first_goes_on (feed_faults at_or_below p (front_at input s.inputs) (length (fed_to input s.fed)) (record { input = input; update = record { time = time; row = row; diff = diff } })) refl refusal e ends
-session_goes_on p s (Advance input times) refusal e ends = first_goes_on (advance_faults at_or_below (front_at input s.inputs) times) refl refusal e ends
-session_goes_on p s (Close input) refusal e ends = absurd cc
-session_goes_on p s (Read view time) refusal e ends =
-    first_goes_on ((is_beyond at_or_below (view_frontier at_or_below p s view) time, NotPassed) ∷ (not (is_beyond at_or_below (s.since view) time), GivenUp) ∷ []) refl refusal e ends
-session_goes_on p s (Changes view) refusal e ends = first_goes_on ((not (is_from_start at_or_below (make_pair 0 0) (s.since view)), GivenUp) ∷ []) refl refusal e ends
-session_goes_on p s (Frontier view) refusal e ends = absurd cc
+-- rules out that a session refuses what ends a run
+pub session_goes_on : (p : List Node) (s : BitemporalSession) (command : Command) (refusal : Refusal) → command_refusal p s command ≡ Some refusal → EndsRun refusal → ⊥
+session_goes_on p s (command.Input (Change input time diff row)) refusal e ends =
+    first_goes_on (feed_faults bitime_below p (front_at input s.inputs) (length (fed_to input s.fed)) (record { input = input; update = record { time = time; row = row; diff = diff } })) refl refusal e ends
+session_goes_on p s (command.Input (Advance input times)) refusal e ends = first_goes_on (advance_faults bitime_below (front_at input s.inputs) times) refl refusal e ends
+session_goes_on p s (command.Input (Close input)) refusal e ends = absurd cc
+session_goes_on p s (command.View (Read view time)) refusal e ends =
+    first_goes_on ((is_beyond bitime_below (view_frontier bitime_below p s view) time, NotPassed) ∷ (not (is_beyond bitime_below (s.since view) time), GivenUp) ∷ []) refl refusal e ends
+session_goes_on p s (command.View (Changes view)) refusal e ends = first_goes_on ((not (is_from_start bitime_below (make_pair 0 0) (s.since view)), GivenUp) ∷ []) refl refusal e ends
+session_goes_on p s (command.View (Frontier view)) refusal e ends = absurd cc
 
 -- an answer that ends the run is the engine's own
-pub own_end : {Ends : Type 0} (p : List Node) (s : Sitting) (command : Command) (refusal : Refusal) → (refusal_of p s command ≡ Some refusal) ⊎ Ends → EndsRun refusal → Ends
+pub own_end : {Ends : Type 0} (p : List Node) (s : BitemporalSession) (command : Command) (refusal : Refusal) → (command_refusal p s command ≡ Some refusal) ⊎ Ends → EndsRun refusal → Ends
 own_end p s command refusal (inl own) ends = absurd (session_goes_on p s command refusal own ends)
 own_end p s command refusal (inr end) ends = end
 
 -- what was told ends the run for want of memory alone
-told_end : {S : Type 0} (p : List Node) (s : Sitting) (command : Command) (refusal : Refusal) (f : RunFault) → ((refusal_of p s command ≡ Some refusal) × S) ⊎ (refusal ≡ OutOfMemory)
+told_end : {S : Type 0} (p : List Node) (s : BitemporalSession) (command : Command) (refusal : Refusal) (f : RunFault) → ((command_refusal p s command ≡ Some refusal) × S) ⊎ (refusal ≡ OutOfMemory)
     → IsEnd (λ met. (met ≡ refusal) × EndsRun refusal) f → IsEnd (λ met. ⊥) f
 told_end p s command refusal (fault.Refused code) answer (inl memory) = inl memory
 told_end p s command refusal (fault.Refused code) (inl own) (inr end) = absurd (session_goes_on p s command refusal own.0 end.2.1)
 told_end p s command refusal (fault.Refused code) (inr memory) (inr end) = inl (end.1 ∙ ap code_of (end.2.0 ∙ memory))
 told_end p s command refusal fault.Write answer u = u
 
-pub told_ends : {S X : Type 0} (p : List Node) (s : Sitting) (command : Command) (refusal : Refusal) (r : Result X RunFault) → ((refusal_of p s command ≡ Some refusal) × S) ⊎ (refusal ≡ OutOfMemory)
+-- answers the clause `known` of run_update
+pub told_ends : {S X : Type 0} (p : List Node) (s : BitemporalSession) (command : Command) (refusal : Refusal) (r : Result X RunFault) → ((command_refusal p s command ≡ Some refusal) × S) ⊎ (refusal ≡ OutOfMemory)
     → IfErr r (IsEnd (λ met. (met ≡ refusal) × EndsRun refusal)) → IfErr r (IsEnd (λ met. ⊥))
 told_ends p s command refusal (Ok x) answer e = tt
 told_ends p s command refusal (Err f) answer e = told_end p s command refusal f answer e
 
 -- ---- the ends of a run without threads
 
-pub weight_end : (p : List Node) (s : Sitting) (lines : List CommandLine) (f : RunFault) → IsEnd (λ refusal. HoldsAlong (λ now. EndsByWeight p now refusal) p s lines) f → IsRunEnd (IsLargeAlong p s lines) f
-weight_end p s lines (fault.Refused code) (inl memory) = inl memory
-weight_end p s lines (fault.Refused code) (inr (refusal, is, (done, rest, split, inl memory))) = inl (is ∙ ap code_of memory)
-weight_end p s lines (fault.Refused code) (inr (refusal, is, (done, rest, split, inr large))) = inr (is ∙ ap code_of large.0, (done, rest, split, large.1))
-weight_end p s lines fault.Write u = u
+pub bound_end : (p : List Node) (s : BitemporalSession) (lines : List CommandLine) (f : RunFault) → IsEnd (λ refusal. HoldsAlong (λ now. EndsByBound p now refusal) p s lines) f → IsRunEnd (IsLargeAlong p s lines) f
+bound_end p s lines (fault.Refused code) (inl memory) = inl memory
+bound_end p s lines (fault.Refused code) (inr (refusal, is, (done, rest, split, inl memory))) = inl (is ∙ ap code_of memory)
+bound_end p s lines (fault.Refused code) (inr (refusal, is, (done, rest, split, inr large))) = inr (is ∙ ap code_of large.0, (done, rest, split, large.1))
+bound_end p s lines fault.Write u = u
 
-pub weight_ends : {X : Type 0} (p : List Node) (s : Sitting) (lines : List CommandLine) (r : Result X RunFault)
-    → IfErr r (IsEnd (λ refusal. HoldsAlong (λ now. EndsByWeight p now refusal) p s lines)) → IfErr r (IsRunEnd (IsLargeAlong p s lines))
-weight_ends p s lines (Ok x) e = tt
-weight_ends p s lines (Err f) e = weight_end p s lines f e
+-- answers the clause `known` of run_script and plain_script
+pub bound_ends : {X : Type 0} (p : List Node) (s : BitemporalSession) (lines : List CommandLine) (r : Result X RunFault)
+    → IfErr r (IsEnd (λ refusal. HoldsAlong (λ now. EndsByBound p now refusal) p s lines)) → IfErr r (IsRunEnd (IsLargeAlong p s lines))
+bound_ends p s lines (Ok x) e = tt
+bound_ends p s lines (Err f) e = bound_end p s lines f e
 
-large_of : {L : Type 0} → IsRefusal L Overflow → L
+large_of : {L : Type 0} → IsMemoryOrOverflow L Overflow → L
 large_of (inl memory) = absurd cc
 large_of (inr large) = large.1
 
-pub weight_text : (t : Told) (s : Sitting) (lines : List CommandLine) (part : List ℕ) → IsTextBefore (λ now. EndsByWeight t.plan now Overflow) t s lines part → IsTextBefore (IsLarge t.plan) t s lines part
-weight_text t s lines part b = record { before = b.before; line = b.line; behind = b.behind; in_order = b.in_order; asks = b.asks; cause = large_of b.cause; written = b.written }
+-- weakens the cause of a text before a number that was too large
+pub bound_text : (t : ScriptModel) (s : BitemporalSession) (lines : List CommandLine) (part : List ℕ) → IsTextBefore (λ now. EndsByBound t.plan now Overflow) t s lines part → IsTextBefore (IsLarge t.plan) t s lines part
+bound_text t s lines part b = record { before = b.before; line = b.line; behind = b.behind; in_order = b.in_order; asks = b.asks; cause = large_of b.cause; written = b.written }
 
 -- where it is told, the text before a number that was too large is whole
-pub overflow_texts : {X : Type 0} (t : Told) (s : Sitting) (lines : List CommandLine) (Took : List ℕ → Type 0) (r : Result X RunFault)
-    → IfErr r (λ f. f ≡ fault.Refused 10 → (part : List ℕ) × IsTextBefore (λ now. EndsByWeight t.plan now Overflow) t s lines part × Took part)
+pub overflow_texts : {X : Type 0} (t : ScriptModel) (s : BitemporalSession) (lines : List CommandLine) (Took : List ℕ → Type 0) (r : Result X RunFault)
+    → IfErr r (λ f. f ≡ fault.Refused 10 → (part : List ℕ) × IsTextBefore (λ now. EndsByBound t.plan now Overflow) t s lines part × Took part)
     → IfErr r (λ f. f ≡ fault.Refused 10 → (part : List ℕ) × IsTextBefore (IsLarge t.plan) t s lines part × Took part)
 overflow_texts t s lines Took (Ok x) e = tt
-overflow_texts t s lines Took (Err f) e = λ ten. let met = e ten in (met.0, weight_text t s lines met.0 met.1, met.2)
+overflow_texts t s lines Took (Err f) e = λ ten. let met = e ten in (met.0, bound_text t s lines met.0 met.1, met.2)
 
-pub refusal_weaker : {A B : Type 0} → (A → B) → (r : Refusal) → IsRefusal A r → IsRefusal B r
+-- weakens the cause of a refusal that an engine met
+pub refusal_weaker : {A B : Type 0} → (A → B) → (r : Refusal) → IsMemoryOrOverflow A r → IsMemoryOrOverflow B r
 refusal_weaker h r (inl memory) = inl memory
 refusal_weaker h r (inr large) = inr (large.0, h large.1)

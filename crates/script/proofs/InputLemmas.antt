@@ -5,10 +5,10 @@ use Rattle.std.proofs.lemmas.Bool.{cases_lt}
 use Rattle.std.proofs.lemmas.List.{get_or_push, get_or_append_left, length-map, map-append}
 use Rattle.std.proofs.lemmas.List.Elements.{filter-append}
 use Rattle.update.specs.Bags.{Entry, Alike, count_of}
-use Rattle.plan.specs.Ancestors.{is_input, numbers_below}
+use Rattle.plan.specs.Ancestors.{numbers_below}
 use Rattle.plan.specs.Edges.{numbers_where}
-use Rattle.plan.specs.Nodes.{node_at, sources, key_width}
-use Rattle.plan.specs.Queries.{query, handed}
+use Rattle.plan.specs.Nodes.{node_at, sources, key_width, is_input}
+use Rattle.plan.specs.Queries.{query, source_value}
 use Rattle.plan.specs.Rules.{IsPlan}
 use Rattle.plan.specs.declared.node.Node.{Node}
 use Rattle.plan.proofs.OperatorLemmas.{given_alike}
@@ -23,7 +23,7 @@ module _ (p : List Node) (plan : IsPlan p) (a b : ℕ → List Entry) (h : (n : 
   abbrev SoBelow : ℕ → Type 0
   SoBelow n = n < length p → Alike (query p a n) (query p b n)
 
-  at_sources : (n : ℕ) → n < length p → ((m : ℕ) → m < n → SoBelow m) → (port : ℕ) (o : Option ℕ) → slice_get (sources (node_at p n)) port ≡ o → (o ≡ None → Alike (a n) (b n)) → Alike (handed (a n) (query p a) o) (handed (b n) (query p b) o)
+  at_sources : (n : ℕ) → n < length p → ((m : ℕ) → m < n → SoBelow m) → (port : ℕ) (o : Option ℕ) → slice_get (sources (node_at p n)) port ≡ o → (o ≡ None → Alike (a n) (b n)) → Alike (source_value (a n) (query p a) o) (source_value (b n) (query p b) o)
   at_sources n l rest port None e outside = outside refl
   at_sources n l rest port (Some s) e outside =
       let k = source_smaller p plan n port s e in
@@ -46,12 +46,13 @@ module _ (p : List Node) (plan : IsPlan p) (a b : ℕ → List Entry) (h : (n : 
       past (x ∷ xs) zero l e = absurd cc
       past (x ∷ xs) (suc i) l e = past xs i (omega (arith, l)) e
 
+  -- lets a query take the bags of another list of changes, alike at the inputs
   pub query_at_inputs : (n : ℕ) → n < length p → Alike (query p a n) (query p b n)
   query_at_inputs = by_smaller SoBelow (λ n rest l row.
       ap (λ es. count_of es row) (query_by_sources p plan a n)
       ∙ (given_alike (key_width p (node_at p n)) (node_at p n)
-      (λ port. handed (a n) (query p a) (slice_get (sources (node_at p n)) port))
-      (λ port. handed (b n) (query p b) (slice_get (sources (node_at p n)) port))
+      (λ port. source_value (a n) (query p a) (slice_get (sources (node_at p n)) port))
+      (λ port. source_value (b n) (query p b) (slice_get (sources (node_at p n)) port))
       (λ port seen. at_sources n l rest port (slice_get (sources (node_at p n)) port) refl (λ none. looked_at n l port seen none)) row
       ∙ ap (λ es. count_of es row) (sym (query_by_sources p plan b n))))
 

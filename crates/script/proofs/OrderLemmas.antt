@@ -62,11 +62,13 @@ module _ {T : Type 0} (cmp : T → T → Ordering) where
       by Equal h rest = inr h
       by Greater h rest = ⊎_elim (λ e. inr (inl e)) (λ k. ⊎_elim (λ e. inl e) (λ m. inr (inr m)) (rest k)) h
 
+  -- shows that times in order ascend
   pub in_order-sorted : (total : IsTotalOrder cmp) (ts : List T) → IsStrictlySortedBy cmp (in_order cmp ts)
   unfolding IsStrictlySortedBy
   in_order-sorted total [] = tt
   in_order-sorted total (t ∷ ts) = insert_sorted total t (in_order cmp ts) (in_order-sorted total ts)
 
+  -- shows that no time is lost
   pub in_order-has : (exact : (s t : T) → cmp s t ≡ Equal → s ≡ t) (ts : List T) (s : T) → Among s ts → Among s (in_order cmp ts)
   in_order-has exact [] s h = h
   in_order-has exact (t ∷ ts) s h =
@@ -78,6 +80,7 @@ module _ {T : Type 0} (cmp : T → T → Ordering) where
       subst_among : {r : T} → t ≡ r → Among t (insert_key cmp (in_order cmp ts) t) → Among r (insert_key cmp (in_order cmp ts) t)
       subst_among e h = subst (λ (x : T). Among x (insert_key cmp (in_order cmp ts) t)) e h
 
+  -- shows that no time is made up
   pub in_order-only : (ts : List T) (s : T) → Among s (in_order cmp ts) → Among s ts
   in_order-only [] s h = h
   in_order-only (t ∷ ts) s h = ⊎_elim (λ e. inl e) (λ k. inr (in_order-only ts s k)) (insert_only t s (in_order cmp ts) h)

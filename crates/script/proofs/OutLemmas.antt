@@ -10,9 +10,11 @@ joined waiting xs part left ys more rest e f =
     sym (append_assoc waiting xs ys) ∙ ap (λ zs. zs ++ ys) e ∙ append_assoc part left ys ∙ ap (λ zs. part ++ zs) f ∙ sym (append_assoc part more rest)
 
 module _ {W : Type 0} (took : W → List ℕ → ℕ → W → Type 0) where
+  -- the law `at_once` of outputs
   abbrev pub AtOnce : Type 0
   AtOnce = (s : W) → took s [] 0 s
 
+  -- the law `in_turn` of outputs
   abbrev pub InTurn : Type 0
   InTurn = (s t u : W) (xs ys : List ℕ) (m n : ℕ) → took s xs m t → took t ys n u → took s (xs ++ ys) (m + n) u
 
@@ -20,6 +22,7 @@ module _ {W : Type 0} (took : W → List ℕ → ℕ → W → Type 0) where
   pub wrote_waiting : AtOnce → (out : W) (waiting bytes left : List ℕ) → left ≡ waiting ++ bytes → Wrote took out waiting bytes out left
   wrote_waiting at_once out waiting bytes left e = record { part = []; taken = at_once out; in_order = sym e }
 
+  -- ends a run before anything is put
   pub broke_waiting : AtOnce → (out : W) (waiting bytes : List ℕ) → Broke took out waiting bytes 0 out
   broke_waiting at_once out waiting bytes = record { part = []; taken = at_once out; beginning = (waiting ++ bytes, refl) }
 
@@ -47,15 +50,17 @@ module _ {W : Type 0} (took : W → List ℕ → ℕ → W → Type 0) where
     beginning = (b.beginning.0 ++ ys, sym (append_assoc b.part b.beginning.0 ys) ∙ ap (λ zs. zs ++ ys) b.beginning.1 ∙ append_assoc waiting xs ys);
   }
 
+  -- answers the clause `broke` of a line from that of a line without text
   pub breaks_before : {X : Type 0} (s u : W) (waiting bytes : List ℕ) (r : Result X RunFault)
       → IfErr r (λ fault. Broke took s waiting [] (failures fault) u) → IfErr r (λ fault. Broke took s waiting bytes (failures fault) u)
   breaks_before s u waiting bytes (Ok x) b = tt
   breaks_before s u waiting bytes (Err fault) b = broke_before s u waiting [] bytes (failures fault) b
 
-  -- the same bytes, found otherwise
+  -- rewrites the bytes that were written
   pub wrote_as : (s t : W) (waiting left xs ys : List ℕ) → xs ≡ ys → Wrote took s waiting xs t left → Wrote took s waiting ys t left
   wrote_as s t waiting left xs ys e a = subst (λ (bytes : List ℕ). Wrote took s waiting bytes t left) e a
 
+  -- rewrites the bytes of a run that broke
   pub broke_as : (s t : W) (waiting xs ys : List ℕ) (n : ℕ) → xs ≡ ys → Broke took s waiting xs n t → Broke took s waiting ys n t
   broke_as s t waiting xs ys n e a = subst (λ (bytes : List ℕ). Broke took s waiting bytes n t) e a
 
@@ -63,6 +68,7 @@ module _ {W : Type 0} (took : W → List ℕ → ℕ → W → Type 0) where
   pub wrote_more : InTurn → (s t u : W) (waiting xs left ys rest both : List ℕ) → xs ++ ys ≡ both → Wrote took s waiting xs t left → Wrote took t left ys u rest → Wrote took s waiting both u rest
   wrote_more in_turn s t u waiting xs left ys rest both e a b = wrote_as s u waiting rest (xs ++ ys) both e (wrote_in_turn in_turn s t u waiting xs left ys rest a b)
 
+  -- answers the clause `broke` of a loop, at the text that breaks
   pub broke_more : InTurn → (s t u : W) (waiting xs left ys later all : List ℕ) (n : ℕ) → (xs ++ ys) ++ later ≡ all → Wrote took s waiting xs t left → Broke took t left ys n u → Broke took s waiting all n u
   broke_more in_turn s t u waiting xs left ys later all n e a b = broke_as s u waiting ((xs ++ ys) ++ later) all n e (broke_before s u waiting (xs ++ ys) later n (broke_in_turn in_turn s t u waiting xs left ys n a b))
 
@@ -70,6 +76,7 @@ module _ {W : Type 0} (took : W → List ℕ → ℕ → W → Type 0) where
   pub wrote_all : InTurn → (s t u : W) (waiting bytes left : List ℕ) → Wrote took s waiting bytes t left → took t left 0 u → took s (waiting ++ bytes) 0 u
   wrote_all in_turn s t u waiting bytes left a b = subst (λ (all : List ℕ). took s all 0 u) (sym a.in_order) (in_turn s t u a.part left 0 0 a.taken b)
 
+  -- answers the clause `broke` of a run, at its last flush
   pub broke_last : InTurn → (s t u : W) (bytes left : List ℕ) → Wrote took s [] bytes t left → (part : List ℕ) × IsBeginning part left × took t part 1 u → Broke took s [] bytes 1 u
   broke_last in_turn s t u bytes left a b = record {
     part = a.part ++ b.0;

@@ -4,7 +4,7 @@ use Rattle.std.specs.Prelude.{IfErr, OnOk, OnErr}
 use Rattle.std.specs.List.{All, list_all}
 use Rattle.std.proofs.lemmas.Bool.{and_parts}
 use Rattle.std.proofs.lemmas.Option.{unwrap_or-slice_get}
-use Rattle.plan.specs.Operators.{is_linear}
+use Rattle.plan.specs.Nodes.{is_linear}
 use Rattle.plan.specs.declared.node.Node.TheVariants.{Input}
 use Rattle.std.proofs.lemmas.Result.{on_ok_weaker, on_err_weaker}
 use Rattle.update.specs.declared.refusal.Refusal.{Refusal}
@@ -13,26 +13,27 @@ use Rattle.std.specs.Ordering.{int_eq}
 use Rattle.lattice.specs.Frontiers.{is_beyond, all_beyond}
 use Rattle.update.specs.declared.refusal.Refusal.TheVariants.{OutOfMemory, WrongWidth, ZeroWeight, WeightTooLarge, TimePassed, NotForward, InputFull}
 use Rattle.plan.specs.Widths.{width_of}
-use Rattle.plan.specs.Rules.{IsRefusalBy, first_refusal}
+use Rattle.plan.specs.Rules.{first_refusal}
+use Rattle.update.specs.Refusals.{IsRefusalBy}
 use Rattle.plan.specs.declared.node.Node.{Node}
-use Rattle.machine.specs.declared.event.Event.{Event}
-use Rattle.machine.specs.declared.event.Event.TheVariants.{Feed, Advance, Look}
-use Rattle.machine.specs.declared.event.Fed.{Fed}
-use Rattle.machine.specs.Dataflows.{Dataflow}
-use Rattle.machine.specs.Histories.{IsInput, world}
-use Rattle.machine.specs.Worlds.{fed_to}
-use Rattle.machine.specs.Inputs.{front_at}
-use Rattle.machine.proofs.OpenLemmas.{open_set}
+use Rattle.machine.specs.declared.histories.event.Event.{Event}
+use Rattle.machine.specs.declared.histories.event.Event.TheVariants.{Feed, Advance, Look}
+use Rattle.machine.specs.declared.histories.event.Fed.{Fed}
+use Rattle.machine.specs.Histories.Dataflows.{Dataflow}
+use Rattle.machine.specs.Histories.{IsInput, state_after}
+use Rattle.machine.specs.Histories.States.{fed_to}
+use Rattle.machine.specs.Boards.Inputs.{front_at}
+use Rattle.machine.proofs.BoardLemmas.OpenLemmas.{open_set}
 use Rattle.std.proofs.lemmas.List.{length-set}
 use Rattle.machine.specs.Boards as boards
-use Rattle.machine.specs.Boards.{Shown, IsBoard, Stands, looked, fed, advanced}
+use Rattle.machine.specs.Boards.{BoardState, IsBoard, Stands, after_look, after_feed, after_advance}
 use Rattle.grammar.specs.Commands.{is_input_of}
 use Rattle.script.specs.Engines.{IsTold}
 use Rattle.script.specs.Sessions.{Session, with_change, with_frontier, change_refusal, frontier_refusal}
 use Rattle.script.specs.Standing.{StandsAs, IsReadyUnless}
 use Rattle.script.specs.Relays.{is_due}
-use Rattle.machine.proofs.BoardLemmas.{first_lot, first_queue}
-use Rattle.script.proofs.FedLemmas.{fed_due, fed_held}
+use Rattle.machine.proofs.BoardLemmas.BoardLemmas.{first_lot, first_queue}
+use Rattle.script.proofs.FeedLemmas.{fed_due, fed_held}
 
 -- an answer, from what is known where it is accepted and where it is refused
 pub answered : (o : Option Refusal) (A S : Type 0) (r : Result (Unit {0}) Refusal) → OnOk r A → OnOk r (o ≡ None) → IfErr r (IsRefusalBy o) → OnErr r S → IsTold o A S r
@@ -50,29 +51,32 @@ refused_by o (Err e) h = subst (λ (q : Option Refusal). IsRefusalBy q e) (sym h
 
 module _ {T : Type 0} (below : T → T → Bool) (minimum : T) where
   -- what each history becomes
-  abbrev pub Follows : Shown T → Shown T → Type 0
+  abbrev pub Follows : BoardState T → BoardState T → Type 0
   Follows b c = (h : List (Event T)) → Stands below minimum b h → Stands below minimum c (c.last ∷ h)
 
-  pub stands_looked : (b c : Shown T) (actor : ℕ) (s : Session T) → c ≡ looked actor b → Follows b c → StandsAs below minimum b s → StandsAs below minimum c s
+  -- keeps a session over a look
+  pub stands_looked : (b c : BoardState T) (actor : ℕ) (s : Session T) → c ≡ after_look actor b → Follows b c → StandsAs below minimum b s → StandsAs below minimum c s
   stands_looked b c actor s e follows a =
-      subst (λ (d : Shown T). Follows b d → StandsAs below minimum d s) (sym e)
+      subst (λ (d : BoardState T). Follows b d → StandsAs below minimum d s) (sym e)
       (λ follows. record { history = Look actor ∷ a.history; stands = follows a.history a.stands; fed = a.fed; inputs = a.inputs; nodes = a.nodes; since = a.since })
       follows
 
-  pub stands_fed : (b c : Shown T) (client : ℕ) (f : Fed T) (s : Session T) → c ≡ fed client f b → Follows b c → StandsAs below minimum b s → StandsAs below minimum c (with_change f s)
+  -- moves a session on by a change
+  pub stands_fed : (b c : BoardState T) (client : ℕ) (f : Fed T) (s : Session T) → c ≡ after_feed client f b → Follows b c → StandsAs below minimum b s → StandsAs below minimum c (with_change f s)
   stands_fed b c client f s e follows a =
-      subst (λ (d : Shown T). Follows b d → StandsAs below minimum d (with_change f s)) (sym e)
+      subst (λ (d : BoardState T). Follows b d → StandsAs below minimum d (with_change f s)) (sym e)
       (λ follows. record { history = Feed client f ∷ a.history; stands = follows a.history a.stands; fed = ap (λ (fs : List (Fed T)). f ∷ fs) a.fed; inputs = a.inputs; nodes = a.nodes; since = a.since })
       follows
 
-  pub stands_advanced : (b c : Shown T) (client i : ℕ) (ts : List T) (s : Session T) → i < length b.dataflow.nodes → c ≡ advanced client i ts b → Follows b c → StandsAs below minimum b s → StandsAs below minimum c (with_frontier i ts s)
+  -- moves a session on by a frontier
+  pub stands_advanced : (b c : BoardState T) (client i : ℕ) (ts : List T) (s : Session T) → i < length b.dataflow.nodes → c ≡ after_advance client i ts b → Follows b c → StandsAs below minimum b s → StandsAs below minimum c (with_frontier i ts s)
   stands_advanced b c client i ts s within e follows a =
-      subst (λ (d : Shown T). Follows b d → StandsAs below minimum d (with_frontier i ts s)) (sym e)
-      (λ follows. record { history = Advance client i ts ∷ a.history; stands = follows a.history a.stands; fed = a.fed; inputs = λ j. sym (open_set s.inputs i ts (world below minimum b.dataflow a.history).openings (subst (λ (n : ℕ). i < n) (sym a.nodes) within) (λ k. sym (a.inputs k)) j); nodes = length-set s.inputs i ts ∙ a.nodes; since = a.since })
+      subst (λ (d : BoardState T). Follows b d → StandsAs below minimum d (with_frontier i ts s)) (sym e)
+      (λ follows. record { history = Advance client i ts ∷ a.history; stands = follows a.history a.stands; fed = a.fed; inputs = λ j. sym (open_set s.inputs i ts (state_after below minimum b.dataflow a.history).open_times (subst (λ (n : ℕ). i < n) (sym a.nodes) within) (λ k. sym (a.inputs k)) j); nodes = length-set s.inputs i ts ∙ a.nodes; since = a.since })
       follows
 
   -- the board refuses what the session refuses
-  pub same_change_refusal : (b : Shown T) (s : Session T) (f : Fed T) → f.input < length b.dataflow.nodes → StandsAs below minimum b s → boards.feed_refusal below b f ≡ change_refusal below b.dataflow.nodes s f
+  pub same_change_refusal : (b : BoardState T) (s : Session T) (f : Fed T) → f.input < length b.dataflow.nodes → StandsAs below minimum b s → boards.feed_refusal below b f ≡ change_refusal below b.dataflow.nodes s f
   same_change_refusal b s f within a = λ j. first_refusal ((not (eqb (length f.update.row) (width_of b.dataflow.nodes f.input)), WrongWidth)
       ∷ (int_eq f.update.diff (pos 0), ZeroWeight)
       ∷ (not (nat_le (unsigned_abs f.update.diff) 2147483647), WeightTooLarge)
@@ -81,17 +85,18 @@ module _ {T : Type 0} (below : T → T → Bool) (minimum : T) where
       ∷ [])
     where
       front : front_at f.input b.inputs ≡ front_at f.input s.inputs
-      front = a.stands.openings f.input ∙ a.inputs f.input
+      front = a.stands.open_times f.input ∙ a.inputs f.input
 
       taken : get_or b.accepted f.input 0 ≡ length (fed_to f.input s.fed)
       taken = a.stands.accepted f.input within ∙ ap (λ (fs : List (Fed T)). length (fed_to f.input fs)) a.fed
 
-  pub same_frontier_refusal : (b : Shown T) (s : Session T) (i : ℕ) (ts : List T) → StandsAs below minimum b s → boards.advance_refusal below b i ts ≡ frontier_refusal below b.dataflow.nodes s i ts
-  same_frontier_refusal b s i ts a = ap (λ (front : List T). first_refusal ((not (all_beyond below front ts), NotForward) ∷ [])) (a.stands.openings i ∙ a.inputs i)
+  -- shows that a board refuses a frontier just where the session does
+  pub same_frontier_refusal : (b : BoardState T) (s : Session T) (i : ℕ) (ts : List T) → StandsAs below minimum b s → boards.advance_refusal below b i ts ≡ frontier_refusal below b.dataflow.nodes s i ts
+  same_frontier_refusal b s i ts a = ap (λ (front : List T). first_refusal ((not (all_beyond below front ts), NotForward) ∷ [])) (a.stands.open_times i ∙ a.inputs i)
 
   -- a change is answered as the session does
-  pub change_answered : (b c : Shown T) (client : ℕ) (f : Fed T) (s : Session T) (r : Result (Unit {0}) Refusal) → f.input < length b.dataflow.nodes
-      → OnOk r (c ≡ fed client f b) → OnOk r (boards.feed_refusal below b f ≡ None) → IfErr r (IsRefusalBy (boards.feed_refusal below b f)) → OnErr r (c ≡ looked client b)
+  pub change_answered : (b c : BoardState T) (client : ℕ) (f : Fed T) (s : Session T) (r : Result (Unit {0}) Refusal) → f.input < length b.dataflow.nodes
+      → OnOk r (c ≡ after_feed client f b) → OnOk r (boards.feed_refusal below b f ≡ None) → IfErr r (IsRefusalBy (boards.feed_refusal below b f)) → OnErr r (c ≡ after_look client b)
       → Follows b c → StandsAs below minimum b s
       → IsTold (change_refusal below b.dataflow.nodes s f) (StandsAs below minimum c (with_change f s)) (StandsAs below minimum c s) r
   change_answered b c client f s r within done accepted refused looks follows a =
@@ -101,8 +106,8 @@ module _ {T : Type 0} (below : T → T → Bool) (minimum : T) where
       (on_err_weaker r (λ e. stands_looked b c client s e follows a) looks))
 
   -- and so is a frontier
-  pub frontier_answered : (b c : Shown T) (client i : ℕ) (ts : List T) (s : Session T) (r : Result (Unit {0}) Refusal) → i < length b.dataflow.nodes
-      → OnOk r (c ≡ advanced client i ts b) → OnOk r (boards.advance_refusal below b i ts ≡ None) → IfErr r (λ refusal. boards.advance_refusal below b i ts ≡ Some refusal) → OnErr r (c ≡ looked client b)
+  pub frontier_answered : (b c : BoardState T) (client i : ℕ) (ts : List T) (s : Session T) (r : Result (Unit {0}) Refusal) → i < length b.dataflow.nodes
+      → OnOk r (c ≡ after_advance client i ts b) → OnOk r (boards.advance_refusal below b i ts ≡ None) → IfErr r (λ refusal. boards.advance_refusal below b i ts ≡ Some refusal) → OnErr r (c ≡ after_look client b)
       → Follows b c → StandsAs below minimum b s
       → IsTold (frontier_refusal below b.dataflow.nodes s i ts) (StandsAs below minimum c (with_frontier i ts s)) (StandsAs below minimum c s) r
   frontier_answered b c client i ts s r within done accepted refused looks follows a =
@@ -118,39 +123,43 @@ input_there p input h = let parts = and_parts _ _ h in (ltb-true _ _ parts.0, pa
 -- ---- the worker
 
 module _ {T : Type 0} (below : T → T → Bool) where
-  pub ready_fed : (b : Shown T) (client : ℕ) (f : Fed T) (o : Option Refusal) → IsBoard b → IsInput b.dataflow f.input → boards.feed_refusal below b f ≡ None → IsReadyUnless o b → IsReadyUnless o (fed client f b)
+  -- keeps the worker ready over a change
+  pub ready_fed : (b : BoardState T) (client : ℕ) (f : Fed T) (o : Option Refusal) → IsBoard b → IsInput b.dataflow f.input → boards.feed_refusal below b f ≡ None → IsReadyUnless o b → IsReadyUnless o (after_feed client f b)
   ready_fed b client f None p input accepted i = (
     record { alone = i.0.alone; linear = i.0.linear; held = λ n k. fed_held below b client f accepted input p i.0.alone n k ∙ i.0.held n k; hand = i.0.hand },
     fed_due below b client f accepted input p i.0.alone i.1,
   )
   ready_fed b client f (Some r) p input accepted i = i
 
-  pub ready_looked : (b : Shown T) (actor : ℕ) (o : Option Refusal) → IsReadyUnless o b → IsReadyUnless o (looked actor b)
+  -- keeps the worker ready over a look
+  pub ready_looked : (b : BoardState T) (actor : ℕ) (o : Option Refusal) → IsReadyUnless o b → IsReadyUnless o (after_look actor b)
   ready_looked b actor None i = (record { alone = i.0.alone; linear = i.0.linear; held = i.0.held; hand = i.0.hand }, i.1)
   ready_looked b actor (Some r) i = i
 
-  pub ready_advanced : (b : Shown T) (client i : ℕ) (ts : List T) (o : Option Refusal) → IsReadyUnless o b → IsReadyUnless o (advanced client i ts b)
+  -- keeps the worker ready over a frontier
+  pub ready_advanced : (b : BoardState T) (client i : ℕ) (ts : List T) (o : Option Refusal) → IsReadyUnless o b → IsReadyUnless o (after_advance client i ts b)
   ready_advanced b client i ts None ready = (record { alone = ready.0.alone; linear = ready.0.linear; held = ready.0.held; hand = ready.0.hand }, ready.1)
   ready_advanced b client i ts (Some r) ready = ready
 
-  -- so it is after whatever came of a change
-  pub ready_after_change : (b c : Shown T) (client : ℕ) (f : Fed T) (o : Option Refusal) (r : Result (Unit {0}) Refusal) → IsBoard b → IsInput b.dataflow f.input
-      → OnOk r (c ≡ fed client f b) → OnOk r (boards.feed_refusal below b f ≡ None) → OnErr r (c ≡ looked client b) → IsReadyUnless o b → IsReadyUnless o c
+  -- keeps the worker ready over whatever came of a change
+  pub ready_after_change : (b c : BoardState T) (client : ℕ) (f : Fed T) (o : Option Refusal) (r : Result (Unit {0}) Refusal) → IsBoard b → IsInput b.dataflow f.input
+      → OnOk r (c ≡ after_feed client f b) → OnOk r (boards.feed_refusal below b f ≡ None) → OnErr r (c ≡ after_look client b) → IsReadyUnless o b → IsReadyUnless o c
   ready_after_change b c client f o (Ok x) p input done accepted looks ready = subst (IsReadyUnless o) (sym done) (ready_fed b client f o p input accepted ready)
   ready_after_change b c client f o (Err r) p input done accepted looks ready = subst (IsReadyUnless o) (sym looks) (ready_looked b client o ready)
 
-  pub ready_after_frontier : (b c : Shown T) (client i : ℕ) (ts : List T) (o : Option Refusal) (r : Result (Unit {0}) Refusal)
-      → OnOk r (c ≡ advanced client i ts b) → OnErr r (c ≡ looked client b) → IsReadyUnless o b → IsReadyUnless o c
+  -- keeps the worker ready over whatever came of a frontier
+  pub ready_after_frontier : (b c : BoardState T) (client i : ℕ) (ts : List T) (o : Option Refusal) (r : Result (Unit {0}) Refusal)
+      → OnOk r (c ≡ after_advance client i ts b) → OnErr r (c ≡ after_look client b) → IsReadyUnless o b → IsReadyUnless o c
   ready_after_frontier b c client i ts o (Ok x) done looks ready = subst (IsReadyUnless o) (sym done) (ready_advanced b client i ts o ready)
   ready_after_frontier b c client i ts o (Err r) done looks ready = subst (IsReadyUnless o) (sym looks) (ready_looked b client o ready)
 
 -- a change leaves the dataflow as it was
-pub dataflow_after_change : {T : Type 0} (b c : Shown T) (client : ℕ) (f : Fed T) (r : Result (Unit {0}) Refusal) → OnOk r (c ≡ fed client f b) → OnErr r (c ≡ looked client b) → b.dataflow ≡ c.dataflow
-dataflow_after_change {T} b c client f (Ok x) done looks = ap (λ (z : Shown T). z.dataflow) (sym done)
-dataflow_after_change {T} b c client f (Err r) done looks = ap (λ (z : Shown T). z.dataflow) (sym looks)
+pub dataflow_after_change : {T : Type 0} (b c : BoardState T) (client : ℕ) (f : Fed T) (r : Result (Unit {0}) Refusal) → OnOk r (c ≡ after_feed client f b) → OnErr r (c ≡ after_look client b) → b.dataflow ≡ c.dataflow
+dataflow_after_change {T} b c client f (Ok x) done looks = ap (λ (z : BoardState T). z.dataflow) (sym done)
+dataflow_after_change {T} b c client f (Err r) done looks = ap (λ (z : BoardState T). z.dataflow) (sym looks)
 
 -- on a board on which nothing has happened the one worker is idle
-pub ready_first : {T : Type 0} (minimum : T) (nodes : List Node) (b : Shown T) → b ≡ boards.first_board minimum (record { nodes = nodes; workers = 1 }) → All (λ node. IsTrue (is_linear node)) nodes → IsReadyUnless None b
+pub ready_first : {T : Type 0} (minimum : T) (nodes : List Node) (b : BoardState T) → b ≡ boards.first_board minimum (record { nodes = nodes; workers = 1 }) → All (λ node. IsTrue (is_linear node)) nodes → IsReadyUnless None b
 ready_first minimum nodes b e linear = subst (IsReadyUnless None) (sym e) (
   record {
     alone = refl;

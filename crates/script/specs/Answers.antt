@@ -6,31 +6,32 @@ use Rattle.update.specs.Bags.{Entry}
 use Rattle.update.specs.declared.change.Update.{Update}
 use Rattle.update.specs.declared.refusal.Refusal.{Refusal}
 use Rattle.plan.specs.declared.node.Node.{Node}
-use Rattle.machine.specs.declared.event.Fed.{Fed}
+use Rattle.machine.specs.declared.histories.event.Fed.{Fed}
 use Rattle.script.specs.Engines.{IsTold, IsFound}
 use Rattle.script.specs.Sessions.{with_change, with_frontier, change_refusal, frontier_refusal, read_refusal, changes_refusal, rows_at, changes_at, frontier_at}
-use Rattle.script.specs.Text.{Sitting, at_or_below, in_print, join_of}
+use Rattle.script.specs.Text.{BitemporalSession}
+use Rattle.lattice.specs.Bitimes.{bitime_join, bitime_cmp, bitime_below}
 
 -- ---- what tells something: Stands says for which session the engine stands afterwards
-module _ (p : List Node) (s : Sitting) where
+module _ (p : List Node) (s : BitemporalSession) where
   -- a change of an input
-  abbrev pub TakesChange : Fed (Pair ℕ ℕ) → (Sitting → Type 0) → Result (Unit {0}) Refusal → Type 0
-  TakesChange f Stands r = IsTold (change_refusal at_or_below p s f) (Stands (with_change f s)) (Stands s) r
+  abbrev pub TakesChange : Fed (Pair ℕ ℕ) → (BitemporalSession → Type 0) → Result (Unit {0}) Refusal → Type 0
+  TakesChange f Stands r = IsTold (change_refusal bitime_below p s f) (Stands (with_change f s)) (Stands s) r
 
   -- a frontier of an input
-  abbrev pub TakesFrontier : ℕ → List (Pair ℕ ℕ) → (Sitting → Type 0) → Result (Unit {0}) Refusal → Type 0
-  TakesFrontier i ts Stands r = IsTold (frontier_refusal at_or_below p s i ts) (Stands (with_frontier i ts s)) (Stands s) r
+  abbrev pub TakesFrontier : ℕ → List (Pair ℕ ℕ) → (BitemporalSession → Type 0) → Result (Unit {0}) Refusal → Type 0
+  TakesFrontier i ts Stands r = IsTold (frontier_refusal bitime_below p s i ts) (Stands (with_frontier i ts s)) (Stands s) r
 
 -- ---- what asks for something: Ends says which refusals end the run
-module _ (Ends : Refusal → Type 0) (p : List Node) (s : Sitting) where
+module _ (Ends : Refusal → Type 0) (p : List Node) (s : BitemporalSession) where
   -- the rows of a view at a time
   abbrev pub FindsRows : ℕ → Pair ℕ ℕ → Result (List Entry) Refusal → Type 0
-  FindsRows view time r = IsFound Ends (read_refusal at_or_below p s view time) (rows_at at_or_below p s view time) r
+  FindsRows view time r = IsFound Ends (read_refusal bitime_below p s view time) (rows_at bitime_below p s view time) r
 
   -- the changes of a view
   abbrev pub FindsChanges : ℕ → Result (List (Update (Pair ℕ ℕ))) Refusal → Type 0
-  FindsChanges view r = IsFound Ends (changes_refusal at_or_below p s (make_pair 0 0) view) (changes_at at_or_below p s in_print join_of view) r
+  FindsChanges view r = IsFound Ends (changes_refusal bitime_below p s (make_pair 0 0) view) (changes_at bitime_below p s bitime_cmp bitime_join view) r
 
   -- the frontier of a view
   abbrev pub FindsFrontier : ℕ → Result (List (Pair ℕ ℕ)) Refusal → Type 0
-  FindsFrontier view r = IsFound Ends None (frontier_at at_or_below p s in_print view) r
+  FindsFrontier view r = IsFound Ends None (frontier_at bitime_below p s bitime_cmp view) r

@@ -10,7 +10,8 @@ use Rattle.update.specs.Bags.{Entry}
 abbrev pub in_front : Entry → List Entry → List Entry
 in_front e rest = if int_eq e.count (pos 0) then rest else e ∷ rest
 
--- an entry where a list begins with x: in front of x if its row is less, added to x if it is x's, else somewhere behind
+-- an entry where a list begins with x: in front of x if its row is less, added to x if it is x's,
+-- else somewhere behind
 abbrev pub beside : Ordering → Entry → Entry → List Entry → List Entry → List Entry
 beside Less e x xs behind = in_front e (x ∷ xs)
 beside Equal e x xs behind = in_front (record x { count = e.count +ℤ x.count }) xs
@@ -22,6 +23,6 @@ put e [] = in_front e []
 put e (x ∷ xs) = beside (slice_cmp int_cmp e.row x.row) e x xs (put e xs)
 
 -- all entries, one by one
-abbrev pub bag_of : List Entry → List Entry
-bag_of [] = []
-bag_of (e ∷ entries) = put e (bag_of entries)
+abbrev pub consolidated_bag : List Entry → List Entry
+consolidated_bag [] = []
+consolidated_bag (e ∷ entries) = put e (consolidated_bag entries)

@@ -1,14 +1,15 @@
--- The changes of a view, as a function: of all lists of updates the one that is consolidated and sums to what is wanted
--- at each time that has passed (McSherry et al., Differential Dataflow, CIDR 2013). It is built time by time, in order.
+-- The changes of a view, as a function: of all lists of updates the one that is consolidated and
+-- sums to what is wanted at each time that has passed (McSherry et al., Differential Dataflow, CIDR
+-- 2013). It is built time by time, in order.
 use Rattle.std.specs.Prelude.{Bool, List, [], ◌∷◌, ◌++◌, map, if◌then◌else◌}
 use Rattle.std.specs.declared.cmp.Ordering.{Ordering}
 use Rattle.update.specs.Bags.{Entry}
 use Rattle.update.specs.Updates.{as_of}
 use Rattle.update.specs.declared.change.Update.{Update}
 use Rattle.plan.specs.Changes.{has_passed}
-use Rattle.plan.specs.Operators.{negated}
+use Rattle.plan.specs.Operators.{negated_entry}
 use Rattle.oracle.specs.Listing.{at_time}
-use Rattle.script.specs.Bags.{bag_of}
+use Rattle.script.specs.Bags.{consolidated_bag}
 use Rattle.script.specs.Orders.{in_order}
 
 module _ {T : Type 0} where
@@ -20,7 +21,7 @@ module _ {T : Type 0} where
   module _ (below : T → T → Bool) where
     -- what is wanted at t, less what is listed at or before it
     abbrev pub missing : List Entry → T → List (Update T) → List Entry
-    missing wanted t listed = bag_of (wanted ++ map negated (as_of below t listed))
+    missing wanted t listed = consolidated_bag (wanted ++ map negated_entry (as_of below t listed))
 
     -- at each of these times that has passed, what is missing there is listed behind what is listed
     abbrev pub listed_along : List T → (T → List Entry) → List T → List (Update T) → List (Update T)

@@ -2,14 +2,14 @@ pub mod Bags
 pub mod Orders
 pub mod Changes
 pub mod Outs
-pub mod Took
+pub mod AppendLaws
 pub mod Printing
 pub mod Sessions
 pub mod Text
-pub mod Weights
+pub mod Bounds
 pub mod Engines
 pub mod Ends
 pub mod Answers
 pub mod Standing
-pub mod PlainStanding
+pub mod OracleStanding
 pub mod Relays

@@ -1,25 +1,27 @@
--- One worker that carries bundles through a plan of linear nodes: what it finds on the board, and what it leaves.
-use Rattle.std.specs.Prelude.{◌≡◌, ℕ, ◌<◌, ◌+◌, Bool, ◌&&◌, eqb, nat_le, nat_lt, not, List, [], ◌++◌, length, None, get_or, unwrap_or, unsigned_abs, IsTrue}
+-- One worker that carries bundles through a plan of linear nodes: what it finds on the board, and
+-- what it leaves.
+use Rattle.std.specs.Prelude.{◌≡◌, ℕ, ◌<◌, ◌+◌, Bool, ◌&&◌, eqb, nat_le, nat_lt, List, [], ◌++◌, length, None, get_or, unwrap_or, unsigned_abs, IsTrue}
 use Rattle.std.specs.List.{list_all}
 use Rattle.lattice.specs.Frontiers.{all_beyond}
-use Rattle.plan.specs.Operators.{is_linear}
+use Rattle.plan.specs.Nodes.{is_linear}
 use Rattle.plan.specs.Widths.{width_of}
 use Rattle.linear.specs.Ports.{is_port}
 use Rattle.linear.specs.Widths.{are_wide}
 use Rattle.update.specs.declared.change.Update.{Update}
-use Rattle.machine.specs.declared.event.Site.{Site}
-use Rattle.machine.specs.declared.event.Bundle.{Bundle}
-use Rattle.machine.specs.declared.event.Emission.{Emission}
-use Rattle.machine.specs.declared.event.Event.{Event}
-use Rattle.machine.specs.Dataflows.{Dataflow, node_of, source_of}
-use Rattle.machine.specs.Worlds.{times, updates_at}
-use Rattle.machine.specs.Shares.{share}
-use Rattle.machine.specs.Histories.{world}
-use Rattle.machine.specs.Actors.{IsSameOfClients}
-use Rattle.machine.specs.Loads.{Lot, lot_of, queue_of}
-use Rattle.machine.specs.Boards.{Shown, Stands}
+use Rattle.machine.specs.declared.histories.event.Site.{Site}
+use Rattle.machine.specs.declared.histories.event.Bundle.{Bundle}
+use Rattle.machine.specs.declared.histories.event.Emission.{Emission}
+use Rattle.machine.specs.declared.histories.event.Event.{Event}
+use Rattle.machine.specs.Histories.Dataflows.{Dataflow, node_of, source_of}
+use Rattle.machine.specs.Histories.States.{times}
+use Rattle.machine.specs.Histories.Shares.{AreShares, are_filled, are_stamped}
+use Rattle.machine.specs.Histories.{state_after}
+use Rattle.machine.specs.Histories.Actors.{IsSameOfClients}
+use Rattle.machine.specs.Boards.Loads.{Lot, lot_of, queue_of}
+use Rattle.machine.specs.Boards.{BoardState, Stands}
 
--- the width of the rows that come to a place: that of the node that is read there, and at an input its own
+-- the width of the rows that come to a place: that of the node that is read there, and at an input
+-- its own
 abbrev pub width_at : Dataflow → Site → ℕ
 width_at p site = width_of p.nodes (unwrap_or (source_of p site.node site.port) site.node)
 
@@ -28,13 +30,13 @@ module _ {T : Type 0} where
   abbrev pub are_small : List (Update T) → Bool
   are_small us = list_all (λ u. nat_le (unsigned_abs u.diff) 2147483647) us
 
-  -- the bundle waits on the first worker, at a port of this node or of a later one; its rows are as wide as those that are
-  -- read there, and its diffs are small
+  -- the bundle waits on the first worker, at a port of this node or of a later one; its rows are as
+  -- wide as those that are read there, and its diffs are small
   abbrev pub is_due : Dataflow → ℕ → Bundle T → Bool
   is_due p n b = (nat_le n b.place.node && nat_lt b.place.node (length p.nodes))
       && ((is_port (node_of p b.place.node) b.place.port && eqb b.place.worker 0) && (are_wide (width_at p b.place) b.updates && are_small b.updates))
 
-  -- so is whatever waits anywhere
+  -- all that waits is due
   abbrev pub AreDue : Dataflow → ℕ → List (List (Lot T)) → Type 0
   AreDue p n stations = (site : Site) → IsTrue (list_all (is_due p n) (queue_of stations site))
 
@@ -47,30 +49,31 @@ module _ {T : Type 0} where
   NothingWaits stations = (site : Site) → queue_of stations site ≡ []
 
   -- one worker, linear nodes alone, and the worker holds nothing and has nothing in hand
-  pub record IsIdle (b : Shown T) : Type 0 where
+  pub record IsIdle (b : BoardState T) : Type 0 where
     pub alone : b.dataflow.workers ≡ 1
     pub linear : (n : ℕ) → n < length b.dataflow.nodes → IsTrue (is_linear (node_of b.dataflow n))
     pub held : (n k : ℕ) → (lot_of b.stations n k).held ≡ []
     pub hand : get_or b.hand 0 None ≡ None
 
   -- the worker is idle, and nothing waits
-  abbrev pub IsRelayed : Shown T → Type 0
+  abbrev pub IsRelayed : BoardState T → Type 0
   IsRelayed b = IsIdle b × NothingWaits b.stations
 
 module _ {T : Type 0} (below : T → T → Bool) where
-  -- what was given is sent whole, in bundles none of which is empty, and with stamps that are beyond whatever is held, where
-  -- what was given is
+  -- what was given is sent whole, in bundles none of which is empty, and with stamps that are
+  -- beyond whatever is held, where what was given is
   pub record IsCut (p : Dataflow) (g : Emission T) (sent : List (Bundle T)) : Type 0 where
-    pub whole : (site : Site) → updates_at site sent ≡ share p site g
-    pub filled : IsTrue (list_all (λ b. not (eqb (length b.updates) 0)) sent)
+    pub whole : AreShares p g sent
+    pub filled : IsTrue (are_filled sent)
     pub stamped : (held : List T) → IsTrue (all_beyond below held (times g.updates))
-        → IsTrue (list_all (λ b. all_beyond below held b.stamp && all_beyond below b.stamp (times b.updates)) sent)
+        → IsTrue (are_stamped below held sent)
 
 module _ {T : Type 0} (below : T → T → Bool) (minimum : T) where
-  -- where the one board stands for this history, the other stands for it with later events, none of them of a client
-  abbrev pub GoesOnFrom : List (Event T) → Shown T → Shown T → Type 0
-  GoesOnFrom h b c = (later : List (Event T)) × Stands below minimum c (later ++ h) × IsSameOfClients (world below minimum b.dataflow h) (world below minimum c.dataflow (later ++ h))
+  -- where the one board stands for this history, the other stands for it with later events, none of
+  -- them of a client
+  abbrev pub IsContinuedFrom : List (Event T) → BoardState T → BoardState T → Type 0
+  IsContinuedFrom h b c = (later : List (Event T)) × Stands below minimum c (later ++ h) × IsSameOfClients (state_after below minimum b.dataflow h) (state_after below minimum c.dataflow (later ++ h))
 
-  -- the same for each history that the one may stand for
-  abbrev pub GoesOn : Shown T → Shown T → Type 0
-  GoesOn b c = (h : List (Event T)) → Stands below minimum b h → GoesOnFrom h b c
+  -- each history of the one board goes on to one of the other, by no event of a client
+  abbrev pub IsContinuedBy : BoardState T → BoardState T → Type 0
+  IsContinuedBy b c = (h : List (Event T)) → Stands below minimum b h → IsContinuedFrom h b c

@@ -1,5 +1,5 @@
--- A session by definition: which changes were accepted, where the inputs' frontiers stand, and from where on each view may
--- be read. It knows neither workers nor differences.
+-- A session by definition: which changes were accepted, where the inputs' frontiers stand, and from
+-- where on each view may be read. It knows neither workers nor differences.
 use Rattle.std.specs.Prelude.{ℕ, Bool, not, List, [], ◌∷◌, length, map, set, Option}
 use Rattle.std.specs.declared.cmp.Ordering.{Ordering}
 use Rattle.lattice.specs.Frontiers.{is_beyond}
@@ -11,14 +11,15 @@ use Rattle.update.specs.declared.refusal.Refusal.TheVariants.{NotPassed, GivenUp
 use Rattle.plan.specs.Changes.{query_at, open_for}
 use Rattle.plan.specs.Rules.{first_refusal}
 use Rattle.plan.specs.declared.node.Node.{Node}
-use Rattle.machine.specs.declared.event.Fed.{Fed}
-use Rattle.machine.specs.Worlds.{fed_to}
-use Rattle.machine.specs.Boards.{is_from_start}
-use Rattle.machine.specs.Inputs.{front_at, first_inputs, feed_faults, advance_faults}
-use Rattle.script.specs.Bags.{bag_of}
+use Rattle.machine.specs.declared.histories.event.Fed.{Fed}
+use Rattle.machine.specs.Histories.States.{fed_to}
+use Rattle.machine.specs.Histories.Readings.{is_from_start}
+use Rattle.machine.specs.Boards.Inputs.{front_at, first_inputs, feed_faults, advance_faults}
+use Rattle.script.specs.Bags.{consolidated_bag}
 use Rattle.script.specs.Changes.{changes_along}
 use Rattle.script.specs.Orders.{in_order}
 
+-- what the commands so far have made of a script: all that its text depends on
 pub record Session (T : Type 0) : Type 0 where
   -- the changes that were accepted, the newest first
   pub fed : List (Fed T)
@@ -28,7 +29,8 @@ pub record Session (T : Type 0) : Type 0 where
   pub since : ℕ → List T
 
 module _ {T : Type 0} where
-  -- before the first command nothing was accepted, each input's frontier is the least time, and each view may be read from it on
+  -- before the first command nothing was accepted, each input's frontier is the least time, and
+  -- each view may be read from it on
   abbrev pub first_session : T → List Node → Session T
   first_session minimum p = record { fed = []; inputs = first_inputs minimum p; since = λ _. minimum ∷ [] }
 
@@ -63,13 +65,13 @@ module _ {T : Type 0} (below : T → T → Bool) (p : List Node) (s : Session T)
 
   -- the rows of a view at a time: the query, from scratch, on the accepted changes at or before it
   abbrev pub rows_at : ℕ → T → List Entry
-  rows_at v t = bag_of (query_at below p (λ i. fed_to i s.fed) v t)
+  rows_at v t = consolidated_bag (query_at below p (λ i. fed_to i s.fed) v t)
 
   -- the frontier of a view, in order
   abbrev pub frontier_at : (T → T → Ordering) → ℕ → List T
   frontier_at cmp v = in_order cmp (view_frontier v)
 
-  -- the changes of a view at the times that its frontier has passed: the one list of updates that at each of them sums to
-  -- the query, from scratch, on the accepted changes
+  -- the changes of a view at the times that its frontier has passed: the one list of updates that
+  -- at each of them sums to the query, from scratch, on the accepted changes
   abbrev pub changes_at : (T → T → Ordering) → (T → T → T) → ℕ → List (Update T)
   changes_at cmp joined v = changes_along below cmp joined (view_frontier v) (λ t. query_at below p (λ i. fed_to i s.fed) v t) (map (λ f. f.update.time) s.fed)

@@ -1,98 +1,98 @@
 -- The text of a script: the pieces of its commands, in order.
-use Rattle.std.specs.Prelude.{◌≡◌, ℕ, Bool, nat_le, max, List, [], ◌∷◌, ◌++◌, Option, Some, None}
-use Rattle.std.specs.Ordering.{nat_cmp}
-use Rattle.std.specs.declared.cmp.Ordering.{Ordering}
+use Rattle.std.specs.Prelude.{◌≡◌, ℕ, List, [], ◌∷◌, ◌++◌, Option, Some, None}
 use Rattle.lattice.specs.declared.product.Pair.{Pair}
-use Rattle.lattice.specs.Pairs.{make_pair, pair_below, pair_with, pair_cmp}
+use Rattle.lattice.specs.Pairs.{make_pair}
 use Rattle.update.specs.declared.refusal.Refusal.{Refusal}
 use Rattle.plan.specs.declared.node.Node.{Node}
 use Rattle.grammar.specs.declared.command.Command.{Command}
-use Rattle.grammar.specs.declared.command.Command.TheVariants.{Change, Advance, Close, Read, Changes, Frontier}
+use Rattle.grammar.specs.declared.command.Command.TheVariants as command
+use Rattle.grammar.specs.declared.command.InputCommand.{InputCommand}
+use Rattle.grammar.specs.declared.command.InputCommand.TheVariants.{Change, Advance, Close}
+use Rattle.grammar.specs.declared.command.ViewCommand.{ViewCommand}
+use Rattle.grammar.specs.declared.command.ViewCommand.TheVariants.{Read, Changes, Frontier}
 use Rattle.grammar.specs.declared.command.CommandLine.{CommandLine}
-use Rattle.grammar.specs.Told.{Told, name_at}
+use Rattle.grammar.specs.ScriptModels.{ScriptModel, name_at}
 use Rattle.script.specs.Printing.{refused_text, rows_text, changes_text, frontier_text}
 use Rattle.script.specs.Sessions.{Session, first_session, with_change, with_frontier, change_refusal, frontier_refusal, read_refusal, changes_refusal, rows_at, changes_at, frontier_at}
-
--- the first pair is at or below the second
-abbrev pub at_or_below : Pair ℕ ℕ → Pair ℕ ℕ → Bool
-at_or_below = pair_below nat_le nat_le
-
--- pairs in the order of printing, and the least pair at or after both
-abbrev pub in_print : Pair ℕ ℕ → Pair ℕ ℕ → Ordering
-in_print = pair_cmp nat_cmp nat_cmp
-
-abbrev pub join_of : Pair ℕ ℕ → Pair ℕ ℕ → Pair ℕ ℕ
-join_of = pair_with max max
+use Rattle.lattice.specs.Bitimes.{bitime_below, bitime_cmp, bitime_join}
 
 -- a script's session
-abbrev pub Sitting : Type 0
-Sitting = Session (Pair ℕ ℕ)
+abbrev pub BitemporalSession : Type 0
+BitemporalSession = Session (Pair ℕ ℕ)
 
-module _ (p : List Node) (s : Sitting) where
+module _ (p : List Node) (s : BitemporalSession) where
+  -- what refuses a command that changes an input
+  abbrev pub input_command_refusal : InputCommand → Option Refusal
+  input_command_refusal (Change input time diff row) = change_refusal bitime_below p s (record { input = input; update = record { time = time; row = row; diff = diff } })
+  input_command_refusal (Advance input times) = frontier_refusal bitime_below p s input times
+  input_command_refusal (Close input) = None
+
+  -- what refuses a command that asks about a view
+  abbrev pub view_command_refusal : ViewCommand → Option Refusal
+  view_command_refusal (Read view time) = read_refusal bitime_below p s view time
+  view_command_refusal (Changes view) = changes_refusal bitime_below p s (make_pair 0 0) view
+  view_command_refusal (Frontier view) = None
+
   -- what refuses a command
-  abbrev pub refusal_of : Command → Option Refusal
-  refusal_of (Change input time diff row) = change_refusal at_or_below p s (record { input = input; update = record { time = time; row = row; diff = diff } })
-  refusal_of (Advance input times) = frontier_refusal at_or_below p s input times
-  refusal_of (Close input) = None
-  refusal_of (Read view time) = read_refusal at_or_below p s view time
-  refusal_of (Changes view) = changes_refusal at_or_below p s (make_pair 0 0) view
-  refusal_of (Frontier view) = None
+  abbrev pub command_refusal : Command → Option Refusal
+  command_refusal (command.Input change) = input_command_refusal change
+  command_refusal (command.View question) = view_command_refusal question
 
-  -- the session after a command that is accepted
-  abbrev pub accepting : Command → Sitting
-  accepting (Change input time diff row) = with_change (record { input = input; update = record { time = time; row = row; diff = diff } }) s
-  accepting (Advance input times) = with_frontier input times s
-  accepting (Close input) = with_frontier input [] s
-  accepting (Read view time) = s
-  accepting (Changes view) = s
-  accepting (Frontier view) = s
+  -- the session after an accepted command that changes an input
+  abbrev pub carry_out : InputCommand → BitemporalSession
+  carry_out (Change input time diff row) = with_change (record { input = input; update = record { time = time; row = row; diff = diff } }) s
+  carry_out (Advance input times) = with_frontier input times s
+  carry_out (Close input) = with_frontier input [] s
 
-  -- where something refuses a command, the session stays as it is
-  abbrev pub accepting_unless : Option Refusal → Command → Sitting
-  accepting_unless None command = accepting command
-  accepting_unless (Some refusal) command = s
+  -- if something refuses a command, the session stays as it is
+  abbrev pub carry_out_unless : Option Refusal → InputCommand → BitemporalSession
+  carry_out_unless None change = carry_out change
+  carry_out_unless (Some refusal) change = s
 
-  -- the session after a command
-  abbrev pub after : Command → Sitting
-  after command = accepting_unless (refusal_of command) command
+  -- the session after a command; a question leaves it as it is
+  abbrev pub after_command : Command → BitemporalSession
+  after_command (command.Input change) = carry_out_unless (input_command_refusal change) change
+  after_command (command.View question) = s
 
-module _ (t : Told) (s : Sitting) where
-  -- what a command writes that is accepted: what it asks for, if anything
-  abbrev pub answer : Command → List ℕ
-  answer (Change input time diff row) = []
-  answer (Advance input times) = []
-  answer (Close input) = []
-  answer (Read view time) = rows_text (name_at t.names view) time (rows_at at_or_below t.plan s view time)
-  answer (Changes view) = changes_text (name_at t.names view) (changes_at at_or_below t.plan s in_print join_of view)
-  answer (Frontier view) = frontier_text (name_at t.names view) (frontier_at at_or_below t.plan s in_print view)
+module _ (t : ScriptModel) (s : BitemporalSession) where
+  -- the answer to an accepted question
+  abbrev pub answer : ViewCommand → List ℕ
+  answer (Read view time) = rows_text (name_at t.names view) time (rows_at bitime_below t.plan s view time)
+  answer (Changes view) = changes_text (name_at t.names view) (changes_at bitime_below t.plan s bitime_cmp bitime_join view)
+  answer (Frontier view) = frontier_text (name_at t.names view) (frontier_at bitime_below t.plan s bitime_cmp view)
 
-  -- where something refuses the command of a line, that is written
-  abbrev pub answer_unless : Option Refusal → CommandLine → List ℕ
-  answer_unless None line = answer line.command
-  answer_unless (Some refusal) line = refused_text line.line refusal
+  -- what an accepted command prints
+  abbrev pub command_text : Command → List ℕ
+  command_text (command.Input change) = []
+  command_text (command.View question) = answer question
 
-  -- what a line writes
-  abbrev pub piece : CommandLine → List ℕ
-  piece line = answer_unless (refusal_of t.plan s line.command) line
+  -- what line n prints for its command: a refusal, if something refuses it
+  abbrev pub text_unless : Option Refusal → ℕ → Command → List ℕ
+  text_unless None n command = command_text command
+  text_unless (Some refusal) n command = refused_text n refusal
+
+  -- what line n prints for its command
+  abbrev pub piece : ℕ → Command → List ℕ
+  piece n command = text_unless (command_refusal t.plan s command) n command
 
 -- the session after lines
-abbrev pub after_lines : List Node → Sitting → List CommandLine → Sitting
+abbrev pub after_lines : List Node → BitemporalSession → List CommandLine → BitemporalSession
 after_lines p s [] = s
-after_lines p s (line ∷ lines) = after_lines p (after p s line.command) lines
+after_lines p s (line ∷ lines) = after_lines p (after_command p s line.command) lines
 
 -- this holds of the session after some of the lines, from the first one on
-abbrev pub HoldsAlong : (Sitting → Type 0) → List Node → Sitting → List CommandLine → Type 0
+abbrev pub HoldsAlong : (BitemporalSession → Type 0) → List Node → BitemporalSession → List CommandLine → Type 0
 HoldsAlong Holds p s lines = (done : List CommandLine) × (rest : List CommandLine) × (done ++ rest ≡ lines) × Holds (after_lines p s done)
 
 -- what lines write
-abbrev pub lines_text : Told → Sitting → List CommandLine → List ℕ
+abbrev pub lines_text : ScriptModel → BitemporalSession → List CommandLine → List ℕ
 lines_text t s [] = []
-lines_text t s (line ∷ lines) = piece t s line ++ lines_text t (after t.plan s line.command) lines
+lines_text t s (line ∷ lines) = piece t s line.line line.command ++ lines_text t (after_command t.plan s line.command) lines
 
 -- a script's session begins at the least pair
-abbrev pub first_sitting : List Node → Sitting
-first_sitting p = first_session (make_pair 0 0) p
+abbrev pub opening_session : List Node → BitemporalSession
+opening_session p = first_session (make_pair 0 0) p
 
 -- what a script writes
-abbrev pub text : Told → List ℕ
-text t = lines_text t (first_sitting t.plan) t.commands
+abbrev pub text : ScriptModel → List ℕ
+text t = lines_text t (opening_session t.plan) t.commands

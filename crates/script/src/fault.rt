@@ -6,12 +6,13 @@ use std::alloc::AllocError;
 use thiserror::Error;
 use update::Refusal;
 
-/// Why a run ended early. What was written until then is a beginning of the script's text; where a number was too large, it
-/// is the whole text of the lines before.
+/// Why a run ended early. What was written until then is a beginning of the script's text; where a
+/// number was too large, it is the whole text of the lines before.
 #[derive(Clone, Copy, Debug, PartialEq, Eq, Error)]
 pub enum RunFault {
-    /// Refused, with the number of [`Refusal::code`]: 1 where memory was, 10 where a number was no 64-bit number, 23 where
-    /// the number of workers is none that is taken, 24 where no thread could be started.
+    /// Refused, with the number of [`Refusal::code`]: 1 where memory was, 10 where a number was no
+    /// 64-bit number, 23 where the number of workers is none that is taken. 24 is kept for a thread that
+    /// could not be started; no run answers it yet.
     #[error("refused with {0}")]
     Refused(u8),
     /// The output failed.

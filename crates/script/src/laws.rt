@@ -1,4 +1,5 @@
-//! Laws of the definitions. The functions do nothing: they are called, or their clauses cited, for what they promise.
+//! Laws of the definitions. The functions do nothing: they are called, or their clauses cited, for
+//! what they promise.
 ghost use Rattle.std.specs.Prelude.{◌≡◌, ◌<◌, ℕ, List, length};
 ghost use Rattle.std.specs.List.Sorted.{IsStrictlySortedBy};
 ghost use Rattle.antichain.specs.Antichains.{SameElements};
@@ -6,24 +7,26 @@ ghost use Rattle.update.specs.Bags.{Entry, Alike, IsBag};
 ghost use Rattle.update.specs.declared.change.Update.{Update};
 ghost use Rattle.plan.specs.Changes.{AreDifferences};
 ghost use Rattle.plan.specs.Rules.{IsPlan};
-ghost use Rattle.plan.specs.Weights.{IsWeight};
+ghost use Rattle.plan.specs.Bounds.{IsBound};
 ghost use Rattle.plan.specs.declared.node.Node.{Node};
-ghost use Rattle.machine.specs.Worlds.{fed_to};
-ghost use Rattle.script.specs.Bags.{bag_of};
+ghost use Rattle.machine.specs.Histories.States.{fed_to};
+ghost use Rattle.script.specs.Bags.{consolidated_bag};
 ghost use Rattle.script.specs.Sessions.{Session, view_frontier, frontier_at, changes_at};
 
 use lattice::Lattice;
 
-/// Entries put one by one into a list in row order make a bag that counts as they do, and there is no other.
+/// Entries put one by one into a list in row order make a bag that counts as they do, and there is
+/// no other.
 pub fn the_bag_of_entries()
-    ensures bag { (entries : List Entry) → IsBag (bag_of entries) }
-    ensures alike { (entries : List Entry) → Alike (bag_of entries) entries }
+    ensures bag { (entries : List Entry) → IsBag (consolidated_bag entries) }
+    ensures alike { (entries : List Entry) → Alike (consolidated_bag entries) entries }
     ensures only { (entries bag : List Entry) → IsBag bag → Alike bag entries
-        → bag ≡ bag_of entries }
+        → bag ≡ consolidated_bag entries }
 {}
 
-/// The changes of a view are a consolidated list at times that its frontier has passed, which sums at each of them to the
-/// query, from scratch, on the accepted changes; and there is no other such list.
+/// The changes of a view are a consolidated list at times that its frontier has passed, which sums
+/// at each of them to the query, from scratch, on the accepted changes; and there is no other such
+/// list.
 pub fn the_changes_of_a_view<T: Lattice>()
     ensures differences { (p : List Node) → IsPlan p → (s : Session T) (view : ℕ) → view < length p
         → AreDifferences T.below T.cmp p (λ input. fed_to input s.fed)
@@ -34,7 +37,8 @@ pub fn the_changes_of_a_view<T: Lattice>()
         (view_frontier T.below p s view) view us → us ≡ changes_at T.below p s T.cmp T.joined view }
 {}
 
-/// The frontier of a view as it is printed has just the elements of the frontier, each once and in order.
+/// The frontier of a view as it is printed has just the elements of the frontier, each once and in
+/// order.
 pub fn the_frontier_of_a_view<T: Lattice>()
     ensures elements { (p : List Node) (s : Session T) (view : ℕ)
         → SameElements (frontier_at T.below p s T.cmp view) (view_frontier T.below p s view) }
@@ -42,9 +46,9 @@ pub fn the_frontier_of_a_view<T: Lattice>()
         → IsStrictlySortedBy T.cmp (frontier_at T.below p s T.cmp view) }
 {}
 
-/// Every node of a plan has a weight, whatever changes its inputs were fed: the weight that the other laws speak of is
-/// there, and by `plan::weights_are_determined` there is one only.
-pub fn weights_there_are<T: Lattice>()
+/// Every node of a plan has a bound, whatever changes its inputs were fed: the bound that the
+/// other laws speak of is there, and by `plan::bounds_are_determined` there is one only.
+pub fn bounds_exist<T: Lattice>()
     ensures { (p : List Node) → IsPlan p → (changes : ℕ → List (Update T)) → (n : ℕ)
-        → (weight : ℕ) × IsWeight T.below T.cmp p changes n weight }
+        → (bound : ℕ) × IsBound T.below T.cmp p changes n bound }
 {}

@@ -1,11 +1,12 @@
 //! An output that keeps what it took: for tests, and for a caller that wants a run's text as bytes.
-ghost use Rattle.std.specs.Prelude.{◌≡◌, ◌++◌, [], OnErr, OnOk};
+ghost use Rattle.std.specs.Prelude.{◌≡◌, []};
 
 use crate::outputs::{Out, OutFault};
 use std::alloc::Global;
 use std::marker::Model;
 
-/// An output in memory. A contract sees the bytes that it took. It fails where memory is refused, and only there.
+/// An output in memory. A contract sees the bytes that it took. It fails where memory is refused,
+/// and only there.
 #[derive(Drop)]
 pub struct MemoryOut {
     bytes: Vec<u8>,
@@ -38,8 +39,8 @@ impl MemoryOut {
 }
 
 impl Out for MemoryOut {
-    ghost use Rattle.std.specs.Prelude.{◌≡◌, ◌++◌, OnOk, IfOk, OnErr, length};
-    ghost use Rattle.script.specs.Took.{nothing_more, more_and_more};
+    ghost use Rattle.std.specs.Prelude.{◌≡◌, ◌++◌};
+    ghost use Rattle.script.specs.AppendLaws.{nothing_more, more_and_more};
 
     ghost took = { λ out bytes failures later. later ≡ out ++ bytes };
 

@@ -1,7 +1,7 @@
 //! Outputs, by what they mean: which bytes they took, and how many calls failed.
 //!
-//! An output may take less than it is given, as a pipe does, so a writer puts what is left until nothing is. Nothing is
-//! said of where the bytes go: that is the output's own.
+//! An output may take less than it is given, as a pipe does, so a writer puts what is left until
+//! nothing is. Nothing is said of where the bytes go: that is the output's own.
 ghost use Rattle.std.specs.Prelude.{ℕ, ◌<◌, ◌≤◌, ◌+◌, ◌++◌, List, [], IfOk, OnErr, OnOk, length, take};
 ghost use Rattle.script.specs.Outs.{IsBeginning};
 

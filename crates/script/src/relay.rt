@@ -1,19 +1,20 @@
 //! The worker that carries bundles through a plan of linear nodes, on the caller's thread.
 //!
-//! It goes through the nodes once, in the order of their numbers, and at each takes what waits there, applies the node, and
-//! gives what comes out. A node's readers have greater numbers, so nothing is sent to a node that is done, and one pass
-//! leaves nothing in flight. A linear node needs no time and no state: each bundle is a whole piece, after which the worker
-//! holds nothing. So between two pieces the node law holds at every time, and one piece more keeps it.
+//! It goes through the nodes once, in the order of their numbers, and at each takes what waits
+//! there, applies the node, and gives what comes out. A node's readers have greater numbers, so
+//! nothing is sent to a node that is done, and one pass leaves nothing in flight. A linear node
+//! needs no time and no state: each bundle is a whole piece, after which the worker holds nothing.
+//! So between two pieces the node law holds at every time, and one piece more keeps it.
 ghost use Rattle.std.specs.Prelude.{◌≡◌, ◌<◌, suc, [], ◌∷◌, List, Some, IfErr, IfOk, OnOk, length, slice_get};
 ghost use Rattle.update.specs.declared.refusal.Refusal.TheVariants.{OutOfMemory};
-ghost use Rattle.linear.specs.Applied.{applied};
-ghost use Rattle.machine.specs.declared.event.Bundle.{Bundle};
-ghost use Rattle.machine.specs.declared.event.Event.{Event};
-ghost use Rattle.machine.specs.Dataflows.{node_of};
-ghost use Rattle.machine.specs.Loads.{queue_of};
-ghost use Rattle.machine.specs.Histories.{world, IsGive};
-ghost use Rattle.machine.specs.Boards.{Stands, taken, given};
-ghost use Rattle.script.specs.Relays.{AreDue, NothingWaits, waits_at, IsIdle, IsCut, GoesOnFrom, GoesOn};
+ghost use Rattle.linear.specs.Applied.{linear_output};
+ghost use Rattle.machine.specs.declared.histories.event.Bundle.{Bundle};
+ghost use Rattle.machine.specs.declared.histories.event.Event.{Event};
+ghost use Rattle.machine.specs.Histories.Dataflows.{node_of};
+ghost use Rattle.machine.specs.Boards.Loads.{queue_of};
+ghost use Rattle.machine.specs.Histories.{state_after, IsGive};
+ghost use Rattle.machine.specs.Boards.{Stands, after_take, after_give};
+ghost use Rattle.script.specs.Relays.{AreDue, NothingWaits, waits_at, IsIdle, IsCut, IsContinuedFrom, IsContinuedBy};
 
 use lattice::Minimum;
 use machine::{Board, Bundle, Emission, Routing, Site};
@@ -21,13 +22,14 @@ use plan::NodeId;
 use std::alloc::Global;
 use update::Refusal;
 
-/// Carries whatever is in flight through the plan, until nothing is. The worker then holds nothing and has nothing in
-/// hand: all is quiet. No client does anything meanwhile.
+/// Carries whatever is in flight through the plan, until nothing is. The worker then holds nothing
+/// and has nothing in hand: all is quiet. No client does anything meanwhile.
 ///
-/// Refused only with `OutOfMemory`; then part of the work may be done, by events like those of all of it, and the worker may
-/// have a piece in hand.
+/// Refused only with `OutOfMemory`; then part of the work may be done, by events like those of all
+/// of it, and the worker may have a piece in hand.
 ///
-/// Cost: linear in the nodes, and for each bundle what taking, applying, cutting and giving it cost.
+/// Cost: linear in the nodes, and for each bundle what taking, applying, cutting and giving it
+/// cost.
 pub(crate) fn relay<T: Minimum>(
     alloc: Global,
     routing: &Routing,
@@ -39,7 +41,7 @@ pub(crate) fn relay<T: Minimum>(
     ensures done { OnOk result (NothingWaits board.new.stations) }
     ensures idle { OnOk result (IsIdle board.new) }
     ensures dataflow { board.new.dataflow ≡ board.old.dataflow }
-    ensures goes_on { GoesOn T.below T.least board.old board.new }
+    ensures goes_on { IsContinuedBy T.below T.least board.old board.new }
     ensures refused { IfErr result (λ refusal. refusal ≡ OutOfMemory) }
 {
     for n in 0..board.plan().len() {
@@ -61,7 +63,7 @@ fn relay_node<T: Minimum>(
     ensures due { OnOk result (AreDue board.new.dataflow (suc node) board.new.stations) }
     ensures idle { OnOk result (IsIdle board.new) }
     ensures dataflow { board.new.dataflow ≡ board.old.dataflow }
-    ensures goes_on { GoesOn T.below T.least board.old board.new }
+    ensures goes_on { IsContinuedBy T.below T.least board.old board.new }
     ensures refused { IfErr result (λ refusal. refusal ≡ OutOfMemory) }
 {
     while let Some(place) = board.waiting_at(node, 0) {
@@ -87,10 +89,10 @@ fn relay_one<T: Minimum>(
         (suc (waits_at place.node board.new.stations) ≡ waits_at place.node board.old.stations) }
     ensures idle { OnOk result (IsIdle board.new) }
     ensures dataflow { board.new.dataflow ≡ board.old.dataflow }
-    ensures goes_on { GoesOn T.below T.least board.old board.new }
+    ensures goes_on { IsContinuedBy T.below T.least board.old board.new }
     ensures refused { IfErr result (λ refusal. refusal ≡ OutOfMemory) }
 {
-    let _workers = board.workers();
+    board.known();
     let emission = compute(board, place)?;
     hand_on(alloc, routing, board, emission)?;
     Ok(())
@@ -104,19 +106,19 @@ fn compute<T: Minimum>(board: &mut Board<T>, place: Site) -> Result<Emission<T>,
     requires waits { 0 < length (queue_of board.old.stations place) }
     ensures taken { IfOk result (λ emission. (bundle : Bundle T)
         × (slice_get (queue_of board.old.stations place) 0 ≡ Some bundle) × (bundle.place ≡ place)
-        × (board.new ≡ taken 0 bundle board.old)
+        × (board.new ≡ after_take 0 bundle board.old)
         × (emission ≡ record {
           node = bundle.place.node;
           worker = bundle.place.worker;
-          updates = applied (node_of board.old.dataflow bundle.place.node) bundle.updates;
+          updates = linear_output (node_of board.old.dataflow bundle.place.node) bundle.updates;
         })) }
     ensures dataflow { board.new.dataflow ≡ board.old.dataflow }
     ensures stands { (h : List (Event T)) → Stands T.below T.least board.old h
         → OnOk result (Stands T.below T.least board.new (board.new.last ∷ h)) }
-    ensures goes_on { GoesOn T.below T.least board.old board.new }
+    ensures goes_on { IsContinuedBy T.below T.least board.old board.new }
     ensures refused { IfErr result (λ refusal. refusal ≡ OutOfMemory) }
 {
-    let _workers = board.workers();
+    board.known();
     let bundle = board.take(place, 0)?;
     let Bundle { place, updates, .. } = bundle;
     // No difference is too large to be negated, so this is not refused.
@@ -140,12 +142,12 @@ fn hand_on<T: Minimum>(
     requires within { emission.node < length board.old.dataflow.nodes }
     ensures given { OnOk result ((sent : List (Bundle T))
         × IsCut T.below board.old.dataflow emission sent
-        × (board.new ≡ given emission [] sent board.old)) }
+        × (board.new ≡ after_give emission [] sent board.old)) }
     ensures goes_on { (h : List (Event T)) → Stands T.below T.least board.old h
         → ((sent : List (Bundle T)) → IsCut T.below board.old.dataflow emission sent
         → IsGive T.below board.old.dataflow
-        (world T.below T.least board.old.dataflow h) emission [] sent)
-        → GoesOnFrom T.below T.least h board.old board.new }
+        (state_after T.below T.least board.old.dataflow h) emission [] sent)
+        → IsContinuedFrom T.below T.least h board.old board.new }
     ensures dataflow { board.new.dataflow ≡ board.old.dataflow }
     ensures refused { IfErr result (λ refusal. refusal ≡ OutOfMemory) }
 {

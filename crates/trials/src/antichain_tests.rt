@@ -1,4 +1,5 @@
-//! Antichains: the calls that take memory, where an allocation is refused, and joined antichains worked out by hand.
+//! Antichains: the calls that take memory, where an allocation is refused, and joined antichains
+//! worked out by hand.
 use crate::sketches::at;
 use antichain::{Antichain, NoMemory};
 use lattice::Bitime;
@@ -40,8 +41,8 @@ fn antichain(alloc: Global, times: &[Bitime]) -> Result<Antichain<Bitime>, NoMem
     Ok(antichain)
 }
 
-// A time is beyond the joined antichain exactly where it is beyond both, which a union or an intersection of the elements
-// would miss.
+// A time is beyond the joined antichain exactly where it is beyond both, which a union or an
+// intersection of the elements would miss.
 #[test]
 fn joined_antichains(rt: HostRuntime) -> Result<(), NoMemory> {
     let corner = antichain(rt.alloc(), &[at((0, 3)), at((3, 0))])?;

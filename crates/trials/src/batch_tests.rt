@@ -1,4 +1,5 @@
-//! Batches: that they are sealed and merged where there is memory, and in which order their updates lie.
+//! Batches: that they are sealed and merged where there is memory, and in which order their updates
+//! lie.
 use crate::sketches::{at, list};
 use antichain::Antichain;
 use batch::{Batch, BatchReader, Builder, merge};
@@ -89,8 +90,8 @@ fn what_takes_itself_back_is_gone(rt: HostRuntime) -> Result<(), Fail> {
     Ok(())
 }
 
-// (3, 9) is neither before (0, 0) nor at or after (4, 4); (4, 4) is outside. Nor is there a batch of a total that is no
-// number of 64 bits.
+// (3, 9) is neither before (0, 0) nor at or after (4, 4); (4, 4) is outside. Nor is there a batch
+// of a total that is no number of 64 bits.
 #[test]
 fn strays_and_large_totals_are_refused(rt: HostRuntime) -> Result<(), Fail> {
     let inside = list(rt.alloc(), &[((3, 9), &[7], 1)])?;

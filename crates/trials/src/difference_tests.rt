@@ -1,6 +1,6 @@
-//! Differences of small views, worked out by hand from what the view is at each time. What no clause says is that there is
-//! a list at all; and where two changes cannot be compared, that the correction at the join of their times is there. The last
-//! tests stand at the end of 64 bits.
+//! Differences of small views, worked out by hand from what the view is at each time. What no
+//! clause says is that there is a list at all; and where two changes cannot be compared, that the
+//! correction at the join of their times is there. The last tests stand at the end of 64 bits.
 use crate::sketches::{arrange, at, built, input, join, list, reduction, view};
 use lattice::Bitime;
 use oracle::{are_wide, differences, evaluate};
@@ -74,7 +74,8 @@ fn a_retroactive_count(rt: HostRuntime) -> Result<(), Fail> {
     Ok(())
 }
 
-// Of three changes no two can be compared: each two meet at a join, and all three at (4, 4), where nothing changes.
+// Of three changes no two can be compared: each two meet at a join, and all three at (4, 4), where
+// nothing changes.
 #[test]
 fn three_changes_under_distinct(rt: HostRuntime) -> Result<(), Fail> {
     let changes: [Change; 3] = [((0, 4), &[7], 1), ((2, 2), &[7], 1), ((4, 0), &[7], 1)];

@@ -1,5 +1,6 @@
-//! Representatives, worked out by hand at two axes and at three. Their contract is the definition, so these rows show that the
-//! definition means what it should: the times that readers as of a frontier cannot tell apart.
+//! Representatives, worked out by hand at two axes and at three. Their contract is the definition,
+//! so these rows show that the definition means what it should: the times that readers as of a
+//! frontier cannot tell apart.
 use crate::times::at;
 use lattice::{Bitime, Pair, representative};
 
@@ -11,8 +12,8 @@ fn at_third(valid: u64, system: u64, third: u64) -> Pair<Bitime, u64> {
     }
 }
 
-// As of two times that cannot be compared. A join with one of them alone would move (3, 3), and the meet of both would lose
-// (1, 9).
+// As of two times that cannot be compared. A join with one of them alone would move (3, 3), and the
+// meet of both would lose (1, 9).
 #[test]
 fn representatives_as_of_two_times(rt: HostRuntime) {
     let frontier = [at(2, 5), at(5, 2)];

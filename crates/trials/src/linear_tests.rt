@@ -1,16 +1,17 @@
 //! What a map makes of a list.
 use crate::sketches::{list, map};
-use linear::{apply, is_linear, takes_rows};
+use linear::{apply, takes_rows};
 use row::Item;
 use std::test::Fail;
 
-// Columns moved and made up. Rows of one image stay apart, also where they would cancel, and each keeps its time.
+// Columns moved and made up. Rows of one image stay apart, also where they would cancel, and each
+// keeps its time.
 #[test]
 fn maps_make_images(rt: HostRuntime) -> Result<(), Fail> {
     let node = map(rt.alloc(), 0, &[Item::Constant(-5), Item::Column(0)])?;
     let given = list(rt.alloc(), &[((5, 0), &[3, 4], 2), ((5, 0), &[3, 9], -2)])?;
     let want = list(rt.alloc(), &[((5, 0), &[-5, 3], 2), ((5, 0), &[-5, 3], -2)])?;
-    assert!(rt; is_linear(&node));
+    assert!(rt; node.is_linear());
     assert!(rt; takes_rows(&node, &given));
     assert!(rt; apply(&node, given) == Ok(want));
     Ok(())

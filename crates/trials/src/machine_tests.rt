@@ -1,13 +1,13 @@
 //! Boards and routings: that their calls succeed where there is memory, and once there is.
 use crate::sketches::{arrange, at, built, input, list, view};
 use lattice::Bitime;
-use machine::{Board, Bundles, Emission, Routing, Times};
+use machine::{Board, Bundles, Emission, Routing};
 use plan::NodeId;
 use row::Row;
 use std::alloc::{AllocError, Global};
 use std::process::Abort;
 use std::test::Fail;
-use update::{Refusal, Update};
+use update::{Refusal, Times, Update};
 
 // The number of the client, behind those of the workers.
 const CLIENT: usize = 7;
@@ -17,7 +17,8 @@ fn opened(alloc: Global) -> Result<Board<Bitime>, Refusal> {
     Board::open(alloc, built(alloc, &[input(1), view(0)])?, 2)
 }
 
-// Feeds the row 7 at (0, 0). That the first node is an input and the client no worker is tested here, since `feed` asks for it.
+// Feeds the row 7 at (0, 0). That the first node is an input and the client no worker is tested
+// here, since `feed` asks for it.
 fn fed(rt: &impl Abort, alloc: Global, board: &mut Board<Bitime>) -> Result<(), Refusal> {
     let input = NodeId::new(0);
     let there = input.number() < board.plan().len();
@@ -53,7 +54,8 @@ fn advanced(rt: &impl Abort, alloc: Global, board: &mut Board<Bitime>) -> Result
     board.advance(CLIENT, input, times(alloc, (0, 1))?)
 }
 
-// The change lies on the board and is not settled, so the view has one time in its frontier and no change.
+// The change lies on the board and is not settled, so the view has one time in its frontier and no
+// change.
 fn is_answered(rt: &impl Abort, board: &mut Board<Bitime>) -> Result<bool, Refusal> {
     let view = NodeId::new(1);
     let there = view.number() < board.plan().len();
@@ -98,8 +100,8 @@ fn answers_take_memory(rt: HostRuntime) -> Result<(), Fail> {
     Ok(())
 }
 
-// The rows 7 and 4, which a worker of two gave at an input, cut for the readers of the input: an arrange node, at which each
-// row has a worker of its own, and a view.
+// The rows 7 and 4, which a worker of two gave at an input, cut for the readers of the input: an
+// arrange node, at which each row has a worker of its own, and a view.
 fn cut(alloc: Global) -> Result<Bundles<Bitime>, Refusal> {
     let plan = built(alloc, &[input(1), arrange(0, 1), view(0)])?;
     let routing = Routing::of(alloc, &plan, 2)?;

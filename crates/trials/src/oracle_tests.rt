@@ -1,5 +1,6 @@
-//! The plain query and its differences, for the nodes that no command file reaches: that there is an answer at all, and that
-//! the definition is the one that is meant. Differences come also at the join of two times that cannot be compared.
+//! The plain query and its differences, for the nodes that no command file reaches: that there is
+//! an answer at all, and that the definition is the one that is meant. Differences come also at the
+//! join of two times that cannot be compared.
 use crate::sketches::{arrange, at, built, input, join, list, reduction, view};
 use lattice::Bitime;
 use oracle::{are_wide, differences, evaluate};
@@ -103,8 +104,8 @@ fn joined_rows(rt: HostRuntime) -> Result<(), Fail> {
     Ok(())
 }
 
-// The differences of a view of how often there is which row, once 7 came at two times that cannot be compared, and all is
-// closed.
+// The differences of a view of how often there is which row, once 7 came at two times that cannot
+// be compared, and all is closed.
 fn listed(rt: &impl Abort, alloc: Global) -> Result<Vec<Update<Bitime>>, Refusal> {
     let plan = reduction(alloc, 1, Kind::Count)?;
     let changes = [list(alloc, &[((0, 3), &[7], 1), ((3, 0), &[7], 1)])?];

@@ -1,4 +1,5 @@
-//! Plans: that a node of each kind is taken, and that calls which take memory succeed once there is some.
+//! Plans: that a node of each kind is taken, and that calls which take memory succeed once there is
+//! some.
 use crate::sketches::{arrange, built, concat, filter, input, join, map, negate, reduce, view};
 use plan::{Kind, Node, NodeId, Plan, PlanBuilder};
 use row::{Cmp, Item};

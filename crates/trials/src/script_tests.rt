@@ -1,5 +1,5 @@
-//! Runs where an allocation is refused: they end with a fault, a beginning of the text was taken, and the same script runs
-//! once there is memory.
+//! Runs where an allocation is refused: they end with a fault, a beginning of the text was taken,
+//! and the same script runs once there is memory.
 use grammar::{Fault, Script, parse};
 use script::{MemoryOut, RunFault, plain_script, run_script};
 use std::alloc::Global;
@@ -20,7 +20,8 @@ fn script(alloc: Global) -> Result<Script, Fault> {
     }
 }
 
-// By one worker. Of its answer no more is said here than the tests use, which keeps their proofs short.
+// By one worker. Of its answer no more is said here than the tests use, which keeps their proofs
+// short.
 fn run(alloc: Global, script: &Script, out: &mut MemoryOut) -> Result<(), RunFault> {
     run_script(alloc, script, 1, out)
 }

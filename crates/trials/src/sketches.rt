@@ -1,4 +1,5 @@
-//! Short words for the nodes, plans and changes that tests make. Sources are plain numbers here, and a time is a pair of them.
+//! Short words for the nodes, plans and changes that tests make. Sources are plain numbers here,
+//! and a time is a pair of them.
 use crate::times;
 use lattice::Bitime;
 use plan::{Items, Kind, Node, NodeId, Plan, PlanBuilder};

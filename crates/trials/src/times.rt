@@ -1,5 +1,5 @@
-//! Times as command files write them: the valid time, then the system time. All tests make their times here, so that no test
-//! can have the two the wrong way round and another one the right way.
+//! Times as command files write them: the valid time, then the system time. All tests make their
+//! times here, so that no test can have the two the wrong way round and another one the right way.
 ghost use Rattle.std.specs.Prelude.{◌≡◌};
 ghost use Rattle.lattice.specs.Pairs.{make_pair};
 

@@ -5,7 +5,7 @@ use std::alloc::Global;
 use std::test::Fail;
 use update::{Bag, Refusal, Update, sum_at};
 
-// What the ledger sums to at (10, 2): of row 9 nothing is left, and (10, 3) is not passed yet.
+// What the ledger sums to at (10, 2): of row 9 nothing is left, and the change at (10, 3) does not count yet.
 fn summed(alloc: Global) -> Result<Bag, Refusal> {
     let ledger = list(
         alloc,

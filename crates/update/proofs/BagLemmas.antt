@@ -55,6 +55,7 @@ rows_total = lists_total int_cmp_total
 same_row_is : (r s : List ℤ) → same_row r s ≡ is_eq (by_columns r s)
 same_row_is r s = lists_ties int_cmp (λ x y. refl) r s
 
+-- rows that compare equal are equal
 pub equal_rows : (r s : List ℤ) → by_columns r s ≡ Equal → r ≡ s
 equal_rows r s e = (signed_items r s).0 (same_row_is r s ∙ ap is_eq e)
 
@@ -108,6 +109,7 @@ count_at (e ∷ entries) (suc i) d h s =
 
 -- ---- consolidated lists at one moment
 
+-- consolidated updates of one time are a bag
 pub bag_from_consolidated : {T : Type 0} (us : List (Update T)) → IsConsolidated (λ _ _. Equal) us → IsBag (map entry us)
 bag_from_consolidated us h = record {
   ascending = sorted_map by_row entry us h.ascending;
@@ -154,6 +156,7 @@ bag_by_counts (x ∷ xs) (y ∷ ys) s n t m alike =
           absurd (m.0 (sym (count_first y ys t.0) ∙ sym (alike y.row) ∙ count_before y.row x xs less s.0))
     ] refl
 
+-- a bag is determined by what its rows count
 pub bags_by_counts : (a b : List Entry) → IsBag a → IsBag b → Alike a b → a ≡ b
 bags_by_counts a b g h alike = bag_by_counts a b g.ascending g.nonzero h.ascending h.nonzero alike
 
@@ -172,6 +175,7 @@ module _ {T : Type 0} where
       let h : k + 1 < length (v ∷ us) = omega (arith, l) in
       rw add-one (rw add-one at (rows_rise (v ∷ us) s.1 k d h))
 
+  -- where the search finds the row, there is its count
   pub count_found : (us : List (Update T)) (i : ℕ) (row : List ℤ) (d : Update T) → i < length us → IsBag (map entry us) → by_columns (get_or us i d).row row ≡ Equal → (get_or us i d).diff ≡ count_of (map entry us) row
   count_found us i row d l bag e =
       let at : get_or (map entry us) i (entry d) ≡ entry (get_or us i d) = get_or-map entry us i d (entry d) l in
@@ -179,6 +183,7 @@ module _ {T : Type 0} where
       let counts = count_at (map entry us) i (entry d) there bag.ascending in
       sym (rw (at, equal_rows (get_or us i d).row row e) at counts)
 
+  -- where the search finds no row, it counts 0
   pub count_missing : (us : List (Update T)) (i : ℕ) (row : List ℤ) → IsBag (map entry us) → (IsNonDecreasingBy (λ u. ordering_index (by_columns u.row row)) us → IsPartitionPoint (λ u. by_columns u.row row ≡ Less) (λ u. by_columns u.row row ≡ Greater) us i) → pos 0 ≡ count_of (map entry us) row
   count_missing us i row bag parted =
       let point = parted (searchable_from_sorted rows_total (λ u. u.row) us row (λ k d z l. rows_rise us bag.ascending k d l)) in
@@ -193,8 +198,10 @@ module _ {T : Type 0} where
 
   -- ---- equality and text, by the updates
 
+  -- bags are compared entry by entry
   pub same_by_items : (us vs ls rs : List (Update T)) (xs ys : List Entry) → ls ≡ us → rs ≡ vs → map entry us ≡ xs → map entry vs ≡ ys → pointwise (λ u v. same_entry (entry u) (entry v)) ls rs ≡ same_bag xs ys
   same_by_items us vs ls rs xs ys e f g h = rw (e, f) (sym (pointwise-map entry same_entry us vs) ∙ (λ i. same_bag (g i) (h i)))
 
+  -- a bag is printed entry by entry
   pub text_by_items : (us ls : List (Update T)) (xs : List Entry) (k : ℕ) → ls ≡ us → map entry us ≡ xs → length ls ≤ k → flat_map (λ u. entry_text (entry u)) (take k ls) ≡ bag_text xs
   text_by_items us ls xs k e g l = rw (take_all k ls l, e) (sym (flat_map-map entry_text entry us) ∙ ap bag_text g)

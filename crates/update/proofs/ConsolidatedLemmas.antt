@@ -19,10 +19,10 @@ use Rattle.lattice.specs.Order.{PartialOrderLaws}
 use Rattle.update.specs.declared.change.Update.{Update}
 use Rattle.update.specs.Bags.{same_row, Alike}
 use Rattle.update.specs.Updates.{total_where, total_at, as_of, by_time_then_row, HasLargeTotal, IsConsolidated, size}
-use Rattle.update.specs.Gathering.{is_same, settled, settled_runs, runs_of, runs_from, AllFit}
+use Rattle.update.specs.Groups.{is_same, group_sum, group_sums, groups_of, groups_from, AllFit}
 use Rattle.update.proofs.SumLemmas.{total_by-permutation}
 use Rattle.update.proofs.UniqueLemmas.{count_as_of}
-use Rattle.update.proofs.RunLemmas.{Ascends, left_all, left_sorted, left_nonzero, left_total}
+use Rattle.update.proofs.GroupLemmas.{Ascends, left_all, left_sorted, left_nonzero, left_total}
 use Rattle.update.proofs.TotalLemmas.{totals_fit, some_large, fits_zero}
 
 -- the order by which lists are sorted: by time, then by row, then by difference
@@ -67,33 +67,35 @@ module _ {T : Type 0} {cmp : T → T → Ordering} (total : IsTotalOrder cmp) wh
       (sorted_far (λ x y. is_lt (by_all cmp x y)) (ranks_by by_all_total (λ u. u)) xs s i j d (omega (arith, l)) m))
 
 -- the size as a recursion
-abbrev pub weight : {T : Type 0} → List (Update T) → ℕ
-weight [] = 0
-weight (u ∷ us) = unsigned_abs u.diff + weight us
+abbrev pub summed_size : {T : Type 0} → List (Update T) → ℕ
+summed_size [] = 0
+summed_size (u ∷ us) = unsigned_abs u.diff + summed_size us
 
-pub weight_is : {T : Type 0} (us : List (Update T)) → weight us ≡ size us
-weight_is us = is_sum_by weight (λ u. unsigned_abs u.diff) refl (λ _ _. refl) us
+-- the size of a list, by recursion, for sums over it
+pub summed_size_is : {T : Type 0} (us : List (Update T)) → summed_size us ≡ size us
+summed_size_is us = is_sum_by summed_size (λ u. unsigned_abs u.diff) refl (λ _ _. refl) us
 
-weight-append : {T : Type 0} (us vs : List (Update T)) → weight (us ++ vs) ≡ weight us + weight vs
-weight-append [] vs = omega arith
-weight-append (u ∷ us) vs = let h = weight-append us vs in omega (arith, h)
+-- sizes of two lists add up
+pub summed_size-append : {T : Type 0} (us vs : List (Update T)) → summed_size (us ++ vs) ≡ summed_size us + summed_size vs
+summed_size-append [] vs = omega arith
+summed_size-append (u ∷ us) vs = let h = summed_size-append us vs in omega (arith, h)
 
-weight_settled : {T : Type 0} (u : Update T) (n : ℤ) → weight (settled u n) ≤ unsigned_abs n
-weight_settled u n =
-    elim (int_eq n (pos 0)) as (λ b. weight (cond b [] (record u { diff = n } ∷ [])) ≤ unsigned_abs n) [
+summed_size_group : {T : Type 0} (u : Update T) (n : ℤ) → summed_size (group_sum u n) ≤ unsigned_abs n
+summed_size_group u n =
+    elim (int_eq n (pos 0)) as (λ b. summed_size (cond b [] (record u { diff = n } ∷ [])) ≤ unsigned_abs n) [
       | true ↦ omega arith
       | false ↦ omega arith
     ]
 
-weight_left : {T : Type 0} (cmp : T → T → Ordering) (u : Update T) (n : ℤ) (vs : List (Update T)) → weight (settled_runs (runs_of cmp u n vs)) ≤ unsigned_abs n + weight vs
-weight_left cmp u n [] = let a = weight-append (settled u n) [] in let s = weight_settled u n in omega (arith, a, s)
-weight_left cmp u n (v ∷ vs) =
-    elim (is_same cmp u v) as (λ b. weight (settled_runs (cond b (runs_of cmp u (n +ℤ v.diff) vs) (record { first = u; total = n } ∷ runs_of cmp v v.diff vs))) ≤ unsigned_abs n + (unsigned_abs v.diff + weight vs)) [
-      | true ↦ let h = weight_left cmp u (n +ℤ v.diff) vs in let t = no_larger n v.diff in omega (arith, h, t)
+summed_size_left : {T : Type 0} (cmp : T → T → Ordering) (u : Update T) (n : ℤ) (vs : List (Update T)) → summed_size (group_sums (groups_of cmp u n vs)) ≤ unsigned_abs n + summed_size vs
+summed_size_left cmp u n [] = let a = summed_size-append (group_sum u n) [] in let s = summed_size_group u n in omega (arith, a, s)
+summed_size_left cmp u n (v ∷ vs) =
+    elim (is_same cmp u v) as (λ b. summed_size (group_sums (cond b (groups_of cmp u (n +ℤ v.diff) vs) (record { first = u; total = n } ∷ groups_of cmp v v.diff vs))) ≤ unsigned_abs n + (unsigned_abs v.diff + summed_size vs)) [
+      | true ↦ let h = summed_size_left cmp u (n +ℤ v.diff) vs in let t = no_larger n v.diff in omega (arith, h, t)
       | false ↦
-          let a = weight-append (settled u n) (settled_runs (runs_of cmp v v.diff vs)) in
-          let s = weight_settled u n in
-          let h = weight_left cmp v v.diff vs in
+          let a = summed_size-append (group_sum u n) (group_sums (groups_of cmp v v.diff vs)) in
+          let s = summed_size_group u n in
+          let h = summed_size_left cmp v v.diff vs in
           omega (arith, a, s, h)
     ]
   where
@@ -101,71 +103,78 @@ weight_left cmp u n (v ∷ vs) =
     no_larger x y = omega (arith, ints)
 
 module _ {T : Type 0} {cmp : T → T → Ordering} (total : IsTotalOrder cmp) (exact : (s t : T) → cmp s t ≡ Equal → s ≡ t) where
-  from_consolidated : (xs : List (Update T)) → Ascends total xs → IsStrictlySortedBy (by_time_then_row cmp) (settled_runs (runs_from cmp xs))
+  from_consolidated : (xs : List (Update T)) → Ascends total xs → IsStrictlySortedBy (by_time_then_row cmp) (group_sums (groups_from cmp xs))
   unfolding IsStrictlySortedBy
   from_consolidated [] a = tt
   from_consolidated (u ∷ us) a = left_sorted total u u.diff us a
 
-  pub gathered_consolidated : (xs : List (Update T)) → IsSortedBy (λ x y. is_lt (by_all cmp x y)) xs → IsConsolidated cmp (settled_runs (runs_from cmp xs))
+  -- what consolidation leaves is consolidated
+  pub gathered_consolidated : (xs : List (Update T)) → IsSortedBy (λ x y. is_lt (by_all cmp x y)) xs → IsConsolidated cmp (group_sums (groups_from cmp xs))
   gathered_consolidated xs s = record {
     ascending = from_consolidated xs (ascends_sorted total xs s);
-    nonzero = left_nonzero (runs_from cmp xs);
+    nonzero = left_nonzero (groups_from cmp xs);
   }
 
-  from_total : (p : List ℤ → T → Bool) (xs : List (Update T)) → total_where p (settled_runs (runs_from cmp xs)) ≡ total_where p xs
+  from_total : (p : List ℤ → T → Bool) (xs : List (Update T)) → total_where p (group_sums (groups_from cmp xs)) ≡ total_where p xs
   from_total p [] = refl
   from_total p (u ∷ us) = left_total exact p u u.diff us
 
-  pub gathered_total : (p : List ℤ → T → Bool) (us xs : List (Update T)) → IsPermutation us xs → total_where p (settled_runs (runs_from cmp xs)) ≡ total_where p us
+  -- consolidation changes no total
+  pub gathered_total : (p : List ℤ → T → Bool) (us xs : List (Update T)) → IsPermutation us xs → total_where p (group_sums (groups_from cmp xs)) ≡ total_where p us
   gathered_total p us xs q = from_total p xs ∙ sym (total_by-permutation (λ u. cond (p u.row u.time) u.diff (pos 0)) us xs q)
 
-  from_all : (P : Update T → Type 0) → ((u : Update T) (n : ℤ) → P u → P (record u { diff = n })) → (xs : List (Update T)) → AllByRecursion P xs → AllByRecursion P (settled_runs (runs_from cmp xs))
+  from_all : (P : Update T → Type 0) → ((u : Update T) (n : ℤ) → P u → P (record u { diff = n })) → (xs : List (Update T)) → AllByRecursion P xs → AllByRecursion P (group_sums (groups_from cmp xs))
   from_all P keeps [] a = tt
   from_all P keeps (u ∷ us) a = left_all total P keeps u u.diff us a.0 a.1
 
-  pub gathered_among : (p : List ℤ → T → Bool) (us xs : List (Update T)) → IsPermutation us xs → IsTrue (list_all (λ u. p u.row u.time) us) → IsTrue (list_all (λ u. p u.row u.time) (settled_runs (runs_from cmp xs)))
+  -- it adds no update that was not like one there
+  pub gathered_among : (p : List ℤ → T → Bool) (us xs : List (Update T)) → IsPermutation us xs → IsTrue (list_all (λ u. p u.row u.time) us) → IsTrue (list_all (λ u. p u.row u.time) (group_sums (groups_from cmp xs)))
   gathered_among p us xs q a =
       let test = λ (u : Update T). p u.row u.time in
       let pass = λ (u : Update T). p u.row u.time ≡ true in
       let here = recursion_from_All pass xs (All-permutation pass us xs q (AllPass-from_list_all test us a)) in
       let left = from_all pass (λ u n h. h) xs here in
-      list_all-from_AllPass test (settled_runs (runs_from cmp xs)) (All-from_recursion pass (settled_runs (runs_from cmp xs)) left)
+      list_all-from_AllPass test (group_sums (groups_from cmp xs)) (All-from_recursion pass (group_sums (groups_from cmp xs)) left)
 
-  from_weight : (xs : List (Update T)) → weight (settled_runs (runs_from cmp xs)) ≤ weight xs
-  from_weight [] = omega arith
-  from_weight (u ∷ us) = weight_left cmp u u.diff us
+  from_size : (xs : List (Update T)) → summed_size (group_sums (groups_from cmp xs)) ≤ summed_size xs
+  from_size [] = omega arith
+  from_size (u ∷ us) = summed_size_left cmp u u.diff us
 
-  pub gathered_size : (us xs : List (Update T)) → IsPermutation us xs → size (settled_runs (runs_from cmp xs)) ≤ size us
+  -- it makes no list larger
+  pub gathered_size : (us xs : List (Update T)) → IsPermutation us xs → size (group_sums (groups_from cmp xs)) ≤ size us
   gathered_size us xs q =
-      let less = from_weight xs in
-      let left = weight_is (settled_runs (runs_from cmp xs)) in
-      let here = weight_is xs in
+      let less = from_size xs in
+      let left = summed_size_is (group_sums (groups_from cmp xs)) in
+      let here = summed_size_is xs in
       let same = sum_by-IsPermutation (λ u. unsigned_abs u.diff) us xs q in
       omega (arith, less, left, here, same)
 
 module _ {T : Type 0} {below : T → T → Bool} {cmp : T → T → Ordering} (o : PartialOrderLaws below) (total : IsTotalOrder cmp) (exact : (s t : T) → cmp s t ≡ Equal → s ≡ t) where
-  pub gathered_sum : (t : T) (us xs : List (Update T)) → IsPermutation us xs → Alike (as_of below t (settled_runs (runs_from cmp xs))) (as_of below t us)
+  -- it changes no sum at a time
+  pub gathered_sum : (t : T) (us xs : List (Update T)) → IsPermutation us xs → Alike (as_of below t (group_sums (groups_from cmp xs))) (as_of below t us)
   gathered_sum t us xs q row =
-      count_as_of below row t (settled_runs (runs_from cmp xs))
+      count_as_of below row t (group_sums (groups_from cmp xs))
       ∙ gathered_total total exact (λ r s. same_row r row && below s t) us xs q
       ∙ sym (count_as_of below row t us)
 
   same_total_at : (row : List ℤ) (t : T) (us xs : List (Update T)) → IsPermutation us xs → total_at below row t us ≡ total_at below row t xs
   same_total_at row t us xs q = total_by-permutation (λ u. cond (same_row u.row row && (below u.time t && below t u.time)) u.diff (pos 0)) us xs q
 
-  from_fit : (xs : List (Update T)) → Ascends total xs → AllFit (runs_from cmp xs) → (row : List ℤ) (t : T) → FitsSigned w64 (total_at below row t xs)
+  from_fit : (xs : List (Update T)) → Ascends total xs → AllFit (groups_from cmp xs) → (row : List ℤ) (t : T) → FitsSigned w64 (total_at below row t xs)
   from_fit [] a f row t = fits_zero
   from_fit (u ∷ us) a f row t = totals_fit o total exact u u.diff us a f row t
 
-  from_large : (xs : List (Update T)) → Ascends total xs → (AllFit (runs_from cmp xs) → ⊥) → HasLargeTotal below xs
+  from_large : (xs : List (Update T)) → Ascends total xs → (AllFit (groups_from cmp xs) → ⊥) → HasLargeTotal below xs
   from_large [] a f = absurd (f tt)
   from_large (u ∷ us) a f = some_large o total exact u u.diff us a f
 
-  pub gathered_fit : (us xs : List (Update T)) → IsPermutation us xs → IsSortedBy (λ x y. is_lt (by_all cmp x y)) xs → AllFit (runs_from cmp xs) → HasLargeTotal below us → ⊥
+  -- if each group fits, no total is too large
+  pub gathered_fit : (us xs : List (Update T)) → IsPermutation us xs → IsSortedBy (λ x y. is_lt (by_all cmp x y)) xs → AllFit (groups_from cmp xs) → HasLargeTotal below us → ⊥
   gathered_fit us xs q s f large =
       large.2 (subst (FitsSigned w64) (sym (same_total_at large.0 large.1 us xs q)) (from_fit xs (ascends_sorted total xs s) f large.0 large.1))
 
-  pub gathered_large : (us xs : List (Update T)) → IsPermutation us xs → IsSortedBy (λ x y. is_lt (by_all cmp x y)) xs → (AllFit (runs_from cmp xs) → ⊥) → HasLargeTotal below us
+  -- if a group does not fit, some total is too large
+  pub gathered_large : (us xs : List (Update T)) → IsPermutation us xs → IsSortedBy (λ x y. is_lt (by_all cmp x y)) xs → (AllFit (groups_from cmp xs) → ⊥) → HasLargeTotal below us
   gathered_large us xs q s f =
       let r = from_large xs (ascends_sorted total xs s) f in
       (r.0, r.1, λ g. r.2 (subst (FitsSigned w64) (same_total_at r.0 r.1 us xs q) g))

@@ -24,38 +24,38 @@ triangle a b = omega (arith, ints)
 
 module _ {T : Type 0} where
   -- the size, by recursion
-  abbrev weight : List (Update T) → ℕ
-  weight [] = 0
-  weight (u ∷ us) = unsigned_abs u.diff + weight us
+  abbrev summed_size : List (Update T) → ℕ
+  summed_size [] = 0
+  summed_size (u ∷ us) = unsigned_abs u.diff + summed_size us
 
-  weight_is_size : (us : List (Update T)) → weight us ≡ size us
-  weight_is_size us = is_sum_by weight (λ u. unsigned_abs u.diff) refl (λ _ _. refl) us
+  summed_size_is_size : (us : List (Update T)) → summed_size us ≡ size us
+  summed_size_is_size us = is_sum_by summed_size (λ u. unsigned_abs u.diff) refl (λ _ _. refl) us
 
-  weight-split : (p : Update T → Bool) (us : List (Update T)) → weight us ≡ weight (filter p us) + weight (filter (λ u. not (p u)) us)
-  weight-split p [] = omega arith
-  weight-split p (u ∷ us) =
-      let h = weight-split p us in
-      elim (p u) as (λ b. unsigned_abs u.diff + weight us ≡ weight (cond b (u ∷ filter p us) (filter p us)) + weight (cond (not b) (u ∷ filter (λ w. not (p w)) us) (filter (λ w. not (p w)) us))) [
+  summed_size-split : (p : Update T → Bool) (us : List (Update T)) → summed_size us ≡ summed_size (filter p us) + summed_size (filter (λ u. not (p u)) us)
+  summed_size-split p [] = omega arith
+  summed_size-split p (u ∷ us) =
+      let h = summed_size-split p us in
+      elim (p u) as (λ b. unsigned_abs u.diff + summed_size us ≡ summed_size (cond b (u ∷ filter p us) (filter p us)) + summed_size (cond (not b) (u ∷ filter (λ w. not (p w)) us) (filter (λ w. not (p w)) us))) [
         | true ↦ omega arith
         | false ↦ omega arith
       ]
 
-  total-le-weight : (us : List (Update T)) → unsigned_abs (total_by (λ u. u.diff) us) ≤ weight us
-  total-le-weight [] = omega arith
-  total-le-weight (u ∷ us) =
-      let h = total-le-weight us in
+  total-le-size : (us : List (Update T)) → unsigned_abs (total_by (λ u. u.diff) us) ≤ summed_size us
+  total-le-size [] = omega arith
+  total-le-size (u ∷ us) =
+      let h = total-le-size us in
       let t = triangle u.diff (total_by (λ w. w.diff) us) in
       omega arith
 
 module _ {T : Type 0} {below : T → T → Bool} {cmp : T → T → Ordering} (o : PartialOrderLaws below) (total : IsTotalOrder cmp) where
   -- a list that comes, at the row and time of each of some updates in order, to that update's diff, is no smaller than these
-  covers : (us vs : List (Update T)) → IsStrictlySortedBy (by_time_then_row cmp) us → ((u : Update T) → Among u us → total_at below u.row u.time vs ≡ u.diff) → weight us ≤ weight vs
+  covers : (us vs : List (Update T)) → IsStrictlySortedBy (by_time_then_row cmp) us → ((u : Update T) → Among u us → total_at below u.row u.time vs ≡ u.diff) → summed_size us ≤ summed_size vs
   covers [] vs s h = omega arith
   covers (u ∷ us) vs s h =
-      let here = total-le-weight (filter (meets below u) vs) in
+      let here = total-le-size (filter (meets below u) vs) in
       let same = ap unsigned_abs (total_by-filter (λ w. w.diff) (meets below u) vs ∙ h u (inl refl)) in
       let elsewhere = covers us (filter (λ v. not (meets below u v)) vs) (sorted_tail (by_time_then_row cmp) u us s) still in
-      let split = weight-split (meets below u) vs in
+      let split = summed_size-split (meets below u) vs in
       omega arith
     where
       apart : (w v : Update T) → Among w us → IsTrue (meets below w v) → IsTrue (not (meets below u v))
@@ -68,12 +68,13 @@ module _ {T : Type 0} {below : T → T → Bool} {cmp : T → T → Ordering} (o
           total_where-filter (λ r t. same_row r w.row && ties below t w.time) (λ v. not (meets below u v)) vs (λ v. apart w v m)
           ∙ h w (inr m)
 
+  -- among the times of a set, a consolidated list is no larger than any with its sums
   pub least_size : (among : T → Bool) (us vs : List (Update T)) → ((s t : T) → IsTrue (below s t) → IsTrue (among t) → IsTrue (among s)) → ((t : T) → IsTrue (among t) → Alike (as_of below t us) (as_of below t vs)) → IsConsolidated cmp us → size (filter (λ u. among u.time) us) ≤ size (filter (λ u. among u.time) vs)
   least_size among us vs down same a =
       let ordered = IsStrictlySortedBy-filter (by_time_then_row cmp) (λ u. among u.time) us a.ascending in
       let no_smaller = covers (filter (λ u. among u.time) us) (filter (λ u. among u.time) vs) ordered diff_there in
-      let ours = weight_is_size (filter (λ u. among u.time) us) in
-      let theirs = weight_is_size (filter (λ u. among u.time) vs) in
+      let ours = summed_size_is_size (filter (λ u. among u.time) us) in
+      let theirs = summed_size_is_size (filter (λ u. among u.time) vs) in
       omega arith
     where
       diff_there : (u : Update T) → Among u (filter (λ w. among w.time) us) → total_at below u.row u.time (filter (λ v. among v.time) vs) ≡ u.diff

@@ -5,8 +5,8 @@ pub mod Places
 pub mod CopyLemmas
 pub mod GatherLemmas
 pub mod TakeLemmas
-pub mod RunLemmas
+pub mod GroupLemmas
 pub mod TotalLemmas
 pub mod ConsolidatedLemmas
-pub mod MomentLemmas
+pub mod UnitTimeLemmas
 pub mod BagLemmas

@@ -22,9 +22,11 @@ module _ {X : Type 0} where
       let rest = total_by-same_at f g xs (λ y m. h y (inr m)) in
       λ i. first i +ℤ rest i
 
+  -- equal values have equal totals
   pub total_by-same : (f g : X → ℤ) (xs : List X) → ((x : X) → f x ≡ g x) → total_by f xs ≡ total_by g xs
   total_by-same f g xs h = total_by-same_at f g xs (λ x m. h x)
 
+  -- nothing adds to 0
   pub total_by-zero : (f : X → ℤ) (xs : List X) → ((x : X) → Among x xs → f x ≡ pos 0) → total_by f xs ≡ pos 0
   total_by-zero f [] h = refl
   total_by-zero f (x ∷ xs) h =
@@ -32,22 +34,27 @@ module _ {X : Type 0} where
       let rest = total_by-zero f xs (λ y m. h y (inr m)) in
       λ i. first i +ℤ rest i
 
+  -- totals go through addition
   pub total_by-add : (f g : X → ℤ) (xs : List X) → total_by (λ x. f x +ℤ g x) xs ≡ total_by f xs +ℤ total_by g xs
   total_by-add f g [] = refl
   total_by-add f g (x ∷ xs) = let h = total_by-add f g xs in omega (arith, ints)
 
+  -- totals go through negation
   pub total_by-negate : (f : X → ℤ) (xs : List X) → total_by (λ x. neg_ℤ (f x)) xs ≡ neg_ℤ (total_by f xs)
   total_by-negate f [] = refl
   total_by-negate f (x ∷ xs) = let h = total_by-negate f xs in omega (arith, ints)
 
+  -- totals go through lists piece by piece
   pub total_by-append : (f : X → ℤ) (xs ys : List X) → total_by f (xs ++ ys) ≡ total_by f xs +ℤ total_by f ys
   total_by-append f [] ys = omega (arith, ints)
   total_by-append f (x ∷ xs) ys = let h = total_by-append f xs ys in omega (arith, ints)
 
+  -- totals go through images
   pub total_by-map : {Y : Type 0} (f : Y → ℤ) (g : X → Y) (xs : List X) → total_by f (map g xs) ≡ total_by (λ x. f (g x)) xs
   total_by-map f g [] = refl
   total_by-map f g (x ∷ xs) = ap (λ z. f (g x) +ℤ z) (total_by-map f g xs)
 
+  -- a filter is a total with 0 for what does not pass
   pub total_by-filter : (f : X → ℤ) (p : X → Bool) (xs : List X) → total_by f (filter p xs) ≡ total_by (λ x. cond (p x) (f x) (pos 0)) xs
   total_by-filter f p [] = refl
   total_by-filter f p (x ∷ xs) =
@@ -69,15 +76,19 @@ module _ {X : Type 0} where
 
 -- sums over the elements that pass a test
 module _ {X : Type 0} (v : X → ℤ) where
+  -- the total of what passes a test
   abbrev pub sum_where : (X → Bool) → List X → ℤ
   sum_where p xs = total_by (λ x. cond (p x) (v x) (pos 0)) xs
 
+  -- equal tests have equal totals
   pub sum_where-same : (p q : X → Bool) (xs : List X) → ((x : X) → p x ≡ q x) → sum_where p xs ≡ sum_where q xs
   sum_where-same p q xs h = total_by-same (λ x. cond (p x) (v x) (pos 0)) (λ x. cond (q x) (v x) (pos 0)) xs (λ x. ap (λ b. cond b (v x) (pos 0)) (h x))
 
+  -- what never passes adds to 0
   pub sum_where-none : (p : X → Bool) (xs : List X) → ((x : X) → Among x xs → p x ≡ false) → sum_where p xs ≡ pos 0
   sum_where-none p xs h = total_by-zero (λ x. cond (p x) (v x) (pos 0)) xs (λ x m. ap (λ b. cond b (v x) (pos 0)) (h x m))
 
+  -- a total falls into what passes a second test and what does not
   pub sum_where-split : (p q : X → Bool) (xs : List X) → sum_where p xs ≡ sum_where (λ x. p x && q x) xs +ℤ sum_where (λ x. p x && not (q x)) xs
   sum_where-split p q xs =
       total_by-same (λ x. cond (p x) (v x) (pos 0)) (λ x. cond (p x && q x) (v x) (pos 0) +ℤ cond (p x && not (q x)) (v x) (pos 0)) xs (λ x. two (p x) (q x) (v x))
@@ -127,6 +138,7 @@ module _ {X : Type 0} (f : X → ℤ) where
   as_parts [] = refl
   as_parts (x ∷ xs) = let h = as_parts xs in let e = two_parts (f x) in omega (arith, ints)
 
+  -- totals do not depend on the order
   pub total_by-permutation : (xs ys : List X) → IsPermutation xs ys → total_by f xs ≡ total_by f ys
   total_by-permutation xs ys p =
       let g : gained xs ≡ gained ys = is_sum_by gained (λ x. above (f x)) refl (λ _ _. refl) xs ∙ sym (sum_by-IsPermutation (λ x. above (f x)) xs ys p) ∙ sym (is_sum_by gained (λ x. above (f x)) refl (λ _ _. refl) ys) in

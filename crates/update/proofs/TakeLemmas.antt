@@ -6,7 +6,7 @@ use Rattle.std.specs.declared.cmp.Ordering.{Ordering}
 use Rattle.std.proofs.lemmas.Int.{ints, to_z-of_z}
 use Rattle.std.proofs.lemmas.List.{get_or_read}
 use Rattle.update.specs.declared.change.Update.{Update}
-use Rattle.update.specs.Gathering.{is_same}
+use Rattle.update.specs.Groups.{is_same}
 
 -- a total of no more than k diffs is one of 128 bits
 pub total_kept : (n : ℤ) (k : ℕ) → unsigned_abs n ≤ k * 2 ^ 63 → k < 2 ^ 64 → to_z w128 (of_z w128 n) ≡ n
@@ -33,6 +33,7 @@ module _ {T : Type 0} (us : List (Update T)) (i j : ℕ) (before : i < j) (withi
       let second : v ≡ slice_index_or us j d = get_or_read us j v within is_v d in
       read ∙ ap (λ (w : Update T). to_z w64 (of_z w64 w.diff)) (sym is_v) ∙ to_z-of_z w64 v.diff fits ∙ ap (λ (w : Update T). w.diff) second
 
+  -- a 64-bit difference read as a 128-bit number is itself
   pub diff_read_wide : (v d : Update T) (m : ℤ) → v ≡ slice_index_or us j v → FitsSigned w64 v.diff → FitsSigned w64 m → m ≡ to_z w64 (of_z w64 (slice_index_or us j v).diff) → to_z w128 (of_z w128 m) ≡ (slice_index_or us j d).diff
   diff_read_wide v d m is_v fits fits_m read = diff_kept m fits_m ∙ diff_read v d m is_v fits read
 

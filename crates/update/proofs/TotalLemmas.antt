@@ -16,8 +16,8 @@ use Rattle.lattice.specs.Order.{PartialOrderLaws}
 use Rattle.update.specs.declared.change.Update.{Update}
 use Rattle.update.specs.Bags.{same_row}
 use Rattle.update.specs.Updates.{total_at, by_time_then_row}
-use Rattle.update.specs.Gathering.{is_same, runs_of, AllFit}
-use Rattle.update.proofs.RunLemmas.{Ascends, AllAfter, rest_after, skip_second, same_passes, more_of}
+use Rattle.update.specs.Groups.{is_same, groups_of, AllFit}
+use Rattle.update.proofs.GroupLemmas.{Ascends, AllAfter, rest_after, skip_second, same_passes, more_of}
 use Rattle.update.proofs.UniqueLemmas.{meets_row, meets_time, not_in_order}
 
 fits_or_not : (n : ℤ) → FitsSigned w64 n ⊎ (FitsSigned w64 n → ⊥)
@@ -27,6 +27,7 @@ fits_or_not n =
       | false ↦ λ e. inr (λ f. true≢false (sym ((Decides-ltb (mag n) (2 ^ 63)).1 f.sfits) ∙ e))
     ] refl
 
+-- 0 is a 64-bit number
 pub fits_zero : FitsSigned w64 (pos 0)
 fits_zero = sfits_lit tt
 
@@ -75,14 +76,14 @@ module _ {T : Type 0} {below : T → T → Bool} {cmp : T → T → Ordering} (o
       ] refl f
 
   -- where each run's total fits, each total of a row and time does
-  pub totals_fit : (u : Update T) (n : ℤ) (vs : List (Update T)) → Ascends total (u ∷ vs) → AllFit (runs_of cmp u n vs) → (row : List ℤ) (t : T) → FitsSigned w64 (with_hand row t u n vs)
+  pub totals_fit : (u : Update T) (n : ℤ) (vs : List (Update T)) → Ascends total (u ∷ vs) → AllFit (groups_of cmp u n vs) → (row : List ℤ) (t : T) → FitsSigned w64 (with_hand row t u n vs)
   totals_fit u n [] a f row t =
       elim (is_at row t u) as (λ b. FitsSigned w64 (cond b n (pos 0) +ℤ pos 0)) [
         | true ↦ subst (FitsSigned w64) (sym (+ℤ_idr n)) f.0
         | false ↦ fits_zero
       ]
   totals_fit u n (v ∷ vs) a f row t =
-      elim (is_same cmp u v) as (λ b. is_same cmp u v ≡ b → AllFit (cond b (runs_of cmp u (n +ℤ v.diff) vs) (record { first = u; total = n } ∷ runs_of cmp v v.diff vs)) → FitsSigned w64 (with_hand row t u n (v ∷ vs))) [
+      elim (is_same cmp u v) as (λ b. is_same cmp u v ≡ b → AllFit (cond b (groups_of cmp u (n +ℤ v.diff) vs) (record { first = u; total = n } ∷ groups_of cmp v v.diff vs)) → FitsSigned w64 (with_hand row t u n (v ∷ vs))) [
         | true ↦ λ e g. subst (FitsSigned w64) (grown row t u v n vs e) (totals_fit u (n +ℤ v.diff) vs (skip_second total u v vs a) g row t)
         | false ↦ λ e g.
             let later = totals_fit v v.diff vs a.1 g.1 row t in
@@ -93,11 +94,11 @@ module _ {T : Type 0} {below : T → T → Bool} {cmp : T → T → Ordering} (o
       ] refl f
 
   -- where not each run's total fits, some total of a row and time does not
-  pub some_large : (u : Update T) (n : ℤ) (vs : List (Update T)) → Ascends total (u ∷ vs) → (AllFit (runs_of cmp u n vs) → ⊥) → (row : List ℤ) × (t : T) × (FitsSigned w64 (with_hand row t u n vs) → ⊥)
+  pub some_large : (u : Update T) (n : ℤ) (vs : List (Update T)) → Ascends total (u ∷ vs) → (AllFit (groups_of cmp u n vs) → ⊥) → (row : List ℤ) × (t : T) × (FitsSigned w64 (with_hand row t u n vs) → ⊥)
   some_large u n [] a f =
       (u.row, u.time, λ g. f (subst (FitsSigned w64) (ap (λ b. cond b n (pos 0) +ℤ pos 0) (at_itself u) ∙ +ℤ_idr n) g, tt))
   some_large u n (v ∷ vs) a f =
-      elim (is_same cmp u v) as (λ b. is_same cmp u v ≡ b → (AllFit (cond b (runs_of cmp u (n +ℤ v.diff) vs) (record { first = u; total = n } ∷ runs_of cmp v v.diff vs)) → ⊥) → (row : List ℤ) × (t : T) × (FitsSigned w64 (with_hand row t u n (v ∷ vs)) → ⊥)) [
+      elim (is_same cmp u v) as (λ b. is_same cmp u v ≡ b → (AllFit (cond b (groups_of cmp u (n +ℤ v.diff) vs) (record { first = u; total = n } ∷ groups_of cmp v v.diff vs)) → ⊥) → (row : List ℤ) × (t : T) × (FitsSigned w64 (with_hand row t u n (v ∷ vs)) → ⊥)) [
         | true ↦ λ e g.
             let r = some_large u (n +ℤ v.diff) vs (skip_second total u v vs a) g in
             (r.0, r.1, λ h. r.2 (subst (FitsSigned w64) (sym (grown r.0 r.1 u v n vs e)) h))

@@ -84,6 +84,7 @@ drop_first false true h = h refl
 drop_first false false h = refl
 
 module _ {T : Type 0} (below : T → T → Bool) where
+  -- the times are at or before each other
   abbrev pub ties : T → T → Bool
   ties s t = below s t && below t s
 
@@ -241,6 +242,7 @@ module _ {T : Type 0} {below : T → T → Bool} (o : PartialOrderLaws below) wh
           let alike = same s b row in
           omega (arith, ints)
 
+-- what holds of all elements holds of each
 pub at_each : {X : Type 0} (P : X → Type 0) (xs : List X) (x : X) → AllByRecursion P xs → Among x xs → P x
 at_each P [] x a m = absurd m
 at_each P (y ∷ xs) x a m = ⊎_elim (λ e. subst P e a.0) (λ k. at_each P xs x a.1 k) m
@@ -250,9 +252,11 @@ abbrev pub meets : {T : Type 0} → (T → T → Bool) → Update T → Update T
 meets below u v = same_row v.row u.row && ties below v.time u.time
 
 module _ {T : Type 0} {below : T → T → Bool} (o : PartialOrderLaws below) where
+  -- updates that meet have one row
   pub meets_row : (u v : Update T) → IsTrue (meets below u v) → v.row ≡ u.row
   meets_row u v h = (signed_items v.row u.row).0 (and_parts (same_row v.row u.row) (ties below v.time u.time) h).0
 
+  -- and one time
   pub meets_time : (u v : Update T) → IsTrue (meets below u v) → v.time ≡ u.time
   meets_time u v h = same_time o v.time u.time (and_parts (same_row v.row u.row) (ties below v.time u.time) h).1
 
@@ -263,6 +267,7 @@ module _ {T : Type 0} {below : T → T → Bool} (o : PartialOrderLaws below) wh
     by_time_then_row_total : IsTotalOrder (by_time_then_row cmp)
     by_time_then_row_total = then_total (on_total (λ (u : Update T). u.time) total) (on_total (λ (u : Update T). u.row) (lists_total int_cmp_total))
 
+    -- so neither stands before the other in a consolidated list
     pub not_in_order : (u v : Update T) → v.row ≡ u.row → v.time ≡ u.time → by_time_then_row cmp u v ≡ Less → ⊥
     not_in_order u v e d h =
         let same : by_time_then_row cmp u v ≡ by_time_then_row cmp u u = λ i. ordering_then (cmp u.time (d i)) (slice_cmp int_cmp u.row (e i)) in

@@ -20,6 +20,10 @@ pub record Entry : Type 0 where
   pub row : List ℤ
   pub count : ℤ
 
+-- the entry of a row and a count
+abbrev pub entry_of : List ℤ → ℤ → Entry
+entry_of row count = record { row = row; count = count }
+
 -- how often a row counts in a list of entries
 abbrev pub count_of : List Entry → List ℤ → ℤ
 count_of entries row = total_by (λ e. if same_row e.row row then e.count else pos 0) entries

@@ -3,7 +3,7 @@ pub use Rattle.lattice.specs.Frontiers
 pub mod Bags
 pub mod Updates
 pub mod Refusals
-pub mod Gathering
-pub mod Moments
+pub mod Groups
+pub mod UnitTimes
 pub mod Equality
 pub mod Text

@@ -3,12 +3,13 @@
 //! row is found by a binary search.
 ghost use Rattle.std.specs.Prelude.{◌≡◌, ◌<◌, ◌↔◌, ◌⊎◌, ◌++◌, [], Some, map, length, slice_get, IsTrue, IsSomeAnd, IfOk, IfErr, OnOk};
 ghost use Rattle.update.specs.Bags.{IsBag, Alike, HasLargeCount, count_of};
-ghost use Rattle.update.specs.Moments.{at_moment};
+ghost use Rattle.update.specs.UnitTimes.{at_unit_time};
 ghost use Rattle.update.specs.Updates.{IsConsolidated, entry};
 ghost use Rattle.update.specs.Text.{bag_text};
+ghost use Rattle.update.specs.Refusals.{IsMemoryOrOverflow};
 
 use crate::consolidation::consolidate_behind;
-use crate::moment::Moment;
+use crate::unit_time::UnitTime;
 use crate::{Refusal, Update};
 use lattice::Lattice;
 use row::Row;
@@ -21,7 +22,7 @@ use std::marker::Model;
 /// [`Bag::len`].
 #[derive(Drop)]
 pub struct Bag {
-    entries: Vec<Update<Moment>>,
+    entries: Vec<Update<UnitTime>>,
 }
 
 impl Model for Bag {
@@ -38,8 +39,8 @@ impl Model for Bag {
 
 impl Bag {
     /// The bag of a consolidated list. Takes no memory.
-    pub(crate) fn from_consolidated(entries: Vec<Update<Moment>>) -> Bag
-        requires { IsConsolidated ⟦<Moment as Ord>⟧.cmp entries.items }
+    pub(crate) fn from_consolidated(entries: Vec<Update<UnitTime>>) -> Bag
+        requires { IsConsolidated ⟦<UnitTime as Ord>⟧.cmp entries.items }
         ensures { result ≡ map entry entries.items }
     {
         Bag { entries }
@@ -51,6 +52,13 @@ impl Bag {
         ensures bag { IsBag self.now }
     {
         self.entries.len()
+    }
+
+    /// Costs nothing; it tells the prover that the entries are in order and that none counts 0.
+    pub fn known(&self)
+        ensures bag { IsBag self.now }
+    {
+        let _ = &self.entries;
     }
 
     /// Whether no row counts. Takes no memory.
@@ -101,8 +109,8 @@ impl Bag {
         ensures sum { IfOk result (λ bag. Alike bag (self.now ++ map entry updates.now)) }
         ensures bag { IfOk result IsBag }
         ensures fits { OnOk result (HasLargeCount (self.now ++ map entry updates.now) → ⊥) }
-        ensures refused { IfErr result (λ refused. (refused ≡ Refusal.OutOfMemory)
-            ⊎ ((refused ≡ Refusal.Overflow) × HasLargeCount (self.now ++ map entry updates.now))) }
+        ensures refused { IfErr result
+            (IsMemoryOrOverflow (HasLargeCount (self.now ++ map entry updates.now))) }
     {
         let mut entries = self.copy_entries()?;
         push_counts(&mut entries, updates)?;
@@ -111,7 +119,7 @@ impl Bag {
     }
 
     // Copies of the entries.
-    fn copy_entries(&self) -> Result<Vec<Update<Moment>>, Refusal>
+    fn copy_entries(&self) -> Result<Vec<Update<UnitTime>>, Refusal>
         ensures copied { IfOk result (λ entries. map entry entries.items ≡ self.now) }
         ensures refused { IfErr result (λ refused. refused ≡ Refusal.OutOfMemory) }
     {
@@ -122,16 +130,16 @@ impl Bag {
 
 // Puts the rows and differences of updates behind the entries.
 fn push_counts<T: Lattice>(
-    entries: &mut Vec<Update<Moment>>,
+    entries: &mut Vec<Update<UnitTime>>,
     updates: &[Update<T>],
 ) -> Result<(), Refusal>
     ensures more { OnOk result
-        (entries.new.items ≡ entries.old.items ++ map at_moment updates.now) }
+        (entries.new.items ≡ entries.old.items ++ map at_unit_time updates.now) }
     ensures refused { IfErr result (λ refused. refused ≡ Refusal.OutOfMemory) }
 {
     for update in updates {
         entries.push(Update {
-            time: Moment,
+            time: UnitTime,
             row: update.row.copy(),
             diff: update.diff,
         })?;

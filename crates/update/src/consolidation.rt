@@ -11,10 +11,11 @@
 ghost use Rattle.std.specs.Prelude.{◌≡◌, ◌≤◌, ◌<◌, ◌+◌, ◌++◌, ◌⊎◌, length, take, drop, List, ◌∷◌, ◌*◌, ◌^◌, unsigned_abs, FitsSigned, IfOk, IfErr, IsErr, OnOk, IsTrue, Bool, ℤ, ◌↔◌, slice_index_or};
 ghost use Rattle.std.specs.List.{list_all};
 ghost use Rattle.std.specs.Int.{w64};
-ghost use Rattle.update.specs.Gathering.{is_same, settled, settled_runs, runs_of, runs_from, AllFit};
+ghost use Rattle.update.specs.Groups.{is_same, group_sum, group_sums, groups_of, groups_from, AllFit};
 ghost use Rattle.update.specs.Bags.{Alike};
 ghost use Rattle.update.specs.Updates.{as_of, total_where, HasLargeTotal, IsConsolidated, size};
 ghost use Rattle.update.specs.declared.change.Update.{Update};
+ghost use Rattle.update.specs.Refusals.{IsMemoryOrOverflow};
 
 use crate::{Refusal, Update};
 use lattice::Lattice;
@@ -29,12 +30,16 @@ fn are_same<T: Lattice>(u: &Update<T>, v: &Update<T>) -> bool
 
 // Ends the run whose first update stands at `at`: the update gets the total, and the next run begins behind it; where
 // the total is 0 the next run begins in its place.
-fn settle<T: Lattice>(updates: &mut [Update<T>], at: usize, total: i128) -> Result<usize, Refusal>
+fn sum_group<T: Lattice>(
+    updates: &mut [Update<T>],
+    at: usize,
+    total: i128,
+) -> Result<usize, Refusal>
     requires { at < length updates.old }
     ensures next { IfOk result (λ next. next ≤ at + 1) }
     ensures settled { IfOk result (λ next. (d : Update T)
         → take next updates.new
-        ≡ take at updates.old ++ settled (slice_index_or updates.old at d) total) }
+        ≡ take at updates.old ++ group_sum (slice_index_or updates.old at d) total) }
     ensures rest { drop (at + 1) updates.new ≡ drop (at + 1) updates.old }
     ensures fits { OnOk result (FitsSigned w64 total) }
     ensures large { IsErr result → FitsSigned w64 total → ⊥ }
@@ -52,7 +57,7 @@ fn settle<T: Lattice>(updates: &mut [Update<T>], at: usize, total: i128) -> Resu
 }
 
 // Ends the run in hand, and begins the next one with the update at `from`, which moves there. Gives where it stands.
-fn next_run<T: Lattice>(
+fn next_group<T: Lattice>(
     updates: &mut [Update<T>],
     at: usize,
     from: usize,
@@ -63,7 +68,7 @@ fn next_run<T: Lattice>(
     ensures next { IfOk result (λ next. next ≤ from) }
     ensures settled { IfOk result (λ next. (d : Update T)
         → take next updates.new
-        ≡ take at updates.old ++ settled (slice_index_or updates.old at d) total) }
+        ≡ take at updates.old ++ group_sum (slice_index_or updates.old at d) total) }
     ensures first { IfOk result (λ next. (d : Update T)
         → slice_index_or updates.new next d ≡ slice_index_or updates.old from d) }
     ensures rest { OnOk result (drop (from + 1) updates.new ≡ drop (from + 1) updates.old) }
@@ -71,7 +76,7 @@ fn next_run<T: Lattice>(
     ensures large { IsErr result → FitsSigned w64 total → ⊥ }
     ensures only { IfErr result (λ refused. refused ≡ Refusal.Overflow) }
 {
-    let next = settle(updates, at, total)?;
+    let next = sum_group(updates, at, total)?;
     updates.swap(next, from);
     Ok(next)
 }
@@ -95,22 +100,22 @@ fn take_in<T: Lattice>(
     ensures before { IfOk result (λ new. new.at ≤ next) }
     ensures small { IfOk result (λ new. unsigned_abs new.total ≤ (next + 1) * 2 ^ 63) }
     ensures gathered { IfOk result (λ new. (d : Update T) (more : List (Update T))
-        → take new.at updates.new ++ settled_runs
-        (runs_of T.cmp (slice_index_or updates.new new.at d) new.total more)
-        ≡ take run.at updates.old ++ settled_runs
-        (runs_of T.cmp (slice_index_or updates.old run.at d) run.total
+        → take new.at updates.new ++ group_sums
+        (groups_of T.cmp (slice_index_or updates.new new.at d) new.total more)
+        ≡ take run.at updates.old ++ group_sums
+        (groups_of T.cmp (slice_index_or updates.old run.at d) run.total
         (slice_index_or updates.old next d ∷ more))) }
     ensures fits { IfOk result (λ new. (d : Update T) (more : List (Update T))
-        → AllFit (runs_of T.cmp (slice_index_or updates.old run.at d) run.total
+        → AllFit (groups_of T.cmp (slice_index_or updates.old run.at d) run.total
         (slice_index_or updates.old next d ∷ more))
-        → AllFit (runs_of T.cmp (slice_index_or updates.new new.at d) new.total more)) }
+        → AllFit (groups_of T.cmp (slice_index_or updates.new new.at d) new.total more)) }
     ensures so_far { IfOk result (λ new. (d : Update T) (more : List (Update T))
-        → AllFit (runs_of T.cmp (slice_index_or updates.new new.at d) new.total more)
-        → AllFit (runs_of T.cmp (slice_index_or updates.old run.at d) run.total
+        → AllFit (groups_of T.cmp (slice_index_or updates.new new.at d) new.total more)
+        → AllFit (groups_of T.cmp (slice_index_or updates.old run.at d) run.total
         (slice_index_or updates.old next d ∷ more))) }
     ensures rest { OnOk result (drop (next + 1) updates.new ≡ drop (next + 1) updates.old) }
     ensures large { IsErr result → (d : Update T) (more : List (Update T))
-        → AllFit (runs_of T.cmp (slice_index_or updates.old run.at d) run.total
+        → AllFit (groups_of T.cmp (slice_index_or updates.old run.at d) run.total
         (slice_index_or updates.old next d ∷ more))
         → ⊥ }
     ensures only { IfErr result (λ refused. refused ≡ Refusal.Overflow) }
@@ -122,7 +127,7 @@ fn take_in<T: Lattice>(
             total: run.total + diff,
         });
     }
-    let at = next_run(updates, run.at, next, run.total)?;
+    let at = next_group(updates, run.at, next, run.total)?;
     Ok(InHand { at, total: diff })
 }
 
@@ -130,9 +135,9 @@ fn take_in<T: Lattice>(
 fn gather<T: Lattice>(updates: &mut [Update<T>]) -> Result<usize, Refusal>
     requires { 0 < length updates.old }
     ensures gathered { IfOk result
-        (λ kept. take kept updates.new ≡ settled_runs (runs_from T.cmp updates.old)) }
-    ensures fits { OnOk result (AllFit (runs_from T.cmp updates.old)) }
-    ensures large { IsErr result → AllFit (runs_from T.cmp updates.old) → ⊥ }
+        (λ kept. take kept updates.new ≡ group_sums (groups_from T.cmp updates.old)) }
+    ensures fits { OnOk result (AllFit (groups_from T.cmp updates.old)) }
+    ensures large { IsErr result → AllFit (groups_from T.cmp updates.old) → ⊥ }
     ensures only { IfErr result (λ refused. refused ≡ Refusal.Overflow) }
 {
     let mut run = InHand {
@@ -142,15 +147,15 @@ fn gather<T: Lattice>(updates: &mut [Update<T>]) -> Result<usize, Refusal>
     for next in 1..updates.len() {
         run = take_in(updates, run, next)?;
     }
-    settle(updates, run.at, run.total)
+    sum_group(updates, run.at, run.total)
 }
 
 // Leaves in a sorted list one update for each run whose total is not 0.
 fn keep_totals<T: Lattice>(updates: &mut Vec<Update<T>>) -> Result<(), Refusal>
     ensures kept { OnOk result
-        (updates.new.items ≡ settled_runs (runs_from T.cmp updates.old.items)) }
-    ensures fits { OnOk result (AllFit (runs_from T.cmp updates.old.items)) }
-    ensures large { IsErr result → AllFit (runs_from T.cmp updates.old.items) → ⊥ }
+        (updates.new.items ≡ group_sums (groups_from T.cmp updates.old.items)) }
+    ensures fits { OnOk result (AllFit (groups_from T.cmp updates.old.items)) }
+    ensures large { IsErr result → AllFit (groups_from T.cmp updates.old.items) → ⊥ }
     ensures only { IfErr result (λ refused. refused ≡ Refusal.Overflow) }
 {
     if updates.is_empty() {
@@ -197,8 +202,7 @@ pub(crate) fn consolidate_behind<T: Lattice>(
     ensures sums { IfOk result (λ out. (t : T)
         → Alike (as_of T.below t out.items) (as_of T.below t updates.items)) }
     ensures fits { OnOk result (HasLargeTotal T.below updates.items → ⊥) }
-    ensures refused { IfErr result (λ refused. (refused ≡ Refusal.OutOfMemory)
-        ⊎ ((refused ≡ Refusal.Overflow) × HasLargeTotal T.below updates.items)) }
+    ensures refused { IfErr result (IsMemoryOrOverflow (HasLargeTotal T.below updates.items)) }
 {
     updates.sort()?;
     keep_totals(&mut updates)?;

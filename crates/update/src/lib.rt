@@ -13,16 +13,20 @@
 mod bag;
 mod change;
 mod consolidation;
+mod entries;
 mod laws;
-mod moment;
+mod lists;
 mod refusal;
 mod summation;
+mod unit_time;
 mod weight;
 
 pub use bag::Bag;
 pub use change::Update;
 pub use consolidation::consolidate;
+pub use entries::Entries;
 pub use laws::{bags_are_determined, consolidated_lists_are_least, sums_determine_a_list};
+pub use lists::{Times, Updates};
 pub use refusal::Refusal;
 pub use summation::sum_at;
 pub use weight::Weight;

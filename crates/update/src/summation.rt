@@ -1,31 +1,32 @@
 //! What a list of updates sums to at a time: each row, as often as the updates at or before the time say together. The
-//! updates that count are moved to the one time of [`Moment`] and consolidated there, which adds them up and sorts them by
+//! updates that count are moved to the one time of [`UnitTime`] and consolidated there, which adds them up and sorts them by
 //! row: so there is one place where updates are added up, and a sum is refused as a consolidation is.
 ghost use Rattle.std.specs.Prelude.{◌≡◌, ◌≤◌, ◌⊎◌, map, filter, IfOk, IfErr, OnOk};
 ghost use Rattle.update.specs.Bags.{Alike, IsBag, HasLargeCount, bag_size};
-ghost use Rattle.update.specs.Moments.{at_moment};
+ghost use Rattle.update.specs.UnitTimes.{at_unit_time};
 ghost use Rattle.update.specs.Updates.{as_of, size};
+ghost use Rattle.update.specs.Refusals.{IsMemoryOrOverflow};
 
-use crate::moment::Moment;
+use crate::unit_time::UnitTime;
 use crate::{Bag, Refusal, Update, consolidate};
 use lattice::Lattice;
 use std::alloc::Global;
 
 // The updates at or before `t`, all moved to the one moment.
-fn gone_by<T: Lattice>(
+fn at_or_before<T: Lattice>(
     alloc: Global,
     updates: &[Update<T>],
     t: T,
-) -> Result<Vec<Update<Moment>>, Refusal>
+) -> Result<Vec<Update<UnitTime>>, Refusal>
     ensures gone { IfOk result
-        (λ gone. gone.items ≡ map at_moment (filter (λ u. T.below u.time t) updates.now)) }
+        (λ gone. gone.items ≡ map at_unit_time (filter (λ u. T.below u.time t) updates.now)) }
     ensures only { IfErr result (λ refused. refused ≡ Refusal.OutOfMemory) }
 {
     let mut gone = Vec::new(alloc);
     for update in updates {
         if update.time.less_equal(&t) {
             gone.push(Update {
-                time: Moment,
+                time: UnitTime,
                 row: update.row.copy(),
                 diff: update.diff,
             })?;
@@ -44,10 +45,10 @@ pub fn sum_at<T: Lattice>(alloc: Global, updates: &[Update<T>], t: T) -> Result<
     ensures bag { IfOk result IsBag }
     ensures size { IfOk result (λ bag. bag_size bag ≤ size updates.now) }
     ensures fits { OnOk result (HasLargeCount (as_of T.below t updates.now) → ⊥) }
-    ensures refused { IfErr result (λ refused. (refused ≡ Refusal.OutOfMemory)
-        ⊎ ((refused ≡ Refusal.Overflow) × HasLargeCount (as_of T.below t updates.now))) }
+    ensures refused { IfErr result
+        (IsMemoryOrOverflow (HasLargeCount (as_of T.below t updates.now))) }
 {
-    let gone = gone_by(alloc, updates, t)?;
+    let gone = at_or_before(alloc, updates, t)?;
     let entries = consolidate(gone)?;
     Ok(Bag::from_consolidated(entries))
 }

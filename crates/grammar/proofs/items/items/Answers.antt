@@ -2,7 +2,7 @@ use Rattle.std.proofs.Common.{[]}
 use Rattle.std.proofs.lemmas.Result.{err_from_is_err_and}
 use Rattle.grammar.specs.Words.{each}
 use Rattle.grammar.specs.Items.{item_of, item, items}
-use Rattle.grammar.proofs.EachLemmas.{texts, goes_on, ends, is_done}
+use Rattle.grammar.proofs.WordLoopLemmas.{texts, goes_on, ends, is_done}
 use Rattle.grammar.proofs.items.items.Goals as goal
 
 pub returns-in_err-item : goal.returns-in_err-item

@@ -1,7 +1,7 @@
 use Rattle.std.proofs.Common.{◌≡◌, drop}
 use Rattle.grammar.specs.Words.{each}
 use Rattle.grammar.specs.Items.{item_of}
-use Rattle.grammar.proofs.EachLemmas.{with_front, texts}
+use Rattle.grammar.proofs.WordLoopLemmas.{with_front, texts}
 use Rattle.grammar.proofs.items.items.Given as goal
 
 abbrev pub invariant-loop-word : goal.invariant-loop-word

@@ -1,4 +1,4 @@
-use Rattle.grammar.proofs.SayingLemmas.{line_says}
+use Rattle.grammar.proofs.LineLemmas.{line_says}
 use Rattle.grammar.proofs.laws.lines_are_spelled.Goals as goal
 
 pub returns : goal.returns

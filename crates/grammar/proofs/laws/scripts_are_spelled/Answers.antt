@@ -1,5 +1,5 @@
-use Rattle.grammar.proofs.WholeLemmas.{whole_script, script_spelled}
-use Rattle.grammar.proofs.AgainLemmas.{script_again}
+use Rattle.grammar.proofs.ScriptLemmas.{whole_script, script_spelled}
+use Rattle.grammar.proofs.RoundTripLemmas.{script_again}
 use Rattle.grammar.proofs.laws.scripts_are_spelled.Goals as goal
 
 pub returns : goal.returns

@@ -2,7 +2,7 @@ use Rattle.std.proofs.Common.{[], ◌∷◌, ◌++◌, ◌≡◌, rules}
 use Rattle.std.proofs.lemmas.Result.{err_from_is_err_and}
 use Rattle.grammar.specs.Numbers.{signed_of}
 use Rattle.grammar.specs.Words.{each, signed, columns}
-use Rattle.grammar.proofs.EachLemmas.{texts, goes_on, ends, is_done}
+use Rattle.grammar.proofs.WordLoopLemmas.{texts, goes_on, ends, is_done}
 use Rattle.grammar.proofs.words.columns.Goals as goal
 
 pub returns-in_err-column : goal.returns-in_err-column

@@ -2,7 +2,7 @@ use Rattle.std.proofs.Common.{[]}
 use Rattle.std.proofs.lemmas.Result.{err_from_is_err_and}
 use Rattle.grammar.specs.Words.{each, whole, wholes}
 use Rattle.grammar.specs.Numbers.{whole_of}
-use Rattle.grammar.proofs.EachLemmas.{texts, goes_on, ends, is_done}
+use Rattle.grammar.proofs.WordLoopLemmas.{texts, goes_on, ends, is_done}
 use Rattle.grammar.proofs.words.wholes.Goals as goal
 
 pub returns-in_err-number : goal.returns-in_err-number

@@ -3,7 +3,7 @@ use Rattle.std.specs.List.{list_all}
 use Rattle.std.proofs.lemmas.Grind.{common_steps}
 use Rattle.update.specs.Bags.{count_of}
 use Rattle.update.specs.Updates.{as_of, size}
-use Rattle.linear.specs.Applied.{negated_update, applied, HasLargeDiff, Overflows}
+use Rattle.linear.specs.Applied.{negated_update, linear_output, HasLargeDiff, Overflows}
 use Rattle.linear.proofs.SumLemmas.{applied_sums}
 use Rattle.linear.proofs.SizeLemmas.{size_applied, times_applied, only_negation}
 use Rattle.linear.proofs.application.apply.Goals as goal
@@ -15,17 +15,17 @@ returns-in_err-negate_diffs-in-Negate-clause-overflow g c =
 
 pub returns-clause-sums : goal.returns-clause-sums
 returns-clause-sums g c k port t h row =
-    let out : c.match-node.updates.items ≡ applied c.args.node.now c.args.updates.items = first_of (search rules, grind (arith, common_steps)) in
+    let out : c.match-node.updates.items ≡ linear_output c.args.node.now c.args.updates.items = first_of (search rules, grind (arith, common_steps)) in
     ap (λ us. count_of (as_of g.T.PartialOrder.below t us) row) out ∙ applied_sums g.T.PartialOrder.below t k c.args.node.now c.requires.linear port h c.args.updates.items row
 
 pub returns-clause-times : goal.returns-clause-times
 returns-clause-times g c p h =
-    let out : c.match-node.updates.items ≡ applied c.args.node.now c.args.updates.items = first_of (search rules, grind (arith, common_steps)) in
+    let out : c.match-node.updates.items ≡ linear_output c.args.node.now c.args.updates.items = first_of (search rules, grind (arith, common_steps)) in
     subst (λ us. IsTrue (list_all (λ u. p u.time) us)) (sym out) (times_applied c.args.node.now p c.args.updates.items h)
 
 pub returns-clause-size : goal.returns-clause-size
 returns-clause-size g c =
-    let out : c.match-node.updates.items ≡ applied c.args.node.now c.args.updates.items = first_of (search rules, grind (arith, common_steps)) in
+    let out : c.match-node.updates.items ≡ linear_output c.args.node.now c.args.updates.items = first_of (search rules, grind (arith, common_steps)) in
     subst (λ us. size us ≤ size c.args.updates.items) (sym out) (size_applied c.args.node.now c.args.updates.items)
 
 pub returns-clause-overflow : goal.returns-clause-overflow

@@ -1,9 +1,9 @@
-use Rattle.linear.proofs.SumLemmas.{applied-append, applied_sums, applied_goes_on}
+use Rattle.linear.proofs.SumLemmas.{linear_output-append, applied_sums, applied_goes_on}
 use Rattle.linear.proofs.SizeLemmas.{size_applied, large_applied}
 use Rattle.linear.proofs.laws.pieces_add_up.Goals as goal
 
 pub returns-clause-pieces : goal.returns-clause-pieces
-returns-clause-pieces g c = applied-append
+returns-clause-pieces g c = linear_output-append
 
 pub returns-clause-sums : goal.returns-clause-sums
 returns-clause-sums g c = λ k node l port h us t. applied_sums g.T.PartialOrder.below t k node l port h us

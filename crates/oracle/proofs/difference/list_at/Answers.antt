@@ -1,7 +1,7 @@
 use Rattle.std.proofs.Common.{◌≡◌, ◌⊎◌, map, inr, sym, subst, rules}
 use Rattle.std.proofs.lemmas.Result.{err_from_is_err_and}
 use Rattle.plan.specs.Changes.{query_at}
-use Rattle.oracle.specs.Entries.{IsRefusal}
+use Rattle.update.specs.Refusals.{IsMemoryOrOverflow}
 use Rattle.oracle.specs.Evaluation.{HasLargeAbove, list_of, sums_at}
 use Rattle.oracle.specs.Listing.{HasLargeGap}
 use Rattle.oracle.proofs.CountLemmas.{refused_by}
@@ -20,4 +20,4 @@ returns-in_err-gap-clause-refused g c =
     let same : got.0 ≡ c.in_err-gap.field-0.0 = search rules in
     let cause = refused_by (HasLargeGap below t bag c.deref.result.now) (above ⊎ HasLargeGap below t wanted c.args.listed.now.items) c.in_err-gap.field-0.0
     (λ large. inr (gap_alike below t bag wanted c.deref.result.now c.args.listed.now.items c.in_ok-bag.ensures.query c.deref.ensures.value large)) c.in_err-gap.ensures.refused in
-    rw got.1 (subst (λ r. IsRefusal (above ⊎ HasLargeGap below t wanted c.args.listed.now.items) r) (sym same) cause)
+    rw got.1 (subst (λ r. IsMemoryOrOverflow (above ⊎ HasLargeGap below t wanted c.args.listed.now.items) r) (sym same) cause)

@@ -13,8 +13,8 @@ loop-n-preserved g c =
     let old = c.loop-n.times.items in
     let here : c.feeds.result ≡ feeds p n view = c.feeds.ensures ∙ ap (λ m. feeds p m view) c.new.ensures in
     elim c.if-feeds.branch [
-      | goal.then-feeds+in_ok-push_all w ↦
-          rw w.times-is (feeds_more _ p frontiers view n old w.push_all.new.times.items (sym here ∙ w.if-feeds.true) c.loop-n.invariant
-          (w.in_ok-push_all.ensures.pushed ∙ ap (λ xs. old ++ xs) (w.frontier_of.ensures ∙ ap frontiers w.new-then-feeds.ensures)))
+      | goal.then-feeds+in_ok-extend_from_slice w ↦
+          rw w.times-is (feeds_more _ p frontiers view n old w.extend_from_slice.new.self.items (sym here ∙ w.if-feeds.true) c.loop-n.invariant
+          (w.in_ok-extend_from_slice.ensures.items ∙ ap (λ xs. old ++ xs) (w.frontier_of.ensures ∙ ap frontiers w.new-then-feeds.ensures)))
       | goal.else-feeds w ↦ rw w.times-is (feeds_same _ p frontiers view n old (sym here ∙ w.if-feeds.false) c.loop-n.invariant)
     ]

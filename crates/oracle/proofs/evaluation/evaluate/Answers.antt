@@ -7,4 +7,4 @@ pub returns-clause-query : goal.returns-clause-query
 returns-clause-query g c =
     let inputs = sums_at g.T.PartialOrder.below c.args.plan.now (map (λ v. v.items) c.args.changes.now) c.args.t in
     let last : length c.deref.result.now ≡ c.args.view = ap length c.deref.ensures.value ∙ c.in_ok-bags.ensures.count in
-    evaluated c.args.plan.now c.len-count.ensures.plan inputs c.args.view (length c.deref.result.now) last c.next_bag.result c.next_bag.ensures.query
+    evaluated c.args.plan.now c.known.ensures.plan inputs c.args.view (length c.deref.result.now) last c.next_bag.result c.next_bag.ensures.query

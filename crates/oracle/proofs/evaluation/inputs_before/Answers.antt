@@ -1,6 +1,5 @@
 use Rattle.std.proofs.Common.{◌≡◌, ◌+◌, ◌∙◌, ap, sym, arith}
-use Rattle.plan.specs.Nodes.{node_at}
-use Rattle.plan.specs.Ancestors.{is_input}
+use Rattle.plan.specs.Nodes.{node_at, is_input}
 use Rattle.oracle.proofs.EvaluationLemmas.{inputs_few, inputs_with, inputs_without}
 use Rattle.oracle.proofs.evaluation.inputs_before.Goals as goal
 

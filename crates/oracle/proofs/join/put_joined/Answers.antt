@@ -5,9 +5,10 @@ use Rattle.std.proofs.lemmas.Bool.{leb-true}
 use Rattle.std.proofs.lemmas.Int.{to_z-of_z}
 use Rattle.std.proofs.lemmas.Result.{err_from_is_err_and}
 use Rattle.update.specs.Bags.{Entry}
-use Rattle.plan.specs.Operators.{paired}
+use Rattle.plan.specs.Operators.{joined_entry}
 use Rattle.plan.specs.Reductions.{has_key}
-use Rattle.oracle.specs.Entries.{entries_of, entry_of, IsRefusal}
+use Rattle.update.specs.Bags.{entry_of}
+use Rattle.update.specs.Refusals.{IsMemoryOrOverflow}
 use Rattle.oracle.specs.Products.{HasLargePair}
 use Rattle.oracle.proofs.PutLemmas.{no_entry, passes_at, put_flat}
 use Rattle.oracle.proofs.PairLemmas.{large_pair}
@@ -39,7 +40,7 @@ returns-in_err-put_pairs-clause-refused c =
     let got = err_from_is_err_and c.from_residual.result c.from_residual.ensures.1 in
     let same : got.0 ≡ c.in_err-put_pairs.field-0.0 = search rules in
     let cause = large_pair c.args.k left c.args.right.now i (entry_of c.row_at.result.now (to_z w64 (of_z w64 c.count_at.result))) inside (λ j. entry_of (row j) (count j)) c.in_err-put_pairs.field-0.0 c.in_err-put_pairs.ensures.refused in
-    rw got.1 (subst (λ r. IsRefusal (HasLargePair c.args.k left c.args.right.now) r) (sym same) cause)
+    rw got.1 (subst (λ r. IsMemoryOrOverflow (HasLargePair c.args.k left c.args.right.now) r) (sym same) cause)
 
 pub loop-i-preserved : goal.loop-i-preserved
 loop-i-preserved c =
@@ -51,7 +52,7 @@ loop-i-preserved c =
     let fits : FitsSigned w64 c.count_at.result = search rules in
     let row = c.row_at.ensures no_entry in
     let count : to_z w64 (of_z w64 c.count_at.result) ≡ (slice_index_or left i no_entry).count = to_z-of_z w64 c.count_at.result fits ∙ c.count_at.ensures no_entry in
-    let mid = entries_of c.loop-i.entries.items in
-    let pairs = λ (x : Entry). map (paired k x) (filter (has_key k (take k x.row)) right) in
-    put_flat pairs (entries_of c.args.entries.now.items) mid (entries_of c.put_pairs.new.entries.items) left i no_entry inside
+    let mid = c.loop-i.entries in
+    let pairs = λ (x : Entry). map (joined_entry k x) (filter (has_key k (take k x.row)) right) in
+    put_flat pairs c.args.entries.now mid c.put_pairs.new.entries left i no_entry inside
     c.loop-i.invariant (c.in_ok-put_pairs.ensures.pairs ∙ (λ j. mid ++ pairs (entry_of (row j) (count j))))

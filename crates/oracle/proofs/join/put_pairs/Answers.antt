@@ -4,17 +4,17 @@ use Rattle.std.specs.List.{filter}
 use Rattle.std.proofs.lemmas.Bool.{leb-true}
 use Rattle.std.proofs.lemmas.Int.{to_z-of_z}
 use Rattle.std.proofs.lemmas.List.{append-nil, get_or_default}
-use Rattle.plan.specs.Operators.{paired}
+use Rattle.plan.specs.Operators.{joined_entry}
 use Rattle.plan.specs.Reductions.{has_key}
-use Rattle.oracle.specs.Entries.{entries_of, entry_of}
+use Rattle.update.specs.Bags.{entry_of}
 use Rattle.oracle.proofs.PutLemmas.{no_entry, passes_at}
 use Rattle.oracle.proofs.PairLemmas.{put_kept_as}
 use Rattle.oracle.proofs.join.put_pairs.Goals as goal
 
 pub loop-j-init : goal.loop-j-init
 loop-j-init c =
-    let old = entries_of c.args.entries.now.items in
-    let f = paired c.args.k (entry_of c.args.row.now (to_z w64 (of_z w64 c.args.count))) in
+    let old = c.args.entries.now in
+    let f = joined_entry c.args.k (entry_of c.args.row.now (to_z w64 (of_z w64 c.args.count))) in
     sym (ap (λ es. old ++ map f es) c.key_range-from.ensures.before ∙ append-nil old)
 
 pub returns-in_default-clause-refused : goal.returns-in_default-clause-refused
@@ -68,16 +68,16 @@ loop-j-preserved c =
     let stored : to_z w64 (of_z w64 c.in-Some.product) ≡ c.in-Some.product = to_z-of_z w64 c.in-Some.product (subst (FitsSigned w64) (sym both.1) both.0) in
     let product : to_z w64 (of_z w64 c.in-Some.product) ≡ count *ℤ e.count = stored ∙ (both.1 ∙ ap (λ n. count *ℤ n) other) in
     let pair : c.followed_by.result ≡ row ++ drop k e.row = c.followed_by.ensures ∙ ap (λ rest. row ++ rest) (c.rest.ensures ∙ ap (drop k) (c.row_at.ensures no_entry)) in
-    let mid = entries_of c.loop-j.entries.items in
-    put_kept_as (has_key k (take k row)) (paired k (entry_of row count)) (entries_of c.args.entries.now.items) mid (entries_of c.put.new.entries.items) es j no_entry inside
-    (range.within j no_entry c.loop-j.auto.j c.loop-j-test.true) c.loop-j.invariant (c.in_ok-put.ensures.put ∙ (λ i. mid ++ entry_of (pair i) (product i) ∷ []))
+    let mid = c.loop-j.entries in
+    put_kept_as (has_key k (take k row)) (joined_entry k (entry_of row count)) c.args.entries.now mid c.push.new.self es j no_entry inside
+    (range.within j no_entry c.loop-j.auto.j c.loop-j-test.true) c.loop-j.invariant (c.in_ok-push.ensures.added ∙ (λ i. mid ++ entry_of (pair i) (product i) ∷ []))
 
 pub returns-clause-pairs : goal.returns-clause-pairs
 returns-clause-pairs c =
     let k = c.args.k in
     let row = c.args.row.now in
     let es = c.args.right.now in
-    let old = entries_of c.args.entries.now.items in
+    let old = c.args.entries.now in
     let range = c.key_range-from.ensures in
     let count = to_z w64 (of_z w64 c.args.count) in
     let fits : FitsSigned w64 c.args.count = search rules in
@@ -86,6 +86,6 @@ returns-clause-pairs c =
     let last = c.loop-j.auto.j-end order in
     let at_end : c.loop-j.j ≡ c.key_range-from.result.1 = omega (arith, last) in
     c.loop-j.invariant
-    ∙ (ap (λ n. old ++ map (paired k (entry_of row count)) (filter (has_key k (take k row)) (take n es))) at_end
-    ∙ (ap (λ l. old ++ map (paired k (entry_of row count)) l) range.behind
-    ∙ ap (λ n. old ++ map (paired k (entry_of row n)) (filter (has_key k (take k row)) es)) one))
+    ∙ (ap (λ n. old ++ map (joined_entry k (entry_of row count)) (filter (has_key k (take k row)) (take n es))) at_end
+    ∙ (ap (λ l. old ++ map (joined_entry k (entry_of row count)) l) range.behind
+    ∙ ap (λ n. old ++ map (joined_entry k (entry_of row n)) (filter (has_key k (take k row)) es)) one))

@@ -23,4 +23,4 @@ returns-clause-few c =
     let k = c.args.k in
     let wide = leb-true k (length c.row_at-row.result.now)
     (subst (λ (row : List ℤ). IsTrue (nat_le k (length row))) (sym (c.row_at-row.ensures no_entry)) (passes_at (λ e. nat_le k (length e.row)) c.args.bag.now c.args.i no_entry c.requires.inside c.requires.keys)) in
-    omega (arith, wide, c.width-width.ensures.few, c.width-width.ensures.width)
+    omega (arith, wide, c.known.ensures.few)

@@ -1,6 +1,5 @@
 use Rattle.std.proofs.Common.{[], length, get_or, ap}
-use Rattle.plan.specs.Ancestors.{is_input}
-use Rattle.plan.specs.Nodes.{node_at}
+use Rattle.plan.specs.Nodes.{node_at, is_input}
 use Rattle.oracle.proofs.InputLemmas.{place_of}
 use Rattle.oracle.proofs.laws.lists_belong_to_inputs.Goals as goal
 

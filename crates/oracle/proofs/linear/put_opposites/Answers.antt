@@ -1,8 +1,8 @@
 use Rattle.std.proofs.Common.{◌≡◌, ◌<◌, ◌∙◌, ◌∷◌, ◌++◌, [], length, slice_index_or, ap, sym, subst, inr, refl, to_z, of_z, w64, FitsSigned, rules, arith}
 use Rattle.std.specs.Prelude.{neg_ℤ}
 use Rattle.std.proofs.lemmas.Int.{to_z-of_z}
-use Rattle.plan.specs.Operators.{negated}
-use Rattle.oracle.specs.Entries.{entries_of, entry_of}
+use Rattle.plan.specs.Operators.{negated_entry}
+use Rattle.update.specs.Bags.{entry_of}
 use Rattle.oracle.proofs.PutLemmas.{no_entry, put_more, large_at}
 use Rattle.oracle.proofs.linear.put_opposites.Goals as goal
 
@@ -24,6 +24,6 @@ loop-i-preserved c =
     let stored : to_z w64 (of_z w64 c.in-Some.count) ≡ c.in-Some.count = to_z-of_z w64 c.in-Some.count (subst (FitsSigned w64) (sym both.1) both.0) in
     let count : to_z w64 (of_z w64 c.in-Some.count) ≡ neg_ℤ e.count = stored ∙ (both.1 ∙ ap neg_ℤ same) in
     let row : c.copy.result ≡ e.row = c.copy.ensures ∙ c.row_at.ensures no_entry in
-    let mid = entries_of c.loop-i.entries.items in
-    put_more negated (entries_of c.args.entries.now.items) mid (entries_of c.put.new.entries.items) c.args.bag.now c.loop-i.i no_entry inside
-    c.loop-i.invariant (c.in_ok-put.ensures.put ∙ (λ j. mid ++ entry_of (row j) (count j) ∷ []))
+    let mid = c.loop-i.entries in
+    put_more negated_entry c.args.entries.now mid c.push.new.self c.args.bag.now c.loop-i.i no_entry inside
+    c.loop-i.invariant (c.in_ok-push.ensures.added ∙ (λ j. mid ++ entry_of (row j) (count j) ∷ []))

@@ -1,9 +1,7 @@
 use Rattle.std.proofs.Common.{◌≡◌, ◌<◌, ◌∙◌, List, ℤ, length, slice_index_or, IsTrue, ap, sym, subst, arith}
 use Rattle.std.proofs.lemmas.Bool.{and_parts}
 use Rattle.row.specs.Projection.{is_within}
-use Rattle.row.specs.Testing.{passes}
-use Rattle.plan.specs.Rules.{is_test_within}
-use Rattle.oracle.specs.Entries.{entries_of}
+use Rattle.row.specs.Testing.{passes, is_test_within}
 use Rattle.oracle.proofs.PutLemmas.{no_entry, passes_at, put_kept, put_left}
 use Rattle.oracle.proofs.linear.put_passing.Goals as goal
 
@@ -28,11 +26,11 @@ loop-i-preserved c =
     let test = c.args.test.now in
     let bag = c.args.bag.now in
     let i = c.loop-i.i in
-    let old = entries_of c.args.entries.now.items in
-    let mid = entries_of c.loop-i.entries.items in
+    let old = c.args.entries.now in
+    let mid = c.loop-i.entries in
     let inside : i < length bag = omega arith in
     let here : c.holds.result ≡ passes test (slice_index_or bag i no_entry).row = c.holds.ensures ∙ ap (passes test) (c.row_at.ensures no_entry) in
     elim c.if-holds.branch [
-      | goal.then-holds+in_ok-put_entry w ↦ rw w.entries-is (put_kept (λ e. passes test e.row) old mid (entries_of w.put_entry.new.entries.items) bag i no_entry inside (sym here ∙ w.if-holds.true) c.loop-i.invariant (w.in_ok-put_entry.ensures.put no_entry))
+      | goal.then-holds+in_ok-put_entry w ↦ rw w.entries-is (put_kept (λ e. passes test e.row) old mid w.put_entry.new.entries bag i no_entry inside (sym here ∙ w.if-holds.true) c.loop-i.invariant (w.in_ok-put_entry.ensures.put no_entry))
       | goal.else-holds w ↦ rw w.entries-is (put_left (λ e. passes test e.row) old mid bag i no_entry inside (sym here ∙ w.if-holds.false) c.loop-i.invariant)
     ]

@@ -1,6 +1,6 @@
 use Rattle.std.proofs.Common.{◌≡◌, ◌<◌, ◌∙◌, ◌∷◌, ◌++◌, [], length, slice_index_or, to_z, of_z, w64, FitsSigned, rules, arith}
 use Rattle.std.proofs.lemmas.Int.{to_z-of_z}
-use Rattle.oracle.specs.Entries.{entry_of}
+use Rattle.update.specs.Bags.{entry_of}
 use Rattle.oracle.specs.Listing.{at_time}
 use Rattle.oracle.proofs.PutLemmas.{no_entry, put_more}
 use Rattle.oracle.proofs.listing.push_at.Goals as goal

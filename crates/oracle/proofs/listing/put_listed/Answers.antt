@@ -1,7 +1,6 @@
 use Rattle.std.proofs.Common.{◌≡◌, ◌<◌, ◌∙◌, length, slice_index_or, sym, cond, arith}
 use Rattle.std.specs.Prelude.{pos, ◌+ℤ◌}
 use Rattle.update.specs.Bags.{count_of, same_row}
-use Rattle.oracle.specs.Entries.{entries_of}
 use Rattle.oracle.proofs.ListingLemmas.{off_more, off_same}
 use Rattle.oracle.proofs.listing.put_listed.Goals as goal
 
@@ -12,13 +11,13 @@ loop-update-preserved g c =
     let us = c.args.listed.now in
     let i = c.loop-update.update-index in
     let d = c.update-item.result in
-    let old = entries_of c.args.entries.now.items in
-    let mid = entries_of c.loop-update.entries.items in
+    let old = c.args.entries.now in
+    let mid = c.loop-update.entries in
     let inside : i < length us = omega arith in
     let tested : c.less_equal.result ≡ below (slice_index_or us i d).time t = c.less_equal.ensures ∙ (λ j. below (c.update-item.is j).time t) in
     elim c.if-less_equal.branch [
       | goal.then-less_equal+in_ok-put_off w ↦
-          rw w.entries-is (off_more below t old mid (entries_of w.put_off.new.entries.items) us i d inside (sym tested ∙ w.if-less_equal.true) c.loop-update.invariant
-          (λ r. (λ j. count_of (entries_of w.put_off.new.entries.items) r +ℤ cond (same_row (sym c.update-item.is j).row r) (sym c.update-item.is j).diff (pos 0)) ∙ w.in_ok-put_off.ensures.counts r))
+          rw w.entries-is (off_more below t old mid w.put_off.new.entries us i d inside (sym tested ∙ w.if-less_equal.true) c.loop-update.invariant
+          (λ r. (λ j. count_of w.put_off.new.entries r +ℤ cond (same_row (sym c.update-item.is j).row r) (sym c.update-item.is j).diff (pos 0)) ∙ w.in_ok-put_off.ensures.counts r))
       | goal.else-less_equal w ↦ rw w.entries-is (off_same below t old mid us i d inside (sym tested ∙ w.if-less_equal.false) c.loop-update.invariant)
     ]

@@ -8,9 +8,9 @@ use Rattle.oracle.proofs.reductions.is_first.Goals as goal
 pub returns-then-i-eq0 : goal.returns-then-i-eq0
 returns-then-i-eq0 c d =
     let none : c.args.i ≡ 0 = grind (arith, nat_tests) in
-    eq-eqb c.args.i 0 none ∙ sym (first_of_all c.args.k c.args.bag.now c.len-bag.ensures.bag c.args.i d c.requires.inside none)
+    eq-eqb c.args.i 0 none ∙ sym (first_of_all c.args.k c.args.bag.now c.known.ensures.bag c.args.i d c.requires.inside none)
 
 pub returns-else-i-eq0 : goal.returns-else-i-eq0
 returns-else-i-eq0 c d =
     let some : 0 < c.args.i = grind (arith, nat_tests) in
-    ap not (c.have_one_key.ensures d) ∙ sym (first_by_neighbour c.args.k c.args.bag.now c.len-bag.ensures.bag c.args.i d c.requires.inside some)
+    ap not (c.have_one_key.ensures d) ∙ sym (first_by_neighbour c.args.k c.args.bag.now c.known.ensures.bag c.args.i d c.requires.inside some)

@@ -1,6 +1,5 @@
 use Rattle.std.proofs.Common.{◌<◌, ◌∙◌, length, sym, arith}
-use Rattle.oracle.specs.Entries.{entries_of}
-use Rattle.oracle.specs.Reduced.{is_least}
+use Rattle.oracle.specs.Reduced.{is_least_row}
 use Rattle.oracle.proofs.PutLemmas.{no_entry, put_kept, put_left}
 use Rattle.oracle.proofs.reductions.put_first.Goals as goal
 
@@ -9,11 +8,11 @@ loop-i-preserved c =
     let k = c.args.k in
     let bag = c.args.bag.now in
     let i = c.loop-i.i in
-    let old = entries_of c.args.entries.now.items in
-    let mid = entries_of c.loop-i.entries.items in
+    let old = c.args.entries.now in
+    let mid = c.loop-i.entries in
     let inside : i < length bag = omega arith in
     let here = c.is_first.ensures no_entry in
     elim c.if-is_first.branch [
-      | goal.then-is_first+in_ok-put_entry w ↦ rw w.entries-is (put_kept (λ e. is_least k bag e.row) old mid (entries_of w.put_entry.new.entries.items) bag i no_entry inside (sym here ∙ w.if-is_first.true) c.loop-i.invariant (w.in_ok-put_entry.ensures.put no_entry))
-      | goal.else-is_first w ↦ rw w.entries-is (put_left (λ e. is_least k bag e.row) old mid bag i no_entry inside (sym here ∙ w.if-is_first.false) c.loop-i.invariant)
+      | goal.then-is_first+in_ok-put_entry w ↦ rw w.entries-is (put_kept (λ e. is_least_row k bag e.row) old mid w.put_entry.new.entries bag i no_entry inside (sym here ∙ w.if-is_first.true) c.loop-i.invariant (w.in_ok-put_entry.ensures.put no_entry))
+      | goal.else-is_first w ↦ rw w.entries-is (put_left (λ e. is_least_row k bag e.row) old mid bag i no_entry inside (sym here ∙ w.if-is_first.false) c.loop-i.invariant)
     ]

@@ -1,7 +1,7 @@
 use Rattle.std.proofs.Common.{◌≡◌, ◌<◌, ◌∙◌, ◌∷◌, ◌++◌, [], take, length, slice_index_or, to_z, of_z, w64, FitsSigned, rules, arith}
 use Rattle.std.proofs.lemmas.Int.{to_z-of_z}
-use Rattle.oracle.specs.Entries.{entries_of, entry_of}
-use Rattle.oracle.specs.Reduced.{keyed}
+use Rattle.update.specs.Bags.{entry_of}
+use Rattle.oracle.specs.Reduced.{key_entry}
 use Rattle.oracle.proofs.PutLemmas.{no_entry, put_more}
 use Rattle.oracle.proofs.reductions.put_keys.Goals as goal
 
@@ -13,6 +13,6 @@ loop-i-preserved c =
     let fits : FitsSigned w64 c.count_at.result = search rules in
     let row : c.of.result ≡ take k e.row = c.of.ensures ∙ c.key_at.ensures.key no_entry in
     let count : to_z w64 (of_z w64 c.count_at.result) ≡ e.count = to_z-of_z w64 c.count_at.result fits ∙ c.count_at.ensures no_entry in
-    let mid = entries_of c.loop-i.entries.items in
-    put_more (keyed k) (entries_of c.args.entries.now.items) mid (entries_of c.put.new.entries.items) c.args.bag.now c.loop-i.i no_entry inside
-    c.loop-i.invariant (c.in_ok-put.ensures.put ∙ (λ j. mid ++ entry_of (row j) (count j) ∷ []))
+    let mid = c.loop-i.entries in
+    put_more (key_entry k) c.args.entries.now mid c.push.new.self c.args.bag.now c.loop-i.i no_entry inside
+    c.loop-i.invariant (c.in_ok-push.ensures.added ∙ (λ j. mid ++ entry_of (row j) (count j) ∷ []))

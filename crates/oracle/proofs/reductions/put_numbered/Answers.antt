@@ -3,8 +3,7 @@ use Rattle.std.specs.Prelude.{nat_le}
 use Rattle.std.proofs.lemmas.Bool.{leb-true}
 use Rattle.std.proofs.lemmas.Int.{to_z-of_z}
 use Rattle.plan.specs.Reductions.{single}
-use Rattle.oracle.specs.Entries.{entries_of}
-use Rattle.oracle.specs.Reduced.{numbered}
+use Rattle.oracle.specs.Reduced.{count_entry}
 use Rattle.oracle.proofs.PutLemmas.{no_entry, passes_at, put_more}
 use Rattle.oracle.proofs.reductions.put_numbered.Goals as goal
 
@@ -22,6 +21,6 @@ loop-i-preserved c =
     let fits : FitsSigned w64 c.count_at-count.result = search rules in
     let count : to_z w64 (of_z w64 c.count_at-count.result) ≡ e.count = to_z-of_z w64 c.count_at-count.result fits ∙ c.count_at-count.ensures no_entry in
     let row : c.followed_by.result ≡ e.row ++ e.count ∷ [] = c.followed_by.ensures ∙ (λ j. c.row_at.ensures no_entry j ++ count j ∷ []) in
-    let mid = entries_of c.loop-i.entries.items in
-    put_more numbered (entries_of c.args.entries.now.items) mid (entries_of c.put.new.entries.items) c.args.bag.now c.loop-i.i no_entry inside
-    c.loop-i.invariant (c.in_ok-put.ensures.put ∙ (λ j. mid ++ single (row j) ∷ []))
+    let mid = c.loop-i.entries in
+    put_more count_entry c.args.entries.now mid c.push.new.self c.args.bag.now c.loop-i.i no_entry inside
+    c.loop-i.invariant (c.in_ok-push.ensures.added ∙ (λ j. mid ++ single (row j) ∷ []))

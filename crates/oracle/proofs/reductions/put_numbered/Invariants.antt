@@ -1,8 +1,7 @@
 use Rattle.std.proofs.Common.{◌≡◌, ◌++◌, map, take}
-use Rattle.oracle.specs.Entries.{entries_of}
-use Rattle.oracle.specs.Reduced.{numbered}
+use Rattle.oracle.specs.Reduced.{count_entry}
 use Rattle.oracle.proofs.reductions.put_numbered.Given as goal
 
 -- the rows so far
 abbrev pub invariant-loop-i : goal.invariant-loop-i
-invariant-loop-i l = entries_of l.entries.items ≡ entries_of l.initial.entries.items ++ map numbered (take l.i l.bag)
+invariant-loop-i l = l.entries ≡ l.initial.entries ++ map count_entry (take l.i l.bag)

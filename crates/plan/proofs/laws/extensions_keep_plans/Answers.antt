@@ -1,5 +1,5 @@
 use Rattle.plan.proofs.PlanLemmas.{plan_before_more}
-use Rattle.plan.proofs.StepLemmas.{width_before_more, query_before_more, above_before_more, weight_before_more}
+use Rattle.plan.proofs.StepLemmas.{width_before_more, query_before_more, above_before_more, bound_before_more}
 use Rattle.plan.proofs.laws.extensions_keep_plans.Goals as goal
 
 pub returns-clause-plan : goal.returns-clause-plan
@@ -14,5 +14,5 @@ returns-clause-queries c = query_before_more
 pub returns-clause-above : goal.returns-clause-above
 returns-clause-above c = above_before_more
 
-pub returns-clause-weights : goal.returns-clause-weights
-returns-clause-weights c = weight_before_more
+pub returns-clause-bounds : goal.returns-clause-bounds
+returns-clause-bounds c = bound_before_more

@@ -1,5 +1,5 @@
 use Rattle.std.proofs.Common.{◌≡◌, ap, sym, subst, ◌∙◌, suc, ◌+◌, length, arith}
-use Rattle.machine.specs.Dataflows.{Dataflow}
+use Rattle.machine.specs.Histories.Dataflows.{Dataflow}
 use Rattle.script.specs.Relays.{AreDue}
 use Rattle.script.proofs.DueLemmas.{none_due}
 use Rattle.script.proofs.RelayLemmas.{goes_trans}

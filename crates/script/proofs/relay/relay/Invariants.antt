@@ -1,5 +1,5 @@
 use Rattle.std.proofs.Common.{◌≡◌}
-use Rattle.script.specs.Relays.{AreDue, IsIdle, GoesOn}
+use Rattle.script.specs.Relays.{AreDue, IsIdle, IsContinuedBy}
 use Rattle.script.proofs.relay.relay.Given as goal
 
 -- what waits is due at a node that is not done
@@ -8,5 +8,5 @@ invariant-loop-n g l = record {
   idle : IsIdle l.board;
   due : AreDue l.board.dataflow l.n l.board.stations;
   dataflow : l.board.dataflow ≡ l.fn.board.dataflow;
-  goes_on : GoesOn g.T.PartialOrder.below g.T.Minimum.least l.fn.board l.board;
+  goes_on : IsContinuedBy g.T.PartialOrder.below g.T.Minimum.least l.fn.board l.board;
 }

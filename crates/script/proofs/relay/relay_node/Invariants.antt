@@ -1,5 +1,5 @@
 use Rattle.std.proofs.Common.{◌≡◌}
-use Rattle.script.specs.Relays.{AreDue, waits_at, IsIdle, GoesOn}
+use Rattle.script.specs.Relays.{AreDue, waits_at, IsIdle, IsContinuedBy}
 use Rattle.script.proofs.relay.relay_node.Given as goal
 
 -- what waits is due, and the worker is between two pieces
@@ -8,7 +8,7 @@ invariant-loop-place g l = record {
   idle : IsIdle l.board;
   due : AreDue l.board.dataflow l.node l.board.stations;
   dataflow : l.board.dataflow ≡ l.fn.board.dataflow;
-  goes_on : GoesOn g.T.PartialOrder.below g.T.Minimum.least l.fn.board l.board;
+  goes_on : IsContinuedBy g.T.PartialOrder.below g.T.Minimum.least l.fn.board l.board;
 }
 
 -- how many bundles wait at the node

@@ -1,8 +1,8 @@
 use Rattle.std.proofs.Common.{◌≡◌, ◌++◌, map, drop}
-use Rattle.update.specs.Moments.{at_moment}
+use Rattle.update.specs.UnitTimes.{at_unit_time}
 use Rattle.update.proofs.bag.push_counts.Given as goal
 
 -- what was put, and what is to be put of those to come, are what is to be put of all
 abbrev pub invariant-loop-update : goal.invariant-loop-update
 invariant-loop-update g l =
-    l.entries.items ++ map at_moment (drop l.update-index l.updates) ≡ l.fn.entries.items ++ map at_moment l.updates
+    l.entries.items ++ map at_unit_time (drop l.update-index l.updates) ≡ l.fn.entries.items ++ map at_unit_time l.updates

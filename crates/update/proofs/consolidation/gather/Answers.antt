@@ -24,7 +24,7 @@ returns-clause-gathered g c =
     let nothing : drop c.loop-next.next c.args.updates.now ≡ [] = grind (arith, common_steps) in
     let so_far = rw nothing at (c.loop-next.invariant.gathered d) in
     let fits : FitsSigned w128 c.loop-next.run.total = search rules in
-    IfOk-weaker c.settle.result _ _ (λ kept h. simp to_z-of_z at (h d) ∙ ap (λ us. take c.loop-next.run.at c.loop-next.updates ++ us) (sym (append-nil _)) ∙ so_far) c.settle.ensures.settled
+    IfOk-weaker c.sum_group.result _ _ (λ kept h. simp to_z-of_z at (h d) ∙ ap (λ us. take c.loop-next.run.at c.loop-next.updates ++ us) (sym (append-nil _)) ∙ so_far) c.sum_group.ensures.settled
 
 pub returns-clause-fits : goal.returns-clause-fits
 returns-clause-fits g c =
@@ -32,7 +32,7 @@ returns-clause-fits g c =
     let nothing : drop c.loop-next.next c.args.updates.now ≡ [] = grind (arith, common_steps) in
     let so_far = rw nothing at (c.loop-next.invariant.so_far d) in
     let fits : FitsSigned w128 c.loop-next.run.total = search rules in
-    on_ok_weaker c.settle.result (λ f. so_far (simp to_z-of_z at f, tt)) c.settle.ensures.fits
+    on_ok_weaker c.sum_group.result (λ f. so_far (simp to_z-of_z at f, tt)) c.sum_group.ensures.fits
 
 pub returns-clause-large : goal.returns-clause-large
 returns-clause-large g c err all =
@@ -40,7 +40,7 @@ returns-clause-large g c err all =
     let nothing : drop c.loop-next.next c.args.updates.now ≡ [] = grind (arith, common_steps) in
     let last = rw nothing at (c.loop-next.invariant.fits d all) in
     let fits : FitsSigned w128 c.loop-next.run.total = search rules in
-    c.settle.ensures.large err (simp to_z-of_z last.0)
+    c.sum_group.ensures.large err (simp to_z-of_z last.0)
 
 pub loop-next-preserved : goal.loop-next-preserved
 loop-next-preserved g c =

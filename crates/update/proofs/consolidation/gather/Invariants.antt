@@ -1,7 +1,7 @@
 use Rattle.std.proofs.Common.{◌≡◌, ◌≤◌, ◌<◌, ◌*◌, ◌^◌, ◌++◌, length, take, drop, slice_index_or}
 use Rattle.std.specs.Prelude.{unsigned_abs}
 use Rattle.update.specs.declared.change.Update.{Update}
-use Rattle.update.specs.Gathering.{settled_runs, runs_of, runs_from, AllFit}
+use Rattle.update.specs.Groups.{group_sums, groups_of, groups_from, AllFit}
 use Rattle.update.proofs.consolidation.gather.Given as goal
 
 -- the runs that are settled, and those of the one in hand and of what is to come, are all runs
@@ -13,8 +13,8 @@ invariant-loop-next g l =
       before : l.run.at < l.next;
       long : length l.updates ≡ length all;
       rest : drop l.next l.updates ≡ drop l.next all;
-      gathered : (d : Update g.row.T.Denot) → take l.run.at l.updates ++ settled_runs (runs_of cmp (slice_index_or l.updates l.run.at d) l.run.total (drop l.next all)) ≡ settled_runs (runs_from cmp all);
-      fits : (d : Update g.row.T.Denot) → AllFit (runs_from cmp all) → AllFit (runs_of cmp (slice_index_or l.updates l.run.at d) l.run.total (drop l.next all));
-      so_far : (d : Update g.row.T.Denot) → AllFit (runs_of cmp (slice_index_or l.updates l.run.at d) l.run.total (drop l.next all)) → AllFit (runs_from cmp all);
+      gathered : (d : Update g.row.T.Denot) → take l.run.at l.updates ++ group_sums (groups_of cmp (slice_index_or l.updates l.run.at d) l.run.total (drop l.next all)) ≡ group_sums (groups_from cmp all);
+      fits : (d : Update g.row.T.Denot) → AllFit (groups_from cmp all) → AllFit (groups_of cmp (slice_index_or l.updates l.run.at d) l.run.total (drop l.next all));
+      so_far : (d : Update g.row.T.Denot) → AllFit (groups_of cmp (slice_index_or l.updates l.run.at d) l.run.total (drop l.next all)) → AllFit (groups_from cmp all);
       small : unsigned_abs l.run.total ≤ l.next * 2 ^ 63;
     }

@@ -1,7 +1,7 @@
 use Rattle.std.proofs.Common.{true, false, slice_index_or, w64, rules}
 use Rattle.std.specs.Prelude.{FitsSigned}
 use Rattle.update.proofs.TakeLemmas.{same_read, sum_read, diff_read_wide, total_kept}
-use Rattle.update.proofs.GatherLemmas.{settled_grow, fit_grow, fit_grown, settled_begin, fit_begin, fit_begun}
+use Rattle.update.proofs.GatherLemmas.{group_grow, fit_grow, fit_grown, group_begin, fit_begin, fit_begun}
 use Rattle.update.proofs.consolidation.take_in.Goals as goal
 
 pub returns-then-are_same-clause-gathered : goal.returns-then-are_same-clause-gathered
@@ -17,7 +17,7 @@ returns-then-are_same-clause-gathered g c d more =
     let fits : FitsSigned w64 c.index-updates-next.result.diff = search rules in
     let fits_read : FitsSigned w64 c.from-diff.result = search rules in
     let sum = sum_read us i j c.requires.before c.requires.within n _ d c.from-diff.result c.index-updates-next.is fits fits_read c.from-diff.ensures c.requires.small c.ranges.next.fits in
-    settled_grow cmp u v n _ more _ same sum
+    group_grow cmp u v n _ more _ same sum
 
 pub returns-then-are_same-clause-fits : goal.returns-then-are_same-clause-fits
 returns-then-are_same-clause-fits g c d more all =
@@ -63,7 +63,7 @@ returns-clause-gathered g c d more =
     let fits_read : FitsSigned w64 c.from-diff.result = search rules in
     let diff = diff_read_wide us i j c.requires.before c.requires.within _ d c.from-diff.result c.index-updates-next.is fits fits_read c.from-diff.ensures in
     let total = total_kept n j c.requires.small c.ranges.next.fits in
-    settled_begin cmp u v _ n _ more _ _ apart (c.in_ok-at.ensures.first d) diff (rw total at (c.in_ok-at.ensures.settled d))
+    group_begin cmp u v _ n _ more _ _ apart (c.in_ok-at.ensures.first d) diff (rw total at (c.in_ok-at.ensures.settled d))
 
 pub returns-clause-fits : goal.returns-clause-fits
 returns-clause-fits g c d more all =

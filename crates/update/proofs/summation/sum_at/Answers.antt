@@ -1,13 +1,13 @@
 use Rattle.std.proofs.Common.{◌≡◌, ◌≤◌, sym, subst, refl, inr, true, rules}
 use Rattle.std.proofs.lemmas.Result.{err_from_is_err_and}
 use Rattle.update.specs.declared.refusal.Refusal.TheVariants.{Overflow}
-use Rattle.update.specs.declared.moment.Moment.{Moment}
+use Rattle.update.specs.declared.unit_time.UnitTime.{UnitTime}
 use Rattle.update.specs.Bags.{Alike, bag_size}
 use Rattle.update.specs.Updates.{as_of, size, HasLargeTotal}
-use Rattle.update.proofs.MomentLemmas.{sum_moved, large_moved, large_count, size_moved}
+use Rattle.update.proofs.UnitTimeLemmas.{sum_moved, large_moved, large_count, size_moved}
 use Rattle.update.proofs.summation.sum_at.Goals as goal
 
-moment : Moment
+moment : UnitTime
 moment = record {}
 
 pub returns-in_err-entries-clause-refused : goal.returns-in_err-entries-clause-refused

@@ -1,9 +1,10 @@
 use Rattle.std.proofs.Common.{◌≡◌, IfErr, get_or, ap, sym, subst, ◌∙◌}
 use Rattle.std.proofs.lemmas.Result.{err_from_is_err_and}
-use Rattle.plan.specs.Rules.{IsRefusalBy, first_refusal}
-use Rattle.machine.specs.Inputs.{front_at, feed_faults}
-use Rattle.machine.specs.Boards.{accepting, feed_refusal}
-use Rattle.machine.proofs.AcceptLemmas.{one_accepted, count_read, board_accepting}
+use Rattle.plan.specs.Rules.{first_refusal}
+use Rattle.update.specs.Refusals.{IsRefusalBy}
+use Rattle.machine.specs.Boards.Inputs.{front_at, feed_faults}
+use Rattle.machine.specs.Boards.{accept_change, feed_refusal}
+use Rattle.machine.proofs.BoardLemmas.AcceptLemmas.{one_accepted, count_read, board_accepting}
 use Rattle.machine.proofs.board.Board.accept.Goals as goal
 
 pub returns-clause-fed : goal.returns-clause-fed
@@ -11,7 +12,7 @@ returns-clause-fed g c =
     let b = c.args.self.now in
     let taken : c.index-taken.result.now ≡ get_or b.accepted c.args.input 0 = count_read b c.self.view_is c.args.input c.number.result c.number.ensures c.requires.0 c.index-taken.result.now c.self.invariant c.index-taken.ensures in
     one_accepted b c.send_change.new.self c.self-2.view_is (record { input = c.args.input; update = c.remembered_feed-update.result.0 }) c.number-2.result c.index-taken.result.now c.in_ok-send_change.ensures.sent c.number-2.ensures taken
-    ∙ ap (λ u. accepting (record { input = c.args.input; update = u }) b) c.remembered_feed-update.ensures.same
+    ∙ ap (λ u. accept_change (record { input = c.args.input; update = u }) b) c.remembered_feed-update.ensures.same
 
 pub invariant_of-self : goal.invariant_of-self
 invariant_of-self g c = board_accepting _ c.number-2.result _ c.self-2.invariant

@@ -1,4 +1,4 @@
-use Rattle.machine.proofs.BoardLemmas.{on_both, stands_looked, stands_advanced}
+use Rattle.machine.proofs.BoardLemmas.BoardLemmas.{on_both, stands_looked, stands_advanced}
 use Rattle.std.proofs.Common.{◌∷◌, subst, sym}
 use Rattle.machine.specs.Boards.{Stands}
 use Rattle.machine.proofs.board.Board.advance.Goals as goal

@@ -2,8 +2,8 @@ use Rattle.std.proofs.Common.{◌≡◌, true}
 use Rattle.std.specs.List.{list_all}
 use Rattle.lattice.specs.Frontiers.{is_beyond}
 use Rattle.plan.specs.Ancestors.{numbers_below}
-use Rattle.machine.specs.Loads.{lot_of}
-use Rattle.machine.specs.Reads.{input_front}
+use Rattle.machine.specs.Boards.Loads.{lot_of}
+use Rattle.machine.specs.Boards.Reads.{input_front}
 use Rattle.machine.proofs.board.Board.all_wait_at.Given as goal
 
 -- all of the workers so far

@@ -1,7 +1,7 @@
 use Rattle.std.proofs.Common.{◌≡◌, drop}
 use Rattle.std.specs.List.{list_any}
 use Rattle.plan.specs.Changes.{has_passed}
-use Rattle.machine.specs.Reads.{input_front}
+use Rattle.machine.specs.Boards.Reads.{input_front}
 use Rattle.machine.proofs.board.Board.any_ready.Given as goal
 
 abbrev pub invariant-loop-t : goal.invariant-loop-t

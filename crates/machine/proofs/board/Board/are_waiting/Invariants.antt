@@ -1,7 +1,7 @@
 use Rattle.std.proofs.Common.{◌≡◌, drop}
 use Rattle.std.specs.List.{list_all}
 use Rattle.lattice.specs.Frontiers.{is_beyond}
-use Rattle.machine.specs.Reads.{input_front}
+use Rattle.machine.specs.Boards.Reads.{input_front}
 use Rattle.machine.proofs.board.Board.are_waiting.Given as goal
 
 -- what is left decides

@@ -1,4 +1,4 @@
-use Rattle.machine.proofs.ReadLemmas.{changes_answers}
+use Rattle.machine.proofs.BoardLemmas.ReadLemmas.{changes_answers}
 use Rattle.machine.proofs.board.Board.changes.Goals as goal
 
 pub returns-clause-differences : goal.returns-clause-differences

@@ -1,6 +1,6 @@
 use Rattle.std.proofs.Common.{◌∷◌, [], subst, sym, refl}
 use Rattle.machine.specs.Boards.{Stands}
-use Rattle.machine.proofs.BoardLemmas.{stands_advanced}
+use Rattle.machine.proofs.BoardLemmas.BoardLemmas.{stands_advanced}
 use Rattle.machine.proofs.board.Board.close.Goals as goal
 
 pub returns-clause-stands : goal.returns-clause-stands

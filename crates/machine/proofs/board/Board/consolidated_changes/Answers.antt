@@ -3,9 +3,9 @@ use Rattle.std.specs.List.{list_all}
 use Rattle.update.specs.Bags.{count_of}
 use Rattle.update.specs.Updates.{as_of}
 use Rattle.plan.specs.Changes.{has_passed}
-use Rattle.machine.specs.Reads.{front, captured_of}
-use Rattle.machine.proofs.FrontLemmas.{on_ok}
-use Rattle.machine.proofs.ReadLemmas.{passed_sums, all_passed}
+use Rattle.machine.specs.Boards.Reads.{front, captured_of}
+use Rattle.machine.proofs.BoardLemmas.FrontLemmas.{on_ok}
+use Rattle.machine.proofs.BoardLemmas.ReadLemmas.{passed_sums, all_passed}
 use Rattle.machine.proofs.board.Board.consolidated_changes.Goals as goal
 
 pub returns-clause-passed : goal.returns-clause-passed

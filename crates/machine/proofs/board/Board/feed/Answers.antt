@@ -1,4 +1,4 @@
-use Rattle.machine.proofs.BoardLemmas.{on_both, stands_looked, stands_fed}
+use Rattle.machine.proofs.BoardLemmas.BoardLemmas.{on_both, stands_looked, stands_fed}
 use Rattle.std.proofs.Common.{◌∷◌, subst, sym}
 use Rattle.machine.specs.Boards.{Stands}
 use Rattle.machine.proofs.board.Board.feed.Goals as goal

@@ -1,9 +1,9 @@
 use Rattle.std.proofs.Common.{ap, sym, subst, ◌∙◌}
-use Rattle.machine.specs.Dataflows.{Dataflow}
-use Rattle.machine.specs.Inputs.{first_inputs}
+use Rattle.machine.specs.Histories.Dataflows.{Dataflow}
+use Rattle.machine.specs.Boards.Inputs.{first_inputs}
 use Rattle.machine.specs.Boards.{IsBoard}
-use Rattle.machine.specs.Stations.{lots}
-use Rattle.machine.proofs.FirstLemmas.{first_made, first_is_board}
+use Rattle.machine.specs.Boards.Stations.{lots}
+use Rattle.machine.proofs.BoardLemmas.FirstLemmas.{first_made, first_is_board}
 use Rattle.machine.proofs.board.Board.first.Goals as goal
 
 pub returns-clause-first : goal.returns-clause-first

@@ -1,4 +1,4 @@
-use Rattle.machine.proofs.FrontLemmas.{on_ok, front_found, beyond_found, front_elements}
+use Rattle.machine.proofs.BoardLemmas.FrontLemmas.{on_ok, front_found, beyond_found, front_elements}
 use Rattle.machine.proofs.board.Board.front_of.Goals as goal
 
 pub returns-clause-least : goal.returns-clause-least

@@ -1,4 +1,4 @@
-use Rattle.machine.proofs.BoardLemmas.{stands_after_give}
+use Rattle.machine.proofs.BoardLemmas.BoardLemmas.{stands_after_give}
 use Rattle.machine.proofs.board.Board.give.Goals as goal
 
 pub returns-clause-stands : goal.returns-clause-stands

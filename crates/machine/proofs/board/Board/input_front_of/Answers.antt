@@ -1,4 +1,4 @@
-use Rattle.machine.proofs.FrontLemmas.{on_ok, input_front_found, input_beyond_found, input_front_elements}
+use Rattle.machine.proofs.BoardLemmas.FrontLemmas.{on_ok, input_front_found, input_beyond_found, input_front_elements}
 use Rattle.machine.proofs.board.Board.input_front_of.Goals as goal
 
 pub returns-clause-least : goal.returns-clause-least

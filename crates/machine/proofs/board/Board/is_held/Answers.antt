@@ -1,15 +1,15 @@
 use Rattle.std.proofs.Common.{ap, subst, ◌∙◌, length, ◌&&◌}
 use Rattle.std.specs.List.{list_any}
 use Rattle.lattice.specs.Frontiers.{is_beyond}
-use Rattle.plan.specs.Ancestors.{is_above, numbers_below}
-use Rattle.machine.specs.Boards.{Shown, IsBoard}
-use Rattle.machine.specs.Loads.{times_at}
-use Rattle.machine.proofs.FrontLemmas.{held_found}
+use Rattle.plan.specs.Ancestors.{reaches, numbers_below}
+use Rattle.machine.specs.Boards.{BoardState, IsBoard}
+use Rattle.machine.specs.Boards.Loads.{times_at}
+use Rattle.machine.proofs.BoardLemmas.FrontLemmas.{held_found}
 use Rattle.machine.proofs.board.Board.is_held.Goals as goal
 
 pub returns : goal.returns
 returns g c =
     let below = g.T.PartialOrder.below in
-    let test = λ (b : Shown g.row.T.Denot). list_any (λ i. is_above b.dataflow.nodes i c.args.node && is_beyond below (times_at b.stations i) c.args.t.now) (numbers_below (length b.dataflow.nodes)) in
+    let test = λ (b : BoardState g.row.T.Denot). list_any (λ i. reaches b.dataflow.nodes i c.args.node && is_beyond below (times_at b.stations i) c.args.t.now) (numbers_below (length b.dataflow.nodes)) in
     let b = c.args.self.now in
-    c.are_held.ensures ∙ (ap test c.self.view_is ∙ held_found below g.met.T.PartialOrder.order (λ i. is_above b.dataflow.nodes i c.args.node) c.args.t.now b.stations (length b.dataflow.nodes) (subst IsBoard c.self.view_is c.self.invariant).stations)
+    c.are_held.ensures ∙ (ap test c.self.view_is ∙ held_found below g.met.T.PartialOrder.order (λ i. reaches b.dataflow.nodes i c.args.node) c.args.t.now b.stations (length b.dataflow.nodes) (subst IsBoard c.self.view_is c.self.invariant).stations)

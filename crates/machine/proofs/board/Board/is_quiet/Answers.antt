@@ -1,6 +1,6 @@
 use Rattle.std.proofs.Common.{sym, ◌∙◌}
-use Rattle.machine.proofs.PlaceLemmas.{in_place_lem}
-use Rattle.machine.proofs.FrontLemmas.{quiet_into, quiet_back}
+use Rattle.machine.proofs.HistoryLemmas.PlaceLemmas.{in_place_lem}
+use Rattle.machine.proofs.BoardLemmas.FrontLemmas.{quiet_into, quiet_back}
 use Rattle.machine.proofs.board.Board.is_quiet.Goals as goal
 
 pub returns-clause-quiet : goal.returns-clause-quiet

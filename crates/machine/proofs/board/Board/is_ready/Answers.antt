@@ -1,5 +1,5 @@
 use Rattle.std.proofs.Common.{◌∙◌}
-use Rattle.machine.proofs.FrontLemmas.{ready_stands}
+use Rattle.machine.proofs.BoardLemmas.FrontLemmas.{ready_stands}
 use Rattle.machine.proofs.board.Board.is_ready.Goals as goal
 
 pub returns-clause-stands : goal.returns-clause-stands

@@ -1,4 +1,4 @@
-use Rattle.machine.proofs.BoardLemmas.{stands_opened}
+use Rattle.machine.proofs.BoardLemmas.BoardLemmas.{stands_opened}
 use Rattle.machine.proofs.board.Board.open.Goals as goal
 
 pub returns-clause-stands : goal.returns-clause-stands

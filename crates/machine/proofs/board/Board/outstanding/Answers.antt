@@ -1,4 +1,4 @@
-use Rattle.machine.proofs.FrontLemmas.{all_collected}
+use Rattle.machine.proofs.BoardLemmas.FrontLemmas.{all_collected}
 use Rattle.machine.proofs.board.Board.outstanding.Goals as goal
 
 pub returns-clause-times : goal.returns-clause-times

@@ -1,4 +1,4 @@
-use Rattle.machine.proofs.FrontLemmas.{input_collected}
+use Rattle.machine.proofs.BoardLemmas.FrontLemmas.{input_collected}
 use Rattle.machine.proofs.board.Board.outstanding_above.Goals as goal
 
 pub returns-clause-times : goal.returns-clause-times

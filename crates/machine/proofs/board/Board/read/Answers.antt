@@ -1,4 +1,4 @@
-use Rattle.machine.proofs.ReadLemmas.{read_answers}
+use Rattle.machine.proofs.BoardLemmas.ReadLemmas.{read_answers}
 use Rattle.machine.proofs.board.Board.read.Goals as goal
 
 pub returns-clause-query : goal.returns-clause-query

@@ -1,8 +1,8 @@
-use Rattle.machine.specs.declared.queue.Parcel.TheVariants.{Change}
-use Rattle.machine.specs.Worlds.{place}
-use Rattle.machine.specs.Loads.{load_of}
-use Rattle.machine.specs.Stations.{lots}
-use Rattle.machine.proofs.AcceptLemmas.{board_sent}
+use Rattle.machine.specs.declared.board.queue.Parcel.TheVariants.{Change}
+use Rattle.machine.specs.Histories.States.{place}
+use Rattle.machine.specs.Boards.Loads.{load_of}
+use Rattle.machine.specs.Boards.Stations.{lots}
+use Rattle.machine.proofs.BoardLemmas.AcceptLemmas.{board_sent}
 use Rattle.machine.proofs.board.Board.send_change.Goals as goal
 
 pub invariant_of-self : goal.invariant_of-self

@@ -1,5 +1,5 @@
-use Rattle.machine.proofs.BoardLemmas.{stands_turned}
-use Rattle.machine.proofs.FrontLemmas.{may_turn}
+use Rattle.machine.proofs.BoardLemmas.BoardLemmas.{stands_turned}
+use Rattle.machine.proofs.BoardLemmas.FrontLemmas.{may_turn}
 use Rattle.machine.proofs.board.Board.take_held.Goals as goal
 
 pub returns-clause-stands : goal.returns-clause-stands

@@ -1,5 +1,5 @@
-use Rattle.machine.specs.Stations.{lots}
-use Rattle.machine.proofs.AcceptLemmas.{board_gave}
+use Rattle.machine.specs.Boards.Stations.{lots}
+use Rattle.machine.proofs.BoardLemmas.AcceptLemmas.{board_gave}
 use Rattle.machine.proofs.board.Board.try_give.Goals as goal
 
 pub invariant_of-self : goal.invariant_of-self

@@ -1,5 +1,5 @@
-use Rattle.machine.specs.Stations.{lots}
-use Rattle.machine.proofs.AcceptLemmas.{board_taken}
+use Rattle.machine.specs.Boards.Stations.{lots}
+use Rattle.machine.proofs.BoardLemmas.AcceptLemmas.{board_taken}
 use Rattle.machine.proofs.board.Board.try_take.Goals as goal
 
 pub invariant_of-self : goal.invariant_of-self

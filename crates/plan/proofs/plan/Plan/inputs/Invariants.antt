@@ -1,7 +1,6 @@
 use Rattle.std.proofs.Common.{◌≡◌}
 use Rattle.std.specs.List.{filter}
-use Rattle.plan.specs.Nodes.{node_at}
-use Rattle.plan.specs.Ancestors.{is_input}
+use Rattle.plan.specs.Nodes.{node_at, is_input}
 use Rattle.plan.specs.Ancestors.{numbers_below}
 use Rattle.plan.proofs.plan.Plan.inputs.Given as goal
 

@@ -1,7 +1,6 @@
 use Rattle.std.proofs.Common.{◌≡◌}
 use Rattle.std.specs.List.{filter}
-use Rattle.plan.specs.Nodes.{node_at}
-use Rattle.plan.specs.Rules.{is_output}
+use Rattle.plan.specs.Nodes.{node_at, is_output}
 use Rattle.plan.specs.Ancestors.{numbers_below}
 use Rattle.plan.proofs.plan.Plan.views.Given as goal
 

@@ -4,7 +4,7 @@ use Rattle.std.proofs.lemmas.Fn.{always_returns_same}
 use Rattle.std.specs.Cmp.Lexicographic.{slice_cmp}
 use Rattle.std.specs.Ordering.{int_cmp}
 use Rattle.update.specs.declared.change.Update.{Update}
-use Rattle.update.specs.declared.moment.Moment.{Moment}
+use Rattle.update.specs.declared.unit_time.UnitTime.{UnitTime}
 use Rattle.update.proofs.BagLemmas.{count_found, count_missing}
 use Rattle.update.proofs.bag.Bag.get.Goals as goal
 
@@ -18,7 +18,7 @@ returns-in-Ok c =
     let equal = rw c.as_slice.ensures.value at (found u) in
     rw (← c.self.view_is)
     (to_z-of_z w64 _ fits
-    ∙ ap (λ (v : Update Moment). v.diff) c.index.ensures
+    ∙ ap (λ (v : Update UnitTime). v.diff) c.index.ensures
     ∙ count_found items c.in-Ok.at c.args.row.now u in_range c.self.invariant equal)
 
 pub returns-in-Err : goal.returns-in-Err

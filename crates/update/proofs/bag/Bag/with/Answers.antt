@@ -1,12 +1,12 @@
 use Rattle.std.proofs.Common.{◌∙◌, ◌++◌, map, sym, subst, inl, inr, ⊎_elim}
 use Rattle.std.proofs.lemmas.Result.{err_from_is_err_and}
-use Rattle.update.specs.declared.moment.Moment.{Moment}
+use Rattle.update.specs.declared.unit_time.UnitTime.{UnitTime}
 use Rattle.update.specs.Bags.{Alike}
 use Rattle.update.specs.Updates.{entry}
-use Rattle.update.proofs.MomentLemmas.{sum_both, large_both, large_there, both_entries}
+use Rattle.update.proofs.UnitTimeLemmas.{sum_both, large_both, large_there, both_entries}
 use Rattle.update.proofs.bag.Bag.with.Goals as goal
 
-moment : Moment
+moment : UnitTime
 moment = record {}
 
 pub returns-clause-sum : goal.returns-clause-sum

@@ -1,0 +1,96 @@
+-- Where room is reserved: at which places there is how much after a step.
+use Rattle.std.proofs.Common.{◌≡◌, ℕ, zero, suc, ◌+◌, ◌<◌, ◌≤◌, Bool, true, false, cond, ◌&&◌, List, [], ◌∷◌, ◌++◌, take, length, get_or, slice_get, refl, sym, ap, subst, ◌∙◌, arith}
+use Rattle.std.specs.List.{All}
+use Rattle.std.specs.Option.{IfSome}
+use Rattle.std.proofs.lemmas.Bool.{false≢true}
+use Rattle.std.proofs.lemmas.List.{take_more, append-nil, length-append}
+use Rattle.std.proofs.lemmas.List.Concat.{flat_map-append}
+use Rattle.std.proofs.lemmas.List.Elements.{All-more, All-weaker}
+use Rattle.machine.specs.declared.board.stations.Station.{Station}
+use Rattle.machine.specs.declared.histories.event.Site.{Site}
+use Rattle.machine.specs.declared.histories.event.Bundle.{Bundle}
+use Rattle.machine.specs.Histories.States.{same_place, queue}
+use Rattle.machine.specs.Boards.Stations.{has_room, HasRoom, HasRoomFor}
+use Rattle.machine.proofs.HistoryLemmas.FlowLemmas.{place_same}
+use Rattle.machine.proofs.BoardLemmas.LotLemmas.{same_self}
+
+-- ---- tests of places
+
+-- a test that fails beside one that passes fails by itself
+pub first_fails : (c d : Bool) → d ≡ true → (c && d) ≡ false → c ≡ false
+first_fails true true e h = h
+first_fails true false e h = sym e
+first_fails false d e h = refl
+
+-- if a test and the rest fail together and the test holds, the rest fails
+pub rest_fails : (c d : Bool) → c ≡ true → (c && d) ≡ false → d ≡ false
+rest_fails true d e h = h
+rest_fails false d e h = absurd (false≢true e)
+
+module _ {T : Type 0} where
+  -- room for more is room for less
+  pub less_room : (port more less : ℕ) → less ≤ more → (s : Station T) → has_room port more s → has_room port less s
+  less_room zero more less l s h = omega (arith, l, h)
+  less_room (suc zero) more less l s h = omega (arith, l, h)
+  less_room (suc (suc port)) more less l s h = h
+
+  -- and so at a worker of a row
+  pub less_room_at : (worker port more less : ℕ) → less ≤ more → (row : List (Station T)) → IfSome (slice_get row worker) (has_room port more) → IfSome (slice_get row worker) (has_room port less)
+  less_room_at worker port more less l [] h = h
+  less_room_at zero port more less l (s ∷ row) h = less_room port more less l s h
+  less_room_at (suc worker) port more less l (s ∷ row) h = less_room_at worker port more less l row h
+
+  -- ---- room for the bundles of a list at their places
+
+  -- without bundles none is needed
+  pub none_needed : (stations : List (List (Station T))) → HasRoomFor [] stations
+  none_needed stations site = at_worker (get_or stations site.node []) site.worker site.port
+    where
+      none : (port : ℕ) (s : Station T) → has_room port 0 s
+      none zero s = omega arith
+      none (suc zero) s = omega arith
+      none (suc (suc port)) s = tt
+
+      at_worker : (row : List (Station T)) (worker port : ℕ) → IfSome (slice_get row worker) (has_room port 0)
+      at_worker [] worker port = tt
+      at_worker (s ∷ row) zero port = none port s
+      at_worker (s ∷ row) (suc worker) port = at_worker row worker port
+
+  -- with one bundle more one more is needed at its place
+  pub one_more_needed : (sent : List (Bundle T)) (i : ℕ) (b : Bundle T) (old new : List (List (Station T))) → i < length sent → b ≡ get_or sent i b → ((at : Site) (n : ℕ) → HasRoom n old at → HasRoom n new at)
+      → ((n : ℕ) → HasRoom n old b.place → HasRoom (suc n) new b.place) → HasRoomFor (take i sent) old → HasRoomFor (take (i + 1) sent) new
+  one_more_needed sent i b old new l e kept here h = λ site.
+      subst (λ (bs : List (Bundle T)). HasRoom (length bs) new site)
+      (sym (flat_map-append (λ (c : Bundle T). cond (same_place c.place site) (c ∷ []) []) (take i sent) (b ∷ [])) ∙ ap (queue site) (sym (take_more sent i b l ∙ ap (λ c. take i sent ++ c ∷ []) (sym e))))
+      (step site (queue site (take i sent)) (h site) (same_place b.place site) refl)
+    where
+      step : (site : Site) (bs : List (Bundle T)) → HasRoom (length bs) old site → (c : Bool) → same_place b.place site ≡ c → HasRoom (length (bs ++ (cond c (b ∷ []) [] ++ []))) new site
+      step site bs h true s =
+          let longer : suc (length bs) ≡ length (bs ++ b ∷ []) = let long = length-append bs (b ∷ []) in omega (arith, long) in
+          let room = subst (λ at. (n : ℕ) → HasRoom n old at → HasRoom (suc n) new at) (place_same b.place site s) here in
+          subst (λ n. HasRoom n new site) longer (room (length bs) h)
+      step site bs h false s = subst (λ (cs : List (Bundle T)). HasRoom (length cs) new site) (sym (append-nil bs)) (kept site (length bs) h)
+
+  -- at the place of the first one there is room for it
+  pub first_has_room : (all : List (Bundle T)) (b : Bundle T) (rest : List (Bundle T)) (stations : List (List (Station T))) → all ≡ b ∷ rest → HasRoomFor all stations → HasRoom 1 stations b.place
+  first_has_room all b rest stations e h =
+      let room = subst (λ (c : Bool). HasRoom (length (cond c (b ∷ []) [] ++ queue b.place rest)) stations b.place) (same_self b.place) (subst (λ (bs : List (Bundle T)). HasRoom (length (queue b.place bs)) stations b.place) e (h b.place)) in
+      less_room_at b.place.worker b.place.port (suc (length (queue b.place rest))) 1 (omega arith) (get_or stations b.place.node []) room
+
+  -- and once it is there, for the others at theirs
+  pub rest_has_room : (all : List (Bundle T)) (b : Bundle T) (rest : List (Bundle T)) (old new : List (List (Station T))) → all ≡ b ∷ rest → ((n : ℕ) → HasRoom (suc n) old b.place → HasRoom n new b.place)
+      → ((at : Site) (n : ℕ) → same_place b.place at ≡ false → HasRoom n old at → HasRoom n new at) → HasRoomFor all old → HasRoomFor rest new
+  rest_has_room all b rest old new e here others h = λ site.
+      step site (queue site rest) (same_place b.place site) refl (subst (λ (bs : List (Bundle T)). HasRoom (length (queue site bs)) old site) e (h site))
+    where
+      step : (site : Site) (bs : List (Bundle T)) (c : Bool) → same_place b.place site ≡ c → HasRoom (length (cond c (b ∷ []) [] ++ bs)) old site → HasRoom (length bs) new site
+      step site bs true s h = subst (λ at. (n : ℕ) → HasRoom (suc n) old at → HasRoom n new at) (place_same b.place site s) here (length bs) h
+      step site bs false s h = others site (length bs) s h
+
+  -- what holds at the places of some bundles, and at that of one more, holds at those of both
+  pub place_more : (P Q : Site → Type 0) (sent : List (Bundle T)) (i : ℕ) (b : Bundle T) → i < length sent → b ≡ get_or sent i b → ((at : Site) → P at → Q at) → Q b.place
+      → All (λ c. P c.place) (take i sent) → All (λ c. Q c.place) (take (i + 1) sent)
+  place_more P Q sent i b l e kept here h =
+      All-more (λ (c : Bundle T). Q c.place) sent i b l
+      (All-weaker (λ (c : Bundle T). P c.place) (λ (c : Bundle T). Q c.place) (λ c. kept c.place) (take i sent) h)
+      (subst (λ (c : Bundle T). Q c.place) e here)

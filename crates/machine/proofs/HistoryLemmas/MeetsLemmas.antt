@@ -1,0 +1,16 @@
+-- What holds of a board, from what holds of the histories that it may stand for.
+use Rattle.std.proofs.Common.{Bool, not, List, ap, sym, ◌∙◌}
+use Rattle.lattice.specs.Order.{PartialOrderLaws}
+use Rattle.machine.specs.declared.histories.event.Event.{Event}
+use Rattle.machine.specs.Histories.Dataflows.{Dataflow, IsDataflow}
+use Rattle.machine.specs.Histories.Outstanding.{frontier}
+use Rattle.machine.specs.Histories.{IsLegal, state_after}
+use Rattle.machine.specs.Histories.Readings.{ReadsQuery}
+use Rattle.machine.proofs.HistoryLemmas.HeadlineLemmas.{headline_lem}
+use Rattle.machine.proofs.HistoryLemmas.QuietLemmas.{beyond_elements}
+
+-- any reading of a view is the query, in every legal history
+pub reads_lem : {T : Type 0} (leq : T → T → Bool) (minimum : T) → PartialOrderLaws leq → (p : Dataflow) → IsDataflow p → (h : List (Event T)) → IsLegal leq minimum p h → ReadsQuery leq p (state_after leq minimum p h)
+reads_lem leq minimum o p q h l view us front since r t passed held row =
+    r.sums t held row
+    ∙ headline_lem leq minimum o p q h l view t (ap not (sym (beyond_elements leq front (frontier leq p (state_after leq minimum p h) view) r.stands t)) ∙ passed) row

@@ -1,0 +1,342 @@
+-- No frontier goes back.
+use Rattle.std.proofs.Common.{◌≡◌, ℕ, Bool, true, false, cond, not, ◌&&◌, ◌||◌, List, [], ◌∷◌, ◌++◌, sym, refl, ap, ◌∙◌, subst, Option, Some, None, eqb, arith, inl, inr, ⊎_elim}
+use Rattle.std.specs.List.{flat_map, filter, slice_get}
+use Rattle.std.proofs.lemmas.Bool.{and_parts, and_from, or_parts, or_from, or_right, eqb-true, ne_eqb, false≢true}
+use Rattle.std.proofs.lemmas.Option.{same_Some}
+use Rattle.std.proofs.lemmas.List.Concat.{flat_map-append}
+use Rattle.std.proofs.lemmas.List.Folds.{list_any-append}
+use Rattle.lattice.specs.Order.{PartialOrderLaws}
+use Rattle.lattice.specs.Frontiers.{is_beyond, all_beyond}
+use Rattle.antichain.specs.Antichains.{least}
+use Rattle.plan.specs.Nodes.{is_input}
+use Rattle.machine.proofs.HistoryLemmas.StampLemmas.{beyond_passed}
+use Rattle.machine.specs.declared.histories.event.Site.{Site}
+use Rattle.machine.specs.declared.histories.event.Bundle.{Bundle}
+use Rattle.machine.specs.declared.histories.event.Fed.{Fed}
+use Rattle.machine.specs.declared.histories.event.Emission.{Emission}
+use Rattle.machine.specs.declared.histories.event.HeldTime.{HeldTime}
+use Rattle.machine.specs.declared.histories.event.OpenTime.{OpenTime}
+use Rattle.machine.specs.declared.histories.event.Event.{Event}
+use Rattle.machine.specs.declared.histories.event.Event.TheVariants.{Feed, Advance, Allow, Look, Take, TakeHeld, Give}
+use Rattle.machine.specs.Histories.Dataflows.{Dataflow, IsDataflow, node_of, source_of, upstream, route}
+use Rattle.machine.specs.Histories.States.{State, place, times, queue, held_at, open_at}
+use Rattle.machine.specs.Histories.Shares.{home}
+use Rattle.machine.specs.Histories.Outstanding.{stamps, held_where, open_where, counted_times, frontier, strictly_upstream, input_frontier, port_frontier, outstanding_from}
+use Rattle.machine.specs.Histories.{alone, without, is_held_by, held_entries, open_entries, take_state, give_state, next_state, IsFeed, IsGive, IsAllowed}
+use Rattle.plan.proofs.SortLemmas.{no_source}
+use Rattle.antichain.proofs.Lists.{Among, all_at}
+use Rattle.machine.proofs.HistoryLemmas.FlowLemmas.{passed-least, queued, among_left}
+use Rattle.machine.proofs.HistoryLemmas.PlaceLemmas.{sent_from}
+use Rattle.antichain.proofs.InsertionLemmas.{least_beyond}
+use Rattle.plan.proofs.PlanLemmas.{source_smaller}
+use Rattle.plan.proofs.StandLemmas.{above_itself, above_from_source, above_earlier, above_transitive}
+
+module _ {T : Type 0} (leq : T → T → Bool) (o : PartialOrderLaws leq) (t : T) where
+  -- the fixed time of this module is not beyond these times
+  abbrev pub IsPassed : List T → Type 0
+  IsPassed F = is_beyond leq F t ≡ false
+
+  -- passed by two lists together, so by each
+  pub passed_parts : (F G : List T) → IsPassed (F ++ G) → IsPassed F × IsPassed G
+  passed_parts F G h = or_parts (is_beyond leq F t) (is_beyond leq G t) (sym (list_any-append (λ f. leq f t) F G) ∙ h)
+
+  -- passed by each of two lists, so by both together
+  pub passed_both : (F G : List T) → IsPassed F → IsPassed G → IsPassed (F ++ G)
+  passed_both F G f g = list_any-append (λ x. leq x t) F G ∙ or_from (is_beyond leq F t) (is_beyond leq G t) f g
+
+  passed_onward : (F G : List T) → all_beyond leq F G ≡ true → IsPassed F → IsPassed G
+  passed_onward F G a f = beyond_passed leq o F G t a f
+
+  -- a list made of parts: each part's
+  passed_some : {X : Type 0} (part : X → List T) (keep : X → Bool) (xs : List X) → IsPassed (flat_map part xs) → IsPassed (flat_map part (filter keep xs))
+  passed_some part keep [] h = h
+  passed_some {X} part keep (x ∷ xs) h = let g = passed_parts (part x) (flat_map part xs) h in step (keep x) g.0 (passed_some part keep xs g.1)
+    where
+      step : (b : Bool) → IsPassed (part x) → IsPassed (flat_map part (filter keep xs)) → IsPassed (flat_map part (cond b (x ∷ filter keep xs) (filter keep xs)))
+      step true f g = passed_both (part x) (flat_map part (filter keep xs)) f g
+      step false f g = g
+
+  -- the parts that count, each of which is passed
+  pub passed_all : {X : Type 0} (test : X → Bool) (part : X → List T) (xs : List X) → ((x : X) → Among x xs → test x ≡ true → IsPassed (part x)) → IsPassed (flat_map (λ x. cond (test x) (part x) []) xs)
+  passed_all test part [] h = refl
+  passed_all {X} test part (y ∷ xs) h = passed_both (cond (test y) (part y) []) (flat_map (λ x. cond (test x) (part x) []) xs) (head (test y) refl) (passed_all test part xs (λ x m. h x (inr m)))
+    where
+      head : (c : Bool) → test y ≡ c → IsPassed (cond c (part y) [])
+      head false e = refl
+      head true e = h y (inl refl) e
+
+  -- and back
+  pub passed_one : {X : Type 0} (test : X → Bool) (part : X → List T) (xs : List X) → IsPassed (flat_map (λ x. cond (test x) (part x) []) xs) → (x : X) → Among x xs → test x ≡ true → IsPassed (part x)
+  passed_one test part [] h x m a = absurd m
+  passed_one {X} test part (y ∷ xs) h x m a =
+      let g = passed_parts (cond (test y) (part y) []) (flat_map (λ x. cond (test x) (part x) []) xs) h in
+      ⊎_elim
+      (λ e. subst (λ c. IsPassed (cond c (part x) [])) a (subst (λ (z : X). IsPassed (cond (test z) (part z) [])) e g.0))
+      (λ n. passed_one test part xs g.1 x n a)
+      m
+
+  -- only the least times count
+  pub passed_least : (F : List T) → IsPassed F → IsPassed (least leq F)
+  passed_least F h = least_beyond o F t ∙ h
+
+  module _ (test : ℕ → Bool) where
+    -- what is held, or an edge, at a node that passes
+    passed_edge : (i : ℕ) → test i ≡ true → (es : List (OpenTime T)) → IsPassed (open_where test es) → IsPassed (open_at i es)
+    passed_edge i a [] h = h
+    passed_edge i a (e ∷ es) h =
+        let g = passed_parts (cond (test e.input) (e.time ∷ []) []) (open_where test es) h in
+        passed_both (cond (eqb e.input i) (e.time ∷ []) []) (open_at i es) (head (eqb e.input i) refl g.0) (passed_edge i a es g.1)
+      where
+        head : (c : Bool) → eqb e.input i ≡ c → IsPassed (cond (test e.input) (e.time ∷ []) []) → IsPassed (cond c (e.time ∷ []) [])
+        head false k x = refl
+        head true k x = subst (λ b. IsPassed (cond b (e.time ∷ []) [])) (ap test (eqb-true e.input i k) ∙ a) x
+
+    passed_held : (n k : ℕ) → test n ≡ true → (ms : List (HeldTime T)) → IsPassed (held_where test ms) → IsPassed (held_at n k ms)
+    passed_held n k a [] h = h
+    passed_held n k a (m ∷ ms) h =
+        let g = passed_parts (cond (test m.node) (m.time ∷ []) []) (held_where test ms) h in
+        passed_both (cond (eqb m.node n && eqb m.worker k) (m.time ∷ []) []) (held_at n k ms) (head (eqb m.node n && eqb m.worker k) refl g.0) (passed_held n k a ms g.1)
+      where
+        head : (c : Bool) → (eqb m.node n && eqb m.worker k) ≡ c → IsPassed (cond (test m.node) (m.time ∷ []) []) → IsPassed (cond c (m.time ∷ []) [])
+        head false f x = refl
+        head true f x = subst (λ b. IsPassed (cond b (m.time ∷ []) [])) (ap test (eqb-true m.node n (and_parts (eqb m.node n) (eqb m.worker k) f).0) ∙ a) x
+
+    passed_marked : (n k : ℕ) (ts : List T) → (test n ≡ true → IsPassed ts) → IsPassed (held_where test (held_entries n k ts))
+    passed_marked n k ts h = step (test n) refl
+      where
+        on : (us : List T) → test n ≡ true → held_where test (held_entries n k us) ≡ us
+        on [] e = refl
+        on (u ∷ us) e = rw e (ap (λ z. u ∷ z) (on us e))
+
+        off : (us : List T) → test n ≡ false → held_where test (held_entries n k us) ≡ []
+        off [] e = refl
+        off (u ∷ us) e = rw e (off us e)
+
+        step : (b : Bool) → test n ≡ b → IsPassed (held_where test (held_entries n k ts))
+        step true e = subst IsPassed (sym (on ts e)) (h e)
+        step false e = subst IsPassed (sym (off ts e)) refl
+
+    passed_edged : (n : ℕ) (ts : List T) → (test n ≡ true → IsPassed ts) → IsPassed (open_where test (open_entries n ts))
+    passed_edged n ts h = step (test n) refl
+      where
+        on : (us : List T) → test n ≡ true → open_where test (open_entries n us) ≡ us
+        on [] e = refl
+        on (u ∷ us) e = rw e (ap (λ z. u ∷ z) (on us e))
+
+        off : (us : List T) → test n ≡ false → open_where test (open_entries n us) ≡ []
+        off [] e = refl
+        off (u ∷ us) e = rw e (off us e)
+
+        step : (b : Bool) → test n ≡ b → IsPassed (open_where test (open_entries n ts))
+        step true e = subst IsPassed (sym (on ts e)) (h e)
+        step false e = subst IsPassed (sym (off ts e)) refl
+
+  module _ (test : Site → Bool) where
+    -- what is left, and what is taken
+    passed_without : (site : Site) (qs : List (Bundle T)) (j : ℕ) → IsPassed (stamps test qs) → IsPassed (stamps test (without site qs j))
+    passed_without site qs j h = passed_all (λ b. test b.place) (λ b. b.stamp) (without site qs j) (λ b m a. passed_one (λ b. test b.place) (λ b. b.stamp) qs h b (among_left site qs j b m) a)
+
+    passed_taken : (qs : List (Bundle T)) (j : ℕ) (b : Bundle T) → slice_get (queue b.place qs) j ≡ Some b → test b.place ≡ true → IsPassed (stamps test qs) → IsPassed b.stamp
+    passed_taken qs j b e a h = passed_one (λ b. test b.place) (λ b. b.stamp) qs h b (queued b.place qs j b e).0 a
+
+  -- What is counted: bundles at some places, times held at some nodes, frontiers of some inputs. It may be any such choice
+  -- with the source of each place, with the input of each fed place, and with the places of each node that it counts at.
+  module _ (p : Dataflow) (q : IsDataflow p) (there : Site → Bool) (holds opens : ℕ → Bool)
+      (of_sources : (site : Site) → there site ≡ true → (s : ℕ) → source_of p site.node site.port ≡ Some s → holds s ≡ true)
+      (of_inputs : (i k : ℕ) → is_input (node_of p i) ≡ true → there (place i 0 k) ≡ true → opens i ≡ true)
+      (of_places : (site : Site) → holds site.node ≡ true → there site ≡ true) where
+    abbrev pub IsCountPassed : State T → Type 0
+    IsCountPassed w = IsPassed (stamps there w.in_flight) × IsPassed (held_where holds w.held) × IsPassed (open_where opens w.open_times)
+
+    onward_feed : (w : State T) (c : ℕ) (f : Fed T) → IsFeed leq p w c f → IsCountPassed w → IsPassed (stamps there (alone p f ∷ []))
+    onward_feed w c f a h = passed_both (cond (there (home p f)) (f.update.time ∷ []) []) [] (step (there (home p f)) refl) refl
+      where
+        step : (b : Bool) → there (home p f) ≡ b → IsPassed (cond b (f.update.time ∷ []) [])
+        step false e = refl
+        step true e = passed_onward (open_at f.input w.open_times) (f.update.time ∷ []) (and_from (is_beyond leq (open_at f.input w.open_times) f.update.time) true a.not_passed refl) (passed_edge opens f.input (of_inputs f.input (route p f.update.row) a.input.1 e) w.open_times h.2)
+
+    onward_took : (w : State T) (j : ℕ) (b : Bundle T) → slice_get (queue b.place w.in_flight) j ≡ Some b → IsCountPassed w → IsCountPassed (take_state leq p w j b)
+    onward_took w j b e h = (
+      passed_without there b.place w.in_flight j h.0,
+      subst IsPassed (sym (flat_map-append (λ (m : HeldTime T). cond (holds m.node) (m.time ∷ []) []) w.held (held_entries b.place.node b.place.worker b.stamp)))
+          (passed_both (held_where holds w.held) (held_where holds (held_entries b.place.node b.place.worker b.stamp)) h.1 (passed_marked holds b.place.node b.place.worker b.stamp (λ a. passed_taken there w.in_flight j b e (of_places b.place a) h.0))),
+      h.2,
+    )
+
+    -- what is sent comes from the sources of its places, and is beyond what was held there
+    onward_sent : (w : State T) (g : Emission T) (held : List T) (sent : List (Bundle T)) → IsGive leq p w g held sent → IsCountPassed w → IsPassed (stamps there sent)
+    onward_sent w g held sent a h = passed_all (λ b. there b.place) (λ b. b.stamp) sent (λ b m e.
+        let before = held_at g.node g.worker w.held in
+        let s = and_parts (all_beyond leq before b.stamp) (all_beyond leq b.stamp (times b.updates)) (all_at (λ b. all_beyond leq before b.stamp && all_beyond leq b.stamp (times b.updates)) sent b a.stamped m) in
+        passed_onward before b.stamp s.0 (passed_held holds g.node g.worker (of_sources b.place e g.node (sent_from p q g sent a.whole a.filled b m)) w.held h.1))
+
+    onward_gave : (w : State T) (g : Emission T) (held : List T) (sent : List (Bundle T)) → IsGive leq p w g held sent → IsCountPassed w → IsCountPassed (give_state leq p w g held sent)
+    onward_gave w g held sent a h = (
+      subst IsPassed (sym (flat_map-append (λ (q : Bundle T). cond (there q.place) q.stamp []) w.in_flight sent)) (passed_both (stamps there w.in_flight) (stamps there sent) h.0 (onward_sent w g held sent a h)),
+      subst IsPassed (sym (flat_map-append (λ (m : HeldTime T). cond (holds m.node) (m.time ∷ []) []) (held_entries g.node g.worker held) (filter (λ m. not (is_held_by g.node g.worker m)) w.held)))
+          (passed_both (held_where holds (held_entries g.node g.worker held)) (held_where holds (filter (λ m. not (is_held_by g.node g.worker m)) w.held)) (passed_marked holds g.node g.worker held later) (passed_some (λ (m : HeldTime T). cond (holds m.node) (m.time ∷ []) []) (λ m. not (is_held_by g.node g.worker m)) w.held h.1)),
+      h.2,
+    )
+      where
+        later : holds g.node ≡ true → IsPassed held
+        later f = (passed_parts (times g.updates) held (passed_onward (held_at g.node g.worker w.held) (times g.updates ++ held) a.onward (passed_held holds g.node g.worker f w.held h.1))).1
+
+    pub onward : (w : State T) (e : Event T) → IsAllowed leq p w e → IsCountPassed w → IsCountPassed (next_state leq p w e)
+    onward w (Feed c f) a h = (
+      subst IsPassed (sym (flat_map-append (λ (q : Bundle T). cond (there q.place) q.stamp []) w.in_flight (alone p f ∷ []))) (passed_both (stamps there w.in_flight) (stamps there (alone p f ∷ [])) h.0 (onward_feed w c f a h)),
+      h.1,
+      h.2,
+    )
+    onward w (Advance c i ts) a h = (
+      h.0,
+      h.1,
+      subst IsPassed (sym (flat_map-append (λ (e : OpenTime T). cond (opens e.input) (e.time ∷ []) []) (open_entries i ts) (filter (λ e. not (eqb e.input i)) w.open_times)))
+          (passed_both (open_where opens (open_entries i ts)) (open_where opens (filter (λ e. not (eqb e.input i)) w.open_times)) (passed_edged opens i ts (λ f. passed_onward (open_at i w.open_times) ts a.onward (passed_edge opens i f w.open_times h.2))) (passed_some (λ (e : OpenTime T). cond (opens e.input) (e.time ∷ []) []) (λ e. not (eqb e.input i)) w.open_times h.2)),
+    )
+    onward w (Allow c v ts) a h = h
+    onward w (Look c) a h = h
+    onward w (Take j b) a h = onward_took w j b a.waits h
+    onward w (TakeHeld m k) a h = h
+    onward w (Give g held sent) a h = onward_gave w g held sent a h
+
+  -- what is counted, in its three parts, and back
+  pub passed_counts : (there holds : ℕ → Bool) (w : State T) → IsPassed (counted_times w there holds) → IsPassed (stamps (λ site. there site.node) w.in_flight) × IsPassed (held_where holds w.held) × IsPassed (open_where there w.open_times)
+  passed_counts there holds w h =
+      let a = passed_parts (stamps (λ site. there site.node) w.in_flight) (held_where holds w.held ++ open_where there w.open_times) h in
+      let b = passed_parts (held_where holds w.held) (open_where there w.open_times) a.1 in
+      (a.0, b.0, b.1)
+
+  -- passed by what is in flight, held and open, so by all that counts
+  pub counts_passed : (there holds : ℕ → Bool) (w : State T) → IsPassed (stamps (λ site. there site.node) w.in_flight) × IsPassed (held_where holds w.held) × IsPassed (open_where there w.open_times) → IsPassed (counted_times w there holds)
+  counts_passed there holds w h = passed_both (stamps (λ site. there site.node) w.in_flight) (held_where holds w.held ++ open_where there w.open_times) h.0 (passed_both (held_where holds w.held) (open_where there w.open_times) h.1 h.2)
+
+  module _ (p : Dataflow) (q : IsDataflow p) (n : ℕ) where
+    -- a source of what is above is above
+    upward : (site : Site) → upstream p n site.node ≡ true → (s : ℕ) → source_of p site.node site.port ≡ Some s → upstream p n s ≡ true
+    upward site a s e = above_transitive p.nodes q.plan s site.node n (above_from_source p.nodes q.plan s site.node site.port s e (above_itself p.nodes q.plan s)) a
+
+    source_strict : (site : Site) → upstream p n site.node ≡ true → (s : ℕ) → source_of p site.node site.port ≡ Some s → strictly_upstream p n s ≡ true
+    source_strict site e s f =
+        let less = source_smaller p.nodes q.plan site.node site.port s f in
+        let le = above_earlier p.nodes q.plan site.node n e in
+        and_from (upstream p n s) (not (eqb s n)) (upward site e s f) (ap not (ne_eqb s n (λ x. absurd (omega arith))))
+
+    abbrev site_above : Site → Bool
+    site_above site = upstream p n site.node
+
+    -- what a frontier has passed it has passed after each event
+    pub frontier_onward : (w : State T) (e : Event T) → IsAllowed leq p w e → IsPassed (frontier leq p w n) → IsPassed (frontier leq p (next_state leq p w e) n)
+    frontier_onward w e a h =
+        passed_least (counted_times (next_state leq p w e) (upstream p n) (upstream p n))
+        (counts_passed (upstream p n) (upstream p n) (next_state leq p w e)
+        (onward p q site_above (upstream p n) (upstream p n) upward (λ i k b x. x) (λ site x. x) w e a
+        (passed_counts (upstream p n) (upstream p n) w (passed-least leq o (counted_times w (upstream p n) (upstream p n)) t h))))
+
+    -- what a passed input frontier says of each of the three logs
+    pub in_passed : (w : State T) → IsPassed (input_frontier leq p w n) → IsPassed (stamps site_above w.in_flight) × IsPassed (held_where (strictly_upstream p n) w.held) × IsPassed (open_where (upstream p n) w.open_times)
+    in_passed w h = passed_counts (upstream p n) (strictly_upstream p n) w (passed-least leq o (counted_times w (upstream p n) (strictly_upstream p n)) t h)
+
+    -- what an input frontier has passed it has passed after each event
+    pub input_onward : (w : State T) (e : Event T) → IsAllowed leq p w e → IsPassed (input_frontier leq p w n) → IsPassed (input_frontier leq p (next_state leq p w e) n)
+    input_onward w e a h =
+        passed_least (counted_times (next_state leq p w e) (upstream p n) (strictly_upstream p n))
+        (counts_passed (upstream p n) (strictly_upstream p n) (next_state leq p w e)
+        (onward p q site_above (strictly_upstream p n) (upstream p n) source_strict (λ i k b x. x) (λ site x. (and_parts (upstream p n site.node) (not (eqb site.node n)) x).0) w e a (in_passed w h)))
+
+    -- what waits at a node is beyond its input frontier
+    pub taken_later : (w : State T) (j : ℕ) (b : Bundle T) → slice_get (queue b.place w.in_flight) j ≡ Some b → b.place.node ≡ n → IsPassed (input_frontier leq p w n) → IsPassed b.stamp
+    taken_later w j b e i h = passed_taken site_above w.in_flight j b e (ap (upstream p n) i ∙ above_itself p.nodes q.plan n) (in_passed w h).0
+
+  -- bundles at the places that pass one of two tests
+  passed_either : (f g : Site → Bool) (qs : List (Bundle T)) → IsPassed (stamps f qs) → IsPassed (stamps g qs) → IsPassed (stamps (λ site. f site || g site) qs)
+  passed_either f g [] h k = refl
+  passed_either f g (x ∷ qs) h k =
+      let a = passed_parts (cond (f x.place) x.stamp []) (stamps f qs) h in
+      let b = passed_parts (cond (g x.place) x.stamp []) (stamps g qs) k in
+      passed_both (cond (f x.place || g x.place) x.stamp []) (stamps (λ site. f site || g site) qs) (one (f x.place) a.0 b.0) (passed_either f g qs a.1 b.1)
+    where
+      one : (b : Bool) → IsPassed (cond b x.stamp []) → IsPassed (cond (g x.place) x.stamp []) → IsPassed (cond (b || g x.place) x.stamp [])
+      one true y z = y
+      one false y z = z
+
+  passed_each : (f g : Site → Bool) (qs : List (Bundle T)) → IsPassed (stamps (λ site. f site || g site) qs) → IsPassed (stamps f qs) × IsPassed (stamps g qs)
+  passed_each f g [] h = (refl, refl)
+  passed_each f g (x ∷ qs) h =
+      let a = passed_parts (cond (f x.place || g x.place) x.stamp []) (stamps (λ site. f site || g site) qs) h in
+      let b = one (f x.place) (g x.place) a.0 in
+      let r = passed_each f g qs a.1 in
+      (passed_both (cond (f x.place) x.stamp []) (stamps f qs) b.0 r.0, passed_both (cond (g x.place) x.stamp []) (stamps g qs) b.1 r.1)
+    where
+      one : (b c : Bool) → IsPassed (cond (b || c) x.stamp []) → IsPassed (cond b x.stamp []) × IsPassed (cond c x.stamp [])
+      one true true y = (y, y)
+      one true false y = (y, refl)
+      one false true y = (refl, y)
+      one false false y = (refl, refl)
+
+  module _ (p : Dataflow) (q : IsDataflow p) (n port : ℕ) where
+    abbrev at_port : Site → Bool
+    at_port site = eqb site.node n && eqb site.port port
+
+    abbrev or_above : ℕ → Site → Bool
+    or_above s site = at_port site || upstream p s site.node
+
+    -- at an input a port has nothing above it but the input's own frontier
+    input_port : (w : State T) (e : Event T) → IsAllowed leq p w e → source_of p n port ≡ None
+        → IsPassed (stamps at_port w.in_flight) → IsPassed (open_at n w.open_times)
+        → IsPassed (stamps at_port (next_state leq p w e).in_flight) × IsPassed (open_at n (next_state leq p w e).open_times)
+    input_port w e a none h k =
+        let r = onward p q at_port (λ m. false) (λ i. eqb i n) sources (λ i k b x. (and_parts (eqb i n) (eqb 0 port) x).0) (λ site x. absurd (false≢true x)) w e a (h, no_held w.held, k) in
+        (r.0, r.2)
+      where
+        no_held : (ms : List (HeldTime T)) → IsPassed (held_where (λ m. false) ms)
+        no_held [] = refl
+        no_held (m ∷ ms) = no_held ms
+
+        sources : (site : Site) → at_port site ≡ true → (s : ℕ) → source_of p site.node site.port ≡ Some s → false ≡ true
+        sources site x s f =
+            let y = and_parts (eqb site.node n) (eqb site.port port) x in
+            absurd (clash (subst (λ b. source_of p n b ≡ Some s) (eqb-true site.port port y.1) (subst (λ a. source_of p a site.port ≡ Some s) (eqb-true site.node n y.0) f)))
+          where
+            clash : source_of p n port ≡ Some s → ⊥
+            clash g = cc (none, g)
+
+    source_port : (s : ℕ) (w : State T) (e : Event T) → IsAllowed leq p w e → source_of p n port ≡ Some s
+        → IsPassed (stamps at_port w.in_flight) → IsPassed (counted_times w (upstream p s) (upstream p s))
+        → IsPassed (stamps at_port (next_state leq p w e).in_flight) × IsPassed (counted_times (next_state leq p w e) (upstream p s) (upstream p s))
+    source_port s w e a some h k =
+        let c = passed_counts (upstream p s) (upstream p s) w k in
+        let r = onward p q (or_above s) (upstream p s) (upstream p s) sources inputs (λ site x. or_right (at_port site) (upstream p s site.node) x) w e a (passed_either at_port (λ site. upstream p s site.node) w.in_flight h c.0, c.1, c.2) in
+        let y = passed_each at_port (λ site. upstream p s site.node) (next_state leq p w e).in_flight r.0 in
+        (y.0, counts_passed (upstream p s) (upstream p s) (next_state leq p w e) (y.1, r.1, r.2))
+      where
+        sources : (site : Site) → or_above s site ≡ true → (m : ℕ) → source_of p site.node site.port ≡ Some m → upstream p s m ≡ true
+        sources site x m f = step (at_port site) refl x
+          where
+            step : (b : Bool) → at_port site ≡ b → (b || upstream p s site.node) ≡ true → upstream p s m ≡ true
+            step true y z =
+                let v = and_parts (eqb site.node n) (eqb site.port port) y in
+                let g : source_of p n port ≡ Some m = subst (λ b. source_of p n b ≡ Some m) (eqb-true site.port port v.1) (subst (λ a. source_of p a site.port ≡ Some m) (eqb-true site.node n v.0) f) in
+                subst (λ i. upstream p s i ≡ true) (same_Some s m (sym some ∙ g)) (above_itself p.nodes q.plan s)
+            step false y z = upward p q s site z m f
+
+        inputs : (i k : ℕ) → is_input (node_of p i) ≡ true → or_above s (place i 0 k) ≡ true → upstream p s i ≡ true
+        inputs i k b x = step (eqb i n && eqb 0 port) refl x
+          where
+            step : (c : Bool) → (eqb i n && eqb 0 port) ≡ c → (c || upstream p s i) ≡ true → upstream p s i ≡ true
+            step true y z = absurd (no_source (node_of p n) port s some (subst (λ m. is_input (node_of p m) ≡ true) (eqb-true i n (and_parts (eqb i n) (eqb 0 port) y).0) b))
+            step false y z = z
+
+    -- what the frontier of a port has passed it has passed after each event
+    pub port_onward : (w : State T) (e : Event T) → IsAllowed leq p w e → IsPassed (port_frontier leq p w n port) → IsPassed (port_frontier leq p (next_state leq p w e) n port)
+    port_onward w e a h = step (source_of p n port) refl (passed_parts (stamps at_port w.in_flight) (outstanding_from p w n (source_of p n port)) (passed-least leq o (stamps at_port w.in_flight ++ outstanding_from p w n (source_of p n port)) t h))
+      where
+        z : State T
+        z = next_state leq p w e
+
+        step : (s : Option ℕ) → source_of p n port ≡ s → IsPassed (stamps at_port w.in_flight) × IsPassed (outstanding_from p w n (source_of p n port)) → IsPassed (port_frontier leq p z n port)
+        step None f x =
+            let r = input_port w e a f x.0 (subst (λ s. IsPassed (outstanding_from p w n s)) f x.1) in
+            passed_least (stamps at_port z.in_flight ++ outstanding_from p z n (source_of p n port)) (passed_both (stamps at_port z.in_flight) (outstanding_from p z n (source_of p n port)) r.0 (subst (λ s. IsPassed (outstanding_from p z n s)) (sym f) r.1))
+        step (Some s) f x =
+            let r = source_port s w e a f x.0 (subst (λ s. IsPassed (outstanding_from p w n s)) f x.1) in
+            passed_least (stamps at_port z.in_flight ++ outstanding_from p z n (source_of p n port)) (passed_both (stamps at_port z.in_flight) (outstanding_from p z n (source_of p n port)) r.0 (subst (λ s. IsPassed (outstanding_from p z n s)) (sym f) r.1))

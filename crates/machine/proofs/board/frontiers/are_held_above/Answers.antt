@@ -1,0 +1,19 @@
+use Rattle.std.proofs.Common.{◌&&◌, ap, sym, subst, ◌∙◌, ◌<◌, length, not, eqb}
+use Rattle.lattice.specs.Frontiers.{is_beyond}
+use Rattle.plan.specs.Ancestors.{reaches}
+use Rattle.machine.specs.Boards.Loads.{times_at}
+use Rattle.machine.specs.Boards.Stations.{lots}
+use Rattle.machine.proofs.BoardLemmas.FoundLemmas.{both_pass}
+use Rattle.machine.proofs.BoardLemmas.OpenLemmas.{any_below}
+use Rattle.machine.proofs.board.frontiers.are_held_above.Goals as goal
+
+pub returns-then-holds : goal.returns-then-holds
+returns-then-holds g c =
+    let below = g.T.PartialOrder.below in
+    let p = c.args.plan.now in
+    let all = lots c.args.stations.now in
+    let n = c.loop-n.n in
+    sym
+    (any_below (λ i. (reaches p i c.args.node && not (eqb i c.args.node)) && is_beyond below (times_at all i) c.args.t.now) n (length p) (subst (λ k. n < k) c.len-n-end.ensures.len c.loop-n-test.true)
+    (both_pass (reaches p n c.args.node && not (eqb n c.args.node)) (is_beyond below (times_at all n) c.args.t.now) c.is_strictly_above.result c.holds.result (c.is_strictly_above.ensures ∙ ap (λ i. (reaches p i c.args.node && not (eqb i c.args.node))) c.new-above.ensures) c.if-is_strictly_above.true
+    (c.holds.ensures ∙ ap (λ i. is_beyond below (times_at all i) c.args.t.now) c.new-above.ensures) c.if-holds.true))

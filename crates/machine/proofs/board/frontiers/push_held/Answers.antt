@@ -1,0 +1,25 @@
+use Rattle.std.proofs.Common.{◌≡◌, ℕ, List, ◌++◌, cond, [], ap, sym, ◌∙◌}
+use Rattle.plan.specs.Ancestors.{reaches}
+use Rattle.std.proofs.lemmas.List.{append-nil}
+use Rattle.machine.specs.Boards.Loads.{times_at}
+use Rattle.machine.specs.Boards.Stations.{lots}
+use Rattle.machine.proofs.BoardLemmas.OpenLemmas.{give_next}
+use Rattle.machine.proofs.board.frontiers.push_held.Goals as goal
+use Rattle.machine.proofs.board.frontiers.push_held.Goals.{then-reaches+in_ok-push_held, else-reaches}
+
+pub loop-n-preserved : goal.loop-n-preserved
+loop-n-preserved g c =
+    let p = c.args.plan.now in
+    let stations = lots c.args.stations.now in
+    let old = c.args.all.now.items in
+    let n = c.loop-n.n in
+    let here : c.reaches.result ≡ (reaches p n c.args.node) = c.reaches.ensures ∙ ap (λ i. reaches p i c.args.node) c.new-above.ensures in
+    let all : ℕ → List g.row.T.Denot = λ i. cond (reaches p i c.args.node) (times_at stations i) [] in
+    elim c.if-reaches.branch [
+      | then-reaches+in_ok-push_held w ↦
+          give_next all old c.loop-n.all.items c.if-reaches.all.items n c.loop-n.invariant
+          ((λ j. (w.all-is j).items) ∙ (w.in_ok-push_held.ensures.more ∙ (ap (λ i. c.loop-n.all.items ++ times_at stations i) c.new-above.ensures ∙ ap (λ b. c.loop-n.all.items ++ cond b (times_at stations n) []) (sym w.if-reaches.true ∙ here))))
+      | else-reaches w ↦
+          give_next all old c.loop-n.all.items c.if-reaches.all.items n c.loop-n.invariant
+          ((λ j. (w.all-is j).items) ∙ (sym (append-nil c.loop-n.all.items) ∙ ap (λ b. c.loop-n.all.items ++ cond b (times_at stations n) []) (sym w.if-reaches.false ∙ here)))
+    ]

@@ -1,0 +1,10 @@
+use Rattle.std.proofs.Common.{◌≡◌, ◌++◌, cond, []}
+use Rattle.std.specs.List.{flat_map}
+use Rattle.plan.specs.Ancestors.{reaches, numbers_below}
+use Rattle.machine.specs.Boards.Loads.{stamps_at}
+use Rattle.machine.specs.Boards.Stations.{lots}
+use Rattle.machine.proofs.board.frontiers.push_in_flight.Given as goal
+
+-- what the nodes so far have
+abbrev pub invariant-loop-n : goal.invariant-loop-n
+invariant-loop-n g l = l.all.items ≡ l.fn.all.items ++ flat_map (λ i. cond (reaches l.plan i l.node) (stamps_at (lots l.stations) i) []) (numbers_below l.n)

@@ -1,9 +1,0 @@
-use Rattle.std.proofs.Common.{◌≡◌, ◌++◌, cond, []}
-use Rattle.std.specs.List.{flat_map}
-use Rattle.plan.specs.Ancestors.{is_above, numbers_below}
-use Rattle.machine.specs.Inputs.{front_at}
-use Rattle.machine.proofs.fronts.push_open.Given as goal
-
--- what the nodes so far have
-abbrev pub invariant-loop-n : goal.invariant-loop-n
-invariant-loop-n g l = l.all.items ≡ l.fn.all.items ++ flat_map (λ i. cond (is_above l.plan i l.node) (front_at i l.inputs) []) (numbers_below l.n)

@@ -1,7 +1,0 @@
-use Rattle.std.proofs.Common.{◌≡◌, ◌++◌, take}
-use Rattle.machine.proofs.QueueLemmas.{stamps}
-use Rattle.machine.proofs.queue.Queue.push_stamps.Given as goal
-
--- the stamps so far
-abbrev pub invariant-loop-number : goal.invariant-loop-number
-invariant-loop-number g l = l.all.items ≡ l.fn.all.items ++ stamps (take l.number l.self.loads)

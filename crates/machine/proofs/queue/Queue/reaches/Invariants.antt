@@ -1,8 +1,0 @@
-use Rattle.std.proofs.Common.{◌≡◌, take, false}
-use Rattle.lattice.specs.Frontiers.{is_beyond}
-use Rattle.machine.proofs.QueueLemmas.{stamps}
-use Rattle.machine.proofs.queue.Queue.reaches.Given as goal
-
--- no stamp so far
-abbrev pub invariant-loop-number : goal.invariant-loop-number
-invariant-loop-number g l = is_beyond g.T.PartialOrder.below (stamps (take l.number l.self.loads)) l.t ≡ false

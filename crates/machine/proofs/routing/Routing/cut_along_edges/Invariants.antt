@@ -1,8 +1,0 @@
-use Rattle.std.proofs.Common.{◌≡◌, take}
-use Rattle.std.specs.List.{flat_map}
-use Rattle.machine.specs.Cuts.{cut_along}
-use Rattle.machine.proofs.routing.Routing.cut_along_edges.Given as goal
-
--- the bundles along the edges so far
-abbrev pub invariant-loop-edge : goal.invariant-loop-edge
-invariant-loop-edge g l = l.sent.items ≡ flat_map (cut_along g.T.PartialOrder.below l.self l.emission) (take l.edge-index l.edge-items)

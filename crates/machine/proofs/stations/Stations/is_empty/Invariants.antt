@@ -1,9 +1,0 @@
-use Rattle.std.proofs.Common.{◌≡◌, ◌++◌, drop, map}
-use Rattle.std.specs.List.{list_all}
-use Rattle.machine.specs.Loads.{is_none}
-use Rattle.machine.specs.Stations.{lot}
-use Rattle.machine.proofs.stations.Stations.is_empty.Given as goal
-
--- those that are left tell the same as all of them
-abbrev pub invariant-loop-row : goal.invariant-loop-row
-invariant-loop-row g l = list_all (λ row. list_all (λ l. is_none (l.left ++ l.right)) (map lot row)) (drop l.row-index l.row-items) ≡ list_all (λ row. list_all (λ l. is_none (l.left ++ l.right)) (map lot row)) l.row-items

@@ -1,9 +1,0 @@
-use Rattle.std.proofs.Common.{◌≡◌, ℕ, ◌<◌, []}
-use Rattle.machine.specs.Worlds.{place}
-use Rattle.machine.specs.Loads.{queue_of}
-use Rattle.machine.specs.Stations.{lots}
-use Rattle.machine.proofs.stations.Stations.port_waiting.Given as goal
-
--- nothing waits at the ports so far
-abbrev pub invariant-loop-port : goal.invariant-loop-port
-invariant-loop-port g l = (port : ℕ) → port < l.port → queue_of (lots l.self) (place l.node port l.worker) ≡ []

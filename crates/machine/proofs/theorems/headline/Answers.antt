@@ -1,5 +1,0 @@
-use Rattle.machine.proofs.HeadlineLemmas.{headline_lem}
-use Rattle.machine.proofs.theorems.headline.Goals as goal
-
-pub returns : goal.returns
-returns g c p q h l n = headline_lem _ _ g.met.T.PartialOrder.order p q h l n

@@ -1,5 +1,0 @@
-use Rattle.machine.proofs.ActorLemmas.{worker_apart}
-use Rattle.machine.proofs.theorems.workers_are_apart.Goals as goal
-
-pub returns : goal.returns
-returns g c = λ p h e k ne. worker_apart _ p _ k e ne

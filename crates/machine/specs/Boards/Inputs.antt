@@ -1,0 +1,33 @@
+-- The frontiers of a dataflow's inputs, by node: from which times on changes may still be fed.
+use Rattle.std.specs.Prelude.{ℕ, Bool, not, eqb, if◌then◌else◌, List, [], ◌∷◌, map, get_or, length, nat_lt, nat_le, pos, unsigned_abs}
+use Rattle.std.specs.Ordering.{int_eq}
+use Rattle.lattice.specs.Frontiers.{is_beyond, all_beyond}
+use Rattle.update.specs.declared.refusal.Refusal.{Refusal}
+use Rattle.update.specs.declared.refusal.Refusal.TheVariants.{WrongWidth, ZeroWeight, WeightTooLarge, TimePassed, NotForward, InputFull}
+use Rattle.plan.specs.Nodes.{is_input}
+use Rattle.plan.specs.Widths.{width_of}
+use Rattle.plan.specs.declared.node.Node.{Node}
+use Rattle.machine.specs.declared.histories.event.Fed.{Fed}
+
+module _ {T : Type 0} where
+  -- the frontier of a node: of no times where the input is closed, and where the node is no input
+  abbrev pub front_at : ℕ → List (List T) → List T
+  front_at i inputs = get_or inputs i []
+
+  -- before the first event each input stands at the least time
+  abbrev pub first_inputs : T → List Node → List (List T)
+  first_inputs minimum p = map (λ node. if is_input node then minimum ∷ [] else []) p
+
+module _ {T : Type 0} (below : T → T → Bool) where
+  -- what refuses a change, in the order of testing, where its input stands at this frontier and has taken so many changes
+  abbrev pub feed_faults : List Node → List T → ℕ → Fed T → List (Bool × Refusal)
+  feed_faults nodes frontier taken f = (not (eqb (length f.update.row) (width_of nodes f.input)), WrongWidth)
+      ∷ (int_eq f.update.diff (pos 0), ZeroWeight)
+      ∷ (not (nat_le (unsigned_abs f.update.diff) 2147483647), WeightTooLarge)
+      ∷ (not (is_beyond below frontier f.update.time), TimePassed)
+      ∷ (not (nat_lt taken 1048576), InputFull)
+      ∷ []
+
+  -- what refuses times as the frontier of an input that stands at this one
+  abbrev pub advance_faults : List T → List T → List (Bool × Refusal)
+  advance_faults frontier ts = (not (all_beyond below frontier ts), NotForward) ∷ []

@@ -1,0 +1,90 @@
+-- What is found on a board when it is asked: frontiers, a view's rows at a time, its changes, and whether it is quiet.
+use Rattle.std.specs.Prelude.{ℕ, Bool, true, false, not, ◌&&◌, List, [], ◌∷◌, length, get_or, Option, Some, None, nat_lt}
+use Rattle.std.specs.List.{filter, list_all, list_any, flat_map}
+use Rattle.lattice.specs.Frontiers.{is_beyond}
+use Rattle.update.specs.Updates.{HasLargeTotal}
+use Rattle.update.specs.declared.change.Update.{Update}
+use Rattle.update.specs.declared.refusal.Refusal.{Refusal}
+use Rattle.update.specs.declared.refusal.Refusal.TheVariants.{NotPassed, GivenUp}
+use Rattle.plan.specs.Changes.{has_passed}
+use Rattle.plan.specs.Rules.{first_refusal}
+use Rattle.plan.specs.Ancestors.{numbers_below}
+use Rattle.machine.specs.declared.histories.event.OpenTime.{OpenTime}
+use Rattle.machine.specs.Histories.{open_entries}
+use Rattle.machine.specs.Boards.Inputs.{front_at}
+use Rattle.machine.specs.Histories.States.{State}
+use Rattle.machine.specs.Boards.Loads.{is_none, lot_of, all_bundles, all_held}
+use Rattle.machine.specs.Histories.Outstanding.{frontier, input_frontier}
+use Rattle.machine.specs.Boards.Views.{HasLargeSum}
+use Rattle.update.specs.Refusals.{IsRefusalOr}
+use Rattle.machine.specs.Boards.{BoardState, no_view, is_from_start}
+
+-- the elements of the inputs' frontiers
+abbrev pub open_on : {T : Type 0} → BoardState T → List (OpenTime T)
+open_on b = flat_map (λ i. open_entries i (front_at i b.inputs)) (numbers_below (length b.dataflow.nodes))
+
+-- what lies on a board, as what a history leaves: its logs of what is past are not there
+abbrev pub on_board : {T : Type 0} → BoardState T → State T
+on_board b = record {
+  fed = [];
+  in_flight = all_bundles b.stations;
+  received = [];
+  emitted = [];
+  held = all_held b.stations;
+  open_times = open_on b;
+  hand = λ k. get_or b.hand k None;
+  since = λ v. (get_or b.views v no_view).since;
+  observed = [];
+}
+
+-- what a view captured, and the frontier beyond which it may be read
+abbrev pub captured_of : {T : Type 0} → BoardState T → ℕ → List (Update T)
+captured_of b v = (get_or b.views v no_view).captured
+
+abbrev pub since_of : {T : Type 0} → BoardState T → ℕ → List T
+since_of b v = (get_or b.views v no_view).since
+
+-- nobody has a piece in hand
+abbrev pub hands_are_free : List (Option ℕ) → Bool
+hands_are_free [] = true
+hands_are_free (None ∷ hand) = hands_are_free hand
+hands_are_free (Some n ∷ hand) = false
+
+module _ {T : Type 0} (below : T → T → Bool) where
+  -- the frontiers of a node, as they are found on the board
+  abbrev pub front : BoardState T → ℕ → List T
+  front b n = frontier below b.dataflow (on_board b) n
+
+  abbrev pub input_front : BoardState T → ℕ → List T
+  input_front b n = input_frontier below b.dataflow (on_board b) n
+
+  -- a worker holds a time at a node that the node's input frontier has passed
+  abbrev pub is_ready : BoardState T → ℕ → ℕ → Bool
+  is_ready b k n = list_any (has_passed below (input_front b n)) (lot_of b.stations n k).held
+
+  -- whatever is held waits for what may still come to its node
+  abbrev pub all_wait : BoardState T → Bool
+  all_wait b = list_all (λ m. nat_lt m.node (length b.dataflow.nodes) && is_beyond below (input_front b m.node) m.time) (all_held b.stations)
+
+  -- nothing is in flight or in hand, and whatever is held waits
+  abbrev pub is_quiet_board : BoardState T → Bool
+  is_quiet_board b = is_none (all_bundles b.stations) && (hands_are_free b.hand && all_wait b)
+
+  -- what refuses a read, in the order of testing
+  abbrev pub read_refusal_on : BoardState T → ℕ → T → Option Refusal
+  read_refusal_on b v t = first_refusal ((is_beyond below (front b v) t, NotPassed) ∷ (not (is_beyond below (since_of b v) t), GivenUp) ∷ [])
+
+  -- what refuses the changes of a view
+  abbrev pub changes_refusal_on : T → BoardState T → ℕ → Option Refusal
+  changes_refusal_on minimum b v = first_refusal ((not (is_from_start below minimum (since_of b v)), GivenUp) ∷ [])
+
+  -- of what a view captured, what is at times that its frontier has passed
+  abbrev pub passed_captured : BoardState T → ℕ → List (Update T)
+  passed_captured b v = filter (λ u. has_passed below (front b v) u.time) (captured_of b v)
+
+  -- a refusal of a read, and of the changes of a view: a fault, want of memory, or a number that is too large
+  abbrev pub IsReadRefusal : BoardState T → ℕ → T → Refusal → Type 0
+  IsReadRefusal b v t refusal = IsRefusalOr (HasLargeSum below (captured_of b v) t) (read_refusal_on b v t) refusal
+
+  abbrev pub IsChangesRefusal : T → BoardState T → ℕ → Refusal → Type 0
+  IsChangesRefusal minimum b v refusal = IsRefusalOr (HasLargeTotal below (passed_captured b v)) (changes_refusal_on minimum b v) refusal

@@ -1,0 +1,44 @@
+-- What an event has in it, so that it can be remembered for clauses and its parts move on.
+use Rattle.std.specs.Prelude.{◌≡◌, List, ⊤}
+use Rattle.machine.specs.declared.histories.event.Bundle.{Bundle}
+use Rattle.machine.specs.declared.histories.event.Emission.{Emission}
+use Rattle.machine.specs.declared.histories.event.Fed.{Fed}
+use Rattle.machine.specs.declared.histories.event.Event.{Event}
+use Rattle.machine.specs.declared.histories.event.Event.TheVariants.{Feed, Advance, Take, Give}
+
+module _ {T : Type 0} where
+  abbrev pub IsFeeding : Event T → Type 0
+  IsFeeding (Feed client f) = ⊤
+  IsFeeding e = ⊥
+
+  -- the change that the event has fed
+  abbrev pub HasFed : Event T → Fed T → Type 0
+  HasFed (Feed client f) fed = fed ≡ f
+  HasFed e fed = ⊥
+
+  abbrev pub IsAdvancing : Event T → Type 0
+  IsAdvancing (Advance client input ts) = ⊤
+  IsAdvancing e = ⊥
+
+  -- the frontier that the event has moved on to
+  abbrev pub HasAdvanced : Event T → List T → Type 0
+  HasAdvanced (Advance client input ts) us = us ≡ ts
+  HasAdvanced e us = ⊥
+
+  abbrev pub IsTaking : Event T → Type 0
+  IsTaking (Take number bundle) = ⊤
+  IsTaking e = ⊥
+
+  -- what the event has taken
+  abbrev pub HasTaken : Event T → Bundle T → Type 0
+  HasTaken (Take number bundle) taken = taken ≡ bundle
+  HasTaken e taken = ⊥
+
+  abbrev pub IsGiving : Event T → Type 0
+  IsGiving (Give g ts sent) = ⊤
+  IsGiving e = ⊥
+
+  -- what the event has given
+  abbrev pub HasGiven : Event T → Emission T → List T → List (Bundle T) → Type 0
+  HasGiven (Give g ts sent) f us bundles = (f ≡ g) × (us ≡ ts) × (bundles ≡ sent)
+  HasGiven e f us bundles = ⊥

@@ -1,0 +1,102 @@
+-- Examples of what the definitions allow and what they compute, over times that are pairs. A definition that is too strict
+-- or that finds another number fails at one of them.
+use Rattle.std.specs.Prelude.{◌≡◌, ℕ, eqb, if◌then◌else◌, List, [], ◌∷◌, Some, None, pos, negsuc}
+use Rattle.lattice.specs.Pairs.{make_pair}
+use Rattle.row.specs.declared.projection.Item.TheVariants.{Column}
+use Rattle.row.specs.declared.test.Cmp.TheVariants.{Lt}
+use Rattle.update.specs.declared.change.Update.{Update}
+use Rattle.plan.specs.declared.node.Node.{Node}
+use Rattle.plan.specs.declared.node.Node.TheVariants.{Input, Map, Filter, Concat, Negate, Arrange, Join, Reduce, Output}
+use Rattle.plan.specs.declared.node.Kind.TheVariants.{Count, Distinct}
+use Rattle.machine.specs.declared.histories.event.Site.{Site}
+use Rattle.machine.specs.declared.histories.event.Bundle.{Bundle}
+use Rattle.machine.specs.declared.histories.event.Emission.{Emission}
+use Rattle.machine.specs.Histories.Dataflows.{Dataflow}
+use Rattle.machine.specs.Histories.States.{State, place}
+use Rattle.machine.specs.Histories.{held_entries}
+use Rattle.machine.specs.Histories.Outstanding.{stamp, frontier, input_frontier, port_frontier}
+use Rattle.lattice.specs.Bitimes.{Bitime, bitime_below}
+
+-- the row of one column, 7, comes and goes at a time
+abbrev pub seven_comes : ℕ → ℕ → Update Bitime
+seven_comes x y = record { time = make_pair x y; row = pos 7 ∷ []; diff = pos 1 }
+
+abbrev pub seven_goes : ℕ → ℕ → Update Bitime
+seven_goes x y = record { time = make_pair x y; row = pos 7 ∷ []; diff = negsuc 0 }
+
+-- a bundle, and what worker 1 gave at a node
+abbrev pub bundle_of : Site → List (Update Bitime) → Bundle Bitime
+bundle_of site us = record { place = site; updates = us; stamp = stamp bitime_below us }
+
+abbrev pub given_at_node : ℕ → List (Update Bitime) → Emission Bitime
+given_at_node n us = record { node = n; worker = 1; updates = us }
+
+-- nothing has happened, but one input's frontier is a time
+abbrev pub open_from : Bitime → State Bitime
+open_from t = record {
+  fed = [];
+  in_flight = [];
+  received = [];
+  emitted = [];
+  held = [];
+  open_times = record { input = 0; time = t } ∷ [];
+  hand = λ k. None;
+  since = λ v. make_pair 0 0 ∷ [];
+  observed = [];
+}
+
+-- the rows of an input by key: how many there are, and which; a view of either is node 3
+abbrev pub counting : Dataflow
+counting = record { nodes = Input 2 ∷ Arrange 0 1 ∷ Reduce Count 1 ∷ Output 2 ∷ []; workers = 2 }
+
+abbrev pub listing : Dataflow
+listing = record { nodes = Input 1 ∷ Arrange 0 1 ∷ Reduce Distinct 1 ∷ Output 2 ∷ []; workers = 2 }
+
+-- the rows of an input as they are
+abbrev pub copying : Dataflow
+copying = record { nodes = Input 1 ∷ Output 0 ∷ []; workers = 2 }
+
+-- worker 1 is at the distinct of the listing: the row came at (0, 3) and at (3, 0), it holds these two times, and from
+-- (4, 4) on there may be more
+abbrev pub came_twice : State Bitime
+came_twice = record (open_from (make_pair 4 4)) {
+  received = bundle_of (place 2 0 1) (seven_comes 3 0 ∷ []) ∷ bundle_of (place 2 0 1) (seven_comes 0 3 ∷ []) ∷ [];
+  held = record { node = 2; worker = 1; time = make_pair 3 0 } ∷ record { node = 2; worker = 1; time = make_pair 0 3 } ∷ [];
+  hand = λ k. if eqb k 1 then Some 2 else None;
+  observed = record { node = 2; worker = 1; frontier = make_pair 4 4 ∷ [] } ∷ [];
+}
+
+-- worker 1 took these updates at the input of the copying, and holds their stamp
+abbrev pub came_at_input : List (Update Bitime) → State Bitime
+came_at_input us = record (open_from (make_pair 0 0)) {
+  received = bundle_of (place 0 0 1) us ∷ [];
+  held = held_entries 0 1 (stamp bitime_below us);
+  hand = λ k. if eqb k 1 then Some 0 else None;
+}
+
+-- an update at (10, 1) waits for worker 1 at the count, or is taken and its time is held there, while the input is open
+-- from (0, 2) on
+abbrev pub waits_at_count : State Bitime
+waits_at_count = record (open_from (make_pair 0 2)) { in_flight = bundle_of (place 2 0 1) (seven_comes 10 1 ∷ []) ∷ [] }
+
+abbrev pub held_at_count : ℕ → ℕ → State Bitime
+held_at_count x y = record (open_from (make_pair 0 2)) { held = record { node = 2; worker = 1; time = make_pair x y } ∷ [] }
+
+-- the frontiers at the count: what may still come to it, and what may still come from it to its view
+pub record HasFrontiers (w : State Bitime) (to from : List Bitime) : Type 0 where
+  pub input : input_frontier bitime_below counting w 2 ≡ to
+  pub port : port_frontier bitime_below counting w 2 0 ≡ to
+  pub count : frontier bitime_below counting w 2 ≡ from
+  pub view_input : input_frontier bitime_below counting w 3 ≡ from
+  pub view_port : port_frontier bitime_below counting w 3 0 ≡ from
+  pub view : frontier bitime_below counting w 3 ≡ from
+
+-- the join of two inputs; an input joined with itself, and three times added to itself; the linear nodes in a row
+abbrev pub joining : List Node
+joining = Input 1 ∷ Input 1 ∷ Arrange 0 1 ∷ Arrange 1 1 ∷ Join 2 3 ∷ Output 4 ∷ []
+
+abbrev pub doubling : List Node
+doubling = Input 1 ∷ Arrange 0 1 ∷ Join 1 1 ∷ Concat 2 2 ∷ Concat 3 3 ∷ Concat 4 4 ∷ Output 5 ∷ []
+
+abbrev pub linear_row : List Node
+linear_row = Input 2 ∷ Map 0 (Column 1 ∷ Column 0 ∷ []) ∷ Filter 1 (record { left = Column 0; op = Lt; right = Column 1 }) ∷ Negate 2 ∷ Concat 2 3 ∷ Output 4 ∷ []

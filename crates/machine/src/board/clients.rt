@@ -1,0 +1,178 @@
+//! The events of clients: changes of the inputs' tables, and the inputs' frontiers. A change that may not be fed, or a
+//! frontier that would go back, is refused, and then the event is a look: the history shows that the client was there, and
+//! that it did nothing.
+ghost use Rattle.std.specs.Prelude.{◌≡◌, ◌<◌, ◌≤◌, ◌+◌, List, [], ◌∷◌, None, Some, IfErr, IfOk, OnErr, OnOk, length};
+ghost use Rattle.update.specs.declared.refusal.Refusal.TheVariants.{OutOfMemory};
+ghost use Rattle.update.specs.Refusals.{IsRefusalBy};
+ghost use Rattle.machine.specs.declared.histories.event.Event.{Event};
+ghost use Rattle.machine.specs.declared.histories.event.Event.TheVariants.{Feed};
+ghost use Rattle.machine.specs.Histories.States.{change_to};
+ghost use Rattle.machine.specs.Histories.{IsInput};
+ghost use Rattle.machine.specs.Boards.{BoardState, IsBoard, Stands, after_look, put_change, accept_change, after_feed, after_advance, feed_refusal, advance_refusal};
+
+use crate::board::Board;
+use crate::board::queue::Parcel;
+use crate::histories::event::{Event, Site, remembered_advance, remembered_feed};
+use lattice::Minimum;
+use plan::{NodeId, Plan};
+use std::alloc::Global;
+use std::snapshot::Snapshot;
+use update::{Refusal, Times, Update};
+
+impl<T: Minimum> Board<T> {
+    /// A client changes an input's table. The change comes to the input on the worker of its whole row.
+    ///
+    /// Refused for what [`InputFrontiers::feed_refusal`](crate::InputFrontiers::feed_refusal) names, in its order, or else
+    /// with `OutOfMemory`. After a refusal the event is a look, and nothing else changed.
+    ///
+    /// Cost: linear in the elements of the input's frontier.
+    pub fn feed(&mut self, client: usize, input: NodeId, update: Update<T>) -> Result<(), Refusal>
+        requires client { self.old.dataflow.workers ≤ client }
+        requires input { IsInput self.old.dataflow input }
+        ensures fed { OnOk result (self.new ≡ after_feed client (change_to input update) self.old) }
+        ensures accepted { OnOk result
+            (feed_refusal T.below self.old (change_to input update) ≡ None) }
+        ensures refused { IfErr result
+            (IsRefusalBy (feed_refusal T.below self.old (change_to input update))) }
+        ensures unchanged { OnErr result (self.new ≡ after_look client self.old) }
+        ensures stands { (h : List (Event T)) → Stands T.below T.least self.old h
+            → Stands T.below T.least self.new (self.new.last ∷ h) }
+    {
+        self.try_feed(client, input, update)
+    }
+
+    // Changes the board as `feed` says. `feed` adds what that means for histories.
+    fn try_feed(&mut self, client: usize, input: NodeId, update: Update<T>) -> Result<(), Refusal>
+        requires { IsInput self.old.dataflow input }
+        ensures fed { OnOk result (self.new ≡ after_feed client (change_to input update) self.old) }
+        ensures accepted { OnOk result
+            (feed_refusal T.below self.old (change_to input update) ≡ None) }
+        ensures refused { IfErr result
+            (IsRefusalBy (feed_refusal T.below self.old (change_to input update))) }
+        ensures board { OnOk result (IsBoard self.old) }
+        ensures unchanged { OnErr result (self.new ≡ after_look client self.old) }
+    {
+        match self.accept(client, input, update) {
+            Ok(event) => {
+                self.note(event);
+                Ok(())
+            }
+            Err(refusal) => {
+                self.look(client);
+                Err(refusal)
+            }
+        }
+    }
+
+    // Puts the change on the board, and gives the event that is to be noted.
+    fn accept(
+        &mut self,
+        client: usize,
+        input: NodeId,
+        update: Update<T>,
+    ) -> Result<Snapshot<Event<T>>, Refusal>
+        requires { IsInput self.old.dataflow input }
+        ensures event { IfOk result (λ event. event.value ≡ Feed client (change_to input update)) }
+        ensures fed { OnOk result (self.new ≡ accept_change (change_to input update) self.old) }
+        ensures accepted { OnOk result
+            (feed_refusal T.below self.old (change_to input update) ≡ None) }
+        ensures refused { IfErr result
+            (IsRefusalBy (feed_refusal T.below self.old (change_to input update))) }
+        ensures board { IsBoard self.old }
+        ensures unchanged { OnErr result (self.new ≡ self.old) }
+    {
+        let taken = self.accepted[input.number()];
+        if let Some(refusal) = self
+            .inputs
+            .feed_refusal(self.plan.plan(), taken, input, &update)
+        {
+            return Err(refusal);
+        }
+        let (update, event) = remembered_feed(client, input, update);
+        self.send_change(input, update)?;
+        self.accepted[input.number()] = taken + 1;
+        Ok(event)
+    }
+
+    // The change waits at its input, and moves there.
+    fn send_change(&mut self, input: NodeId, update: Update<T>) -> Result<(), Refusal>
+        ensures sent { OnOk result (self.new ≡ put_change (change_to input update) self.old) }
+        ensures refused { IfErr result (λ refusal. refusal ≡ OutOfMemory) }
+        ensures unchanged { OnErr result (self.new ≡ self.old) }
+    {
+        let worker = row::route(update.row.columns(), self.workers);
+        let site = Site {
+            node: input,
+            port: 0,
+            worker,
+        };
+        self.stations.put(&site, Parcel::Change(update))
+    }
+
+    /// A client gives up the times of an input that are not beyond a frontier: no change may be fed there any more. With no
+    /// time the input is closed.
+    ///
+    /// Refused with `NotForward` where one of the times is not beyond the old frontier, and never else: it takes no memory.
+    /// After a refusal the event is a look, and nothing else changed.
+    ///
+    /// Cost: the product of the times and the elements of the input's old frontier.
+    pub fn advance(&mut self, client: usize, input: NodeId, times: Times<T>) -> Result<(), Refusal>
+        requires client { self.old.dataflow.workers ≤ client }
+        requires input { IsInput self.old.dataflow input }
+        ensures advanced { OnOk result (self.new ≡ after_advance client input times self.old) }
+        ensures accepted { OnOk result (advance_refusal T.below self.old input times ≡ None) }
+        ensures refused { IfErr result (λ refusal.
+            advance_refusal T.below self.old input times ≡ Some refusal) }
+        ensures unchanged { OnErr result (self.new ≡ after_look client self.old) }
+        ensures stands { (h : List (Event T)) → Stands T.below T.least self.old h
+            → Stands T.below T.least self.new (self.new.last ∷ h) }
+    {
+        self.try_advance(client, input, times)
+    }
+
+    // Changes the board as `advance` says. `advance` adds what that means for histories.
+    fn try_advance(&mut self, client: usize, input: NodeId, times: Times<T>) -> Result<(), Refusal>
+        requires { input < length self.old.dataflow.nodes }
+        ensures advanced { OnOk result (self.new ≡ after_advance client input times self.old) }
+        ensures accepted { OnOk result (advance_refusal T.below self.old input times ≡ None) }
+        ensures refused { IfErr result (λ refusal.
+            advance_refusal T.below self.old input times ≡ Some refusal) }
+        ensures board { IsBoard self.old }
+        ensures unchanged { OnErr result (self.new ≡ after_look client self.old) }
+    {
+        let (times, event) = remembered_advance(client, input, times);
+        match self.inputs.advance(input, times) {
+            Ok(()) => {
+                self.note(event);
+                Ok(())
+            }
+            Err(refusal) => {
+                self.look(client);
+                Err(refusal)
+            }
+        }
+    }
+
+    /// A client closes an input: no change may be fed there any more. This is never refused, and takes no memory.
+    pub fn close(&mut self, client: usize, input: NodeId)
+        requires client { self.old.dataflow.workers ≤ client }
+        requires input { IsInput self.old.dataflow input }
+        ensures closed { self.new ≡ after_advance client input [] self.old }
+        ensures stands { (h : List (Event T)) → Stands T.below T.least self.old h
+            → Stands T.below T.least self.new (self.new.last ∷ h) }
+    {
+        self.try_close(client, input);
+    }
+
+    // Changes the board as `close` says. `close` adds what that means for histories.
+    fn try_close(&mut self, client: usize, input: NodeId)
+        requires { input < length self.old.dataflow.nodes }
+        ensures closed { self.new ≡ after_advance client input [] self.old }
+        ensures board { IsBoard self.old }
+    {
+        let none = Vec::new(*self.hand.allocator()).into();
+        let (none, event) = remembered_advance(client, input, none);
+        self.inputs.close(input);
+        self.note(event);
+    }
+}

@@ -1,0 +1,140 @@
+//! What a worker gave, cut into bundles along an edge: one for each worker that gets something. Into an arrange node an
+//! update goes to the worker of its key; along every other edge it stays on its worker.
+//!
+//! A bundle is never empty: so each bundle that waits is something to do, and no more is sent than there is. The clauses
+//! say which bundles there are, in the order in which they are made. A giver needs of them only that each place gets
+//! exactly its share.
+ghost use Rattle.std.specs.Prelude.{◌≡◌, ◌<◌, ◌≤◌, ◌++◌, IfErr, IfOk, OnOk, get_or, length, replicate, take, ℕ, []};
+ghost use Rattle.update.specs.declared.refusal.Refusal.TheVariants.{OutOfMemory};
+ghost use Rattle.machine.specs.Histories.States.{place};
+ghost use Rattle.machine.specs.Histories.Cuts.{part_by_key, bundled, bundles_along};
+
+use crate::board::workers::{copied, stamp_of};
+use crate::histories::event::{Bundle, Emission, Site};
+use lattice::Minimum;
+use plan::Edge;
+use row::Row;
+use std::alloc::Global;
+use update::{Refusal, Update, Updates};
+
+// The bundle for the worker that gave, behind.
+pub(crate) fn push_for_giver<T: Minimum>(
+    sent: &mut Vec<Bundle<T>>,
+    edge: &Edge,
+    emission: &Emission<T>,
+) -> Result<(), Refusal>
+    ensures more { OnOk result (sent.new.items ≡ sent.old.items
+        ++ bundled T.below (place edge.now.reader edge.now.port emission.now.worker)
+        emission.now.updates) }
+    ensures refused { IfErr result (λ refusal. refusal ≡ OutOfMemory) }
+{
+    let updates = copied(*sent.allocator(), emission.updates.as_slice())?;
+    push_bundle(sent, place_at(edge, emission.worker), updates.into())
+}
+
+// The bundles for the workers that get something by their keys, of so many columns, behind.
+pub(crate) fn push_for_workers<T: Minimum>(
+    sent: &mut Vec<Bundle<T>>,
+    edge: &Edge,
+    columns: usize,
+    workers: usize,
+    emission: &Emission<T>,
+) -> Result<(), Refusal>
+    requires { 1 ≤ workers }
+    ensures more { OnOk result (sent.new.items ≡ sent.old.items
+        ++ bundles_along T.below edge.now workers
+        (part_by_key columns workers emission.now.updates)) }
+    ensures refused { IfErr result (λ refusal. refusal ≡ OutOfMemory) }
+{
+    let alloc = *sent.allocator();
+    let parts = parts_by_key(alloc, emission.updates.as_slice(), columns, workers)?;
+    push_bundles(sent, edge, parts)
+}
+
+// Copies of the updates, by worker: each goes to the worker of its key, of so many columns.
+fn parts_by_key<T: Minimum>(
+    alloc: Global,
+    updates: &[Update<T>],
+    columns: usize,
+    workers: usize,
+) -> Result<Vec<Updates<T>>, Refusal>
+    requires { 1 ≤ workers }
+    ensures parts { IfOk result (λ parts. (k : ℕ) → k < workers
+        → get_or parts.items k [] ≡ part_by_key columns workers updates.now k) }
+    ensures workers { IfOk result (λ parts. length parts.items ≡ workers) }
+    ensures refused { IfErr result (λ refusal. refusal ≡ OutOfMemory) }
+{
+    let mut parts = no_parts(alloc, workers)?;
+    for update in updates {
+        let worker = row::route(key(&update.row, columns), workers);
+        parts[worker].push(update.copy())?;
+    }
+    Ok(parts)
+}
+
+// For each worker nothing yet.
+fn no_parts<T: Minimum>(alloc: Global, workers: usize) -> Result<Vec<Updates<T>>, Refusal>
+    ensures none { IfOk result (λ parts. parts.items ≡ replicate workers []) }
+    ensures refused { IfErr result (λ refusal. refusal ≡ OutOfMemory) }
+{
+    let mut parts = Vec::with_capacity(alloc, workers)?;
+    for _worker in 0..workers {
+        parts.push(Vec::new(alloc).into())?;
+    }
+    Ok(parts)
+}
+
+// The bundles at the end of an edge, of what each worker gets, behind.
+fn push_bundles<T: Minimum>(
+    sent: &mut Vec<Bundle<T>>,
+    edge: &Edge,
+    mut parts: Vec<Updates<T>>,
+) -> Result<(), Refusal>
+    ensures more { OnOk result (sent.new.items ≡ sent.old.items
+        ++ bundles_along T.below edge.now (length parts.items) (λ k. get_or parts.items k [])) }
+    ensures refused { IfErr result (λ refusal. refusal ≡ OutOfMemory) }
+{
+    for worker in 0..parts.len() {
+        push_bundle(sent, place_at(edge, worker), parts[worker].take())?;
+    }
+    Ok(())
+}
+
+// A bundle of these updates, behind, if there are any.
+fn push_bundle<T: Minimum>(
+    sent: &mut Vec<Bundle<T>>,
+    place: Site,
+    updates: Updates<T>,
+) -> Result<(), Refusal>
+    ensures more { OnOk result (sent.new.items ≡ sent.old.items ++ bundled T.below place updates) }
+    ensures refused { IfErr result (λ refusal. refusal ≡ OutOfMemory) }
+{
+    if updates.len() > 0 {
+        let stamp = stamp_of(*sent.allocator(), updates.as_slice())?;
+        sent.push(Bundle {
+            place,
+            updates,
+            stamp: stamp.into(),
+        })?;
+    }
+    Ok(())
+}
+
+// Where an edge ends, on a worker.
+fn place_at(edge: &Edge, worker: usize) -> Site
+    ensures { result ≡ place edge.now.reader edge.now.port worker }
+{
+    Site {
+        node: edge.reader,
+        port: edge.port,
+        worker,
+    }
+}
+
+// The first columns of a row, so many as it has of them.
+fn key(row: &Row, columns: usize) -> &[i64]
+    ensures key { result.now ≡ take columns row.now }
+    ensures few { length result.now ≤ 8 }
+{
+    row.key(columns.min(row.width()))
+}

@@ -1,0 +1,171 @@
+//! What a worker computed is given: it goes on to the next nodes, and what a view gets is captured.
+ghost use Rattle.std.specs.Prelude.{◌≡◌, ◌<◌, List, ◌∷◌, None, if◌then◌else◌, IfErr, OnErr, OnOk, length};
+ghost use Rattle.machine.specs.declared.histories.event.Event.{Event};
+ghost use Rattle.machine.specs.Boards.Stations.{lots, HasRoomFor};
+ghost use Rattle.machine.specs.Boards.{BoardState, IsBoard, IsGiveOn, Stands, after_look, give_output, after_give, capture_at};
+
+use crate::board::Board;
+use crate::board::stations::Stations;
+use crate::board::view::View;
+use crate::histories::event::{Bundle, Bundles, Emission, remembered_give};
+use lattice::Minimum;
+use plan::NodeId;
+use std::alloc::Global;
+use update::{Refusal, Times};
+
+/// What could not be given for want of memory: all that was to be.
+#[derive(Drop)]
+pub struct Ungiven<T> {
+    /// What a worker computed.
+    pub emission: Emission<T>,
+    /// The times that it would then have held.
+    pub held: Times<T>,
+    /// What would have been sent.
+    pub sent: Bundles<T>,
+}
+
+impl<T: Minimum> Board<T> {
+    /// A worker gives what it computed at the node that it has in hand: the updates, the times that it holds there from
+    /// then on, and the bundles that are sent. It then has nothing in hand. What is given at a view is captured.
+    ///
+    /// The board stands for that event if it may happen: if all that is given, held and sent is beyond the times that the
+    /// worker held, the node law and the load rule hold after it, and each place is sent exactly its share. The board does not test that, since
+    /// nothing on it tells what the worker received.
+    ///
+    /// Refused only for want of memory; then all comes back, the event is a look, and nothing else changed.
+    ///
+    /// Cost: linear in the bundles that are sent; what is given, held and sent moves.
+    pub fn give(
+        &mut self,
+        emission: Emission<T>,
+        held: Times<T>,
+        sent: Bundles<T>,
+    ) -> Result<(), Ungiven<T>>
+        requires worker { emission.worker < self.old.dataflow.workers }
+        requires within { emission.node < length self.old.dataflow.nodes }
+        ensures given { OnOk result (self.new ≡ after_give emission held sent self.old) }
+        ensures returned { IfErr result (λ r.
+            r ≡ record { emission = emission; held = held; sent = sent }) }
+        ensures unchanged { OnErr result (self.new ≡ after_look emission.worker self.old) }
+        ensures stands { (h : List (Event T)) → Stands T.below T.least self.old h
+            → IsGiveOn T.below T.least self.old h emission held sent
+            → Stands T.below T.least self.new (self.new.last ∷ h) }
+    {
+        self.give_or_look(emission, held, sent)
+    }
+
+    // Changes the board as `give` says. `give` adds what that means for histories.
+    fn give_or_look(
+        &mut self,
+        emission: Emission<T>,
+        held: Times<T>,
+        sent: Bundles<T>,
+    ) -> Result<(), Ungiven<T>>
+        requires worker { emission.worker < self.old.dataflow.workers }
+        requires within { emission.node < length self.old.dataflow.nodes }
+        ensures given { OnOk result (self.new ≡ after_give emission held sent self.old) }
+        ensures returned { IfErr result (λ r.
+            r ≡ record { emission = emission; held = held; sent = sent }) }
+        ensures unchanged { OnErr result (self.new ≡ after_look emission.worker self.old) }
+        ensures board { OnOk result (IsBoard self.old) }
+    {
+        let worker = emission.worker;
+        let (emission, held, sent, event) = remembered_give(emission, held, sent);
+        match self.try_give(emission, held, sent) {
+            Ok(()) => {
+                self.note(event);
+                Ok(())
+            }
+            Err(ungiven) => {
+                self.look(worker);
+                Err(ungiven)
+            }
+        }
+    }
+
+    // Does all that `give` does but note the event. What is given moves to where it goes.
+    fn try_give(
+        &mut self,
+        mut emission: Emission<T>,
+        held: Times<T>,
+        sent: Bundles<T>,
+    ) -> Result<(), Ungiven<T>>
+        requires worker { emission.worker < self.old.dataflow.workers }
+        requires within { emission.node < length self.old.dataflow.nodes }
+        ensures given { OnOk result (self.new ≡ give_output emission held sent self.old) }
+        ensures returned { IfErr result (λ r.
+            r ≡ record { emission = emission; held = held; sent = sent }) }
+        ensures unchanged { OnErr result (self.new ≡ self.old) }
+        ensures board { IsBoard self.old }
+    {
+        let is_view = self.plan.node(emission.node).is_output();
+        match prepare(
+            &mut self.stations,
+            &mut self.views,
+            is_view,
+            &mut emission,
+            &sent.items,
+        ) {
+            Ok(()) => {
+                self.stations.put_all(sent.items);
+                self.stations.hold(emission.node, emission.worker, held);
+                self.hand[emission.worker] = None;
+                Ok(())
+            }
+            Err(_refused) => {
+                self.stations.release(&sent.items);
+                Err(Ungiven {
+                    emission,
+                    held,
+                    sent,
+                })
+            }
+        }
+    }
+}
+
+// All of a give that may be refused: there is room for what is sent, and what a view gets is captured.
+fn prepare<T: Minimum>(
+    stations: &mut Stations<T>,
+    views: &mut Vec<View<T>>,
+    is_view: bool,
+    emission: &mut Emission<T>,
+    sent: &[Bundle<T>],
+) -> Result<(), Refusal>
+    requires { emission.old.node < length views.old.items }
+    ensures stations { lots stations.new ≡ lots stations.old }
+    ensures room { OnOk result (HasRoomFor sent.now stations.new) }
+    ensures captured { OnOk result (views.new.items ≡ (if is_view
+        then capture_at emission.old.node emission.old.updates views.old.items
+        else views.old.items)) }
+    ensures len { length views.new.items ≡ length views.old.items }
+    ensures node { emission.new.node ≡ emission.old.node }
+    ensures worker { emission.new.worker ≡ emission.old.worker }
+    ensures unchanged { OnErr result (views.new.items ≡ views.old.items) }
+    ensures kept { OnErr result (emission.new ≡ emission.old) }
+{
+    stations.reserve(sent)?;
+    capture(views, is_view, emission)
+}
+
+// What a node gave is captured where the node is a view.
+fn capture<T: Minimum>(
+    views: &mut Vec<View<T>>,
+    is_view: bool,
+    emission: &mut Emission<T>,
+) -> Result<(), Refusal>
+    requires { emission.old.node < length views.old.items }
+    ensures captured { OnOk result (views.new.items ≡ (if is_view
+        then capture_at emission.old.node emission.old.updates views.old.items
+        else views.old.items)) }
+    ensures len { length views.new.items ≡ length views.old.items }
+    ensures node { emission.new.node ≡ emission.old.node }
+    ensures worker { emission.new.worker ≡ emission.old.worker }
+    ensures unchanged { OnErr result (views.new.items ≡ views.old.items) }
+    ensures kept { OnErr result (emission.new ≡ emission.old) }
+{
+    if !is_view {
+        return Ok(());
+    }
+    views[emission.node.number()].append(&mut emission.updates)
+}

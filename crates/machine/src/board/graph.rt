@@ -1,0 +1,167 @@
+//! A plan and its ancestors. Each question of a frontier asks of every node whether it is above another one, and a plan
+//! would be gone over for each answer. So the ancestors are found once, and an answer is two steps into a table.
+ghost use Rattle.std.specs.Prelude.{◌≡◌, ◌<◌, ◌≤◌, IfErr, IfOk, false, get_or, length, map};
+ghost use Rattle.std.specs.List.{list_any};
+ghost use Rattle.update.specs.declared.refusal.Refusal.TheVariants.{OutOfMemory};
+ghost use Rattle.plan.specs.Ancestors.{reaches, numbers_below};
+ghost use Rattle.plan.specs.Nodes.{node_at, sources};
+ghost use Rattle.plan.specs.Rules.{IsPlan};
+ghost use Rattle.machine.specs.Boards.Graphs.{all_ancestors, ancestors_of, table_reaches, table_reaches_some};
+
+use plan::{Node, NodeId, Plan};
+use std::alloc::Global;
+use std::marker::Model;
+use update::Refusal;
+
+// By node, whether it is a certain node or above it. A contract sees the list of these marks.
+#[derive(Drop)]
+struct Ancestors {
+    marks: Vec<bool>,
+}
+
+impl Model for Ancestors {
+    ghost use Rattle.std.specs.Prelude.{Bool, List};
+
+    ghost Value = { List Bool };
+
+    ghost view = { λ a. a.marks.items };
+}
+
+impl Ancestors {
+    // Whether a node is marked. A number that is no node's is not.
+    fn has(&self, node: NodeId) -> bool
+        ensures { result ≡ get_or self.now node false }
+    {
+        match self.marks.get(node.number()) {
+            Some(mark) => *mark,
+            None => false,
+        }
+    }
+}
+
+/// A plan, and which of its nodes are above which, found once. A contract sees the plan's nodes.
+#[derive(Drop)]
+pub(crate) struct Graph {
+    plan: Plan,
+    // By node, its ancestors and the node itself.
+    above: Vec<Ancestors>,
+}
+
+impl Model for Graph {
+    ghost use Rattle.std.specs.Prelude.{List};
+    ghost use Rattle.plan.specs.declared.node.Node.{Node};
+    ghost use Rattle.machine.specs.Boards.Graphs.{IsGraph};
+
+    ghost Value = { List Node };
+
+    ghost view = { λ g. g.plan };
+
+    ghost invariant = { λ g. IsGraph g.plan g.above.items };
+}
+
+impl Graph {
+    /// The graph of a plan. Refused only with `OutOfMemory`.
+    ///
+    /// Cost: the square of the nodes, of which a plan has 256 at most.
+    pub(crate) fn of(alloc: Global, plan: Plan) -> Result<Graph, Refusal>
+        ensures of { IfOk result (λ graph. graph ≡ plan) }
+        ensures refused { IfErr result (λ refusal. refusal ≡ OutOfMemory) }
+    {
+        let above = all_ancestors(alloc, &plan)?;
+        Ok(Graph { plan, above })
+    }
+
+    /// The plan. Takes no memory.
+    pub(crate) fn plan(&self) -> &Plan
+        ensures { result.now ≡ self.now }
+    {
+        &self.plan
+    }
+
+    /// How many nodes there are: 256 at most. Takes no memory.
+    pub(crate) fn len(&self) -> usize
+        ensures len { result ≡ length self.now }
+        ensures few { length self.now ≤ 256 }
+        ensures plan { IsPlan self.now }
+    {
+        self.plan.len()
+    }
+
+    /// The node of a number. Takes no memory, and constant time.
+    pub(crate) fn node(&self, id: NodeId) -> &Node
+        requires { id < length self.now }
+        ensures { result.now ≡ node_at self.now id }
+    {
+        self.plan.node(id)
+    }
+
+    /// Whether the one node is the other or an ancestor of it. A number that is no node's is above none. Takes no memory, and
+    /// constant time.
+    pub(crate) fn reaches(&self, above: NodeId, node: NodeId) -> bool
+        requires { node < length self.now }
+        ensures { result ≡ reaches self.now above node }
+    {
+        tells_above(&self.above, above, node)
+    }
+}
+
+// By node, its ancestors. Sources have smaller numbers, so those of a node are found from those before it.
+fn all_ancestors(alloc: Global, plan: &Plan) -> Result<Vec<Ancestors>, Refusal>
+    ensures above { IfOk result (λ above. above.items ≡ all_ancestors plan.now) }
+    ensures plan { IsPlan plan.now }
+    ensures refused { IfErr result (λ refusal. refusal ≡ OutOfMemory) }
+{
+    let mut above = Vec::new(alloc);
+    for n in 0..plan.len() {
+        above.push(ancestors_of(alloc, plan, &above, NodeId::new(n))?)?;
+    }
+    Ok(above)
+}
+
+// The ancestors of a node, found from those of the nodes before it.
+fn ancestors_of(
+    alloc: Global,
+    plan: &Plan,
+    before: &[Ancestors],
+    node: NodeId,
+) -> Result<Ancestors, Refusal>
+    requires node { node < length plan.now }
+    requires before { before.now ≡ map (ancestors_of plan.now) (numbers_below node) }
+    ensures marks { IfOk result (λ ancestors. ancestors ≡ ancestors_of plan.now node) }
+    ensures refused { IfErr result (λ refusal. refusal ≡ OutOfMemory) }
+{
+    let mut marks = Vec::new(alloc);
+    for n in 0..plan.len() {
+        let above = NodeId::new(n);
+        marks.push((above == node) | reaches_sources(before, above, plan.node(node)))?;
+    }
+    Ok(Ancestors { marks })
+}
+
+// Whether some source of the node has the other node marked.
+fn reaches_sources(before: &[Ancestors], above: NodeId, node: &Node) -> bool
+    ensures { result ≡ list_any (table_reaches before.now above) (sources node.now) }
+{
+    tells_above_some(before, above, node.source(0))
+        || tells_above_some(before, above, node.source(1))
+}
+
+// Whether there is such a source, and it has the node marked.
+fn tells_above_some(before: &[Ancestors], above: NodeId, source: Option<NodeId>) -> bool
+    ensures { result ≡ table_reaches_some before.now above source }
+{
+    match source {
+        Some(source) => tells_above(before, above, source),
+        None => false,
+    }
+}
+
+// Whether a node's ancestors are in the table, and the other node is marked there.
+fn tells_above(table: &[Ancestors], above: NodeId, node: NodeId) -> bool
+    ensures { result ≡ table_reaches table.now above node }
+{
+    match table.get(node.number()) {
+        Some(ancestors) => ancestors.has(above),
+        None => false,
+    }
+}

@@ -1,0 +1,326 @@
+//! What a client reads on a board: a view's frontier is found in `fronts`; here are its rows at a time, its changes, and
+//! whether the board is quiet. Each is a function of what lies on the board at one moment, so that rows and frontier are of
+//! one history; and each says what it is of whatever history that is.
+ghost use Rattle.std.specs.Prelude.{◌≡◌, ◌<◌, ◌↔◌, ◌&&◌, None, not, List, [], IfErr, IfOk, OnOk, IsTrue, length};
+ghost use Rattle.std.specs.List.{filter, list_all};
+ghost use Rattle.lattice.specs.Frontiers.{is_beyond};
+ghost use Rattle.update.specs.Bags.{Alike, IsBag};
+ghost use Rattle.update.specs.Updates.{as_of, IsConsolidated, HasLargeTotal};
+ghost use Rattle.update.specs.declared.refusal.Refusal.TheVariants.{OutOfMemory, Overflow};
+ghost use Rattle.plan.specs.Changes.{has_passed, AreDifferences};
+ghost use Rattle.plan.specs.Nodes.{is_output};
+ghost use Rattle.machine.specs.declared.histories.event.Event.{Event};
+ghost use Rattle.machine.specs.Histories.Dataflows.{IsDataflow, node_of};
+ghost use Rattle.machine.specs.Histories.Outstanding.{with_times};
+ghost use Rattle.machine.specs.Boards.Views.{IsSumRefusal};
+ghost use Rattle.update.specs.Refusals.{IsMemoryOrOverflow};
+ghost use Rattle.machine.specs.Boards.{plan_on, frontier_on, changes_on, query_on, IsQuietOn, Stands, IsBoard};
+ghost use Rattle.machine.specs.Histories.Readings.{is_from_start};
+ghost use Rattle.plan.specs.Ancestors.{numbers_below};
+ghost use Rattle.machine.specs.Boards.Loads.{lot_of};
+ghost use Rattle.machine.specs.Boards.Reads.{front, input_front, captured_of, passed_captured, since_of, hands_are_free, all_wait, is_quiet_board, read_refusal_on, changes_refusal_on, IsReadRefusal, IsChangesRefusal};
+
+use crate::board::Board;
+use crate::board::workers::insert;
+use antichain::is_beyond;
+use lattice::Minimum;
+use plan::NodeId;
+use std::alloc::Global;
+use update::{Bag, Refusal, Update, consolidate};
+
+// Whether nobody has a piece in hand.
+fn are_free(hand: &[Option<NodeId>]) -> bool
+    ensures { result ≡ hands_are_free hand.now }
+{
+    for piece in hand {
+        if piece.is_some() {
+            return false;
+        }
+    }
+    true
+}
+
+// Whether the least time is beyond a frontier.
+fn is_from_start<T: Minimum>(times: &[T]) -> bool
+    ensures { result ≡ is_from_start T.below T.least times.now }
+{
+    is_beyond(times, &T::minimum())
+}
+
+// Copies of the updates that are at or after none of the times.
+fn passed_by<T: Minimum>(
+    alloc: Global,
+    updates: &[Update<T>],
+    times: &[T],
+) -> Result<Vec<Update<T>>, Refusal>
+    ensures passed { IfOk result (λ passed. passed.items
+        ≡ filter (λ u. not (is_beyond T.below times.now u.time)) updates.now) }
+    ensures refused { IfErr result (λ refusal. refusal ≡ OutOfMemory) }
+{
+    let mut passed = Vec::new(alloc);
+    for update in updates {
+        if !is_beyond(times, &update.time) {
+            passed.push(update.copy())?;
+        }
+    }
+    Ok(passed)
+}
+
+// The least of the times, each once.
+fn least_times<T: Minimum>(alloc: Global, times: &[T]) -> Result<Vec<T>, Refusal>
+    ensures least { IfOk result (λ least. least.items ≡ with_times T.below [] times.now) }
+    ensures refused { IfErr result (λ refusal. refusal ≡ OutOfMemory) }
+{
+    let mut least = Vec::new(alloc);
+    for t in times {
+        insert(&mut least, *t)?;
+    }
+    Ok(least)
+}
+
+impl<T: Minimum> Board<T> {
+    /// The frontier beyond which a view may be read, as its elements. Takes no memory.
+    pub fn since(&self, view: NodeId) -> &[T]
+        requires { view < length self.now.dataflow.nodes }
+        ensures { result.now ≡ since_of self.now view }
+    {
+        self.views[view.number()].since()
+    }
+
+    // What a view captured.
+    fn captured(&self, view: NodeId) -> &[Update<T>]
+        requires { view < length self.now.dataflow.nodes }
+        ensures { result.now ≡ captured_of self.now view }
+    {
+        self.views[view.number()].captured()
+    }
+
+    /// A view's rows at a time: the query, from scratch, on the changes fed up to that time.
+    ///
+    /// The refusals, in the order in which they are tested:
+    ///
+    /// | Refusal | Where |
+    /// |---|---|
+    /// | `NotPassed` | the view's frontier has an element at or before the time |
+    /// | `GivenUp` | the time is not beyond the view's since |
+    /// | `OutOfMemory` | an allocation was refused |
+    /// | `Overflow` | a row counts more often than a 64-bit number can say |
+    ///
+    /// Cost: [`Board::has_passed`], and linear in the rows that count at the time. Besides, if the last read of the view was
+    /// at a time at or before this one, linear in what was captured since and in what that read knew and left out; else
+    /// linear in all that the view captured. What comes in is sorted.
+    pub fn read(&mut self, view: NodeId, t: T) -> Result<Bag, Refusal>
+        requires within { view < length self.old.dataflow.nodes }
+        requires view { IsTrue (is_output (node_of self.old.dataflow view)) }
+        ensures kept { self.new ≡ self.old }
+        ensures accepted { OnOk result (read_refusal_on T.below self.old view t ≡ None) }
+        ensures refused { IfErr result (IsReadRefusal T.below self.old view t) }
+        ensures bag { IfOk result IsBag }
+        ensures sum { IfOk result (λ bag. Alike bag (as_of T.below t (captured_of self.old view))) }
+        ensures query { (h : List (Event T)) → Stands T.below T.least self.old h
+            → IfOk result (λ bag. Alike bag (query_on T.below T.least self.old h view t)) }
+    {
+        self.read_captured(view, t)
+    }
+
+    // The bag of what the view captured. `read` adds that it is the query.
+    fn read_captured(&mut self, view: NodeId, t: T) -> Result<Bag, Refusal>
+        requires within { view < length self.old.dataflow.nodes }
+        ensures kept { self.new ≡ self.old }
+        ensures accepted { OnOk result (read_refusal_on T.below self.old view t ≡ None) }
+        ensures refused { IfErr result (IsReadRefusal T.below self.old view t) }
+        ensures bag { IfOk result IsBag }
+        ensures sum { IfOk result (λ bag. Alike bag (as_of T.below t (captured_of self.old view))) }
+        ensures board { IsBoard self.old }
+    {
+        self.known();
+        match self.read_refusal(view, &t) {
+            Some(refusal) => Err(refusal),
+            None => self.captured_at(view, t),
+        }
+    }
+
+    // What a view captured, summed to a time.
+    fn captured_at(&mut self, view: NodeId, t: T) -> Result<Bag, Refusal>
+        requires within { view < length self.old.dataflow.nodes }
+        ensures kept { self.new ≡ self.old }
+        ensures refused { IfErr result (IsSumRefusal T.below (captured_of self.old view) t) }
+        ensures bag { IfOk result IsBag }
+        ensures sum { IfOk result (λ bag. Alike bag (as_of T.below t (captured_of self.old view))) }
+    {
+        let alloc = *self.hand.allocator();
+        self.views[view.number()].sum_at(alloc, t)
+    }
+
+    // What refuses a read, in the order of testing.
+    fn read_refusal(&self, view: NodeId, t: &T) -> Option<Refusal>
+        requires { view < length self.now.dataflow.nodes }
+        ensures { result ≡ read_refusal_on T.below self.now view t.now }
+    {
+        if !self.is_passed(view, t) {
+            Some(Refusal::NotPassed)
+        } else if !is_beyond(self.since(view), t) {
+            Some(Refusal::GivenUp)
+        } else {
+            None
+        }
+    }
+
+    /// A view's changes: the one consolidated list of updates at times that its frontier has passed, which sums at each of
+    /// them to the query, from scratch, on the changes fed up to that time. In the order of times, then rows.
+    ///
+    /// `GivenUp` where the view's since is not the least time alone, for then the times of some changes may be lost; else
+    /// `OutOfMemory` where an allocation was refused, and `Overflow` where the total of a row at some time is no 64-bit
+    /// number.
+    ///
+    /// Cost: [`Board::frontier`], one pass over what the view captured, and a sort of what is passed.
+    pub fn changes(&mut self, view: NodeId) -> Result<Vec<Update<T>>, Refusal>
+        requires within { view < length self.old.dataflow.nodes }
+        requires view { IsTrue (is_output (node_of self.old.dataflow view)) }
+        ensures kept { self.new ≡ self.old }
+        ensures accepted { OnOk result (changes_refusal_on T.below T.least self.old view ≡ None) }
+        ensures refused { IfErr result (IsChangesRefusal T.below T.least self.old view) }
+        ensures differences { (h : List (Event T)) → Stands T.below T.least self.old h
+            → IfOk result (λ us. AreDifferences T.below T.cmp (plan_on self.old h).nodes
+            (changes_on T.below T.least self.old h) (frontier_on T.below T.least self.old h view)
+            view us.items) }
+    {
+        self.passed_changes(view)
+    }
+
+    // What the view captured at passed times. `changes` adds that it is the list of differences.
+    fn passed_changes(&self, view: NodeId) -> Result<Vec<Update<T>>, Refusal>
+        requires within { view < length self.now.dataflow.nodes }
+        ensures accepted { OnOk result (changes_refusal_on T.below T.least self.now view ≡ None) }
+        ensures refused { IfErr result (IsChangesRefusal T.below T.least self.now view) }
+        ensures consolidated { IfOk result (λ us. IsConsolidated T.cmp us.items) }
+        ensures passed { IfOk result (λ us. IsTrue (list_all
+            (λ u. has_passed T.below (front T.below self.now view) u.time) us.items)) }
+        ensures sums { IfOk result (λ us. (t : T)
+            → IsTrue (has_passed T.below (front T.below self.now view) t)
+            → Alike (as_of T.below t us.items) (as_of T.below t (captured_of self.now view))) }
+        ensures board { IsBoard self.now }
+    {
+        self.known();
+        match self.changes_refusal(view) {
+            Some(refusal) => Err(refusal),
+            None => self.consolidated_changes(view),
+        }
+    }
+
+    // What refuses the changes of a view.
+    fn changes_refusal(&self, view: NodeId) -> Option<Refusal>
+        requires { view < length self.now.dataflow.nodes }
+        ensures { result ≡ changes_refusal_on T.below T.least self.now view }
+    {
+        if is_from_start(self.since(view)) {
+            None
+        } else {
+            Some(Refusal::GivenUp)
+        }
+    }
+
+    // The changes of a view, where nothing refuses them.
+    fn consolidated_changes(&self, view: NodeId) -> Result<Vec<Update<T>>, Refusal>
+        requires within { view < length self.now.dataflow.nodes }
+        ensures refused { IfErr result
+            (IsMemoryOrOverflow (HasLargeTotal T.below (passed_captured T.below self.now view))) }
+        ensures consolidated { IfOk result (λ us. IsConsolidated T.cmp us.items) }
+        ensures passed { IfOk result (λ us. IsTrue (list_all
+            (λ u. has_passed T.below (front T.below self.now view) u.time) us.items)) }
+        ensures sums { IfOk result (λ us. (t : T)
+            → IsTrue (has_passed T.below (front T.below self.now view) t)
+            → Alike (as_of T.below t us.items) (as_of T.below t (captured_of self.now view))) }
+    {
+        let passed = self.passed_captured(view)?;
+        consolidate(passed)
+    }
+
+    // Copies of what a view captured at times that its frontier has passed.
+    fn passed_captured(&self, view: NodeId) -> Result<Vec<Update<T>>, Refusal>
+        requires within { view < length self.now.dataflow.nodes }
+        ensures passed { IfOk result (λ passed.
+            passed.items ≡ passed_captured T.below self.now view) }
+        ensures refused { IfErr result (λ refusal. refusal ≡ OutOfMemory) }
+    {
+        let times = self.outstanding(view)?;
+        let least = least_times(*self.hand.allocator(), times.as_slice())?;
+        self.captured_passed_by(view, least)
+    }
+
+    // Copies of what a view captured that are at or after none of the times.
+    fn captured_passed_by(&self, view: NodeId, times: Vec<T>) -> Result<Vec<Update<T>>, Refusal>
+        requires within { view < length self.now.dataflow.nodes }
+        ensures passed { IfOk result (λ passed. passed.items ≡ filter (λ u.
+            not (is_beyond T.below times.items u.time)) (captured_of self.now view)) }
+        ensures refused { IfErr result (λ refusal. refusal ≡ OutOfMemory) }
+    {
+        passed_by(
+            *self.hand.allocator(),
+            self.captured(view),
+            times.as_slice(),
+        )
+    }
+
+    /// Whether the board is quiet: nothing is in flight, nobody has a piece in hand, and each time that is held waits for
+    /// what may still come to its node. Then every frontier stands where the inputs stand. Takes no memory.
+    ///
+    /// Cost: linear in the nodes times the workers, and [`Board::input_has_passed`] for each time that is held.
+    pub fn is_quiet(&mut self) -> bool
+        ensures kept { self.new ≡ self.old }
+        ensures value { result ≡ is_quiet_board T.below self.old }
+        ensures quiet { (h : List (Event T)) → Stands T.below T.least self.old h
+            → (IsTrue result ↔ IsQuietOn T.below T.least self.old h) }
+    {
+        self.rests()
+    }
+
+    // Whether nothing on the board can go on. `is_quiet` adds what that means for histories.
+    fn rests(&self) -> bool
+        ensures value { result ≡ is_quiet_board T.below self.now }
+        ensures board { IsBoard self.now }
+    {
+        self.stations.is_empty() && are_free(&self.hand) && self.all_wait()
+    }
+
+    // Whether each time that is held waits for what may still come to its node.
+    fn all_wait(&self) -> bool
+        ensures { result ≡ all_wait T.below self.now }
+    {
+        for n in 0..self.plan.len() {
+            if !self.all_wait_at(NodeId::new(n)) {
+                return false;
+            }
+        }
+        true
+    }
+
+    // Whether each time that is held at a node does.
+    fn all_wait_at(&self, node: NodeId) -> bool
+        requires { node < length self.now.dataflow.nodes }
+        ensures { result ≡ list_all (λ k.
+            list_all (is_beyond T.below (input_front T.below self.now node))
+            (lot_of self.now.stations node k).held) (numbers_below self.now.dataflow.workers) }
+    {
+        for worker in 0..self.workers {
+            if !self.are_waiting(node, self.stations.held(node, worker)) {
+                return false;
+            }
+        }
+        true
+    }
+
+    // Whether something may still come to the node at or before each of these times.
+    fn are_waiting(&self, node: NodeId, held: &[T]) -> bool
+        requires { node < length self.now.dataflow.nodes }
+        ensures { result
+            ≡ list_all (is_beyond T.below (input_front T.below self.now node)) held.now }
+    {
+        for t in held {
+            if self.is_input_passed(node, t) {
+                return false;
+            }
+        }
+        true
+    }
+}

@@ -1,0 +1,202 @@
+//! Where what a node gave goes. It depends on the plan and the number of workers alone, so the edges from each node are
+//! found once, and a cut goes along those of one node and over nothing else of the plan. No board is needed for it.
+ghost use Rattle.std.specs.Prelude.{◌≡◌, ◌<◌, ◌≤◌, ◌++◌, ◌&&◌, List, IfErr, IfOk, OnOk, IsTrue, eqb, length, map, not};
+ghost use Rattle.std.specs.List.{list_all};
+ghost use Rattle.lattice.specs.Frontiers.{all_beyond};
+ghost use Rattle.update.specs.declared.refusal.Refusal.TheVariants.{OutOfMemory};
+ghost use Rattle.plan.specs.Edges.{edges_from, leads_from};
+ghost use Rattle.plan.specs.Nodes.{arranged_by};
+ghost use Rattle.plan.specs.Rules.{IsPlan};
+ghost use Rattle.machine.specs.declared.histories.event.Site.{Site};
+ghost use Rattle.machine.specs.Histories.States.{times, updates_at};
+ghost use Rattle.machine.specs.Histories.Shares.{share, AreShares, are_filled, are_stamped};
+ghost use Rattle.machine.specs.Histories.Cuts.{cut_along, cut};
+ghost use Rattle.machine.specs.Boards.Routings.{all_edges};
+ghost use Rattle.machine.specs.Histories.Dataflows.{IsDataflow};
+
+use crate::board::cut::{push_for_giver, push_for_workers};
+use crate::histories::event::{Bundle, Bundles, Emission};
+use lattice::Minimum;
+use plan::{Edge, NodeId, Plan};
+use std::alloc::Global;
+use std::marker::Model;
+use std::snapshot::Snapshot;
+use update::Refusal;
+
+// The edges that lead from a node. A contract sees the list of them.
+#[derive(Drop)]
+struct Edges {
+    items: Vec<Edge>,
+}
+
+impl Model for Edges {
+    ghost use Rattle.std.specs.Prelude.{List};
+    ghost use Rattle.plan.specs.declared.edges.Edge.{Edge};
+
+    ghost Value = { List Edge };
+
+    ghost view = { λ e. e.items.items };
+}
+
+impl Edges {
+    // The edges, in the order of their readers and then of their ports.
+    fn as_slice(&self) -> &[Edge]
+        ensures { result.now ≡ self.now }
+    {
+        self.items.as_slice()
+    }
+}
+
+/// Where what a node gave goes: the edges of a plan, and which nodes are arranged. A contract sees the plan and the number
+/// of workers.
+#[derive(Drop)]
+pub struct Routing {
+    // For clauses alone: it has no bytes.
+    plan: Snapshot<Plan>,
+    workers: usize,
+    // By node, the edges that lead from it.
+    edges: Vec<Edges>,
+    // By node, by how many columns it is arranged.
+    arranged: Vec<Option<usize>>,
+}
+
+impl Model for Routing {
+    ghost use Rattle.machine.specs.Histories.Dataflows.{Dataflow};
+    ghost use Rattle.machine.specs.Boards.Routings.{IsRouting};
+
+    ghost Value = { Dataflow };
+
+    ghost view = { λ r. record { nodes = r.plan.value; workers = r.workers } };
+
+    ghost invariant = { λ r.
+        IsRouting (record { nodes = r.plan.value; workers = r.workers })
+        r.edges.items r.arranged.items };
+}
+
+impl Routing {
+    /// The routing of a plan that these workers run. Refused only with `OutOfMemory`.
+    ///
+    /// Cost: the square of the nodes, of which a plan has 256 at most.
+    pub fn of(alloc: Global, plan: &Plan, workers: usize) -> Result<Routing, Refusal>
+        requires { 1 ≤ workers }
+        ensures routing { IfOk result (λ routing.
+            routing ≡ record { nodes = plan.now; workers = workers }) }
+        ensures refused { IfErr result (λ refusal. refusal ≡ OutOfMemory) }
+    {
+        let edges = edges_of(alloc, plan)?;
+        let arranged = arranged_of(alloc, plan)?;
+        Ok(Routing {
+            plan: Snapshot::of(plan),
+            workers,
+            edges,
+            arranged,
+        })
+    }
+
+    /// What a worker gave, cut into bundles: along each edge from the node, and there for each worker, its share. Each place
+    /// gets it in one bundle, and no bundle is empty. A bundle's stamp is the frontier of its times. So if each time of
+    /// the emission is beyond the times that the giver held, so is each stamp.
+    ///
+    /// Refused only with `OutOfMemory`.
+    ///
+    /// Cost: for each edge from the node linear in what was given, and where it leads into an arrange node in the workers
+    /// too; and for each bundle the product of its updates and the elements of its stamp.
+    pub fn cut<T: Minimum>(
+        &self,
+        alloc: Global,
+        emission: &Emission<T>,
+    ) -> Result<Bundles<T>, Refusal>
+        requires { emission.now.worker < self.now.workers }
+        ensures cut { IfOk result (λ sent. sent ≡ cut T.below self.now emission.now) }
+        ensures whole { IfOk result (AreShares self.now emission.now) }
+        ensures filled { IfOk result (λ sent. IsTrue (are_filled sent)) }
+        ensures stamped { IfOk result (λ sent. (held : List T)
+            → IsTrue (all_beyond T.below held (times emission.now.updates))
+            → IsTrue (are_stamped T.below held sent)) }
+        ensures refused { IfErr result (λ refusal. refusal ≡ OutOfMemory) }
+    {
+        self.known();
+        let sent = self.cut_along_edges(alloc, emission)?;
+        Ok(sent.into())
+    }
+
+    // Costs nothing; it tells the prover that the workers run a plan.
+    fn known(&self)
+        ensures { IsDataflow self.now }
+    {
+        let _ = &self.workers;
+    }
+
+    // The bundles along the edges from the node.
+    fn cut_along_edges<T: Minimum>(
+        &self,
+        alloc: Global,
+        emission: &Emission<T>,
+    ) -> Result<Vec<Bundle<T>>, Refusal>
+        requires { emission.now.worker < self.now.workers }
+        ensures cut { IfOk result (λ sent. sent.items ≡ cut T.below self.now emission.now) }
+        ensures refused { IfErr result (λ refusal. refusal ≡ OutOfMemory) }
+    {
+        let mut sent = Vec::new(alloc);
+        for edge in self.edges_from(emission.node) {
+            self.push_along(&mut sent, edge, emission)?;
+        }
+        Ok(sent)
+    }
+
+    // The bundles along an edge from the node, behind.
+    fn push_along<T: Minimum>(
+        &self,
+        sent: &mut Vec<Bundle<T>>,
+        edge: &Edge,
+        emission: &Emission<T>,
+    ) -> Result<(), Refusal>
+        requires worker { emission.now.worker < self.now.workers }
+        requires leads { IsTrue (leads_from self.now.nodes emission.now.node edge.now) }
+        ensures more { OnOk result (sent.new.items ≡ sent.old.items
+            ++ cut_along T.below self.now emission.now edge.now) }
+        ensures refused { IfErr result (λ refusal. refusal ≡ OutOfMemory) }
+    {
+        match self.arranged[edge.reader.number()] {
+            Some(columns) => push_for_workers(sent, edge, columns, self.workers, emission),
+            None => push_for_giver(sent, edge, emission),
+        }
+    }
+
+    // The edges that lead from a node. None leads from a number that the plan does not have.
+    fn edges_from(&self, node: NodeId) -> &[Edge]
+        ensures { result.now ≡ edges_from self.now.nodes node }
+    {
+        match self.edges.get(node.number()) {
+            Some(edges) => edges.as_slice(),
+            None => &[],
+        }
+    }
+}
+
+// By node, the edges that lead from it.
+fn edges_of(alloc: Global, plan: &Plan) -> Result<Vec<Edges>, Refusal>
+    ensures edges { IfOk result (λ edges. edges.items ≡ all_edges plan.now) }
+    ensures plan { IsPlan plan.now }
+    ensures refused { IfErr result (λ refusal. refusal ≡ OutOfMemory) }
+{
+    let mut edges = Vec::new(alloc);
+    for n in 0..plan.len() {
+        edges.push(Edges {
+            items: plan.edges_from(alloc, NodeId::new(n))?,
+        })?;
+    }
+    Ok(edges)
+}
+
+// By node, by how many columns it is arranged.
+fn arranged_of(alloc: Global, plan: &Plan) -> Result<Vec<Option<usize>>, Refusal>
+    ensures arranged { IfOk result (λ columns. columns.items ≡ map arranged_by plan.now) }
+    ensures refused { IfErr result (λ refusal. refusal ≡ OutOfMemory) }
+{
+    let mut columns = Vec::new(alloc);
+    for n in 0..plan.len() {
+        columns.push(plan.node(NodeId::new(n)).arranged_by())?;
+    }
+    Ok(columns)
+}

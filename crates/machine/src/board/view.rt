@@ -1,0 +1,295 @@
+//! What a board keeps of each node for those who read it: what a view captured, and the frontier beyond which it may be
+//! read.
+//!
+//! A view also remembers its last read: the time, the bag, how many captured updates it knows, and the positions of those
+//! that are not at or before the time. A read at a time at or after that one looks at those positions and at what was
+//! captured since, and adds what is now at or before its time to the bag. So one read after each change costs what the
+//! bag is long, however much was captured. A read at any other time sums anew. Each read becomes the last one.
+ghost use Rattle.std.specs.Prelude.{◌≡◌, ◌≤◌, ◌<◌, ◌++◌, List, [], IfErr, IfOk, OnErr, OnOk, IsTrue, length, drop};
+ghost use Rattle.std.specs.List.{All, filter, flat_map};
+ghost use Rattle.update.specs.Bags.{Alike, IsBag};
+ghost use Rattle.update.specs.Updates.{as_of};
+ghost use Rattle.update.specs.declared.refusal.Refusal.TheVariants.{OutOfMemory, Overflow};
+ghost use Rattle.machine.specs.Boards.Views.{update_at, is_later_at, later_below, IsReadOf, IsSumRefusal};
+
+use lattice::Minimum;
+use std::alloc::Global;
+use std::marker::Model;
+use update::{Bag, Refusal, Times, Update, Updates, sum_at};
+
+// A read: its time and its bag.
+#[derive(Drop)]
+struct LastRead<T> {
+    time: T,
+    bag: Bag,
+    // How many of the captured updates it knows: the first so many.
+    known: usize,
+    // The positions of those of them that are not at or before its time.
+    later: Vec<usize>,
+}
+
+/// What a view captured, and the frontier beyond which it may be read. Other nodes capture nothing.
+#[derive(Drop)]
+pub struct View<T: Minimum> {
+    since: Times<T>,
+    captured: Updates<T>,
+    // The last read, if there was one.
+    last: Option<LastRead<T>>,
+}
+
+impl<T: Minimum> Model for View<T> {
+    ghost use Rattle.std.specs.Prelude.{IfSome};
+    ghost use Rattle.machine.specs.Boards.Views.{ViewState, IsReadOf};
+
+    ghost Value = { ViewState T };
+
+    ghost view = { λ v. record { since = v.since; captured = v.captured } };
+
+    ghost invariant = { λ v. IfSome v.last (λ r.
+        IsReadOf T.below v.captured r.time r.bag r.known r.later.items) };
+}
+
+impl<T: Minimum> View<T> {
+    /// A view that captured nothing yet, and may be read beyond a frontier. Takes no memory.
+    pub(crate) fn new(alloc: Global, since: Times<T>) -> View<T>
+        ensures { result ≡ record { since = since; captured = [] } }
+    {
+        View {
+            since,
+            captured: Vec::new(alloc).into(),
+            last: None,
+        }
+    }
+
+    /// The frontier beyond which the view may be read, as its elements. Takes no memory.
+    pub(crate) fn since(&self) -> &[T]
+        ensures { result.now ≡ self.now.since }
+    {
+        self.since.as_slice()
+    }
+
+    /// What the view captured. Takes no memory.
+    pub(crate) fn captured(&self) -> &[Update<T>]
+        ensures { result.now ≡ self.now.captured }
+    {
+        self.captured.as_slice()
+    }
+
+    /// Captures all of these updates. Refused only with `OutOfMemory`, and then nothing changed.
+    pub(crate) fn append(&mut self, more: &mut Updates<T>) -> Result<(), Refusal>
+        ensures more { OnOk result
+            (self.new ≡ record self.old { captured = self.old.captured ++ more.old }) }
+        ensures refused { IfErr result (λ refusal. refusal ≡ OutOfMemory) }
+        ensures unchanged { OnErr result (self.new ≡ self.old) }
+        ensures kept { OnErr result (more.new ≡ more.old) }
+    {
+        self.captured.append(more)
+    }
+
+    /// What the view captured, summed to a time. `Overflow` only where a row counts more often than a 64-bit number can
+    /// say, whatever the order of the updates, and `OutOfMemory` where an allocation was refused.
+    ///
+    /// Cost: after a read at a time at or before this one, linear in the bag, in the updates which that read knew and that
+    /// are not at or before its time, and in what was captured since; and a sort of those that come in. Else linear in what
+    /// was captured, and a sort of what is at or before the time.
+    pub(crate) fn sum_at(&mut self, alloc: Global, t: T) -> Result<Bag, Refusal>
+        ensures kept { self.new ≡ self.old }
+        ensures bag { IfOk result IsBag }
+        ensures sum { IfOk result (λ bag. Alike bag (as_of T.below t self.old.captured)) }
+        ensures refused { IfErr result (IsSumRefusal T.below self.old.captured t) }
+    {
+        let read = self.read_at(alloc, t)?;
+        let bag = read.bag.clone()?;
+        self.last = Some(read);
+        Ok(bag)
+    }
+
+    // A read of all that was captured, from the last read where that is at or before the time.
+    fn read_at(&self, alloc: Global, t: T) -> Result<LastRead<T>, Refusal>
+        ensures read { IfOk result (λ r.
+            IsReadOf T.below self.now.captured r.time r.bag r.known r.later.items) }
+        ensures bag { IfOk result (λ r. IsBag r.bag) }
+        ensures sum { IfOk result (λ r. Alike r.bag (as_of T.below t self.now.captured)) }
+        ensures refused { IfErr result (IsSumRefusal T.below self.now.captured t) }
+    {
+        let captured = self.captured.as_slice();
+        match &self.last {
+            Some(last) if last.time.less_equal(&t) => read_on(alloc, captured, last, t),
+            _ => read_anew(alloc, captured, t),
+        }
+    }
+}
+
+// A read that knows nothing before.
+fn read_anew<T: Minimum>(
+    alloc: Global,
+    captured: &[Update<T>],
+    t: T,
+) -> Result<LastRead<T>, Refusal>
+    ensures read { IfOk result (λ r.
+        IsReadOf T.below captured.now r.time r.bag r.known r.later.items) }
+    ensures bag { IfOk result (λ r. IsBag r.bag) }
+    ensures sum { IfOk result (λ r. Alike r.bag (as_of T.below t captured.now)) }
+    ensures refused { IfErr result (IsSumRefusal T.below captured.now t) }
+{
+    let bag = sum_at(alloc, captured, t)?;
+    let mut later = Vec::new(alloc);
+    push_later(&mut later, captured, 0, &t)?;
+    Ok(LastRead {
+        time: t,
+        bag,
+        known: captured.len(),
+        later,
+    })
+}
+
+// A read that goes on from one at or before its time.
+fn read_on<T: Minimum>(
+    alloc: Global,
+    captured: &[Update<T>],
+    last: &LastRead<T>,
+    t: T,
+) -> Result<LastRead<T>, Refusal>
+    requires last { IsReadOf T.below captured.now
+        last.now.time last.now.bag last.now.known last.now.later.items }
+    requires onward { IsTrue (T.below last.now.time t) }
+    ensures read { IfOk result (λ r.
+        IsReadOf T.below captured.now r.time r.bag r.known r.later.items) }
+    ensures bag { IfOk result (λ r. IsBag r.bag) }
+    ensures sum { IfOk result (λ r. Alike r.bag (as_of T.below t captured.now)) }
+    ensures refused { IfErr result (IsSumRefusal T.below captured.now t) }
+{
+    let arrived = arrived_since(alloc, captured, last, &t)?;
+    let later = later_since(alloc, captured, last, &t)?;
+    let bag = last.bag.with(&arrived)?;
+    Ok(LastRead {
+        time: t,
+        bag,
+        known: captured.len(),
+        later,
+    })
+}
+
+// Copies of the updates at or before a time that the bag of an earlier read lacks.
+fn arrived_since<T: Minimum>(
+    alloc: Global,
+    captured: &[Update<T>],
+    last: &LastRead<T>,
+    t: &T,
+) -> Result<Vec<Update<T>>, Refusal>
+    requires { IsReadOf T.below captured.now
+        last.now.time last.now.bag last.now.known last.now.later.items }
+    ensures arrived { IfOk result (λ arrived. arrived.items
+        ≡ flat_map (λ k. filter (λ u. T.below u.time t.now) (update_at captured.now k))
+        last.now.later.items
+        ++ filter (λ u. T.below u.time t.now) (drop last.now.known captured.now)) }
+    ensures refused { IfErr result (λ refusal. refusal ≡ OutOfMemory) }
+{
+    let mut arrived = arrived_at(alloc, captured, &last.later, t)?;
+    push_arrived(&mut arrived, &captured[last.known..], t)?;
+    Ok(arrived)
+}
+
+// The positions of all updates that are not at or before a time, from those of an earlier read.
+fn later_since<T: Minimum>(
+    alloc: Global,
+    captured: &[Update<T>],
+    last: &LastRead<T>,
+    t: &T,
+) -> Result<Vec<usize>, Refusal>
+    requires last { IsReadOf T.below captured.now
+        last.now.time last.now.bag last.now.known last.now.later.items }
+    requires onward { IsTrue (T.below last.now.time t.now) }
+    ensures later { IfOk result (λ later. later.items
+        ≡ later_below T.below t.now captured.now (length captured.now)) }
+    ensures refused { IfErr result (λ refusal. refusal ≡ OutOfMemory) }
+{
+    let mut later = still_later(alloc, captured, &last.later, t)?;
+    push_later(&mut later, captured, last.known, t)?;
+    Ok(later)
+}
+
+// Copies of the updates at these positions that are at or before a time.
+fn arrived_at<T: Minimum>(
+    alloc: Global,
+    captured: &[Update<T>],
+    positions: &[usize],
+    t: &T,
+) -> Result<Vec<Update<T>>, Refusal>
+    requires { All (λ k. k < length captured.now) positions.now }
+    ensures arrived { IfOk result (λ arrived. arrived.items
+        ≡ flat_map (λ k. filter (λ u. T.below u.time t.now) (update_at captured.now k))
+        positions.now) }
+    ensures refused { IfErr result (λ refusal. refusal ≡ OutOfMemory) }
+{
+    let mut arrived = Vec::new(alloc);
+    for position in positions {
+        let update = &captured[*position];
+        if update.time.less_equal(t) {
+            arrived.push(update.copy())?;
+        }
+    }
+    Ok(arrived)
+}
+
+// Copies of the updates that are at or before a time, behind.
+fn push_arrived<T: Minimum>(
+    arrived: &mut Vec<Update<T>>,
+    updates: &[Update<T>],
+    t: &T,
+) -> Result<(), Refusal>
+    ensures more { OnOk result (arrived.new.items ≡ arrived.old.items
+        ++ filter (λ u. T.below u.time t.now) updates.now) }
+    ensures refused { IfErr result (λ refusal. refusal ≡ OutOfMemory) }
+{
+    for update in updates {
+        if update.time.less_equal(t) {
+            arrived.push(update.copy())?;
+        }
+    }
+    Ok(())
+}
+
+// Those of these positions at which the update is still not at or before a time.
+fn still_later<T: Minimum>(
+    alloc: Global,
+    captured: &[Update<T>],
+    positions: &[usize],
+    t: &T,
+) -> Result<Vec<usize>, Refusal>
+    requires { All (λ k. k < length captured.now) positions.now }
+    ensures later { IfOk result (λ later. later.items
+        ≡ filter (is_later_at T.below t.now captured.now) positions.now) }
+    ensures refused { IfErr result (λ refusal. refusal ≡ OutOfMemory) }
+{
+    let mut later = Vec::new(alloc);
+    for position in positions {
+        let update = &captured[*position];
+        if !update.time.less_equal(t) {
+            later.push(*position)?;
+        }
+    }
+    Ok(later)
+}
+
+// The positions from `known` on of the updates that are not at or before a time, behind those of the ones before.
+fn push_later<T: Minimum>(
+    later: &mut Vec<usize>,
+    captured: &[Update<T>],
+    known: usize,
+    t: &T,
+) -> Result<(), Refusal>
+    requires within { known ≤ length captured.now }
+    requires before { later.old.items ≡ later_below T.below t.now captured.now known }
+    ensures later { OnOk result (later.new.items
+        ≡ later_below T.below t.now captured.now (length captured.now)) }
+    ensures refused { IfErr result (λ refusal. refusal ≡ OutOfMemory) }
+{
+    for position in known..captured.len() {
+        let update = &captured[position];
+        if !update.time.less_equal(t) {
+            later.push(position)?;
+        }
+    }
+    Ok(())
+}

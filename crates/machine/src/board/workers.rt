@@ -1,0 +1,159 @@
+//! The events of workers: a worker with nothing in hand takes a bundle that waits for it, or turns to times that it holds.
+ghost use Rattle.std.specs.Prelude.{◌≡◌, ◌<◌, List, ◌∷◌, Some, None, IfErr, IfOk, OnErr, OnOk, IsTrue, length, get_or, slice_get, set, not};
+ghost use Rattle.std.specs.List.{filter};
+ghost use Rattle.update.specs.declared.refusal.Refusal.TheVariants.{OutOfMemory};
+ghost use Rattle.plan.specs.Nodes.{arranged_by};
+ghost use Rattle.machine.specs.declared.histories.event.Bundle.{Bundle};
+ghost use Rattle.machine.specs.declared.histories.event.Event.{Event};
+ghost use Rattle.machine.specs.declared.histories.event.Event.TheVariants.{Take};
+ghost use Rattle.machine.specs.Histories.Dataflows.{node_of};
+ghost use Rattle.machine.specs.Histories.States.{times};
+ghost use Rattle.machine.specs.Histories.Outstanding.{stamp, with_time};
+ghost use Rattle.machine.specs.Boards.Loads.{queue_of};
+ghost use Rattle.machine.specs.Boards.{BoardState, IsBoard, Stands, after_look, after_take, after_turn};
+ghost use Rattle.machine.specs.Boards.Reads.{is_ready};
+
+use crate::board::Board;
+use crate::histories::event::{Bundle, Event, Site, remembered_take};
+use antichain::is_beyond;
+use lattice::Minimum;
+use plan::NodeId;
+use std::alloc::Global;
+use std::snapshot::Snapshot;
+use update::{Refusal, Update};
+
+// A copy of the updates.
+pub(crate) fn copied<T: Minimum>(
+    alloc: Global,
+    updates: &[Update<T>],
+) -> Result<Vec<Update<T>>, Refusal>
+    ensures copied { IfOk result (λ copy. copy.items ≡ updates.now) }
+    ensures refused { IfErr result (λ refusal. refusal ≡ OutOfMemory) }
+{
+    let mut copy = Vec::with_capacity(alloc, updates.len())?;
+    for update in updates {
+        copy.push(update.copy())?;
+    }
+    Ok(copy)
+}
+
+// The frontier of the times of updates.
+#[tactic(auto, unfolding(crate::specs::Histories::Outstanding::stamp))]
+pub(crate) fn stamp_of<T: Minimum>(alloc: Global, updates: &[Update<T>]) -> Result<Vec<T>, Refusal>
+    ensures stamp { IfOk result (λ front. front.items ≡ stamp T.below updates.now) }
+    ensures refused { IfErr result (λ refusal. refusal ≡ OutOfMemory) }
+{
+    let mut stamp = Vec::new(alloc);
+    for update in updates {
+        insert(&mut stamp, update.time)?;
+    }
+    Ok(stamp)
+}
+
+// A time comes into a frontier.
+pub(crate) fn insert<T: Minimum>(front: &mut Vec<T>, t: T) -> Result<(), Refusal>
+    ensures with { OnOk result (front.new.items ≡ with_time T.below front.old.items t) }
+    ensures refused { IfErr result (λ refusal. refusal ≡ OutOfMemory) }
+{
+    if is_beyond(front, &t) {
+        return Ok(());
+    }
+    leave(front, t);
+    front.push(t)?;
+    Ok(())
+}
+
+// What a time makes superfluous goes.
+fn leave<T: Minimum>(front: &mut Vec<T>, t: T)
+    ensures left { front.new.items ≡ filter (λ f. not (T.below t f)) front.old.items }
+{
+    front.retain(|f| !t.less_equal(f));
+}
+
+impl<T: Minimum> Board<T> {
+    /// A worker with nothing in hand takes a bundle that waits for it: of those of a place the one of this number, counted
+    /// from 0 in the order in which they were sent. Into an arrange node bundles are taken in any order, elsewhere in their
+    /// own. The worker then has the node in hand, and holds the least of the bundle's times there, so that no frontier
+    /// passes what it has still to give.
+    ///
+    /// Refused only with `OutOfMemory`; then the event is a look, and nothing else changed.
+    ///
+    /// Cost: linear in the stamp, and in the number or in what waits behind it where that is less.
+    pub fn take(&mut self, place: Site, number: usize) -> Result<Bundle<T>, Refusal>
+        requires worker { place.worker < self.old.dataflow.workers }
+        requires free { get_or self.old.hand place.worker None ≡ None }
+        requires waits { number < length (queue_of self.old.stations place) }
+        requires turn { arranged_by (node_of self.old.dataflow place.node) ≡ None → number ≡ 0 }
+        ensures waited { IfOk result (λ bundle.
+            slice_get (queue_of self.old.stations place) number ≡ Some bundle) }
+        ensures place { IfOk result (λ bundle. bundle.place ≡ place) }
+        ensures taken { IfOk result (λ bundle. self.new ≡ after_take number bundle self.old) }
+        ensures refused { IfErr result (λ refusal. refusal ≡ OutOfMemory) }
+        ensures unchanged { OnErr result (self.new ≡ after_look place.worker self.old) }
+        ensures stands { (h : List (Event T)) → Stands T.below T.least self.old h
+            → Stands T.below T.least self.new (self.new.last ∷ h) }
+    {
+        self.try_take(place, number)
+    }
+
+    // Changes the board as `take` says. `take` adds what that means for histories.
+    fn try_take(&mut self, place: Site, number: usize) -> Result<Bundle<T>, Refusal>
+        requires worker { place.worker < self.old.dataflow.workers }
+        requires waits { number < length (queue_of self.old.stations place) }
+        ensures waited { IfOk result (λ bundle.
+            slice_get (queue_of self.old.stations place) number ≡ Some bundle) }
+        ensures place { IfOk result (λ bundle. bundle.place ≡ place) }
+        ensures taken { IfOk result (λ bundle. self.new ≡ after_take number bundle self.old) }
+        ensures refused { IfErr result (λ refusal. refusal ≡ OutOfMemory) }
+        ensures unchanged { OnErr result (self.new ≡ after_look place.worker self.old) }
+        ensures board { OnOk result (IsBoard self.old) }
+    {
+        match self.stations.take(&place, number) {
+            Ok(bundle) => Ok(self.hand_over(number, bundle)),
+            Err(refusal) => {
+                self.look(place.worker);
+                Err(refusal)
+            }
+        }
+    }
+
+    // A bundle that has left its queue is in the worker's hand.
+    fn hand_over(&mut self, number: usize, bundle: Bundle<T>) -> Bundle<T>
+        requires { bundle.place.worker < self.old.dataflow.workers }
+        ensures same { result ≡ bundle }
+        ensures after { self.new ≡ record self.old {
+          hand = set self.old.hand bundle.place.worker (Some bundle.place.node);
+          last = Take number bundle;
+        } }
+    {
+        let site = bundle.place;
+        let (bundle, event) = remembered_take(number, bundle);
+        self.hand[site.worker] = Some(site.node);
+        self.note(event);
+        bundle
+    }
+
+    /// A worker with nothing in hand turns to the times that it holds at a node, where the node's input frontier has passed
+    /// one of them: nothing more comes there at or before it. The worker then has the node in hand. Takes no memory.
+    pub fn take_held(&mut self, worker: usize, node: NodeId)
+        requires worker { worker < self.old.dataflow.workers }
+        requires within { node < length self.old.dataflow.nodes }
+        requires free { get_or self.old.hand worker None ≡ None }
+        requires ready { IsTrue (is_ready T.below self.old worker node) }
+        ensures turned { self.new ≡ after_turn worker node self.old }
+        ensures stands { (h : List (Event T)) → Stands T.below T.least self.old h
+            → Stands T.below T.least self.new (self.new.last ∷ h) }
+    {
+        self.turn(worker, node);
+    }
+
+    // Changes the board as `take_held` says. `take_held` adds what that means for histories.
+    fn turn(&mut self, worker: usize, node: NodeId)
+        requires { worker < self.old.dataflow.workers }
+        ensures turned { self.new ≡ after_turn worker node self.old }
+        ensures board { IsBoard self.old }
+    {
+        self.hand[worker] = Some(node);
+        self.note(Snapshot::of(&Event::TakeHeld { worker, node }));
+    }
+}

@@ -1,0 +1,246 @@
+//! What may happen on a board, and the entries of the logs that it leaves. Each event names who did it and all that it
+//! did, so that a history is a list of events and nothing else.
+ghost use Rattle.std.specs.Prelude.{◌≡◌};
+ghost use Rattle.machine.specs.declared.histories.event.Event.TheVariants.{Feed, Advance, Take, Give};
+ghost use Rattle.machine.specs.Histories.Remembered.{IsFeeding, HasFed, IsAdvancing, HasAdvanced, IsTaking, HasTaken, IsGiving, HasGiven};
+
+use plan::NodeId;
+use std::snapshot::Snapshot;
+use update::{Times, Update, Updates};
+
+/// A place where bundles wait: a port of a node, on a worker.
+#[derive(Clone, Copy)]
+pub struct Site {
+    /// The node.
+    pub node: NodeId,
+    /// Which of the node's sources the updates come from; 0 at an input.
+    pub port: usize,
+    /// The worker, by its number.
+    pub worker: usize,
+}
+
+/// Updates on their way to a place, taken all at once.
+#[derive(Drop)]
+pub struct Bundle<T> {
+    /// Where they wait.
+    pub place: Site,
+    /// What they are.
+    pub updates: Updates<T>,
+    /// A frontier at or before each of their times; found once, by who sends.
+    pub stamp: Times<T>,
+}
+
+/// A change of an input's table.
+#[derive(Drop)]
+pub struct Fed<T> {
+    /// The input.
+    pub input: NodeId,
+    /// The change.
+    pub update: Update<T>,
+}
+
+/// What a worker gave at a node, in one event.
+#[derive(Drop)]
+pub struct Emission<T> {
+    /// The node.
+    pub node: NodeId,
+    /// The worker, by its number.
+    pub worker: usize,
+    /// What it gave.
+    pub updates: Updates<T>,
+}
+
+/// A time that a worker holds at a node: it may still give updates from it on.
+#[derive(Clone, Copy)]
+pub struct HeldTime<T> {
+    /// The node.
+    pub node: NodeId,
+    /// The worker, by its number.
+    pub worker: usize,
+    /// The time.
+    pub time: T,
+}
+
+/// An element of an input's frontier: changes may still be fed from it on.
+#[derive(Clone, Copy)]
+pub struct OpenTime<T> {
+    /// The input.
+    pub input: NodeId,
+    /// The time.
+    pub time: T,
+}
+
+/// Bundles that were sent together. A contract sees the list of them.
+#[derive(Drop)]
+pub struct Bundles<T> {
+    pub(crate) items: Vec<Bundle<T>>,
+}
+
+impl<T> std::marker::Model for Bundles<T> {
+    ghost use Rattle.std.specs.Prelude.{List};
+    ghost use Rattle.machine.specs.declared.histories.event.Bundle.{Bundle};
+
+    ghost Value = { List (Bundle T) };
+
+    ghost view = { λ u. u.items.items };
+}
+
+/// Takes no memory.
+impl<T> From<Vec<Bundle<T>>> for Bundles<T> {
+    ghost use Rattle.std.specs.Prelude.{◌≡◌};
+
+    ghost from_gives = { λ v r. r ≡ v.items };
+
+    fn from(items: Vec<Bundle<T>>) -> Bundles<T> {
+        Bundles { items }
+    }
+}
+
+/// What happens on a board, one at a time.
+#[derive(Drop)]
+pub enum Event<T> {
+    /// A client changes an input's table.
+    Feed {
+        client: usize,
+        fed: Fed<T>,
+    },
+    /// A client moves an input's frontier on: it feeds no more changes at times that are not beyond it. With no times the
+    /// input is closed.
+    Advance {
+        client: usize,
+        input: NodeId,
+        times: Times<T>,
+    },
+    /// A client gives up reading a view at times that are not beyond a frontier.
+    Allow {
+        client: usize,
+        view: NodeId,
+        times: Times<T>,
+    },
+    /// A client or worker looks at the board, and leaves it as it is.
+    Look {
+        actor: usize,
+    },
+    /// A worker takes a bundle: of those that wait at its place the one of this number, from 0.
+    Take {
+        number: usize,
+        bundle: Bundle<T>,
+    },
+    /// A worker turns to the times that it holds at a node.
+    TakeHeld {
+        worker: usize,
+        node: NodeId,
+    },
+    /// A worker gives what it computed at a node, says which times it holds there from now on, and sends the updates on.
+    Give {
+        given: Emission<T>,
+        held: Times<T>,
+        sent: Bundles<T>,
+    },
+}
+
+// The event of a change, for clauses alone, and the change: it moves through.
+pub(crate) fn remembered_feed<T>(
+    client: usize,
+    input: NodeId,
+    update: Update<T>,
+) -> (Update<T>, Snapshot<Event<T>>)
+    ensures same { result.0 ≡ update }
+    ensures event { result.1.value ≡ Feed client (record { input = input; update = update }) }
+{
+    let event = Event::Feed {
+        client,
+        fed: Fed { input, update },
+    };
+    let last = Snapshot::of(&event);
+    let fed = fed_in(event);
+    (fed.update, last)
+}
+
+fn fed_in<T>(event: Event<T>) -> Fed<T>
+    requires { IsFeeding event }
+    ensures { HasFed event result }
+{
+    match event {
+        Event::Feed { fed, .. } => fed,
+        _ => unreachable!(),
+    }
+}
+
+// The event of a take, for clauses alone, and what is taken: it moves through.
+pub(crate) fn remembered_take<T>(
+    number: usize,
+    bundle: Bundle<T>,
+) -> (Bundle<T>, Snapshot<Event<T>>)
+    ensures same { result.0 ≡ bundle }
+    ensures event { result.1.value ≡ Take number bundle }
+{
+    let event = Event::Take { number, bundle };
+    let last = Snapshot::of(&event);
+    (taken_in(event), last)
+}
+
+fn taken_in<T>(event: Event<T>) -> Bundle<T>
+    requires { IsTaking event }
+    ensures { HasTaken event result }
+{
+    match event {
+        Event::Take { bundle, .. } => bundle,
+        _ => unreachable!(),
+    }
+}
+
+// The event of a frontier, for clauses alone, and the frontier: it moves through.
+pub(crate) fn remembered_advance<T>(
+    client: usize,
+    input: NodeId,
+    times: Times<T>,
+) -> (Times<T>, Snapshot<Event<T>>)
+    ensures same { result.0 ≡ times }
+    ensures event { result.1.value ≡ Advance client input times }
+{
+    let event = Event::Advance {
+        client,
+        input,
+        times,
+    };
+    let last = Snapshot::of(&event);
+    (times_in(event), last)
+}
+
+fn times_in<T>(event: Event<T>) -> Times<T>
+    requires { IsAdvancing event }
+    ensures { HasAdvanced event result }
+{
+    match event {
+        Event::Advance { times, .. } => times,
+        _ => unreachable!(),
+    }
+}
+
+// The event of a give, for clauses alone, and what is given: it moves through.
+pub(crate) fn remembered_give<T>(
+    given: Emission<T>,
+    held: Times<T>,
+    sent: Bundles<T>,
+) -> (Emission<T>, Times<T>, Bundles<T>, Snapshot<Event<T>>)
+    ensures given { result.0 ≡ given }
+    ensures held { result.1 ≡ held }
+    ensures sent { result.2 ≡ sent }
+    ensures event { result.3.value ≡ Give given held sent }
+{
+    let event = Event::Give { given, held, sent };
+    let last = Snapshot::of(&event);
+    let (given, held, sent) = given_in(event);
+    (given, held, sent, last)
+}
+
+fn given_in<T>(event: Event<T>) -> (Emission<T>, Times<T>, Bundles<T>)
+    requires { IsGiving event }
+    ensures { HasGiven event result.0 result.1 result.2 }
+{
+    match event {
+        Event::Give { given, held, sent } => (given, held, sent),
+        _ => unreachable!(),
+    }
+}

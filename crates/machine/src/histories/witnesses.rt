@@ -1,0 +1,77 @@
+//! What the definitions say of examples. The theorems of this crate hold of every legal history, and so they would hold as
+//! well if a definition forbade what an engine has to do: fewer histories would be legal, and nothing would be refused. A
+//! definition may also find another frontier or bound than it should, and each proof follow it. So here stand, for times
+//! that are pairs, cases that are easily forbidden and numbers that can be found by hand. The function does nothing. A
+//! change of a definition with which one of its clauses is false does not pass the check.
+ghost use Rattle.std.specs.Prelude.{◌≡◌, true, false, List, [], ◌∷◌, map, pos, negsuc};
+ghost use Rattle.lattice.specs.Pairs.{make_pair};
+ghost use Rattle.plan.specs.Rules.{IsPlan};
+ghost use Rattle.plan.specs.Bounds.{bound_by};
+ghost use Rattle.machine.specs.declared.histories.event.Event.TheVariants.{Allow, Give};
+ghost use Rattle.machine.specs.Histories.Dataflows.{IsDataflow};
+ghost use Rattle.machine.specs.Histories.States.{place, change_to};
+ghost use Rattle.machine.specs.Histories.Shares.{home};
+ghost use Rattle.machine.specs.Histories.Outstanding.{stamp};
+ghost use Rattle.machine.specs.Histories.{IsAllowed, IsLegal, state_after};
+ghost use Rattle.machine.specs.Histories.Readings.{IsQuiet, is_from_start};
+ghost use Rattle.machine.specs.Histories.Cuts.{cut};
+ghost use Rattle.machine.specs.Histories.Witnesses.{seven_comes, seven_goes, bundle_of, given_at_node, counting, listing, copying, came_twice, came_at_input, waits_at_count, held_at_count, open_from, HasFrontiers, joining, doubling, linear_row};
+ghost use Rattle.lattice.specs.Bitimes.{bitime_below};
+
+/// The examples, by clause:
+///
+/// - `dataflows`, `plans`: the plans of the examples are plans.
+/// - `distinct`: a row came to a distinct at (0, 3) and at (3, 0). It gives the row at both times, and takes one of the two
+///   back at their join (3, 3), a time that it never held.
+/// - `cut_in_two`: what goes to one place is cut as the worker likes: of three updates the first and the last in one bundle,
+///   and the other one in a bundle of its own.
+/// - `allow`, `allowed`: a view's since moves on, from (0, 0) to (4, 4).
+/// - `in_flight`, `held`, `gone`: the frontiers at a count and at its view while an update at (10, 1) waits for a worker there,
+///   while its time is held, and after that. The input is open from (0, 2) on.
+/// - `quiet`: all is quiet while a worker holds (10, 3) and there may still be changes from (0, 2) on.
+/// - `stamp`, `stamp_of_one`: the stamp of three updates has the least of their times, and that of two updates at one time has
+///   it once.
+/// - `home`: the row (5, -7) comes to worker 2 of 4.
+/// - `product`, `doubled`, `linear`: bounds at a join, of sums that leave 64 bits, and along linear nodes.
+/// - `from_start`: nothing was given up where the least time is in the since, whatever stands beside it.
+/// - `given_up`: something was where the since is empty, a later time, or two of them.
+pub fn definitions_fit_examples()
+    ensures dataflows { IsDataflow counting × IsDataflow listing × IsDataflow copying }
+    ensures plans { IsPlan joining × IsPlan doubling × IsPlan linear_row }
+    ensures distinct { IsAllowed bitime_below listing came_twice
+        (Give (given_at_node 2 (seven_comes 0 3 ∷ seven_comes 3 0 ∷ seven_goes 3 3 ∷ [])) []
+        (cut bitime_below listing
+        (given_at_node 2 (seven_comes 0 3 ∷ seven_comes 3 0 ∷ seven_goes 3 3 ∷ [])))) }
+    ensures cut_in_two { IsAllowed bitime_below copying
+        (came_at_input (seven_comes 0 3 ∷ seven_comes 3 0 ∷ seven_goes 3 3 ∷ []))
+        (Give (given_at_node 0 (seven_comes 0 3 ∷ seven_comes 3 0 ∷ seven_goes 3 3 ∷ [])) []
+        (bundle_of (place 1 0 1) (seven_comes 0 3 ∷ seven_goes 3 3 ∷ [])
+        ∷ bundle_of (place 1 0 1) (seven_comes 3 0 ∷ []) ∷ [])) }
+    ensures allow { IsLegal bitime_below (make_pair 0 0) counting
+        (Allow 2 3 (make_pair 4 4 ∷ []) ∷ []) }
+    ensures allowed { (state_after bitime_below (make_pair 0 0) counting
+        (Allow 2 3 (make_pair 4 4 ∷ []) ∷ [])).since 3 ≡ make_pair 4 4 ∷ [] }
+    ensures in_flight { HasFrontiers waits_at_count (make_pair 10 1 ∷ make_pair 0 2 ∷ [])
+        (make_pair 10 1 ∷ make_pair 0 2 ∷ []) }
+    ensures held { HasFrontiers (held_at_count 10 1) (make_pair 0 2 ∷ [])
+        (make_pair 10 1 ∷ make_pair 0 2 ∷ []) }
+    ensures gone { HasFrontiers (open_from (make_pair 0 2)) (make_pair 0 2 ∷ [])
+        (make_pair 0 2 ∷ []) }
+    ensures quiet { IsQuiet bitime_below counting (held_at_count 10 3) }
+    ensures stamp { stamp bitime_below (seven_comes 0 3 ∷ seven_comes 3 3 ∷ seven_comes 3 0 ∷ [])
+        ≡ make_pair 0 3 ∷ make_pair 3 0 ∷ [] }
+    ensures stamp_of_one { stamp bitime_below (seven_comes 10 1 ∷ seven_goes 10 1 ∷ [])
+        ≡ make_pair 10 1 ∷ [] }
+    ensures home { home (record counting { workers = 4 })
+        (change_to 0 (record (seven_comes 10 1) { row = pos 5 ∷ negsuc 6 ∷ [] })) ≡ place 0 0 2 }
+    ensures product { bound_by joining (λ n. 0) (λ input. 2147483647) 5 ≡ 4611686014132420609 }
+    ensures doubled { map (bound_by doubling (λ n. 0) (λ input. 1073741824)) (4 ∷ 6 ∷ [])
+        ≡ 4611686018427387904 ∷ 9223372036854775808 ∷ [] }
+    ensures linear { map (bound_by linear_row (λ n. 0) (λ input. 4)) (0 ∷ 1 ∷ 2 ∷ 3 ∷ 4 ∷ [])
+        ≡ 4 ∷ 4 ∷ 4 ∷ 4 ∷ 8 ∷ [] }
+    ensures from_start { map (is_from_start bitime_below (make_pair 0 0))
+        ((make_pair 0 0 ∷ []) ∷ (make_pair 0 0 ∷ make_pair 3 3 ∷ []) ∷ []) ≡ true ∷ true ∷ [] }
+    ensures given_up { map (is_from_start bitime_below (make_pair 0 0))
+        ([] ∷ (make_pair 4 4 ∷ []) ∷ (make_pair 0 3 ∷ make_pair 3 0 ∷ []) ∷ [])
+        ≡ false ∷ false ∷ false ∷ [] }
+{}

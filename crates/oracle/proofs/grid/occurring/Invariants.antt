@@ -1,7 +1,0 @@
-use Rattle.std.proofs.Common.{map, take}
-use Rattle.oracle.specs.Grid.{Covers}
-use Rattle.oracle.proofs.grid.occurring.Given as goal
-
--- the times of the lists so far
-abbrev pub invariant-loop-updates : goal.invariant-loop-updates
-invariant-loop-updates g l = Covers l.times.items (take l.updates-index (map (λ v. v.items) l.changes))

@@ -1,7 +1,0 @@
-use Rattle.std.proofs.Common.{◌≡◌, ◌<◌, ℕ, length, get_or, false}
-use Rattle.plan.specs.Ancestors.{is_above}
-use Rattle.plan.proofs.plan.Plan.is_above.Given as goal
-
--- each node so far is marked exactly where the one node is above it
-abbrev pub invariant-loop-n : goal.invariant-loop-n
-invariant-loop-n l = (length l.marks ≡ 256) × ((m : ℕ) → m < l.n → get_or l.marks m false ≡ is_above l.self l.above m)

@@ -1,0 +1,412 @@
+-- What the plain engine keeps is the session's, and so is what it answers.
+use Rattle.std.proofs.Common.{◌≡◌, ℕ, zero, suc, ◌+◌, ◌<◌, ◌≤◌, Bool, true, false, cond, not, ◌||◌, eqb, ltb-true, List, [], ◌∷◌, ◌++◌, ℤ, map, length, get_or, Option, Some, None, Result, Ok, Err, IsTrue, inl, inr, ⊎_elim, refl, sym, ◌∙◌, ap, subst, length-append, nat_le, nat_lt, unsigned_abs, arith}
+use Rattle.std.specs.Int.{w64}
+use Rattle.std.specs.Prelude.{FitsSigned, neg_ℤ, pos, ◌+ℤ◌, set, reverse, IfOk, IfErr, OnOk, OnErr}
+use Rattle.std.specs.Cmp.{IsTotalOrder}
+use Rattle.std.specs.List.{All, filter, flat_map, list_all}
+use Rattle.std.specs.Ordering.{int_eq}
+use Rattle.std.specs.declared.cmp.Ordering.{Ordering}
+use Rattle.std.specs.declared.cmp.Ordering.TheVariants.{Equal}
+use Rattle.std.proofs.lemmas.Bool.{and_parts, and_from, cases_lt, eqb-true, eqb-false, lt-ltb, true≢false}
+use Rattle.std.proofs.lemmas.Grind.{flat_map-append}
+use Rattle.std.proofs.lemmas.Int.{ints}
+use Rattle.std.proofs.lemmas.List.{append-nil, map-append, reverse-append, length-reverse, length-set, length-map, map-set, get_or-map, get_or-set_same, get_or-set_other, get_or_append_left, get_or_push}
+use Rattle.std.proofs.lemmas.List.Elements.{filter-append}
+use Rattle.std.proofs.lemmas.List.Folds.{list_any-append, list_all-append}
+use Rattle.std.proofs.lemmas.Result.{on_ok_weaker, on_err_weaker}
+use Rattle.std.proofs.Math.Seq.{map-set_same}
+use Rattle.lattice.specs.Frontiers.{is_beyond}
+use Rattle.lattice.specs.Order.{PartialOrderLaws, LatticeLaws, ExtendsLaws}
+use Rattle.antichain.specs.Antichains.{SameElements, IsFrontier, least}
+use Rattle.antichain.proofs.AntichainLemmas.{sorted_same}
+use Rattle.antichain.proofs.InsertionLemmas.{least_beyond}
+use Rattle.antichain.proofs.Lists.{among_contains, contains_among}
+use Rattle.update.specs.Bags.{Entry, Alike, IsBag, count_of}
+use Rattle.update.specs.Updates.{entry, as_of}
+use Rattle.update.specs.declared.change.Update.{Update}
+use Rattle.update.specs.declared.refusal.Refusal.{Refusal}
+use Rattle.update.specs.declared.refusal.Refusal.TheVariants.{OutOfMemory, WrongWidth, ZeroWeight, WeightTooLarge, TimePassed, InputFull, NotPassed, GivenUp}
+use Rattle.plan.specs.Ancestors.{feeds, numbers_below}
+use Rattle.plan.specs.Changes.{AreDifferences, has_passed, query_at, open_for}
+use Rattle.plan.specs.Edges.{numbers_where}
+use Rattle.plan.specs.Nodes.{node_at, key_width, is_input, is_linear}
+use Rattle.plan.specs.Queries.{query}
+use Rattle.plan.specs.Rules.{IsPlan, first_refusal}
+use Rattle.update.specs.Refusals.{IsRefusalBy, IsMemoryOrOverflow}
+use Rattle.plan.specs.Bounds.{HasLargeBound}
+use Rattle.plan.specs.Widths.{width_of}
+use Rattle.plan.specs.declared.node.Node.{Node}
+use Rattle.plan.proofs.PlanLemmas.{no_first, no_fault}
+use Rattle.plan.proofs.StandLemmas.{above_earlier}
+use Rattle.plan.proofs.StepLemmas.{query_by_sources}
+use Rattle.plan.proofs.CountLemmas.{count_of-append}
+use Rattle.machine.specs.declared.histories.event.Fed.{Fed}
+use Rattle.machine.specs.Boards.Inputs.{front_at, feed_faults, advance_faults}
+use Rattle.machine.specs.Histories.States.{fed_to}
+use Rattle.grammar.specs.Commands.{is_input_of}
+use Rattle.oracle.specs.Evaluation.{HasLargeAbove, output_at, inputs_before, list_of, ports, sums_at}
+use Rattle.oracle.specs.Listing.{HasLargeDifference}
+use Rattle.oracle.proofs.EvaluationLemmas.{inputs_with, inputs_without, linear_no_step}
+use Rattle.script.specs.Engines.{IsTold, IsFound}
+use Rattle.script.specs.Orders.{in_order}
+use Rattle.script.specs.OracleStanding.{Register, IsRegister, Records, with_entry, with_input, entry_refusal, input_refusal, AreFrontiers}
+use Rattle.script.specs.Sessions.{Session, with_change, with_frontier, change_refusal, frontier_refusal, view_frontier, read_refusal, changes_refusal, rows_at, frontier_at, changes_at}
+use Rattle.script.proofs.BagLemmas.{consolidated_bag-only}
+use Rattle.script.proofs.ChangesLemmas.{changes_are, differences_only}
+use Rattle.script.proofs.InputLemmas.{query_at_inputs}
+use Rattle.script.proofs.OrderLemmas.{in_order-sorted, in_order-has, in_order-only}
+use Rattle.script.proofs.StandingLemmas.{answered, refused_by}
+use Rattle.script.proofs.BoundLemmas.{linear_at, large_count, large_gap}
+
+-- ---- the place of an input's list
+
+next_number : (n : ℕ) → n + 1 ≡ suc n
+next_number n = omega arith
+
+places_grow : (p : List Node) (n : ℕ) → inputs_before p n ≤ inputs_before p (suc n)
+places_grow p n = by (is_input (node_at p n)) refl
+  where
+    by : (b : Bool) → is_input (node_at p n) ≡ b → inputs_before p n ≤ inputs_before p (suc n)
+    by true e = let k = ap (inputs_before p) (sym (next_number n)) ∙ inputs_with p n e in omega (arith, k)
+    by false e = let k = ap (inputs_before p) (sym (next_number n)) ∙ inputs_without p n e in omega (arith, k)
+
+-- a greater number has an input more before it
+pub place_before : (p : List Node) (i n : ℕ) → i < n → is_input (node_at p i) ≡ true → inputs_before p i < inputs_before p n
+place_before p i zero l t = absurd (omega (arith, l))
+place_before p i (suc n) l t =
+    ⊎_elim
+    (λ k. let before = place_before p i n k t in let grows = places_grow p n in omega (arith, before, grows))
+    (λ k. let same : n ≡ i = omega (arith, k, l) in last same)
+    (cases_lt i n)
+  where
+    last : n ≡ i → inputs_before p i < inputs_before p (suc n)
+    last same =
+        let one = ap (inputs_before p) (sym (next_number n)) ∙ inputs_with p n (ap (λ m. is_input (node_at p m)) same ∙ t) in
+        let own = ap (inputs_before p) same in
+        omega (arith, one, own)
+
+pub place_within : (p : List Node) (i : ℕ) → IsTrue (is_input_of p i) → inputs_before p i < length (numbers_where is_input p)
+place_within p i h = let parts = and_parts _ _ h in place_before p i (length p) (ltb-true _ _ parts.0) parts.1
+
+places_apart : (p : List Node) (i j : ℕ) → is_input (node_at p i) ≡ true → is_input (node_at p j) ≡ true → inputs_before p i ≡ inputs_before p j → i ≡ j
+places_apart p i j t u e =
+    ⊎_elim
+    (λ k. let before = place_before p i j k t in absurd (omega (arith, before, e)))
+    (λ k. ⊎_elim (λ m. let before = place_before p j i m u in absurd (omega (arith, before, e))) (λ m. omega (arith, k, m)) (cases_lt j i))
+    (cases_lt i j)
+
+-- ---- lists that lie in vectors
+
+-- an element is another one: one that is seen alike, or one with an element more behind
+pub put_back : {X Y : Type 0} (f : X → Y) (xs : List X) (i : ℕ) (old new : X) → old ≡ get_or xs i old → f new ≡ f old → map f (set xs i new) ≡ map f xs
+put_back f xs i old new is e = map-set_same f xs i new old (e ∙ ap f is)
+
+-- shows where a pushed change lies
+pub put_behind : {X Z : Type 0} (f : X → List Z) (xs : List X) (i : ℕ) (old new : X) (z : Z) → i < length xs → old ≡ get_or xs i old → f new ≡ f old ++ z ∷ []
+    → map f (set xs i new) ≡ set (map f xs) i (get_or (map f xs) i [] ++ z ∷ [])
+put_behind f xs i old new z l is e = map-set f xs i new ∙ ap (set (map f xs) i) (e ∙ ap (λ ys. ys ++ z ∷ []) (ap f is ∙ sym (get_or-map f xs i old [] l)))
+
+-- the place of an input is within the lists, and its list is as long as the one that lies there
+pub in_lists : {X Y : Type 0} (f : X → Y) (xs : List X) (p : List Node) (input place : ℕ) → IsTrue (is_input_of p input) → length (map f xs) ≡ length (numbers_where is_input p) → place ≡ inputs_before p input → place < length xs
+in_lists f xs p input place there lists e = let within = place_within p input there in let long = length-map xs f in omega (arith, within, lists, long, e)
+
+-- finds how many changes an input has accepted
+pub taken_is : {X Z : Type 0} (f : X → List Z) (xs : List X) (p : List Node) (input place taken : ℕ) (x : X) → place < length xs → place ≡ inputs_before p input → x ≡ get_or xs place x → taken ≡ length (f x) → taken ≡ length (list_of p (map f xs) input)
+taken_is f xs p input place taken x l e is t =
+    t ∙ ap length (ap f is ∙ (sym (get_or-map f xs place x [] l) ∙ ap (λ k. get_or (map f xs) k []) e))
+
+-- ---- one change more
+
+-- the rows have the width of the node
+abbrev wide_at : {T : Type 0} → List Node → ℕ → List (Update T) → Bool
+wide_at p n us = list_all (λ u. eqb (length u.row) (width_of p n)) us
+
+module _ {T : Type 0} (r : Register T) (is : IsRegister r) (f : Fed T) (there : IsTrue (is_input_of r.plan f.input)) where
+  -- the list of the change's input has it, and no other list is another
+  own_list : list_of r.plan (with_entry f r).changes f.input ≡ list_of r.plan r.changes f.input ++ f.update ∷ []
+  own_list =
+      let place = place_within r.plan f.input there in
+      let lists = is.lists in
+      get_or-set_same r.changes (inputs_before r.plan f.input) (list_of r.plan r.changes f.input ++ f.update ∷ []) [] (omega (arith, place, lists))
+
+  other_list : (i : ℕ) → is_input (node_at r.plan i) ≡ true → (f.input ≡ i → ⊥) → list_of r.plan (with_entry f r).changes i ≡ list_of r.plan r.changes i
+  other_list i t apart =
+      get_or-set_other r.changes (inputs_before r.plan f.input) (inputs_before r.plan i) (list_of r.plan r.changes f.input ++ f.update ∷ []) []
+      (λ e. apart (places_apart r.plan f.input i (and_parts _ _ there).1 t (sym e)))
+
+  pub entry_register : IsTrue (eqb (length f.update.row) (width_of r.plan f.input)) → IsRegister (with_entry f r)
+  entry_register wide = record {
+    linear = is.linear;
+    lists = length-set r.changes (inputs_before r.plan f.input) (list_of r.plan r.changes f.input ++ f.update ∷ []) ∙ is.lists;
+    wide = λ n l t. by n l t (eqb f.input n) refl;
+    inputs = is.inputs;
+  }
+    where
+      own : IsTrue (wide_at r.plan f.input (list_of r.plan (with_entry f r).changes f.input))
+      own =
+          let parts = and_parts _ _ there in
+          ap (wide_at r.plan f.input) own_list
+          ∙ (list_all-append (λ (u : Update T). eqb (length u.row) (width_of r.plan f.input)) (list_of r.plan r.changes f.input) (f.update ∷ [])
+          ∙ and_from _ _ (is.wide f.input (ltb-true _ _ parts.0) parts.1) (and_from _ _ wide refl))
+
+      by : (n : ℕ) → n < length r.plan → is_input (node_at r.plan n) ≡ true → (b : Bool) → eqb f.input n ≡ b → IsTrue (wide_at r.plan n (list_of r.plan (with_entry f r).changes n))
+      by n l t true e = subst (λ (m : ℕ). IsTrue (wide_at r.plan m (list_of r.plan (with_entry f r).changes m))) (eqb-true f.input n e) own
+      by n l t false e = ap (wide_at r.plan n) (other_list n t (eqb-false f.input n e)) ∙ is.wide n l t
+
+  pub entry_records : {minimum : T} (s : Session T) → Records minimum r s → Records minimum (with_entry f r) (with_change f s)
+  entry_records s a = record { changes = λ i h. by i h (eqb f.input i) refl; inputs = a.inputs; since = a.since }
+    where
+      own : list_of r.plan (with_entry f r).changes f.input ≡ reverse (f.update ∷ fed_to f.input s.fed)
+      own =
+          own_list
+          ∙ (ap (λ (us : List (Update T)). us ++ f.update ∷ []) (a.changes f.input there)
+          ∙ sym (reverse-append (f.update ∷ []) (fed_to f.input s.fed)))
+
+      by : (i : ℕ) → IsTrue (is_input_of r.plan i) → (b : Bool) → eqb f.input i ≡ b → list_of r.plan (with_entry f r).changes i ≡ reverse (cond b (f.update ∷ []) [] ++ fed_to i s.fed)
+      by i h true e = subst (λ (j : ℕ). list_of r.plan (with_entry f r).changes j ≡ reverse (f.update ∷ fed_to j s.fed)) (eqb-true f.input i e) own
+      by i h false e = other_list i (and_parts _ _ h).1 (eqb-false f.input i e) ∙ a.changes i h
+
+module _ {T : Type 0} (below : T → T → Bool) where
+  -- a change that nothing refuses has the width of its input
+  pub entry_wide : (r : Register T) (f : Fed T) → entry_refusal below r f ≡ None → IsTrue (eqb (length f.update.row) (width_of r.plan f.input))
+  entry_wide r f e =
+      no_fault (eqb (length f.update.row) (width_of r.plan f.input))
+      (no_first (not (eqb (length f.update.row) (width_of r.plan f.input))) WrongWidth ((int_eq f.update.diff (pos 0), ZeroWeight)
+      ∷ (not (nat_le (unsigned_abs f.update.diff) 2147483647), WeightTooLarge) ∷ (not (is_beyond below (front_at f.input r.inputs) f.update.time), TimePassed)
+      ∷ (not (nat_lt (length (list_of r.plan r.changes f.input)) 1048576), InputFull) ∷ []) e).0
+
+  -- what is asked of the open_times and of the number of changes is asked of the register
+  pub same_faults : (r : Register T) (f : Fed T) (inputs : List (List T)) (taken : ℕ) → inputs ≡ r.inputs → taken ≡ length (list_of r.plan r.changes f.input) → first_refusal (feed_faults below r.plan (front_at f.input inputs) taken f) ≡ entry_refusal below r f
+  same_faults r f inputs taken e t = λ j. first_refusal (feed_faults below r.plan (front_at f.input (e j)) (t j) f)
+
+  -- whatever came of a change, the register is one
+  pub after_entry : (r : Register T) (lists : List (List (Update T))) (f : Fed T) (place : ℕ) (x : Result (Unit {0}) Refusal) → IsRegister r → IsTrue (is_input_of r.plan f.input) → entry_refusal below r f ≡ None
+      → place ≡ inputs_before r.plan f.input → OnOk x (lists ≡ set r.changes place (get_or r.changes place [] ++ f.update ∷ [])) → OnErr x (lists ≡ r.changes) → IsRegister (record { plan = r.plan; changes = lists; inputs = r.inputs })
+  after_entry r lists f place (Ok u) is there accepted at pushed stays =
+      let whole : lists ≡ (with_entry f r).changes = pushed ∙ ap (λ k. set r.changes k (get_or r.changes k [] ++ f.update ∷ [])) at in
+      subst (λ (ls : List (List (Update T))). IsRegister (record { plan = r.plan; changes = ls; inputs = r.inputs })) (sym whole) (entry_register r is f there (entry_wide r f accepted))
+  after_entry r lists f place (Err e) is there accepted at pushed stays =
+      subst (λ (ls : List (List (Update T))). IsRegister (record { plan = r.plan; changes = ls; inputs = r.inputs })) (sym stays) (record { linear = is.linear; lists = is.lists; wide = is.wide; inputs = is.inputs })
+
+  -- what refuses a change or a frontier is what the session refuses
+  same_entry_refusal : {minimum : T} (r : Register T) (s : Session T) (f : Fed T) → IsTrue (is_input_of r.plan f.input) → Records minimum r s → entry_refusal below r f ≡ change_refusal below r.plan s f
+  same_entry_refusal r s f there a = λ j. first_refusal (feed_faults below r.plan (front_at f.input (a.inputs j)) (taken j) f)
+    where
+      taken : length (list_of r.plan r.changes f.input) ≡ length (fed_to f.input s.fed)
+      taken = ap length (a.changes f.input there) ∙ length-reverse (fed_to f.input s.fed)
+
+  same_input_refusal : {minimum : T} (r : Register T) (s : Session T) (i : ℕ) (ts : List T) → Records minimum r s → input_refusal below r i ts ≡ frontier_refusal below r.plan s i ts
+  same_input_refusal r s i ts a = ap (λ (fronts : List (List T)). first_refusal (advance_faults below (front_at i fronts) ts)) a.inputs
+
+  -- answers the clause `answered` of change
+  pub entry_answered : {minimum : T} (r c : Register T) (f : Fed T) (s : Session T) (x : Result (Unit {0}) Refusal) → IsTrue (is_input_of r.plan f.input) → IsRegister r
+      → OnOk x (c ≡ with_entry f r) → OnOk x (entry_refusal below r f ≡ None) → IfErr x (IsRefusalBy (entry_refusal below r f)) → OnErr x (c ≡ r) → Records minimum r s
+      → IsTold (change_refusal below r.plan s f) (Records minimum c (with_change f s)) (Records minimum c s) x
+  entry_answered {minimum} r c f s x there is taken accepted refused stays a =
+      subst (λ (o : Option Refusal). IsTold o (Records minimum c (with_change f s)) (Records minimum c s) x) (same_entry_refusal r s f there a)
+      (answered (entry_refusal below r f) (Records minimum c (with_change f s)) (Records minimum c s) x
+      (on_ok_weaker x (λ e. subst (λ (d : Register T). Records minimum d (with_change f s)) (sym e) (entry_records r is f there s a)) taken) accepted refused
+      (on_err_weaker x (λ e. subst (λ (d : Register T). Records minimum d s) (sym e) a) stays))
+
+  -- what is refused where no fault is, is refused for want of memory
+  pub memory_alone : (o : Option Refusal) (x : Result (Unit {0}) Refusal) → o ≡ None → IfErr x (λ e. e ≡ OutOfMemory) → IfErr x (IsRefusalBy o)
+  memory_alone o x e h = subst (λ (q : Option Refusal). IfErr x (IsRefusalBy q)) (sym e) h
+
+  -- answers the clause `answered` of advance
+  pub input_answered : {minimum : T} (r c : Register T) (i : ℕ) (ts : List T) (s : Session T) (x : Result (Unit {0}) Refusal)
+      → OnOk x (c ≡ with_input i ts r) → OnOk x (input_refusal below r i ts ≡ None) → IfErr x (λ refusal. input_refusal below r i ts ≡ Some refusal) → OnErr x (c ≡ r) → Records minimum r s
+      → IsTold (frontier_refusal below r.plan s i ts) (Records minimum c (with_frontier i ts s)) (Records minimum c s) x
+  input_answered {minimum} r c i ts s x taken accepted refused stays a =
+      subst (λ (o : Option Refusal). IsTold o (Records minimum c (with_frontier i ts s)) (Records minimum c s) x) (same_input_refusal r s i ts a)
+      (answered (input_refusal below r i ts) (Records minimum c (with_frontier i ts s)) (Records minimum c s) x
+      (on_ok_weaker x (λ e. subst (λ (d : Register T). Records minimum d (with_frontier i ts s)) (sym e) moved) taken) accepted (refused_by (input_refusal below r i ts) x refused)
+      (on_err_weaker x (λ e. subst (λ (d : Register T). Records minimum d s) (sym e) a) stays))
+    where
+      moved : Records minimum (with_input i ts r) (with_frontier i ts s)
+      moved = record { changes = a.changes; inputs = ap (λ (fronts : List (List T)). set fronts i ts) a.inputs; since = a.since }
+
+-- ---- a list sums to what it sums to backwards
+
+module _ {T : Type 0} (below : T → T → Bool) (t : T) where
+  as_of-append : (us vs : List (Update T)) → as_of below t (us ++ vs) ≡ as_of below t us ++ as_of below t vs
+  as_of-append us vs =
+      ap (map entry) (filter-append (λ (u : Update T). below u.time t) us vs)
+      ∙ map-append entry (filter (λ (u : Update T). below u.time t) us) (filter (λ (u : Update T). below u.time t) vs)
+
+  reversed_alike : (us : List (Update T)) → Alike (as_of below t (reverse us)) (as_of below t us)
+  reversed_alike [] row = refl
+  reversed_alike (u ∷ us) row =
+      let back = ap (λ (vs : List (Update T)). count_of (as_of below t vs) row) (reverse-append (u ∷ []) us) in
+      let behind = ap (λ es. count_of es row) (as_of-append (reverse us) (u ∷ [])) ∙ count_of-append (as_of below t (reverse us)) (as_of below t (u ∷ [])) row in
+      let front = ap (λ es. count_of es row) (as_of-append (u ∷ []) us) ∙ count_of-append (as_of below t (u ∷ [])) (as_of below t us) row in
+      back ∙ (behind ∙ (swapped _ _ _ (reversed_alike us row) ∙ sym front))
+    where
+      swapped : (m n k : ℤ) → m ≡ n → (m +ℤ k) ≡ (k +ℤ n)
+      swapped m n k e = omega (arith, ints, e)
+
+-- ---- what is open for a view
+
+-- what the inputs below a number have that feed a view
+abbrev feeding : {T : Type 0} → List Node → ℕ → (ℕ → List T) → ℕ → List T
+feeding p v k m = flat_map k (filter (λ i. feeds p i v) (numbers_below m))
+
+module _ {T : Type 0} (below : T → T → Bool) where
+  -- frontiers that have the same times beyond them, all together
+  pub same_open : (p : List Node) (f g : ℕ → List T) (v : ℕ) (t : T) → ((i : ℕ) → IsTrue (is_input_of p i) → is_beyond below (f i) t ≡ is_beyond below (g i) t)
+      → is_beyond below (open_for below p f v) t ≡ is_beyond below (open_for below p g v) t
+  same_open p f g v t h = up_to (length p) (omega arith)
+    where
+      split : (k : ℕ → List T) (m : ℕ) → is_beyond below (feeding p v k (suc m)) t ≡ (is_beyond below (feeding p v k m) t || is_beyond below (flat_map k (cond (feeds p m v) (m ∷ []) [])) t)
+      split k m =
+          ap (λ (is : List ℕ). is_beyond below (flat_map k is) t) (filter-append (λ i. feeds p i v) (numbers_below m) (m ∷ []))
+          ∙ (ap (λ (ts : List T). is_beyond below ts t) (flat_map-append k (filter (λ i. feeds p i v) (numbers_below m)) (cond (feeds p m v) (m ∷ []) []))
+          ∙ list_any-append (λ x. below x t) (feeding p v k m) (flat_map k (cond (feeds p m v) (m ∷ []) [])))
+
+      last : (m : ℕ) → m < length p → (b : Bool) → feeds p m v ≡ b → is_beyond below (flat_map f (cond b (m ∷ []) [])) t ≡ is_beyond below (flat_map g (cond b (m ∷ []) [])) t
+      last m l false e = refl
+      last m l true e =
+          ap (λ (ts : List T). is_beyond below ts t) (append-nil (f m))
+          ∙ (h m (and_from _ _ (lt-ltb m (length p) l) (and_parts _ _ e).0)
+          ∙ ap (λ (ts : List T). is_beyond below ts t) (sym (append-nil (g m))))
+
+      up_to : (m : ℕ) → m ≤ length p → is_beyond below (feeding p v f m) t ≡ is_beyond below (feeding p v g m) t
+      up_to zero l = refl
+      up_to (suc m) l =
+          split f m
+          ∙ ((λ j. up_to m (omega (arith, l)) j || last m (omega (arith, l)) (feeds p m v) refl j)
+          ∙ sym (split g m))
+
+  -- the frontiers of the inputs, one after another
+  pub record AreSome (p : List Node) (inputs : List (List T)) (n : ℕ) (frontiers : List (List T)) : Type 0 where
+    pub count : length frontiers ≡ inputs_before p n
+    pub beyond : (i : ℕ) → i < n → is_input (node_at p i) ≡ true → (t : T) → is_beyond below (list_of p frontiers i) t ≡ is_beyond below (front_at i inputs) t
+
+  -- keeps the invariant of `frontiers` at an input
+  pub some_more : (p : List Node) (inputs : List (List T)) (n : ℕ) (old new : List (List T)) (F : List T) → is_input (node_at p n) ≡ true → new ≡ old ++ F ∷ []
+      → ((t : T) → is_beyond below F t ≡ is_beyond below (front_at n inputs) t) → AreSome p inputs n old → AreSome p inputs (n + 1) new
+  some_more p inputs n old new F input e h so = subst (AreSome p inputs (n + 1)) (sym e) (record { count = long; beyond = each })
+    where
+      long : length (old ++ F ∷ []) ≡ inputs_before p (n + 1)
+      long = let parts = length-append old (F ∷ []) in let count = so.count in let one = inputs_with p n input in omega (arith, parts, count, one)
+
+      each : (i : ℕ) → i < n + 1 → is_input (node_at p i) ≡ true → (t : T) → is_beyond below (list_of p (old ++ F ∷ []) i) t ≡ is_beyond below (front_at i inputs) t
+      each i l there t =
+          ⊎_elim
+          (λ k.
+          let place = place_before p i n k there in
+          let count = so.count in
+          ap (λ (ts : List T). is_beyond below ts t) (get_or_append_left old (F ∷ []) [] (inputs_before p i) (omega (arith, place, count))) ∙ so.beyond i k there t)
+          (λ k.
+          let same : n ≡ i = omega (arith, k, l) in
+          subst (λ (j : ℕ). is_beyond below (list_of p (old ++ F ∷ []) j) t ≡ is_beyond below (front_at j inputs) t) same
+          (ap (λ (ts : List T). is_beyond below ts t) (get_or_push old F [] (inputs_before p n) so.count) ∙ h t))
+          (cases_lt i n)
+
+  -- keeps the invariant of `frontiers` at another node
+  pub some_same : (p : List Node) (inputs : List (List T)) (n : ℕ) (old : List (List T)) → is_input (node_at p n) ≡ false → AreSome p inputs n old → AreSome p inputs (n + 1) old
+  some_same p inputs n old none so = record { count = so.count ∙ sym (inputs_without p n none); beyond = each }
+    where
+      each : (i : ℕ) → i < n + 1 → is_input (node_at p i) ≡ true → (t : T) → is_beyond below (list_of p old i) t ≡ is_beyond below (front_at i inputs) t
+      each i l there t =
+          ⊎_elim
+          (λ k. so.beyond i k there t)
+          (λ k. let same : n ≡ i = omega (arith, k, l) in absurd (true≢false (sym there ∙ (ap (λ j. is_input (node_at p j)) (sym same) ∙ none))))
+          (cases_lt i n)
+
+  pub some_all : (p : List Node) (inputs : List (List T)) (n : ℕ) (all : List (List T)) → length p ≤ n → AreSome p inputs n all → AreFrontiers below p inputs all
+  some_all p inputs n all long so i h t = let parts = and_parts _ _ h in let within : i < length p = ltb-true _ _ parts.0 in so.beyond i (omega (arith, within, long)) parts.1 t
+
+-- ---- what is asked
+
+module _ {T : Type 0} {below : T → T → Bool} {minimum : T} (o : PartialOrderLaws below) (r : Register T) (s : Session T) (a : Records minimum r s) (v : ℕ) where
+  same_found : view_frontier below r.plan s v ≡ least below (open_for below r.plan (λ i. front_at i r.inputs) v)
+  same_found = ap (λ (fronts : List (List T)). least below (open_for below r.plan (λ i. front_at i fronts) v)) (sym a.inputs)
+
+  -- what is open for the view at a time is so in the session
+  pub same_passed : (times : List T) (t : T) → times ≡ open_for below r.plan (λ i. front_at i r.inputs) v → is_beyond below (view_frontier below r.plan s v) t ≡ is_beyond below times t
+  same_passed times t e =
+      ap (λ (ts : List T). is_beyond below ts t) same_found
+      ∙ (least_beyond o (open_for below r.plan (λ i. front_at i r.inputs) v) t
+      ∙ ap (λ (ts : List T). is_beyond below ts t) (sym e))
+
+  -- each time may be read, since none was given up
+  all_kept : (t : T) → IsTrue (below minimum t) → not (is_beyond below (s.since v) t) ≡ false
+  all_kept t low = ap (λ (since : List T). not (is_beyond below since t)) (a.since v) ∙ ap (λ x. not (x || false)) low
+
+  -- a time that is still open refuses a reading, and no other does
+  pub open_refuses : (t : T) → is_beyond below (view_frontier below r.plan s v) t ≡ true → read_refusal below r.plan s v t ≡ Some NotPassed
+  open_refuses t e = ap (λ b. first_refusal ((b, NotPassed) ∷ (not (is_beyond below (s.since v) t), GivenUp) ∷ [])) e
+
+  passed_reads : (t : T) → IsTrue (below minimum t) → is_beyond below (view_frontier below r.plan s v) t ≡ false → read_refusal below r.plan s v t ≡ None
+  passed_reads t low e = rw (e, all_kept t low) refl
+
+  -- rules out that the session refuses changes
+  pub changes_wanted : changes_refusal below r.plan s minimum v ≡ None
+  changes_wanted = rw (all_kept minimum (o.reflexive minimum)) refl
+
+  -- the least of what is open, in order
+  pub frontier_found : {cmp : T → T → Ordering} → IsTotalOrder cmp → ((t u : T) → cmp t u ≡ Equal → t ≡ u) → (times F : List T) → times ≡ open_for below r.plan (λ i. front_at i r.inputs) v
+      → IsFrontier below cmp F → SameElements F (least below times) → F ≡ frontier_at below r.plan s cmp v
+  frontier_found {cmp} total exact times F e is same =
+      let found = view_frontier below r.plan s v in
+      let all : least below times ≡ view_frontier below r.plan s v = ap (least below) e ∙ sym same_found in
+      let own : SameElements F (view_frontier below r.plan s v) = subst (λ (G : List T). SameElements F G) all same in
+      sorted_same total F (in_order cmp found) is.ascending (in_order-sorted cmp total found)
+      (λ t h. in_order-has cmp exact found t (among_contains t found (own.into t (contains_among t F h))))
+      (λ t h. among_contains t F (own.back t (contains_among t found (in_order-only cmp found t h))))
+
+  module _ (plan : IsPlan r.plan) (within : v < length r.plan) where
+    -- the query is the session's, at each node
+    same_query_of : (n : ℕ) → n < length r.plan → (t : T) → Alike (query_at below r.plan (list_of r.plan r.changes) n t) (query_at below r.plan (λ i. fed_to i s.fed) n t)
+    same_query_of n l t =
+        query_at_inputs r.plan plan (λ i. as_of below t (list_of r.plan r.changes i)) (λ i. as_of below t (fed_to i s.fed))
+        (λ n l i row. ap (λ (us : List (Update T)). count_of (as_of below t us) row) (a.changes n (and_from _ _ (lt-ltb n (length r.plan) l) i)) ∙ reversed_alike below t (fed_to n s.fed) row)
+        n l
+
+    same_query : (t : T) → Alike (query_at below r.plan (list_of r.plan r.changes) v t) (query_at below r.plan (λ i. fed_to i s.fed) v t)
+    same_query t = same_query_of v within t
+
+    -- where the query is too large, so is a bound
+    module _ (cmp : T → T → Ordering) (linear : All (λ node. IsTrue (is_linear node)) r.plan) where
+      -- finds the cause of a read that met a number too large
+      pub large_query : (t : T) → HasLargeAbove r.plan (sums_at below r.plan r.changes t) v → HasLargeBound below cmp r.plan (λ i. fed_to i s.fed)
+      large_query t (m, above, inl (row, large)) =
+          let early : m < length r.plan = let up = above_earlier r.plan plan m v above in omega (arith, up, within) in
+          large_count o cmp r.plan plan (linear_at r.plan linear) s m early t (row, λ fits. large (subst (FitsSigned w64) (sym (own row ∙ same_query_of m early t row)) fits))
+        where
+          own : (row : List ℤ) → count_of (output_at r.plan m (sums_at below r.plan r.changes t m) (query r.plan (sums_at below r.plan r.changes t))) row ≡ count_of (query_at below r.plan (list_of r.plan r.changes) m t) row
+          own row = ap (λ es. count_of es row) (sym (query_by_sources r.plan plan (sums_at below r.plan r.changes t) m))
+      large_query t (m, above, inr step) = absurd (linear_no_step (key_width r.plan (node_at r.plan m)) (node_at r.plan m) (linear_at r.plan linear m) (ports r.plan m (sums_at below r.plan r.changes t m) (query r.plan (sums_at below r.plan r.changes t))) step)
+
+      -- finds the cause of changes that met a number too large
+      pub large_changes : (F : List T) → HasLargeDifference below r.plan r.changes F v → HasLargeBound below cmp r.plan (λ i. fed_to i s.fed)
+      large_changes F (t, passed, inl above) = large_query t above
+      large_changes F (t, passed, inr (us, before, apart, (row, large))) =
+          large_gap o cmp r.plan plan (linear_at r.plan linear) s v within t us (λ u l d row. before u l d row ∙ same_query u row) apart
+          (row, λ fits. large (subst (FitsSigned w64) (sym (ap (λ x. x +ℤ neg_ℤ (count_of (as_of below t us) row)) (same_query t row))) fits))
+
+    -- answers the clause `answered` of read
+    pub rows_answered : (cause Large : Type 0) → (cause → Large) → (t : T) (x : Result (List Entry) Refusal) → IsTrue (below minimum t) → is_beyond below (view_frontier below r.plan s v) t ≡ false
+        → IfOk x (λ bag. Alike bag (query_at below r.plan (list_of r.plan r.changes) v t)) → IfOk x IsBag → IfErr x (IsMemoryOrOverflow cause)
+        → IsFound (IsMemoryOrOverflow Large) (read_refusal below r.plan s v t) (rows_at below r.plan s v t) x
+    rows_answered cause Large found t (Ok bag) low passed alike is refused = (passed_reads t low passed, consolidated_bag-only _ bag is (λ row. alike row ∙ same_query t row))
+    rows_answered cause Large found t (Err e) low passed alike is refused = inr (⊎_elim (λ m. inl m) (λ l. inr (l.0, found l.1)) refused)
+
+    -- what is listed of the inputs' changes and frontiers is the session's list
+    pub changes_found : {joined met : T → T → T} {cmp : T → T → Ordering} → LatticeLaws below joined met → ExtendsLaws below cmp → IsTotalOrder cmp → (frontiers : List (List T)) (us : List (Update T)) → AreFrontiers below r.plan r.inputs frontiers
+        → AreDifferences below cmp r.plan (list_of r.plan r.changes) (open_for below r.plan (list_of r.plan frontiers) v) v us → us ≡ changes_at below r.plan s cmp joined v
+    changes_found {joined} {met} {cmp} l x total frontiers us are d =
+        let F = open_for below r.plan (list_of r.plan frontiers) v in
+        let G = view_frontier below r.plan s v in
+        let tests : has_passed below F ≡ has_passed below G = λ j t. not (same t j) in
+        let own : AreDifferences below cmp r.plan (λ i. fed_to i s.fed) G v us = record {
+          consolidated = d.consolidated;
+          passed = subst (λ (test : T → Bool). IsTrue (list_all (λ u. test u.time) us)) tests d.passed;
+          sums = λ t h row. d.sums t (subst (λ (test : T → Bool). IsTrue (test t)) (sym tests) h) row ∙ same_query t row;
+        } in
+        differences_only o total r.plan (λ i. fed_to i s.fed) G v us (changes_at below r.plan s cmp joined v) own (changes_are o l x total r.plan s.fed plan v within G)
+      where
+        same : (t : T) → is_beyond below (open_for below r.plan (list_of r.plan frontiers) v) t ≡ is_beyond below (view_frontier below r.plan s v) t
+        same t =
+            same_open below r.plan (list_of r.plan frontiers) (λ i. front_at i r.inputs) v t (λ i h. are i h t)
+            ∙ sym (same_passed (open_for below r.plan (λ i. front_at i r.inputs) v) t refl)

@@ -1,9 +1,0 @@
-use Rattle.std.proofs.Common.{◌++◌, length, take, codes}
-use Rattle.std.specs.List.{flat_map}
-use Rattle.script.specs.Outs.{Wrote}
-use Rattle.script.specs.Printing.{count_text, update_text}
-use Rattle.script.proofs.printing.print_changes.Given as goal
-
--- the lines so far are written behind their header
-abbrev pub invariant-loop-update : goal.invariant-loop-update
-invariant-loop-update g l = Wrote g.W.Out.took l.fn.out l.fn.gathered (count_text (codes "changes") l.view (length l.changes) ++ flat_map update_text (take l.update-index l.changes)) l.out l.gathered

@@ -1,9 +1,0 @@
-use Rattle.std.proofs.Common.{◌++◌, length, take, codes}
-use Rattle.std.specs.List.{flat_map}
-use Rattle.script.specs.Outs.{Wrote}
-use Rattle.script.specs.Printing.{count_text, element_text}
-use Rattle.script.proofs.printing.print_frontier.Given as goal
-
--- the lines so far are written behind their header
-abbrev pub invariant-loop-time : goal.invariant-loop-time
-invariant-loop-time g l = Wrote g.W.Out.took l.fn.out l.fn.gathered (count_text (codes "frontier") l.view (length l.elements) ++ flat_map element_text (take l.time-index l.elements)) l.out l.gathered

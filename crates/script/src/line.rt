@@ -1,0 +1,233 @@
+//! One line of a script: its command goes to the engine, and what it answers is printed.
+ghost use Rattle.std.specs.Prelude.{◌≡◌, [], false, IfErr, IsTrue, OnOk};
+ghost use Rattle.grammar.specs.Commands.{IsAbout, IsQuestion};
+ghost use Rattle.grammar.specs.declared.command.Command.TheVariants.{Input, View};
+ghost use Rattle.grammar.specs.ScriptModels.{ScriptModel};
+ghost use Rattle.script.specs.Engines.{EndsRun, IsTold, IsEnd, failures};
+ghost use Rattle.script.specs.Outs.{Wrote, Broke};
+ghost use Rattle.script.specs.Printing.{refused_text};
+ghost use Rattle.script.specs.Text.{BitemporalSession, input_command_refusal, carry_out, after_command, piece};
+ghost use Rattle.script.specs.declared.fault.RunFault.TheVariants.{Refused};
+
+use crate::engine::{CatchUp, Engine};
+use crate::fault::RunFault;
+use crate::output_buffer::OutputBuffer;
+use crate::outputs::Out;
+use crate::printer::{print_changes, print_frontier, print_rows};
+use grammar::{Command, CommandLine, InputCommand, Script, ViewCommand};
+use std::alloc::Global;
+use update::{Refusal, Times, Update};
+
+// Whether a refusal ends the run, so that it is no line of the text.
+fn ends_run(refusal: Refusal) -> bool
+    ensures ends { IsTrue result → EndsRun refusal }
+    ensures goes_on { result ≡ false → EndsRun refusal → ⊥ }
+{
+    matches!(
+        refusal,
+        Refusal::OutOfMemory | Refusal::Overflow | Refusal::NoThread
+    )
+}
+
+// Hands a command that changes an input to the engine.
+fn hand_over<E: Engine>(
+    alloc: Global,
+    engine: &mut E,
+    command: &InputCommand,
+) -> Result<(), Refusal>
+    requires about { IsAbout (E.plan engine.old) (Input command.now) }
+    ensures plan { E.plan engine.new ≡ E.plan engine.old }
+    ensures answered { (s : BitemporalSession) → E.stands engine.old s
+        → IsTold (input_command_refusal (E.plan engine.old) s command.now)
+        (E.stands engine.new (carry_out (E.plan engine.old) s command.now))
+        (E.stands engine.new s) result }
+{
+    match command {
+        InputCommand::Change {
+            input,
+            time,
+            diff,
+            row,
+        } => engine.change(
+            alloc,
+            *input,
+            Update {
+                time: *time,
+                row: row.copy(),
+                diff: *diff,
+            },
+        ),
+        InputCommand::Advance { input, times } => engine.advance(*input, times.copy(alloc)?),
+        InputCommand::Close { input } => engine.advance(*input, Times::from(Vec::new(alloc))),
+    }
+}
+
+// Ends the run: the text of the lines before is put, whole.
+fn end_run<W: Out>(buffer: &mut OutputBuffer, out: &mut W, refusal: Refusal) -> Result<(), RunFault>
+    ensures ends { OnOk result ⊥ }
+    ensures broke { IfErr result
+        (λ fault. Broke W.took out.old buffer.old [] (failures fault) out.new) }
+    ensures overflow { IfErr result
+        (λ fault. fault ≡ Refused 10 → W.took out.old buffer.old 0 out.new) }
+    ensures known { IfErr result (IsEnd (λ met. met ≡ refusal)) }
+{
+    buffer.flush(out)?;
+    Err(RunFault::from(refusal))
+}
+
+// Prints what a command was refused for, unless that ends the run.
+fn refuse<W: Out>(
+    buffer: &mut OutputBuffer,
+    out: &mut W,
+    line: u64,
+    refusal: Refusal,
+) -> Result<(), RunFault>
+    ensures goes_on { OnOk result (EndsRun refusal → ⊥) }
+    ensures wrote { OnOk result
+        (Wrote W.took out.old buffer.old (refused_text line refusal) out.new buffer.new) }
+    ensures broke { IfErr result
+        (λ fault. Broke W.took out.old buffer.old [] (failures fault) out.new) }
+    ensures overflow { IfErr result
+        (λ fault. fault ≡ Refused 10 → W.took out.old buffer.old 0 out.new) }
+    ensures known { IfErr result (IsEnd (λ met. (met ≡ refusal) × EndsRun refusal)) }
+{
+    if ends_run(refusal) {
+        return end_run(buffer, out, refusal);
+    }
+    buffer.print_refused(line, refusal)?;
+    Ok(())
+}
+
+// Runs a line that changes an input: it prints nothing, unless the engine refuses it.
+fn run_update<E: Engine, W: Out>(
+    alloc: Global,
+    engine: &mut E,
+    line: u64,
+    command: &InputCommand,
+    buffer: &mut OutputBuffer,
+    out: &mut W,
+) -> Result<(), RunFault>
+    requires about { IsAbout (E.plan engine.old) (Input command.now) }
+    ensures plan { E.plan engine.new ≡ E.plan engine.old }
+    ensures ran { (t : ScriptModel) (s : BitemporalSession) → t.plan ≡ E.plan engine.old
+        → E.stands engine.old s
+        → OnOk result (E.stands engine.new (after_command t.plan s (Input command.now))
+        × Wrote W.took out.old buffer.old (piece t s line (Input command.now)) out.new buffer.new) }
+    ensures broke { IfErr result
+        (λ fault. Broke W.took out.old buffer.old [] (failures fault) out.new) }
+    ensures known { (s : BitemporalSession) → E.stands engine.old s
+        → IfErr result (IsEnd (λ refusal. ⊥)) }
+{
+    match hand_over(alloc, engine, command) {
+        Ok(()) => Ok(()),
+        Err(refusal) => refuse(buffer, out, line, refusal),
+    }
+}
+
+// Runs a line that asks about a view. The engine has caught up.
+fn run_query<E: Engine, W: Out>(
+    alloc: Global,
+    engine: &mut E,
+    script: &Script,
+    line: u64,
+    command: &ViewCommand,
+    buffer: &mut OutputBuffer,
+    out: &mut W,
+) -> Result<(), RunFault>
+    requires plan { script.now.plan ≡ E.plan engine.old }
+    requires about { IsAbout (E.plan engine.old) (View command.now) }
+    requires caught_up { E.caught_up engine.old }
+    ensures plan { E.plan engine.new ≡ E.plan engine.old }
+    ensures ran { (s : BitemporalSession) → E.stands engine.old s
+        → OnOk result (E.stands engine.new s × Wrote W.took out.old buffer.old
+        (piece script.now s line (View command.now)) out.new buffer.new) }
+    ensures broke { (s : BitemporalSession) → E.stands engine.old s
+        → IfErr result (λ fault. Broke W.took out.old buffer.old
+        (piece script.now s line (View command.now)) (failures fault) out.new) }
+    ensures overflow { IfErr result
+        (λ fault. fault ≡ Refused 10 → W.took out.old buffer.old 0 out.new) }
+    ensures known { (s : BitemporalSession) → E.stands engine.old s
+        → IfErr result (IsEnd (E.ends script.now.plan s)) }
+{
+    match command {
+        ViewCommand::Read { view, time } => match engine.read(alloc, *view, *time) {
+            Ok(rows) => print_rows(buffer, out, script.name(*view), *time, &rows),
+            Err(refusal) => refuse(buffer, out, line, refusal),
+        },
+        ViewCommand::Changes { view } => match engine.changes(alloc, *view) {
+            Ok(changes) => print_changes(buffer, out, script.name(*view), changes.as_slice()),
+            Err(refusal) => refuse(buffer, out, line, refusal),
+        },
+        ViewCommand::Frontier { view } => match engine.frontier(alloc, *view) {
+            Ok(frontier) => print_frontier(buffer, out, script.name(*view), frontier.elements()),
+            Err(refusal) => refuse(buffer, out, line, refusal),
+        },
+    }
+}
+
+// Runs a line that asks about a view: the engine catches up first.
+fn catch_up_and_query<E: CatchUp, W: Out>(
+    alloc: Global,
+    engine: &mut E,
+    script: &Script,
+    line: u64,
+    command: &ViewCommand,
+    buffer: &mut OutputBuffer,
+    out: &mut W,
+) -> Result<(), RunFault>
+    requires plan { script.now.plan ≡ E.plan engine.old }
+    requires about { IsAbout (E.plan engine.old) (View command.now) }
+    ensures plan { E.plan engine.new ≡ E.plan engine.old }
+    ensures ran { (s : BitemporalSession) → E.stands engine.old s
+        → OnOk result (E.stands engine.new s × Wrote W.took out.old buffer.old
+        (piece script.now s line (View command.now)) out.new buffer.new) }
+    ensures broke { (s : BitemporalSession) → E.stands engine.old s
+        → IfErr result (λ fault. Broke W.took out.old buffer.old
+        (piece script.now s line (View command.now)) (failures fault) out.new) }
+    ensures overflow { IfErr result
+        (λ fault. fault ≡ Refused 10 → W.took out.old buffer.old 0 out.new) }
+    ensures known { (s : BitemporalSession) → E.stands engine.old s
+        → IfErr result (IsEnd (E.ends script.now.plan s)) }
+{
+    match engine.catch_up(alloc) {
+        Ok(()) => run_query(alloc, engine, script, line, command, buffer, out),
+        Err(refusal) => end_run(buffer, out, refusal),
+    }
+}
+
+/// Runs a line: the engine carries out its command, and the line's text is printed.
+pub(crate) fn run_line<E: CatchUp, W: Out>(
+    alloc: Global,
+    engine: &mut E,
+    script: &Script,
+    line: &CommandLine,
+    buffer: &mut OutputBuffer,
+    out: &mut W,
+) -> Result<(), RunFault>
+    requires plan { script.now.plan ≡ E.plan engine.old }
+    requires about { IsAbout (E.plan engine.old) line.now.command }
+    ensures plan { E.plan engine.new ≡ E.plan engine.old }
+    ensures ran { (s : BitemporalSession) → E.stands engine.old s
+        → OnOk result (E.stands engine.new (after_command script.now.plan s line.now.command)
+        × Wrote W.took out.old buffer.old
+        (piece script.now s line.now.line line.now.command) out.new buffer.new) }
+    ensures broke { (s : BitemporalSession) → E.stands engine.old s
+        → IfErr result (λ fault. Broke W.took out.old buffer.old
+        (piece script.now s line.now.line line.now.command) (failures fault) out.new) }
+    ensures overflow { (s : BitemporalSession) → E.stands engine.old s
+        → IfErr result (λ fault. fault ≡ Refused 10
+        → IsQuestion line.now.command × W.took out.old buffer.old 0 out.new) }
+    ensures known { (s : BitemporalSession) → E.stands engine.old s
+        → IfErr result (IsEnd (E.ends script.now.plan s)) }
+{
+    match &line.command {
+        Command::Input(command) => {
+            run_update(alloc, engine, line.line, command, buffer, out)?;
+            buffer.pass_on(out)?;
+            Ok(())
+        }
+        Command::View(command) => {
+            catch_up_and_query(alloc, engine, script, line.line, command, buffer, out)
+        }
+    }
+}

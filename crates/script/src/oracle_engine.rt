@@ -1,0 +1,295 @@
+//! The plain engine: it carries out commands by the plain query of crate `oracle` alone, and knows
+//! neither workers nor boards, batches nor differences that were kept.
+//!
+//! It keeps each input's accepted changes, as they came, and where the inputs' frontiers stand;
+//! whatever is asked of a view is worked out from these, from scratch. The invariant is what the
+//! query asks for: each input has its list, at its place in the order of the inputs, and the rows
+//! in it have the input's width. Nothing that was computed is kept, so there is nothing that could
+//! be out of date: this engine is slow, and right for plain reasons. What a command is refused for
+//! is asked where a board asks it (crate `machine`), so that both refuse alike.
+ghost use Rattle.std.specs.Prelude.{◌≡◌, ◌<◌, ◌++◌, ℕ, List, [], ◌∷◌, None, Some, length, map, replicate, set, slice_index_or, IfErr, IfOk, IsTrue, OnErr, OnOk};
+ghost use Rattle.std.specs.List.{All};
+ghost use Rattle.lattice.specs.declared.product.Pair.{Pair};
+ghost use Rattle.lattice.specs.Frontiers.{is_beyond};
+ghost use Rattle.lattice.specs.Pairs.{make_pair};
+ghost use Rattle.update.specs.declared.refusal.Refusal.TheVariants.{OutOfMemory};
+ghost use Rattle.plan.specs.Changes.{open_for};
+ghost use Rattle.plan.specs.Nodes.{is_linear};
+ghost use Rattle.update.specs.Refusals.{IsRefusalBy};
+ghost use Rattle.machine.specs.Boards.Inputs.{front_at};
+ghost use Rattle.grammar.specs.Commands.{is_input_of};
+ghost use Rattle.script.specs.Ends.{IsTextBeforeOverflow};
+ghost use Rattle.script.specs.Engines.{IsRunEnd, failures};
+ghost use Rattle.script.specs.declared.fault.RunFault.TheVariants.{Refused};
+ghost use Rattle.script.specs.Outs.{IsBeginning};
+ghost use Rattle.script.specs.OracleStanding.{IsRegister, Records, AreFrontiers, with_entry, with_input, entry_refusal, input_refusal};
+ghost use Rattle.script.specs.Text.{opening_session, text};
+ghost use Rattle.lattice.specs.Bitimes.{bitime_below};
+ghost use Rattle.script.specs.Bounds.{EndsByBound, IsLargeScript};
+
+use crate::engine::{CatchUp, Engine};
+use crate::fault::RunFault;
+use crate::outputs::Out;
+use crate::run::run;
+use antichain::{Antichain, is_beyond};
+use grammar::Script;
+use lattice::Bitime;
+use machine::InputFrontiers;
+use oracle::{differences, evaluate, inputs_before};
+use plan::{NodeId, Plan};
+use std::alloc::Global;
+use std::marker::Model;
+use update::{Bag, Refusal, Times, Update, Updates};
+
+/// All that was accepted, and nothing that follows from it. A contract sees the plan, the changes
+/// and the inputs' frontiers.
+#[derive(Drop)]
+pub(crate) struct OracleEngine {
+    plan: Plan,
+    // The changes of each input, the oldest first, in the order of the inputs' numbers.
+    changes: Vec<Vec<Update<Bitime>>>,
+    // Where the inputs stand.
+    inputs: InputFrontiers<Bitime>,
+}
+
+impl Model for OracleEngine {
+    ghost use Rattle.std.specs.Prelude.{ℕ, map};
+    ghost use Rattle.lattice.specs.declared.product.Pair.{Pair};
+    ghost use Rattle.script.specs.OracleStanding.{Register, IsRegister};
+
+    ghost Value = { Register (Pair ℕ ℕ) };
+
+    ghost view = { λ engine. record {
+      plan = engine.plan;
+      changes = map (λ v. v.items) engine.changes.items;
+      inputs = engine.inputs;
+    } };
+
+    ghost invariant = { λ engine. IsRegister (record {
+      plan = engine.plan;
+      changes = map (λ v. v.items) engine.changes.items;
+      inputs = engine.inputs;
+    }) };
+}
+
+// So many lists of no changes.
+fn no_changes(alloc: Global, inputs: usize) -> Result<Vec<Vec<Update<Bitime>>>, Refusal>
+    ensures none { IfOk result (λ lists. map (λ v. v.items) lists.items ≡ replicate inputs []) }
+    ensures refused { IfErr result (λ refusal. refusal ≡ OutOfMemory) }
+{
+    let mut lists = Vec::new(alloc);
+    for _input in 0..inputs {
+        lists.push(Vec::new(alloc))?;
+    }
+    Ok(lists)
+}
+
+// One change more in the list of a place.
+fn push_change(
+    lists: &mut Vec<Vec<Update<Bitime>>>,
+    place: usize,
+    update: Update<Bitime>,
+) -> Result<(), Refusal>
+    requires { place < length lists.old.items }
+    ensures pushed { OnOk result
+        (map (λ v. v.items) lists.new.items ≡ set (map (λ v. v.items) lists.old.items) place
+        (slice_index_or (map (λ v. v.items) lists.old.items) place [] ++ update ∷ [])) }
+    ensures refused { IfErr result (λ refusal. refusal ≡ OutOfMemory) }
+    ensures unchanged { OnErr result
+        (map (λ v. v.items) lists.new.items ≡ map (λ v. v.items) lists.old.items) }
+{
+    lists[place].push(update)?;
+    Ok(())
+}
+
+// What is open for a view: the elements of the frontiers of all inputs that feed it.
+fn open_for(
+    alloc: Global,
+    plan: &Plan,
+    inputs: &InputFrontiers<Bitime>,
+    view: NodeId,
+) -> Result<Vec<Bitime>, Refusal>
+    requires view { view < length plan.now }
+    requires inputs { length inputs.now ≡ length plan.now }
+    ensures open { IfOk result
+        (λ times. times.items ≡ open_for bitime_below plan.now (λ i. front_at i inputs.now) view) }
+    ensures refused { IfErr result (λ refusal. refusal ≡ OutOfMemory) }
+{
+    let mut times = Vec::new(alloc);
+    for n in 0..plan.len() {
+        let input = NodeId::new(n);
+        if plan.node(input).is_input() && plan.reaches(input, view) {
+            times.extend_from_slice(inputs.of(input))?;
+        }
+    }
+    Ok(times)
+}
+
+// The frontier of each input, in the order of the inputs' numbers.
+fn frontiers(
+    alloc: Global,
+    plan: &Plan,
+    inputs: &InputFrontiers<Bitime>,
+) -> Result<Vec<Antichain<Bitime>>, Refusal>
+    requires { length inputs.now ≡ length plan.now }
+    ensures frontiers { IfOk result
+        (λ all. AreFrontiers bitime_below plan.now inputs.now all.items) }
+    ensures refused { IfErr result (λ refusal. refusal ≡ OutOfMemory) }
+{
+    let mut all = Vec::new(alloc);
+    for n in 0..plan.len() {
+        if plan.node(NodeId::new(n)).is_input() {
+            let frontier = Antichain::least_of(alloc, inputs.of(NodeId::new(n)))?;
+            all.push(frontier)?;
+        }
+    }
+    Ok(all)
+}
+
+impl OracleEngine {
+    /// An engine to which nothing has happened yet. Refused only with `OutOfMemory`.
+    pub(crate) fn open(alloc: Global, plan: &Plan) -> Result<OracleEngine, Refusal>
+        requires linear { All (λ node. IsTrue (is_linear node)) plan.now }
+        ensures plan { IfOk result (λ engine. engine.plan ≡ plan.now) }
+        ensures stands { IfOk result
+            (λ engine. Records (make_pair 0 0) engine (opening_session plan.now)) }
+        ensures refused { IfErr result (λ refusal. refusal ≡ OutOfMemory) }
+    {
+        let plan = plan.clone()?;
+        let inputs = InputFrontiers::first(alloc, &plan)?;
+        let changes = no_changes(alloc, plan.inputs(alloc)?.len())?;
+        Ok(OracleEngine {
+            plan,
+            changes,
+            inputs,
+        })
+    }
+
+    // Takes a change, or refuses it as a board does.
+    fn take_change(&mut self, input: NodeId, update: Update<Bitime>) -> Result<(), Refusal>
+        requires { IsTrue (is_input_of self.old.plan input) }
+        ensures taken { OnOk result
+            (self.new ≡ with_entry (record { input = input; update = update }) self.old) }
+        ensures accepted { OnOk result
+            (entry_refusal bitime_below self.old (record {
+              input = input;
+              update = update;
+            }) ≡ None) }
+        ensures refused { IfErr result
+            (λ refusal. IsRefusalBy
+            (entry_refusal bitime_below self.old (record {
+              input = input;
+              update = update;
+            })) refusal) }
+        ensures unchanged { OnErr result (self.new ≡ self.old) }
+        ensures register { IsRegister self.old }
+    {
+        let place = inputs_before(&self.plan, input);
+        let taken = self.changes[place].len();
+        match self.inputs.feed_refusal(&self.plan, taken, input, &update) {
+            Some(refusal) => Err(refusal),
+            None => push_change(&mut self.changes, place, update),
+        }
+    }
+
+    // Takes a frontier, or refuses it as a board does.
+    fn take_frontier(&mut self, input: NodeId, times: Times<Bitime>) -> Result<(), Refusal>
+        requires { IsTrue (is_input_of self.old.plan input) }
+        ensures taken { OnOk result (self.new ≡ with_input input times self.old) }
+        ensures accepted { OnOk result (input_refusal bitime_below self.old input times ≡ None) }
+        ensures refused { IfErr result
+            (λ refusal. input_refusal bitime_below self.old input times ≡ Some refusal) }
+        ensures unchanged { OnErr result (self.new ≡ self.old) }
+    {
+        self.inputs.advance(input, times)
+    }
+}
+
+impl Engine for OracleEngine {
+    ghost use Rattle.std.specs.Prelude.{⊤};
+    ghost use Rattle.lattice.specs.Pairs.{make_pair};
+    ghost use Rattle.script.specs.OracleStanding.{Records};
+    ghost use Rattle.script.specs.Bounds.{EndsByBound, ends_by_bound};
+
+    ghost plan = { λ r. r.plan };
+
+    ghost stands = { λ r s. Records (make_pair 0 0) r s };
+
+    ghost caught_up = { λ r. ⊤ };
+
+    ghost ends = { λ p s refusal. EndsByBound p s refusal };
+
+    fn change(
+        &mut self,
+        _alloc: Global,
+        input: NodeId,
+        update: Update<Bitime>,
+    ) -> Result<(), Refusal> {
+        self.take_change(input, update)
+    }
+
+    fn advance(&mut self, input: NodeId, times: Times<Bitime>) -> Result<(), Refusal> {
+        self.take_frontier(input, times)
+    }
+
+    fn read(&mut self, alloc: Global, view: NodeId, time: Bitime) -> Result<Bag, Refusal> {
+        self.plan.known();
+        let open = open_for(alloc, &self.plan, &self.inputs, view)?;
+        if is_beyond(&open, &time) {
+            return Err(Refusal::NotPassed);
+        }
+        evaluate(alloc, &self.plan, view, &self.changes, time)
+    }
+
+    fn changes(&mut self, alloc: Global, view: NodeId) -> Result<Updates<Bitime>, Refusal> {
+        self.plan.known();
+        let frontiers = frontiers(alloc, &self.plan, &self.inputs)?;
+        let changes = differences(alloc, &self.plan, view, &self.changes, &frontiers)?;
+        Ok(Updates::from(changes))
+    }
+
+    fn frontier(&mut self, alloc: Global, view: NodeId) -> Result<Antichain<Bitime>, Refusal> {
+        let open = open_for(alloc, &self.plan, &self.inputs, view)?;
+        let frontier = Antichain::least_of(alloc, &open)?;
+        frontier.known();
+        Ok(frontier)
+    }
+
+    ghost ending = { λ p s refusal ends. ends_by_bound p s refusal ends };
+}
+
+impl CatchUp for OracleEngine {
+    fn catch_up(&mut self, _alloc: Global) -> Result<(), Refusal> {
+        Ok(())
+    }
+}
+
+/// Runs a script without workers, and puts what it writes: every view is worked out from scratch
+/// whenever it is asked for.
+///
+/// Where it answers Ok, exactly the script's text was taken. After a fault a beginning of it was;
+/// after `Refused(10)` this is the text of the lines before the one that met it, whole:
+///
+/// | Fault | Where |
+/// |---|---|
+/// | `Refused(1)` | an allocation was refused |
+/// | `Refused(10)` | a number is too large for 64 bits: how often a row counts, at a view or at a node above it. This needs changes by which some node has a bound of 2 to the 63 or more |
+/// | `Write` | the output failed, which no other fault goes with |
+///
+/// Cost: a change is linear in the nodes of the plan and the elements of the inputs' frontiers. A
+/// read goes over all changes that came before it, and sorts what each node above the view reads
+/// and gives, so that a script of reads and changes takes the square of its length. A view's
+/// changes take such a query for each time of the join closure, which has the times of all
+/// changes and all their joins: as many at most as the product of the valid and the system times
+/// that occur.
+pub fn plain_script<W: Out>(alloc: Global, script: &Script, out: &mut W) -> Result<(), RunFault>
+    ensures written { OnOk result (W.took out.old (text script.now) 0 out.new) }
+    ensures beginning { IfErr result (λ fault. (part : List ℕ) × IsBeginning part (text script.now)
+        × W.took out.old part (failures fault) out.new) }
+    ensures overflow { IfErr result (λ fault. fault ≡ Refused 10
+        → (part : List ℕ) × IsTextBeforeOverflow script.now part × W.took out.old part 0 out.new) }
+    ensures known { IfErr result (IsRunEnd (IsLargeScript script.now)) }
+{
+    let mut engine = OracleEngine::open(alloc, script.plan())?;
+    run(alloc, &mut engine, script, out)
+}

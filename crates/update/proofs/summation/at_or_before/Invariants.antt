@@ -1,0 +1,9 @@
+use Rattle.std.proofs.Common.{◌≡◌, ◌++◌, map, filter, drop}
+use Rattle.update.specs.UnitTimes.{at_unit_time}
+use Rattle.update.proofs.summation.at_or_before.Given as goal
+
+-- what was kept, and what is to be kept of those to come, are what is to be kept of all
+abbrev pub invariant-loop-update : goal.invariant-loop-update
+invariant-loop-update g l =
+    let below = g.T.PartialOrder.below in
+    l.gone.items ++ map at_unit_time (filter (λ u. below u.time l.t) (drop l.update-index l.updates)) ≡ map at_unit_time (filter (λ u. below u.time l.t) l.updates)

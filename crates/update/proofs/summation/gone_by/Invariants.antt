@@ -1,9 +1,0 @@
-use Rattle.std.proofs.Common.{◌≡◌, ◌++◌, map, filter, drop}
-use Rattle.update.specs.Moments.{at_moment}
-use Rattle.update.proofs.summation.gone_by.Given as goal
-
--- what was kept, and what is to be kept of those to come, are what is to be kept of all
-abbrev pub invariant-loop-update : goal.invariant-loop-update
-invariant-loop-update g l =
-    let below = g.T.PartialOrder.below in
-    l.gone.items ++ map at_moment (filter (λ u. below u.time l.t) (drop l.update-index l.updates)) ≡ map at_moment (filter (λ u. below u.time l.t) l.updates)

@@ -1,0 +1,41 @@
+//! The lattice of one time. A list of updates at that time is a list of rows with counts, and consolidated it is a bag:
+//! so bags need no sorting and no merging of their own.
+
+use lattice::{Lattice, PartialOrder};
+
+/// The one time.
+#[derive(Clone, Copy, Default, PartialEq, Eq, PartialOrd, Ord)]
+pub(crate) struct UnitTime;
+
+impl PartialOrder for UnitTime {
+    ghost use Rattle.std.specs.Prelude.{true};
+    ghost use Rattle.update.specs.UnitTimes.{unit_order};
+
+    ghost below = { λ _ _. true };
+
+    ghost order = { unit_order };
+
+    fn less_equal(&self, _other: &UnitTime) -> bool {
+        true
+    }
+}
+
+impl Lattice for UnitTime {
+    ghost use Rattle.update.specs.UnitTimes.{unit_bounds, unit_extends};
+
+    ghost joined = { λ t _. t };
+
+    ghost met = { λ t _. t };
+
+    ghost bounds = { unit_bounds };
+
+    ghost extends = { unit_extends };
+
+    fn join(self, _other: UnitTime) -> UnitTime {
+        self
+    }
+
+    fn meet(self, _other: UnitTime) -> UnitTime {
+        self
+    }
+}
