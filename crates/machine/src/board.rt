@@ -11,20 +11,20 @@ ghost use Rattle.machine.specs.Histories.Dataflows.{IsDataflow};
 ghost use Rattle.machine.specs.declared.histories.event.Event.{Event};
 ghost use Rattle.machine.specs.Boards.{BoardState, IsBoard, Stands, first_board, after_look};
 
+pub(crate) mod arrivals;
 pub(crate) mod clients;
 pub(crate) mod cut;
+pub(crate) mod emission;
 pub(crate) mod frontiers;
-pub(crate) mod giving;
 pub(crate) mod graph;
 pub(crate) mod inputs;
+pub(crate) mod promises;
 pub(crate) mod queue;
-pub(crate) mod reading;
+pub(crate) mod reads;
 pub(crate) mod routing;
-pub(crate) mod standing;
 pub(crate) mod stations;
 pub(crate) mod survey;
 pub(crate) mod view;
-pub(crate) mod waiting;
 pub(crate) mod workers;
 
 use crate::board::graph::Graph;

@@ -30,10 +30,10 @@ mod board;
 mod histories;
 
 pub use board::Board;
-pub use board::giving::Ungiven;
+pub use board::emission::Ungiven;
 pub use board::inputs::{InputFrontiers, MAX_CHANGES, MAX_DIFFERENCE};
 pub use board::routing::Routing;
-pub use board::standing::meets;
+pub use board::promises::meets;
 pub use board::view::View;
 pub use histories::event::{Bundle, Bundles, Emission, Event, Fed, HeldTime, OpenTime, Site};
 pub use histories::theorems::{

@@ -2,7 +2,7 @@
 -- the questions about how it is run.
 use Rattle.std.specs.Prelude.{ℕ, Bool, true, false, List, [], ◌∷◌, Option, Some, None, slice_get, unwrap_or, option_map}
 use Rattle.plan.specs.declared.sort.Sort.{Sort}
-use Rattle.plan.specs.declared.sort.Sort.TheVariants.{Source, Linear, Arrangement, Bilinear, Reduction, View}
+use Rattle.plan.specs.declared.sort.Sort.TheVariants.{Source, Stateless, Arrangement, Bilinear, Reduction, View}
 use Rattle.plan.specs.declared.node.Node.{Node}
 use Rattle.plan.specs.declared.node.Node.TheVariants.{Input, Map, Filter, Concat, Negate, Arrange, Join, Reduce, Output}
 
@@ -13,10 +13,10 @@ node_at p n = unwrap_or (slice_get p n) (Input 0)
 -- how the node is run
 abbrev pub sort : Node → Sort
 sort (Input width) = Source
-sort (Map source items) = Linear
-sort (Filter source test) = Linear
-sort (Concat left right) = Linear
-sort (Negate source) = Linear
+sort (Map source items) = Stateless
+sort (Filter source test) = Stateless
+sort (Concat left right) = Stateless
+sort (Negate source) = Stateless
 sort (Arrange source key) = Arrangement
 sort (Join left right) = Bilinear
 sort (Reduce kind source) = Reduction
@@ -25,7 +25,7 @@ sort (Output source) = View
 -- the sorts are the same
 abbrev pub same_sort : Sort → Sort → Bool
 same_sort Source Source = true
-same_sort Linear Linear = true
+same_sort Stateless Stateless = true
 same_sort Arrangement Arrangement = true
 same_sort Bilinear Bilinear = true
 same_sort Reduction Reduction = true

@@ -10,8 +10,8 @@ use crate::node::Node;
 pub enum Sort {
     /// Rows come from outside.
     Source,
-    /// Works update by update.
-    Linear,
+    /// Works update by update, and keeps nothing.
+    Stateless,
     /// Sends the rows to workers by their key, and keeps them in order.
     Arrangement,
     /// Pairs rows of two sources: it adds up in each of them alone.
@@ -30,7 +30,7 @@ impl Node {
         match self {
             Node::Input { .. } => Sort::Source,
             Node::Map { .. } | Node::Filter { .. } | Node::Concat { .. } | Node::Negate { .. } => {
-                Sort::Linear
+                Sort::Stateless
             }
             Node::Arrange { .. } => Sort::Arrangement,
             Node::Join { .. } => Sort::Bilinear,

@@ -3,8 +3,8 @@ use Rattle.std.specs.List.{filter}
 use Rattle.lattice.specs.Frontiers.{is_beyond}
 use Rattle.update.specs.declared.change.Update.{Update}
 use Rattle.machine.proofs.BoardLemmas.PutLemmas.{put_kept, put_left, put_all}
-use Rattle.machine.proofs.board.reading.passed_by.Goals as goal
-use Rattle.machine.proofs.board.reading.passed_by.Goals.{then-not-is_beyond+in_ok-push, else-not-is_beyond}
+use Rattle.machine.proofs.board.reads.passed_by.Goals as goal
+use Rattle.machine.proofs.board.reads.passed_by.Goals.{then-not-is_beyond+in_ok-push, else-not-is_beyond}
 
 pub loop-update-preserved : goal.loop-update-preserved
 loop-update-preserved g c =

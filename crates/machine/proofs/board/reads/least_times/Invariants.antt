@@ -1,6 +1,6 @@
 use Rattle.std.proofs.Common.{◌≡◌, [], drop}
 use Rattle.machine.specs.Histories.Outstanding.{with_times}
-use Rattle.machine.proofs.board.reading.least_times.Given as goal
+use Rattle.machine.proofs.board.reads.least_times.Given as goal
 
 -- the least so far, with the times that are left, are the least of all
 abbrev pub invariant-loop-t : goal.invariant-loop-t

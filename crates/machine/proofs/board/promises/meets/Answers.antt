@@ -1,6 +1,6 @@
 use Rattle.machine.proofs.HistoryLemmas.HeadlineLemmas.{headline_lem}
 use Rattle.machine.proofs.HistoryLemmas.MeetsLemmas.{reads_lem}
-use Rattle.machine.proofs.board.standing.meets.Goals as goal
+use Rattle.machine.proofs.board.promises.meets.Goals as goal
 
 pub returns-clause-headline : goal.returns-clause-headline
 returns-clause-headline g c h s n = headline_lem _ _ g.met.T.PartialOrder.order _ c.known.ensures.dataflow h s.legal n
