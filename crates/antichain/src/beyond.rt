@@ -1,5 +1,5 @@
-//! Whether times are beyond a frontier that is kept as a plain list, as inside batches and holds. An [`Antichain`]
-//! asks the same of its elements.
+//! Whether times are beyond a frontier that is kept as a plain list, such as the frontiers in the description of a
+//! batch. [`Antichain`] asks the same of its elements.
 //!
 //! [`Antichain`]: crate::Antichain
 ghost use Rattle.std.specs.Prelude.{◌≡◌};
@@ -7,10 +7,10 @@ ghost use Rattle.lattice.specs.Frontiers.{is_beyond, all_beyond};
 
 use lattice::PartialOrder;
 
-/// Whether the time is beyond the frontier: some element of it is at or before the time. Otherwise the frontier has
-/// passed the time. Takes no memory.
+/// Whether the time is beyond the frontier, which means that some element of the frontier is at or before the time.
+/// Otherwise the frontier has passed the time. Takes no memory.
 ///
-/// Cost: a comparison for each element.
+/// Cost: one comparison for each element.
 pub fn is_beyond<T: PartialOrder>(frontier: &[T], t: &T) -> bool
     ensures { result ≡ is_beyond T.below frontier.now t.now }
 {
@@ -24,7 +24,7 @@ pub fn is_beyond<T: PartialOrder>(frontier: &[T], t: &T) -> bool
 
 /// Whether each element of the later frontier is beyond the earlier one. Takes no memory.
 ///
-/// Cost: a comparison for each pair of elements.
+/// Cost: one comparison for each pair of elements.
 pub fn all_beyond<T: PartialOrder>(earlier: &[T], later: &[T]) -> bool
     ensures { result ≡ all_beyond T.below earlier.now later.now }
 {

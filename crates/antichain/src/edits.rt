@@ -1,6 +1,6 @@
-//! The steps of an insertion, over the elements alone: what the new time makes superfluous goes, room is made where
-//! nothing went, and the place is found at which the order of sorting wants the time. Only making room can be
-//! refused, and then nothing has changed.
+//! The steps of an insertion, as edits of the list of elements. First the elements that the new time makes superfluous
+//! are removed. If there are none, room is made for one more. Then the time is inserted at its place in `Ord` order.
+//! Only making room can be refused, and then nothing has changed.
 ghost use Rattle.std.specs.Prelude.{◌≡◌, ◌≤◌, length, OnOk, OnErr};
 ghost use Rattle.std.specs.List.{insert};
 ghost use Rattle.smallvec.specs.SmallVec.{small_vec_len, HasRoomFor};
@@ -10,8 +10,8 @@ use crate::NoMemory;
 use lattice::Lattice;
 use smallvec::SmallVec;
 
-// Puts `t` into elements in `Ord` order, and removes those that it is at or before. It is refused only where there is
-// none of these and no room.
+// Inserts `t` into elements in `Ord` order, and removes those that it is at or before. Refused only if there are none
+// of these and there is no room.
 pub(crate) fn insert_new<T: Lattice>(elements: &mut SmallVec<T, 4>, t: T) -> Result<(), NoMemory>
     ensures ok { OnOk result
         (elements.new.items ≡ insertion T.cmp t (not_above T.below t elements.old.items)) }
@@ -27,7 +27,7 @@ pub(crate) fn insert_new<T: Lattice>(elements: &mut SmallVec<T, 4>, t: T) -> Res
     Ok(())
 }
 
-// Removes the elements that `t` is at or before; where there is none, makes room for one more.
+// Removes the elements that `t` is at or before. If there are none, makes room for one more element.
 fn make_way<T: Lattice>(elements: &mut SmallVec<T, 4>, t: T) -> Result<(), NoMemory>
     ensures rest { OnOk result (elements.new.items ≡ not_above T.below t elements.old.items) }
     ensures room { OnOk result (HasRoomFor elements.new 1) }
@@ -53,7 +53,7 @@ fn remove_above<T: Lattice>(elements: &mut SmallVec<T, 4>, t: T)
     elements.retain(|e| !t.less_equal(e));
 }
 
-// The index of the first element that comes after `t` in order, or the length.
+// The index of the first element that is greater than `t` in `Ord` order, or the length if there is none.
 fn place_of<T: Lattice>(elements: &[T], t: T) -> usize
     ensures within { result ≤ length elements.now }
     ensures place { insert elements.now result t ≡ insertion T.cmp t elements.now }

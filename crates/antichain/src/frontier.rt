@@ -1,5 +1,5 @@
-//! The antichain itself. The elements are private, and every value keeps that no two can be compared and that they lie
-//! in `Ord` order: by that a contract may see the list of them and mean the set.
+//! The antichain itself. The elements are private. In every value no two of them can be compared and they are in `Ord`
+//! order, so a contract can name the list of elements and mean the set.
 ghost use Rattle.std.specs.Prelude.{◌≡◌, ◌+◌, ◌*◌, ◌<◌, ◌≤◌, ◌↔◌, not, ◌&&◌, ◌||◌, [], ◌∷◌, length, IsTrue, IsOk, IfOk, OnOk, OnErr};
 ghost use Rattle.std.specs.List.{list_all};
 ghost use Rattle.lattice.specs.Frontiers.{is_beyond, all_beyond};
@@ -13,8 +13,8 @@ use smallvec::SmallVec;
 use std::alloc::{AllocError, Global};
 use std::marker::Model;
 
-/// A set of times of which no two can be compared, as timely dataflow has it. A contract sees the list of its elements,
-/// in `Ord` order, so that equal sets are equal lists. Up to four elements take no memory.
+/// A set of times of which no two can be compared, as in timely dataflow. A contract sees the list of its elements in
+/// `Ord` order, so that equal sets are equal lists. Up to four elements take no memory.
 #[derive(Drop)]
 pub struct Antichain<T: Lattice> {
     elements: SmallVec<T, 4>,
@@ -54,10 +54,11 @@ impl<T: Lattice> Antichain<T> {
         }
     }
 
-    /// The least of the times, in whatever order and number they are given. [`NoMemory`] only where they are more than
-    /// four.
+    /// The least of the times, which may be given in any order and repeated. [`NoMemory`] only if there are more than
+    /// four times.
     ///
-    /// Cost: each time is compared with the elements so far, of which there may be more on the way than at the end.
+    /// Cost: each time is compared with all elements held at that moment. There may be more of them on the way than in
+    /// the result, so the cost is linear in the number of times multiplied by the most elements that are ever held.
     pub fn least_of(alloc: Global, times: &[T]) -> Result<Self, NoMemory>
         ensures least { IfOk result (λ frontier. SameElements frontier (least T.below times.now)) }
         ensures beyond { IfOk result (λ frontier. (s : T)
@@ -71,7 +72,7 @@ impl<T: Lattice> Antichain<T> {
         Ok(frontier)
     }
 
-    /// The elements, of which no two can be compared, in `Ord` order. Takes no memory.
+    /// The elements, in `Ord` order; no two can be compared. Takes no memory.
     pub fn elements(&self) -> &[T]
         ensures value { result.now ≡ self.now }
         ensures frontier { IsFrontier T.below T.cmp self.now }
@@ -79,41 +80,41 @@ impl<T: Lattice> Antichain<T> {
         self.elements.as_slice()
     }
 
-    /// Costs nothing; it tells the prover that the elements are a frontier.
+    /// Tells the prover that the elements are a frontier. Costs nothing.
     pub fn known(&self)
         ensures { IsFrontier T.below T.cmp self.now }
     {
         let _ = &self.elements;
     }
 
-    /// How many elements there are. Takes no memory.
+    /// The number of elements. Takes no memory.
     pub fn len(&self) -> usize
         ensures { result ≡ length self.now }
     {
         self.elements.len()
     }
 
-    /// Whether there is no element, so that every time is passed. Takes no memory.
+    /// Whether there are no elements, so that every time has been passed. Takes no memory.
     pub fn is_empty(&self) -> bool
         ensures { IsTrue result ↔ (self.now ≡ []) }
     {
         self.elements.is_empty()
     }
 
-    /// Whether the time is beyond the antichain: some element is at or before it. Otherwise the antichain has passed
-    /// it. Takes no memory.
+    /// Whether the time is beyond the antichain, which means that some element is at or before it. Otherwise the
+    /// antichain has passed the time. Takes no memory.
     ///
-    /// Cost: a comparison for each element.
+    /// Cost: one comparison for each element.
     pub fn less_equal(&self, t: &T) -> bool
         ensures { result ≡ is_beyond T.below self.now t.now }
     {
         is_beyond(self.elements.as_slice(), t)
     }
 
-    /// Whether this antichain is beyond the other: each of its elements is, and so is each time that is beyond it. The
-    /// empty one is beyond all. Takes no memory.
+    /// Whether this antichain is beyond the other: each of its elements is beyond the other, and so is each time beyond
+    /// it. The empty antichain is beyond every antichain. Takes no memory.
     ///
-    /// Cost: a comparison for each pair of elements.
+    /// Cost: one comparison for each pair of elements.
     pub fn is_beyond(&self, other: &Antichain<T>) -> bool
         ensures value { result ≡ all_beyond T.below other.now self.now }
         ensures times { IsTrue result ↔ ((t : T)
@@ -122,13 +123,13 @@ impl<T: Lattice> Antichain<T> {
         all_beyond(other.elements.as_slice(), self.elements.as_slice())
     }
 
-    /// Adds a time: the elements are then the least of the old ones and the time. True where the time was not beyond
-    /// the antichain; otherwise nothing changes.
+    /// Adds a time: the elements are then the least of the old elements and the time. Returns true if the time was not
+    /// beyond the antichain; otherwise nothing changes.
     ///
-    /// [`NoMemory`] only where the set would grow past four elements: at least that many are there, and the time can be
-    /// compared with none. Then nothing changes.
+    /// [`NoMemory`] only if the set would grow past four elements, which means that there are at least four and none of
+    /// them can be compared with the time. Then nothing changes.
     ///
-    /// Cost: linear in the elements.
+    /// Cost: linear in the number of elements.
     pub fn insert(&mut self, t: T) -> Result<bool, NoMemory>
         ensures least { OnOk result (SameElements self.new (least T.below (t ∷ self.old))) }
         ensures beyond { OnOk result ((s : T)
@@ -149,11 +150,12 @@ impl<T: Lattice> Antichain<T> {
         Ok(true)
     }
 
-    /// The antichain of the times that are beyond both: a time is beyond the result exactly when it is beyond this one
-    /// and the other. [`NoMemory`] only where there are more than four pairs of elements.
+    /// The antichain of the times that are beyond both: a time is beyond the result if and only if it is beyond this
+    /// antichain and beyond the other. [`NoMemory`] only if there are more than four pairs of elements.
     ///
-    /// Cost: the join of each pair of elements is compared with the elements so far, of which there may be more on the
-    /// way than at the end.
+    /// Cost: the join of each pair of elements is compared with all elements held at that moment. There may be more of
+    /// them on the way than in the result, so the cost is linear in the number of pairs multiplied by the most elements
+    /// that are ever held.
     pub fn joined(&self, other: &Antichain<T>) -> Result<Antichain<T>, NoMemory>
         ensures beyond { IfOk result (λ both. (t : T)
             → is_beyond T.below both t
@@ -168,7 +170,7 @@ impl<T: Lattice> Antichain<T> {
     }
 }
 
-// Adds the joins of one time with each of the others.
+// Inserts the joins of one time with each of the others.
 fn insert_joins<T: Lattice>(both: &mut Antichain<T>, f: T, others: &[T]) -> Result<(), NoMemory>
     ensures beyond { OnOk result ((t : T) → is_beyond T.below both.new t
         ≡ (is_beyond T.below both.old t || (T.below f t && is_beyond T.below others.now t))) }
@@ -181,7 +183,7 @@ fn insert_joins<T: Lattice>(both: &mut Antichain<T>, f: T, others: &[T]) -> Resu
     Ok(())
 }
 
-/// A copy of at most four elements is never refused.
+/// A copy. It is never refused if there are at most four elements.
 impl<T: Lattice> Clone for Antichain<T> {
     ghost use Rattle.std.specs.Prelude.{◌≡◌, ◌≤◌, length};
 
@@ -196,7 +198,7 @@ impl<T: Lattice> Clone for Antichain<T> {
     }
 }
 
-/// Two antichains are equal exactly where they have the same elements.
+/// Two antichains are equal if and only if they have the same elements.
 impl<T: Lattice> PartialEq for Antichain<T> {
     ghost use Rattle.std.specs.Prelude.{◌≡◌, ◌↔◌, IsTrue};
     ghost use Rattle.std.specs.Cmp.Lexicographic.{pointwise, lists_per};

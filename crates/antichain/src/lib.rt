@@ -1,17 +1,18 @@
 //! Antichains of times: the frontiers of a dataflow.
 //!
-//! A frontier says which times are still open: those at or after one of its elements. A few times suffice for that,
-//! none at or after another, which is an antichain. A worker asks two things of one: whether a time is still open, and
-//! what becomes of it when one more time opens. So [`Antichain`] keeps no more than the least of all times that went
-//! in, and `insert` answers whether the time was news.
+//! A frontier says which times are still open: those at or after one of its elements. A few elements are enough for
+//! that if none of them is at or after another; such a set is an antichain. A worker asks two things of a frontier:
+//! whether a time is still open, and whether the frontier changes when one more time opens. So [`Antichain`] keeps only
+//! the least of all times that were inserted, and `insert` says whether the time opened anything new.
 //!
-//! The one invariant: no two elements can be compared, and they lie in `Ord` order. Contracts see the list of the
-//! elements, and by the invariant equal sets are equal lists: [`frontiers_are_determined`] proves it, also from the
-//! times that are beyond. So a clause of a layer above says `frontier ≡ ..` and never "the same set as".
+//! The one invariant: no two elements can be compared, and the elements are in `Ord` order. Contracts see the list of
+//! the elements, and because of the invariant equal sets are equal lists. [`frontiers_are_determined`] proves this,
+//! also for two frontiers that have the same times beyond them. So a clause of a layer above says `frontier ≡ ..` and
+//! never "the same set as".
 //!
-//! Most frontiers have one or two elements, so four are kept inline and take no memory. An earlier form built a new
-//! list at each insertion, which asked for memory again and again once there were five; this one edits in place, and
-//! asks for memory only where the set really grows.
+//! Most frontiers have one or two elements, so four are stored inline and take no memory. An earlier version built a
+//! new list at each insertion, and with five elements it allocated again and again. This one edits in place, and
+//! allocates only if the set grows.
 #![tactic(auto)]
 
 mod beyond;

@@ -1,20 +1,20 @@
-//! The one refusal of this crate. It stands below the crate whose refusals have numbers, so it has a type of its own
-//! that is turned into one of those by `From`.
+//! The one refusal of this crate. The numbered list of refusals is in the crate `update`, which stands on this one. So
+//! this refusal has a type of its own, and `From` turns it into one of that list.
 ghost use Rattle.std.specs.Prelude.{◌≡◌};
 
 use std::alloc::{AllocError, AllocFailed};
 use thiserror::Error;
 
-// The number of this refusal among all refusals.
+// The number of this refusal in the list of all refusals.
 const NUMBER: u8 = 1;
 
-/// A growth was refused.
+/// Memory for one more element was refused.
 #[derive(Clone, Copy, Debug, PartialEq, Eq, Error)]
 #[error("no memory")]
 pub struct NoMemory;
 
 impl NoMemory {
-    /// The number of this refusal among all refusals: 1.
+    /// The number of this refusal in the list of all refusals: 1.
     pub fn code(self) -> u8
         ensures { result ≡ 1 }
     {

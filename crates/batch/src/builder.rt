@@ -1,5 +1,5 @@
-//! How a batch comes to be. A worker pushes updates as they come, in any order, and seals them once the interval in which
-//! they happened is over. Nothing is sorted or added up before that, so that a push costs next to nothing.
+//! How a batch is built. Updates are pushed as they come, in any order, and sealed once their interval is over. Nothing
+//! is sorted or added up before that, so a push costs next to nothing.
 ghost use Rattle.std.specs.Prelude.{◌≡◌, ◌≤◌, ◌↔◌, ◌⊎◌, ◌∷◌, ◌++◌, [], List, ℤ, Bool, Err, IfOk, IfErr, OnOk, OnErr, IsTrue, ◌&&◌};
 ghost use Rattle.lattice.specs.Frontiers.{all_beyond};
 ghost use Rattle.update.specs.Bags.{Alike};
@@ -16,7 +16,7 @@ use std::alloc::Global;
 use std::marker::Model;
 use update::{Refusal, Update};
 
-/// Updates of a worker at a node, which are to become a batch. A contract sees both names and the list of what was
+/// Updates of one worker at one node that are to become a batch. A contract sees both numbers and the list of what was
 /// pushed, the latest last.
 #[derive(Drop)]
 pub struct Builder<T: Lattice> {
@@ -45,8 +45,8 @@ impl<T: Lattice> Builder<T> {
         }
     }
 
-    /// Adds an update, of whatever row, time and difference. [`Refusal::OutOfMemory`] only if memory for one more was
-    /// refused; then the builder stays as it was, and the update is dropped.
+    /// Adds an update with any row, time and difference. [`Refusal::OutOfMemory`] only if memory for one more was
+    /// refused; the update is then dropped, and the builder stays as it was.
     pub fn push(&mut self, update: Update<T>) -> Result<(), Refusal>
         ensures ok { OnOk result
             (self.new ≡ record self.old { updates = self.old.updates ++ update ∷ [] }) }
@@ -59,17 +59,17 @@ impl<T: Lattice> Builder<T> {
 }
 
 impl<T: Minimum> Builder<T> {
-    /// Seals what was pushed: a batch of the one list that is consolidated, in order of row, then time, and has the same
-    /// total of each row at each time. Its times are those between the frontiers, beyond `lower` and passed by `upper`,
-    /// and nothing of it has been moved: its since is the least time.
+    /// Seals what was pushed. The batch has the only list that is sealed (consolidated, in order of row, then time) and
+    /// has the same total of each row at each time. All its times are between the frontiers: beyond `lower` and passed
+    /// by `upper`. No time has been moved, so its since is the least time. On a refusal the updates are dropped.
     ///
-    /// - [`Refusal::Stray`] exactly where `upper` is not beyond `lower`, or the time of a pushed update is not between
-    ///   them, also of one that another takes back.
-    /// - Else [`Refusal::Overflow`] exactly where the total of some row at some time is no 64-bit number.
-    /// - Else [`Refusal::OutOfMemory`] only where memory for the frontiers was refused; the updates take none.
+    /// - [`Refusal::Stray`] if and only if `upper` is not beyond `lower`, or the time of a pushed update is not between
+    ///   them, even if another update cancels it.
+    /// - Otherwise [`Refusal::Overflow`] if and only if the total of some row at some time is no 64-bit number.
+    /// - Otherwise [`Refusal::OutOfMemory`] only if memory for the frontiers was refused; the updates take none.
     ///
-    /// Cost: n log n comparisons in the number of updates, for two sorts in place, and a comparison of each update with
-    /// each element of the frontiers.
+    /// Cost: n log n comparisons in the number of updates, for two sorts in place, and one comparison of each update
+    /// with each element of the frontiers.
     pub fn seal(self, lower: &Antichain<T>, upper: &Antichain<T>) -> Result<Batch<T>, Refusal>
         ensures described { IfOk result (λ batch. batch.description ≡ record {
           worker = self.worker;
@@ -109,7 +109,7 @@ impl<T: Minimum> Builder<T> {
     }
 }
 
-// A description of updates whose times have not been moved: any time is beyond its since.
+// The description of updates whose times have not been moved: every time is beyond its since.
 fn unmoved<T: Minimum>(
     alloc: Global,
     worker: usize,
@@ -138,7 +138,7 @@ fn unmoved<T: Minimum>(
     )
 }
 
-// Whether the upper frontier is beyond the lower one, and each update's time between them.
+// Whether the upper frontier is beyond the lower one, and each update's time is between them.
 fn is_interval<T: Lattice>(
     updates: &[Update<T>],
     lower: &Antichain<T>,
@@ -149,7 +149,7 @@ fn is_interval<T: Lattice>(
     upper.is_beyond(lower) && are_between(updates, lower.elements(), upper.elements())
 }
 
-// Whether each update's time is beyond the lower frontier, and passed by the upper one.
+// Whether each update's time is beyond the lower frontier and passed by the upper one.
 fn are_between<T: Lattice>(updates: &[Update<T>], lower: &[T], upper: &[T]) -> bool
     ensures { result ≡ all_between T.below lower.now upper.now updates.now }
 {

@@ -1,8 +1,9 @@
-//! What a batch says of itself: whose updates it has, the interval in which they happened, and as of which frontier
-//! their times may have been moved. A spine fits batches together by descriptions alone.
+//! The description of a batch: whose updates it has, the interval of their times, and the frontier as of which their
+//! times may have been moved. A spine will fit batches together by their descriptions alone.
 //!
-//! The frontiers are antichains, kept as plain lists, whose size is known whatever the times are. That they are
-//! antichains, in order, and that the upper one is beyond the lower one is the invariant: no batch goes backwards.
+//! The frontiers are antichains, kept as plain lists, so that the size of a description does not depend on the type of
+//! times. The invariant: the three are antichains in `Ord` order, and the upper one is beyond the lower one, so no
+//! interval goes backwards.
 ghost use Rattle.std.specs.Prelude.{◌≡◌, ◌↔◌, ◌⊎◌, Err, IfOk, IfErr, OnOk, IsTrue};
 ghost use Rattle.lattice.specs.Frontiers.{all_beyond};
 ghost use Rattle.antichain.specs.Antichains.{IsFrontier};
@@ -15,8 +16,8 @@ use std::alloc::Global;
 use std::marker::Model;
 use update::Refusal;
 
-/// Whose updates a batch has, and between which frontiers. A contract sees the names and the frontiers, each as the list
-/// of its elements in `Ord` order.
+/// Whose updates a batch has, and between which frontiers. A contract sees the worker, the node and the frontiers, each
+/// as the list of its elements in `Ord` order.
 #[derive(Drop)]
 pub struct Description<T: Lattice> {
     worker: usize,
@@ -43,7 +44,7 @@ impl<T: Lattice> Model for Description<T> {
 }
 
 impl<T: Lattice> Description<T> {
-    // A description with copies of these frontiers. Refused only where memory for them is.
+    // A description with copies of these frontiers. Refused only if memory for them is refused.
     pub(crate) fn new(
         alloc: Global,
         worker: usize,
@@ -72,8 +73,8 @@ impl<T: Lattice> Description<T> {
         })
     }
 
-    // The description of this interval and the next one together. `Stray` where that one does not go on where this one
-    // ends, or the names differ; else refused only where memory is.
+    // The description of this interval and the next one together. `Stray` if the next one does not begin where this one
+    // ends, or if the workers or nodes differ. Otherwise refused only if memory is refused.
     pub(crate) fn followed_by(
         &self,
         alloc: Global,
@@ -109,7 +110,7 @@ impl<T: Lattice> Description<T> {
         )
     }
 
-    // Whether the next interval begins where this one ends, and the names are the same.
+    // Whether the next interval begins where this one ends, and the worker and node are the same.
     fn is_followed_by(&self, next: &Description<T>) -> bool
         ensures { IsTrue result ↔ Follows self.now next.now }
     {
@@ -138,7 +139,7 @@ impl<T: Lattice> Description<T> {
         self.node
     }
 
-    /// The frontier from which on the updates happened. Takes no memory.
+    /// The lower frontier: the times of the updates are beyond it. Takes no memory.
     pub fn lower(&self) -> &[T]
         ensures value { result.now ≡ self.now.lower }
         ensures frontier { IsFrontier T.below T.cmp self.now.lower }
@@ -147,7 +148,7 @@ impl<T: Lattice> Description<T> {
         self.lower.as_slice()
     }
 
-    /// The frontier up to which the updates happened; it is beyond the lower one. Takes no memory.
+    /// The upper frontier, which has passed the times of the updates and is beyond the lower frontier. Takes no memory.
     pub fn upper(&self) -> &[T]
         ensures value { result.now ≡ self.now.upper }
         ensures frontier { IsFrontier T.below T.cmp self.now.upper }
@@ -156,7 +157,7 @@ impl<T: Lattice> Description<T> {
         self.upper.as_slice()
     }
 
-    /// The frontier as of which times may have been moved: reads beyond it are exact. Takes no memory.
+    /// The frontier as of which times may have been moved: reads at times beyond it are exact. Takes no memory.
     pub fn since(&self) -> &[T]
         ensures value { result.now ≡ self.now.since }
         ensures frontier { IsFrontier T.below T.cmp self.now.since }

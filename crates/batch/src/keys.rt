@@ -1,5 +1,5 @@
-//! Where the rows of a key stand. In a list in order of rows, the rows that begin with the columns of a key follow one
-//! another: those before them begin with less, those behind them with more. So two binary searches find both ends.
+//! Finding the rows of a key. In a list sorted by row, the rows that begin with the columns of a key are neighbours:
+//! the rows before them begin with less, and the rows after them with more. So two binary searches find both ends.
 ghost use Rattle.std.specs.Prelude.{◌≡◌, ◌≤◌, true, false, length, take, slice_range};
 ghost use Rattle.std.specs.List.{filter};
 ghost use Rattle.std.specs.List.Sorted.{IsStrictlySortedBy, IsPartitionPoint};
@@ -13,7 +13,7 @@ use std::cmp::Ordering;
 use std::ops::Range;
 use update::Update;
 
-// How the row's first columns, as many as the key has, compare with the key. A row that is shorter counts whole.
+// Compares the beginning of the row, as many columns as the key has, with the key. A shorter row is compared whole.
 fn compare_key(row: &Row, key: &[i64]) -> Ordering
     ensures { result ≡ slice_cmp int_cmp (take (length key.now) row.now) key.now }
 {
@@ -21,7 +21,7 @@ fn compare_key(row: &Row, key: &[i64]) -> Ordering
     columns[..columns.len().min(key.len())].cmp(key)
 }
 
-// Where the updates begin whose rows do not begin with less than the key.
+// The index of the first update whose row begins with the key or with more.
 fn first_not_before<T: Lattice>(updates: &[Update<T>], key: &[i64]) -> usize
     requires { IsStrictlySortedBy (by_row_then_time T.cmp) updates.now }
     ensures within { result ≤ length updates.now }
@@ -31,7 +31,7 @@ fn first_not_before<T: Lattice>(updates: &[Update<T>], key: &[i64]) -> usize
     updates.partition_point(|u| compare_key(&u.row, key).is_lt())
 }
 
-// Where the updates begin whose rows begin with more than the key.
+// The index of the first update whose row begins with more than the key.
 fn first_after<T: Lattice>(updates: &[Update<T>], key: &[i64]) -> usize
     requires { IsStrictlySortedBy (by_row_then_time T.cmp) updates.now }
     ensures within { result ≤ length updates.now }

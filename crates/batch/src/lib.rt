@@ -1,21 +1,23 @@
 //! Batches: sealed, immutable lists of updates.
 //!
-//! Once no more changes can come for an interval of times, what a worker gathered at a node is sealed: consolidated, put
-//! in order, and never changed again. That is what makes a batch worth keeping. A spine will keep many of them, and joins and
-//! reductions will read them without asking each other, since nobody can change what another reads.
+//! A batch holds the updates of one node at one worker for an interval of times that can get no more changes. The
+//! updates are consolidated and put in order once, when the batch is sealed, and never change again. So it can be
+//! shared: a spine will keep many batches, and joins and reductions will read them without coordination, because nobody
+//! can change what another reads.
 //!
-//! The one invariant is the order: by row, then by time, one update for each row and time, and none of nothing. Rows come
-//! first, so that the updates of a key stand together, whatever its width: [`BatchReader::key_range`] finds them by two
-//! binary searches, and a join can go through two batches side by side. A list of updates that travels is sorted by time
-//! first; here nobody asks what happened when, but what happened to a key.
+//! The one invariant is the order: by row, then by time, with one update for each row and time, and none with
+//! difference 0. Rows come first, so that the updates of a key are neighbours, whatever the width of the key.
+//! [`BatchReader::key_range`] finds them by two binary searches, and a join will be able to go through two batches side
+//! by side. A list of updates that travels is sorted by time first. A batch is not, since its readers do not ask what
+//! happened at a time, but what happened to a key.
 //!
 //! - A [`Builder`] gathers updates in any order and seals them between two frontiers.
-//! - A [`Batch`] names its worker and node and the interval that it covers, in a [`Description`], and is read by index
-//!   through [`BatchReader`], which is all that operators know of it.
+//! - A [`Batch`] has a [`Description`], which names its worker, its node and the interval that it covers. It is read by
+//!   index through [`BatchReader`], which is all that operators will know of it.
 //! - [`merge`] makes one batch of two neighbouring ones, in one pass.
 //!
-//! Totals are counted as the crate `update` counts them, and refused only where one is no 64-bit number: no order of
-//! pushes and no order of merges makes a total too large that is not.
+//! Totals are computed as in the crate `update`, so the order of pushes never decides whether a seal is refused. A
+//! merge is refused for a total only if that total over its two batches is no 64-bit number.
 #![tactic(auto)]
 
 mod batch;

@@ -1,8 +1,9 @@
-//! Merging two batches of neighbouring intervals into one. Both are in order, so one pass with a finger in each suffices:
-//! the lesser of the two updates under the fingers is copied, and two of one row and time become one, or none.
+//! Merging two batches of neighbouring intervals into one. Both are in order, so one pass with a cursor in each is
+//! enough. The lesser of the two updates at the cursors is copied; if both have the same row and time, they become one
+//! update, or none if their differences add up to 0.
 //!
-//! The lists that are read stay as they are, since readers may hold them; so the merged one is a new list. Times stay as
-//! they are too: the new since is named, and nothing is moved to it.
+//! The lists that are read stay as they are, since readers may hold them, so the merged list is a new one. Times stay
+//! as they are too: the new `since` is recorded, and no time is moved to it.
 ghost use Rattle.std.specs.Prelude.{◌≡◌, ◌≤◌, ◌<◌, ◌+◌, ◌⊎◌, ◌∷◌, ◌++◌, [], List, drop, length, ℤ, ◌+ℤ◌, Bool, FitsSigned, IfOk, IfErr, OnOk, IsTrue};
 ghost use Rattle.std.specs.Int.{w64};
 ghost use Rattle.std.specs.List.{AllByRecursion, list_all};
@@ -18,7 +19,7 @@ use std::alloc::Global;
 use std::cmp::Ordering;
 use update::{Refusal, Update};
 
-// How many updates of each list have been read.
+// The number of updates of each list that have been read.
 #[derive(Clone, Copy)]
 struct MergeCursors {
     left: usize,
@@ -32,7 +33,7 @@ fn compare<T: Lattice>(u: &Update<T>, v: &Update<T>) -> Ordering
     u.row.cmp(&v.row).then(u.time.cmp(&v.time))
 }
 
-// Writes a copy of an update.
+// Appends a copy of an update.
 fn push_copy<T: Lattice>(out: &mut Vec<Update<T>>, update: &Update<T>) -> Result<(), Refusal>
     ensures written { OnOk result (out.new.items ≡ out.old.items ++ update.now ∷ []) }
     ensures fits { FitsSigned w64 update.now.diff }
@@ -42,7 +43,7 @@ fn push_copy<T: Lattice>(out: &mut Vec<Update<T>>, update: &Update<T>) -> Result
     Ok(())
 }
 
-// Writes one update for two of one row and time, or none where they take each other back.
+// Appends one update for two of the same row and time, or none if their differences add up to 0.
 fn push_sum<T: Lattice>(
     out: &mut Vec<Update<T>>,
     u: &Update<T>,
@@ -67,7 +68,7 @@ fn push_sum<T: Lattice>(
     Ok(())
 }
 
-// Writes the lesser of the two updates under the fingers, or both together where they are of one row and time.
+// Appends the lesser of the two updates at the cursors, or the sum of both if they have the same row and time.
 fn take_next<T: Lattice>(
     out: &mut Vec<Update<T>>,
     us: &[Update<T>],
@@ -116,7 +117,7 @@ fn take_next<T: Lattice>(
     }
 }
 
-// Copies a list to the end of another.
+// Appends a copy of a list.
 fn copy_all<T: Lattice>(out: &mut Vec<Update<T>>, rest: &[Update<T>]) -> Result<(), Refusal>
     ensures written { OnOk result (out.new.items ≡ out.old.items ++ rest.now) }
     ensures fit { OnOk result (AllByRecursion (λ u. FitsSigned w64 u.diff) rest.now) }
@@ -128,7 +129,7 @@ fn copy_all<T: Lattice>(out: &mut Vec<Update<T>>, rest: &[Update<T>]) -> Result<
     Ok(())
 }
 
-// Goes through both lists until one of them ends, and says how far that is.
+// Merges both lists until one of them ends, and returns how far it got in each.
 fn take_from_both<T: Lattice>(
     out: &mut Vec<Update<T>>,
     us: &[Update<T>],
@@ -149,7 +150,7 @@ fn take_from_both<T: Lattice>(
     Ok(at)
 }
 
-// The one sealed list with the totals of both. `Overflow` only where some total of both is no 64-bit number.
+// The only sealed list with the totals of both lists together. `Overflow` only if such a total is no 64-bit number.
 pub(crate) fn merged_list<T: Lattice>(
     alloc: Global,
     us: &[Update<T>],

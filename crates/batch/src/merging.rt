@@ -1,4 +1,4 @@
-//! The public side of merging: which two batches make one, and what that one is.
+//! The public side of merging: which two batches can be merged, and what the merged batch is.
 ghost use Rattle.std.specs.Prelude.{◌≡◌, ◌≤◌, ◌+◌, ◌↔◌, ◌⊎◌, ◌++◌, List, ℤ, Bool, Err, IfOk, IfErr, OnOk, IsTrue};
 ghost use Rattle.std.specs.List.{list_all};
 ghost use Rattle.update.specs.Bags.{Alike};
@@ -14,18 +14,19 @@ use antichain::Antichain;
 use lattice::Lattice;
 use update::Refusal;
 
-/// The batch of two neighbouring ones: it reaches from the lower frontier of `a` to the upper one of `b`, and has the
-/// one list in order whose total of each row at each time is that of both together. So it sums to what both sum to at
-/// every time. Times stay as they are: `since` is named, and no more. Both batches stay as they are too.
+/// Merges two neighbouring batches. The result reaches from the lower frontier of `a` to the upper frontier of `b`, and
+/// its list is the only sealed list in which each row at each time has its total over both batches. So at every time it
+/// sums to the sum of both. Both batches stay as they are. Times stay as they are too: `since` is recorded in the
+/// description, but no time is moved to it.
 ///
-/// - [`Refusal::Stray`] exactly where `b` does not begin at the frontier at which `a` ends, or their workers or nodes
+/// - [`Refusal::Stray`] if and only if `b` does not begin at the frontier at which `a` ends, or their workers or nodes
 ///   differ.
-/// - [`Refusal::Overflow`] only where the total of both of some row at some time is no 64-bit number, and no batch is
-///   given there.
-/// - [`Refusal::OutOfMemory`] only where memory for the new batch was refused.
+/// - [`Refusal::Overflow`] only if the total of some row at some time over both batches is no 64-bit number, and no
+///   batch is given in that case.
+/// - [`Refusal::OutOfMemory`] only if memory for the new batch was refused.
 ///
-/// Cost: linear in the updates of both, in one pass: each is compared and copied at most once. Memory for both is taken
-/// at once.
+/// Cost: linear in the number of updates of both, in one pass: each step makes one comparison and finishes at least one
+/// update, and each update is copied at most once. Memory for the updates of both is allocated at once.
 pub fn merge<T: Lattice>(
     a: &Batch<T>,
     b: &Batch<T>,

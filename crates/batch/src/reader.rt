@@ -1,5 +1,5 @@
-//! How a batch is read. Operators are written against this trait and never against a batch, so that how updates
-//! are laid out may change without them.
+//! How a batch is read. Operators are to be written against this trait and not against [`Batch`](crate::Batch), so that
+//! the layout of updates can change without them.
 ghost use Rattle.std.specs.Prelude.{◌≡◌, ◌<◌, ◌≤◌, List, length, slice_get, slice_range, IsSomeAnd};
 ghost use Rattle.std.specs.List.{filter};
 ghost use Rattle.batch.specs.Batches.{IsSealed, begins_with};
@@ -9,8 +9,8 @@ use lattice::Lattice;
 use row::Row;
 use std::ops::Range;
 
-/// A list of updates in order of row, then time, with at most one of each row and time and none of nothing, that is
-/// read by index. So the updates of a key stand next to one another.
+/// A list of updates that is read by index. It is in order of row, then time, with at most one update for each row and
+/// time, and none with difference 0. So the updates of a key are neighbours.
 pub trait BatchReader {
     ghost use Rattle.update.specs.declared.change.Update.{Update};
     ghost use Rattle.batch.specs.Descriptions.{DescriptionState};
@@ -21,32 +21,31 @@ pub trait BatchReader {
 
     ghost described: { Self → DescriptionState Self.Time };
 
-    /// Whose updates these are, and between which frontiers. Takes no memory.
+    /// Which worker and node the updates belong to, and between which frontiers. Takes no memory.
     fn description(&self) -> &Description<Self::Time>
         ensures { result.now ≡ described self.now };
 
-    /// How many updates there are, which are in order. Takes no memory.
+    /// The number of updates, which are in order. Takes no memory.
     fn len(&self) -> usize
         ensures len { result ≡ length (content self.now) }
         ensures ordered { IsSealed Self.Time.cmp (content self.now) };
 
-    /// The row of update number `i`, counted from 0. Takes no memory.
+    /// The row of update `i`, counted from 0. Takes no memory.
     fn row(&self, i: usize) -> Row
         requires { i < length (content self.now) }
         ensures { IsSomeAnd (slice_get (content self.now) i) (λ u. result ≡ u.row) };
 
-    /// The time of update number `i`. Takes no memory.
+    /// The time of update `i`, counted from 0. Takes no memory.
     fn time(&self, i: usize) -> Self::Time
         requires { i < length (content self.now) }
         ensures { IsSomeAnd (slice_get (content self.now) i) (λ u. result ≡ u.time) };
 
-    /// The difference of update number `i`, which is not 0. Takes no memory.
+    /// The difference of update `i`, counted from 0; it is not 0. Takes no memory.
     fn diff(&self, i: usize) -> i64
         requires { i < length (content self.now) }
         ensures { IsSomeAnd (slice_get (content self.now) i) (λ u. result ≡ u.diff) };
 
-    /// Where the updates stand whose rows begin with the columns of the key: they are exactly this range. Takes no
-    /// memory.
+    /// The range of exactly those updates whose rows begin with the columns of the key. Takes no memory.
     fn key_range(&self, key: &[i64]) -> Range<usize>
         ensures ordered { result.start ≤ result.end }
         ensures within { result.end ≤ length (content self.now) }

@@ -1,5 +1,5 @@
-//! Putting a list in the order of a batch. Consolidation leaves one update for each row and time, in order of times; one
-//! more sort brings the rows together, and changes nothing else.
+//! Putting a list in the order of a batch. Consolidation leaves one update for each row and time, in order of time. One
+//! more sort brings the rows together and changes nothing else.
 ghost use Rattle.std.specs.Prelude.{◌≡◌, ◌≤◌, ◌↔◌, List, ℤ, Bool, IfOk, IfErr, IsErr, IsTrue};
 ghost use Rattle.std.specs.List.{list_all};
 ghost use Rattle.std.specs.List.Sorted.{IsPermutation};
@@ -19,7 +19,7 @@ fn sort_by_row<T: Lattice>(updates: &mut Vec<Update<T>>)
     updates.sort_unstable_by(|u, v| u.row.cmp(&v.row).then(u.time.cmp(&v.time)));
 }
 
-// The one sealed list with the totals of these updates.
+// The only sealed list with the totals of these updates.
 pub(crate) fn sealed_list<T: Lattice>(updates: Vec<Update<T>>) -> Result<Vec<Update<T>>, Refusal>
     ensures sealed { IfOk result (λ out. IsSealed T.cmp out.items) }
     ensures totals { IfOk result (λ out. (p : List ℤ → T → Bool)

@@ -1,5 +1,5 @@
-//! Products of times: a pair is at or before another where both components are. Each trait of times holds at a pair
-//! of any two types at which it holds, so three axes are a pair of a pair and a number.
+//! Products of times: a pair is at or before another if both of its components are. If both component types implement
+//! one of the traits of times, then so does the pair. So a timestamp with three axes is a pair of a pair and a number.
 ghost use Rattle.std.specs.Prelude.{Some, codes};
 ghost use Rattle.std.specs.Fmt.{◌++?◌};
 ghost use Rattle.std.proofs.lemmas.Bool.{and_from};
@@ -10,13 +10,13 @@ use std::fmt;
 /// A time with two axes. It sorts by its first component, then by its second.
 #[derive(Clone, Copy, Default, PartialEq, Eq, PartialOrd, Ord)]
 pub struct Pair<A, B> {
-    /// The time along the first axis: of a [`Bitime`], the valid time.
+    /// The time along the first axis: the valid time of a [`Bitime`].
     pub first: A,
-    /// The time along the second axis: of a [`Bitime`], the system time.
+    /// The time along the second axis: the system time of a [`Bitime`].
     pub second: B,
 }
 
-/// A valid time, from which on a change holds, and a system time, at which it was recorded.
+/// A valid time, from which on a change is in effect, and a system time, at which it was recorded.
 pub type Bitime = Pair<u64, u64>;
 
 impl<A: PartialOrder, B: PartialOrder> PartialOrder for Pair<A, B> {
@@ -79,7 +79,7 @@ impl<A: Minimum, B: Minimum> Minimum for Pair<A, B> {
     }
 }
 
-/// The words of both components, parted by one space, as a script writes a time: `5 2`, or `5 2 7` with three axes.
+/// Both components, separated by one space, as a script writes a time: `5 2`, or `5 2 7` with three axes.
 impl<A: fmt::Display, B: fmt::Display> fmt::Display for Pair<A, B> {
     ghost output = { λ p. A.output p.first ++? Some (codes " ") ++? B.output p.second };
 

@@ -1,8 +1,8 @@
 //! Linear nodes, applied to updates in place.
 //!
-//! A map and a negation write each update anew where it stands. A filter moves what passes to the front, in the order in
-//! which it stood, and cuts off the rest. The others hand on what comes: a concat is the merging of two lists of updates
-//! into one, and a caller that takes from both ports has merged them already. So no operator asks for memory.
+//! A map and a negation overwrite each update where it stands. A filter moves the updates that pass to the front, in
+//! their old order, and cuts off the rest. The other nodes pass on what comes: a concat merges two lists of updates
+//! into one, and a caller that takes from both ports has merged them already. So no operator allocates.
 ghost use Rattle.std.specs.Prelude.{◌≡◌, ◌≤◌, ◌↔◌, ℕ, Bool, map, length, IfOk, IfErr, IsErr, OnOk, IsTrue};
 ghost use Rattle.std.specs.List.{filter, list_all};
 ghost use Rattle.row.specs.Testing.{passes, is_test_within};
@@ -19,7 +19,7 @@ use plan::Node;
 use row::{Item, Test, holds, project};
 use update::{Refusal, Update, Weight};
 
-// Makes of each row its image.
+// Replaces each row by its image.
 fn map_rows<T: Lattice>(updates: &mut [Update<T>], items: &[Item])
     requires { IsTrue (list_all (λ u. takes_items items.now (length u.row)) updates.old) }
     ensures { updates.new ≡ map (mapped_update items.now) updates.old }
@@ -29,7 +29,7 @@ fn map_rows<T: Lattice>(updates: &mut [Update<T>], items: &[Item])
     }
 }
 
-// Keeps the updates whose rows pass.
+// Keeps the updates whose rows pass the test.
 fn keep_passing<T: Lattice>(updates: &mut Vec<Update<T>>, test: &Test)
     requires { IsTrue (list_all (λ u. is_test_within test.now (length u.row)) updates.old.items) }
     ensures { updates.new.items ≡ filter (λ u. passes test.now u.row) updates.old.items }
@@ -44,7 +44,7 @@ fn keep_passing<T: Lattice>(updates: &mut Vec<Update<T>>, test: &Test)
     updates.truncate(kept);
 }
 
-// Gives each diff the other sign.
+// Negates each diff.
 fn negate_diffs<T: Lattice>(updates: &mut [Update<T>]) -> Result<(), Refusal>
     ensures negated { OnOk result (updates.new ≡ map negated_update updates.old) }
     ensures large { IsErr result ↔ HasLargeDiff (map negated_update updates.old) }
@@ -59,16 +59,16 @@ fn negate_diffs<T: Lattice>(updates: &mut [Update<T>]) -> Result<(), Refusal>
     Ok(())
 }
 
-/// What a linear node makes of the updates that come to one of its ports: of each row its image for a map, the rows that
-/// pass for a filter, each row as often with the other sign for a negation, and else what came. Times stay, and so does
-/// the order. At every time the list that comes out sums to the operator on what the list sums to.
+/// Applies a linear node to the updates that come to one of its ports. A map replaces each row by its image, a filter
+/// keeps the rows that pass, a negation negates each difference, and any other node passes on what comes. The times
+/// stay, and so does the order. At every time, the sum of the output is the operator's output for the sum of the input.
 ///
-/// The node is no join and no reduction, and has only columns of the rows in its items or its test: in a plan it has
-/// ([`plans_fit`](crate::plans_fit)). [`Refusal::Overflow`] exactly where the node is a negation and some difference is
-/// the least of 64 bits, whose opposite is none; the list is then dropped. Takes no memory.
+/// The node must be no join and no reduction, and the rows must have the columns that its items or its test name; both
+/// hold in a plan ([`plans_fit`](crate::plans_fit)). [`Refusal::Overflow`] if and only if the node is a negation and
+/// some difference is -2^63, whose opposite does not fit in 64 bits; the list is then dropped. Takes no memory.
 ///
-/// Cost: linear in the updates, and constant time where the node hands on what comes. The list is not consolidated: rows
-/// with one image stay apart.
+/// Cost: linear in the number of updates, and constant if the node passes on what comes. The list is not consolidated:
+/// rows with the same image stay apart.
 pub fn apply<T: Lattice>(
     node: &Node,
     mut updates: Vec<Update<T>>,

@@ -1,4 +1,4 @@
-//! What [`apply`](crate::apply) asks of a node and of rows, as tests, for a caller that has no plan that says so.
+//! Tests of what [`apply`](crate::apply) requires of a node and of rows, for a caller without a plan.
 ghost use Rattle.std.specs.Prelude.{◌≡◌};
 ghost use Rattle.plan.specs.Rules.{is_width};
 ghost use Rattle.linear.specs.Widths.{takes_items, takes_width, takes_rows};
@@ -8,9 +8,9 @@ use plan::Node;
 use row::{Item, are_within};
 use update::Update;
 
-/// Whether each row has the columns that the node names, and what the node makes of it is a row. Takes no memory.
+/// Whether each row has the columns that the node names, and the node makes a row of it. Takes no memory.
 ///
-/// Cost: linear in the updates, and for a map in its items for each of them.
+/// Cost: linear in the number of updates; for a map, times the number of its items.
 pub fn takes_rows<T: Lattice>(node: &Node, updates: &[Update<T>]) -> bool
     ensures { result ≡ takes_rows node.now updates.now }
 {
@@ -19,7 +19,7 @@ pub fn takes_rows<T: Lattice>(node: &Node, updates: &[Update<T>]) -> bool
         .all(|update| takes_width(node, update.row.width()))
 }
 
-// Whether the node takes rows of so many columns.
+// Whether the node takes rows of this width.
 fn takes_width(node: &Node, columns: usize) -> bool
     ensures { result ≡ takes_width node.now columns }
 {
@@ -30,14 +30,14 @@ fn takes_width(node: &Node, columns: usize) -> bool
     }
 }
 
-// Whether rows of so many columns have those that the items name, and the items make a row.
+// Whether rows of this width have the columns that the items name, and the items make a row.
 fn takes_items(items: &[Item], columns: usize) -> bool
     ensures { result ≡ takes_items items.now columns }
 {
     is_width(items.len()) && are_within(items, columns)
 }
 
-// Whether rows can have so many columns.
+// Whether a row can have this many columns.
 fn is_width(columns: usize) -> bool
     ensures { result ≡ is_width columns }
 {

@@ -1,4 +1,4 @@
-//! What the definitions of linear nodes promise by themselves. The functions do nothing: they are called, or their clauses
+//! What follows from the definitions of linear nodes alone. The functions do nothing: they are called, or their clauses
 //! cited, for what they promise in every lattice.
 ghost use Rattle.std.specs.Prelude.{◌≡◌, ◌<◌, ◌≤◌, ◌^◌, ℕ, List, ◌++◌, Some, IsTrue, length, slice_get};
 ghost use Rattle.std.specs.List.{list_all};
@@ -16,10 +16,11 @@ ghost use Rattle.linear.specs.Widths.{takes_rows, are_wide};
 
 use lattice::Lattice;
 
-/// A linear node may be applied piece by piece. What it makes of two pieces is what it makes of each; at every time the sum
-/// of what comes out is the operator on the sum of what came to the port; and where what was emitted sums to the operator
-/// on all that was received, so it does with one more piece on either side. Nothing grows, and where a diff that comes out
-/// is no 64-bit number, those that came add up to 2^63 or more.
+/// A linear node may be applied piece by piece. Its output for two pieces together is its output for each, together. At
+/// every time, the sum of its output is the operator's output for the sum of what came to the port. If the sum of what
+/// was emitted is the operator's output for all that was received, then this still holds after one more piece. The
+/// output is never larger than the input. If a diff of the output is no 64-bit number, then the input has size 2^63 or
+/// more.
 pub fn pieces_add_up<T: Lattice>()
     ensures pieces { (node : Node) (us vs : List (Update T))
         → linear_output node (us ++ vs) ≡ linear_output node us ++ linear_output node vs }
@@ -38,8 +39,8 @@ pub fn pieces_add_up<T: Lattice>()
     ensures large { (node : Node) (us : List (Update T)) → Overflows node us → 2 ^ 63 ≤ size us }
 {}
 
-/// Where a plan has a linear node, the node takes the rows of its sources, and what it makes of them has the width that the
-/// plan says.
+/// A linear node of a plan takes the rows of its sources, and its output rows have the width that the plan says. That
+/// it takes the rows of its sources holds for every node of a plan.
 pub fn plans_fit<T: Lattice>()
     ensures takes { (p : List Node) → IsPlan p → (n port source : ℕ)
         → slice_get (sources (node_at p n)) port ≡ Some source

@@ -1,13 +1,14 @@
 //! Linear operators: what map, filter, concat and negate make of updates.
 //!
-//! They are the operators that see no time. Each works update by update, and what it makes of two lists together is what
-//! it makes of each: so a worker may apply a node to every piece that comes, as it comes, and forget the piece. No state
-//! is kept, and no update waits for another.
+//! These operators ignore time. Each works update by update, and its output for two lists together is its output for
+//! each, together. So a worker can apply a node to every piece of input as it comes, and then forget the piece. No
+//! state is kept, and no update waits for another.
 //!
-//! [`apply`] does so in the list that it is given, and takes no memory. Its contract names the list that comes out,
-//! `applied`; the rest follows from that list, and [`pieces_add_up`] and [`plans_fit`] say it for a caller that has only the
-//! definitions in hand: sums are the operator's on sums, at every time, and nothing grows. What it asks of its caller, a plan
-//! grants; [`Node::is_linear`](plan::Node) and [`takes_rows`] are the tests of it for a caller without one.
+//! [`apply`] does this in place, in the list that it is given, and takes no memory. Its contract defines the output
+//! list (clause `applied`). The rest follows from that list. [`pieces_add_up`] and [`plans_fit`] state it for a caller
+//! that has only the definitions: at every time, the sum of the output is the operator's output for the sum of the
+//! input, and no list gets larger. What `apply` requires is true of every linear node in a plan. A caller without a
+//! plan can test it with [`Node::is_linear`](plan::Node) and [`takes_rows`].
 #![tactic(auto)]
 
 mod application;

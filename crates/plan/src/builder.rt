@@ -1,5 +1,5 @@
-//! The making of a plan, node by node. Nodes are tested when they are added and never again: a builder is a plan at every
-//! moment, which is why finishing it can neither fail nor cost anything, and why a finished plan can go on.
+//! Building a plan, node by node. A node is tested when it is added and never again. A builder holds a plan at every
+//! moment, so finishing cannot fail and costs nothing, and a finished plan can be extended.
 ghost use Rattle.std.specs.Prelude.{◌≡◌, ◌++◌, [], ◌∷◌, None, length, IfOk, IfErr, OnErr};
 ghost use Rattle.plan.specs.Rules.{node_refusal};
 ghost use Rattle.update.specs.Refusals.{IsRefusalBy};
@@ -10,8 +10,8 @@ use std::alloc::Global;
 use std::marker::Model;
 use update::Refusal;
 
-/// A plan in the making. Each of its states is a plan, so there is nothing to be tested at the end. A contract sees the
-/// list of its nodes.
+/// A plan that is being built. Each of its states is a plan, so nothing is tested at the end. A contract sees the list
+/// of its nodes.
 #[derive(Drop)]
 pub struct PlanBuilder {
     plan: Plan,
@@ -27,7 +27,7 @@ impl Model for PlanBuilder {
 }
 
 impl PlanBuilder {
-    /// A plan of no nodes yet. Takes no memory.
+    /// A builder with no nodes. Takes no memory.
     pub fn new(alloc: Global) -> PlanBuilder
         ensures { result ≡ [] }
     {
@@ -36,24 +36,26 @@ impl PlanBuilder {
         }
     }
 
-    /// Adds a node, and answers its number: how many there were before it. A node may read any earlier node but a view.
+    /// Adds a node and returns its number, which is the number of nodes before it. A node may read any earlier node
+    /// that is no view.
     ///
-    /// The refusals, in the order in which they are tested; after one the builder is as it was:
+    /// The refusals, in the order in which they are tested. After a refusal the node is dropped, and the builder stays
+    /// as it was:
     ///
-    /// | Refusal | Where |
+    /// | Refusal | When |
     /// |---|---|
     /// | `TooManyNodes` | the plan has [`MAX_NODES`](crate::MAX_NODES) nodes |
-    /// | `UnknownName` | a source is not there, or is a view |
-    /// | `BadWidth` | an input's width or the number of a map's items is not 1 to 8 |
-    /// | `BadColumn` | an item of a map or of a filter's test names a column at or above the source's width |
-    /// | `WidthMismatch` | the sources of a concat have two widths |
-    /// | `BadKey` | the key of an arrange node has no column, or more than the source |
+    /// | `UnknownName` | a source does not exist, or is a view |
+    /// | `BadWidth` | the width of an input, or the number of a map's items, is not 1 to 8 |
+    /// | `BadColumn` | an item of a map, or of a filter's test, names a column that the source does not have |
+    /// | `WidthMismatch` | the sources of a concat have different widths |
+    /// | `BadKey` | the key of an arrange node has no columns, or more than the source |
     /// | `NotArranged` | a source of a join or a reduction is no arrange node |
-    /// | `KeyMismatch` | the sources of a join are arranged by keys of two widths |
+    /// | `KeyMismatch` | the sources of a join are arranged by keys of different widths |
     /// | `BadWidth` | the rows of a join or a count would have more than 8 columns |
-    /// | `OutOfMemory` | an allocation was refused |
+    /// | `OutOfMemory` | memory for the node was refused |
     ///
-    /// Cost: linear in the items of a map, else constant.
+    /// Cost: linear in the number of items of a map, otherwise constant.
     pub fn add(&mut self, node: Node) -> Result<NodeId, Refusal>
         ensures added { IfOk result (λ id. (id ≡ length self.old)
             × (self.new ≡ self.old ++ node ∷ [])) }
@@ -77,7 +79,7 @@ impl PlanBuilder {
     }
 }
 
-/// A plan that goes on, with the numbers that its nodes have. Takes no memory.
+/// Extends a plan; its nodes keep their numbers. Takes no memory.
 impl From<Plan> for PlanBuilder {
     ghost use Rattle.std.specs.Prelude.{◌≡◌};
 

@@ -1,5 +1,5 @@
-//! What the definitions promise of the changes of a view. The functions do nothing: they are called, or their clauses
-//! cited, for what they promise in every lattice.
+//! What the definitions promise about the changes of a view. The functions do nothing: they are called, or their
+//! clauses cited, for what they promise in every lattice.
 ghost use Rattle.std.specs.Prelude.{◌≡◌, ℕ, List, IsTrue};
 ghost use Rattle.std.specs.List.{filter};
 ghost use Rattle.lattice.specs.Frontiers.{all_beyond};
@@ -10,8 +10,8 @@ ghost use Rattle.plan.specs.declared.node.Node.{Node};
 
 use lattice::Lattice;
 
-/// The differences of a node are one list: two lists that are its differences, as of the same changes and frontier, are
-/// equal. And as of a later frontier they go on: the differences at what had been passed stay as they were.
+/// The differences of a node are one list: two lists that are its differences, for the same changes and frontier, are
+/// equal. As the frontier moves on, the differences at times that it had already passed stay as they were.
 pub fn differences_are_one_list<T: Lattice>()
     ensures one { (p : List Node) (changes : ℕ
         → List (Update T)) (frontier : List T) (n : ℕ) (us vs : List (Update T))
@@ -25,7 +25,7 @@ pub fn differences_are_one_list<T: Lattice>()
         → us ≡ filter (λ u. has_passed T.below earlier u.time) vs }
 {}
 
-/// A node has one bound: it depends on the plan and the changes alone.
+/// A node has only one bound: it depends on the plan and the changes alone.
 pub fn bounds_are_determined<T: Lattice>()
     ensures { (p : List Node) (changes : ℕ → List (Update T)) (n v w : ℕ)
         → IsBound T.below T.cmp p changes n v → IsBound T.below T.cmp p changes n w → v ≡ w }

@@ -1,5 +1,5 @@
-//! What a plan tells of its graph: who reads a node, what stands above it, where rows come in and where views are. A plan
-//! has 256 nodes at most, so nothing of it is kept beside the nodes: each question goes once over the nodes.
+//! Questions about the graph of a plan: who reads a node, which nodes are its ancestors, which are inputs and which are
+//! views. A plan has 256 nodes at most, so no index is kept: each question goes over the nodes once.
 ghost use Rattle.std.specs.Prelude.{◌≡◌, ◌<◌, ◌++◌, false, length, get_or, IfOk, IfErr, OnErr};
 ghost use Rattle.std.specs.List.{filter, list_any};
 ghost use Rattle.plan.specs.Nodes.{sources, is_output, is_input};
@@ -22,7 +22,7 @@ pub struct Edge {
 
 impl Plan {
     /// The edges that lead from a node, in the order of their readers and then of their ports. A node that reads it at
-    /// both ports has two. Refused only for want of memory.
+    /// both ports has two edges. Refused only with `OutOfMemory`.
     ///
     /// Cost: linear in the plan.
     pub fn edges_from(&self, alloc: Global, id: NodeId) -> Result<Vec<Edge>, Refusal>
@@ -36,7 +36,7 @@ impl Plan {
         Ok(edges)
     }
 
-    // Adds the edges between two nodes.
+    // Appends the edges from `id` to `reader`.
     fn push_edges(&self, edges: &mut Vec<Edge>, id: NodeId, reader: NodeId) -> Result<(), Refusal>
         requires { reader < length self.now }
         ensures edges { IfOk result
@@ -53,7 +53,7 @@ impl Plan {
         Ok(())
     }
 
-    /// The inputs, in the order of their numbers. Refused only for want of memory.
+    /// The inputs, in the order of their numbers. Refused only with `OutOfMemory`.
     ///
     /// Cost: linear in the plan.
     pub fn inputs(&self, alloc: Global) -> Result<Vec<NodeId>, Refusal>
@@ -69,7 +69,7 @@ impl Plan {
         Ok(ids)
     }
 
-    /// The views, in the order of their numbers. Refused only for want of memory.
+    /// The views, in the order of their numbers. Refused only with `OutOfMemory`.
     ///
     /// Cost: linear in the plan.
     pub fn views(&self, alloc: Global) -> Result<Vec<NodeId>, Refusal>
@@ -85,7 +85,7 @@ impl Plan {
         Ok(ids)
     }
 
-    /// Whether the one node is the other or an ancestor of it. Takes no memory.
+    /// Whether the node `above` is the node `id` or one of its ancestors. Takes no memory.
     ///
     /// Cost: linear in the plan.
     pub fn reaches(&self, above: NodeId, id: NodeId) -> bool
@@ -101,14 +101,14 @@ impl Plan {
     }
 }
 
-// Whether some source of the node is marked.
+// Whether a source of the node is marked.
 fn reads_marked(node: &Node, marks: &[bool]) -> bool
     ensures { result ≡ list_any (λ source. get_or marks.now source false) (sources node.now) }
 {
     is_marked(node.source(0), marks) || is_marked(node.source(1), marks)
 }
 
-// Whether there is such a node, and it is marked.
+// Whether there is a node and it is marked.
 fn is_marked(id: Option<NodeId>, marks: &[bool]) -> bool
     ensures { result ≡ is_marked marks.now id }
 {

@@ -1,11 +1,11 @@
-//! The items of a map. They are kept in a type of their own, so that a contract sees a list and two maps can be compared.
+//! The items of a map. They have a type of their own, so that a contract sees a list, and maps can be compared.
 ghost use Rattle.std.specs.Prelude.{◌≡◌, ◌↔◌, IsTrue, length};
 
 use row::Item;
 use std::alloc::AllocError;
 use std::marker::Model;
 
-/// What a map makes of each row: an item for each column, in order. A contract sees the list of items.
+/// What a map makes of each row: one item for each column, in order. A contract sees the list of items.
 #[derive(Drop)]
 pub struct Items {
     items: Vec<Item>,
@@ -21,21 +21,21 @@ impl Model for Items {
 }
 
 impl Items {
-    /// The items in the order of the columns that they make. Takes no memory.
+    /// The items, in the order of the columns that they make. Takes no memory.
     pub fn as_slice(&self) -> &[Item]
         ensures { result.now ≡ self.now }
     {
         self.items.as_slice()
     }
 
-    /// How many there are, which is the width of the rows that they make. Takes no memory.
+    /// The number of items, which is the width of the rows that they make. Takes no memory.
     pub fn len(&self) -> usize
         ensures { result ≡ length self.now }
     {
         self.items.len()
     }
 
-    /// The vector that they were made from. Takes no memory.
+    /// The items as a vector. Takes no memory.
     pub fn into_vec(self) -> Vec<Item>
         ensures { result.items ≡ self }
     {
@@ -55,7 +55,7 @@ impl From<Vec<Item>> for Items {
     }
 }
 
-/// A copy. Refused only where memory is; that of no items never.
+/// A copy. Refused only if memory is refused; copying no items is never refused.
 impl Clone for Items {
     ghost use Rattle.std.specs.Prelude.{◌≡◌, []};
 
@@ -72,7 +72,7 @@ impl Clone for Items {
     }
 }
 
-/// Lists of the same items are equal.
+/// Equal if and only if the lists of items are.
 impl PartialEq for Items {
     ghost use Rattle.std.specs.Cmp.{partial_equiv_from_equiv};
     ghost use Rattle.plan.specs.Equality.{same_items, items_equivalence};

@@ -1,13 +1,13 @@
-//! Plans: which views are kept up to date, and what each of them is.
+//! Plans: which views are kept up to date, and what each of them means.
 //!
-//! A [`Plan`] is a list of nodes, each of which reads nodes with smaller numbers: inputs, to which changes are fed; the
-//! operators; and views, which are read from outside. It is made node by node with a [`PlanBuilder`], which refuses what
-//! breaks a rule, so that a plan in hand keeps them all and no layer above tests them again.
+//! A [`Plan`] is a list of nodes, each of which reads nodes with smaller numbers. There are inputs, to which changes
+//! are fed; operators; and views, which are read from outside. A plan is built node by node with a [`PlanBuilder`],
+//! which refuses a node that breaks a rule. So every plan keeps the rules, and no layer above tests them again.
 //!
-//! What a plan means is said here too, and here alone: `specs/` has the operator table, the query that follows from it, and
-//! the differences that a view goes through. In the query neither time nor difference, neither worker nor batch occurs. It
-//! is what everything above is held to, and the first page to read for a reader who doubts the rest. The functions with empty bodies
-//! ([`queries_depend_on_bags`] and those beside it) carry the laws that follow from the definitions.
+//! What a plan means is defined in this crate and nowhere else. `specs/` has the table of operators, the query that
+//! follows from it, and the differences that a view goes through. A query mentions no time, no difference, no worker
+//! and no batch. Every layer above is measured by it, so a reader who doubts the rest should read it first. The
+//! functions with empty bodies, such as [`queries_depend_on_bags`], state the laws that follow from the definitions.
 #![tactic(auto)]
 
 mod builder;

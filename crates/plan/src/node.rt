@@ -1,6 +1,6 @@
-//! The nodes of a plan: what each of them does, and which nodes it reads. A node names its sources by their numbers and
-//! nothing else of the plan, so it can be made, compared and printed without one; whether a plan takes it is for the rules
-//! to say.
+//! The nodes of a plan: what each does, and which nodes it reads. A node names its sources by number and knows nothing
+//! else of the plan. So it can be made, compared and printed without a plan. The rules decide whether a plan accepts
+//! it.
 ghost use Rattle.std.specs.Prelude.{◌≡◌, ◌↔◌, slice_get, IsTrue};
 ghost use Rattle.plan.specs.Nodes.{sources, arranged_by};
 ghost use Rattle.plan.specs.NodeEquality.{same_node};
@@ -26,7 +26,7 @@ impl Model for NodeId {
 }
 
 impl NodeId {
-    /// The node of this number, whether or not a plan has it.
+    /// The id with this number, whether or not a plan has such a node.
     pub fn new(number: usize) -> NodeId
         ensures { result ≡ number }
     {
@@ -41,10 +41,10 @@ impl NodeId {
     }
 }
 
-/// Which reduction: what is answered for each key of its rows.
+/// Which reduction: what it answers for each key from the rows of the key.
 #[derive(Clone, Copy, PartialEq, Eq)]
 pub enum Kind {
-    /// How many rows, each as often as it counts: the key and that number, where it is not 0.
+    /// The key and the sum of the counts of its rows, unless that sum is 0.
     Count,
     /// Each row that counts more than 0 times, once.
     Distinct,
@@ -54,34 +54,34 @@ pub enum Kind {
     Max,
 }
 
-/// What a node does, and which nodes it reads: `source`, or `left` and `right`. Any numbers may stand here: what a plan
-/// accepts is said at [`PlanBuilder::add`](crate::PlanBuilder::add).
+/// What a node does, and which nodes it reads: `source`, or `left` and `right`. The numbers here are not tested;
+/// [`PlanBuilder::add`](crate::PlanBuilder::add) says what a plan accepts.
 #[derive(Clone, Drop)]
 pub enum Node {
-    /// Rows of `width` columns, which come from outside.
+    /// Rows of `width` columns that come from outside.
     Input { width: usize },
-    /// For each row the row of these items.
+    /// For each row, the row of these items.
     Map { source: NodeId, items: Items },
     /// The rows that pass the test.
     Filter { source: NodeId, test: Test },
     /// The rows of both sources.
     Concat { left: NodeId, right: NodeId },
-    /// Each row as often as before, with the other sign.
+    /// The same rows, each with its count negated.
     Negate { source: NodeId },
-    /// The same rows, sent to workers by their first `key` columns and kept in order of them, for joins and reductions.
+    /// The same rows, sent to workers by their first `key` columns and kept in that order, for joins and reductions.
     Arrange { source: NodeId, key: usize },
-    /// For two rows of equal key: the key, the rest of the left row and the rest of the right row, as often as the product
-    /// of both.
+    /// For each two rows with the same key: the key, the rest of the left row and the rest of the right row. The count
+    /// is the product of both counts.
     Join { left: NodeId, right: NodeId },
-    /// What the reduction answers for each key.
+    /// The answer of the reduction for each key.
     Reduce { kind: Kind, source: NodeId },
-    /// A view: the same rows, to be read from outside and by no other node.
+    /// A view: the same rows, to be read from outside and not by other nodes.
     Output { source: NodeId },
 }
 
 impl Node {
-    /// The node that is read at a port, counted from 0: the left one at 0 and the right one at 1. None where the node has
-    /// no such port; an input has none at all. Takes no memory.
+    /// The node that is read at a port, counted from 0; a left source is at port 0 and a right one at port 1. `None` if
+    /// the node has no such port; an input has none at all. Takes no memory.
     pub fn source(&self, port: usize) -> Option<NodeId>
         ensures { result ≡ slice_get (sources self.now) port }
     {
@@ -101,7 +101,7 @@ impl Node {
         }
     }
 
-    /// By how many columns the node arranges its rows; None where it is no arrange node. Takes no memory.
+    /// The number of key columns by which the node arranges its rows; `None` if it is no arrange node. Takes no memory.
     pub fn arranged_by(&self) -> Option<usize>
         ensures { result ≡ arranged_by self.now }
     {
@@ -112,7 +112,7 @@ impl Node {
     }
 }
 
-/// Nodes of one variant with the same sources and parameters are equal.
+/// Two nodes are equal if and only if they have the same variant, sources and parameters.
 impl PartialEq for Node {
     ghost use Rattle.std.specs.Cmp.{partial_equiv_from_equiv};
     ghost use Rattle.plan.specs.NodeEquality.{same_node, nodes_equivalence};
@@ -135,7 +135,7 @@ impl Eq for Node {
     ghost laws = { nodes_equivalence };
 }
 
-// Whether both are of one variant and have the same sources and parameters.
+// Whether both have the same variant, sources and parameters.
 fn is_same(node: &Node, other: &Node) -> bool
     ensures { result ≡ same_node node.now other.now }
 {

@@ -1,9 +1,9 @@
 //! Plans: query graphs whose nodes read nodes with smaller numbers.
 //!
-//! A plan is the list of its nodes, and its one invariant is that the rules accept each of them after those before it. So
-//! it has no cycle, and every node's width, and the key of every join and reduction, is found from the nodes before it and
-//! never tested again. Beside each node stands its width, which would else be found anew from its sources, and theirs, at
-//! each question.
+//! A plan is the list of its nodes. Its one invariant is that the rules accept each node after the nodes before it. So
+//! a plan has no cycle. The width of every node, and the key of every join and reduction, follows from the nodes before
+//! it, and need not be tested again. Each node is stored with its width; otherwise each question for a width would go
+//! back to the inputs.
 ghost use Rattle.std.specs.Prelude.{◌≡◌, ◌<◌, ◌≤◌, ◌↔◌, ◌++◌, [], ◌∷◌, None, length, IsTrue, IfOk, IfErr, OnErr};
 ghost use Rattle.update.specs.declared.refusal.Refusal.TheVariants.{OutOfMemory};
 ghost use Rattle.plan.specs.Nodes.{node_at, key_of, key_width};
@@ -52,7 +52,7 @@ impl Plan {
         }
     }
 
-    /// How many nodes there are: 256 at most. Takes no memory.
+    /// The number of nodes, 256 at most. Takes no memory.
     pub fn len(&self) -> usize
         ensures len { result ≡ length self.now }
         ensures few { length self.now ≤ 256 }
@@ -61,7 +61,7 @@ impl Plan {
         self.stages.len()
     }
 
-    /// Costs nothing; it tells the prover that the rules accept each node, and that there are 256 at most.
+    /// Tells the prover that the rules accept each node and that there are 256 at most. Costs nothing.
     pub fn known(&self)
         ensures few { length self.now ≤ 256 }
         ensures plan { IsPlan self.now }
@@ -69,14 +69,14 @@ impl Plan {
         let _ = &self.stages;
     }
 
-    /// Whether there are none. Takes no memory.
+    /// Whether the plan has no nodes. Takes no memory.
     pub fn is_empty(&self) -> bool
         ensures { IsTrue result ↔ (self.now ≡ []) }
     {
         self.len() == 0
     }
 
-    /// The node of a number. Takes no memory, and constant time.
+    /// The node with this number. Takes no memory and constant time.
     pub fn node(&self, id: NodeId) -> &Node
         requires { id < length self.now }
         ensures { result.now ≡ node_at self.now id }
@@ -84,7 +84,7 @@ impl Plan {
         &self.stages[id.number()].node
     }
 
-    /// How many columns the rows of a node have, 1 to 8. Takes no memory, and constant time.
+    /// The number of columns of the node's rows, 1 to 8. Takes no memory and constant time.
     pub fn width(&self, id: NodeId) -> usize
         requires { id < length self.now }
         ensures width { result ≡ width_of self.now id }
@@ -93,7 +93,7 @@ impl Plan {
         self.stages[id.number()].width
     }
 
-    /// Whether the node is an arrange node. Takes no memory, and constant time.
+    /// Whether the node is an arrange node. Takes no memory and constant time.
     pub fn is_arranged(&self, id: NodeId) -> bool
         requires { id < length self.now }
         ensures { result ≡ is_arranged self.now id }
@@ -101,8 +101,8 @@ impl Plan {
         self.node(id).arranged_by().is_some()
     }
 
-    /// How many columns the key has by which the node is arranged, 1 to 8; 0 where it is no arrange node. Takes no memory,
-    /// and constant time.
+    /// The width of the key by which the node is arranged: 1 to 8 columns for an arrange node, 0 for every other node.
+    /// Takes no memory and constant time.
     pub fn key(&self, id: NodeId) -> usize
         requires { id < length self.now }
         ensures key { result ≡ key_of self.now id }
@@ -113,8 +113,9 @@ impl Plan {
         self.node(id).arranged_by().unwrap_or(0)
     }
 
-    /// How many columns the key has by which the sources of the node are arranged: a join's and a reduction's, 1 to 8; 0
-    /// if it has no source, as an input, or if its first source is no arrange node. Takes no memory, and constant time.
+    /// The width of the key by which the node's first source is arranged. A join or a reduction has sources that are
+    /// arranged by this key, so its key has 1 to 8 columns. The answer is 0 if the first source is no arrange node, and
+    /// also for an input, which has no source. Takes no memory and constant time.
     pub fn key_width(&self, id: NodeId) -> usize
         requires { id < length self.now }
         ensures { result ≡ key_width self.now (node_at self.now id) }
@@ -126,7 +127,8 @@ impl Plan {
         }
     }
 
-    /// Adds a node that the rules accept; refused only for want of memory.
+    /// Adds a node that the rules accept. Refused only with `OutOfMemory`; the node is then dropped, and the plan stays
+    /// as it was.
     pub(crate) fn push(&mut self, node: Node) -> Result<NodeId, Refusal>
         requires { node_refusal self.old node ≡ None }
         ensures added { IfOk result (λ id. (id ≡ length self.old)
@@ -141,7 +143,7 @@ impl Plan {
     }
 }
 
-/// A copy. Refused only where memory is; that of no nodes never.
+/// A copy. Refused only if memory is refused; copying a plan with no nodes is never refused.
 impl Clone for Plan {
     ghost use Rattle.std.specs.Prelude.{◌≡◌, []};
 
@@ -160,7 +162,7 @@ impl Clone for Plan {
     }
 }
 
-/// Plans of the same nodes are equal.
+/// Two plans are equal if and only if they have the same nodes.
 impl PartialEq for Plan {
     ghost use Rattle.std.specs.Cmp.{partial_equiv_from_equiv};
     ghost use Rattle.plan.specs.NodeEquality.{same_plan, plans_equivalence};
@@ -183,7 +185,7 @@ impl Eq for Plan {
     ghost laws = { plans_equivalence };
 }
 
-// Whether both have the same nodes.
+// Whether both plans have the same nodes.
 fn are_same(plan: &Plan, other: &Plan) -> bool
     ensures { IsTrue result ↔ (plan.now ≡ other.now) }
 {

@@ -1,6 +1,7 @@
-//! The rules of plans: which node may come next. They are tested in the order in which they stand here, so that a node
-//! with several faults is always refused for the same one: first the number of nodes, then whether the sources are there,
-//! then what the kind of the node asks of them, left before right and the width of its own rows last.
+//! The rules of plans: which node may come next. They are tested in the order of this file, so a node with several
+//! faults is always refused for the same one. The number of nodes comes first, then whether the sources exist, then
+//! what the kind of node asks of its sources, the left one before the right one. The width of a join's or a reduction's
+//! own rows comes last.
 ghost use Rattle.std.specs.Prelude.{◌≡◌, ◌<◌, ◌≤◌, ◌+◌, ◌-◌, ℕ, not, Some, None, [], ◌∷◌, length, IsTrue, nat_lt};
 ghost use Rattle.std.specs.List.{list_all};
 ghost use Rattle.plan.specs.Nodes.{sources, key_of, key_width};
@@ -15,11 +16,11 @@ use crate::plan::Plan;
 use row::{Item, MAX_WIDTH, are_within};
 use update::Refusal;
 
-/// How many nodes a plan has at most.
+/// The largest number of nodes in a plan.
 pub const MAX_NODES: usize = 256;
 
 impl Plan {
-    /// What refuses the node as the next one, if anything does.
+    /// Why the rules refuse the node as the next one, or `None` if they accept it.
     pub(crate) fn refusal_of(&self, node: &Node) -> Option<Refusal>
         ensures { result ≡ node_refusal self.now node.now }
     {
@@ -32,7 +33,7 @@ impl Plan {
         self.fault_of(node)
     }
 
-    // Whether the node's sources are there to be read.
+    // Whether the node's sources exist and may be read.
     fn has_sources(&self, node: &Node) -> bool
         ensures { result ≡ list_all (is_readable self.now) (sources node.now) }
     {
@@ -43,14 +44,14 @@ impl Plan {
         }
     }
 
-    /// Whether there is such a node, and it is no view: whether another one may read it. Takes no memory.
+    /// Whether the plan has this node and it is no view, so that another node may read it. Takes no memory.
     pub fn is_readable(&self, id: NodeId) -> bool
         ensures { result ≡ is_readable self.now id }
     {
         id.number() < self.len() && !self.node(id).is_output()
     }
 
-    // What refuses a node whose sources are there.
+    // Why the rules refuse a node whose sources may be read, or `None` if they accept it.
     fn fault_of(&self, node: &Node) -> Option<Refusal>
         requires { IsTrue (list_all (is_readable self.now) (sources node.now)) }
         ensures { result ≡ first_refusal (node_faults self.now node.now) }
@@ -75,7 +76,7 @@ impl Plan {
         }
     }
 
-    // What refuses a join of two nodes that are there.
+    // Why the rules refuse a join of two nodes that may be read.
     fn join_fault(&self, left: NodeId, right: NodeId) -> Option<Refusal>
         requires left { IsTrue (is_readable self.now left) }
         requires right { IsTrue (is_readable self.now right) }
@@ -92,7 +93,7 @@ impl Plan {
         ))
     }
 
-    // What refuses a reduction of a node that is there.
+    // Why the rules refuse a reduction of a node that may be read.
     fn reduce_fault(&self, kind: Kind, source: NodeId) -> Option<Refusal>
         requires { IsTrue (is_readable self.now source) }
         ensures { result ≡ first_refusal (node_faults self.now (Reduce kind source)) }
@@ -104,7 +105,7 @@ impl Plan {
         refused(!is_width(width), Refusal::BadWidth)
     }
 
-    /// How many columns the rows of a node have whose sources there are.
+    /// The width of a node's rows; its sources must exist.
     pub(crate) fn width_from(&self, node: &Node) -> usize
         requires { IsTrue (list_all (is_readable self.now) (sources node.now)) }
         ensures { result ≡ width_from (key_width self.now node.now) node.now (width_of self.now) }
@@ -127,7 +128,7 @@ impl Plan {
     }
 }
 
-// The width of a pair: the key, and the rest of both rows.
+// The width of a join's rows: the key, and the rest of both rows.
 fn joined_width(key: usize, left: usize, right: usize) -> usize
     requires key { key ≤ 8 }
     requires left { left ≤ 8 }
@@ -148,21 +149,21 @@ fn reduced_width(kind: Kind, key: usize, width: usize) -> usize
     }
 }
 
-// The refusal, where there is the fault.
+// The refusal, if there is the fault.
 fn refused(fault: bool, refusal: Refusal) -> Option<Refusal>
     ensures { result ≡ first_refusal ((fault, refusal) ∷ []) }
 {
     if fault { Some(refusal) } else { None }
 }
 
-// Whether rows can have so many columns.
+// Whether a row can have this many columns.
 fn is_width(width: usize) -> bool
     ensures { result ≡ is_width width }
 {
     1 <= width && width <= MAX_WIDTH
 }
 
-// What refuses these items of a map of rows of that width.
+// Why the rules refuse a map with these items of rows of this width.
 fn items_fault(items: &[Item], width: usize) -> Option<Refusal>
     ensures { result ≡ first_refusal ((not (is_width (length items.now)), BadWidth)
         ∷ (not (are_within items.now width), BadColumn) ∷ []) }

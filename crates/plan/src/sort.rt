@@ -1,5 +1,5 @@
-//! The sort of a node: how it is run. Engines and the proofs about them ask for the sort and not for the variant, so a new
-//! variant of a known sort changes nothing in them.
+//! The sort of a node: how it is run. Engines, and the proofs about them, ask for the sort and not for the variant. So
+//! a new variant of an existing sort changes nothing in them.
 ghost use Rattle.std.specs.Prelude.{◌≡◌};
 ghost use Rattle.plan.specs.Nodes.{sort, is_input, is_output, is_linear};
 
@@ -8,22 +8,22 @@ use crate::node::Node;
 /// How a node is run.
 #[derive(Clone, Copy, PartialEq, Eq)]
 pub enum Sort {
-    /// Rows come from outside.
+    /// Its rows come from outside.
     Source,
-    /// Works update by update, and keeps nothing.
+    /// Works update by update and keeps no state.
     Stateless,
-    /// Sends the rows to workers by their key, and keeps them in order.
+    /// Sends rows to workers by their key, and keeps them in order.
     Arrangement,
-    /// Pairs rows of two sources: it adds up in each of them alone.
+    /// Pairs rows of two sources. It is linear in each of them alone.
     Bilinear,
-    /// Answers each key from all rows of the key.
+    /// Computes the answer for each key from all rows of the key.
     Reduction,
     /// Is read from outside.
     View,
 }
 
 impl Node {
-    /// The sort. Takes no memory.
+    /// The sort of the node. Takes no memory.
     pub fn sort(&self) -> Sort
         ensures { result ≡ sort self.now }
     {
@@ -39,7 +39,7 @@ impl Node {
         }
     }
 
-    /// Whether rows come here from outside. Takes no memory.
+    /// Whether this is an input. Takes no memory.
     pub fn is_input(&self) -> bool
         ensures { result ≡ is_input self.now }
     {
@@ -53,8 +53,8 @@ impl Node {
         matches!(self.sort(), Sort::View)
     }
 
-    /// Whether the node is no join and no reduction: what it makes of a sum is the sum of what it makes of its parts. Takes
-    /// no memory.
+    /// Whether the node is linear, which means that its output for a sum is the sum of its outputs for the parts: all
+    /// nodes but joins and reductions. Takes no memory.
     pub fn is_linear(&self) -> bool
         ensures { result ≡ is_linear self.now }
     {

@@ -1,4 +1,4 @@
-//! A row and its columns. The width is an invariant of the type: it is tested where a row is made, and known wherever
+//! A row and its columns. The width is an invariant of the type: it is tested when a row is made, and known wherever
 //! one is read.
 ghost use Rattle.std.specs.Prelude.{◌≡◌, ◌≤◌, ◌++◌, ◌+◌, ◌↔◌, IsOk, IfOk, length, take, drop, ⊤};
 
@@ -7,7 +7,7 @@ use smallvec::SmallVec;
 use std::alloc::{AllocError, Global};
 use std::marker::Model;
 
-/// The most columns that a row has.
+/// The largest number of columns that a row can have.
 pub const MAX_WIDTH: usize = 8;
 
 /// A list of 1 to 8 columns. A contract sees the list.
@@ -27,7 +27,7 @@ impl Model for Row {
 }
 
 impl Row {
-    /// A row of these columns; [`WidthRefused`] exactly where they are not 1 to 8. Takes no memory.
+    /// A row of these columns. [`WidthRefused`] if and only if there are not 1 to 8 of them. Takes no memory.
     pub fn new(alloc: Global, columns: &[i64]) -> Result<Row, WidthRefused>
         ensures ok { IfOk result (λ row. row ≡ columns.now) }
         ensures width { IsOk result ↔ ((1 ≤ length columns.now) × (length columns.now ≤ 8)) }
@@ -58,12 +58,12 @@ impl Row {
         self.columns.as_slice()
     }
 
-    /// The allocator of the row, which no call of this crate asks for memory. Takes no memory.
+    /// The allocator of the row. No call of this crate asks it for memory. Takes no memory.
     pub(crate) fn allocator(&self) -> Global {
         *self.columns.allocator()
     }
 
-    /// How many columns there are, 1 to 8. Takes no memory.
+    /// The number of columns, 1 to 8. Takes no memory.
     pub fn width(&self) -> usize
         ensures width { result ≡ length self.now }
         ensures some { 1 ≤ result }
@@ -72,7 +72,7 @@ impl Row {
         self.columns.len()
     }
 
-    /// Costs nothing; it tells the prover that there are 1 to 8 columns.
+    /// Tells the prover that there are 1 to 8 columns. Costs nothing.
     pub fn known(&self)
         ensures some { 1 ≤ length self.now }
         ensures few { length self.now ≤ 8 }
@@ -88,7 +88,7 @@ impl Row {
         &self.columns()[..k]
     }
 
-    /// The columns from number `k` on: what is left of the row beside its key. Takes no memory.
+    /// The columns from number `k` on: the row without its key. Takes no memory.
     pub fn rest(&self, k: usize) -> &[i64]
         requires { k ≤ length self.now }
         ensures { result.now ≡ drop k self.now }
@@ -103,7 +103,7 @@ impl Row {
         Row::of(self.allocator(), self.columns())
     }
 
-    /// The row with more columns behind its own. Takes no memory.
+    /// The row with more columns appended to its own. Takes no memory.
     pub fn followed_by(&self, more: &[i64]) -> Row
         requires { length self.now + length more.now ≤ 8 }
         ensures { result ≡ self.now ++ more.now }

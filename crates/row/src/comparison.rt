@@ -1,5 +1,5 @@
-//! Comparisons and hashes of rows: those of the lists of their columns. They are written by hand, since a derived one
-//! would compare the fields, and contracts see the list.
+//! Comparisons and hashes of rows: those of the lists of their columns. They are written by hand, because derived ones
+//! would compare the fields, while contracts see the list.
 ghost use Rattle.std.specs.Prelude.{refl};
 ghost use Rattle.std.proofs.Common.{rules};
 ghost use Rattle.std.specs.Hash as fed;
@@ -12,7 +12,7 @@ use crate::Row;
 use std::cmp::Ordering;
 use std::hash::{Hash, Hasher};
 
-/// Two rows are equal exactly where their columns are.
+/// Two rows are equal if and only if their columns are.
 impl PartialEq for Row {
     ghost use Rattle.std.specs.Prelude.{◌≡◌, ◌↔◌, IsTrue};
 
@@ -32,7 +32,7 @@ impl Eq for Row {
     ghost laws = { Prim.search (comparing, rules) };
 }
 
-/// Column by column; a row comes before those that it begins.
+/// Column by column. If a row is the beginning of a longer one, it comes first.
 impl Ord for Row {
     ghost cmp = { slice_cmp int_cmp };
 

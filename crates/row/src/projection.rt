@@ -1,8 +1,8 @@
-//! Projections: a row made from another one, each of whose columns is a column of that row or a constant. Columns may be
-//! left out, repeated and moved.
+//! Projections. A projection makes a row from another row: each of its columns is a column of that row or a constant.
+//! Columns may be left out, repeated and reordered.
 //!
-//! That an item is within the width of the rows is the caller's to know: [`Item::is_within`] tests it once where a script
-//! is read, and then no row is tested again.
+//! The caller must know that each item names a column that the row has. `PlanBuilder::add` of the crate `plan` tests
+//! this once with [`are_within`] when a map is added to a plan, and then no row is tested again.
 ghost use Rattle.std.specs.Prelude.{◌≡◌, ◌≤◌, length, IsTrue};
 ghost use Rattle.row.specs.Projection.{item_value, is_within, are_within, projection};
 
@@ -13,12 +13,12 @@ use crate::Row;
 pub enum Item {
     /// The column of this number, counted from 0.
     Column(usize),
-    /// The same number for each row.
+    /// The same value for each row.
     Constant(i64),
 }
 
 impl Item {
-    /// Whether rows of that width have the item's column; a constant needs none. Takes no memory.
+    /// Whether rows of this width have the item's column; a constant needs none. Takes no memory.
     pub fn is_within(&self, width: usize) -> bool
         ensures { result ≡ is_within self.now width }
     {
@@ -28,7 +28,7 @@ impl Item {
         }
     }
 
-    /// What the item is at a row. Takes no memory.
+    /// The value of the item in a row. Takes no memory.
     pub fn value(self, row: &Row) -> i64
         requires { IsTrue (is_within self (length row.now)) }
         ensures { result ≡ item_value self row.now }
@@ -40,16 +40,16 @@ impl Item {
     }
 }
 
-/// Whether rows of that width have the columns of all the items. Takes no memory.
+/// Whether rows of this width have the columns that all the items name. Takes no memory.
 pub fn are_within(items: &[Item], width: usize) -> bool
     ensures { result ≡ are_within items.now width }
 {
     items.iter().all(|item| item.is_within(width))
 }
 
-/// The row of these items' values, in their order. Takes no memory.
+/// The row of the values of these items, in order. Takes no memory.
 ///
-/// Cost: linear in the items.
+/// Cost: linear in the number of items.
 pub fn project(row: &Row, items: &[Item]) -> Row
     requires some { 1 ≤ length items.now }
     requires few { length items.now ≤ 8 }

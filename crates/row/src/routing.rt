@@ -1,15 +1,16 @@
-//! Which of the workers has the rows of a key. All rows of one key must meet at one worker, whichever of the workers
-//! first read them, so the number depends on the key and on the number of workers alone: it is the remainder of the
-//! sum of the key's columns.
+//! Which worker owns the rows of a key. All rows of one key must meet at one worker, no matter which worker read them
+//! first. So the worker's number depends only on the key and on the number of workers: it is the sum of the key's
+//! columns modulo the number of workers.
 //!
-//! The sum is of whole numbers and never wraps, so that a key of large columns goes where arithmetic sends it, on every
-//! machine. And the remainder is the one from 0 on, also of a negative sum, so that it is a worker's number.
+//! The sum is exact and never wraps, so a key with large columns goes to the same worker on every machine. The
+//! remainder is never negative, even if the sum is, so it is the number of a worker.
 ghost use Rattle.std.specs.Prelude.{◌≡◌, ℕ, ◌*◌, ◌^◌, ◌<◌, ◌≤◌, List, ℤ, pos, neg_ℤ, ◌+ℤ◌, ◌*ℤ◌, ◌≤ℤ◌, length};
 ghost use Rattle.row.specs.Routing.{column_sum, route_of};
 
-/// The number, from 0 to `n - 1`, of the worker among `n` that has the rows of this key. Takes no memory.
+/// The number, from 0 to `n - 1`, of the worker that owns the rows of this key if there are `n` workers. Takes no
+/// memory.
 ///
-/// Cost: an addition for each column, and a division.
+/// Cost: one addition for each column, and one division.
 pub fn route(key: &[i64], n: usize) -> usize
     requires some { 1 ≤ n }
     requires few { length key.now ≤ 8 }
@@ -19,7 +20,7 @@ pub fn route(key: &[i64], n: usize) -> usize
     sum(key).rem_euclid(n as i128) as usize
 }
 
-// The sum of at most eight columns, each of at most 2^63 either way, so that no `i128` on the way wraps.
+// The sum of at most eight columns. Each lies between -2^63 and 2^63, so the `i128` never wraps.
 fn sum(key: &[i64]) -> i128
     requires { length key.now ≤ 8 }
     ensures value { result ≡ column_sum key.now }
@@ -33,8 +34,8 @@ fn sum(key: &[i64]) -> i128
     sum
 }
 
-/// A route is a remainder: a key's sum is so many times the number of workers, and its route on top, which is below
-/// that number. It is called for its clauses alone and does nothing.
+/// A route is a remainder: the sum of a key's columns is a multiple of the number of workers plus the key's route, and
+/// the route is less than the number of workers. This function does nothing: it is called for its clauses.
 pub fn routes_are_remainders()
     ensures quotient { (key : List ℤ) (n : ℕ) → 1 ≤ n
         → (q : ℤ) × (column_sum key ≡ ((q *ℤ pos n) +ℤ pos (route_of key n))) }

@@ -1,4 +1,4 @@
-//! Tests of rows: a comparison of two items, each a column or a constant. A filter keeps the rows that pass.
+//! Tests of rows. A test compares two items, each a column or a constant. A filter keeps the rows that pass its test.
 ghost use Rattle.std.specs.Prelude.{◌≡◌, length, IsTrue};
 ghost use Rattle.row.specs.Projection.{is_within};
 ghost use Rattle.row.specs.Testing.{compares, is_test_within, passes};
@@ -23,7 +23,7 @@ pub enum Cmp {
 }
 
 impl Cmp {
-    /// Whether two numbers compare so. Takes no memory.
+    /// Whether the comparison holds of the two numbers. Takes no memory.
     pub fn compare(self, x: i64, y: i64) -> bool
         ensures { result ≡ compares self x y }
     {
@@ -45,12 +45,12 @@ pub struct Test {
     pub left: Item,
     /// How they are compared.
     pub op: Cmp,
-    /// The second of them.
+    /// The second of the two items.
     pub right: Item,
 }
 
 impl Test {
-    /// Whether rows of that width have the columns of both items. Takes no memory.
+    /// Whether rows of this width have the columns that both items name. Takes no memory.
     pub fn is_within(&self, width: usize) -> bool
         ensures { result ≡ is_test_within self.now width }
     {

@@ -1,12 +1,12 @@
-//! The text of a row, as a script writes one and a view prints it: its columns as decimal numbers, parted by one space.
-//! And that of items, comparisons and tests, in the words with which a script names them.
+//! The text of a row, as a script writes it and a view prints it: its columns as decimal numbers, separated by one
+//! space. And the text of items, comparisons and tests, in the words of a script.
 ghost use Rattle.std.specs.Prelude.{Some};
 ghost use Rattle.row.specs.Text.{row_text, item_text, cmp_text, test_text};
 
 use crate::{Cmp, Item, Row, Test};
 use std::fmt;
 
-/// The columns, parted by one space, with nothing before or after: `5 -7`.
+/// The columns, separated by one space, with nothing before or after: `5 -7`.
 impl fmt::Display for Row {
     ghost output = { λ row. Some (row_text row) };
 

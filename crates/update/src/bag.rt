@@ -1,6 +1,6 @@
-//! Bags: what updates sum to at a time. A bag is a consolidated list of updates at one moment, and that is its one
-//! invariant: each row stands there once, in order, and none that does not count. So equal bags are equal lists, and a
-//! row is found by a binary search.
+//! Bags: what updates sum to at a time. A bag is a consolidated list of updates at one time. That is its one invariant:
+//! each row occurs once, rows are in order, and no count is 0. So equal bags are equal lists, and a row is found by
+//! binary search.
 ghost use Rattle.std.specs.Prelude.{◌≡◌, ◌<◌, ◌↔◌, ◌⊎◌, ◌++◌, [], Some, map, length, slice_get, IsTrue, IsSomeAnd, IfOk, IfErr, OnOk};
 ghost use Rattle.update.specs.Bags.{IsBag, Alike, HasLargeCount, count_of};
 ghost use Rattle.update.specs.UnitTimes.{at_unit_time};
@@ -17,9 +17,8 @@ use std::alloc::AllocError;
 use std::fmt;
 use std::marker::Model;
 
-/// Rows, each with how often it counts, which is never 0. A contract sees the list of its entries, in the order of rows,
-/// so that equal bags are equal lists. To go through a bag, ask for [`Bag::row`] and [`Bag::count`] of each number below
-/// [`Bag::len`].
+/// Rows, each with its count, which is never 0. A contract sees the list of entries in the order of rows, so that equal
+/// bags are equal lists. To go through a bag, call [`Bag::row`] and [`Bag::count`] for each number below [`Bag::len`].
 #[derive(Drop)]
 pub struct Bag {
     entries: Vec<Update<UnitTime>>,
@@ -46,7 +45,7 @@ impl Bag {
         Bag { entries }
     }
 
-    /// How many rows there are, each counted once. Takes no memory.
+    /// The number of different rows. Takes no memory.
     pub fn len(&self) -> usize
         ensures len { result ≡ length self.now }
         ensures bag { IsBag self.now }
@@ -54,23 +53,23 @@ impl Bag {
         self.entries.len()
     }
 
-    /// Costs nothing; it tells the prover that the entries are in order and that none counts 0.
+    /// Tells the prover that the entries are in order and that no count is 0. Costs nothing.
     pub fn known(&self)
         ensures bag { IsBag self.now }
     {
         let _ = &self.entries;
     }
 
-    /// Whether no row counts. Takes no memory.
+    /// Whether the bag has no entries. Takes no memory.
     pub fn is_empty(&self) -> bool
         ensures { IsTrue result ↔ (self.now ≡ []) }
     {
         self.entries.is_empty()
     }
 
-    /// How often the row counts, which is 0 where it is not there. Takes no memory.
+    /// The count of the row, 0 if it is not in the bag. Takes no memory.
     ///
-    /// Cost: a binary search, so comparisons of rows as many as the logarithm of the number of entries.
+    /// Cost: a binary search, so the number of row comparisons is logarithmic in the number of entries.
     pub fn get(&self, row: &Row) -> i64
         ensures { result ≡ count_of self.now row.now }
     {
@@ -84,7 +83,7 @@ impl Bag {
         }
     }
 
-    /// The row of entry number `i`, counted from 0. Takes no memory.
+    /// The row of entry `i`, counted from 0. Takes no memory.
     pub fn row(&self, i: usize) -> &Row
         requires { i < length self.now }
         ensures { IsSomeAnd (slice_get self.now i) (λ e. result.now ≡ e.row) }
@@ -92,7 +91,7 @@ impl Bag {
         &self.entries[i].row
     }
 
-    /// The count of entry number `i`, counted from 0, which is not 0. Takes no memory.
+    /// The count of entry `i`, counted from 0; it is not 0. Takes no memory.
     pub fn count(&self, i: usize) -> i64
         requires { i < length self.now }
         ensures { IsSomeAnd (slice_get self.now i) (λ e. result ≡ e.count) }
@@ -100,9 +99,9 @@ impl Bag {
         self.entries[i].diff
     }
 
-    /// This bag with what the updates add to it, whatever their times. [`Refusal::Overflow`] only where a row then counts
-    /// more often than a 64-bit number can say, whatever the order of the updates, and no bag is given there;
-    /// [`Refusal::OutOfMemory`] only where memory for both was refused.
+    /// This bag with all the updates added, whatever their times. [`Refusal::Overflow`] only if the new count of some
+    /// row is no 64-bit number, and no bag is given in that case; the order of the updates does not matter.
+    /// [`Refusal::OutOfMemory`] only if memory to hold and sort the entries and the updates was refused.
     ///
     /// Cost: linear in the bag, which is copied, and one sort of the updates.
     pub fn with<T: Lattice>(&self, updates: &[Update<T>]) -> Result<Bag, Refusal>
@@ -118,7 +117,7 @@ impl Bag {
         Ok(Bag::from_consolidated(entries))
     }
 
-    // Copies of the entries.
+    // A copy of the entries as a list.
     fn copy_entries(&self) -> Result<Vec<Update<UnitTime>>, Refusal>
         ensures copied { IfOk result (λ entries. map entry entries.items ≡ self.now) }
         ensures refused { IfErr result (λ refused. refused ≡ Refusal.OutOfMemory) }
@@ -128,7 +127,7 @@ impl Bag {
     }
 }
 
-// Puts the rows and differences of updates behind the entries.
+// Appends the rows and differences of updates to the entries.
 fn push_counts<T: Lattice>(
     entries: &mut Vec<Update<UnitTime>>,
     updates: &[Update<T>],
@@ -147,7 +146,7 @@ fn push_counts<T: Lattice>(
     Ok(())
 }
 
-/// A copy. Refused only where memory is; that of no entries never.
+/// A copy. Refused only if memory is refused; copying an empty bag is never refused.
 impl Clone for Bag {
     ghost use Rattle.std.specs.Prelude.{◌≡◌, []};
 
@@ -164,7 +163,7 @@ impl Clone for Bag {
     }
 }
 
-/// Two bags are equal exactly where each row counts as often in both.
+/// Two bags are equal if and only if each row has the same count in both.
 impl PartialEq for Bag {
     ghost use Rattle.std.specs.Prelude.{◌≡◌, ◌↔◌, IsTrue};
     ghost use Rattle.std.specs.Cmp.{partial_equiv_from_equiv};
@@ -188,7 +187,7 @@ impl Eq for Bag {
     ghost laws = { bags_equivalence };
 }
 
-/// A line for each entry: its count, then its row, each of the numbers parted from the next by one space.
+/// A line for each entry: its count, then its row, all numbers separated by one space.
 impl fmt::Display for Bag {
     ghost output = { λ bag. Some (bag_text bag) };
 

@@ -1,6 +1,5 @@
-//! One update of a table: a row, the time from which on it counts, and how often. All that changes in the engine is a
-//! list of these. The fields stand in the order in which lists are sorted, so that the derived order is that of
-//! consolidation.
+//! One update of a table: a row, the time from which on it counts, and how often. Every change in the engine is a list
+//! of these. The fields are in the order in which lists are sorted, so the derived order is that of consolidation.
 ghost use Rattle.std.specs.Prelude.{◌≡◌};
 
 use lattice::Lattice;
@@ -9,11 +8,11 @@ use row::Row;
 /// A row whose weight changes by `diff` from `time` on. Updates sort by time, then by row, then by difference.
 #[derive(Drop, PartialEq, Eq, PartialOrd, Ord)]
 pub struct Update<T> {
-    /// From when on the row counts.
+    /// The time from which on the change is in effect.
     pub time: T,
-    /// What counts.
+    /// The row whose count changes.
     pub row: Row,
-    /// How often: negative where rows go.
+    /// By how much: negative if rows are removed.
     pub diff: i64,
 }
 

@@ -1,13 +1,13 @@
-//! Consolidation: one update for each row and time, and none of nothing. Every layer above calls it, so it is one sort
-//! and one pass in the list that it is given.
+//! Consolidation leaves one update for each row and time, and none with difference 0. Every layer above calls it, so it
+//! is one sort and one pass within the list that it is given.
 //!
-//! After the sort the updates of one row and time are neighbours, a run. The pass keeps this: in front stand the settled
-//! runs, one update each; behind them the first update of the run in hand, whose total is counted beside the list; and
-//! from `next` on the updates still to come, as they were. A settled update is written where a read one stood, so no
-//! second list is needed.
+//! After the sort the updates of one row and time are neighbours, a group. The pass keeps this invariant: at the front
+//! are the finished groups, one update each. Behind them is the first update of the current group, whose total is kept
+//! beside the list. From `next` on are the updates still to come, unchanged. A finished update is written to a place
+//! that has already been read, so no second list is needed.
 //!
-//! Totals are counted in 128 bits and brought to 64 only where a run ends. So what is refused depends on the totals alone,
-//! and not on the order in which they are added up.
+//! Totals are kept in 128 bits and converted to 64 bits only when a group ends. So whether a list is refused depends on
+//! its totals alone, and not on the order in which they are added up.
 ghost use Rattle.std.specs.Prelude.{◌≡◌, ◌≤◌, ◌<◌, ◌+◌, ◌++◌, ◌⊎◌, length, take, drop, List, ◌∷◌, ◌*◌, ◌^◌, unsigned_abs, FitsSigned, IfOk, IfErr, IsErr, OnOk, IsTrue, Bool, ℤ, ◌↔◌, slice_index_or};
 ghost use Rattle.std.specs.List.{list_all};
 ghost use Rattle.std.specs.Int.{w64};
@@ -21,15 +21,15 @@ use crate::{Refusal, Update};
 use lattice::Lattice;
 use std::cmp::Ordering;
 
-// Whether the updates are of one row and time.
+// Whether the updates have the same row and time.
 fn are_same<T: Lattice>(u: &Update<T>, v: &Update<T>) -> bool
     ensures { result ≡ is_same T.cmp u.now v.now }
 {
     u.time.cmp(&v.time) == Ordering::Equal && u.row == v.row
 }
 
-// Ends the run whose first update stands at `at`: the update gets the total, and the next run begins behind it; where
-// the total is 0 the next run begins in its place.
+// Ends the group whose first update is at `at`. That update gets the total, and the next group begins behind it. If the
+// total is 0, the next group begins in its place.
 fn sum_group<T: Lattice>(
     updates: &mut [Update<T>],
     at: usize,
@@ -56,7 +56,7 @@ fn sum_group<T: Lattice>(
     Ok(at + 1)
 }
 
-// Ends the run in hand, and begins the next one with the update at `from`, which moves there. Gives where it stands.
+// Ends the current group and begins the next one with the update at `from`, which is moved up. Returns the new place.
 fn next_group<T: Lattice>(
     updates: &mut [Update<T>],
     at: usize,
@@ -81,14 +81,14 @@ fn next_group<T: Lattice>(
     Ok(next)
 }
 
-// The run in hand: where its first update stands, and the total of its diffs so far.
+// The current group: the index of its first update, and the total of its diffs so far.
 #[derive(Clone, Copy)]
 struct InHand {
     at: usize,
     total: i128,
 }
 
-// Takes the next update into the run in hand, or ends that and begins the next run with it.
+// Adds the next update to the current group, or ends that group and begins the next one with the update.
 fn take_in<T: Lattice>(
     updates: &mut [Update<T>],
     run: InHand,
@@ -131,7 +131,7 @@ fn take_in<T: Lattice>(
     Ok(InHand { at, total: diff })
 }
 
-// Gathers the runs of a sorted list at its front, one update for each whose total is not 0, and gives how many there are.
+// Moves the groups of a sorted list to its front, one update for each total that is not 0, and returns their number.
 fn gather<T: Lattice>(updates: &mut [Update<T>]) -> Result<usize, Refusal>
     requires { 0 < length updates.old }
     ensures gathered { IfOk result
@@ -150,7 +150,7 @@ fn gather<T: Lattice>(updates: &mut [Update<T>]) -> Result<usize, Refusal>
     sum_group(updates, run.at, run.total)
 }
 
-// Leaves in a sorted list one update for each run whose total is not 0.
+// Leaves one update for each group of a sorted list whose total is not 0.
 fn keep_totals<T: Lattice>(updates: &mut Vec<Update<T>>) -> Result<(), Refusal>
     ensures kept { OnOk result
         (updates.new.items ≡ group_sums (groups_from T.cmp updates.old.items)) }
@@ -166,13 +166,13 @@ fn keep_totals<T: Lattice>(updates: &mut Vec<Update<T>>) -> Result<(), Refusal>
     Ok(())
 }
 
-/// Consolidates a list: one update for each row and time, in order of time, then row, and none with a difference of 0.
-/// Every total stays, and so does every sum. [`Refusal::Overflow`] exactly where the total of some row at some time is no
-/// 64-bit number, whatever the order of the updates: they are added up in 128 bits. Takes no memory; on a refusal the
-/// list is dropped.
+/// Consolidates a list: one update for each row and time, in order of time, then row, and none with difference 0.
+/// Totals and sums stay the same. [`Refusal::Overflow`] if and only if the total of some row at some time is no 64-bit
+/// number; the order of the updates does not matter, because they are added up in 128 bits. Takes no memory. On a
+/// refusal the list is dropped.
 ///
-/// Cost: n log n comparisons in the number of updates, for one sort in place; then each update is looked at once, and
-/// moved at most once.
+/// Cost: n log n comparisons in the number of updates, for one sort in place; then each update is read once and moved
+/// at most once.
 pub fn consolidate<T: Lattice>(mut updates: Vec<Update<T>>) -> Result<Vec<Update<T>>, Refusal>
     ensures consolidated { IfOk result (λ out. IsConsolidated T.cmp out.items) }
     ensures totals { IfOk result (λ out. (p : List ℤ → T → Bool)
@@ -191,10 +191,11 @@ pub fn consolidate<T: Lattice>(mut updates: Vec<Update<T>>) -> Result<Vec<Update
     Ok(updates)
 }
 
-/// The same for a list that begins with a long run in order, as a bag with a few updates behind it: that run is found and
-/// not sorted again. [`Refusal::OutOfMemory`] only where memory for a second list of its length was refused.
+/// Consolidates a list that begins with a long sorted part, such as a bag with a few updates behind it. The sort finds
+/// that part and does not sort it again. [`Refusal::OutOfMemory`] only if memory for a second list of the same length
+/// was refused.
 ///
-/// Cost: linear in the updates, and n log n comparisons in the number of those behind the run.
+/// Cost: linear in the number of updates, plus n log n comparisons in the number of those behind the sorted part.
 pub(crate) fn consolidate_behind<T: Lattice>(
     mut updates: Vec<Update<T>>,
 ) -> Result<Vec<Update<T>>, Refusal>

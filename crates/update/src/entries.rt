@@ -1,5 +1,5 @@
-//! Rows with counts before they are a bag: a row may be added more than once, and in any order. What writes a bag row by
-//! row writes here, so that no update is made and copied for it.
+//! Rows with counts that are not yet a bag: a row may be added more than once, and in any order. Code that writes a bag
+//! row by row writes here, so that it need not make an update of each row and copy it.
 ghost use Rattle.std.specs.Prelude.{◌≡◌, ◌⊎◌, ◌++◌, [], ◌∷◌, IfOk, IfErr, OnOk};
 ghost use Rattle.update.specs.Bags.{Alike, IsBag, HasLargeCount, entry_of};
 ghost use Rattle.update.specs.Refusals.{IsMemoryOrOverflow};
@@ -36,7 +36,7 @@ impl Entries {
         }
     }
 
-    /// Adds an entry at the end. Refused only with `OutOfMemory`.
+    /// Adds an entry at the end. Refused only with `OutOfMemory`; the entry is then dropped.
     pub fn push(&mut self, row: Row, count: i64) -> Result<(), Refusal>
         ensures added { OnOk result (self.new ≡ self.old ++ entry_of row count ∷ []) }
         ensures refused { IfErr result (λ refused. refused ≡ Refusal.OutOfMemory) }
@@ -49,8 +49,8 @@ impl Entries {
         Ok(())
     }
 
-    /// The bag that the entries add up to. [`Refusal::Overflow`] only where a row counts more often than a 64-bit number
-    /// can say. Takes no memory.
+    /// The bag that the entries add up to. [`Refusal::Overflow`] only if the count of some row is no 64-bit number. On
+    /// a refusal the entries are dropped. Takes no memory.
     ///
     /// Cost: one sort.
     pub fn into_bag(self) -> Result<Bag, Refusal>

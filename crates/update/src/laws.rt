@@ -1,4 +1,4 @@
-//! Why a consolidated list may stand for all lists with its sums, and a list of entries for a bag. The functions do
+//! Why a consolidated list can stand for all lists with its sums, and a list of entries for a bag. The functions do
 //! nothing: they are called, or their clauses cited, for what they promise in every lattice.
 ghost use Rattle.std.specs.Prelude.{◌≡◌, ◌≤◌, Bool, List, ℤ, IsTrue};
 ghost use Rattle.std.specs.List.{filter};
@@ -8,9 +8,9 @@ ghost use Rattle.update.specs.declared.change.Update.{Update};
 
 use lattice::Lattice;
 
-/// Lists that sum to alike bags at each time of a set that has, with a time, all that are at or before it, have the same
-/// totals of each row at each of these times; and if they are consolidated, they have the same updates there. `among` is
-/// the test of the set.
+/// Take a set of times that contains, with each time, all times at or before it; `among` is the test of the set. If two
+/// lists sum to alike bags at each time of the set, then each row has the same total in both at each of these times. If
+/// the lists are also consolidated, then they have the same updates at these times.
 pub fn sums_determine_a_list<T: Lattice>()
     ensures totals { (among : T → Bool) (us vs : List (Update T))
         → ((s t : T) → IsTrue (T.below s t) → IsTrue (among t) → IsTrue (among s))
@@ -33,7 +33,7 @@ pub fn consolidated_lists_are_least<T: Lattice>()
         → size (filter (λ u. among u.time) us) ≤ size (filter (λ u. among u.time) vs) }
 {}
 
-/// A bag, as a contract sees it, is determined by how often each row counts.
+/// A bag, as a contract sees it, is determined by the counts of its rows.
 pub fn bags_are_determined()
     ensures { (a b : List Entry) → IsBag a → IsBag b → Alike a b → a ≡ b }
 {}

@@ -1,5 +1,5 @@
-//! Lists that enums and events have as fields, each in a type of its own: a contract sees a plain list, which no other
-//! form of the same list can differ from.
+//! Lists that enums and events have as fields. Each has a type of its own, so that a contract sees a plain list, and
+//! two values with the same list are the same value.
 ghost use Rattle.std.specs.Prelude.{◌≡◌, [], ◌∷◌, ◌++◌, IfErr, IfOk, OnErr, OnOk, length};
 ghost use Rattle.update.specs.declared.refusal.Refusal.TheVariants.{OutOfMemory};
 
@@ -25,21 +25,21 @@ impl<T> Model for Updates<T> {
 }
 
 impl<T> Updates<T> {
-    /// The updates, in the order in which they were put. Takes no memory.
+    /// The updates, in the order in which they were pushed. Takes no memory.
     pub fn as_slice(&self) -> &[Update<T>]
         ensures { result.now ≡ self.now }
     {
         self.items.as_slice()
     }
 
-    /// How many there are. Takes no memory.
+    /// The number of updates. Takes no memory.
     pub fn len(&self) -> usize
         ensures { result ≡ length self.now }
     {
         self.items.len()
     }
 
-    /// The vector that they were made from. Takes no memory.
+    /// The updates as a vector. Takes no memory.
     pub fn into_vec(self) -> Vec<Update<T>>
         ensures { result.items ≡ self }
     {
@@ -47,7 +47,7 @@ impl<T> Updates<T> {
         items
     }
 
-    /// Takes all of the updates out. Takes no memory.
+    /// Takes all updates out, and leaves an empty list. Takes no memory.
     pub fn take(&mut self) -> Updates<T>
         ensures taken { result ≡ self.old }
         ensures left { self.new ≡ [] }
@@ -60,7 +60,7 @@ impl<T> Updates<T> {
 }
 
 impl<T: Lattice> Updates<T> {
-    /// Adds an update, behind. Refused only with `OutOfMemory`.
+    /// Appends an update. Refused only with `OutOfMemory`; the update is then dropped.
     pub fn push(&mut self, update: Update<T>) -> Result<(), Refusal>
         ensures more { OnOk result (self.new ≡ self.old ++ update ∷ []) }
         ensures refused { IfErr result (λ refusal. refusal ≡ OutOfMemory) }
@@ -69,7 +69,8 @@ impl<T: Lattice> Updates<T> {
         Ok(())
     }
 
-    /// Takes over all of these updates, behind. Refused only with `OutOfMemory`, and then nothing changed.
+    /// Moves all updates of `more` to the end of this list. Refused only with `OutOfMemory`, and then both lists are as
+    /// before.
     pub fn append(&mut self, more: &mut Updates<T>) -> Result<(), Refusal>
         ensures more { OnOk result (self.new ≡ self.old ++ more.old) }
         ensures refused { IfErr result (λ refusal. refusal ≡ OutOfMemory) }
@@ -92,7 +93,7 @@ impl<T> From<Vec<Update<T>>> for Updates<T> {
     }
 }
 
-/// Times, as the elements of a frontier. A contract sees the list of them.
+/// Times, such as the elements of a frontier. A contract sees the list of them.
 #[derive(Drop)]
 pub struct Times<T> {
     items: Vec<T>,
@@ -107,14 +108,14 @@ impl<T> Model for Times<T> {
 }
 
 impl<T> Times<T> {
-    /// The times, in the order in which they were put. Takes no memory.
+    /// The times, in order. Takes no memory.
     pub fn as_slice(&self) -> &[T]
         ensures { result.now ≡ self.now }
     {
         self.items.as_slice()
     }
 
-    /// The vector that they were made from. Takes no memory.
+    /// The times as a vector. Takes no memory.
     pub fn into_vec(self) -> Vec<T>
         ensures { result.items ≡ self }
     {
@@ -124,7 +125,7 @@ impl<T> Times<T> {
 }
 
 impl<T: Lattice> Times<T> {
-    /// A copy. Refused only where memory is.
+    /// A copy. Refused only if memory is refused.
     pub fn copy(&self, alloc: Global) -> Result<Times<T>, AllocError>
         ensures { IfOk result (λ copy. copy ≡ self.now) }
     {

@@ -1,6 +1,6 @@
-//! Every refusal of the engine, by a name and a number. It is the one error type of all crates above: a caller can match
-//! on the name, and a command file prints the number. Crates below have small refusals of their own, which become one
-//! of these by `From`.
+//! Every refusal of the engine, by a name and a number. It is the one error type of all crates above: a caller can
+//! match on the name, and a command file prints the number. Crates below have small refusals of their own, and `From`
+//! turns each into one of these.
 ghost use Rattle.std.specs.Prelude.{◌≡◌};
 
 use antichain::NoMemory;
@@ -9,7 +9,7 @@ use std::alloc::{AllocError, AllocFailed};
 use std::error::Error;
 use std::fmt;
 
-/// Why a call was refused. Its number is that of [`Refusal::code`].
+/// Why a call was refused. [`Refusal::code`] is its number.
 #[derive(Clone, Copy, Debug, PartialEq, Eq)]
 pub enum Refusal {
     OutOfMemory = 1,
@@ -48,14 +48,14 @@ pub enum Refusal {
 impl Refusal {
     ghost use Rattle.update.specs.Refusals.{code_of};
 
-    /// The number of the refusal, as command files print it.
+    /// The number of the refusal, as a command file prints it.
     pub fn code(self) -> u8
         ensures { result ≡ code_of self }
     {
         self as u8
     }
 
-    // What the refusal says.
+    // What is printed for the refusal.
     fn text(self) -> &'static str {
         match self {
             Refusal::OutOfMemory => "no memory",
@@ -93,7 +93,7 @@ impl Refusal {
     }
 }
 
-// The texts are written by hand: a derive for so many variants takes eight seconds to prove, and says no more.
+// The texts are written by hand: a derive for so many variants takes eight seconds to prove and says no more.
 impl fmt::Display for Refusal {
     fn fmt<W: fmt::Write>(&self, f: &mut fmt::Formatter<W>) -> fmt::Result {
         f.write_str(self.text())

@@ -1,6 +1,6 @@
-//! What a list of updates sums to at a time: each row, as often as the updates at or before the time say together. The
-//! updates that count are moved to the one time of [`UnitTime`] and consolidated there, which adds them up and sorts them by
-//! row: so there is one place where updates are added up, and a sum is refused as a consolidation is.
+//! What a list of updates sums to at a time: each row with the total of its differences at or before the time. These
+//! updates are moved to the one time of [`UnitTime`] and consolidated, which adds them up and sorts them by row. So
+//! updates are added up in one place, and a sum is refused when a consolidation is.
 ghost use Rattle.std.specs.Prelude.{◌≡◌, ◌≤◌, ◌⊎◌, map, filter, IfOk, IfErr, OnOk};
 ghost use Rattle.update.specs.Bags.{Alike, IsBag, HasLargeCount, bag_size};
 ghost use Rattle.update.specs.UnitTimes.{at_unit_time};
@@ -12,7 +12,7 @@ use crate::{Bag, Refusal, Update, consolidate};
 use lattice::Lattice;
 use std::alloc::Global;
 
-// The updates at or before `t`, all moved to the one moment.
+// The updates at or before `t`, all moved to the one time.
 fn at_or_before<T: Lattice>(
     alloc: Global,
     updates: &[Update<T>],
@@ -35,11 +35,11 @@ fn at_or_before<T: Lattice>(
     Ok(gone)
 }
 
-/// What the updates sum to at `t`: each row, as often as the updates at or before `t` say together.
-/// [`Refusal::Overflow`] only where a row counts more often than a 64-bit number can say, whatever the order of the
-/// updates, and no bag is given there; [`Refusal::OutOfMemory`] only where memory for those at or before `t` was refused.
+/// What the updates sum to at `t`: each row with the total of its differences at or before `t`. [`Refusal::Overflow`]
+/// only if the count of some row is no 64-bit number, and no bag is given in that case; the order of the updates does
+/// not matter. [`Refusal::OutOfMemory`] only if memory for the updates at or before `t` was refused.
 ///
-/// Cost: linear in the updates, and one sort of those at or before `t`, which are copied.
+/// Cost: linear in the number of updates, and one sort of those at or before `t`, which are copied.
 pub fn sum_at<T: Lattice>(alloc: Global, updates: &[Update<T>], t: T) -> Result<Bag, Refusal>
     ensures sum { IfOk result (λ bag. Alike bag (as_of T.below t updates.now)) }
     ensures bag { IfOk result IsBag }

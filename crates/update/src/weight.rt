@@ -1,27 +1,26 @@
-//! Weights: the numbers that say how often a row counts. Sums of them may grow past what a number of 64 bits holds, so
-//! each operation says so instead of wrapping: it gives nothing exactly where the whole-number result is none that the
-//! type holds.
+//! Weights: numbers that say how often a row counts. A sum of weights may not fit in 64 bits. An operation never wraps:
+//! it gives nothing if and only if the type does not hold the exact result.
 ghost use Rattle.std.specs.Prelude.{ℤ, ◌+ℤ◌, ◌*ℤ◌, neg_ℤ, FitsSigned, SomeIff, option_map};
 ghost use Rattle.std.specs.Int.{w64};
 
-/// Numbers that are added, negated and multiplied as whole numbers are, as far as the type reaches. Contracts see each
-/// as a whole number, and `holds` says which whole numbers the type has.
+/// Numbers with the addition, negation and multiplication of whole numbers, as far as the type reaches. Contracts see
+/// each as a whole number, and `holds` says which whole numbers the type has.
 pub trait Weight {
     ghost whole: { Self → ℤ };
 
     ghost holds: { ℤ → Type 0 };
 
-    /// The sum, or nothing exactly where the type does not hold it. Takes no memory.
+    /// The sum, or nothing if and only if the type does not hold it. Takes no memory.
     fn plus(self, other: Self) -> Option<Self>
         ensures { let sum = whole self +ℤ whole other in SomeIff (option_map whole result)
             (holds sum) sum };
 
-    /// The number with the other sign, or nothing exactly where the type does not hold it. Takes no memory.
+    /// The number with the opposite sign, or nothing if and only if the type does not hold it. Takes no memory.
     fn negate(self) -> Option<Self>
         ensures { let other = neg_ℤ (whole self) in SomeIff (option_map whole result)
             (holds other) other };
 
-    /// The product, or nothing exactly where the type does not hold it. Takes no memory.
+    /// The product, or nothing if and only if the type does not hold it. Takes no memory.
     fn times(self, other: Self) -> Option<Self>
         ensures { let product = whole self *ℤ whole other in SomeIff (option_map whole result)
             (holds product) product };
