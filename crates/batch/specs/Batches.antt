@@ -1,4 +1,5 @@
--- Batches: updates in an order that brings the rows of a key together (McSherry et al., Shared Arrangements, VLDB 2020).
+-- Batches: updates in an order that brings the rows of a key together (McSherry et al., Shared Arrangements, VLDB
+-- 2020).
 use Rattle.std.specs.Prelude.{◌≢◌, Bool, List, ℤ, pos, length, take}
 use Rattle.std.specs.List.{AllByRecursion}
 use Rattle.std.specs.List.Sorted.{IsStrictlySortedBy}
@@ -12,7 +13,7 @@ use Rattle.update.specs.Bags.{same_row}
 abbrev pub by_row_then_time : {T : Type 0} → (T → T → Ordering) → Update T → Update T → Ordering
 by_row_then_time cmp u v = ordering_then (slice_cmp int_cmp u.row v.row) (cmp u.time v.time)
 
--- one update for each row and time, in order of row, then time, and none of nothing
+-- one update for each row and time, in order of row, then time, and none with difference 0
 pub record IsSealed {T : Type 0} (cmp : T → T → Ordering) (us : List (Update T)) : Type 0 where
   pub ascending : IsStrictlySortedBy (by_row_then_time cmp) us
   pub nonzero : AllByRecursion (λ u. u.diff ≢ pos 0) us
@@ -21,6 +22,6 @@ pub record IsSealed {T : Type 0} (cmp : T → T → Ordering) (us : List (Update
 abbrev pub begins_with : {T : Type 0} → List ℤ → Update T → Bool
 begins_with key u = same_row (take (length key) u.row) key
 
--- how the beginning of the update's row, cut to the length of the key, compares with it
+-- compares the beginning of the update's row, cut to the length of the key, with the key
 abbrev pub at_key : {T : Type 0} → List ℤ → Update T → Ordering
 at_key key u = slice_cmp int_cmp (take (length key) u.row) key

@@ -1,11 +1,12 @@
--- What a batch says of itself, and what contracts see of it, of a batch and of a builder.
+-- Descriptions of batches, and what contracts see of a description, a batch and a builder.
 use Rattle.std.specs.Prelude.{◌≡◌, ℕ, Bool, List, IsTrue}
 use Rattle.std.specs.declared.cmp.Ordering.{Ordering}
 use Rattle.lattice.specs.Frontiers.{all_beyond}
 use Rattle.antichain.specs.Antichains.{IsFrontier}
 use Rattle.update.specs.declared.change.Update.{Update}
 
--- whose updates these are, the frontiers between which they happened, and the one as of which they may be compacted
+-- whose updates these are, the frontiers between which their times lie, and the frontier as of which their times may
+-- have been moved
 pub record DescriptionState (T : Type 0) : Type 0 where
   pub worker : ℕ
   pub node : ℕ
@@ -18,19 +19,19 @@ pub record BatchState (T : Type 0) : Type 0 where
   pub description : DescriptionState T
   pub updates : List (Update T)
 
--- updates as they were pushed, the latest last, and whose they are
+-- whose updates these are, and the updates in the order in which they were pushed
 pub record BuilderState (T : Type 0) : Type 0 where
   pub worker : ℕ
   pub node : ℕ
   pub updates : List (Update T)
 
--- three frontiers, of which the upper one is beyond the lower one
+-- three frontiers, of which the upper is beyond the lower
 pub record IsInterval {T : Type 0} (below : T → T → Bool) (cmp : T → T → Ordering) (lower upper since : List T) : Type 0 where
   pub lower_frontier : IsFrontier below cmp lower
   pub upper_frontier : IsFrontier below cmp upper
   pub since_frontier : IsFrontier below cmp since
   pub forward : IsTrue (all_beyond below lower upper)
 
--- b goes on where a ends, and is of the same worker and node
+-- b begins where a ends, and has the same worker and node
 abbrev pub Follows : {T : Type 0} → DescriptionState T → DescriptionState T → Type 0
 Follows a b = (a.worker ≡ b.worker) × (a.node ≡ b.node) × (a.upper ≡ b.lower)

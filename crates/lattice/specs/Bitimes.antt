@@ -1,10 +1,11 @@
--- Pairs of numbers as times: the valid time, and the system time.
+-- Bitemporal timestamps: a pair of a valid time and a system time.
 use Rattle.std.specs.Prelude.{ℕ, Bool, nat_le, max}
 use Rattle.std.specs.Ordering.{nat_cmp}
 use Rattle.std.specs.declared.cmp.Ordering.{Ordering}
 use Rattle.lattice.specs.declared.product.Pair.{Pair}
 use Rattle.lattice.specs.Pairs.{pair_below, pair_with, pair_cmp}
 
+-- a valid time and a system time
 abbrev pub Bitime : Type 0
 Bitime = Pair ℕ ℕ
 

@@ -1,10 +1,10 @@
--- Frontiers, as lists of times: the times that are still open are those beyond one
--- (Murray et al., Naiad, SOSP 2013; Abadi and Isard, Timely Dataflow: A Model, 2015).
+-- Frontiers, as lists of times. The times that are still open are those beyond the frontier (Murray et al., Naiad, SOSP
+-- 2013; Abadi and Isard, Timely Dataflow: A Model, 2015).
 use Rattle.std.specs.Prelude.{Bool, List}
 use Rattle.std.specs.List.{list_any, list_all}
 
 module _ {T : Type 0} (below : T → T → Bool) where
-  -- some element of the frontier is at or below t; otherwise the frontier has passed t
+  -- some element of the frontier is at or before t; otherwise the frontier has passed t
   abbrev pub is_beyond : List T → T → Bool
   is_beyond frontier t = list_any (λ f. below f t) frontier
 

@@ -1,11 +1,12 @@
--- What the traits of timestamps promise. A partial order is given by its test, a lattice by its two operations
--- (Birkhoff, Lattice Theory, 1940; as timestamps: Abadi, McSherry and Plotkin, Foundations of Differential Dataflow, 2015).
+-- The laws of the traits of timestamps. A partial order is given by its test, a lattice by its two operations
+-- (Birkhoff, Lattice Theory, 1940; as timestamps: Abadi, McSherry and Plotkin, Foundations of Differential Dataflow,
+-- 2015).
 use Rattle.std.specs.Prelude.{◌≡◌, Bool, IsTrue}
 use Rattle.std.specs.Ordering.{is_le}
 use Rattle.std.specs.declared.cmp.Ordering.{Ordering}
 use Rattle.std.specs.declared.cmp.Ordering.TheVariants.{Equal}
 
--- each time is at or below itself, times at or below each other in a row are so end to end, and only equal ones are so both ways
+-- a partial order: reflexive, transitive and antisymmetric
 pub record PartialOrderLaws {T : Type 0} (below : T → T → Bool) : Type 0 where
   pub reflexive : (t : T) → IsTrue (below t t)
   pub transitive : (t u v : T) → IsTrue (below t u) → IsTrue (below u v) → IsTrue (below t v)
@@ -20,7 +21,7 @@ pub record LatticeLaws {T : Type 0} (below : T → T → Bool) (joined met : T �
   pub meet_right : (t u : T) → IsTrue (below (met t u) u)
   pub meet_greatest : (t u v : T) → IsTrue (below v t) → IsTrue (below v u) → IsTrue (below v (met t u))
 
--- the order of sorting extends the partial order, and times that it does not tell apart are identical
+-- the order of sorting extends the partial order, and times that tie in it are identical
 pub record ExtendsLaws {T : Type 0} (below : T → T → Bool) (cmp : T → T → Ordering) : Type 0 where
   pub extends : (t u : T) → IsTrue (below t u) → IsTrue (is_le (cmp t u))
   pub exact : (t u : T) → cmp t u ≡ Equal → t ≡ u

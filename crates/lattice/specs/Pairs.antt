@@ -1,4 +1,4 @@
--- Pairs of times, ordered by components, and the laws at pairs from those of both components.
+-- Pairs of times, ordered component by component. Each law of pairs follows from the same law of both components.
 use Rattle.std.specs.Prelude.{◌≡◌, Bool, ◌&&◌, IsTrue, refl}
 use Rattle.std.proofs.lemmas.Bool.{and_parts, and_from}
 use Rattle.std.specs.Ordering.{is_le, ordering_then}
@@ -7,18 +7,19 @@ use Rattle.std.specs.declared.cmp.Ordering.TheVariants.{Less, Equal, Greater}
 use Rattle.lattice.specs.Order.{PartialOrderLaws, LatticeLaws, ExtendsLaws}
 use Rattle.lattice.specs.declared.product.Pair.{Pair}
 
+-- the pair of two components
 abbrev pub make_pair : {A B : Type 0} → A → B → Pair A B
 make_pair x y = record { first = x; second = y }
 
--- at or below in both components
+-- at or before in both components
 abbrev pub pair_below : {A B : Type 0} → (A → A → Bool) → (B → B → Bool) → Pair A B → Pair A B → Bool
 pair_below a b p q = a p.first q.first && b p.second q.second
 
--- an operation on each component, as join and meet are
+-- applies an operation to each component; join and meet are of this form
 abbrev pub pair_with : {A B : Type 0} → (A → A → A) → (B → B → B) → Pair A B → Pair A B → Pair A B
 pair_with f g p q = make_pair (f p.first q.first) (g p.second q.second)
 
--- the first components decide, and where they tie the second ones
+-- the first components decide; if they tie, the second ones do
 abbrev pub pair_cmp : {A B : Type 0} → (A → A → Ordering) → (B → B → Ordering) → Pair A B → Pair A B → Ordering
 pair_cmp a b p q = ordering_then (a p.first q.first) (b p.second q.second)
 
@@ -36,6 +37,7 @@ then_equal Equal p e = (refl, e)
 then_equal Greater p e = cc
 
 module _ {A B : Type 0} {a : A → A → Bool} {b : B → B → Bool} where
+  -- pairs are partially ordered
   pub pair_order : PartialOrderLaws a → PartialOrderLaws b → PartialOrderLaws (pair_below a b)
   pair_order la lb = record {
     reflexive = λ p. and_from _ _ (la.reflexive p.first) (lb.reflexive p.second);
@@ -49,6 +51,7 @@ module _ {A B : Type 0} {a : A → A → Bool} {b : B → B → Bool} where
         same_pair _ _ _ _ (la.antisymmetric _ _ l.0 m.0) (lb.antisymmetric _ _ l.1 m.1);
   }
 
+  -- joins and meets of pairs are least upper and greatest lower bounds
   pub pair_bounds : {ja ma : A → A → A} {jb mb : B → B → B} → LatticeLaws a ja ma → LatticeLaws b jb mb → LatticeLaws (pair_below a b) (pair_with ja jb) (pair_with ma mb)
   pair_bounds la lb = record {
     join_left = λ p q. and_from _ _ (la.join_left _ _) (lb.join_left _ _);
@@ -65,6 +68,7 @@ module _ {A B : Type 0} {a : A → A → Bool} {b : B → B → Bool} where
         and_from _ _ (la.meet_greatest _ _ _ l.0 m.0) (lb.meet_greatest _ _ _ l.1 m.1);
   }
 
+  -- the order of sorting extends the partial order of pairs
   pub pair_extends : {ca : A → A → Ordering} {cb : B → B → Ordering} → ExtendsLaws a ca → ExtendsLaws b cb → ExtendsLaws (pair_below a b) (pair_cmp ca cb)
   pair_extends la lb = record {
     extends = λ p q h.

@@ -1,5 +1,5 @@
--- What a linear node makes of updates: it works update by update, and keeps their times (McSherry et al., Differential
--- Dataflow, CIDR 2013, section 3).
+-- The output of a linear node: it works update by update and keeps the times (McSherry et al., Differential Dataflow,
+-- CIDR 2013, section 3).
 use Rattle.std.specs.Prelude.{List, map, FitsSigned, neg_ℤ}
 use Rattle.std.specs.Int.{w64}
 use Rattle.std.specs.List.{filter, Any}
@@ -10,15 +10,15 @@ use Rattle.update.specs.declared.change.Update.{Update}
 use Rattle.plan.specs.declared.node.Node.{Node}
 use Rattle.plan.specs.declared.node.Node.TheVariants.{Map, Filter, Negate}
 
--- the update of the row's image
+-- the update, with its row replaced by the row's image
 abbrev pub mapped_update : {T : Type 0} → List Item → Update T → Update T
 mapped_update items u = record u { row = projection items u.row }
 
--- the update with the other sign
+-- the update, with its diff negated
 abbrev pub negated_update : {T : Type 0} → Update T → Update T
 negated_update u = record u { diff = neg_ℤ u.diff }
 
--- what a linear node makes of the updates that come to one of its ports; joins and reductions are not meant
+-- the output of a linear node for the updates that come to one of its ports; it means nothing for joins and reductions
 abbrev pub linear_output : {T : Type 0} → Node → List (Update T) → List (Update T)
 linear_output (Map source items) us = map (mapped_update items) us
 linear_output (Filter source test) us = filter (λ u. passes test u.row) us
@@ -29,7 +29,7 @@ linear_output other us = us
 abbrev pub HasLargeDiff : {T : Type 0} → List (Update T) → Type 0
 HasLargeDiff us = Any (λ u. FitsSigned w64 u.diff → ⊥) us
 
--- what the node makes of the updates has such a diff; only a negation changes diffs
+-- the output of the node has such a diff; only a negation changes diffs
 abbrev pub Overflows : {T : Type 0} → Node → List (Update T) → Type 0
 Overflows (Negate source) us = HasLargeDiff (map negated_update us)
 Overflows other us = ⊥

@@ -1,4 +1,4 @@
--- Which rows a linear node takes.
+-- Which rows a linear node can take, by their width.
 use Rattle.std.specs.Prelude.{ℕ, Bool, true, ◌&&◌, List, length, eqb}
 use Rattle.std.specs.List.{list_all}
 use Rattle.row.specs.Projection.{are_within}
@@ -9,11 +9,11 @@ use Rattle.plan.specs.Rules.{is_width}
 use Rattle.plan.specs.declared.node.Node.{Node}
 use Rattle.plan.specs.declared.node.Node.TheVariants.{Map, Filter}
 
--- rows of that width have the columns that the items of a map name, and their images are rows
+-- rows of this width have the columns that a map's items name, and their images are rows
 abbrev pub takes_items : List Item → ℕ → Bool
 takes_items items columns = is_width (length items) && are_within items columns
 
--- rows of that width have the columns that the node names, and what it makes of them are rows
+-- rows of this width have the columns that the node names, and the node makes rows of them
 abbrev pub takes_width : Node → ℕ → Bool
 takes_width (Map source items) columns = takes_items items columns
 takes_width (Filter source test) columns = is_test_within test columns
@@ -23,6 +23,6 @@ takes_width other columns = true
 abbrev pub takes_rows : {T : Type 0} → Node → List (Update T) → Bool
 takes_rows node us = list_all (λ u. takes_width node (length u.row)) us
 
--- each row has that many columns
+-- each row has this many columns
 abbrev pub are_wide : {T : Type 0} → ℕ → List (Update T) → Bool
 are_wide columns us = list_all (λ u. eqb (length u.row) columns) us

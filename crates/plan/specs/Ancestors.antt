@@ -1,4 +1,4 @@
--- What stands above a node: its sources, theirs, and so on.
+-- The ancestors of a node: its sources, their sources, and so on.
 use Rattle.std.specs.Prelude.{ℕ, zero, suc, Bool, false, ◌||◌, ◌&&◌, eqb, List, [], ◌∷◌, ◌++◌, length}
 use Rattle.std.specs.List.{filter, list_any}
 use Rattle.plan.specs.Nodes.{node_at, sources, is_input}

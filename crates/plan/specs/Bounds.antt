@@ -1,5 +1,5 @@
--- The bound of a node: how large its output can become, found from the plan and the changes of its inputs alone.
--- Where no bound is 2^63 or more, no count is, on any way to the answer.
+-- The bound of a node: how large its output can become. It follows from the plan and the changes of the inputs alone.
+-- If no bound is 2^63 or more, then every count fits in 64 bits, in every intermediate result too.
 use Rattle.std.specs.Prelude.{◌≡◌, ℕ, ◌+◌, ◌*◌, ◌^◌, ◌<◌, ◌≤◌, Bool, List, [], length, slice_get}
 use Rattle.std.specs.declared.cmp.Ordering.{Ordering}
 use Rattle.update.specs.Updates.{size}
@@ -12,19 +12,19 @@ use Rattle.plan.specs.declared.node.Kind.{Kind}
 use Rattle.plan.specs.declared.node.Node.{Node}
 use Rattle.plan.specs.declared.node.Node.TheVariants.{Concat, Join, Reduce}
 
--- the bound that a node has from those at its ports; a reduction's is its own
+-- the bound of a node, from the bounds at its ports; a reduction has a bound of its own
 abbrev pub output_bound : Node → ℕ → (ℕ → ℕ) → ℕ
 output_bound (Concat left right) own bounds = bounds 0 + bounds 1
 output_bound (Join left right) own bounds = bounds 0 * bounds 1
 output_bound (Reduce kind source) own bounds = own
 output_bound other own bounds = bounds 0
 
--- the bound of node n, where each reduction has its own and each input its size
+-- the bound of node n, given the own bound of each reduction and the size of each input
 unfoldable pub bound_by : List Node → (ℕ → ℕ) → (ℕ → ℕ) → ℕ → ℕ
 bound_by p own inputs n = found 0 (λ m node bounds. output_bound node (own m) (λ port. source_value (inputs m) bounds (slice_get (sources node) port))) p n
 
 module _ {T : Type 0} (below : T → T → Bool) (cmp : T → T → Ordering) where
-  -- each reduction's own bound is the size of its differences over all changes
+  -- the own bound of each reduction is the size of its differences over all changes
   abbrev pub AreOwn : List Node → (ℕ → List (Update T)) → (ℕ → ℕ) → Type 0
   AreOwn p changes own = (n source : ℕ) (kind : Kind) → node_at p n ≡ Reduce kind source → (us : List (Update T)) × AreDifferences below cmp p changes [] n us × (own n ≡ size us)
 
@@ -32,6 +32,6 @@ module _ {T : Type 0} (below : T → T → Bool) (cmp : T → T → Ordering) wh
   abbrev pub IsBound : List Node → (ℕ → List (Update T)) → ℕ → ℕ → Type 0
   IsBound p changes n w = (own : ℕ → ℕ) × AreOwn p changes own × (w ≡ bound_by p own (λ input. size (changes input)) n)
 
-  -- the changes give some node a bound of 2^63 or more, so that a count may be no 64-bit number
+  -- some node has a bound of 2^63 or more, so a count may be no 64-bit number
   abbrev pub HasLargeBound : List Node → (ℕ → List (Update T)) → Type 0
   HasLargeBound p changes = (n : ℕ) × (bound : ℕ) × (n < length p) × IsBound p changes n bound × (2 ^ 63 ≤ bound)

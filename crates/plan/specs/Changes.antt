@@ -1,5 +1,5 @@
--- The differences of a view: one consolidated list of updates, which at every time that the frontier has passed sums to
--- the query on the inputs summed to that time (McSherry et al., Differential Dataflow, CIDR 2013).
+-- The differences of a view are one consolidated list of updates. At every time that the frontier has passed, they sum
+-- to the query on the inputs as of that time (McSherry et al., Differential Dataflow, CIDR 2013).
 use Rattle.std.specs.Prelude.{ℕ, Bool, not, List, IsTrue}
 use Rattle.std.specs.List.{list_all, flat_map}
 use Rattle.std.specs.declared.cmp.Ordering.{Ordering}
@@ -12,15 +12,15 @@ use Rattle.plan.specs.Queries.{query}
 use Rattle.plan.specs.declared.node.Node.{Node}
 
 module _ {T : Type 0} (below : T → T → Bool) where
-  -- the frontier has no element at or below t
+  -- the frontier has no element at or before t
   abbrev pub has_passed : List T → T → Bool
   has_passed frontier t = not (is_beyond below frontier t)
 
-  -- each input's changes, summed to t, in the query
+  -- the query of node n on the inputs as of time t
   abbrev pub query_at : List Node → (ℕ → List (Update T)) → ℕ → T → List Rattle.update.specs.Bags.Entry
   query_at p changes n t = query p (λ input. as_of below t (changes input)) n
 
-  -- what is open for node n: the elements of the frontiers of all inputs that feed it
+  -- the frontier of node n: the elements of the frontiers of all inputs that feed it
   abbrev pub open_for : List Node → (ℕ → List T) → ℕ → List T
   open_for p frontiers n = flat_map frontiers (feeders p n)
 

@@ -6,11 +6,12 @@ use Rattle.plan.specs.Ancestors.{numbers_below}
 use Rattle.plan.specs.declared.edges.Edge.{Edge}
 use Rattle.plan.specs.declared.node.Node.{Node}
 
+-- the number is there and is n
 abbrev pub is_number : ℕ → Option ℕ → Bool
 is_number n None = false
 is_number n (Some m) = eqb m n
 
--- the edge leads from node n: at its port its reader reads n
+-- the edge leads from node n: its reader reads n at its port
 abbrev pub leads_from : List Node → ℕ → Edge → Bool
 leads_from p n edge = is_number n (slice_get (sources (node_at p edge.reader)) edge.port)
 
@@ -18,7 +19,7 @@ leads_from p n edge = is_number n (slice_get (sources (node_at p edge.reader)) e
 abbrev pub ports_of : ℕ → List Edge
 ports_of reader = record { reader = reader; port = 0 } ∷ record { reader = reader; port = 1 } ∷ []
 
--- the edges that lead from node n, in the order of their readers
+-- the edges that lead from node n, in the order of their readers and ports
 abbrev pub edges_from : List Node → ℕ → List Edge
 edges_from p n = filter (leads_from p n) (flat_map ports_of (numbers_below (length p)))
 
@@ -26,7 +27,7 @@ edges_from p n = filter (leads_from p n) (flat_map ports_of (numbers_below (leng
 abbrev pub numbers_where : (Node → Bool) → List Node → List ℕ
 numbers_where test p = filter (λ n. test (node_at p n)) (numbers_below (length p))
 
--- there is such a number, and its mark is set
+-- there is a number, and it is marked
 abbrev pub is_marked : List Bool → Option ℕ → Bool
 is_marked marks None = false
 is_marked marks (Some n) = get_or marks n false

@@ -1,4 +1,4 @@
--- Equality of items, as tests.
+-- Equality of items, as a test that decides it.
 use Rattle.std.specs.Prelude.{◌≡◌, Bool, false, List, eqb}
 use Rattle.std.proofs.Common.{ap}
 use Rattle.std.specs.Bool.{Decides}
@@ -26,9 +26,10 @@ item_decides (Constant x) (Constant y) = ((λ h. ap (λ z. Constant z) ((signed_
 item_decides (Column n) (Constant y) = ((λ h. cc), (λ e. cc))
 item_decides (Constant x) (Column m) = ((λ h. cc), (λ e. cc))
 
--- the test decides whether the lists are equal
+-- the test decides whether two lists of items are equal
 pub items_decide : (a b : List Item) → Decides (same_items a b) (a ≡ b)
 items_decide = pointwise_decides item_decides
 
+-- the test is an equivalence, as `PartialEq` and `Eq` of items ask
 pub items_equivalence : IsEquivalence same_items
 items_equivalence = decided same_items items_decide

@@ -1,5 +1,5 @@
--- Equality of nodes and plans, as tests. Nodes are told apart by their parts: a number for the variant, the other
--- numbers that it has, and its items.
+-- Equality of nodes and plans, as tests that decide it. Nodes are compared by their parts: a number for the variant,
+-- the other numbers, and the items.
 use Rattle.std.specs.Prelude.{◌≡◌, ℕ, zero, suc, Bool, ◌&&◌, List, [], ◌∷◌, eqb, get_or, pos}
 use Rattle.std.proofs.Common.{ap, refl, sym, ◌∙◌}
 use Rattle.std.proofs.lemmas.Bool.{and_parts, and_from, eqb-true, eq-eqb}
@@ -17,6 +17,7 @@ use Rattle.plan.specs.declared.node.Kind.TheVariants.{Count, Distinct, Min, Max}
 use Rattle.plan.specs.declared.node.Node.{Node}
 use Rattle.plan.specs.declared.node.Node.TheVariants.{Input, Map, Filter, Concat, Negate, Arrange, Join, Reduce, Output}
 
+-- a number for each comparison
 abbrev pub cmp_number : Cmp → ℕ
 cmp_number Eq = 0
 cmp_number Ne = 1
@@ -25,18 +26,20 @@ cmp_number Le = 3
 cmp_number Gt = 4
 cmp_number Ge = 5
 
+-- a number for each kind of reduction
 abbrev pub kind_number : Kind → ℕ
 kind_number Count = 0
 kind_number Distinct = 1
 kind_number Min = 2
 kind_number Max = 3
 
--- what a node is made of
+-- the parts of a node
 pub record Parts : Type 0 where
   pub variant : ℕ
   pub numbers : List ℕ
   pub items : List Item
 
+-- the parts of each variant
 abbrev pub parts_of : Node → Parts
 parts_of (Input width) = record { variant = 0; numbers = width ∷ []; items = [] }
 parts_of (Map source items) = record { variant = 1; numbers = source ∷ []; items = items }
@@ -48,7 +51,7 @@ parts_of (Join left right) = record { variant = 6; numbers = left ∷ right ∷ 
 parts_of (Reduce kind source) = record { variant = 7; numbers = source ∷ kind_number kind ∷ []; items = [] }
 parts_of (Output source) = record { variant = 8; numbers = source ∷ []; items = [] }
 
--- the nodes are of one variant and have the same numbers and items
+-- the nodes have the same variant, numbers and items
 abbrev pub same_node : Node → Node → Bool
 same_node node other = eqb (parts_of node).variant (parts_of other).variant && (pointwise eqb (parts_of node).numbers (parts_of other).numbers && same_items (parts_of node).items (parts_of other).items)
 
@@ -56,7 +59,7 @@ same_node node other = eqb (parts_of node).variant (parts_of other).variant && (
 abbrev pub same_plan : List Node → List Node → Bool
 same_plan = pointwise same_node
 
--- a node is found again from its parts, so it is told apart by them
+-- a node can be rebuilt from its parts, so nodes with equal parts are equal
 cmp_from : ℕ → Cmp
 cmp_from zero = Eq
 cmp_from (suc zero) = Ne
@@ -124,7 +127,7 @@ make_parts variant numbers items = record { variant = variant; numbers = numbers
 numbers_decide : (a b : List ℕ) → Decides (pointwise eqb a b) (a ≡ b)
 numbers_decide = pointwise_decides (λ n m. (eqb-true n m, eq-eqb n m))
 
--- the test decides whether the nodes are equal
+-- the test decides whether two nodes are equal
 pub nodes_decide : (node other : Node) → Decides (same_node node other) (node ≡ other)
 unfolding make_parts
 nodes_decide node other = (
@@ -141,12 +144,14 @@ nodes_decide node other = (
       (and_from _ _ ((numbers_decide _ _).1 (ap (λ (p : Parts). p.numbers) parts)) ((items_decide _ _).1 (ap (λ (p : Parts). p.items) parts))),
 )
 
+-- the test is an equivalence, as `PartialEq` and `Eq` of a node ask
 pub nodes_equivalence : IsEquivalence same_node
 nodes_equivalence = decided same_node nodes_decide
 
--- the test decides whether the plans are equal
+-- the test decides whether two plans are equal
 pub plans_decide : (p q : List Node) → Decides (same_plan p q) (p ≡ q)
 plans_decide = pointwise_decides nodes_decide
 
+-- the test is an equivalence, as `PartialEq` and `Eq` of a plan ask
 pub plans_equivalence : IsEquivalence same_plan
 plans_equivalence = decided same_plan plans_decide

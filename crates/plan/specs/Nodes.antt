@@ -1,12 +1,12 @@
--- The nodes of a plan, each by its number, which is its place in the plan's list; and the sort of a node, which answers
--- the questions about how it is run.
+-- The nodes of a plan, each by its number, which is its index in the plan's list; and the sort of a node, which says
+-- how it is run.
 use Rattle.std.specs.Prelude.{ℕ, Bool, true, false, List, [], ◌∷◌, Option, Some, None, slice_get, unwrap_or, option_map}
 use Rattle.plan.specs.declared.sort.Sort.{Sort}
 use Rattle.plan.specs.declared.sort.Sort.TheVariants.{Source, Stateless, Arrangement, Bilinear, Reduction, View}
 use Rattle.plan.specs.declared.node.Node.{Node}
 use Rattle.plan.specs.declared.node.Node.TheVariants.{Input, Map, Filter, Concat, Negate, Arrange, Join, Reduce, Output}
 
--- the node of a number; a number that the plan does not have is read as an input of no columns
+-- the node with a number; a number that the plan does not have is read as an input with no columns
 abbrev pub node_at : List Node → ℕ → Node
 node_at p n = unwrap_or (slice_get p n) (Input 0)
 
@@ -32,13 +32,13 @@ same_sort Reduction Reduction = true
 same_sort View View = true
 same_sort one other = false
 
--- nodes of the sort are neither joins nor reductions: what they make of a sum is the sum of what they make of its parts
+-- nodes of this sort are linear: their output for a sum is the sum of their outputs for its parts
 abbrev pub adds_up : Sort → Bool
 adds_up Bilinear = false
 adds_up Reduction = false
 adds_up other = true
 
--- rows come to the node from outside
+-- the node is an input: its rows come from outside
 abbrev pub is_input : Node → Bool
 is_input node = same_sort Source (sort node)
 
@@ -46,15 +46,15 @@ is_input node = same_sort Source (sort node)
 abbrev pub is_output : Node → Bool
 is_output node = same_sort View (sort node)
 
--- the node pairs rows of two sources
+-- the node is a join: it pairs rows of two sources
 abbrev pub is_join : Node → Bool
 is_join node = same_sort Bilinear (sort node)
 
--- the node answers each key from all rows of the key
+-- the node is a reduction: it answers each key from all rows of the key
 abbrev pub is_reduction : Node → Bool
 is_reduction node = same_sort Reduction (sort node)
 
--- the node adds up: it is no join and no reduction
+-- the node is linear: it is no join and no reduction
 abbrev pub is_linear : Node → Bool
 is_linear node = adds_up (sort node)
 
@@ -70,15 +70,16 @@ sources (Join left right) = left ∷ right ∷ []
 sources (Reduce kind source) = source ∷ []
 sources (Output source) = source ∷ []
 
--- by how many columns a node arranges its rows; only an arrange node does
+-- the number of key columns by which an arrange node arranges its rows; None for any other node
 abbrev pub arranged_by : Node → Option ℕ
 arranged_by (Arrange source key) = Some key
 arranged_by other = None
 
--- how many columns the key has by which a node is arranged; 0 where it is not
+-- the width of the key by which a node is arranged; 0 if it is no arrange node
 abbrev pub key_of : List Node → ℕ → ℕ
 key_of p n = unwrap_or (arranged_by (node_at p n)) 0
 
--- how many columns the key has by which a node's sources are arranged: its first source's; 0 where it has none
+-- the width of the key by which a node's first source is arranged; 0 if it has no source, or the source is no arrange
+-- node
 abbrev pub key_width : List Node → Node → ℕ
 key_width p node = unwrap_or (option_map (key_of p) (slice_get (sources node) 0)) 0

@@ -1,4 +1,4 @@
--- The operator table: what each node gives, from one bag a port, in which neither time nor difference occurs.
+-- The operator table: the output of each node, for one bag at each port. Neither times nor differences occur in it.
 use Rattle.std.specs.Prelude.{ℕ, List, ◌++◌, map, take, drop, length, nat_le, ◌*ℤ◌, neg_ℤ, ℤ}
 use Rattle.std.specs.List.{filter, flat_map}
 use Rattle.row.specs.Projection.{projection}
@@ -9,15 +9,15 @@ use Rattle.plan.specs.Reductions.{each_once, has_key, reduction_answer}
 use Rattle.plan.specs.declared.node.Node.{Node}
 use Rattle.plan.specs.declared.node.Node.TheVariants.{Input, Map, Filter, Concat, Negate, Arrange, Join, Reduce, Output}
 
--- the row's image, as often
+-- the row's image, with the same count
 abbrev pub mapped_entry : List Item → Entry → Entry
 mapped_entry items e = record { row = projection items e.row; count = e.count }
 
--- the row with the other sign
+-- the row, with its count negated
 abbrev pub negated_entry : Entry → Entry
 negated_entry e = record { row = e.row; count = neg_ℤ e.count }
 
--- the key, the rest of the left row and the rest of the right row, as often as the product of both
+-- the key, the rest of the left row and the rest of the right row; the count is the product of both counts
 abbrev pub joined_entry : ℕ → Entry → Entry → Entry
 joined_entry k x y = record { row = x.row ++ drop k y.row; count = x.count *ℤ y.count }
 
@@ -25,15 +25,15 @@ joined_entry k x y = record { row = x.row ++ drop k y.row; count = x.count *ℤ 
 abbrev pub join_output : ℕ → List Entry → List Entry → List Entry
 join_output k left right = flat_map (λ x. map (joined_entry k x) (filter (has_key k (take k x.row)) right)) left
 
--- the keys of the rows, each once; a row of fewer than k columns has none
+-- the keys of the rows, each once; a row of fewer than k columns has no key
 abbrev pub keys : ℕ → List Entry → List (List ℤ)
 keys k entries = each_once (map (λ e. take k e.row) (filter (λ e. nat_le k (length e.row)) entries))
 
--- what a reduction answers for each key, from the rows of that key alone
+-- the answers of a reduction for all keys, each from the rows of that key alone
 abbrev pub reduction_output : ℕ → (List ℤ → List Entry → List Entry) → List Entry → List Entry
 reduction_output k reduce entries = flat_map (λ key. reduce key (filter (has_key k key) entries)) (keys k entries)
 
--- what a node gives, from a bag for each port and the width of the key by which its sources are arranged
+-- the output of a node, from a bag for each port and the width of the key by which its sources are arranged
 abbrev pub operator_output : ℕ → Node → (ℕ → List Entry) → List Entry
 operator_output k (Input width) bags = bags 0
 operator_output k (Map source items) bags = map (mapped_entry items) (bags 0)

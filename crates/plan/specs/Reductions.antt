@@ -1,4 +1,4 @@
--- What a reduction answers for one key, from the entries of that key's rows.
+-- The answer of a reduction for one key, from the entries of that key's rows.
 use Rattle.std.specs.Prelude.{◌≡◌, ℕ, Bool, false, not, if◌then◌else◌, List, [], ◌∷◌, ◌++◌, map, take, length, ℤ, pos, int_lt}
 use Rattle.std.specs.List.{filter, list_any}
 use Rattle.std.specs.Cmp.Lexicographic.{slice_cmp}
@@ -7,59 +7,59 @@ use Rattle.update.specs.Bags.{Entry, Alike, count_of, same_row, total_by}
 use Rattle.plan.specs.declared.node.Kind.{Kind}
 use Rattle.plan.specs.declared.node.Kind.TheVariants.{Count, Distinct, Min, Max}
 
--- the rows, each once
+-- the rows without repetitions
 abbrev pub each_once : List (List ℤ) → List (List ℤ)
 each_once [] = []
 each_once (row ∷ rows) = row ∷ filter (λ other. not (same_row other row)) (each_once rows)
 
--- the row, counting once
+-- the row, with count 1
 abbrev pub single : List ℤ → Entry
 single row = record { row = row; count = pos 1 }
 
--- the row counts more than 0 times
+-- the row has a count above 0
 abbrev pub is_present : List Entry → List ℤ → Bool
 is_present entries row = int_lt (pos 0) (count_of entries row)
 
--- the rows that count more than 0 times, each once
+-- the rows with a count above 0, each once
 abbrev pub present : List Entry → List (List ℤ)
 present entries = each_once (filter (is_present entries) (map (λ e. e.row) entries))
 
--- the one row stands before the other, column by column
+-- the first row is less than the second, column by column
 abbrev pub is_before : List ℤ → List ℤ → Bool
 is_before row other = is_lt (slice_cmp int_cmp row other)
 
--- the rows that none of them stands before
+-- the rows that no other row is less than
 abbrev pub least_rows : List (List ℤ) → List (List ℤ)
 least_rows rows = filter (λ row. not (list_any (λ other. is_before other row) rows)) rows
 
--- the rows that stand before none of them
+-- the rows that are less than no other row
 abbrev pub greatest_rows : List (List ℤ) → List (List ℤ)
 greatest_rows rows = filter (λ row. not (list_any (λ other. is_before row other) rows)) rows
 
--- how often all rows count together
+-- the sum of all counts
 abbrev pub sum_of_counts : List Entry → ℤ
 sum_of_counts entries = total_by (λ e. e.count) entries
 
--- the key and that number, unless it is 0
+-- the key followed by that sum, unless it is 0
 abbrev pub count_answer : List ℤ → ℤ → List Entry
 count_answer key n = if int_eq n (pos 0) then [] else single (key ++ n ∷ []) ∷ []
 
--- what each kind of reduction answers for a key
+-- the answer of each kind of reduction for a key
 abbrev pub reduction_answer : Kind → List ℤ → List Entry → List Entry
 reduction_answer Count key entries = count_answer key (sum_of_counts entries)
 reduction_answer Distinct key entries = map single (present entries)
 reduction_answer Min key entries = map single (least_rows (present entries))
 reduction_answer Max key entries = map single (greatest_rows (present entries))
 
--- the entry's row begins with the key, of k columns
+-- the entry's row begins with the key of k columns
 abbrev pub has_key : ℕ → List ℤ → Entry → Bool
 has_key k key e = same_row (take k e.row) key
 
--- what every reduction promises, by whatever name it goes
+-- the laws that every reduction satisfies
 pub record IsReducer (k : ℕ) (reduce : List ℤ → List Entry → List Entry) : Type 0 where
-  -- alike bags have alike answers
+  -- alike bags get alike answers
   pub alike : (key : List ℤ) (a b : List Entry) → Alike a b → Alike (reduce key a) (reduce key b)
-  -- nothing comes from nothing
+  -- no entries get no answer
   pub nothing : (key : List ℤ) → Alike (reduce key []) []
   -- each row of the answer begins with the key
   pub keyed : (key row : List ℤ) (entries : List Entry) → length key ≡ k → same_row (take k row) key ≡ false → count_of (reduce key (filter (has_key k key) entries)) row ≡ pos 0

@@ -1,4 +1,4 @@
--- How a plan is printed: its nodes in the words of a script, where a node's number stands for its name.
+-- How a plan is printed: its nodes in the words of a script, with a node's number in place of its name.
 use Rattle.std.specs.Prelude.{ℕ, List, [], ◌∷◌, ◌++◌, codes, decimal}
 use Rattle.std.specs.List.{join_by, flat_map}
 use Rattle.row.specs.Text.{item_text, test_text}
@@ -12,7 +12,7 @@ use Rattle.plan.specs.declared.node.Node.{Node}
 use Rattle.plan.specs.declared.node.Node.TheVariants.{Input, Map, Filter, Concat, Negate, Arrange, Join, Reduce, Output}
 use Rattle.std.specs.Prelude.{length}
 
--- the items, parted by one space
+-- the items, separated by one space
 abbrev pub items_text : List Item → List ℕ
 items_text items = join_by item_text (codes " ") items
 
@@ -23,7 +23,7 @@ kind_text Distinct = codes "distinct"
 kind_text Min = codes "min"
 kind_text Max = codes "max"
 
--- the word of the node, its sources, and what else it needs, parted by one space
+-- the word of the node, its sources, and its other parameters, separated by one space
 abbrev pub node_text : Node → List ℕ
 node_text (Input width) = codes "input " ++ decimal width
 node_text (Map source items) = codes "map " ++ (decimal source ++ (codes " " ++ items_text items))
@@ -35,7 +35,7 @@ node_text (Join left right) = codes "join " ++ (decimal left ++ (codes " " ++ de
 node_text (Reduce kind source) = kind_text kind ++ (codes " " ++ decimal source)
 node_text (Output source) = codes "view " ++ decimal source
 
--- the node's number, the node and the width of its rows, and the end of the line
+-- a line of a plan: the node's number, the node, the width of its rows, and the end of the line
 abbrev pub line_text : List Node → ℕ → List ℕ
 line_text p n = decimal n ++ (codes ": " ++ (node_text (node_at p n) ++ (codes ", width " ++ (decimal (width_of p n) ++ 10 ∷ []))))
 

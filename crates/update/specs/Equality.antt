@@ -1,4 +1,4 @@
--- Equality of entries and of bags, as tests.
+-- Equality of entries and of bags, as tests that decide it.
 use Rattle.std.specs.Prelude.{◌≡◌, Bool, ◌&&◌, List, ℤ}
 use Rattle.std.proofs.Common.{ap}
 use Rattle.std.proofs.lemmas.Bool.{and_parts, and_from}
@@ -20,6 +20,7 @@ same_bag = pointwise same_entry
 make_entry : List ℤ → ℤ → Entry
 make_entry row count = record { row = row; count = count }
 
+-- entries are equal if their rows and counts are
 pub same_parts : (a b : Entry) → a.row ≡ b.row → a.count ≡ b.count → a ≡ b
 unfolding make_entry
 same_parts a b e f = same_made a.row b.row a.count b.count e f
@@ -38,9 +39,10 @@ entries_decide a b = (
       and_from _ _ rows counts,
 )
 
--- the test decides whether the bags are equal
+-- the test decides whether two bags are equal
 pub bags_decide : (a b : List Entry) → Decides (same_bag a b) (a ≡ b)
 bags_decide = pointwise_decides entries_decide
 
+-- the test is an equivalence, as `PartialEq` and `Eq` of a bag ask
 pub bags_equivalence : IsEquivalence same_bag
 bags_equivalence = decided same_bag bags_decide

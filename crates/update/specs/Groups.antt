@@ -1,4 +1,5 @@
--- How consolidation gathers a sorted list: the updates of one row and time follow one another, and become one.
+-- How consolidation reads a sorted list: the updates of one row and time are neighbours, a group, and become one
+-- update.
 use Rattle.std.specs.Int.{w64}
 use Rattle.std.specs.List.{AllByRecursion}
 use Rattle.std.specs.Prelude.{Bool, FitsSigned, cond, ◌&&◌, List, [], ◌∷◌, ℤ, pos, ◌+ℤ◌, flat_map}
@@ -7,32 +8,33 @@ use Rattle.std.specs.declared.cmp.Ordering.{Ordering}
 use Rattle.update.specs.declared.change.Update.{Update}
 use Rattle.update.specs.Bags.{same_row}
 
--- the updates are of one row and time
+-- the updates have the same row and time
 abbrev pub is_same : {T : Type 0} → (T → T → Ordering) → Update T → Update T → Bool
 is_same cmp u v = is_eq (cmp u.time v.time) && same_row u.row v.row
 
--- a run: its first update, and the total of its diffs
+-- a group: its first update, and the total of its diffs
 pub record Group (T : Type 0) : Type 0 where
   pub first : Update T
   pub total : ℤ
 
--- the runs of a list, where one with this first update and this total so far is in hand
+-- the groups of a list, if u is the first update of the current group and n is its total so far
 abbrev pub groups_of : {T : Type 0} → (T → T → Ordering) → Update T → ℤ → List (Update T) → List (Group T)
 groups_of cmp u n [] = record { first = u; total = n } ∷ []
 groups_of cmp u n (v ∷ vs) = cond (is_same cmp u v) (groups_of cmp u (n +ℤ v.diff) vs) (record { first = u; total = n } ∷ groups_of cmp v v.diff vs)
 
--- the one update of a run, or none where its total is 0
+-- the one update of a group, or none if its total is 0
 abbrev pub group_sum : {T : Type 0} → Update T → ℤ → List (Update T)
 group_sum u n = cond (int_eq n (pos 0)) [] (record u { diff = n } ∷ [])
 
+-- one update for each group, none for a total of 0
 abbrev pub group_sums : {T : Type 0} → List (Group T) → List (Update T)
 group_sums rs = flat_map (λ r. group_sum r.first r.total) rs
 
--- the runs of a whole list
+-- the groups of a whole list
 abbrev pub groups_from : {T : Type 0} → (T → T → Ordering) → List (Update T) → List (Group T)
 groups_from cmp [] = []
 groups_from cmp (u ∷ us) = groups_of cmp u u.diff us
 
--- each run's total is a 64-bit number
+-- each group's total is a 64-bit number
 abbrev pub AllFit : {T : Type 0} → List (Group T) → Type 0
 AllFit rs = AllByRecursion (λ r. FitsSigned w64 r.total) rs

@@ -1,8 +1,9 @@
--- The number of each refusal, and what a contract says of one.
+-- The number of each refusal, and the sets of refusals that contracts speak of.
 use Rattle.std.specs.Prelude.{◌≡◌, ℕ, Option, Some, None, ◌⊎◌}
 use Rattle.update.specs.declared.refusal.Refusal.{Refusal}
 use Rattle.update.specs.declared.refusal.Refusal.TheVariants.{OutOfMemory, WrongWidth, ZeroWeight, WeightTooLarge, TimePassed, NotForward, InputFull, NotPassed, GivenUp, Overflow, Busy, Failed, TooManyNodes, UnknownName, DuplicateName, BadColumn, WidthMismatch, NotArranged, KeyMismatch, BadWidth, BadKey, Stray, BadWorkers, NoThread, UnknownCommand, WrongWordCount, BadNumber, BadOrder, LineTooLong, NotUtf8, BadName}
 
+-- the number that a command file prints for the refusal
 abbrev pub code_of : Refusal → ℕ
 code_of OutOfMemory = 1
 code_of WrongWidth = 2
@@ -36,16 +37,16 @@ code_of LineTooLong = 35
 code_of NotUtf8 = 36
 code_of BadName = 37
 
--- want of memory, or a number that is too large and has this cause
+-- out of memory, or an overflow that has this cause
 abbrev pub IsMemoryOrOverflow : Type 0 → Refusal → Type 0
 IsMemoryOrOverflow cause refusal = (refusal ≡ OutOfMemory) ⊎ ((refusal ≡ Overflow) × cause)
 
--- the fault that there is, or else want of memory
+-- the fault if there is one; otherwise out of memory
 abbrev pub IsRefusalBy : Option Refusal → Refusal → Type 0
 IsRefusalBy (Some fault) refusal = refusal ≡ fault
 IsRefusalBy None refusal = refusal ≡ OutOfMemory
 
--- the fault that there is, or else want of memory or a number that is too large and has this cause
+-- the fault if there is one; otherwise out of memory, or an overflow that has this cause
 abbrev pub IsRefusalOr : Type 0 → Option Refusal → Refusal → Type 0
 IsRefusalOr cause (Some fault) refusal = refusal ≡ fault
 IsRefusalOr cause None refusal = IsMemoryOrOverflow cause refusal

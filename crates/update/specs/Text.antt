@@ -5,7 +5,7 @@ use Rattle.std.specs.Fmt.{signed_decimal}
 use Rattle.row.specs.Text.{row_text}
 use Rattle.update.specs.Bags.{Entry}
 
--- the count and the columns as decimal numbers, parted by one space, and the end of the line
+-- the count and the columns as decimal numbers, separated by one space, and the end of the line
 abbrev pub entry_text : Entry → List ℕ
 entry_text e = signed_decimal e.count ++ (codes " " ++ (row_text e.row ++ 10 ∷ []))
 

@@ -1,10 +1,11 @@
--- The lattice of one time: its laws, and updates moved to it.
+-- The lattice with only one time: its laws, and updates moved to it.
 use Rattle.std.specs.Prelude.{true, refl}
 use Rattle.std.specs.declared.cmp.Ordering.TheVariants.{Equal}
 use Rattle.lattice.specs.Order.{PartialOrderLaws, LatticeLaws, ExtendsLaws}
 use Rattle.update.specs.declared.change.Update.{Update}
 use Rattle.update.specs.declared.unit_time.UnitTime.{UnitTime}
 
+-- the one time is partially ordered
 pub unit_order : PartialOrderLaws {T = UnitTime} (λ _ _. true)
 unit_order = record {
   reflexive = λ t. refl;
@@ -12,6 +13,7 @@ unit_order = record {
   antisymmetric = λ t u h k. refl;
 }
 
+-- the one time is its own join and meet
 pub unit_bounds : LatticeLaws {T = UnitTime} (λ _ _. true) (λ t _. t) (λ t _. t)
 unit_bounds = record {
   join_left = λ t u. refl;
@@ -22,9 +24,10 @@ unit_bounds = record {
   meet_greatest = λ t u v h k. refl;
 }
 
+-- the order of sorting extends the partial order
 pub unit_extends : ExtendsLaws {T = UnitTime} (λ _ _. true) (λ _ _. Equal)
 unit_extends = record { extends = λ t u h. refl; exact = λ t u e. refl }
 
--- the update at the one time
+-- the update, moved to the one time
 abbrev pub at_unit_time : {T : Type 0} → Update T → Update UnitTime
 at_unit_time u = record { time = record {}; row = u.row; diff = u.diff }

@@ -9,6 +9,7 @@ use Rattle.std.specs.declared.cmp.Ordering.{Ordering}
 use Rattle.update.specs.declared.change.Update.{Update}
 use Rattle.update.specs.Bags.{total_by, same_row, Entry}
 
+-- the row of an update and its diff, without the time
 abbrev pub entry : {T : Type 0} → Update T → Entry
 entry u = record { row = u.row; count = u.diff }
 
@@ -20,11 +21,11 @@ as_of below t us = map entry (filter (λ u. below u.time t) us)
 abbrev pub total_where : {T : Type 0} → (List ℤ → T → Bool) → List (Update T) → ℤ
 total_where p us = total_by (λ u. if p u.row u.time then u.diff else pos 0) us
 
--- the total of the diffs of a row at exactly a time
+-- the total of the diffs of a row at exactly the time t
 abbrev pub total_at : {T : Type 0} → (T → T → Bool) → List ℤ → T → List (Update T) → ℤ
 total_at below row t us = total_where (λ r s. same_row r row && (below s t && below t s)) us
 
--- some total of a row at a time is no 64-bit number
+-- the total of some row at some time is no 64-bit number
 abbrev pub HasLargeTotal : {T : Type 0} → (T → T → Bool) → List (Update T) → Type 0
 HasLargeTotal {T} below us = (row : List ℤ) × (t : T) × (FitsSigned w64 (total_at below row t us) → ⊥)
 
@@ -32,11 +33,11 @@ HasLargeTotal {T} below us = (row : List ℤ) × (t : T) × (FitsSigned w64 (tot
 abbrev pub by_time_then_row : {T : Type 0} → (T → T → Ordering) → Update T → Update T → Ordering
 by_time_then_row cmp u v = ordering_then (cmp u.time v.time) (slice_cmp int_cmp u.row v.row)
 
--- one update for each row and time, in order of time, then row, and none of nothing
+-- one update for each row and time, in order of time, then row, and none with difference 0
 pub record IsConsolidated {T : Type 0} (cmp : T → T → Ordering) (us : List (Update T)) : Type 0 where
   pub ascending : IsStrictlySortedBy (by_time_then_row cmp) us
   pub nonzero : AllByRecursion (λ u. u.diff ≢ pos 0) us
 
--- the size of a list: its absolute diffs, added up
+-- the size of a list: the sum of its absolute diffs
 abbrev pub size : {T : Type 0} → List (Update T) → ℕ
 size us = sum_by (λ u. unsigned_abs u.diff) us
