@@ -1,4 +1,4 @@
--- Antichains are determined by their elements, and by the times beyond them.
+-- An antichain is determined by its elements, and also by the times beyond it.
 use Rattle.std.proofs.Common.{◌≡◌, Bool, true, false, not, ◌||◌, List, [], ◌∷◌, IsTrue, refl, sym, ◌∙◌, ap, inl, inr, ⊎_elim}
 use Rattle.std.proofs.lemmas.Bool.{or_cases, or_left, or_right, and_parts, and_from, true≢false}
 use Rattle.std.specs.List.{AllByRecursion}
@@ -14,17 +14,17 @@ use Rattle.lattice.specs.Frontiers.{is_beyond}
 use Rattle.antichain.specs.Antichains.{is_incomparable, is_antichain, is_least, least, SameElements, IsFrontier}
 use Rattle.antichain.proofs.Lists.{Among, among_contains, contains_among, all_at, all_from, filter_has, filter_takes}
 
--- not true is false
+-- a test cannot hold together with its negation
 pub not_true : (b : Bool) → IsTrue (not b) → IsTrue b → ⊥
 not_true true h k = true≢false (sym h)
 not_true false h k = true≢false (sym k)
 
--- turns a refuted test into its negation
+-- a test that cannot hold has a negation that holds
 pub not_from : (b : Bool) → (IsTrue b → ⊥) → IsTrue (not b)
 not_from true h = absurd (h refl)
 not_from false h = refl
 
--- an implication between tests
+-- an implication between tests, from a proof that one test follows from the other
 implies_from : (a b : Bool) → (IsTrue a → IsTrue b) → IsTrue (not a || b)
 implies_from true b h = h refl
 implies_from false b h = refl
@@ -34,13 +34,13 @@ implied true b h k = h
 implied false b h k = absurd (true≢false (sym k))
 
 module _ {T : Type 0} (below : T → T → Bool) where
-  -- what is beyond has an element at or below it, and the other way round
+  -- a time beyond a frontier has an element at or before it
   pub beyond_has : (F : List T) (t : T) → IsTrue (is_beyond below F t) → (f : T) × Among f F × IsTrue (below f t)
   beyond_has [] t h = absurd (true≢false (sym h))
   beyond_has (f ∷ F) t h =
       ⊎_elim (λ e. (f, inl refl, e)) (λ e. let r = beyond_has F t e in (r.0, inr r.1, r.2)) (or_cases _ _ h)
 
-  -- one element at or before a time puts it beyond
+  -- a time with an element at or before it is beyond the frontier
   pub has_beyond : (F : List T) (f t : T) → Among f F → IsTrue (below f t) → IsTrue (is_beyond below F t)
   has_beyond [] f t m h = absurd m
   has_beyond (g ∷ F) f t m h =
@@ -49,7 +49,7 @@ module _ {T : Type 0} (below : T → T → Bool) where
       (λ n. or_right (below g t) (is_beyond below F t) (has_beyond F f t n h))
       m
 
-  -- of two elements of an antichain one is at or below the other only if they are one
+  -- if one element of an antichain is at or before another, then they are the same
   pub antichain_one : (F : List T) (s t : T) → IsTrue (is_antichain below F) → Among s F → Among t F → IsTrue (below s t) → s ≡ t
   antichain_one [] s t a m n h = absurd m
   antichain_one (f ∷ F) s t a m n h =
@@ -65,13 +65,13 @@ module _ {T : Type 0} (below : T → T → Bool) where
       n)
       m
 
--- an element under another name
+-- an element may be replaced by an equal one
 pub among_same : {T : Type 0} (s t : T) (xs : List T) → s ≡ t → Among s xs → Among t xs
 among_same s t [] e h = h
 among_same s t (x ∷ xs) e h = ⊎_elim (λ d. inl (d ∙ e)) (λ d. inr (among_same s t xs e d)) h
 
 module _ {T : Type 0} (below : T → T → Bool) (o : PartialOrderLaws below) (F S : List T) (a : IsTrue (is_antichain below F)) (same : (t : T) → is_beyond below F t ≡ is_beyond below S t) where
-  -- a time of S at or below an element of F is that element
+  -- a time of S that is at or before an element of F is that element
   frontier_one : (f s : T) → Among f F → Among s S → IsTrue (below s f) → IsTrue (below f s)
   frontier_one f s m n h =
       let r = beyond_has below F s (same s ∙ has_beyond below S s s n (o.reflexive s)) in
@@ -95,14 +95,14 @@ module _ {T : Type 0} (below : T → T → Bool) (o : PartialOrderLaws below) (F
       let up : IsTrue (below t s.0) = implied _ _ (all_at (λ s. not (below s t) || below t s) S s.0 k.1 s.1) (o.transitive _ _ _ s.2 f.2) in
       among_same f.0 t F (o.antisymmetric _ _ f.2 (o.transitive _ _ _ up s.2)) f.1
 
-  -- the elements of an antichain are the least of any times that have the same times beyond them
+  -- an antichain consists of the least of any times that have the same times beyond them
   pub frontier_least : SameElements F (least below S)
   frontier_least = record {
     into = λ t c. contains_among t (least below S) (frontier_to_least t (among_contains t F c));
     back = λ t c. contains_among t F (least_to_frontier t (among_contains t (least below S) c));
   }
 
--- lists in strict order with the same elements are equal
+-- strictly sorted lists with the same elements are equal
 module _ {T : Type 0} {cmp : T → T → Ordering} (total : IsTotalOrder cmp) where
   after_all : (x t : T) (xs : List T) → AllByRecursion (λ y. cmp x y ≡ Less) xs → Among t xs → cmp x t ≡ Less
   after_all x t [] a m = absurd m
@@ -152,7 +152,7 @@ module _ {T : Type 0} {below : T → T → Bool} {cmp : T → T → Ordering} (o
       (λ t m. among_contains t G (same.into t (contains_among t F m)))
       (λ t m. among_contains t F (same.back t (contains_among t G m)))
 
-  -- an element of one frontier is one of another that has the same times beyond it
+  -- an element of one frontier is an element of every frontier that has the same times beyond it
   element_of : (F G : List T) → IsTrue (is_antichain below F) → ((t : T) → is_beyond below F t ≡ is_beyond below G t) → (t : T) → Among t F → Among t G
   element_of F G a same t m =
       let g = beyond_has below G t (sym (same t) ∙ has_beyond below F t t m (o.reflexive t)) in
@@ -166,19 +166,19 @@ module _ {T : Type 0} {below : T → T → Bool} {cmp : T → T → Ordering} (o
       sorted_same total F G f.ascending g.ascending (element_of F G f.antichain same) (element_of G F g.antichain (λ t. sym (same t)))
 
 module _ {T : Type 0} (below : T → T → Bool) (cmp : T → T → Ordering) where
-  -- no times are a frontier
+  -- the empty list is a frontier
   pub frontier_none : IsFrontier below cmp []
   unfolding IsStrictlySortedBy
   frontier_none = record { antichain = refl; ascending = tt }
 
-  -- one time is a frontier
+  -- a single time is a frontier
   pub frontier_one_time : (t : T) → IsFrontier below cmp (t ∷ [])
   unfolding IsStrictlySortedBy
   frontier_one_time t = record { antichain = refl; ascending = (tt, tt) }
 
--- lists of which a comparison says that they are equal are identical, if it says so of identical elements alone
+-- tests of equality of lists, from a test of equality of elements that is exact
 module _ {T : Type 0} {eq : T → T → Bool} (exact : (x y : T) → eq x y ≡ true → x ≡ y) (same : (x : T) → eq x x ≡ true) where
-  -- lists that compare equal are equal
+  -- lists that pass the test are equal
   pub pointwise_exact : (xs ys : List T) → IsTrue (pointwise eq xs ys) → xs ≡ ys
   pointwise_exact [] [] h = refl
   pointwise_exact [] (y ∷ ys) h = absurd (true≢false (sym h))
@@ -193,11 +193,11 @@ module _ {T : Type 0} {eq : T → T → Bool} (exact : (x y : T) → eq x y ≡ 
   pointwise_itself [] = refl
   pointwise_itself (x ∷ xs) = and_from (eq x x) (pointwise eq xs xs) (same x) (pointwise_itself xs)
 
-  -- and equal lists compare equal
+  -- equal lists pass the test
   pub pointwise_same : (xs ys : List T) → xs ≡ ys → IsTrue (pointwise eq xs ys)
   pointwise_same xs ys e = ap (pointwise eq xs) (sym e) ∙ pointwise_itself xs
 
--- reads the answer of a comparison
+-- a comparison whose answer tests as equal has the answer Equal
 pub equal_answer : (a : Ordering) → is_eq a ≡ true → a ≡ Equal
 equal_answer Less e = absurd (true≢false (sym e))
 equal_answer Equal e = refl

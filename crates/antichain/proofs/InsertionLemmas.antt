@@ -1,4 +1,4 @@
--- An insertion keeps an antichain in order, and opens the times at or after the new one.
+-- An insertion keeps an antichain in order, and makes the times at or after the new time open.
 use Rattle.std.proofs.Common.{◌≡◌, ◌≢◌, Bool, true, false, cond, not, ◌&&◌, ◌||◌, List, [], ◌∷◌, IsTrue, length, refl, sym, ◌∙◌, ap, inl, inr, ⊎_elim, arith}
 use Rattle.std.proofs.lemmas.Bool.{or_cases, or_left, or_right, and_parts, and_from, true≢false}
 use Rattle.std.specs.List.{filter, list_any, list_all, AllByRecursion}
@@ -42,7 +42,7 @@ false_from : (b : Bool) → (IsTrue b → ⊥) → b ≡ false
 false_from true h = absurd (h refl)
 false_from false h = refl
 
--- which of three answers a comparison has
+-- cases on the three answers of a comparison
 by_answer : (G : Type 0) (a : Ordering) → (a ≡ Less → G) → (a ≡ Equal → G) → (a ≡ Greater → G) → G
 by_answer G Less l e g = l refl
 by_answer G Equal l e g = e refl
@@ -54,7 +54,7 @@ less_is Equal e = absurd (true≢false (sym e))
 less_is Greater e = absurd (true≢false (sym e))
 
 module _ {T : Type 0} (cmp : T → T → Ordering) where
-  -- what holds of the new element and of the old ones holds of all
+  -- if the new element and the old ones pass a test, then all elements pass it after the insertion
   all_placed : (P : T → Type 0) (t : T) (xs : List T) → P t → AllByRecursion P xs → AllByRecursion P (insertion cmp t xs)
   all_placed P t [] p a = (p, tt)
   all_placed P t (x ∷ xs) p a =
@@ -80,7 +80,7 @@ module _ {T : Type 0} (cmp : T → T → Ordering) where
         | false ↦ ap (λ b. p x || b) (any_placed p t xs) ∙ or_swap (p x) (p t) (list_any p xs)
       ]
 
-  -- an insertion makes a list longer by one
+  -- an insertion makes the list longer by one
   pub length_placed : (t : T) (xs : List T) → length (insertion cmp t xs) ≡ length (t ∷ xs)
   length_placed t [] = refl
   length_placed t (x ∷ xs) =
@@ -89,7 +89,7 @@ module _ {T : Type 0} (cmp : T → T → Ordering) where
         | false ↦ let h = length_placed t xs in omega (arith, h)
       ]
 
-  -- a list in order keeps its order, if the new element is none of the old ones
+  -- a sorted list stays sorted if the new element is none of the old ones
   sorted_placed : IsTotalOrder cmp → (t : T) (xs : List T) → ((x : T) → Among x xs → cmp t x ≢ Equal) → IsStrictlySortedBy cmp xs → IsStrictlySortedBy cmp (insertion cmp t xs)
   unfolding IsStrictlySortedBy
   sorted_placed o t [] other s = (tt, tt)
@@ -152,7 +152,7 @@ module _ {T : Type 0} (below : T → T → Bool) where
         | false ↦ and_from _ _ (all_test_placed cmp (is_incomparable below x) t xs (incomparable_back t x apart.0) parts.0) (antichain_placed cmp t xs apart.1 parts.1)
       ]
 
-  -- a time that is not beyond cannot be compared with the elements that it is not below
+  -- a time that is not beyond the frontier cannot be compared with the elements that it is not at or before
   pub apart_from_rest : (t : T) (xs : List T) → is_beyond below xs t ≡ false → IsTrue (list_all (is_incomparable below t) (not_above below t xs))
   apart_from_rest t xs h =
       all_from (is_incomparable below t) (not_above below t xs)
@@ -161,7 +161,7 @@ module _ {T : Type 0} (below : T → T → Bool) where
       and_from _ _ k.1 (not_from (below x t) (λ b. true≢false (sym (has_beyond below xs x t k.0 b) ∙ h))))
 
 module _ {T : Type 0} {below : T → T → Bool} (order : PartialOrderLaws below) where
-  -- what an insertion removes is beyond the new time
+  -- the elements that an insertion removes are beyond the new time
   beyond_rest : (t s : T) (xs : List T) → (below t s || is_beyond below (not_above below t xs) s) ≡ (below t s || is_beyond below xs s)
   beyond_rest t s xs =
       same_test (below t s || is_beyond below (not_above below t xs) s) (below t s || is_beyond below xs s)
@@ -181,18 +181,18 @@ module _ {T : Type 0} {below : T → T → Bool} (order : PartialOrderLaws below
             | false ↦ λ e. or_right (below t s) _ (has_beyond below (not_above below t xs) r.0 s (filter_takes (λ y. not (below t y)) xs r.0 r.1 (ap not e)) r.2)
           ] refl
 
-  -- what is beyond after an insertion
+  -- the times beyond the frontier after an insertion
   pub beyond_inserted : (cmp : T → T → Ordering) (t s : T) (xs : List T) → is_beyond below (insertion cmp t (not_above below t xs)) s ≡ (below t s || is_beyond below xs s)
   beyond_inserted cmp t s xs = any_placed cmp (λ f. below f s) t (not_above below t xs) ∙ beyond_rest t s xs
 
-  -- a time that is beyond opens nothing
+  -- inserting a time that is beyond the frontier opens no times
   pub beyond_already : (t s : T) (xs : List T) → is_beyond below xs t ≡ true → is_beyond below xs s ≡ (below t s || is_beyond below xs s)
   beyond_already t s xs h =
       same_test _ _
       (λ k. or_right (below t s) _ k)
       (λ k. ⊎_elim (λ b. beyond_up order xs t s h b) (λ b. b) (or_cases _ _ k))
 
-  -- an insertion of a time that is not beyond keeps a frontier one
+  -- inserting a time that is not beyond a frontier gives a frontier
   pub frontier_inserted : {cmp : T → T → Ordering} → IsTotalOrder cmp → ExtendsLaws below cmp → (t : T) (xs : List T) → is_beyond below xs t ≡ false → IsFrontier below cmp xs → IsFrontier below cmp (insertion cmp t (not_above below t xs))
   frontier_inserted {cmp} total extends t xs h f = record {
     antichain = antichain_placed below cmp t (not_above below t xs) (apart_from_rest below t xs h) (antichain_filter below (λ y. not (below t y)) xs f.antichain);
@@ -204,18 +204,18 @@ module _ {T : Type 0} {below : T → T → Bool} (order : PartialOrderLaws below
         (sorted_filter cmp (λ y. not (below t y)) xs f.ascending);
   }
 
-  -- after an insertion the elements are the least of the old ones and the time
+  -- after an insertion the elements are the least of the old elements and the time
   pub least_inserted : {cmp : T → T → Ordering} → IsTotalOrder cmp → ExtendsLaws below cmp → (t : T) (xs : List T) → is_beyond below xs t ≡ false → IsFrontier below cmp xs → SameElements (insertion cmp t (not_above below t xs)) (least below (t ∷ xs))
   least_inserted {cmp} total extends t xs h f =
       frontier_least below order (insertion cmp t (not_above below t xs)) (t ∷ xs)
       (frontier_inserted total extends t xs h f).antichain
       (λ s. beyond_inserted cmp t s xs)
 
-  -- a time that is beyond already adds nothing
+  -- a time that is already beyond the frontier changes nothing in the least elements
   pub least_already : {cmp : T → T → Ordering} (t : T) (xs : List T) → is_beyond below xs t ≡ true → IsFrontier below cmp xs → SameElements xs (least below (t ∷ xs))
   least_already t xs h f = frontier_least below order xs (t ∷ xs) f.antichain (λ s. beyond_already t s xs h)
 
-  -- some antichain has the same times beyond it as any given times
+  -- for any times there is an antichain that has the same times beyond it
   antichain_of : (times : List T) → (F : List T) × IsTrue (is_antichain below F) × ((s : T) → is_beyond below F s ≡ is_beyond below times s)
   antichain_of [] = ([], refl, λ s. refl)
   antichain_of (t ∷ ts) =
@@ -229,7 +229,7 @@ module _ {T : Type 0} {below : T → T → Bool} (order : PartialOrderLaws below
         )
       ] refl
 
-  -- the least of some times have the same times beyond them
+  -- the least of some times have the same times beyond them as all of them
   pub least_beyond : (times : List T) (s : T) → is_beyond below (least below times) s ≡ is_beyond below times s
   least_beyond times s =
       let r = antichain_of times in
@@ -242,18 +242,18 @@ module _ {T : Type 0} {below : T → T → Bool} (order : PartialOrderLaws below
       let f = beyond_has below r.0 s (r.2 s ∙ h) in
       has_beyond below (least below times) f.0 s (among_contains f.0 (least below times) (same.into f.0 (contains_among f.0 r.0 f.1))) f.2)
 
-  -- a loop's step: one more of the times goes into the frontier
+  -- a step of the loop in `least_of`: one more of the times goes into the frontier
   pub beyond_step : (F G rest all : List T) (t s : T) → is_beyond below G s ≡ (below t s || is_beyond below F s) → (is_beyond below F s || is_beyond below (t ∷ rest) s) ≡ is_beyond below all s → (is_beyond below G s || is_beyond below rest s) ≡ is_beyond below all s
   beyond_step F G rest all t s e h =
       ap (λ b. b || is_beyond below rest s) e ∙ or_turn (below t s) (is_beyond below F s) (is_beyond below rest s) ∙ h
 
-  -- a loop's step: one more of the joins with f goes into the frontier
+  -- a step of the loop in `insert_joins`: one more of the joins with f goes into the frontier
   pub joins_step : (F G rest : List T) (f g fg s : T) (all : Bool) → below fg s ≡ (below f s && below g s) → is_beyond below G s ≡ (below fg s || is_beyond below F s) → (is_beyond below F s || (below f s && is_beyond below (g ∷ rest) s)) ≡ all → (is_beyond below G s || (below f s && is_beyond below rest s)) ≡ all
   joins_step F G rest f g fg s all j e h =
       ap (λ b. b || (below f s && is_beyond below rest s)) (e ∙ ap (λ b. b || is_beyond below F s) j)
       ∙ joins_turn (below f s) (below g s) (is_beyond below F s) (is_beyond below rest s) ∙ h
 
-  -- a loop's step: the joins of f with all of the others have gone in
+  -- a step of the loop in `joined`: the joins of f with all elements of the other antichain have gone in
   pub joined_step : (F G rest others : List T) (f s : T) (all : Bool) → is_beyond below G s ≡ (is_beyond below F s || (below f s && is_beyond below others s)) → (is_beyond below F s || (is_beyond below (f ∷ rest) s && is_beyond below others s)) ≡ all → (is_beyond below G s || (is_beyond below rest s && is_beyond below others s)) ≡ all
   joined_step F G rest others f s all e h =
       ap (λ b. b || (is_beyond below rest s && is_beyond below others s)) e

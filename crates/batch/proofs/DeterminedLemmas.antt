@@ -20,7 +20,7 @@ use Rattle.batch.proofs.SealLemmas.{by_row_total}
 use Rattle.batch.proofs.MergeLemmas.{no_tie, own_first}
 
 module _ {T : Type 0} {below : T → T → Bool} {cmp : T → T → Ordering} (o : PartialOrderLaws below) (total : IsTotalOrder cmp) where
-  -- a list in order has at each update's row and time just that update
+  -- in a sealed list the total at an update's row and time is that update's diff
   own_total : (us : List (Update T)) → IsStrictlySortedBy (by_row_then_time cmp) us → (u : Update T) → Among u us → total_at below u.row u.time us ≡ u.diff
   own_total [] s u m = absurd m
   own_total (x ∷ us) s u m =
@@ -57,7 +57,7 @@ module _ {T : Type 0} {below : T → T → Bool} {cmp : T → T → Ordering} (o
       (update_of us vs same a b)
       (update_of vs us (λ row t. sym (same row t)) b a)
 
-  -- and so by its sums
+  -- a sealed list is determined by its sums
   pub same_by_sums : (us vs : List (Update T)) → IsSealed cmp us → IsSealed cmp vs → ((t : T) → Alike (as_of below t us) (as_of below t vs)) → us ≡ vs
   same_by_sums us vs a b same =
       same_sealed us vs a b (λ row t. same_totals o (λ _. true) us vs (λ s u h k. refl) (λ u h. same u) row t refl)

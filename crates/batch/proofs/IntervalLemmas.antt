@@ -1,4 +1,4 @@
--- Two intervals, of which the second begins where the first ends, make one.
+-- Two intervals of which the second begins where the first ends make one interval.
 use Rattle.std.proofs.Common.{◌≡◌, Bool, not, List, IsTrue, sym, subst}
 use Rattle.std.specs.declared.cmp.Ordering.{Ordering}
 use Rattle.std.proofs.lemmas.Bool.{and_parts, and_from}
@@ -12,7 +12,7 @@ use Rattle.batch.specs.Descriptions.{IsInterval}
 use Rattle.batch.specs.Intervals.{is_between, all_between}
 
 module _ {T : Type 0} {below : T → T → Bool} (o : PartialOrderLaws below) where
-  -- a merged batch covers the interval of both
+  -- a merged batch covers the interval of both batches
   pub whole_interval : {cmp : T → T → Ordering} (A B C D S : List T) → IsFrontier below cmp A → IsFrontier below cmp D → IsFrontier below cmp S → IsTrue (all_beyond below A B) → IsTrue (all_beyond below C D) → B ≡ C → IsInterval below cmp A D S
   whole_interval A B C D S a d s f g e = record {
     lower_frontier = a;
@@ -21,7 +21,7 @@ module _ {T : Type 0} {below : T → T → Bool} (o : PartialOrderLaws below) wh
     forward = all_beyond_later o A B D f (subst (λ E. IsTrue (all_beyond below E D)) (sym e) g);
   }
 
-  -- what is between the frontiers of a part is between those of the whole
+  -- a time in a part of an interval is in the interval
   wider : (A B C D : List T) (t : T) → IsTrue (all_beyond below A C) → IsTrue (all_beyond below B D) → IsTrue (is_between below C B t) → IsTrue (is_between below A D t)
   wider A B C D t f g h =
       let parts = and_parts (is_beyond below C t) (not (is_beyond below B t)) h in
@@ -29,11 +29,12 @@ module _ {T : Type 0} {below : T → T → Bool} (o : PartialOrderLaws below) wh
       (beyond_later o A C t f parts.0)
       (not_from (is_beyond below D t) (λ k. not_true (is_beyond below B t) parts.1 (beyond_later o B D t g k)))
 
+  -- updates with times in a part of an interval have times in the interval
   pub all_wider : (A B C D : List T) → IsTrue (all_beyond below A C) → IsTrue (all_beyond below B D) → (us : List (Update T)) → IsTrue (all_between below C B us) → IsTrue (all_between below A D us)
   all_wider A B C D f g us h =
       all_more (λ (u : Update T). is_between below C B u.time) (λ u. is_between below A D u.time) (λ u k. wider A B C D u.time f g k) us h
 
-  -- what is between the frontiers of one of two neighbours is between those of both
+  -- the times of two neighbouring intervals are in the interval of both
   pub joined_between : (A B C D : List T) → IsTrue (all_beyond below A B) → IsTrue (all_beyond below C D) → B ≡ C → (us vs : List (Update T)) → IsTrue (all_between below A B us) → IsTrue (all_between below C D vs) → IsTrue (all_between below A D us) × IsTrue (all_between below A D vs)
   joined_between A B C D f g e us vs h k = (
     all_wider A B A D (beyond_itself o A) (subst (λ E. IsTrue (all_beyond below E D)) (sym e) g) us h,

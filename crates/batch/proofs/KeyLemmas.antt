@@ -1,4 +1,4 @@
--- In a list in order of rows, the rows that begin with a key follow one another.
+-- In a list sorted by row, the rows that begin with a key are neighbours.
 use Rattle.std.proofs.Common.{◌≡◌, ℕ, zero, suc, ◌+◌, ◌-◌, ◌<◌, ◌≤◌, Bool, true, false, cond, List, [], ◌∷◌, length, get_or, take, drop, ℤ, refl, sym, ap, ◌∙◌, arith}
 use Rattle.std.specs.Prelude.{slice_range}
 use Rattle.std.specs.List.{filter}
@@ -16,7 +16,7 @@ use Rattle.update.specs.declared.change.Update.{Update}
 use Rattle.batch.specs.Batches.{by_row_then_time, begins_with, at_key}
 
 module _ {X : Type 0} where
-  -- a test that passes at an element where it passes at a later one parts a list in order
+  -- if a test that passes at an element also passes at all earlier elements, then it splits a sorted list in two
   pub parted : (c : X → X → Ordering) (p : X → Bool) → ((x y : X) → c x y ≡ Less → p y ≡ true → p x ≡ true) → (xs : List X) → IsStrictlySortedBy c xs → IsPartitionedBy p xs
   parted c p keeps [] s i j d le lt h = absurd (omega (arith, lt))
   parted c p keeps (x ∷ xs) s zero zero d le lt h = h
@@ -26,7 +26,7 @@ module _ {X : Type 0} where
   parted c p keeps (x ∷ xs) s (suc i) (suc j) d le lt h =
       parted c p keeps xs (sorted_tail c x xs s) i j d (omega (arith, le)) (omega (arith, lt)) h
 
-  -- where just the n elements from i on pass a test, they are what a filter keeps
+  -- if exactly the n elements from i on pass a test, then a filter keeps exactly these
   run_is_filter : (p : X → Bool) (xs : List X) (i n : ℕ) → ((k : ℕ) (d : X) → k < i → k < length xs → p (get_or xs k d) ≡ false) → ((k : ℕ) (d : X) → i ≤ k → k < i + n → k < length xs → p (get_or xs k d) ≡ true) → ((k : ℕ) (d : X) → i + n ≤ k → k < length xs → p (get_or xs k d) ≡ false) → take n (drop i xs) ≡ filter p xs
   run_is_filter p [] zero zero low mid high = refl
   run_is_filter p [] zero (suc n) low mid high = refl
@@ -103,7 +103,7 @@ both Less a b k h = refl
 both Equal a b k h = k h
 both Greater a b k h = h
 
--- the beginnings of two rows are in the order of the rows
+-- the beginnings of two rows are in the same order as the rows, or equal
 beginnings : (k : ℕ) (r s : List ℤ) → is_gt (slice_cmp int_cmp r s) ≡ false → is_gt (slice_cmp int_cmp (take k r) (take k s)) ≡ false
 beginnings zero r s h = refl
 beginnings (suc k) [] [] h = refl
@@ -118,7 +118,7 @@ module _ {T : Type 0} (cmp : T → T → Ordering) (key : List ℤ) where
   in_order : (u v : Update T) → by_row_then_time cmp u v ≡ Less → is_gt (slice_cmp int_cmp (take (length key) u.row) (take (length key) v.row)) ≡ false
   in_order u v h = beginnings (length key) u.row v.row (first_not_above (slice_cmp int_cmp u.row v.row) (cmp u.time v.time) h)
 
-  -- rows up to the key stand in front
+  -- the updates whose rows begin with at most the key are at the front
   pub keeps_upto : (u v : Update T) → by_row_then_time cmp u v ≡ Less → is_le (at_key key v) ≡ true → is_le (at_key key u) ≡ true
   keeps_upto u v h e =
       not_above_is_upto (at_key key u)
@@ -127,7 +127,7 @@ module _ {T : Type 0} (cmp : T → T → Ordering) (key : List ℤ) where
   back : (r : List ℤ) → is_gt (slice_cmp int_cmp key r) ≡ is_lt (slice_cmp int_cmp r key)
   back r = ap is_gt (rows_total.antisymm key r) ∙ turned (slice_cmp int_cmp r key)
 
-  -- rows before the key stand in front
+  -- the updates whose rows begin with less than the key are at the front
   pub keeps_before : (u v : Update T) → by_row_then_time cmp u v ≡ Less → is_lt (at_key key v) ≡ true → is_lt (at_key key u) ≡ true
   keeps_before u v h e =
       less_or_not (is_lt (at_key key u))
@@ -138,14 +138,14 @@ module _ {T : Type 0} (cmp : T → T → Ordering) (key : List ℤ) where
   at_key_is : (u : Update T) → begins_with key u ≡ is_eq (at_key key u)
   at_key_is u = lists_ties int_cmp (λ x y. refl) (take (length key) u.row) key
 
-  -- the first bound of a key stands at or before the second
+  -- the start of a key's range is at or before its end
   pub ends_in_order : (us : List (Update T)) (i j : ℕ) → i ≤ length us → IsPartitionPoint (λ u. is_lt (at_key key u) ≡ true) (λ u. is_lt (at_key key u) ≡ false) us i → IsPartitionPoint (λ u. is_le (at_key key u) ≡ true) (λ u. is_le (at_key key u) ≡ false) us j → i ≤ j
   ends_in_order [] i j l p q = omega (arith, l)
   ends_in_order (d ∷ us) i j l p q =
       let other : j < i → ⊥ = λ m. true≢false (sym (less_is_upto (at_key key (get_or (d ∷ us) j d)) (p.0 j d (omega arith) m)) ∙ q.1 j d (omega arith) (omega (arith, l, m))) in
       omega (arith, other)
 
-  -- what stands between the bounds are exactly the rows of the key
+  -- the updates in the range are exactly those whose rows begin with the key
   pub range_is_filter : (us : List (Update T)) (i j : ℕ) → i ≤ j → IsPartitionPoint (λ u. is_lt (at_key key u) ≡ true) (λ u. is_lt (at_key key u) ≡ false) us i → IsPartitionPoint (λ u. is_le (at_key key u) ≡ true) (λ u. is_le (at_key key u) ≡ false) us j → slice_range us i j ≡ filter (begins_with key) us
   range_is_filter us i j l p q =
       run_is_filter (begins_with key) us i (j - i)

@@ -1,4 +1,4 @@
--- One step of a merge, its beginning and its end.
+-- A merge keeps `IsMerging` from its beginning through each step to its end.
 use Rattle.std.proofs.Common.{◌≡◌, ◌≢◌, ℕ, ◌<◌, ◌≤◌, ◌+◌, ◌-◌, Bool, true, false, cond, ◌&&◌, List, [], ◌∷◌, ◌++◌, length, get_or, take, drop, IsTrue, ℤ, pos, ◌+ℤ◌, refl, sym, ap, ◌∙◌, subst, append_assoc, length-drop, arith, w64}
 use Rattle.std.specs.Prelude.{FitsSigned, unsigned_abs}
 use Rattle.std.specs.List.{AllByRecursion, list_all}
@@ -42,19 +42,19 @@ module _ {X : Type 0} (P : X → Type 0) where
   second_part [] ys a = a
   second_part (x ∷ xs) ys a = second_part xs ys a.1
 
--- the step past one element of a loop over a list
+-- a step of a loop over a list: if the property holds of element i, then it holds of one element more
 pub one_more : {X : Type 0} (P : X → Type 0) (xs : List X) (i : ℕ) (x : X) → i < length xs → x ≡ get_or xs i x → AllByRecursion P (take i xs) → P x → AllByRecursion P (take (i + 1) xs)
 one_more P xs i x h e a p =
     let more : take (i + 1) xs ≡ take i xs ++ x ∷ [] = take_more xs i x h ∙ ap (λ y. take i xs ++ (y ∷ [])) (sym e) in
     subst (AllByRecursion P) (sym more) (both P (take i xs) (x ∷ []) a (p, tt))
 
--- the step that writes one element
+-- a step of a loop that copies a list: one more element is appended
 pub one_more_written : {X : Type 0} (old mid new xs : List X) (i : ℕ) (x : X) → i < length xs → x ≡ get_or xs i x → mid ≡ old ++ take i xs → new ≡ mid ++ x ∷ [] → new ≡ old ++ take (i + 1) xs
 one_more_written old mid new xs i x h e k l =
     let more : take (i + 1) xs ≡ take i xs ++ x ∷ [] = take_more xs i x h ∙ ap (λ y. take i xs ++ (y ∷ [])) (sym e) in
     l ∙ ap (λ ys. ys ++ x ∷ []) k ∙ append_assoc old (take i xs) (x ∷ []) ∙ ap (λ ys. old ++ ys) (sym more)
 
--- lists in order, of whatever
+-- sorted lists with any order
 module _ {X : Type 0} (order : X → X → Ordering) where
   on_top : (x : X) (xs : List X) → AllByRecursion (λ y. order x y ≡ Less) xs → IsStrictlySortedBy order xs → IsStrictlySortedBy order (x ∷ xs)
   unfolding IsStrictlySortedBy
@@ -64,7 +64,7 @@ module _ {X : Type 0} (order : X → X → Ordering) where
   rest_sorted [] xs s = s
   rest_sorted (o ∷ out) xs s = rest_sorted out xs (sorted_tail order o (out ++ xs) s)
 
-  -- all that is written comes before what is to come
+  -- all that was written comes before what is to come
   written_before : (out xs : List X) (x : X) → IsStrictlySortedBy order (out ++ (x ∷ xs)) → AllByRecursion (λ o. order o x ≡ Less) out
   written_before [] xs x s = tt
   written_before (o ∷ out) xs x s = (
@@ -103,14 +103,14 @@ module _ {X : Type 0} (order : X → X → Ordering) where
       on_top o (out ++ (y ∷ xs)) (both P out (y ∷ xs) (first_part P out (x ∷ xs) h) (sym (e o) ∙ k.0, k.1))
       (put_in_place out xs x y e f (sorted_tail order o (out ++ (x ∷ xs)) s))
 
--- from a place on
+-- the rest of a list from an index on
 standing : {X : Type 0} (xs : List X) (i : ℕ) (x : X) → i < length xs → x ≡ get_or xs i x → drop i xs ≡ x ∷ drop (i + 1) xs
 standing xs i x h e = drop_more xs i x h ∙ ap (λ y. y ∷ drop (i + 1) xs) (sym e)
 
 tied : (n : ℤ) → n ≡ pos 0 → int_eq n (pos 0) ≡ true
 tied n e = (signed_Decides n (pos 0)).1 e
 
--- an update with a total in place of its diff, or none where that is 0
+-- the sum of a group: an update with the total as its diff, or none if the total is 0
 module _ {T : Type 0} where
   settled_all : (P : Update T → Type 0) (u : Update T) (n : ℤ) → P (record u { diff = n }) → AllByRecursion P (group_sum u n)
   settled_all P u n h =
@@ -159,11 +159,12 @@ module _ {T : Type 0} {cmp : T → T → Ordering} (total : IsTotalOrder cmp) wh
   abbrev order : Update T → Update T → Ordering
   order = by_row_then_time cmp
 
-  -- what comes after an update comes after those before it
+  -- if y comes after x, then so does everything after y
   after_all : (x y : Update T) (ys : List (Update T)) → order x y ≡ Less → AllByRecursion (λ z. order y z ≡ Less) ys → AllByRecursion (λ z. order x z ≡ Less) ys
   after_all x y [] l a = tt
   after_all x y (z ∷ ys) l a = ((by_row_total total).trans x y z l a.0, after_all x y ys l a.1)
 
+  -- at the beginning of a merge nothing is written and everything is to come
   pub begins : (us vs : List (Update T)) → IsSealed cmp us → IsSealed cmp vs → IsMerging cmp us vs [] us vs
   begins us vs a b = record {
     ascending_left = a.ascending;
@@ -178,6 +179,7 @@ module _ {T : Type 0} {cmp : T → T → Ordering} (total : IsTotalOrder cmp) wh
   }
 
   module _ {us vs : List (Update T)} where
+    -- the two lists of a merge may be exchanged, so steps on the right follow from steps on the left
     pub turned : (out xs ys : List (Update T)) → IsMerging cmp us vs out xs ys → IsMerging cmp vs us out ys xs
     turned out xs ys m = record {
       ascending_left = m.ascending_right;
@@ -192,7 +194,7 @@ module _ {T : Type 0} {cmp : T → T → Ordering} (total : IsTotalOrder cmp) wh
     }
 
   module _ {us vs : List (Update T)} where
-    -- the first update to come on the left is written, as it is before all on the right
+    -- the first update of the left list is written, because it comes before all of the right list
     step : (out xs ys : List (Update T)) (x : Update T) → IsMerging cmp us vs out (x ∷ xs) ys → AllByRecursion (λ y. order x y ≡ Less) ys → FitsSigned w64 x.diff → IsMerging cmp us vs (out ++ x ∷ []) xs ys
     step out xs ys x m a f =
         let abs : Update T → ℕ = λ u. unsigned_abs u.diff in
@@ -218,11 +220,12 @@ module _ {T : Type 0} {cmp : T → T → Ordering} (total : IsTotalOrder cmp) wh
               (both (λ u. IsTrue (p u.row u.time)) out (x ∷ []) a.0 (a.1.0, tt), a.1.1, a.2);
         }
 
+    -- writing the first update of the left list, if it comes before the first of the right one
     pub step_left : (out xs ys : List (Update T)) (x y : Update T) → order x y ≡ Less → FitsSigned w64 x.diff → IsMerging cmp us vs out (x ∷ xs) (y ∷ ys) → IsMerging cmp us vs (out ++ x ∷ []) xs (y ∷ ys)
     step_left out xs ys x y l f m =
         step out xs (y ∷ ys) x m (l, after_all x y ys l (sorted_head order y ys (rest_sorted order out (y ∷ ys) m.ascending_right))) f
 
-    -- updates of one row and time become one, or none where their diffs add to 0
+    -- two updates of one row and time become one, or none if their diffs add up to 0
     pub step_both : (out xs ys : List (Update T)) (x y : Update T) (n : ℤ) → x.row ≡ y.row → x.time ≡ y.time → n ≡ (x.diff +ℤ y.diff) → FitsSigned w64 n → IsMerging cmp us vs out (x ∷ xs) (y ∷ ys) → IsMerging cmp us vs (out ++ group_sum x n) xs ys
     step_both out xs ys x y n e d k f m =
         let abs : Update T → ℕ = λ u. unsigned_abs u.diff in
@@ -259,7 +262,7 @@ module _ {T : Type 0} {cmp : T → T → Ordering} (total : IsTotalOrder cmp) wh
               | false ↦ put_in_place order out xs x (record x { diff = n }) (λ z. refl) (λ z. refl) s
             ]
 
-    -- what is left of one list follows what was written
+    -- the rest of one list is appended after the other has ended
     rest : (out xs : List (Update T)) → IsMerging cmp us vs out xs [] → AllByRecursion (λ u. FitsSigned w64 u.diff) xs → IsMerging cmp us vs (out ++ xs) [] []
     rest out xs m f =
         let abs : Update T → ℕ = λ u. unsigned_abs u.diff in
@@ -284,9 +287,11 @@ module _ {T : Type 0} {cmp : T → T → Ordering} (total : IsTotalOrder cmp) wh
               (both (λ u. IsTrue (p u.row u.time)) out xs a.0 a.1, tt, tt);
         }
 
+  -- writing the first update of the right list, if it comes before the first of the left one
   pub step_right : {us vs : List (Update T)} (out xs ys : List (Update T)) (x y : Update T) → order y x ≡ Less → FitsSigned w64 y.diff → IsMerging cmp us vs out (x ∷ xs) (y ∷ ys) → IsMerging cmp us vs (out ++ y ∷ []) (x ∷ xs) ys
   step_right out xs ys x y l f m = turned (out ++ y ∷ []) ys (x ∷ xs) (step_left out ys xs y x l f (turned out (x ∷ xs) (y ∷ ys) m))
 
+  -- writing the rest of both lists once one of them has ended
   pub rests : {us vs : List (Update T)} (out xs ys : List (Update T)) → (0 < length xs → 0 < length ys → ⊥) → AllByRecursion (λ u. FitsSigned w64 u.diff) xs → AllByRecursion (λ u. FitsSigned w64 u.diff) ys → IsMerging cmp us vs out xs ys → IsMerging cmp us vs ((out ++ xs) ++ ys) [] []
   rests {us} {vs} out [] ys n f g m =
       turned ((out ++ []) ++ ys) [] [] (rest (out ++ []) ys (turned (out ++ []) [] ys (subst (λ zs. IsMerging cmp us vs zs [] ys) (sym (append-nil out)) m)) g)
@@ -294,7 +299,7 @@ module _ {T : Type 0} {cmp : T → T → Ordering} (total : IsTotalOrder cmp) wh
       subst (λ zs. IsMerging cmp us vs zs [] []) (sym (append-nil (out ++ (x ∷ xs)))) (rest out (x ∷ xs) m f)
   rests out (x ∷ xs) (y ∷ ys) n f g m = absurd (n (omega arith) (omega arith))
 
-  -- writing the left update keeps the merge
+  -- taking the left update keeps `IsMerging`
   pub take_left : {us vs out new : List (Update T)} (i j : ℕ) (u v : Update T) → i < length us → j < length vs → u ≡ get_or us i u → v ≡ get_or vs j v → order u v ≡ Less → FitsSigned w64 u.diff → new ≡ out ++ u ∷ [] → IsMerging cmp us vs out (drop i us) (drop j vs) → IsMerging cmp us vs new (drop (i + 1) us) (drop j vs)
   take_left {us} {vs} {out} {new} i j u v h k e d l f w m =
       let left = standing us i u h e in
@@ -303,13 +308,13 @@ module _ {T : Type 0} {cmp : T → T → Ordering} (total : IsTotalOrder cmp) wh
       subst (λ zs. IsMerging cmp us vs zs (drop (i + 1) us) (drop j vs)) (sym w)
       (subst (λ zs. IsMerging cmp us vs (out ++ u ∷ []) (drop (i + 1) us) zs) (sym right) (step_left out (drop (i + 1) us) (drop (j + 1) vs) u v l f here))
 
-  -- writing the right update keeps it
+  -- taking the right update keeps `IsMerging`
   pub take_right : {us vs out new : List (Update T)} (i j : ℕ) (u v : Update T) → i < length us → j < length vs → u ≡ get_or us i u → v ≡ get_or vs j v → order u v ≡ Greater → FitsSigned w64 v.diff → new ≡ out ++ v ∷ [] → IsMerging cmp us vs out (drop i us) (drop j vs) → IsMerging cmp us vs new (drop i us) (drop (j + 1) vs)
   take_right {us} {vs} {out} {new} i j u v h k e d l f w m =
       let less : order v u ≡ Less = (by_row_total total).antisymm v u ∙ ap ordering_reverse l in
       turned new (drop (j + 1) vs) (drop i us) (take_left j i v u k h d e less f w (turned out (drop i us) (drop j vs) m))
 
-  -- writing the rest of both lists keeps it
+  -- copying the rest of both lists keeps `IsMerging`
   pub whole : {us vs out mid new : List (Update T)} (i j : ℕ) → (i < length us → j < length vs → ⊥) → IsMerging cmp us vs out (drop i us) (drop j vs) → mid ≡ out ++ take (length us - i) (drop i us) → new ≡ mid ++ take (length vs - j) (drop j vs) → AllByRecursion (λ u. FitsSigned w64 u.diff) (take (length us - i) (drop i us)) → AllByRecursion (λ u. FitsSigned w64 u.diff) (take (length vs - j) (drop j vs)) → IsMerging cmp us vs new [] []
   whole {us} {vs} {out} {mid} {new} i j n m e d f g =
       let left = length-drop i us in
@@ -327,12 +332,13 @@ module _ {T : Type 0} {cmp : T → T → Ordering} (total : IsTotalOrder cmp) wh
   then_tied Equal b e = (refl, e)
   then_tied Greater b e = cc
 
+  -- updates that tie in the order of a batch have the same row and time
   pub one_place : ((s t : T) → cmp s t ≡ Equal → s ≡ t) → (u v : Update T) → order u v ≡ Equal → (u.row ≡ v.row) × (u.time ≡ v.time)
   one_place exact u v e =
       let parts = then_tied (slice_cmp int_cmp u.row v.row) (cmp u.time v.time) e in
       ((signed_items u.row v.row).0 (lists_ties int_cmp (λ x y. refl) u.row v.row ∙ ap is_eq parts.0), exact u.time v.time parts.1)
 
-  -- writing the sum of both updates keeps it
+  -- taking the sum of both updates keeps `IsMerging`
   pub take_both : {us vs out new : List (Update T)} (i j : ℕ) (u v : Update T) → i < length us → j < length vs → u ≡ get_or us i u → v ≡ get_or vs j v → ((s t : T) → cmp s t ≡ Equal → s ≡ t) → order u v ≡ Equal → FitsSigned w64 (u.diff +ℤ v.diff) → new ≡ out ++ group_sum u (u.diff +ℤ v.diff) → IsMerging cmp us vs out (drop i us) (drop j vs) → IsMerging cmp us vs new (drop (i + 1) us) (drop (j + 1) vs)
   take_both {us} {vs} {out} {new} i j u v h k e d exact l f w m =
       let left = standing us i u h e in
@@ -343,7 +349,7 @@ module _ {T : Type 0} {cmp : T → T → Ordering} (total : IsTotalOrder cmp) wh
       (step_both out (drop (i + 1) us) (drop (j + 1) vs) u v (u.diff +ℤ v.diff) one.0 one.1 refl f here)
 
 module _ {T : Type 0} {below : T → T → Bool} {cmp : T → T → Ordering} (o : PartialOrderLaws below) (total : IsTotalOrder cmp) where
-  -- an update cannot stand before one of its row and time
+  -- an update cannot come before one of the same row and time
   pub no_tie : (x z : Update T) → z.row ≡ x.row → z.time ≡ x.time → (by_row_then_time cmp x z ≡ Less → ⊥) × (by_row_then_time cmp z x ≡ Less → ⊥)
   no_tie x z e d =
       let itself = tied_itself (by_row_total total) x in
@@ -351,6 +357,7 @@ module _ {T : Type 0} {below : T → T → Bool} {cmp : T → T → Ordering} (o
       let other : by_row_then_time cmp z x ≡ by_row_then_time cmp x x = λ i. ordering_then (slice_cmp int_cmp (e i) x.row) (cmp (d i) x.time) in
       ((λ h. true≢false (sym (ap is_lt h) ∙ ap is_lt (one ∙ itself))), (λ h. true≢false (sym (ap is_lt h) ∙ ap is_lt (other ∙ itself))))
 
+  -- updates that come after x add nothing to the total at its row and time
   pub none_after : (x : Update T) (zs : List (Update T)) → AllByRecursion (λ z. by_row_then_time cmp x z ≡ Less) zs → total_at below x.row x.time zs ≡ pos 0
   none_after x zs a =
       sum_where-none (λ (u : Update T). u.diff) (meets below x) zs
@@ -361,14 +368,14 @@ module _ {T : Type 0} {below : T → T → Bool} {cmp : T → T → Ordering} (o
       sum_where-none (λ (u : Update T). u.diff) (meets below x) zs
       (λ z m. false_from_ne_true (meets below x z) (λ k. (no_tie x z (meets_row o x z k) (meets_time o x z k)).1 (at_each (λ y. by_row_then_time cmp y x ≡ Less) zs z a m)))
 
-  -- the total of the first row and time is its own difference
+  -- the total at the row and time of the first update is its diff
   pub own_first : (x : Update T) (xs : List (Update T)) → IsStrictlySortedBy (by_row_then_time cmp) (x ∷ xs) → total_at below x.row x.time (x ∷ xs) ≡ x.diff
   own_first x xs s =
       let here : meets below x x ≡ true = and_from (same_row x.row x.row) (below x.time x.time && below x.time x.time) ((signed_items x.row x.row).1 refl) (and_from (below x.time x.time) (below x.time x.time) (o.reflexive x.time) (o.reflexive x.time)) in
       let later = none_after x xs (sorted_head (by_row_then_time cmp) x xs s) in
       (λ i. cond (here i) x.diff (pos 0) +ℤ later i) ∙ +ℤ_idr x.diff
 
-  -- where two diffs of one row and time are too large together, that total of both lists is
+  -- if two diffs of one row and time add up to no 64-bit number, then neither does that total of both lists
   pub too_large : {us vs : List (Update T)} (out xs ys : List (Update T)) (x y : Update T) → x.row ≡ y.row → x.time ≡ y.time → (FitsSigned w64 (x.diff +ℤ y.diff) → ⊥) → IsMerging cmp us vs out (x ∷ xs) (y ∷ ys) → HasLargeTotal below (us ++ vs)
   too_large {us} {vs} out xs ys x y e d large m =
       let p : List ℤ → T → Bool = λ r s. same_row r x.row && (below s x.time && below x.time s) in
@@ -380,7 +387,8 @@ module _ {T : Type 0} {below : T → T → Bool} {cmp : T → T → Ordering} (o
       let sum : total_at below x.row x.time (us ++ vs) ≡ (x.diff +ℤ y.diff) = omega (arith, ints) in
       (x.row, x.time, λ f. large (subst (FitsSigned w64) sum f))
 
-  -- a sum that is no 64-bit number is a total that is too large
+  -- if the sum at the cursors is no 64-bit number, then both lists have a total that is too large, so `Overflow` is
+  -- right
   pub large_at : {us vs out : List (Update T)} (i j : ℕ) (u v : Update T) → i < length us → j < length vs → u ≡ get_or us i u → v ≡ get_or vs j v → ((s t : T) → cmp s t ≡ Equal → s ≡ t) → by_row_then_time cmp u v ≡ Equal → (FitsSigned w64 (u.diff +ℤ v.diff) → ⊥) → IsMerging cmp us vs out (drop i us) (drop j vs) → HasLargeTotal below (us ++ vs)
   large_at {us} {vs} {out} i j u v h k e d exact l large m =
       let left = standing us i u h e in
@@ -389,7 +397,7 @@ module _ {T : Type 0} {below : T → T → Bool} {cmp : T → T → Ordering} (o
       let one = one_place total exact u v l in
       too_large out (drop (i + 1) us) (drop (j + 1) vs) u v one.0 one.1 large here
 
-  -- a list in order whose diffs fit has no large total
+  -- a sorted list whose diffs fit in 64 bits has no total that is too large
   sorted_fit : (us : List (Update T)) → IsStrictlySortedBy (by_row_then_time cmp) us → AllByRecursion (λ u. FitsSigned w64 u.diff) us → (row : List ℤ) (t : T) → FitsSigned w64 (total_at below row t us)
   sorted_fit [] s f row t = fits_zero
   sorted_fit (u ∷ us) s f row t =
@@ -410,18 +418,18 @@ module _ {T : Type 0} {below : T → T → Bool} {cmp : T → T → Ordering} (o
     pub ends_sealed : IsSealed cmp out
     ends_sealed = record { ascending = subst (IsStrictlySortedBy (by_row_then_time cmp)) (append-nil out) m.ascending_left; nonzero = m.nonzero }
 
-    -- it has the totals of both lists
+    -- the output has the totals of both lists
     pub ends_total : (p : List ℤ → T → Bool) → total_where p out ≡ total_where p (us ++ vs)
     ends_total p =
         let h = m.totals p in
         let e = total_by-append (λ (u : Update T). cond (p u.row u.time) u.diff (pos 0)) us vs in
         omega (arith, ints)
 
-    -- it is no larger than both
+    -- the output is no larger than both lists together
     pub ends_size : size out ≤ size us + size vs
     ends_size = let h = m.smaller in omega arith
 
-    -- it has no update that is not like one of theirs
+    -- a test of row and time that both lists pass is passed by the output
     pub ends_among : (p : List ℤ → T → Bool) → IsTrue (list_all (λ u. p u.row u.time) us) → IsTrue (list_all (λ u. p u.row u.time) vs) → IsTrue (list_all (λ u. p u.row u.time) out)
     ends_among p a b =
         let test : Update T → Bool = λ u. p u.row u.time in
@@ -429,7 +437,7 @@ module _ {T : Type 0} {below : T → T → Bool} {cmp : T → T → Ordering} (o
         let all = m.among p (recursion_from_All pass us (AllPass-from_list_all test us a)) (recursion_from_All pass vs (AllPass-from_list_all test vs b)) in
         list_all-from_AllPass test out (All-from_recursion pass out all.0)
 
-    -- and no total is too large
+    -- no total of both lists is too large
     pub ends_fit : HasLargeTotal below (us ++ vs) → ⊥
     ends_fit large =
         large.2 (subst (FitsSigned w64) (ends_total (λ r s. same_row r large.0 && (below s large.1 && below large.1 s))) (sorted_fit out (ends_sealed).ascending m.fit large.0 large.1))

@@ -1,4 +1,4 @@
--- A consolidated list in another order: what stays, and that no two updates tie.
+-- Sorting a consolidated list by row: what stays the same, and that no two updates tie.
 use Rattle.std.proofs.Common.{◌≡◌, ℕ, suc, ◌<◌, Bool, true, false, List, [], ◌∷◌, length, get_or, IsTrue, ℤ, pos, cond, refl, sym, ap, ◌∙◌, subst, arith}
 use Rattle.std.specs.Prelude.{unsigned_abs}
 use Rattle.std.specs.List.{IsDistinct, list_all}
@@ -54,7 +54,7 @@ module _ {X : Type 0} {order : X → X → Ordering} (total : IsTotalOrder order
     rising xs (λ i j d l m. h (suc i) (suc j) d (omega (arith, l)) (omega (arith, m))) (IsDistinct-tail (eq_by_cmp order) x xs a),
   )
 
-  -- a sorted list in which no two elements tie ascends
+  -- a sorted list in which no two elements tie is strictly sorted
   pub strictly : (xs : List X) → IsSortedBy (λ x y. is_lt (order x y)) xs → IsDistinct (eq_by_cmp order) xs → IsStrictlySortedBy order xs
   strictly xs s a =
       rising xs (λ i j d l m. sorted_far (λ x y. is_lt (order x y)) (ranks_by total (λ x. x)) xs s i j d (omega (arith, l)) m) a
@@ -87,11 +87,11 @@ module _ {T : Type 0} (us vs : List (Update T)) (q : IsPermutation us vs) where
   pub moved_total : (p : List ℤ → T → Bool) → total_where p vs ≡ total_where p us
   moved_total p = sym (total_by-permutation (λ u. cond (p u.row u.time) u.diff (pos 0)) us vs q)
 
-  -- sorting changes no size
+  -- sorting does not change the size
   pub moved_size : size vs ≡ size us
   moved_size = sum_by-IsPermutation (λ u. unsigned_abs u.diff) us vs q
 
-  -- sorting keeps what holds of all
+  -- a test of row and time that all updates pass is still passed after sorting
   pub moved_among : (p : List ℤ → T → Bool) → IsTrue (list_all (λ u. p u.row u.time) us) → IsTrue (list_all (λ u. p u.row u.time) vs)
   moved_among p a =
       let test = λ (u : Update T). p u.row u.time in

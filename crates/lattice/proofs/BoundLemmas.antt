@@ -1,23 +1,23 @@
--- What follows from the laws of bounds.
+-- Joins and meets under the laws of a lattice: how to test them, and that joins may be taken in any order.
 use Rattle.std.proofs.Common.{◌≡◌, Bool, true, false, ◌&&◌, IsTrue, refl, sym}
 use Rattle.std.proofs.lemmas.Bool.{and_parts, and_from}
 use Rattle.lattice.specs.Order.{PartialOrderLaws, LatticeLaws}
 
--- two tests that hold at the same times are the same
+-- two tests are equal if each implies the other
 pub same_test : (a b : Bool) → (IsTrue a → IsTrue b) → (IsTrue b → IsTrue a) → a ≡ b
 same_test true b h k = sym (h refl)
 same_test false true h k = k refl
 same_test false false h k = refl
 
 module _ {T : Type 0} {below : T → T → Bool} {joined met : T → T → T} (o : PartialOrderLaws below) (l : LatticeLaws below joined met) where
-  -- a join is below a time exactly if both are
+  -- a join is at or before a time if and only if both of its parts are
   pub join_below : (t u s : T) → below (joined t u) s ≡ (below t s && below u s)
   join_below t u s =
       same_test _ _
       (λ h. and_from _ _ (o.transitive _ _ _ (l.join_left t u) h) (o.transitive _ _ _ (l.join_right t u) h))
       (λ h. let p = and_parts _ _ h in l.join_least t u s p.0 p.1)
 
-  -- a time is below a meet exactly if it is below both
+  -- a time is at or before a meet if and only if it is at or before both parts
   pub below_meet : (t u s : T) → below s (met t u) ≡ (below s t && below s u)
   below_meet t u s =
       same_test _ _
@@ -27,11 +27,11 @@ module _ {T : Type 0} {below : T → T → Bool} {joined met : T → T → T} (o
   join_one_way : (t u : T) → IsTrue (below (joined t u) (joined u t))
   join_one_way t u = l.join_least t u (joined u t) (l.join_right u t) (l.join_left u t)
 
-  -- so the order of the two does not matter
+  -- joins commute
   pub join_commutes : (t u : T) → joined t u ≡ joined u t
   join_commutes t u = o.antisymmetric _ _ (join_one_way t u) (join_one_way u t)
 
-  -- nor does the order of three
+  -- joins associate
   pub join_associates : (t u v : T) → joined (joined t u) v ≡ joined t (joined u v)
   join_associates t u v =
       let left = l.join_left t (joined u v) in
@@ -45,6 +45,6 @@ module _ {T : Type 0} {below : T → T → Bool} {joined met : T → T → T} (o
       (o.transitive _ _ _ (l.join_left t u) first)
       (l.join_least _ _ _ (o.transitive _ _ _ (l.join_right t u) first) (l.join_right (joined t u) v)))
 
-  -- nor how often a time is joined in
+  -- a time joined with itself is the time
   pub join_same : (t : T) → joined t t ≡ t
   join_same t = o.antisymmetric _ _ (l.join_least t t t (o.reflexive t) (o.reflexive t)) (l.join_left t t)

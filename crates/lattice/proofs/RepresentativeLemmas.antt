@@ -1,4 +1,4 @@
--- What representatives keep.
+-- What the representative of a time keeps, and that it is the greatest time that keeps it.
 use Rattle.std.proofs.Common.{◌≡◌, Bool, List, [], ◌∷◌, map, IsTrue, refl, sym, ◌∙◌, ⊎_elim, ◌≢◌}
 use Rattle.std.proofs.lemmas.Bool.{or_cases, and_parts, true≢false}
 use Rattle.std.specs.List.{fold, list_all}
@@ -9,12 +9,12 @@ use Rattle.lattice.proofs.BoundLemmas.{same_test}
 use Rattle.lattice.proofs.FrontierLemmas.{all_more, beyond_up, beyond_later, beyond_itself}
 
 module _ {T : Type 0} {below : T → T → Bool} {joined met : T → T → T} (o : PartialOrderLaws below) (l : LatticeLaws below joined met) where
-  -- a meet of times is at or below the one that it starts from
+  -- a meet of times is at or before the first of them
   meet_below_start : (m : T) (ts : List T) → IsTrue (below (fold met m ts) m)
   meet_below_start m [] = o.reflexive m
   meet_below_start m (t ∷ ts) = o.transitive _ _ _ (meet_below_start (met m t) ts) (l.meet_left m t)
 
-  -- the meet of joins is at or below each time above t that some element is below
+  -- the meet of the joins is at or before each time after t that some element is at or before
   meet_below : (t s m : T) (F : List T) → IsTrue (is_beyond below F s) → IsTrue (below t s) → IsTrue (below (fold met m (map (joined t) F)) s)
   meet_below t s m [] h k = absurd (true≢false (sym h))
   meet_below t s m (f ∷ F) h k =
@@ -31,7 +31,7 @@ module _ {T : Type 0} {below : T → T → Bool} {joined met : T → T → T} (o
       (λ e. meet_below t s (joined t f) F e k)
       (or_cases _ _ h)
 
-  -- a time below each of the joins is below their meet
+  -- a time at or before each of the joins is at or before their meet
   above_meet : (z t m : T) (F : List T) → IsTrue (below z m) → IsTrue (list_all (λ f. below z (joined t f)) F) → IsTrue (below z (fold met m (map (joined t) F)))
   above_meet z t m [] h a = h
   above_meet z t m (f ∷ F) h a =
@@ -44,7 +44,7 @@ module _ {T : Type 0} {below : T → T → Bool} {joined met : T → T → T} (o
       let parts = and_parts _ _ a in
       above_meet z t (joined t f) F parts.0 parts.1
 
-  -- the representative is the greatest of the times below all that t is read at
+  -- the representative of t is the greatest time at or before all times beyond the frontier at which t is visible
   pub representative_greatest : (F : List T) (t z : T) → F ≢ [] → ((s : T) → IsTrue (is_beyond below F s) → IsTrue (below t s) → IsTrue (below z s)) → IsTrue (below z (representative_of joined met F t))
   representative_greatest F t z some h =
       above_representative z t F some
@@ -76,7 +76,7 @@ module _ {T : Type 0} {below : T → T → Bool} {joined met : T → T → T} (o
   representative_one F t u some same =
       o.antisymmetric _ _ (representative_one_way F t u some same) (representative_one_way F u t some (λ s b. sym (same s b)))
 
-  -- a join with a time that is beyond the frontier
+  -- joined with a time beyond the frontier, the representative and the time give the same
   pub join_representative : (F : List T) (t u : T) → IsTrue (is_beyond below F t) → joined t (representative_of joined met F u) ≡ joined t u
   join_representative F t u h =
       let r = representative_of joined met F u in
@@ -85,7 +85,7 @@ module _ {T : Type 0} {below : T → T → Bool} {joined met : T → T → T} (o
       (l.join_least _ _ _ (l.join_left t u) (representative_below u (joined t u) F there (l.join_right t u)))
       (l.join_least _ _ _ (l.join_left t r) (o.transitive _ _ _ (representative_later F u) (l.join_right t r)))
 
-  -- compacting in steps leaves the same as compacting once
+  -- compacting in two steps gives the same as compacting once
   pub representative_in_steps : (F G : List T) (t : T) → G ≢ [] → IsTrue (all_beyond below F G) → representative_of joined met G (representative_of joined met F t) ≡ representative_of joined met G t
   representative_in_steps F G t some a =
       sym (representative_one G t (representative_of joined met F t) some (λ s b. representative_keeps F t s (beyond_later o F G s a b)))

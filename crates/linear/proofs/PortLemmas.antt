@@ -1,4 +1,4 @@
--- The ports of a node: which of them reads nothing, and what more at a port does to a linear node's bound.
+-- The ports of a node: which ports read nothing, and how more input at a port changes the bound of a linear node.
 use Rattle.std.proofs.Common.{◌≡◌, ℕ, zero, suc, ◌+◌, ◌≤◌, ◌||◌, true, cond, eqb, nat_lt, ⊎_elim, IsTrue, List, [], ◌∷◌, None, length, slice_get, sym, ◌∙◌, arith}
 use Rattle.std.proofs.lemmas.Bool.{true≢false}
 use Rattle.std.proofs.lemmas.Bool.Decides.{nat_tests}
@@ -10,7 +10,7 @@ use Rattle.plan.specs.declared.node.Node.TheVariants.{Input, Concat, Join, Reduc
 use Rattle.plan.proofs.StepLemmas.{input_or_source}
 use Rattle.linear.specs.Ports.{is_port}
 
--- where a port of a list has no element, the first has none
+-- if a node has no source at a port that it has, then it has no sources
 first_none : (xs : List ℕ) (port : ℕ) → IsTrue (eqb port 0 || nat_lt port (length xs)) → slice_get xs port ≡ None → slice_get xs 0 ≡ None
 first_none xs zero h e = e
 first_none [] (suc port) h e = e
@@ -27,12 +27,12 @@ first_none (x ∷ xs) (suc port) h e = absurd (within xs port (omega_lt port (le
         less : (m n : ℕ) → nat_lt (suc m) (suc n) ≡ true → nat_lt m n ≡ true
         less m n l = grind (arith, nat_tests)
 
--- a port at which nothing is read is an input's, whose rows are of its own width
+-- a node that reads no source at one of its ports is an input
 pub input_at : (node : Node) (port : ℕ) → IsTrue (is_port node port) → slice_get (sources node) port ≡ None → (width : ℕ) × (node ≡ Input width)
 input_at node port h e =
     ⊎_elim (λ r. r) (λ r. absurd (none-some r.0 (sym (first_none (sources node) port h e) ∙ r.1))) (input_or_source node)
 
--- so much more at a port
+-- the bounds g are the bounds f with x more at one port
 module _ (x : ℕ) (f g : ℕ → ℕ) where
   abbrev IsMore : ℕ → Type 0
   IsMore port = (i : ℕ) → g i ≡ cond (eqb i port) (x + f i) (f i)
@@ -50,7 +50,7 @@ module _ (x : ℕ) (f g : ℕ → ℕ) where
   at_two (suc zero) h m = let e = m 0 in let d = m 1 in omega (arith, e, d)
   at_two (suc (suc port)) h m = absurd (grind (arith, nat_tests))
 
-  -- is so much more bound, which the load rule allows to be given
+  -- x more at a port is at least x more in the bound of the node, so a step may give that much more
   pub output_bound-more : (node : Node) → IsTrue (is_linear node) → (port : ℕ) → IsTrue (is_port node port) → IsMore port → x + output_bound node 0 f ≤ output_bound node 0 g
   output_bound-more (Input width) l port h m = at_none port h m
   output_bound-more (Concat left right) l port h m = at_two port h m

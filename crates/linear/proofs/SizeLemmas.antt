@@ -1,4 +1,4 @@
--- What a linear node makes of updates is no larger than they are.
+-- The output of a linear node is no larger than its input.
 use Rattle.std.proofs.Common.{◌≡◌, ℕ, ◌+◌, ◌≤◌, ◌<◌, ◌^◌, Bool, true, false, cond, List, [], ◌∷◌, map, IsTrue, ⊎_elim, refl, ap, subst, ◌∙◌, arith, w64, FitsSigned}
 use Rattle.std.specs.Prelude.{ℤ, neg_ℤ, unsigned_abs}
 use Rattle.std.specs.List.{filter, list_all, AllByRecursion}
@@ -14,7 +14,7 @@ use Rattle.plan.specs.declared.node.Node.{Node}
 use Rattle.plan.specs.declared.node.Node.TheVariants.{Map, Filter, Negate}
 use Rattle.linear.specs.Applied.{mapped_update, negated_update, linear_output, HasLargeDiff, Overflows}
 
--- a diff and its opposite are equally large
+-- a diff and its opposite have the same absolute value
 pub abs_negated : (d : ℤ) → unsigned_abs (neg_ℤ d) ≡ unsigned_abs d
 abs_negated d = omega (arith, ints)
 
@@ -36,14 +36,14 @@ module _ {T : Type 0} where
         | false ↦ omega (arith, rest)
       ]
 
-  -- the same in the recursive form, which sums over lists take
+  -- the output is no larger than the input, for the size by recursion, as sums over lists need it
   pub summed_size_applied : (node : Node) (us : List (Update T)) → summed_size (linear_output node us) ≤ summed_size us
   summed_size_applied (Map source items) us = let e = summed_size_mapped items us in omega (arith, e)
   summed_size_applied (Filter source test) us = summed_size-filter (λ u. passes test u.row) us
   summed_size_applied (Negate source) us = let e = summed_size_negated us in omega (arith, e)
   summed_size_applied node us = omega arith
 
-  -- a linear node makes nothing larger
+  -- the output is no larger than the input
   pub size_applied : (node : Node) (us : List (Update T)) → size (linear_output node us) ≤ size us
   size_applied node us =
       let out = summed_size_is (linear_output node us) in
@@ -51,7 +51,7 @@ module _ {T : Type 0} where
       let less = summed_size_applied node us in
       omega (arith, out, all, less)
 
-  -- in a small list each diff is a 64-bit number
+  -- in a list of size below 2^63 each diff is a 64-bit number
   small_fits : (us : List (Update T)) → summed_size us < 2 ^ 63 → AllByRecursion (λ u. FitsSigned w64 u.diff) us
   small_fits [] l = tt
   small_fits (u ∷ us) l = (fits_signed_from_abs w64 u.diff (omega (arith, l)), small_fits us (omega (arith, l)))
@@ -63,7 +63,7 @@ module _ {T : Type 0} where
       (λ l. l)
       (cases_lt (summed_size us) (2 ^ 63))
 
-  -- where a diff cannot be negated, the list is large
+  -- if a diff of the output is no 64-bit number, then the input has size 2^63 or more
   pub large_applied : (node : Node) (us : List (Update T)) → Overflows node us → 2 ^ 63 ≤ size us
   large_applied (Negate source) us large =
       let out = large_size (map negated_update us) large in
@@ -72,17 +72,17 @@ module _ {T : Type 0} where
       omega (arith, out, same, all)
   large_applied node us large = absurd large
 
-  -- and only a negation overflows
+  -- only a negation overflows
   pub only_negation : (node : Node) (us : List (Update T)) → Overflows node us → (source : ℕ) × (node ≡ Negate source)
   only_negation (Negate source) us large = (source, refl)
   only_negation node us large = absurd large
 
-  -- in a list whose diffs are small enough to be negated nothing overflows
+  -- if a node overflows, then its output has a diff that is no 64-bit number
   pub overflow_large : (node : Node) (us : List (Update T)) → Overflows node us → HasLargeDiff (linear_output node us)
   overflow_large (Negate source) us large = large
   overflow_large node us large = absurd large
 
-  -- a filter keeps what holds of all
+  -- a test that all updates pass is passed by all updates of a filtered list
   pub list_all-filter : (p q : Update T → Bool) (us : List (Update T)) → IsTrue (list_all p us) → IsTrue (list_all p (filter q us))
   list_all-filter p q [] h = refl
   list_all-filter p q (u ∷ us) h =
@@ -99,14 +99,15 @@ module _ {T : Type 0} where
       let parts = and_parts (p u) (list_all p us) h in
       and_from (p (f u)) (list_all p (map f us)) (e u ∙ parts.0) (list_all-map p f us e parts.1)
 
-  -- times stay
+  -- a test of times that the input passes is passed by the output
   pub times_applied : (node : Node) (p : T → Bool) (us : List (Update T)) → IsTrue (list_all (λ u. p u.time) us) → IsTrue (list_all (λ u. p u.time) (linear_output node us))
   times_applied (Map source items) p us h = list_all-map (λ u. p u.time) (mapped_update items) us (λ u. refl) h
   times_applied (Filter source test) p us h = list_all-filter (λ u. p u.time) (λ u. passes test u.row) us h
   times_applied (Negate source) p us h = list_all-map (λ u. p u.time) negated_update us (λ u. refl) h
   times_applied node p us h = h
 
-  -- and so does what holds of a diff and of its opposite, as that it is small
+  -- a test that cannot tell a diff from its opposite, such as a limit on its size, is passed by the output if the input
+  -- passes it
   pub diffs_applied : (node : Node) (p : ℤ → Bool) → ((d : ℤ) → p (neg_ℤ d) ≡ p d) → (us : List (Update T)) → IsTrue (list_all (λ u. p u.diff) us) → IsTrue (list_all (λ u. p u.diff) (linear_output node us))
   diffs_applied (Map source items) p e us h = list_all-map (λ u. p u.diff) (mapped_update items) us (λ u. refl) h
   diffs_applied (Filter source test) p e us h = list_all-filter (λ u. p u.diff) (λ u. passes test u.row) us h

@@ -1,4 +1,4 @@
--- What a linear node makes of updates sums, at every time, to its operator on what they sum to.
+-- At every time, the sum of a linear node's output is the operator's output for the sum of its input.
 use Rattle.std.proofs.Common.{◌≡◌, ℕ, zero, suc, Bool, true, false, cond, ◌||◌, ◌&&◌, eqb, nat_lt, List, [], ◌∷◌, ◌++◌, map, IsTrue, refl, ap, sym, ◌∙◌, arith}
 use Rattle.std.specs.Prelude.{◌+ℤ◌}
 use Rattle.std.specs.List.{filter}
@@ -47,28 +47,28 @@ module _ {X : Type 0} where
         | false ↦ h
       ]
 
--- what the node makes of two pieces
+-- the output for two pieces together is the output for each, together
 pub linear_output-append : {T : Type 0} (node : Node) (us vs : List (Update T)) → linear_output node (us ++ vs) ≡ linear_output node us ++ linear_output node vs
 linear_output-append (Map source items) us vs = map-append (mapped_update items) us vs
 linear_output-append (Filter source test) us vs = filter-append (λ u. passes test u.row) us vs
 linear_output-append (Negate source) us vs = map-append negated_update us vs
 linear_output-append node us vs = refl
 
--- a node that reads one source, or none, has one port
+-- a node with at most one source has only port 0
 one_port : (port : ℕ) → IsTrue (eqb port 0 || nat_lt port 1) → port ≡ 0
 one_port port h = grind (arith, nat_tests)
 
 no_port : (port : ℕ) → IsTrue (eqb port 0 || nat_lt port 0) → port ≡ 0
 no_port port h = grind (arith, nat_tests)
 
--- both together are what is at the one port
+-- two pieces at one port, added port by port, are both pieces at that port
 both_ports : (port : ℕ) → IsTrue (eqb port 0 || nat_lt port 2) → (es : List Entry) → Alike es (at_port port es 0 ++ at_port port es 1)
 both_ports zero h es row = ap (λ l. count_of l row) (sym (append-nil es))
 both_ports (suc zero) h es row = refl
 both_ports (suc (suc port)) h es row = absurd (grind (arith, nat_tests))
 
 module _ {T : Type 0} (below : T → T → Bool) (t : T) where
-  -- sums at a time go through lists piece by piece
+  -- the sum of two lists at a time is the sum of each, together
   pub as_of-append : (us vs : List (Update T)) → as_of below t (us ++ vs) ≡ as_of below t us ++ as_of below t vs
   as_of-append us vs =
       ap (λ l. map entry l) (filter-append (λ u. below u.time t) us vs)
@@ -99,7 +99,7 @@ module _ {T : Type 0} (below : T → T → Bool) (t : T) where
       ap (λ l. map entry l) (filter_swap (λ u. below u.time t) (λ u. passes test u.row) us)
       ∙ map-filter entry (λ e. passes test e.row) (filter (λ u. below u.time t) us)
 
-  -- what comes out of one piece
+  -- the sum of the output for one piece is the operator's output for the sum of the piece
   pub applied_sums : (k : ℕ) (node : Node) → IsTrue (is_linear node) → (port : ℕ) → IsTrue (is_port node port) → (us : List (Update T)) → Alike (as_of below t (linear_output node us)) (operator_output k node (at_port port (as_of below t us)))
   applied_sums k (Input width) l port h us row = rw (no_port port h) refl
   applied_sums k (Map source items) l port h us row = rw (one_port port h) (ap (λ es. count_of es row) (as_of-mapped_entry items us))
@@ -110,7 +110,7 @@ module _ {T : Type 0} (below : T → T → Bool) (t : T) where
   applied_sums k (Reduce kind source) l port h us row = absurd (true≢false (sym l))
   applied_sums k node l port h us row = rw (one_port port h) refl
 
-  -- one more piece at a port, in the sums of all that came
+  -- one more piece at a port, in the sums of all that was received
   as_of-more : (port : ℕ) (us : List (Update T)) (received : ℕ → List (Update T)) (p : ℕ) → as_of below t (with_more_at port us received p) ≡ at_port port (as_of below t us) p ++ as_of below t (received p)
   as_of-more port us received p =
       elim (eqb p port) as (λ b. as_of below t (cond b (us ++ received p) (received p)) ≡ cond b (as_of below t us) [] ++ as_of below t (received p)) [
@@ -118,7 +118,7 @@ module _ {T : Type 0} (below : T → T → Bool) (t : T) where
         | false ↦ refl
       ]
 
-  -- working on more updates keeps the output the operator of what was received
+  -- if the emitted updates sum to the operator's output for all that was received, then one more piece keeps it so
   pub applied_goes_on : (k : ℕ) (node : Node) → IsTrue (is_linear node) → (port : ℕ) → IsTrue (is_port node port)
       → (received : ℕ → List (Update T)) (emitted us : List (Update T))
       → Alike (as_of below t emitted) (operator_output k node (λ p. as_of below t (received p)))

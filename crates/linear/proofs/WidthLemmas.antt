@@ -1,4 +1,4 @@
--- Linear nodes of a plan take the rows of their sources, and give rows of their own width.
+-- A linear node of a plan takes the rows of its sources, and its output rows have the node's width.
 use Rattle.std.proofs.Common.{◌≡◌, ℕ, zero, suc, true, not, eqb, List, [], ◌∷◌, map, length, Some, None, slice_get, IsTrue, refl, ap, sym, subst, ◌∙◌}
 use Rattle.std.proofs.lemmas.Bool.{and_parts, and_from, eqb-true, eq-eqb, true≢false}
 use Rattle.std.proofs.lemmas.List.{length-map}
@@ -20,13 +20,13 @@ use Rattle.linear.specs.Applied.{mapped_update, negated_update, linear_output}
 use Rattle.linear.specs.Widths.{takes_items, takes_width, takes_rows, are_wide}
 use Rattle.linear.proofs.SizeLemmas.{list_all-filter}
 
--- the first of one source
+-- a list with one source has it at port 0 only
 first_source : (a port s : ℕ) → slice_get (a ∷ []) port ≡ Some s → a ≡ s
 first_source a zero s e = same_Some a s e
 first_source a (suc port) s e = absurd (none-some s e)
 
 module _ (p : List Node) where
-  -- a node without faults takes rows of its sources' widths
+  -- a node without faults takes rows of the width of each of its sources
   takes_source : (node : Node) → first_refusal (node_faults p node) ≡ None → (port s : ℕ) → slice_get (sources node) port ≡ Some s → IsTrue (takes_width node (width_of p s))
   takes_source (Map source items) h port s e =
       let within = are_within items (width_of p source) in
@@ -39,7 +39,7 @@ module _ (p : List Node) where
       (no_fault (is_test_within test (width_of p source)) (no_first (not (is_test_within test (width_of p source))) BadColumn [] h).0)
   takes_source node h port s e = refl
 
-  -- both sources of a concat have the width of the left one
+  -- both sources of a concat have the same width as the left one
   concat_width : (left right : ℕ) → eqb (width_of p left) (width_of p right) ≡ true → (port s : ℕ) → slice_get (left ∷ right ∷ []) port ≡ Some s → width_of p s ≡ width_of p left
   concat_width left right h zero s e = ap (width_of p) (sym (same_Some left s e))
   concat_width left right h (suc port) s e = ap (width_of p) (sym (first_source right port s e)) ∙ sym (eqb-true (width_of p left) (width_of p right) h)
@@ -60,7 +60,7 @@ module _ (p : List Node) where
         let parts = and_parts (eqb (length u.row) columns) (are_wide columns us) h in
         and_from (eqb (length u.row) columns) (are_wide columns (map negated_update us)) parts.0 (wide_negated columns us parts.1)
 
-    -- what comes out has the width that the node gives
+    -- the output rows have the width of the node
     wide_applied : (node : Node) → IsTrue (is_linear node) → first_refusal (node_faults p node) ≡ None → (port s : ℕ) → slice_get (sources node) port ≡ Some s
         → (us : List (Update T)) → IsTrue (are_wide (width_of p s) us) → IsTrue (are_wide (width_from (key_width p node) node (width_of p)) (linear_output node us))
     wide_applied (Input width) l h port s e us w = absurd (none-some s e)
@@ -81,12 +81,12 @@ module _ (p : List Node) where
         and_from (takes_width node (length u.row)) (takes_rows node us)
         (subst (λ n. IsTrue (takes_width node n)) (sym (eqb-true (length u.row) columns parts.0)) h) (takes_all node columns h us parts.1)
 
-    -- a node of a plan takes the rows of its source
+    -- a node of a plan takes the rows of its sources
     pub plan_takes : IsPlan p → (n port s : ℕ) → slice_get (sources (node_at p n)) port ≡ Some s → (us : List (Update T)) → IsTrue (are_wide (width_of p s) us) → IsTrue (takes_rows (node_at p n) us)
     plan_takes plan n port s e us w =
         takes_all (node_at p n) (width_of p s) (takes_source (node_at p n) (faultless p plan n (has_source p n port s e)) port s e) us w
 
-    -- and gives rows of its own width
+    -- a linear node of a plan gives rows of its own width
     pub plan_gives : IsPlan p → (n port s : ℕ) → slice_get (sources (node_at p n)) port ≡ Some s → IsTrue (is_linear (node_at p n)) → (us : List (Update T)) → IsTrue (are_wide (width_of p s) us) → IsTrue (are_wide (width_of p n) (linear_output (node_at p n) us))
     plan_gives plan n port s e l us w =
         wide_same (linear_output (node_at p n) us) (width_from (key_width p (node_at p n)) (node_at p n) (width_of p)) (width_of p n) (sym (width_by_sources p plan n))

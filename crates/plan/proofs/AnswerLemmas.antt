@@ -1,4 +1,4 @@
--- What each reduction answers, row by row, found from how often the rows count.
+-- What each reduction answers, row by row, in terms of the counts of the rows.
 use Rattle.std.proofs.Common.{◌≡◌, Bool, true, false, cond, not, IsTrue, List, [], ◌∷◌, ◌++◌, map, refl, ap, sym, ◌∙◌, ◌⊎◌, inl, inr, ◌↔◌}
 use Rattle.std.specs.Prelude.{ℤ, pos, int_lt}
 use Rattle.std.specs.List.{filter, list_any}
@@ -11,7 +11,7 @@ use Rattle.plan.specs.declared.node.Kind.TheVariants.{Count, Distinct, Min, Max}
 use Rattle.plan.proofs.ReductionLemmas.{any_at, any_none}
 use Rattle.plan.proofs.ReducerLemmas.{present_counts, counts_present, count_present, count_kept}
 
--- ---- one where both tests hold, 0 elsewhere
+-- ---- 1 if both tests hold, and 0 otherwise
 
 zero_or_one : (b c : Bool) (n : ℤ) → n ≡ cond b (cond c (pos 1) (pos 0)) (pos 0) → (n ≡ pos 0) ⊎ (n ≡ pos 1)
 zero_or_one true true n h = inr h
@@ -23,18 +23,18 @@ one_both true true h = (refl, refl)
 one_both true false h = absurd (true≢false (sym (ap (int_lt (pos 0)) h)))
 one_both false c h = absurd (true≢false (sym (ap (int_lt (pos 0)) h)))
 
--- ---- the rows that stand out among those that count
+-- ---- rows that no other present row beats; a row is present if its count is above 0
 
 module _ (beats : List ℤ → List ℤ → Bool) where
   -- no row of the list beats it
   abbrev is_unbeaten : List (List ℤ) → List ℤ → Bool
   is_unbeaten rows row = not (list_any (λ other. beats other row) rows)
 
-  -- how often the row is among the rows that count and that no row that counts beats
+  -- the count of the row among the present rows that no present row beats
   abbrev times_answered : List Entry → List ℤ → ℤ
   times_answered entries row = count_of (map single (filter (is_unbeaten (present entries)) (present entries))) row
 
-  -- a row that beats another and counts is among the rows that the other is held against
+  -- if no present row beats a row, then each present row does not
   unbeaten_by : (entries : List Entry) (row : List ℤ) → is_unbeaten (present entries) row ≡ true → (other : List ℤ) → IsTrue (is_present entries other) → beats other row ≡ false
   unbeaten_by entries row u other h =
       false_from_ne_true (beats other row) (λ e.
@@ -43,7 +43,7 @@ module _ (beats : List ℤ → List ℤ → Bool) where
   unbeaten_from : (entries : List Entry) (row : List ℤ) → ((other : List ℤ) → IsTrue (is_present entries other) → beats other row ≡ false) → is_unbeaten (present entries) row ≡ true
   unbeaten_from entries row h = ap not (any_none (λ r. beats r row) (present entries) (λ r m. h r (present_counts entries r m)))
 
-  -- what is answered is a row that counts and that no row that counts beats
+  -- the answer has exactly the present rows that no present row beats
   unbeaten_answered : (entries : List Entry) (row : List ℤ) → (times_answered entries row ≡ pos 1)
       ↔ (IsTrue (is_present entries row) × ((other : List ℤ) → IsTrue (is_present entries other) → beats other row ≡ false))
   unbeaten_answered entries row = (there, back)
@@ -62,16 +62,16 @@ module _ (beats : List ℤ → List ℤ → Bool) where
 
 -- ---- each kind
 
--- what distinct answers for a row, from its count alone
+-- distinct answers a row if and only if its count is above 0
 pub distinct_answered : (key : List ℤ) (entries : List Entry) (row : List ℤ) → count_of (reduction_answer Distinct key entries) row ≡ cond (is_present entries row) (pos 1) (pos 0)
 distinct_answered key entries row = count_present entries row
 
--- min answers the row exactly if no present row stands before it
+-- min answers a row if and only if it is present and no present row is less
 pub least_answered : (key : List ℤ) (entries : List Entry) (row : List ℤ) → (count_of (reduction_answer Min key entries) row ≡ pos 1)
     ↔ (IsTrue (is_present entries row) × ((other : List ℤ) → IsTrue (is_present entries other) → is_before other row ≡ false))
 least_answered key entries row = unbeaten_answered is_before entries row
 
--- max answers the row exactly if it stands before no present row
+-- max answers a row if and only if it is present and less than no present row
 pub greatest_answered : (key : List ℤ) (entries : List Entry) (row : List ℤ) → (count_of (reduction_answer Max key entries) row ≡ pos 1)
     ↔ (IsTrue (is_present entries row) × ((other : List ℤ) → IsTrue (is_present entries other) → is_before row other ≡ false))
 greatest_answered key entries row = unbeaten_answered (λ other row. is_before row other) entries row

@@ -1,4 +1,4 @@
--- The differences of a node are determined by what they sum to, and bounds by the differences of reductions.
+-- The differences of a node are determined by their sums, and its bound by the differences of the reductions.
 use Rattle.std.proofs.Common.{◌≡◌, ℕ, zero, suc, Bool, cond, List, [], ◌∷◌, IsTrue, refl, sym, ◌∙◌, ap}
 use Rattle.std.specs.Prelude.{slice_get}
 use Rattle.std.specs.List.{filter, list_all}
@@ -23,7 +23,7 @@ use Rattle.plan.specs.declared.node.Node.{Node}
 use Rattle.plan.specs.declared.node.Node.TheVariants.{Reduce}
 use Rattle.plan.proofs.BoundLemmas.{own_same_bound}
 
--- a list all of whose elements pass is its filter
+-- if all elements pass a test, then a filter keeps the whole list
 filter_all : {X : Type 0} (p : X → Bool) (xs : List X) → IsTrue (list_all p xs) → xs ≡ filter p xs
 filter_all p [] a = refl
 filter_all p (x ∷ xs) a =
@@ -31,18 +31,18 @@ filter_all p (x ∷ xs) a =
     λ i. cond (sym parts.0 i) (x ∷ filter_all p xs parts.1 i) (filter p xs)
 
 module _ {T : Type 0} {below : T → T → Bool} (o : PartialOrderLaws below) where
-  -- with a time, a frontier has passed all that are at or before it
+  -- a frontier that has passed a time has passed all earlier times
   passed_down : (frontier : List T) (s t : T) → IsTrue (below s t) → IsTrue (has_passed below frontier t) → IsTrue (has_passed below frontier s)
   passed_down frontier s t h p =
       not_from (is_beyond below frontier s) (λ b. not_true (is_beyond below frontier t) p (beyond_up o frontier s t b h))
 
-  -- what an earlier frontier has passed, a later one has
+  -- a later frontier has passed all times that an earlier one has
   passed_later : (earlier later : List T) (t : T) → IsTrue (all_beyond below earlier later) → IsTrue (has_passed below earlier t) → IsTrue (has_passed below later t)
   passed_later earlier later t a p =
       not_from (is_beyond below later t) (λ b. not_true (is_beyond below earlier t) p (beyond_later o earlier later t a b))
 
   module _ {cmp : T → T → Ordering} (total : IsTotalOrder cmp) (p : List Node) (changes : ℕ → List (Update T)) where
-    -- both lists sum to the query at what the earlier frontier has passed
+    -- when the frontier moves on, the differences at times that it had already passed stay the same
     pub differences_go_on : (earlier later : List T) (n : ℕ) (us vs : List (Update T)) → IsTrue (all_beyond below earlier later) → AreDifferences below cmp p changes earlier n us → AreDifferences below cmp p changes later n vs → us ≡ filter (λ u. has_passed below earlier u.time) vs
     differences_go_on earlier later n us vs a d e =
         filter_all (λ u. has_passed below earlier u.time) us d.passed
@@ -51,13 +51,13 @@ module _ {T : Type 0} {below : T → T → Bool} (o : PartialOrderLaws below) wh
         alike : (t : T) → IsTrue (has_passed below earlier t) → Alike (as_of below t us) (as_of below t vs)
         alike t h row = d.sums t h row ∙ sym (e.sums t (passed_later earlier later t a h) row)
 
-    -- a view has one list of differences, so any two that are found are the same
+    -- a node has only one list of differences for a frontier
     pub differences_one : (frontier : List T) (n : ℕ) (us vs : List (Update T)) → AreDifferences below cmp p changes frontier n us → AreDifferences below cmp p changes frontier n vs → us ≡ vs
     differences_one frontier n us vs d e =
         differences_go_on frontier frontier n us vs (beyond_itself o frontier) d e
         ∙ sym (filter_all (λ u. has_passed below frontier u.time) vs e.passed)
 
-    -- a reduction has one own bound
+    -- a reduction has only one own bound
     own_same : (v w : ℕ → ℕ) → AreOwn below cmp p changes v → AreOwn below cmp p changes w → (n source : ℕ) (kind : Kind) → node_at p n ≡ Reduce kind source → v n ≡ w n
     own_same v w a b n source kind e =
         let x = a n source kind e in
@@ -65,11 +65,11 @@ module _ {T : Type 0} {below : T → T → Bool} (o : PartialOrderLaws below) wh
         x.2 ∙ ap size (differences_one [] n x.0 y.0 x.1 y.1) ∙ sym y.2
 
 module _ (p : List Node) (inputs : ℕ → ℕ) where
-  -- a step of finding bounds
+  -- the step of the recursion that finds bounds
   abbrev loaded : (ℕ → ℕ) → ℕ → Node → (ℕ → ℕ) → ℕ
   loaded own m node bounds_at = output_bound node (own m) (λ port. source_value (inputs m) bounds_at (slice_get (sources node) port))
 
-  -- bounds are the same where reductions have the same
+  -- bounds are equal if the own bounds of all reductions are
   bounds_within : (v w : ℕ → ℕ) → ((n source : ℕ) (kind : Kind) → node_at p n ≡ Reduce kind source → v n ≡ w n) → (d n : ℕ) → found_within 0 (loaded v) p d n ≡ found_within 0 (loaded w) p d n
   bounds_within v w h zero n = refl
   bounds_within v w h (suc d) n =
@@ -77,7 +77,7 @@ module _ (p : List Node) (inputs : ℕ → ℕ) where
       ∙ (λ i. loaded w n (node_at p n) (λ m. bounds_within v w h d m i))
 
 module _ {T : Type 0} {below : T → T → Bool} {cmp : T → T → Ordering} (o : PartialOrderLaws below) (total : IsTotalOrder cmp) where
-  -- a node has one bound at most
+  -- a node has at most one bound
   pub one_bound : (p : List Node) (changes : ℕ → List (Update T)) (n v w : ℕ) → IsBound below cmp p changes n v → IsBound below cmp p changes n w → v ≡ w
   unfolding Rattle.plan.specs.Bounds.bound_by
   one_bound p changes n v w a b =

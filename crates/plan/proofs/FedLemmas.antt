@@ -1,4 +1,4 @@
--- The query of a plan's node depends only on the bags of the inputs that feed the node.
+-- The query of a plan's node depends only on the inputs that feed the node.
 use Rattle.std.proofs.Common.{◌≡◌, ℕ, ◌<◌, Bool, true, false, IsTrue, Option, Some, None, List, [], length, slice_get, refl, sym, ap, ◌∙◌, arith}
 use Rattle.std.proofs.lemmas.Bool.{and_from, true≢false}
 use Rattle.update.specs.Bags.{Entry, Alike, count_of}
@@ -14,26 +14,26 @@ use Rattle.plan.proofs.PlanLemmas.{source_smaller}
 use Rattle.plan.proofs.StepLemmas.{query_by_sources}
 use Rattle.plan.proofs.StandLemmas.{above_itself, feeds_from_source}
 
--- what comes to the ports of a node
-abbrev ports : Node → List Entry → (ℕ → List Entry) → ℕ → List Entry
-ports node outside bags port = source_value outside bags (slice_get (sources node) port)
+-- the bag that comes to each port of a node
+abbrev port_bags : Node → List Entry → (ℕ → List Entry) → ℕ → List Entry
+port_bags node outside bags port = source_value outside bags (slice_get (sources node) port)
 
--- an input gives what comes from outside, and any other node looks at no port without a source
-given_input : (k : ℕ) (node : Node) (outside : List Entry) (bags : ℕ → List Entry) → IsTrue (is_input node) → operator_output k node (ports node outside bags) ≡ outside
+-- an input gives what comes from outside; any other node reads only ports that have a source
+given_input : (k : ℕ) (node : Node) (outside : List Entry) (bags : ℕ → List Entry) → IsTrue (is_input node) → operator_output k node (port_bags node outside bags) ≡ outside
 given_input k (Input width) outside bags h = refl
 given_input k node outside bags h = absurd (true≢false (sym h))
 
-given_others : (k : ℕ) (node : Node) (outside : List Entry) (bags : ℕ → List Entry) → is_input node ≡ false → operator_output k node (ports node outside bags) ≡ operator_output k node (ports node [] bags)
+given_others : (k : ℕ) (node : Node) (outside : List Entry) (bags : ℕ → List Entry) → is_input node ≡ false → operator_output k node (port_bags node outside bags) ≡ operator_output k node (port_bags node [] bags)
 given_others k (Input width) outside bags h = absurd (true≢false h)
 given_others k node outside bags h = refl
 
--- alike bags at each port are taken to give alike bags
+-- this module assumes that an operator gives alike bags if the bags at its ports are alike
 module _ (operators : (k : ℕ) (node : Node) (a b : ℕ → List Entry) → ((port : ℕ) → Alike (a port) (b port)) → Alike (operator_output k node a) (operator_output k node b)) (p : List Node) (plan : IsPlan p) (a b : ℕ → List Entry) where
-  -- the inputs that feed the node have alike bags
+  -- the inputs that feed node n have alike bags
   abbrev AlikeFor : ℕ → Type 0
   AlikeFor n = (input : ℕ) → IsTrue (feeds p input n) → Alike (a input) (b input)
 
-  -- a query depends on the inputs that feed it, and on no others
+  -- a query depends only on the inputs that feed the node
   pub alike_where_fed : (n : ℕ) → n < length p → AlikeFor n → Alike (query p a n) (query p b n)
   alike_where_fed = by_smaller (λ n. n < length p → AlikeFor n → Alike (query p a n) (query p b n)) at
     where
@@ -52,12 +52,12 @@ module _ (operators : (k : ℕ) (node : Node) (a b : ℕ → List Entry) → ((p
               let i = source_smaller p plan n port s e in
               rest s i (omega arith) (λ input f. h input (feeds_from_source p plan input n port s e f))
 
-          both : (c : Bool) → is_input node ≡ c → count_of (operator_output key node (ports node (a n) (query p a))) row ≡ count_of (operator_output key node (ports node (b n) (query p b))) row
+          both : (c : Bool) → is_input node ≡ c → count_of (operator_output key node (port_bags node (a n) (query p a))) row ≡ count_of (operator_output key node (port_bags node (b n) (query p b))) row
           both true e =
               ap (λ x. count_of x row) (given_input key node (a n) (query p a) e)
               ∙ h n (and_from (is_input node) (reaches p n n) e (above_itself p plan n)) row
               ∙ ap (λ x. count_of x row) (sym (given_input key node (b n) (query p b) e))
           both false e =
               ap (λ x. count_of x row) (given_others key node (a n) (query p a) e)
-              ∙ operators key node (ports node [] (query p a)) (ports node [] (query p b)) (λ port. port_alike port (slice_get (sources node) port) refl) row
+              ∙ operators key node (port_bags node [] (query p a)) (port_bags node [] (query p b)) (λ port. port_alike port (slice_get (sources node) port) refl) row
               ∙ ap (λ x. count_of x row) (sym (given_others key node (b n) (query p b) e))

@@ -12,13 +12,13 @@ use Rattle.plan.proofs.PlanLemmas.{no_first, no_fault}
 use Rattle.plan.proofs.StepLemmas.{width_by_sources}
 use Rattle.plan.proofs.WidthLemmas.{faultless, width_bounds}
 
--- what is arranged is arranged by the key that it has
+-- an arranged node has the key that `arranged_by` names
 arranged_by_key : (arranged : Option ℕ) → IsTrue (is_some arranged) → arranged ≡ Some (unwrap_or arranged 0)
 arranged_by_key (Some key) h = refl
 arranged_by_key None h = cc
 
 module _ (p : List Node) (plan : IsPlan p) where
-  -- a node that is an arrange node, and what it says
+  -- the bounds of a key, by the variant of the node
   arrange_bounds : (n : ℕ) → n < length p → (node : Node) → node_at p n ≡ node → (key : ℕ) → arranged_by node ≡ Some key → (1 ≤ key) × (key ≤ width_of p n)
   arrange_bounds n l (Arrange source columns) e key a =
       let same : columns ≡ key = same_Some columns key a in
@@ -30,11 +30,11 @@ module _ (p : List Node) (plan : IsPlan p) where
       (subst (λ k. 1 ≤ k) same least, subst (λ k. k ≤ width_of p n) same (subst (λ w. columns ≤ w) (sym width) greatest))
   arrange_bounds n l node e key a = cc
 
-  -- an arrange node's key has a column, and no more than its rows have
+  -- the key of an arrange node has at least one column and at most as many as its rows
   pub key_bounds : (n key : ℕ) → n < length p → arranged_by (node_at p n) ≡ Some key → (1 ≤ key) × (key ≤ width_of p n)
   key_bounds n key l a = arrange_bounds n l (node_at p n) refl key a
 
-  -- the keys of all nodes have 8 columns at most
+  -- a key has at most 8 columns
   pub key_few : (n : ℕ) → n < length p → key_of p n ≤ 8
   key_few n l = by_arranged (arranged_by (node_at p n)) refl
     where
@@ -45,11 +45,11 @@ module _ (p : List Node) (plan : IsPlan p) where
           let width_fits = leb-true (width_of p n) 8 (and_parts (nat_le 1 (width_of p n)) (nat_le (width_of p n) 8) (width_bounds p plan n l)).1 in
           omega arith
 
-  -- an arrangement has a key of at least one column
+  -- the key of an arrange node has at least one column
   pub key_some : (n : ℕ) → n < length p → IsTrue (is_arranged p n) → 1 ≤ key_of p n
   key_some n l a = (key_bounds n (key_of p n) l (arranged_by_key (arranged_by (node_at p n)) a)).0
 
-  -- the sources of a join or a reduction are arranged by one key
+  -- the sources of a join or a reduction are arranged by the same key
   sources_of : (node : Node) → first_refusal (node_faults p node) ≡ None → is_linear node ≡ false → (port s : ℕ) → slice_get (sources node) port ≡ Some s → arranged_by (node_at p s) ≡ Some (key_width p node)
   sources_of (Join left right) h k port s e =
       let both = is_arranged p left && is_arranged p right in
@@ -72,6 +72,6 @@ module _ (p : List Node) (plan : IsPlan p) where
       at_port (suc port) e l = cc
   sources_of node h k port s e = cc
 
-  -- the sources of a join or reduction are arranged by its key
+  -- the sources of a join or a reduction are arranged by the key of the node
   pub source_arranged : (n port s : ℕ) → n < length p → is_linear (node_at p n) ≡ false → slice_get (sources (node_at p n)) port ≡ Some s → arranged_by (node_at p s) ≡ Some (key_width p (node_at p n))
   source_arranged n port s l k e = sources_of (node_at p n) (faultless p plan n l) k port s e

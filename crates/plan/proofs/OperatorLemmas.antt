@@ -1,4 +1,4 @@
--- The operators: alike bags give alike bags; linear ones add up; joins and reductions work key by key.
+-- The operators: alike bags give alike bags, linear operators are additive, and joins and reductions work key by key.
 use Rattle.std.proofs.Common.{◌≡◌, ℕ, zero, suc, ◌<◌, ◌≤◌, Bool, true, false, cond, List, [], ◌∷◌, ◌++◌, map, take, drop, length, nat_le, eqb, IsTrue, refl, ap, sym, ◌∙◌, ◌⊎◌, inl, inr, arith}
 use Rattle.std.specs.Prelude.{ℤ, pos, ◌+ℤ◌, ◌*ℤ◌, neg_ℤ}
 use Rattle.std.specs.List.{filter, flat_map}
@@ -24,7 +24,7 @@ use Rattle.plan.proofs.ReducerLemmas.{all_reduce}
 -- ---- images
 
 module _ (items : List Item) (row : List ℤ) where
-  -- how much a row's count adds to the count of its image
+  -- what a row with its count adds to the count of its image
   abbrev image_value : List ℤ → ℤ → ℤ
   image_value source n = cond (same_row (projection items source) row) n (pos 0)
 
@@ -36,11 +36,11 @@ module _ (items : List Item) (row : List ℤ) where
 
 -- ---- joins
 
--- how much two entries' pair adds to a row's count
+-- what a pair of entries adds to the count of a row
 abbrev pair_value : ℕ → List ℤ → List ℤ → ℤ → List ℤ → ℤ → ℤ
 pair_value k row left m right n = cond (same_row (take k right) (take k left)) (cond (same_row (left ++ drop k right) row) (m *ℤ n) (pos 0)) (pos 0)
 
--- a pair has the key of both
+-- a joined row has the key of both entries
 take_pair : (k : ℕ) (left right : List ℤ) → take k right ≡ take k left → take k (left ++ drop k right) ≡ take k left
 take_pair zero left right h = refl
 take_pair (suc k) [] [] h = refl
@@ -49,7 +49,7 @@ take_pair (suc k) (x ∷ left) [] h = cc
 take_pair (suc k) (x ∷ left) (y ∷ right) h = ap (λ z. x ∷ z) (take_pair k left right cc)
 
 module _ (k : ℕ) (row : List ℤ) where
-  -- how much an entry of the left bag adds, with all of the right one
+  -- what an entry of the left bag adds, paired with the whole right bag
   abbrev left_value : List Entry → List ℤ → ℤ → ℤ
   left_value right left m = weigh (pair_value k row left m) right
 
@@ -88,7 +88,7 @@ module _ (k : ℕ) (row : List ℤ) where
       ∙ sym (count_of-join_output b d)))
 
   module _ (test : List ℤ → Bool) where
-    -- a pair that counts has the row's key on both sides
+    -- a pair that adds to a row's count has the row's key on both sides
     pair_keyed : (left : List ℤ) (m : ℤ) (right : List ℤ) (n : ℤ)
         → cond (test (take k left)) (cond (test (take k right)) (pair_value k row left m right n) (pos 0)) (pos 0) ≡ cond (test (take k row)) (pair_value k row left m right n) (pos 0)
     pair_keyed left m right n = step (same_row (take k right) (take k left)) refl (same_row (left ++ drop k right) row) refl
@@ -137,7 +137,7 @@ module _ (k : ℕ) (reduce : List ℤ → List Entry → List Entry) (q : IsRedu
       ∙ sym (by_key_at k reduce q b row))
 
   module _ (test : List ℤ → Bool) (a : List Entry) where
-    -- the entries of the row's key, and those whose keys pass
+    -- the entries with the row's key, and the entries whose keys pass the test
     abbrev own : List Entry → List Entry
     own entries = filter (has_key k (take k row)) entries
 
@@ -149,7 +149,7 @@ module _ (k : ℕ) (reduce : List ℤ → List Entry → List Entry) (q : IsRedu
         count_of-filter (λ s. same_row (take k s) (take k row)) passing r
         ∙ ap (λ n. cond (same_row (take k r) (take k row)) n (pos 0)) (count_of-filter (λ s. test (take k s)) a r)
 
-    -- the key passes, and so all of its rows do; or none of them does
+    -- if the key passes, then so do all of its rows; otherwise none of them does
     all_own : test (take k row) ≡ true → Alike (own passing) (own a)
     all_own h r = count_of-own r ∙ (step (same_row (take k r) (take k row)) refl ∙ sym (count_of-filter (λ s. same_row (take k s) (take k row)) a r))
       where
@@ -176,7 +176,7 @@ module _ (k : ℕ) (reduce : List ℤ → List Entry → List Entry) (q : IsRedu
 
 -- ---- the operator table
 
--- bags that are alike at each port that the node has, and at the first, give alike bags
+-- if the bags are alike at port 0 and at each port that the node has, then the outputs are alike
 pub given_alike : (k : ℕ) (node : Node) (a b : ℕ → List Entry) → ((port : ℕ) → (port ≡ 0) ⊎ (port < length (sources node)) → Alike (a port) (b port)) → Alike (operator_output k node a) (operator_output k node b)
 given_alike k (Map source items) a b h row = map_alike items row (a 0) (b 0) (h 0 (inl refl))
 given_alike k (Filter source test) a b h row = filter_alike (λ r. passes test r) (a 0) (b 0) (h 0 (inl refl)) row
@@ -186,7 +186,7 @@ given_alike k (Join left right) a b h row = join_alike k row (a 0) (b 0) (a 1) (
 given_alike k (Reduce kind source) a b h row = reduce_alike k (reduction_answer kind) (all_reduce kind k) row (a 0) (b 0) (h 0 (inl refl))
 given_alike k node a b h row = h 0 (inl refl) row
 
--- linear operators give of two bags together what they give of each, together
+-- a linear operator's output for two bags together is its output for each, together
 pub given_sum : (k : ℕ) (node : Node) → IsTrue (is_linear node) → (a b : ℕ → List Entry) → Alike (operator_output k node (λ port. a port ++ b port)) (operator_output k node a ++ operator_output k node b)
 given_sum k (Map source items) l a b row = ap (λ es. count_of es row) (map-append (mapped_entry items) (a 0) (b 0))
 given_sum k (Filter source test) l a b row = ap (λ es. count_of es row) (filter-append (λ e. passes test e.row) (a 0) (b 0))
@@ -201,27 +201,28 @@ given_sum k (Join left right) l a b row = absurd (true≢false (sym l))
 given_sum k (Reduce kind source) l a b row = absurd (true≢false (sym l))
 given_sum k node l a b row = refl
 
--- nothing comes from nothing
+-- every operator gives nothing if it is given nothing
 pub given_nothing : (k : ℕ) (node : Node) → Alike (operator_output k node (λ port. [])) []
 given_nothing k (Input width) row = refl
 given_nothing k node row = refl
 
--- what a keyed operator gives of the rows whose keys pass a test
+-- a join or a reduction of the rows whose keys pass a test
 module _ (k : ℕ) (test : List ℤ → Bool) (bags : ℕ → List Entry) (row : List ℤ) where
+  -- a row keeps its count if its key passes the test, and has count 0 otherwise
   pub given_keyed : (node : Node) → is_linear node ≡ false
       → count_of (operator_output k node (λ port. filter (λ e. test (take k e.row)) (bags port))) row ≡ cond (test (take k row)) (count_of (operator_output k node bags) row) (pos 0)
   given_keyed (Join left right) l = join_keyed k row test (bags 0) (bags 1)
   given_keyed (Reduce kind source) l = reduce_keyed k (reduction_answer kind) (all_reduce kind k) row test (bags 0)
   given_keyed node l = absurd (true≢false l)
 
--- joins and reductions work on each set of keys by itself
+-- a join or a reduction of the rows whose keys pass a test gives the part of its output whose keys pass it
 pub given_parts : (k : ℕ) (node : Node) → is_linear node ≡ false → (test : List ℤ → Bool) (bags : ℕ → List Entry)
     → Alike (operator_output k node (λ port. filter (λ e. test (take k e.row)) (bags port))) (filter (λ e. test (take k e.row)) (operator_output k node bags))
 given_parts k node l test bags row = given_keyed k test bags row node l ∙ sym (count_of-filter (λ r. test (take k r)) (operator_output k node bags) row)
 
 -- ---- workers
 
--- a value that only the worker's number has
+-- a value v at one worker's number, and 0 at the others
 module _ (worker : ℕ) (v : ℤ) where
   abbrev of_worker : ℕ → ℤ
   of_worker n = cond (eqb worker n) v (pos 0)
@@ -241,7 +242,7 @@ module _ (worker : ℕ) (v : ℤ) where
       step true e h = let here = eqb-true worker n e in let none = not_below n (omega (arith, here)) in omega (arith, ints)
       step false e h = let m : worker < n = omega (arith, l, eqb-false worker n e) in let all = h m in omega (arith, ints)
 
--- so the workers' answers together are the answer to all rows
+-- if each key has one worker, then the outputs of all workers together are the output for all rows
 pub given_workers : (k : ℕ) (node : Node) → is_linear node ≡ false → (workers : ℕ) (route : List ℤ → ℕ) → ((key : List ℤ) → route key < workers) → (bags : ℕ → List Entry)
     → Alike (flat_map (λ worker. operator_output k node (λ port. filter (λ e. eqb (route (take k e.row)) worker) (bags port))) (numbers_below workers)) (operator_output k node bags)
 given_workers k node l workers route h bags row =

@@ -8,11 +8,11 @@ use Rattle.plan.specs.Queries.{query, source_value}
 use Rattle.plan.specs.declared.node.Node.{Node}
 use Rattle.plan.proofs.OperatorLemmas.{given_alike}
 
--- what a query finds of a node, from the bags of its sources
+-- the step of the recursion that finds queries
 abbrev query_step : List Node → (ℕ → List Entry) → ℕ → Node → (ℕ → List Entry) → List Entry
 query_step p inputs m node bags = operator_output (key_width p node) node (λ port. source_value (inputs m) bags (slice_get (sources node) port))
 
--- a port is handed alike bags where its source has them, or where it has none
+-- a port gets alike bags if the bags of all nodes are alike, and if what comes from outside is
 pub handed_alike : (a b : List Entry) → Alike a b → (c d : ℕ → List Entry) → ((n : ℕ) → Alike (c n) (d n)) → (source : Option ℕ) → Alike (source_value a c source) (source_value b d source)
 handed_alike a b h c d i None = h
 handed_alike a b h c d i (Some source) = i source
@@ -26,7 +26,7 @@ module _ (p : List Node) (a b : ℕ → List Entry) (h : (input : ℕ) → Alike
       (λ port. source_value (b n) (found_within [] (query_step p b) p steps) (slice_get (sources (node_at p n)) port))
       (λ port s. handed_alike (a n) (b n) (h n) (found_within [] (query_step p a) p steps) (found_within [] (query_step p b) p steps) (within_alike steps) (slice_get (sources (node_at p n)) port))
 
--- a query depends on its inputs' bags alone, not on how they are listed
+-- a query depends only on the bags of its inputs, not on how they are listed
 pub query_alike : (p : List Node) (a b : ℕ → List Entry) → ((input : ℕ) → Alike (a input) (b input)) → (n : ℕ) → Alike (query p a n) (query p b n)
 unfolding query
 query_alike p a b h n = within_alike p a b h (suc n) n

@@ -1,4 +1,4 @@
--- The four reductions have the laws of a reducer.
+-- The four reductions satisfy the laws of a reducer.
 use Rattle.std.proofs.Common.{◌≡◌, ℕ, Bool, true, false, cond, not, List, [], ◌∷◌, ◌++◌, map, take, length, refl, ap, sym, ◌∙◌, inl, inr, ⊎_elim}
 use Rattle.std.specs.Prelude.{ℤ, pos, int_lt}
 use Rattle.std.specs.List.{filter, list_any}
@@ -17,12 +17,12 @@ use Rattle.plan.specs.declared.node.Kind.TheVariants.{Count, Distinct, Min, Max}
 use Rattle.plan.proofs.CountLemmas.{row_same, row_itself, when_zero, count_of-filter, weigh_alike}
 use Rattle.plan.proofs.ReductionLemmas.{any_has, any_at, each_once_among, total_by-once}
 
--- ---- how often all rows count together
+-- ---- the sum of all counts
 
 sums_alike : (a b : List Entry) → Alike a b → sum_of_counts a ≡ sum_of_counts b
 sums_alike a b h = weigh_alike (λ row n. n) (λ row m n. refl) a b h
 
--- the answer's one row begins with the key
+-- the one row of the answer to a count begins with the key
 counted_keyed : (k : ℕ) (key row : List ℤ) (n : ℤ) → length key ≡ k → same_row (take k row) key ≡ false → count_of (count_answer key n) row ≡ pos 0
 counted_keyed k key row n l d =
     elim (int_eq n (pos 0)) as (λ b. count_of (cond b [] (single (key ++ n ∷ []) ∷ [])) row ≡ pos 0) [
@@ -42,13 +42,13 @@ count_reduces k = record {
   keyed = λ key row entries l d. counted_keyed k key row (sum_of_counts (filter (has_key k key) entries)) l d;
 }
 
--- ---- rows that count more than 0 times
+-- ---- present rows: rows with a count above 0
 
 among_rows : (entries : List Entry) (e : Entry) → Among e entries → Among e.row (map (λ e. e.row) entries)
 among_rows [] e m = absurd m
 among_rows (first ∷ entries) e m = ⊎_elim (λ s. inl (ap (λ (x : Entry). x.row) s)) (λ n. inr (among_rows entries e n)) m
 
--- a row that counts is the row of an entry
+-- a present row is the row of an entry
 present_among : (entries : List Entry) (row : List ℤ) → is_present entries row ≡ true → Among row (map (λ e. e.row) entries)
 present_among entries row h =
     ⊎_elim
@@ -58,7 +58,7 @@ present_among entries row h =
     absurd (true≢false (sym h ∙ ap (int_lt (pos 0)) zero)))
     (passes_or_none (λ e. same_row e.row row) entries)
 
--- of the rows that count, that one is there just where it counts
+-- a row is among the rows of the entries with a count above 0 if and only if it is present
 found_present : (entries : List Entry) (row : List ℤ) → list_any (λ r. same_row r row) (filter (is_present entries) (map (λ e. e.row) entries)) ≡ is_present entries row
 found_present entries row =
     same_from_decides (list_any (λ r. same_row r row) (filter (is_present entries) (map (λ e. e.row) entries))) (is_present entries row) (there, back) (λ h. h, λ h. h)
@@ -79,24 +79,24 @@ each_once_has (first ∷ rows) row m =
       | false ↦ λ e. ⊎_elim (λ s. inl s) (λ n. inr (filter_takes (λ other. not (same_row other first)) (each_once rows) row (each_once_has rows row n) (ap not e))) m
     ] refl
 
--- the rows that count, each once, are just those
+-- every row of `present` has a count above 0
 pub present_counts : (entries : List Entry) (row : List ℤ) → Among row (present entries) → is_present entries row ≡ true
 present_counts entries row m = (filter_has (is_present entries) (map (λ e. e.row) entries) row (each_once_among (filter (is_present entries) (map (λ e. e.row) entries)) row m)).1
 
--- a row that counts is among those present
+-- every row with a count above 0 is in `present`
 pub counts_present : (entries : List Entry) (row : List ℤ) → is_present entries row ≡ true → Among row (present entries)
 counts_present entries row h = each_once_has (filter (is_present entries) (map (λ e. e.row) entries)) row (filter_takes (is_present entries) (map (λ e. e.row) entries) row (present_among entries row h) h)
 
 present_alike : (a b : List Entry) → Alike a b → (row : List ℤ) → Among row (present a) → Among row (present b)
 present_alike a b h row m = counts_present b row (ap (int_lt (pos 0)) (sym (h row)) ∙ present_counts a row m)
 
--- among a key's entries no row of another key counts
+-- among the entries of a key no row of another key is present
 absent_elsewhere : (k : ℕ) (key row : List ℤ) (entries : List Entry) → same_row (take k row) key ≡ false → is_present (filter (has_key k key) entries) row ≡ false
 absent_elsewhere k key row entries d = ap (int_lt (pos 0)) (count_of-filter (λ r. same_row (take k r) key) entries row ∙ ap (λ b. cond b (count_of entries row) (pos 0)) d)
 
--- ---- the distinct rows
+-- ---- present rows with count 1
 
--- each of them counts once
+-- a row has count 1 in this list if it is present, and 0 otherwise
 pub count_present : (entries : List Entry) (row : List ℤ) → count_of (map single (present entries)) row ≡ cond (is_present entries row) (pos 1) (pos 0)
 count_present entries row =
     total_by-map (λ e. cond (same_row e.row row) e.count (pos 0)) single (present entries)
@@ -110,10 +110,10 @@ distinct_reduces k = record {
   keyed = λ key row entries l d. count_present (filter (has_key k key) entries) row ∙ ap (λ b. cond b (pos 1) (pos 0)) (absent_elsewhere k key row entries d);
 }
 
--- ---- the rows that stand out among them
+-- ---- the least or greatest of the present rows
 
 module _ (keep : List (List ℤ) → List ℤ → Bool) where
-  -- keep is a test of a row beside all of them
+  -- keep is a test of a row that may depend on all rows
   pub count_kept : (entries : List Entry) (row : List ℤ) → count_of (map single (filter (keep (present entries)) (present entries))) row ≡ cond (is_present entries row) (cond (keep (present entries) row) (pos 1) (pos 0)) (pos 0)
   count_kept entries row =
       total_by-map (λ e. cond (same_row e.row row) e.count (pos 0)) single (filter (keep (present entries)) (present entries))
@@ -135,7 +135,7 @@ module _ (keep : List (List ℤ) → List ℤ → Bool) where
         ∙ ap (λ b. cond b (cond (keep (present (filter (has_key k key) entries)) row) (pos 1) (pos 0)) (pos 0)) (absent_elsewhere k key row entries d);
   }
 
--- lists with the same elements pass a test alike
+-- a test by `list_any` gives the same for lists with the same elements
 any_same : (test : List ℤ → Bool) (xs ys : List (List ℤ)) → ((row : List ℤ) → Among row xs → Among row ys) → ((row : List ℤ) → Among row ys → Among row xs) → list_any test xs ≡ list_any test ys
 any_same test xs ys h k = same_from_decides (list_any test xs) (list_any test ys) (carry xs ys h, carry ys xs k) (λ e. e, λ e. e)
   where
@@ -148,7 +148,7 @@ min_reduces = kept_reduces (λ rows row. not (list_any (λ other. is_before othe
 max_reduces : (k : ℕ) → IsReducer k (reduction_answer Max)
 max_reduces = kept_reduces (λ rows row. not (list_any (λ other. is_before row other) rows)) (λ xs ys h i row. ap not (any_same (λ other. is_before row other) xs ys h i))
 
--- count, distinct, min and max have the laws of a reducer
+-- count, distinct, min and max satisfy the laws of a reducer
 pub all_reduce : (kind : Kind) (k : ℕ) → IsReducer k (reduction_answer kind)
 all_reduce Count k = count_reduces k
 all_reduce Distinct k = distinct_reduces k

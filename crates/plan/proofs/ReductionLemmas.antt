@@ -1,4 +1,5 @@
--- A reduction by key: of what it answers for all keys, a row counts as in the answer for its own key.
+-- A reduction by key: in the answers for all keys together, a row has the count that it has in the answer for its own
+-- key.
 use Rattle.std.proofs.Common.{◌≡◌, ℕ, ◌<◌, ◌≤◌, Bool, true, false, cond, not, ◌||◌, List, [], ◌∷◌, map, take, take_all, length, refl, ap, sym, ◌∙◌, inl, inr, ⊎_elim, arith}
 use Rattle.std.specs.Prelude.{ℤ, pos, ◌+ℤ◌, nat_le}
 use Rattle.std.specs.List.{filter, list_any}
@@ -15,7 +16,7 @@ use Rattle.plan.proofs.CountLemmas.{row_same, row_itself, total_by-flat_map}
 -- ---- lists
 
 module _ {X : Type 0} (test : X → Bool) where
-  -- a test that some element passes, and an element that passes it
+  -- if `list_any` holds, then some element passes the test
   pub any_has : (xs : List X) → list_any test xs ≡ true → (x : X) × Among x xs × (test x ≡ true)
   any_has [] h = absurd (true≢false (sym h))
   any_has (x ∷ xs) h =
@@ -24,7 +25,7 @@ module _ {X : Type 0} (test : X → Bool) where
         | false ↦ λ e k. let r = any_has xs k in (r.0, inr r.1, r.2)
       ] refl h
 
-  -- one element that passes is enough
+  -- if an element passes the test, then `list_any` holds
   pub any_at : (xs : List X) (x : X) → Among x xs → test x ≡ true → list_any test xs ≡ true
   any_at [] x m h = absurd m
   any_at (y ∷ xs) x m h =
@@ -33,18 +34,18 @@ module _ {X : Type 0} (test : X → Bool) where
       (λ n. or_right (test y) (list_any test xs) (any_at xs x n h))
       m
 
-  -- if none passes, not any does
+  -- if no element passes the test, then `list_any` does not hold
   pub any_none : (xs : List X) → ((x : X) → Among x xs → test x ≡ false) → list_any test xs ≡ false
   any_none [] h = refl
   any_none (x ∷ xs) h = rw (h x (inl refl)) (any_none xs (λ y m. h y (inr m)))
 
--- rows that differ one way differ the other way
+-- comparing rows is symmetric: rows that differ one way round differ the other way round
 pub row_differs : (row other : List ℤ) → same_row row other ≡ false → same_row other row ≡ false
 row_differs row other h = false_from_ne_true (same_row other row) (λ e. true≢false (sym (ap (same_row row) (row_same other row e) ∙ row_itself row) ∙ h))
 
 -- ---- each row once
 
--- listing each once adds nothing
+-- listing each row once adds no rows
 pub each_once_among : (rows : List (List ℤ)) (row : List ℤ) → Among row (each_once rows) → Among row rows
 each_once_among [] row m = absurd m
 each_once_among (first ∷ rows) row m =
@@ -53,7 +54,8 @@ each_once_among (first ∷ rows) row m =
     (λ n. inr (each_once_among rows row (filter_has (λ other. not (same_row other first)) (each_once rows) row n).0))
     m
 
--- where only one row has a value, the values of rows that stand once each come to that one, if it is among them
+-- if only one row has a value other than 0, then the total over rows without repetitions is that row's value, or 0 if
+-- it is not among them
 pub total_by-once : (f : List ℤ → ℤ) (key : List ℤ) (rows : List (List ℤ)) → ((row : List ℤ) → Among row rows → same_row row key ≡ false → f row ≡ pos 0) → total_by f (each_once rows) ≡ cond (list_any (λ row. same_row row key) rows) (f key) (pos 0)
 total_by-once f key [] z = refl
 total_by-once f key (first ∷ rows) z =
@@ -80,7 +82,7 @@ total_by-once f key (first ∷ rows) z =
 
 -- ---- keys
 
--- the rows' keys, as often as there are rows
+-- the keys of the rows, with repetitions
 abbrev key_rows : ℕ → List Entry → List (List ℤ)
 key_rows k entries = map (λ e. take k e.row) (filter (λ e. nat_le k (length e.row)) entries)
 
@@ -111,7 +113,7 @@ module _ (k : ℕ) where
       step true i g ih = let parts = or_parts (same_row (take k e.row) key) (list_any (λ row. same_row row key) (key_rows k entries)) g in rw (parts.0) (ih parts.1)
       step false i g ih = rw (false_from_ne_true (same_row (take k e.row) key) (too_short (leb-false k (length e.row) i))) (ih g)
 
-  -- a row that has no key of k columns is in no answer; another counts as in the answer for its key
+  -- a row with a key of k columns has the count that it has in the answer for its key; a shorter row is in no answer
   pub by_key_at : (reduce : List ℤ → List Entry → List Entry) → IsReducer k reduce → (entries : List Entry) (row : List ℤ)
       → count_of (reduction_output k reduce entries) row ≡ cond (nat_le k (length row)) (count_of (reduce (take k row) (filter (has_key k (take k row)) entries)) row) (pos 0)
   by_key_at reduce q entries row =
@@ -136,7 +138,7 @@ module _ (k : ℕ) where
       step true h = found (length-take-le k row (leb-true k (length row) h)) (list_any (λ key. same_row key (take k row)) (key_rows k entries)) refl
       step false h = ap (λ b. cond b (answer (take k row)) (pos 0)) (any_none (λ key. same_row key (take k row)) (key_rows k entries) (λ key m. false_from_ne_true (same_row key (take k row)) (unmet (leb-false k (length row) h) key m)))
 
--- where a row has a key of k columns, only the rows of that key matter
+-- for a row with a key of k columns, only the rows of that key matter
 pub by_key : (k : ℕ) (reduce : List ℤ → List Entry → List Entry) → IsReducer k reduce → (entries : List Entry) (row : List ℤ) → k ≤ length row
     → count_of (reduction_output k reduce entries) row ≡ count_of (reduce (take k row) (filter (has_key k (take k row)) entries)) row
 by_key k reduce q entries row h = by_key_at k reduce q entries row ∙ ap (λ b. cond b (count_of (reduce (take k row) (filter (has_key k (take k row)) entries)) row) (pos 0)) (le-leb k (length row) h)

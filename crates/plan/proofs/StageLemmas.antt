@@ -1,4 +1,4 @@
--- A plan's nodes with their widths, and one node more.
+-- The stored form of a plan, when one more node is added.
 use Rattle.std.proofs.Common.{◌≡◌, ℕ, Some, None, List, [], ◌∷◌, ◌++◌, length, slice_get, get_or, ap, sym, ◌∙◌, subst, ⊎_elim, arith}
 use Rattle.std.proofs.lemmas.List.{length-map, map-append, length-append, get_or_append_left}
 use Rattle.std.proofs.lemmas.Option.{slice_get_within, slice_get-get_or, get_or_from_slice_get}
@@ -10,13 +10,13 @@ use Rattle.plan.specs.Rules.{IsPlan, node_refusal}
 use Rattle.plan.specs.Stages.{AreStages, nodes_of}
 use Rattle.plan.specs.declared.node.Node.{Node}
 use Rattle.plan.specs.declared.plan.Stage.{Stage}
-use Rattle.plan.proofs.PlanLemmas.{plan_with}
+use Rattle.plan.proofs.PlanLemmas.{accepted_extends_plan}
 use Rattle.plan.proofs.StepLemmas.{width_with, width_before_more}
 
--- an accepted node with its width keeps the stages
+-- adding an accepted node with its width keeps the invariant of the stages
 pub stages_with : (stages : List Stage) (stage : Stage) → AreStages stages → node_refusal (nodes_of stages) stage.node ≡ None → stage.width ≡ width_from (key_width (nodes_of stages) stage.node) stage.node (width_of (nodes_of stages)) → AreStages (stages ++ stage ∷ [])
 stages_with stages stage kept accepted wide = record {
-  plan = subst IsPlan (sym nodes) (plan_with p stage.node kept.plan accepted);
+  plan = subst IsPlan (sym nodes) (accepted_extends_plan p stage.node kept.plan accepted);
   widths = λ n other e. subst (λ q. other.width ≡ width_of q n) (sym nodes) (width_at n other e);
 }
   where

@@ -1,4 +1,4 @@
--- A plan's nodes have no fault by the whole plan, and rows of 1 to 8 columns.
+-- A plan's nodes have no fault by the widths of the whole plan, and have rows of 1 to 8 columns.
 use Rattle.std.proofs.Common.{◌≡◌, ℕ, ◌+◌, ◌-◌, ◌<◌, not, ◌&&◌, eqb, nat_le, is_some, unwrap_or, IsTrue, Some, None, List, [], ◌∷◌, take, drop, length, slice_get, refl, ap, sym, ◌∙◌, arith}
 use Rattle.std.proofs.lemmas.List.{length-take-le, take-append-drop}
 use Rattle.row.specs.Projection.{are_within}
@@ -13,7 +13,7 @@ use Rattle.plan.proofs.UpwardLemmas.{by_smaller}
 use Rattle.plan.proofs.PlanLemmas.{plan_take, node_in_take, source_smaller, no_first, no_fault, unrefused}
 use Rattle.plan.proofs.StepLemmas.{width_by_sources, width_before_more}
 
--- lists in which the sources of a node have the same widths and are the same nodes find the same faults
+-- two lists find the same faults of a node if its sources are the same nodes with the same widths in both
 pub faults_same : (p q : List Node) (node : Node)
     → ((port s : ℕ) → slice_get (sources node) port ≡ Some s → (width_of p s ≡ width_of q s) × (node_at p s ≡ node_at q s))
     → node_faults p node ≡ node_faults q node
@@ -42,7 +42,7 @@ faults_same p q (Reduce kind source) h =
 faults_same p q node h = refl
 
 module _ (p : List Node) (plan : IsPlan p) where
-  -- the nodes before a node have the widths that they have in the plan
+  -- the first k nodes of a plan have the widths that they have in the plan
   pub width_in_take : (k n : ℕ) → k < length p → n < k → width_of (take k p) n ≡ width_of p n
   width_in_take k n l j =
       sym (width_before_more (take k p) (drop k p) (plan_take p k plan) n (let s = length-take-le k p (omega arith) in omega arith))
@@ -54,7 +54,7 @@ module _ (p : List Node) (plan : IsPlan p) where
       ap first_refusal (sym (faults_same (take n p) p (node_at p n) (λ port s e. let j = source_smaller p plan n port s e in (width_in_take n s l j, node_in_take p n s (omega arith) j))))
       ∙ (unrefused (take n p) (node_at p n) (plan n l)).2
 
-  -- a node without faults, whose sources have widths of 1 to 8, has such a width
+  -- a node without faults has 1 to 8 columns if its sources do
   within_bounds : (node : Node) → first_refusal (node_faults p node) ≡ None → ((port s : ℕ) → slice_get (sources node) port ≡ Some s → IsTrue (is_width (width_of p s))) → IsTrue (is_width (width_from (key_width p node) node (width_of p)))
   within_bounds (Input width) h w = no_fault (is_width width) (no_first (not (is_width width)) BadWidth [] h).0
   within_bounds (Map source items) h w = no_fault (is_width (length items)) (no_first (not (is_width (length items))) BadWidth ((not (are_within items (width_of p source)), BadColumn) ∷ []) h).0

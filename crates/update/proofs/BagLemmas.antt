@@ -1,4 +1,4 @@
--- Bags: where a consolidated list is one, what a row counts in it, and that the counts determine it.
+-- Bags: when a consolidated list is one, which count a row has in it, and that a bag is determined by its counts.
 use Rattle.std.proofs.Common.{◌≡◌, ◌≢◌, ℕ, zero, suc, ◌+◌, ◌<◌, ◌≤◌, Bool, true, false, cond, List, [], ◌∷◌, map, length, get_or, ℤ, pos, ◌+ℤ◌, refl, sym, ◌∙◌, ap, take, take_all, ltb, add-one, arith}
 use Rattle.std.proofs.lemmas.Int.{ints}
 use Rattle.std.proofs.lemmas.List.{get_or-map, length-map}
@@ -55,7 +55,7 @@ rows_total = lists_total int_cmp_total
 same_row_is : (r s : List ℤ) → same_row r s ≡ is_eq (by_columns r s)
 same_row_is r s = lists_ties int_cmp (λ x y. refl) r s
 
--- rows that compare equal are equal
+-- rows that compare as equal are equal
 pub equal_rows : (r s : List ℤ) → by_columns r s ≡ Equal → r ≡ s
 equal_rows r s e = (signed_items r s).0 (same_row_is r s ∙ ap is_eq e)
 
@@ -76,7 +76,7 @@ greater_differ r s e = same_row_is r s ∙ ap is_eq e
 counted : (b : Bool) (c n : ℤ) → b ≡ false → n ≡ pos 0 → (cond b c (pos 0) +ℤ n) ≡ pos 0
 counted b c n e f = rw (e, f) refl
 
--- a row that no entry has counts 0
+-- a row that no entry has has count 0
 pub count_absent : (entries : List Entry) (row : List ℤ) → AllByRecursion (λ e. same_row e.row row ≡ false) entries → count_of entries row ≡ pos 0
 count_absent [] row a = refl
 count_absent (e ∷ entries) row a = counted _ e.count _ a.0 (count_absent entries row a.1)
@@ -98,7 +98,7 @@ count_first e entries a =
     here _ e.count _ (same_itself e.row)
     (count_absent entries e.row (all_more (λ y. by_row e y ≡ Less) (λ y. same_row y.row e.row ≡ false) (λ y l. less_differ_back e.row y.row l) entries a))
 
--- in a bag a row counts what its entry says
+-- the count of a row in a bag is the count of its one entry
 pub count_at : (entries : List Entry) (i : ℕ) (d : Entry) → i < length entries → IsStrictlySortedBy by_row entries → count_of entries (get_or entries i d).row ≡ (get_or entries i d).count
 unfolding IsStrictlySortedBy
 count_at [] i d h s = absurd (omega (arith, h))
@@ -107,9 +107,9 @@ count_at (e ∷ entries) (suc i) d h s =
     let l : i < length entries = omega (arith, h) in
     there _ e.count _ _ (less_differ e.row (get_or entries i d).row (all_at (λ y. by_row e y ≡ Less) entries i d l s.0)) (count_at entries i d l s.1)
 
--- ---- consolidated lists at one moment
+-- ---- consolidated lists at the one time
 
--- consolidated updates of one time are a bag
+-- a consolidated list of updates at the one time is a bag
 pub bag_from_consolidated : {T : Type 0} (us : List (Update T)) → IsConsolidated (λ _ _. Equal) us → IsBag (map entry us)
 bag_from_consolidated us h = record {
   ascending = sorted_map by_row entry us h.ascending;
@@ -121,7 +121,7 @@ bag_from_consolidated us h = record {
 cancel : (a b m n : ℤ) → a ≡ b → (a +ℤ m) ≡ (b +ℤ n) → m ≡ n
 cancel a b m n e f = omega (arith, ints, e, f)
 
--- a row before all of a bag's counts 0 in it
+-- a row before all rows of a bag has count 0 in it
 count_before : (row : List ℤ) (y : Entry) (ys : List Entry) → by_columns row y.row ≡ Less → AllByRecursion (λ z. by_row y z ≡ Less) ys → count_of (y ∷ ys) row ≡ pos 0
 count_before row y ys e a =
     count_absent (y ∷ ys) row (
@@ -156,11 +156,11 @@ bag_by_counts (x ∷ xs) (y ∷ ys) s n t m alike =
           absurd (m.0 (sym (count_first y ys t.0) ∙ sym (alike y.row) ∙ count_before y.row x xs less s.0))
     ] refl
 
--- a bag is determined by what its rows count
+-- a bag is determined by its counts
 pub bags_by_counts : (a b : List Entry) → IsBag a → IsBag b → Alike a b → a ≡ b
 bags_by_counts a b g h alike = bag_by_counts a b g.ascending g.nonzero h.ascending h.nonzero alike
 
--- ---- what a search finds
+-- ---- the result of a search
 
 later : (r s : List ℤ) → by_columns r s ≡ Less → is_lt (by_columns s r) ≡ false
 later r s e = ap is_lt (rows_total.antisymm s r ∙ ap ordering_reverse e)
@@ -175,7 +175,7 @@ module _ {T : Type 0} where
       let h : k + 1 < length (v ∷ us) = omega (arith, l) in
       rw add-one (rw add-one at (rows_rise (v ∷ us) s.1 k d h))
 
-  -- where the search finds the row, there is its count
+  -- if the search finds the row, then the entry found has its count
   pub count_found : (us : List (Update T)) (i : ℕ) (row : List ℤ) (d : Update T) → i < length us → IsBag (map entry us) → by_columns (get_or us i d).row row ≡ Equal → (get_or us i d).diff ≡ count_of (map entry us) row
   count_found us i row d l bag e =
       let at : get_or (map entry us) i (entry d) ≡ entry (get_or us i d) = get_or-map entry us i d (entry d) l in
@@ -183,7 +183,7 @@ module _ {T : Type 0} where
       let counts = count_at (map entry us) i (entry d) there bag.ascending in
       sym (rw (at, equal_rows (get_or us i d).row row e) at counts)
 
-  -- where the search finds no row, it counts 0
+  -- if the search does not find the row, then its count is 0
   pub count_missing : (us : List (Update T)) (i : ℕ) (row : List ℤ) → IsBag (map entry us) → (IsNonDecreasingBy (λ u. ordering_index (by_columns u.row row)) us → IsPartitionPoint (λ u. by_columns u.row row ≡ Less) (λ u. by_columns u.row row ≡ Greater) us i) → pos 0 ≡ count_of (map entry us) row
   count_missing us i row bag parted =
       let point = parted (searchable_from_sorted rows_total (λ u. u.row) us row (λ k d z l. rows_rise us bag.ascending k d l)) in
@@ -196,7 +196,7 @@ module _ {T : Type 0} where
             | false ↦ λ e. greater_differ _ row (point.1 k d (ltb-false k i e) l)
           ] refl
 
-  -- ---- equality and text, by the updates
+  -- ---- equality and text, from the stored updates
 
   -- bags are compared entry by entry
   pub same_by_items : (us vs ls rs : List (Update T)) (xs ys : List Entry) → ls ≡ us → rs ≡ vs → map entry us ≡ xs → map entry vs ≡ ys → pointwise (λ u v. same_entry (entry u) (entry v)) ls rs ≡ same_bag xs ys

@@ -1,4 +1,4 @@
--- What is left of a list that was sorted and gathered, in terms of the list as it came.
+-- The result of sorting a list and gathering its groups, compared with the list itself.
 use Rattle.std.proofs.Common.{◌≡◌, ℕ, suc, ◌+◌, ◌≤◌, ◌<◌, Bool, true, false, cond, ◌&&◌, List, [], ◌∷◌, ◌++◌, IsTrue, length, get_or, ℤ, pos, ◌+ℤ◌, refl, sym, ◌∙◌, subst, arith, w64}
 use Rattle.std.specs.Prelude.{FitsSigned, unsigned_abs}
 use Rattle.std.specs.List.{AllByRecursion, list_all}
@@ -48,7 +48,7 @@ module _ {T : Type 0} {cmp : T → T → Ordering} (total : IsTotalOrder cmp) wh
   by_two_total : IsTotalOrder (by_time_then_row cmp)
   by_two_total = then_total (on_total (λ u. u.time) total) (on_total (λ u. u.row) (lists_total int_cmp_total))
 
-  -- what sorting leaves in order is in order of time, then row
+  -- two updates that are sorted are in order of time, then row
   in_order : (u v : Update T) → is_lt (by_all cmp v u) ≡ false → is_gt (by_time_then_row cmp u v) ≡ false
   in_order u v h =
       not_gt (by_time_then_row cmp v u) (by_time_then_row cmp u v) (by_two_total.antisymm v u)
@@ -61,21 +61,22 @@ module _ {T : Type 0} {cmp : T → T → Ordering} (total : IsTotalOrder cmp) wh
     ascends_by us (λ i j d l m. h (suc i) (suc j) d (omega (arith, l)) (omega (arith, m))),
   )
 
+  -- a sorted list ascends by time and row
   pub ascends_sorted : (xs : List (Update T)) → IsSortedBy (λ x y. is_lt (by_all cmp x y)) xs → Ascends total xs
   ascends_sorted xs s =
       ascends_by xs (λ i j d l m. in_order (get_or xs i d) (get_or xs j d)
       (sorted_far (λ x y. is_lt (by_all cmp x y)) (ranks_by by_all_total (λ u. u)) xs s i j d (omega (arith, l)) m))
 
--- the size as a recursion
+-- the size, by recursion
 abbrev pub summed_size : {T : Type 0} → List (Update T) → ℕ
 summed_size [] = 0
 summed_size (u ∷ us) = unsigned_abs u.diff + summed_size us
 
--- the size of a list, by recursion, for sums over it
+-- the size by recursion is the size; sums over lists use the recursion
 pub summed_size_is : {T : Type 0} (us : List (Update T)) → summed_size us ≡ size us
 summed_size_is us = is_sum_by summed_size (λ u. unsigned_abs u.diff) refl (λ _ _. refl) us
 
--- sizes of two lists add up
+-- the size of two lists together is the sum of their sizes
 pub summed_size-append : {T : Type 0} (us vs : List (Update T)) → summed_size (us ++ vs) ≡ summed_size us + summed_size vs
 summed_size-append [] vs = omega arith
 summed_size-append (u ∷ us) vs = let h = summed_size-append us vs in omega (arith, h)
@@ -108,7 +109,7 @@ module _ {T : Type 0} {cmp : T → T → Ordering} (total : IsTotalOrder cmp) (e
   from_consolidated [] a = tt
   from_consolidated (u ∷ us) a = left_sorted total u u.diff us a
 
-  -- what consolidation leaves is consolidated
+  -- the result is consolidated
   pub gathered_consolidated : (xs : List (Update T)) → IsSortedBy (λ x y. is_lt (by_all cmp x y)) xs → IsConsolidated cmp (group_sums (groups_from cmp xs))
   gathered_consolidated xs s = record {
     ascending = from_consolidated xs (ascends_sorted total xs s);
@@ -119,7 +120,7 @@ module _ {T : Type 0} {cmp : T → T → Ordering} (total : IsTotalOrder cmp) (e
   from_total p [] = refl
   from_total p (u ∷ us) = left_total exact p u u.diff us
 
-  -- consolidation changes no total
+  -- the result has the same totals
   pub gathered_total : (p : List ℤ → T → Bool) (us xs : List (Update T)) → IsPermutation us xs → total_where p (group_sums (groups_from cmp xs)) ≡ total_where p us
   gathered_total p us xs q = from_total p xs ∙ sym (total_by-permutation (λ u. cond (p u.row u.time) u.diff (pos 0)) us xs q)
 
@@ -127,7 +128,7 @@ module _ {T : Type 0} {cmp : T → T → Ordering} (total : IsTotalOrder cmp) (e
   from_all P keeps [] a = tt
   from_all P keeps (u ∷ us) a = left_all total P keeps u u.diff us a.0 a.1
 
-  -- it adds no update that was not like one there
+  -- a test of row and time that all updates pass is passed by the result
   pub gathered_among : (p : List ℤ → T → Bool) (us xs : List (Update T)) → IsPermutation us xs → IsTrue (list_all (λ u. p u.row u.time) us) → IsTrue (list_all (λ u. p u.row u.time) (group_sums (groups_from cmp xs)))
   gathered_among p us xs q a =
       let test = λ (u : Update T). p u.row u.time in
@@ -140,7 +141,7 @@ module _ {T : Type 0} {cmp : T → T → Ordering} (total : IsTotalOrder cmp) (e
   from_size [] = omega arith
   from_size (u ∷ us) = summed_size_left cmp u u.diff us
 
-  -- it makes no list larger
+  -- the result is no larger than the list
   pub gathered_size : (us xs : List (Update T)) → IsPermutation us xs → size (group_sums (groups_from cmp xs)) ≤ size us
   gathered_size us xs q =
       let less = from_size xs in
@@ -150,7 +151,7 @@ module _ {T : Type 0} {cmp : T → T → Ordering} (total : IsTotalOrder cmp) (e
       omega (arith, less, left, here, same)
 
 module _ {T : Type 0} {below : T → T → Bool} {cmp : T → T → Ordering} (o : PartialOrderLaws below) (total : IsTotalOrder cmp) (exact : (s t : T) → cmp s t ≡ Equal → s ≡ t) where
-  -- it changes no sum at a time
+  -- the result has the same sum at every time
   pub gathered_sum : (t : T) (us xs : List (Update T)) → IsPermutation us xs → Alike (as_of below t (group_sums (groups_from cmp xs))) (as_of below t us)
   gathered_sum t us xs q row =
       count_as_of below row t (group_sums (groups_from cmp xs))
@@ -168,12 +169,12 @@ module _ {T : Type 0} {below : T → T → Bool} {cmp : T → T → Ordering} (o
   from_large [] a f = absurd (f tt)
   from_large (u ∷ us) a f = some_large o total exact u u.diff us a f
 
-  -- if each group fits, no total is too large
+  -- if each group's total fits in 64 bits, then so does every total
   pub gathered_fit : (us xs : List (Update T)) → IsPermutation us xs → IsSortedBy (λ x y. is_lt (by_all cmp x y)) xs → AllFit (groups_from cmp xs) → HasLargeTotal below us → ⊥
   gathered_fit us xs q s f large =
       large.2 (subst (FitsSigned w64) (sym (same_total_at large.0 large.1 us xs q)) (from_fit xs (ascends_sorted total xs s) f large.0 large.1))
 
-  -- if a group does not fit, some total is too large
+  -- if a group's total does not fit in 64 bits, then some total does not
   pub gathered_large : (us xs : List (Update T)) → IsPermutation us xs → IsSortedBy (λ x y. is_lt (by_all cmp x y)) xs → (AllFit (groups_from cmp xs) → ⊥) → HasLargeTotal below us
   gathered_large us xs q s f =
       let r = from_large xs (ascends_sorted total xs s) f in

@@ -1,4 +1,4 @@
--- What gathering the runs of a sorted list leaves.
+-- The group sums of a sorted list: they are sorted, none has difference 0, and the totals stay.
 use Rattle.std.proofs.Common.{◌≡◌, ◌≢◌, Bool, true, false, cond, ◌&&◌, List, [], ◌∷◌, ◌++◌, ℤ, pos, ◌+ℤ◌, refl, sym, ◌∙◌, ap, ◌⊎◌, inl, inr, ⊎_elim, arith}
 use Rattle.std.specs.Prelude.{⊤}
 use Rattle.std.specs.List.{AllByRecursion}
@@ -34,7 +34,7 @@ equal_from Less e = absurd (true≢false (sym e))
 equal_from Equal e = refl
 equal_from Greater e = absurd (true≢false (sym e))
 
--- a time at most as late is the same or earlier
+-- a comparison that is not greater is less or equal
 upto_cases : (a : Ordering) → is_gt a ≡ false → (a ≡ Less) ⊎ (a ≡ Equal)
 upto_cases Less g = inl refl
 upto_cases Equal g = inr refl
@@ -57,15 +57,15 @@ module _ {T : Type 0} {cmp : T → T → Ordering} (total : IsTotalOrder cmp) wh
       ap (λ b. is_eq (cmp u.time v.time) && b) (lists_ties int_cmp (λ x y. refl) u.row v.row)
       ∙ sym (both_equal (cmp u.time v.time) (slice_cmp int_cmp u.row v.row))
 
-  -- none comes before u
+  -- no update of the list comes before u
   abbrev pub AllFrom : Update T → List (Update T) → Type 0
   AllFrom u us = AllByRecursion (λ v. is_gt (order u v) ≡ false) us
 
-  -- all come after u
+  -- all updates of the list come after u
   abbrev pub AllAfter : Update T → List (Update T) → Type 0
   AllAfter u us = AllByRecursion (λ v. order u v ≡ Less) us
 
-  -- the updates are in order, and equal ones may follow one another
+  -- the list is sorted; updates of one row and time may follow one another
   abbrev pub Ascends : List (Update T) → Type 0
   Ascends [] = ⊤
   Ascends (u ∷ us) = AllFrom u us × Ascends us
@@ -81,13 +81,13 @@ module _ {T : Type 0} {cmp : T → T → Ordering} (total : IsTotalOrder cmp) wh
   after_all u v [] l a = tt
   after_all u v (w ∷ ws) l a = (before_then_upto u v w l a.0, after_all u v ws l a.1)
 
-  -- where the next one is not the same, all that are to come are after
+  -- if the next update is of another group, then all later updates come after u
   pub rest_after : (u v : Update T) (vs : List (Update T)) → Ascends (u ∷ (v ∷ vs)) → is_same cmp u v ≡ false → AllAfter u (v ∷ vs)
   rest_after u v vs a h =
       let l = less_from (order u v) a.0.0 (sym (same_is_tied u v) ∙ h) in
       (l, after_all u v vs l a.1.0)
 
-  -- what holds of all updates, whatever their diffs, holds of those that are left
+  -- a property that does not depend on the diff holds of the group sum if it holds of the group's first update
   settled_all : (P : Update T → Type 0) → ((u : Update T) (n : ℤ) → P u → P (record u { diff = n })) → (u : Update T) (n : ℤ) → P u → AllByRecursion P (group_sum u n)
   settled_all P keeps u n p =
       elim (int_eq n (pos 0)) as (λ b. AllByRecursion P (cond b [] (record u { diff = n } ∷ []))) [
@@ -95,7 +95,7 @@ module _ {T : Type 0} {cmp : T → T → Ordering} (total : IsTotalOrder cmp) wh
         | false ↦ (keeps u n p, tt)
       ]
 
-  -- what holds of all updates, whatever their difference, holds of what is left
+  -- a property that does not depend on the diff holds of all group sums if it holds of all updates
   pub left_all : (P : Update T → Type 0) → ((u : Update T) (n : ℤ) → P u → P (record u { diff = n })) → (u : Update T) (n : ℤ) (vs : List (Update T)) → P u → AllByRecursion P vs → AllByRecursion P (group_sums (groups_of cmp u n vs))
   left_all P keeps u n [] p a = all_append P (group_sum u n) [] (settled_all P keeps u n p) tt
   left_all P keeps u n (v ∷ vs) p a =
@@ -104,7 +104,7 @@ module _ {T : Type 0} {cmp : T → T → Ordering} (total : IsTotalOrder cmp) wh
         | false ↦ all_append P (group_sum u n) (group_sums (groups_of cmp v v.diff vs)) (settled_all P keeps u n p) (left_all P keeps v v.diff vs a.0 a.1)
       ]
 
-  -- a list in order stays so without its second element
+  -- a sorted list stays sorted without its second element
   pub skip_second : (u v : Update T) (vs : List (Update T)) → Ascends (u ∷ (v ∷ vs)) → Ascends (u ∷ vs)
   skip_second u v vs a = (a.0.1, a.1.1)
 
@@ -120,7 +120,7 @@ module _ {T : Type 0} {cmp : T → T → Ordering} (total : IsTotalOrder cmp) wh
   unfolding IsStrictlySortedBy
   sorted_none = tt
 
-  -- what is left is in order, each row and time once
+  -- the group sums are strictly sorted, so each row and time occurs once
   pub left_sorted : (u : Update T) (n : ℤ) (vs : List (Update T)) → Ascends (u ∷ vs) → IsStrictlySortedBy order (group_sums (groups_of cmp u n vs))
   left_sorted u n [] a = sorted_join u n [] tt sorted_none
   left_sorted u n (v ∷ vs) a =
@@ -133,7 +133,7 @@ module _ {T : Type 0} {cmp : T → T → Ordering} (total : IsTotalOrder cmp) wh
             (left_sorted v v.diff vs a.1)
       ] refl
 
--- what is left counts
+-- group sums have a difference
 int_tied : (n : ℤ) → n ≡ pos 0 → int_eq n (pos 0) ≡ true
 int_tied n e = rw e refl
 
@@ -144,12 +144,12 @@ settled_nonzero u n =
       | false ↦ λ e. ((λ z. true≢false (sym (int_tied n z) ∙ e)), tt)
     ] refl
 
--- no difference of 0 is left
+-- no group sum has difference 0
 pub left_nonzero : {T : Type 0} (rs : List (Group T)) → AllByRecursion (λ w. w.diff ≢ pos 0) (group_sums rs)
 left_nonzero [] = tt
 left_nonzero (r ∷ rs) = all_append (λ w. w.diff ≢ pos 0) (group_sum r.first r.total) (group_sums rs) (settled_nonzero r.first r.total) (left_nonzero rs)
 
--- totals of tests of row and time stay
+-- the totals stay
 module _ {T : Type 0} {cmp : T → T → Ordering} (exact : (s t : T) → cmp s t ≡ Equal → s ≡ t) where
   -- updates of one group pass the same tests
   pub same_passes : (p : List ℤ → T → Bool) (u v : Update T) → is_same cmp u v ≡ true → p u.row u.time ≡ p v.row v.time
@@ -170,12 +170,12 @@ module _ {T : Type 0} {cmp : T → T → Ordering} (exact : (s t : T) → cmp s 
       nothing true n e = sym e
       nothing false n e = refl
 
-  -- arithmetic of one more update in the total of a group
+  -- arithmetic: one more update in the total of a group
   pub more_of : (b c : Bool) (n d r : ℤ) → b ≡ c → cond b (n +ℤ d) (pos 0) +ℤ r ≡ cond b n (pos 0) +ℤ (cond c d (pos 0) +ℤ r)
   more_of b true n d r e = rw e (omega (arith, ints))
   more_of b false n d r e = rw e (omega (arith, ints))
 
-  -- what is left has the totals of the list
+  -- the group sums have the totals of the list
   pub left_total : (p : List ℤ → T → Bool) (u : Update T) (n : ℤ) (vs : List (Update T)) → total_where p (group_sums (groups_of cmp u n vs)) ≡ cond (p u.row u.time) n (pos 0) +ℤ total_where p vs
   left_total p u n [] = total_by-append (λ w. cond (p w.row w.time) w.diff (pos 0)) (group_sum u n) [] ∙ ap (λ x. x +ℤ pos 0) (total_settled p u n)
   left_total p u n (v ∷ vs) =

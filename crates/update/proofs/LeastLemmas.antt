@@ -48,7 +48,8 @@ module _ {T : Type 0} where
       omega arith
 
 module _ {T : Type 0} {below : T → T → Bool} {cmp : T → T → Ordering} (o : PartialOrderLaws below) (total : IsTotalOrder cmp) where
-  -- a list that comes, at the row and time of each of some updates in order, to that update's diff, is no smaller than these
+  -- if the second list has at the row and time of each update of the sorted first list that update's diff as its total,
+  -- then it is no smaller than the first list
   covers : (us vs : List (Update T)) → IsStrictlySortedBy (by_time_then_row cmp) us → ((u : Update T) → Among u us → total_at below u.row u.time vs ≡ u.diff) → summed_size us ≤ summed_size vs
   covers [] vs s h = omega arith
   covers (u ∷ us) vs s h =
@@ -68,7 +69,7 @@ module _ {T : Type 0} {below : T → T → Bool} {cmp : T → T → Ordering} (o
           total_where-filter (λ r t. same_row r w.row && ties below t w.time) (λ v. not (meets below u v)) vs (λ v. apart w v m)
           ∙ h w (inr m)
 
-  -- among the times of a set, a consolidated list is no larger than any with its sums
+  -- at the times of the set, a consolidated list is no larger than any list with its sums
   pub least_size : (among : T → Bool) (us vs : List (Update T)) → ((s t : T) → IsTrue (below s t) → IsTrue (among t) → IsTrue (among s)) → ((t : T) → IsTrue (among t) → Alike (as_of below t us) (as_of below t vs)) → IsConsolidated cmp us → size (filter (λ u. among u.time) us) ≤ size (filter (λ u. among u.time) vs)
   least_size among us vs down same a =
       let ordered = IsStrictlySortedBy-filter (by_time_then_row cmp) (λ u. among u.time) us a.ascending in

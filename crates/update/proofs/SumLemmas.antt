@@ -1,4 +1,4 @@
--- Sums of a list's values.
+-- Totals of the values of a list's elements: how they go through addition, append, map, filter and reordering.
 use Rattle.std.proofs.Common.{◌≡◌, ℕ, suc, ◌+◌, Bool, true, false, cond, not, ◌&&◌, List, [], ◌∷◌, ◌++◌, map, IsTrue, refl, ap, sym, ◌∙◌, inl, inr, arith}
 use Rattle.std.specs.Prelude.{ℤ, pos, negsuc, ◌+ℤ◌, ◌-ℤ◌}
 use Rattle.std.specs.List.{filter}
@@ -26,7 +26,7 @@ module _ {X : Type 0} where
   pub total_by-same : (f g : X → ℤ) (xs : List X) → ((x : X) → f x ≡ g x) → total_by f xs ≡ total_by g xs
   total_by-same f g xs h = total_by-same_at f g xs (λ x m. h x)
 
-  -- nothing adds to 0
+  -- values that are all 0 add up to 0
   pub total_by-zero : (f : X → ℤ) (xs : List X) → ((x : X) → Among x xs → f x ≡ pos 0) → total_by f xs ≡ pos 0
   total_by-zero f [] h = refl
   total_by-zero f (x ∷ xs) h =
@@ -34,27 +34,27 @@ module _ {X : Type 0} where
       let rest = total_by-zero f xs (λ y m. h y (inr m)) in
       λ i. first i +ℤ rest i
 
-  -- totals go through addition
+  -- the total of sums is the sum of the totals
   pub total_by-add : (f g : X → ℤ) (xs : List X) → total_by (λ x. f x +ℤ g x) xs ≡ total_by f xs +ℤ total_by g xs
   total_by-add f g [] = refl
   total_by-add f g (x ∷ xs) = let h = total_by-add f g xs in omega (arith, ints)
 
-  -- totals go through negation
+  -- the total of negated values is the negated total
   pub total_by-negate : (f : X → ℤ) (xs : List X) → total_by (λ x. neg_ℤ (f x)) xs ≡ neg_ℤ (total_by f xs)
   total_by-negate f [] = refl
   total_by-negate f (x ∷ xs) = let h = total_by-negate f xs in omega (arith, ints)
 
-  -- totals go through lists piece by piece
+  -- the total over two lists together is the sum of both totals
   pub total_by-append : (f : X → ℤ) (xs ys : List X) → total_by f (xs ++ ys) ≡ total_by f xs +ℤ total_by f ys
   total_by-append f [] ys = omega (arith, ints)
   total_by-append f (x ∷ xs) ys = let h = total_by-append f xs ys in omega (arith, ints)
 
-  -- totals go through images
+  -- a total over images is a total over the elements
   pub total_by-map : {Y : Type 0} (f : Y → ℤ) (g : X → Y) (xs : List X) → total_by f (map g xs) ≡ total_by (λ x. f (g x)) xs
   total_by-map f g [] = refl
   total_by-map f g (x ∷ xs) = ap (λ z. f (g x) +ℤ z) (total_by-map f g xs)
 
-  -- a filter is a total with 0 for what does not pass
+  -- the total over a filtered list is the total over the list with 0 for each element that does not pass
   pub total_by-filter : (f : X → ℤ) (p : X → Bool) (xs : List X) → total_by f (filter p xs) ≡ total_by (λ x. cond (p x) (f x) (pos 0)) xs
   total_by-filter f p [] = refl
   total_by-filter f p (x ∷ xs) =
@@ -64,7 +64,7 @@ module _ {X : Type 0} where
         | false ↦ omega (arith, ints)
       ]
 
-  -- what passes a test and what does not
+  -- a total is the total of what passes a test plus the total of what does not
   pub total_by-split : (f : X → ℤ) (p : X → Bool) (xs : List X) → total_by f xs ≡ total_by f (filter p xs) +ℤ total_by f (filter (λ x. not (p x)) xs)
   total_by-split f p [] = refl
   total_by-split f p (x ∷ xs) =
@@ -84,11 +84,11 @@ module _ {X : Type 0} (v : X → ℤ) where
   pub sum_where-same : (p q : X → Bool) (xs : List X) → ((x : X) → p x ≡ q x) → sum_where p xs ≡ sum_where q xs
   sum_where-same p q xs h = total_by-same (λ x. cond (p x) (v x) (pos 0)) (λ x. cond (q x) (v x) (pos 0)) xs (λ x. ap (λ b. cond b (v x) (pos 0)) (h x))
 
-  -- what never passes adds to 0
+  -- if no element passes, then the total is 0
   pub sum_where-none : (p : X → Bool) (xs : List X) → ((x : X) → Among x xs → p x ≡ false) → sum_where p xs ≡ pos 0
   sum_where-none p xs h = total_by-zero (λ x. cond (p x) (v x) (pos 0)) xs (λ x m. ap (λ b. cond b (v x) (pos 0)) (h x m))
 
-  -- a total falls into what passes a second test and what does not
+  -- the total of what passes a test splits by a second test
   pub sum_where-split : (p q : X → Bool) (xs : List X) → sum_where p xs ≡ sum_where (λ x. p x && q x) xs +ℤ sum_where (λ x. p x && not (q x)) xs
   sum_where-split p q xs =
       total_by-same (λ x. cond (p x) (v x) (pos 0)) (λ x. cond (p x && q x) (v x) (pos 0) +ℤ cond (p x && not (q x)) (v x) (pos 0)) xs (λ x. two (p x) (q x) (v x))
@@ -99,7 +99,7 @@ module _ {X : Type 0} (v : X → ℤ) where
       two true false c = omega (arith, ints)
       two false b c = refl
 
--- a filter that keeps each update that passes a test keeps the total of those
+-- a filter that keeps each update which passes a test keeps the total of those updates
 pub total_where-filter : {T : Type 0} (q : List ℤ → T → Bool) (p : Update T → Bool) (us : List (Update T)) → ((u : Update T) → IsTrue (q u.row u.time) → IsTrue (p u)) → total_where q (filter p us) ≡ total_where q us
 total_where-filter {T} q p us h =
     let diff_where : Update T → ℤ = λ u. cond (q u.row u.time) u.diff (pos 0) in
@@ -111,7 +111,7 @@ total_where-filter {T} q p us h =
     kept false true d k = absurd (true≢false (sym (k refl)))
     kept false false d k = refl
 
--- the sums do not depend on the order
+-- totals and reordered lists
 above : ℤ → ℕ
 above (pos n) = n
 above (negsuc n) = 0

@@ -1,5 +1,5 @@
--- In a sorted list each run's total is the total of its row and time, so that some run's total is too large exactly
--- where some total is.
+-- In a sorted list the total of a group is the total of its row and time. So some group's total is too large if and
+-- only if the total of some row at some time is.
 use Rattle.std.proofs.Common.{◌≡◌, ◌^◌, Bool, true, false, cond, ◌&&◌, List, [], ◌∷◌, ℤ, pos, ◌+ℤ◌, refl, sym, ◌∙◌, ap, subst, ◌⊎◌, inl, inr, ⊎_elim, w64}
 use Rattle.std.specs.Prelude.{FitsSigned}
 use Rattle.std.specs.Cmp.{IsTotalOrder}
@@ -32,11 +32,11 @@ pub fits_zero : FitsSigned w64 (pos 0)
 fits_zero = sfits_lit tt
 
 module _ {T : Type 0} {below : T → T → Bool} {cmp : T → T → Ordering} (o : PartialOrderLaws below) (total : IsTotalOrder cmp) (exact : (s t : T) → cmp s t ≡ Equal → s ≡ t) where
-  -- whether an update is of a row and time
+  -- the update has this row and time
   abbrev is_at : List ℤ → T → Update T → Bool
   is_at row t u = same_row u.row row && (below u.time t && below t u.time)
 
-  -- the total of a row and time, where a run is in hand
+  -- the total of a row and time, if u is the first update of the current group and n is its total so far
   abbrev with_hand : List ℤ → T → Update T → ℤ → List (Update T) → ℤ
   with_hand row t u n vs = cond (is_at row t u) n (pos 0) +ℤ total_at below row t vs
 
@@ -44,7 +44,7 @@ module _ {T : Type 0} {below : T → T → Bool} {cmp : T → T → Ordering} (o
   apart u w l true e = absurd (not_in_order o total u w (meets_row o u w e) (meets_time o u w e) l)
   apart u w l false e = refl
 
-  -- what comes after an update is of another row or time
+  -- updates after u have another row or time, so they add nothing to u's total
   none_after : (u : Update T) (ws : List (Update T)) → AllAfter total u ws → total_at below u.row u.time ws ≡ pos 0
   none_after u [] a = refl
   none_after u (w ∷ ws) a =
@@ -67,7 +67,7 @@ module _ {T : Type 0} {below : T → T → Bool} {cmp : T → T → Ordering} (o
       and_from (same_row u.row u.row) (below u.time u.time && below u.time u.time) ((signed_items u.row u.row).1 refl)
       (and_from (below u.time u.time) (below u.time u.time) (o.reflexive u.time) (o.reflexive u.time))
 
-  -- what fits with a run in hand that has ended fits without it
+  -- a total that fits still fits without a group that has ended
   later : (row : List ℤ) (t : T) (u : Update T) (n : ℤ) (ws : List (Update T)) → AllAfter total u ws → FitsSigned w64 (with_hand row t u n ws) → FitsSigned w64 (total_at below row t ws)
   later row t u n ws a f =
       elim (is_at row t u) as (λ b. is_at row t u ≡ b → FitsSigned w64 (cond b n (pos 0) +ℤ total_at below row t ws) → FitsSigned w64 (total_at below row t ws)) [
@@ -75,7 +75,7 @@ module _ {T : Type 0} {below : T → T → Bool} {cmp : T → T → Ordering} (o
         | false ↦ λ h g. subst (FitsSigned w64) (+ℤ_idl (total_at below row t ws)) g
       ] refl f
 
-  -- where each run's total fits, each total of a row and time does
+  -- if each group's total fits, then the total of each row at each time does
   pub totals_fit : (u : Update T) (n : ℤ) (vs : List (Update T)) → Ascends total (u ∷ vs) → AllFit (groups_of cmp u n vs) → (row : List ℤ) (t : T) → FitsSigned w64 (with_hand row t u n vs)
   totals_fit u n [] a f row t =
       elim (is_at row t u) as (λ b. FitsSigned w64 (cond b n (pos 0) +ℤ pos 0)) [
@@ -93,7 +93,7 @@ module _ {T : Type 0} {below : T → T → Bool} {cmp : T → T → Ordering} (o
             ] refl
       ] refl f
 
-  -- where not each run's total fits, some total of a row and time does not
+  -- if some group's total does not fit, then the total of some row at some time does not
   pub some_large : (u : Update T) (n : ℤ) (vs : List (Update T)) → Ascends total (u ∷ vs) → (AllFit (groups_of cmp u n vs) → ⊥) → (row : List ℤ) × (t : T) × (FitsSigned w64 (with_hand row t u n vs) → ⊥)
   some_large u n [] a f =
       (u.row, u.time, λ g. f (subst (FitsSigned w64) (ap (λ b. cond b n (pos 0) +ℤ pos 0) (at_itself u) ∙ +ℤ_idr n) g, tt))

@@ -1,4 +1,5 @@
--- Lists with the same sums at each time of a set have the same totals there, and if consolidated the same updates.
+-- Lists with the same sums at each time of a set have the same totals there. If they are also consolidated, they have
+-- the same updates there.
 use Rattle.std.proofs.Common.{◌≡◌, ◌≢◌, ℕ, zero, suc, ◌<◌, ◌≤◌, Bool, true, false, cond, not, ◌&&◌, List, [], ◌∷◌, ◌++◌, map, length, IsTrue, refl, ap, sym, ◌∙◌, subst, ◌⊎◌, inl, inr, ⊎_elim, arith}
 use Rattle.std.specs.Prelude.{ℤ, pos, ◌+ℤ◌}
 use Rattle.std.specs.List.{filter, AllByRecursion}
@@ -24,7 +25,7 @@ use Rattle.update.specs.declared.change.Update.{Update}
 use Rattle.update.proofs.SumLemmas.{sum_where, sum_where-same, sum_where-none, sum_where-split, total_by-same, total_by-negate, total_by-append, total_by-map, total_by-filter}
 
 module _ {X : Type 0} where
-  -- some element passes, or none does
+  -- either some element passes a test, or none does
   pub passes_or_none : (p : X → Bool) (xs : List X) → ((x : X) × Among x xs × IsTrue (p x)) ⊎ ((x : X) → Among x xs → p x ≡ false)
   passes_or_none p [] = inr (λ x m. absurd m)
   passes_or_none p (x ∷ xs) =
@@ -47,7 +48,7 @@ module _ {X : Type 0} where
       step false e true f l = omega arith
       step false e false f l = l
 
-  -- a test that implies another, and fails at an element where that one passes, keeps fewer elements
+  -- a test that implies another and fails at an element where the other passes keeps fewer elements
   pub filter_fewer : (p q : X → Bool) → ((x : X) → IsTrue (p x) → IsTrue (q x)) → (xs : List X) (y : X) → Among y xs → p y ≡ false → IsTrue (q y) → length (filter p xs) < length (filter q xs)
   filter_fewer p q h [] y m e f = absurd m
   filter_fewer p q h (x ∷ xs) y m e f =
@@ -65,7 +66,7 @@ module _ {X : Type 0} where
       there false i true j l = omega arith
       there false i false j l = l
 
--- tests that hold where others do
+-- tests that can be dropped because another test implies or excludes them
 drop_middle : (a b c : Bool) → (IsTrue c → IsTrue b) → ((a && b) && c) ≡ (a && c)
 drop_middle true true c h = refl
 drop_middle true false true h = h refl
@@ -84,12 +85,13 @@ drop_first false true h = h refl
 drop_first false false h = refl
 
 module _ {T : Type 0} (below : T → T → Bool) where
-  -- the times are at or before each other
+  -- the times are at or before each other, so they are the same time
   abbrev pub ties : T → T → Bool
   ties s t = below s t && below t s
 
-  abbrev pub precedes : T → T → Bool
-  precedes s t = below s t && not (below t s)
+  -- the first time is before the second and not equal to it
+  abbrev pub is_strictly_below : T → T → Bool
+  is_strictly_below s t = below s t && not (below t s)
 
 module _ {T : Type 0} {below : T → T → Bool} (o : PartialOrderLaws below) where
   same_time : (s t : T) → IsTrue (ties below s t) → s ≡ t
@@ -105,10 +107,10 @@ module _ {T : Type 0} {below : T → T → Bool} (o : PartialOrderLaws below) wh
         | false ↦ λ e. inr (λ d. true≢false (sym (subst (λ (u : T). IsTrue (ties below s u)) d (ties_itself s)) ∙ e))
       ] refl
 
-  not_before_itself : (t : T) → precedes below t t ≡ false
+  not_before_itself : (t : T) → is_strictly_below below t t ≡ false
   not_before_itself t = and_right (below t t) (not (below t t)) (not_from_true (below t t) (o.reflexive t))
 
-  before_in_steps : (s t u : T) → IsTrue (precedes below s t) → IsTrue (precedes below t u) → IsTrue (precedes below s u)
+  before_in_steps : (s t u : T) → IsTrue (is_strictly_below below s t) → IsTrue (is_strictly_below below t u) → IsTrue (is_strictly_below below s u)
   before_in_steps s t u h k =
       let first = and_parts (below s t) (not (below t s)) h in
       let second = and_parts (below t u) (not (below u t)) k in
@@ -118,7 +120,8 @@ module _ {T : Type 0} {below : T → T → Bool} (o : PartialOrderLaws below) wh
 
   -- elements with times and values
   module _ {X : Type 0} (time : X → T) (v : X → ℤ) (xs : List X) where
-    -- where the elements that pass come to nothing at each time, they come to nothing
+    -- if the values of the elements that pass a test add up to 0 at each time, then they add up to 0; n bounds their
+    -- number
     nothing_together : (n : ℕ) (p : X → Bool) → length (filter p xs) < n → ((t : T) → sum_where v (λ x. p x && ties below (time x) t) xs ≡ pos 0) → sum_where v p xs ≡ pos 0
     nothing_together zero p l z = absurd (omega arith)
     nothing_together (suc n) p l z =
@@ -153,37 +156,38 @@ module _ {T : Type 0} {below : T → T → Bool} (o : PartialOrderLaws below) wh
             let split = sum_where-split v p (λ x. ties below (time x) (time y)) xs in
             omega (arith, ints)
 
-    -- where all up to each time of a set comes to nothing, and the set has with a time all at or before it, nothing is at any of its times
-    nothing_at : (among : T → Bool) → ((s t : T) → IsTrue (below s t) → IsTrue (among t) → IsTrue (among s)) → ((t : T) → IsTrue (among t) → sum_where v (λ x. below (time x) t) xs ≡ pos 0) → (n : ℕ) (t : T) → length (filter (λ x. precedes below (time x) t) xs) < n → IsTrue (among t) → sum_where v (λ x. ties below (time x) t) xs ≡ pos 0
+    -- take a set of times that contains all times before each of its times; if the values up to each time of the set
+    -- add up to 0, then so do the values at each of its times
+    nothing_at : (among : T → Bool) → ((s t : T) → IsTrue (below s t) → IsTrue (among t) → IsTrue (among s)) → ((t : T) → IsTrue (among t) → sum_where v (λ x. below (time x) t) xs ≡ pos 0) → (n : ℕ) (t : T) → length (filter (λ x. is_strictly_below below (time x) t) xs) < n → IsTrue (among t) → sum_where v (λ x. ties below (time x) t) xs ≡ pos 0
     nothing_at among down z zero t l a = absurd (omega arith)
     nothing_at among down z (suc n) t l a =
         let split = sum_where-split v (λ x. below (time x) t) (λ x. below t (time x)) xs in
         let all = z t a in
-        let earlier = nothing_together (suc (length (filter (λ x. precedes below (time x) t) xs))) (λ x. precedes below (time x) t) (omega arith) (λ s. earlier_at s (nothing_at among down z n s)) in
+        let earlier = nothing_together (suc (length (filter (λ x. is_strictly_below below (time x) t) xs))) (λ x. is_strictly_below below (time x) t) (omega arith) (λ s. earlier_at s (nothing_at among down z n s)) in
         omega (arith, ints)
       where
-        some : (s : T) (y : X) → Among y xs → IsTrue (precedes below (time y) t && ties below (time y) s) → (length (filter (λ x. precedes below (time x) s) xs) < n → IsTrue (among s) → sum_where v (λ x. ties below (time x) s) xs ≡ pos 0) → sum_where v (λ x. precedes below (time x) t && ties below (time x) s) xs ≡ pos 0
+        some : (s : T) (y : X) → Among y xs → IsTrue (is_strictly_below below (time y) t && ties below (time y) s) → (length (filter (λ x. is_strictly_below below (time x) s) xs) < n → IsTrue (among s) → sum_where v (λ x. ties below (time x) s) xs ≡ pos 0) → sum_where v (λ x. is_strictly_below below (time x) t && ties below (time x) s) xs ≡ pos 0
         some s y m h ih =
-            let parts = and_parts (precedes below (time y) t) (ties below (time y) s) h in
+            let parts = and_parts (is_strictly_below below (time y) t) (ties below (time y) s) h in
             let e = same_time (time y) s parts.1 in
-            let b : IsTrue (precedes below s t) = ap (λ u. precedes below u t) (sym e) ∙ parts.0 in
-            let none_here = ap (λ u. precedes below u s) e ∙ not_before_itself s in
-            let fewer = filter_fewer (λ x. precedes below (time x) s) (λ x. precedes below (time x) t) (λ x k. before_in_steps (time x) s t k b) xs y m none_here parts.0 in
-            sum_where-same v (λ x. precedes below (time x) t && ties below (time x) s) (λ x. ties below (time x) s) xs (λ x. drop_first (precedes below (time x) t) (ties below (time x) s) (λ k. ap (λ u. precedes below u t) (same_time (time x) s k) ∙ b))
+            let b : IsTrue (is_strictly_below below s t) = ap (λ u. is_strictly_below below u t) (sym e) ∙ parts.0 in
+            let none_here = ap (λ u. is_strictly_below below u s) e ∙ not_before_itself s in
+            let fewer = filter_fewer (λ x. is_strictly_below below (time x) s) (λ x. is_strictly_below below (time x) t) (λ x k. before_in_steps (time x) s t k b) xs y m none_here parts.0 in
+            sum_where-same v (λ x. is_strictly_below below (time x) t && ties below (time x) s) (λ x. ties below (time x) s) xs (λ x. drop_first (is_strictly_below below (time x) t) (ties below (time x) s) (λ k. ap (λ u. is_strictly_below below u t) (same_time (time x) s k) ∙ b))
             ∙ ih (omega arith) (down s t (and_parts (below s t) (not (below t s)) b).0 a)
 
-        earlier_at : (s : T) → (length (filter (λ x. precedes below (time x) s) xs) < n → IsTrue (among s) → sum_where v (λ x. ties below (time x) s) xs ≡ pos 0) → sum_where v (λ x. precedes below (time x) t && ties below (time x) s) xs ≡ pos 0
+        earlier_at : (s : T) → (length (filter (λ x. is_strictly_below below (time x) s) xs) < n → IsTrue (among s) → sum_where v (λ x. ties below (time x) s) xs ≡ pos 0) → sum_where v (λ x. is_strictly_below below (time x) t && ties below (time x) s) xs ≡ pos 0
         earlier_at s ih =
             ⊎_elim
             (λ r. some s r.0 r.1 r.2 ih)
-            (λ none. sum_where-none v (λ x. precedes below (time x) t && ties below (time x) s) xs none)
-            (passes_or_none (λ x. precedes below (time x) t && ties below (time x) s) xs)
+            (λ none. sum_where-none v (λ x. is_strictly_below below (time x) t && ties below (time x) s) xs none)
+            (passes_or_none (λ x. is_strictly_below below (time x) t && ties below (time x) s) xs)
 
--- an update that takes back another
+-- the update that cancels an update
 abbrev against : {T : Type 0} → Update T → Update T
 against u = record { time = u.time; row = u.row; diff = neg_ℤ u.diff }
 
--- what an update counts for a row
+-- what an update adds to the count of a row
 abbrev counted : {T : Type 0} → List ℤ → Update T → ℤ
 counted row u = cond (same_row u.row row) u.diff (pos 0)
 
@@ -214,15 +218,15 @@ module _ {T : Type 0} (below : T → T → Bool) (row : List ℤ) where
       total_by-map (λ e. cond (same_row e.row row) e.count (pos 0)) entry (filter (λ u. below u.time t) us)
       ∙ total_by-filter (counted row) (λ u. below u.time t) us
 
-  -- a row counts in a list's sum as often as the list's updates up to that time say
+  -- the count of a row in a list's sum at t is the total of its updates at or before t
   pub count_as_of : (t : T) (us : List (Update T)) → count_of (as_of below t us) row ≡ total_where (λ r s. same_row r row && below s t) us
   count_as_of t us = count_by_time t us ∙ sym (where_by_time row (λ s. below s t) us)
 
 module _ {T : Type 0} {below : T → T → Bool} (o : PartialOrderLaws below) where
-  -- lists with alike sums have the same totals
+  -- lists with alike sums at each time of the set have the same totals there
   pub same_totals : (among : T → Bool) (us vs : List (Update T)) → ((s t : T) → IsTrue (below s t) → IsTrue (among t) → IsTrue (among s)) → ((t : T) → IsTrue (among t) → Alike (as_of below t us) (as_of below t vs)) → (row : List ℤ) (t : T) → IsTrue (among t) → total_at below row t us ≡ total_at below row t vs
   same_totals among us vs down same row t a =
-      let nothing = nothing_at o time (counted row) both among down nothing_by (suc (length (filter (λ u. precedes below u.time t) both))) t (omega arith) a in
+      let nothing = nothing_at o time (counted row) both among down nothing_by (suc (length (filter (λ u. is_strictly_below below u.time t) both))) t (omega arith) a in
       let difference = difference_by_time row (λ s. ties below s t) us vs in
       let ours = where_by_time row (λ s. ties below s t) us in
       let theirs = where_by_time row (λ s. ties below s t) vs in
@@ -242,21 +246,21 @@ module _ {T : Type 0} {below : T → T → Bool} (o : PartialOrderLaws below) wh
           let alike = same s b row in
           omega (arith, ints)
 
--- what holds of all elements holds of each
+-- a property of all elements holds of each
 pub at_each : {X : Type 0} (P : X → Type 0) (xs : List X) (x : X) → AllByRecursion P xs → Among x xs → P x
 at_each P [] x a m = absurd m
 at_each P (y ∷ xs) x a m = ⊎_elim (λ e. subst P e a.0) (λ k. at_each P xs x a.1 k) m
 
--- an update at the row and time of another
+-- the second update has the row and time of the first
 abbrev pub meets : {T : Type 0} → (T → T → Bool) → Update T → Update T → Bool
 meets below u v = same_row v.row u.row && ties below v.time u.time
 
 module _ {T : Type 0} {below : T → T → Bool} (o : PartialOrderLaws below) where
-  -- updates that meet have one row
+  -- updates that meet have the same row
   pub meets_row : (u v : Update T) → IsTrue (meets below u v) → v.row ≡ u.row
   meets_row u v h = (signed_items v.row u.row).0 (and_parts (same_row v.row u.row) (ties below v.time u.time) h).0
 
-  -- and one time
+  -- updates that meet have the same time
   pub meets_time : (u v : Update T) → IsTrue (meets below u v) → v.time ≡ u.time
   meets_time u v h = same_time o v.time u.time (and_parts (same_row v.row u.row) (ties below v.time u.time) h).1
 
@@ -267,7 +271,7 @@ module _ {T : Type 0} {below : T → T → Bool} (o : PartialOrderLaws below) wh
     by_time_then_row_total : IsTotalOrder (by_time_then_row cmp)
     by_time_then_row_total = then_total (on_total (λ (u : Update T). u.time) total) (on_total (λ (u : Update T). u.row) (lists_total int_cmp_total))
 
-    -- so neither stands before the other in a consolidated list
+    -- so neither comes before the other in a consolidated list
     pub not_in_order : (u v : Update T) → v.row ≡ u.row → v.time ≡ u.time → by_time_then_row cmp u v ≡ Less → ⊥
     not_in_order u v e d h =
         let same : by_time_then_row cmp u v ≡ by_time_then_row cmp u u = λ i. ordering_then (cmp u.time (d i)) (slice_cmp int_cmp u.row (e i)) in
@@ -279,7 +283,7 @@ module _ {T : Type 0} {below : T → T → Bool} (o : PartialOrderLaws below) wh
       false_from_ne_true (meets below v u) (λ k. not_in_order u v (sym (meets_row v u k)) (sym (meets_time v u k)) h),
     )
 
-    -- a list in order has at each update's row and time just that update
+    -- in a consolidated list the total at an update's row and time is that update's diff
     pub own_total : (us : List (Update T)) → IsStrictlySortedBy (by_time_then_row cmp) us → (u : Update T) → Among u us → total_at below u.row u.time us ≡ u.diff
     own_total [] s u m = absurd m
     own_total (x ∷ us) s u m =
@@ -322,7 +326,7 @@ module _ {T : Type 0} {below : T → T → Bool} (o : PartialOrderLaws below) wh
             let diff : v.diff ≡ u.diff = sym (own_total vs b.ascending v k) ∙ (λ i. total_at below (row i) (time i) vs) ∙ there in
             λ i. record { time = time i; row = row i; diff = diff i }
 
-    -- consolidated lists with the same totals have the same updates
+    -- consolidated lists with the same totals at the times of the set have the same updates there
     pub same_updates : (among : T → Bool) (us vs : List (Update T)) → ((row : List ℤ) (t : T) → IsTrue (among t) → total_at below row t us ≡ total_at below row t vs) → IsConsolidated cmp us → IsConsolidated cmp vs → filter (λ w. among w.time) us ≡ filter (λ w. among w.time) vs
     same_updates among us vs same a b =
         sorted_same by_time_then_row_total (filter (λ w. among w.time) us) (filter (λ w. among w.time) vs)

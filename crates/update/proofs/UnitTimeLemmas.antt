@@ -1,4 +1,4 @@
--- Updates moved to the one time sum to what they did at the time up to which they were kept.
+-- Updates that are moved to the one time have there the sum that they had at the time t up to which they were kept.
 use Rattle.std.proofs.Common.{◌≡◌, ℕ, ◌+◌, ◌≤◌, Bool, true, false, cond, ◌&&◌, List, [], ◌∷◌, ◌++◌, map, filter, ℤ, pos, ◌+ℤ◌, refl, sym, ◌∙◌, ap, subst, arith, w64}
 use Rattle.std.specs.Prelude.{FitsSigned, unsigned_abs}
 use Rattle.std.proofs.lemmas.List.Recursion.{is_sum_by}
@@ -26,7 +26,7 @@ and_true : (b : Bool) → (b && true) ≡ b
 and_true true = refl
 and_true false = refl
 
--- at the one time, a total is a count
+-- at the one time the total of a row is its count
 total_is_count : (row : List ℤ) (t : UnitTime) (us : List (Update UnitTime)) → total_at always row t us ≡ count_of (map entry us) row
 total_is_count row t [] = refl
 total_is_count row t (u ∷ us) =
@@ -34,7 +34,7 @@ total_is_count row t (u ∷ us) =
     let rest = total_is_count row t us in
     ap (λ b. cond b u.diff (pos 0) +ℤ total_at always row t us) here ∙ ap (λ n. cond (same_row u.row row) u.diff (pos 0) +ℤ n) rest
 
--- the size of entries as a recursion
+-- the size of entries, by recursion
 abbrev entry_size : List Entry → ℕ
 entry_size [] = 0
 entry_size (e ∷ es) = unsigned_abs e.count + entry_size es
@@ -59,7 +59,7 @@ module _ {T : Type 0} (below : T → T → Bool) (t : T) (us : List (Update T)) 
   abbrev gone : List (Update UnitTime)
   gone = map at_unit_time (filter (λ u. below u.time t) us)
 
-  -- moved to one time, the updates at or before t sum to the sum at t
+  -- the updates at or before t, moved to the one time, sum to the sum at t; so `sum_at` may consolidate them
   pub sum_moved : (m : UnitTime) (out : List (Update UnitTime)) → Alike (as_of always m out) (as_of always m gone) → Alike (map entry out) (as_of below t us)
   sum_moved m out same row =
       ap (λ es. count_of (map entry es) row) (sym (all_pass out))
@@ -70,15 +70,15 @@ module _ {T : Type 0} (below : T → T → Bool) (t : T) (us : List (Update T)) 
   total_moved : (row : List ℤ) (m : UnitTime) → total_at always row m gone ≡ count_of (as_of below t us) row
   total_moved row m = total_is_count row m gone ∙ ap (λ es. count_of es row) (entries_moved (filter (λ u. below u.time t) us))
 
-  -- a total that is too large there is a count that is too large
+  -- a total that is too large at the one time is a count that is too large at t
   pub large_moved : HasLargeTotal always gone → HasLargeCount (as_of below t us)
   large_moved large = (large.0, λ fits. large.2 (subst (FitsSigned w64) (sym (total_moved large.0 large.1)) fits))
 
-  -- and the other way round
+  -- a count that is too large at t is a total that is too large at the one time
   pub large_count : (m : UnitTime) → HasLargeCount (as_of below t us) → HasLargeTotal always gone
   large_count m large = (large.0, m, λ fits. large.1 (subst (FitsSigned w64) (total_moved large.0 m) fits))
 
-  -- moving makes nothing larger
+  -- moving updates makes nothing larger
   pub size_moved : (out : List (Update UnitTime)) → size out ≤ size gone → bag_size (map entry out) ≤ size us
   size_moved out less =
       let bag = entry_size_is (map entry out) in
@@ -91,18 +91,20 @@ module _ {T : Type 0} (below : T → T → Bool) (t : T) (us : List (Update T)) 
 
 -- updates at the one time sum to their entries
 module _ (all : List (Update UnitTime)) where
+  -- a list with the sum of all entries at the one time is the same bag as they are, so `into_bag` may consolidate them
   pub sum_entries : (m : UnitTime) (out : List (Update UnitTime)) → Alike (as_of always m out) (as_of always m all) → Alike (map entry out) (map entry all)
   sum_entries m out same row =
       ap (λ us. count_of (map entry us) row) (sym (all_pass out))
       ∙ same row
       ∙ ap (λ us. count_of (map entry us) row) (all_pass all)
 
+  -- a total that is too large at the one time is a count that is too large
   pub large_entries : HasLargeTotal always all → HasLargeCount (map entry all)
   large_entries large = (large.0, λ fits. large.2 (subst (FitsSigned w64) (sym (total_is_count large.0 large.1 all)) fits))
 
--- entries at the one time with updates moved to it behind them sum to their entries
+-- entries at the one time, followed by updates that are moved to it, sum to both together
 module _ {T : Type 0} (all : List (Update UnitTime)) (us : List (Update T)) (es : List Entry) (parts : map entry all ≡ es ++ map entry us) where
-  -- a bag and updates, moved to one time, sum to both together
+  -- the sum is the bag and the updates together, as `Bag::with` promises
   pub sum_both : (m : UnitTime) (out : List (Update UnitTime)) → Alike (as_of always m out) (as_of always m all) → Alike (map entry out) (es ++ map entry us)
   sum_both m out same row =
       ap (λ us. count_of (map entry us) row) (sym (all_pass out))
@@ -113,15 +115,15 @@ module _ {T : Type 0} (all : List (Update UnitTime)) (us : List (Update T)) (es 
   total_both : (row : List ℤ) (m : UnitTime) → total_at always row m all ≡ count_of (es ++ map entry us) row
   total_both row m = total_is_count row m all ∙ ap (λ es. count_of es row) parts
 
-  -- a total that is too large there is a count that is too large
+  -- a total that is too large at the one time is a count that is too large
   pub large_both : HasLargeTotal always all → HasLargeCount (es ++ map entry us)
   large_both large = (large.0, λ fits. large.2 (subst (FitsSigned w64) (sym (total_both large.0 large.1)) fits))
 
-  -- and the other way round
+  -- a count that is too large is a total that is too large at the one time
   pub large_there : (m : UnitTime) → HasLargeCount (es ++ map entry us) → HasLargeTotal always all
   large_there m large = (large.0, m, λ fits. large.1 (subst (FitsSigned w64) (total_both large.0 m) fits))
 
--- the entries, with updates moved behind them
+-- the entries of a list to which moved updates were appended
 pub both_entries : {T : Type 0} (before all : List (Update UnitTime)) (us : List (Update T)) (es : List Entry) → map entry before ≡ es → all ≡ before ++ map at_unit_time us → map entry all ≡ es ++ map entry us
 both_entries before all us es e h =
     ap (map entry) h ∙ map-append entry before (map at_unit_time us) ∙ ap (λ xs. xs ++ map entry (map at_unit_time us)) e ∙ ap (λ xs. es ++ xs) (entries_moved us)

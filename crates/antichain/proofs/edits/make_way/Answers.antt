@@ -5,7 +5,7 @@ use Rattle.std.specs.List.{filter}
 use Rattle.antichain.proofs.Lists.{filter_shorter, filter_whole}
 use Rattle.antichain.proofs.edits.make_way.Goals as goal
 
--- where as many elements are left, they are those that were there
+-- if the number of elements is unchanged, then the elements are
 pub returns-in_err-reserve-clause-err : goal.returns-in_err-reserve-clause-err
 returns-in_err-reserve-clause-err g c =
     let p = err_from_is_err_and c.from_residual.result c.from_residual.ensures.1 in

@@ -2,7 +2,7 @@ use Rattle.std.proofs.Common.{◌≡◌, ◌+◌, ◌≤◌, ◌||◌, ◌&&◌,
 use Rattle.lattice.specs.Frontiers.{is_beyond}
 use Rattle.antichain.proofs.frontier.insert_joins.Given as goal
 
--- what is beyond the antichain, or beyond the time and one of those to come, is so in the end
+-- a time is beyond the final antichain if it is beyond the one so far, or beyond f and one of the times still to come
 abbrev pub invariant-loop-g : goal.invariant-loop-g
 invariant-loop-g g l =
     let below = g.T.PartialOrder.below in

@@ -5,7 +5,7 @@ use Rattle.batch.proofs.MergeLemmas.{whole, ends_sealed, ends_size, ends_total, 
 use Rattle.batch.proofs.merge_cursors.merged_list.Given.{Over}
 use Rattle.batch.proofs.merge_cursors.merged_list.Goals as goal
 
--- nothing is left to come
+-- at the end of the merge nothing is left to come
 merged : (g : Over) (c : goal.In_ok-copy_all-2 g) → IsMerging g.T.Ord.cmp c.args.us.now c.args.vs.now c.copy_all-2.new.out.items [] []
 merged g c =
     whole g.met.T.Ord.total c.in_ok-at.at.left c.in_ok-at.at.right c.in_ok-at.ensures.ended c.in_ok-at.ensures.merging c.in_ok-copy_all.ensures.written c.in_ok-copy_all-2.ensures.written c.in_ok-copy_all.ensures.fit c.in_ok-copy_all-2.ensures.fit

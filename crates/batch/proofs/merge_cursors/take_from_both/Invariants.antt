@@ -9,6 +9,6 @@ invariant-loop-at g l = record {
   merging : IsMerging g.T.Ord.cmp l.us l.vs l.out.items (drop l.at.left l.us) (drop l.at.right l.vs);
 }
 
--- the updates that are still to be read
+-- the number of updates that are still to be read decreases
 abbrev pub decreases-loop-at : goal.decreases-loop-at
 decreases-loop-at g l = (length l.us + length l.vs) - (l.at.left + l.at.right)

@@ -3,7 +3,7 @@ use Rattle.std.specs.List.{fold}
 use Rattle.lattice.specs.Representatives.{representative_of}
 use Rattle.lattice.proofs.compaction.representative.Given as goal
 
--- the meet so far, with the joins that are still to come, is the representative
+-- the meet so far, met with the joins still to come, is the representative
 abbrev pub invariant-loop-f : goal.invariant-loop-f
 invariant-loop-f g l =
     let m = g.T.Lattice in

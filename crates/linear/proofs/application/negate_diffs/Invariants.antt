@@ -4,7 +4,7 @@ use Rattle.std.specs.List.{All}
 use Rattle.linear.specs.Applied.{negated_update}
 use Rattle.linear.proofs.application.negate_diffs.Given as goal
 
--- the updates so far are negated, which all could be, and the others are as they were
+-- the updates so far are negated, none of them overflowed, and the others are unchanged
 abbrev pub invariant-loop-update : goal.invariant-loop-update
 invariant-loop-update g l = record {
   negated : l.updates ≡ map negated_update (take l.update-index l.initial.updates) ++ drop l.update-index l.initial.updates;

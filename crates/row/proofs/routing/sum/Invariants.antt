@@ -2,7 +2,8 @@ use Rattle.std.proofs.Common.{◌≡◌, ◌*◌, ◌^◌, drop, pos, neg_ℤ, �
 use Rattle.row.specs.Routing.{column_sum}
 use Rattle.row.proofs.routing.sum.Given as goal
 
--- the sum so far, with the columns that are still to come, is the sum of all; and so many columns are only so large
+-- the sum so far plus the sum of the columns still to come is the sum of all; and each column adds at most 2^63 to its
+-- size
 abbrev pub invariant-loop-column : goal.invariant-loop-column
 invariant-loop-column l = record {
   value : l.sum +ℤ column_sum (drop l.column-index l.key) ≡ column_sum l.key;

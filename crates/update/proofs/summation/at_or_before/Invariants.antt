@@ -2,7 +2,7 @@ use Rattle.std.proofs.Common.{◌≡◌, ◌++◌, map, filter, drop}
 use Rattle.update.specs.UnitTimes.{at_unit_time}
 use Rattle.update.proofs.summation.at_or_before.Given as goal
 
--- what was kept, and what is to be kept of those to come, are what is to be kept of all
+-- what was kept, with what is kept of the updates still to come, is what is kept of all
 abbrev pub invariant-loop-update : goal.invariant-loop-update
 invariant-loop-update g l =
     let below = g.T.PartialOrder.below in

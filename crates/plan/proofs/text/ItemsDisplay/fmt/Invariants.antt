@@ -4,7 +4,7 @@ use Rattle.std.specs.Fmt.{HasWritten, IsPlainFormatter}
 use Rattle.row.specs.Text.{item_text}
 use Rattle.plan.proofs.text.ItemsDisplay.fmt.Given as goal
 
--- each of the other items so far is written behind a space
+-- each item after the first so far has been written after a space
 abbrev pub invariant-loop-item : goal.invariant-loop-item
 invariant-loop-item g l =
     IsPlainFormatter l.initial.f

@@ -3,7 +3,7 @@ use Rattle.std.specs.List.{flat_map}
 use Rattle.std.specs.Fmt.{HasWritten, IsPlainFormatter, signed_decimal}
 use Rattle.row.proofs.text.RowDisplay.fmt.Given as goal
 
--- each of the other columns so far is written behind a space
+-- each column after the first so far has been written after a space
 abbrev pub invariant-loop-column : goal.invariant-loop-column
 invariant-loop-column g l =
     IsPlainFormatter l.initial.f
