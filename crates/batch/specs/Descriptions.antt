@@ -26,7 +26,8 @@ pub record BuilderState (T : Type 0) : Type 0 where
   pub updates : List (Update T)
 
 -- three frontiers, of which the upper is beyond the lower
-pub record IsInterval {T : Type 0} (below : T → T → Bool) (cmp : T → T → Ordering) (lower upper since : List T) : Type 0 where
+pub record IsInterval {T : Type 0} (below : T → T → Bool) (cmp : T → T → Ordering)
+    (lower upper since : List T) : Type 0 where
   pub lower_frontier : IsFrontier below cmp lower
   pub upper_frontier : IsFrontier below cmp upper
   pub since_frontier : IsFrontier below cmp since

@@ -19,6 +19,12 @@ pub record IsMerging {T : Type 0} (cmp : T → T → Ordering) (us vs out xs ys 
   pub nonzero_left : AllByRecursion (λ u. u.diff ≢ pos 0) xs
   pub nonzero_right : AllByRecursion (λ u. u.diff ≢ pos 0) ys
   pub fit : AllByRecursion (λ u. FitsSigned w64 u.diff) out
-  pub totals : (p : List ℤ → T → Bool) → (total_where p out +ℤ (total_where p xs +ℤ total_where p ys)) ≡ (total_where p us +ℤ total_where p vs)
+  pub totals : (p : List ℤ → T → Bool)
+      → (total_where p out +ℤ (total_where p xs +ℤ total_where p ys)) ≡ (total_where p us +ℤ total_where p vs)
   pub smaller : size out + (size xs + size ys) ≤ size us + size vs
-  pub among : (p : List ℤ → T → Bool) → AllByRecursion (λ u. IsTrue (p u.row u.time)) us → AllByRecursion (λ u. IsTrue (p u.row u.time)) vs → AllByRecursion (λ u. IsTrue (p u.row u.time)) out × AllByRecursion (λ u. IsTrue (p u.row u.time)) xs × AllByRecursion (λ u. IsTrue (p u.row u.time)) ys
+  pub among : (p : List ℤ → T → Bool)
+      → AllByRecursion (λ u. IsTrue (p u.row u.time)) us
+      → AllByRecursion (λ u. IsTrue (p u.row u.time)) vs
+      → AllByRecursion (λ u. IsTrue (p u.row u.time)) out
+      × AllByRecursion (λ u. IsTrue (p u.row u.time)) xs
+      × AllByRecursion (λ u. IsTrue (p u.row u.time)) ys

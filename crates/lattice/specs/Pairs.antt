@@ -52,7 +52,8 @@ module _ {A B : Type 0} {a : A → A → Bool} {b : B → B → Bool} where
   }
 
   -- joins and meets of pairs are least upper and greatest lower bounds
-  pub pair_bounds : {ja ma : A → A → A} {jb mb : B → B → B} → LatticeLaws a ja ma → LatticeLaws b jb mb → LatticeLaws (pair_below a b) (pair_with ja jb) (pair_with ma mb)
+  pub pair_bounds : {ja ma : A → A → A} {jb mb : B → B → B} → LatticeLaws a ja ma → LatticeLaws b jb mb
+      → LatticeLaws (pair_below a b) (pair_with ja jb) (pair_with ma mb)
   pair_bounds la lb = record {
     join_left = λ p q. and_from _ _ (la.join_left _ _) (lb.join_left _ _);
     join_right = λ p q. and_from _ _ (la.join_right _ _) (lb.join_right _ _);
@@ -69,7 +70,8 @@ module _ {A B : Type 0} {a : A → A → Bool} {b : B → B → Bool} where
   }
 
   -- the order of sorting extends the partial order of pairs
-  pub pair_extends : {ca : A → A → Ordering} {cb : B → B → Ordering} → ExtendsLaws a ca → ExtendsLaws b cb → ExtendsLaws (pair_below a b) (pair_cmp ca cb)
+  pub pair_extends : {ca : A → A → Ordering} {cb : B → B → Ordering} → ExtendsLaws a ca → ExtendsLaws b cb
+      → ExtendsLaws (pair_below a b) (pair_cmp ca cb)
   pair_extends la lb = record {
     extends = λ p q h.
         let l = and_parts _ _ h in

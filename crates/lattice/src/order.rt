@@ -1,5 +1,5 @@
 //! The three traits of timestamps. Their ghost members name the order and the operations, so that clauses of every
-//! layer can speak of them. The ghost members with laws stand last; each implementation proves them once.
+//! layer can speak of them. The ghost members with laws come last; each implementation proves them once.
 ghost use Rattle.std.specs.Prelude.{◌≡◌, Bool, IsTrue};
 ghost use Rattle.lattice.specs.Order.{PartialOrderLaws, LatticeLaws, ExtendsLaws};
 

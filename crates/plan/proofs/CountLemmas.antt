@@ -67,7 +67,7 @@ pub when_add : (b : Bool) (m n : ℤ) → cond b (m +ℤ n) (pos 0) ≡ cond b m
 when_add true m n = refl
 when_add false m n = refl
 
--- if all values stand under the same test, then so does their total
+-- a choice made for every value by the same test can be made once, for the total
 pub total_by-when : {X : Type 0} (b : Bool) (f : X → ℤ) (xs : List X) → total_by (λ x. cond b (f x) (pos 0)) xs ≡ cond b (total_by f xs) (pos 0)
 total_by-when b f [] = sym (when_zero b)
 total_by-when b f (x ∷ xs) = ap (λ v. cond b (f x) (pos 0) +ℤ v) (total_by-when b f xs) ∙ sym (when_add b (f x) (total_by f xs))

@@ -21,12 +21,15 @@ output_bound other own bounds = bounds 0
 
 -- the bound of node n, given the own bound of each reduction and the size of each input
 unfoldable pub bound_by : List Node → (ℕ → ℕ) → (ℕ → ℕ) → ℕ → ℕ
-bound_by p own inputs n = found 0 (λ m node bounds. output_bound node (own m) (λ port. source_value (inputs m) bounds (slice_get (sources node) port))) p n
+bound_by p own inputs n =
+    found 0 (λ m node bounds. output_bound node (own m)
+    (λ port. source_value (inputs m) bounds (slice_get (sources node) port))) p n
 
 module _ {T : Type 0} (below : T → T → Bool) (cmp : T → T → Ordering) where
   -- the own bound of each reduction is the size of its differences over all changes
   abbrev pub AreOwn : List Node → (ℕ → List (Update T)) → (ℕ → ℕ) → Type 0
-  AreOwn p changes own = (n source : ℕ) (kind : Kind) → node_at p n ≡ Reduce kind source → (us : List (Update T)) × AreDifferences below cmp p changes [] n us × (own n ≡ size us)
+  AreOwn p changes own = (n source : ℕ) (kind : Kind) → node_at p n ≡ Reduce kind source
+      → (us : List (Update T)) × AreDifferences below cmp p changes [] n us × (own n ≡ size us)
 
   -- w is the bound of node n over all changes
   abbrev pub IsBound : List Node → (ℕ → List (Update T)) → ℕ → ℕ → Type 0

@@ -25,7 +25,8 @@ module _ {T : Type 0} (below : T → T → Bool) where
   open_for p frontiers n = flat_map frontiers (feeders p n)
 
   -- the differences of node n, as of a frontier
-  pub record AreDifferences (cmp : T → T → Ordering) (p : List Node) (changes : ℕ → List (Update T)) (frontier : List T) (n : ℕ) (us : List (Update T)) : Type 0 where
+  pub record AreDifferences (cmp : T → T → Ordering) (p : List Node) (changes : ℕ → List (Update T))
+      (frontier : List T) (n : ℕ) (us : List (Update T)) : Type 0 where
     pub consolidated : IsConsolidated cmp us
     pub passed : IsTrue (list_all (λ u. has_passed frontier u.time) us)
     pub sums : (t : T) → IsTrue (has_passed frontier t) → Alike (as_of below t us) (query_at p changes n t)

@@ -6,7 +6,7 @@ use Rattle.plan.specs.Ancestors.{numbers_below}
 use Rattle.plan.specs.declared.edges.Edge.{Edge}
 use Rattle.plan.specs.declared.node.Node.{Node}
 
--- the number is there and is n
+-- the option holds the number n
 abbrev pub is_number : ℕ → Option ℕ → Bool
 is_number n None = false
 is_number n (Some m) = eqb m n

@@ -22,7 +22,8 @@ same_items = pointwise same_item
 
 item_decides : (a b : Item) → Decides (same_item a b) (a ≡ b)
 item_decides (Column n) (Column m) = ((λ h. ap (λ z. Column z) (eqb-true n m h)), (λ e. eq-eqb n m cc))
-item_decides (Constant x) (Constant y) = ((λ h. ap (λ z. Constant z) ((signed_Decides x y).0 h)), (λ e. (signed_Decides x y).1 cc))
+item_decides (Constant x) (Constant y) =
+    ((λ h. ap (λ z. Constant z) ((signed_Decides x y).0 h)), (λ e. (signed_Decides x y).1 cc))
 item_decides (Column n) (Constant y) = ((λ h. cc), (λ e. cc))
 item_decides (Constant x) (Column m) = ((λ h. cc), (λ e. cc))
 

@@ -43,7 +43,8 @@ pub record Parts : Type 0 where
 abbrev pub parts_of : Node → Parts
 parts_of (Input width) = record { variant = 0; numbers = width ∷ []; items = [] }
 parts_of (Map source items) = record { variant = 1; numbers = source ∷ []; items = items }
-parts_of (Filter source test) = record { variant = 2; numbers = source ∷ cmp_number test.op ∷ []; items = test.left ∷ test.right ∷ [] }
+parts_of (Filter source test) =
+    record { variant = 2; numbers = source ∷ cmp_number test.op ∷ []; items = test.left ∷ test.right ∷ [] }
 parts_of (Concat left right) = record { variant = 3; numbers = left ∷ right ∷ []; items = [] }
 parts_of (Negate source) = record { variant = 4; numbers = source ∷ []; items = [] }
 parts_of (Arrange source key) = record { variant = 5; numbers = source ∷ key ∷ []; items = [] }
@@ -53,7 +54,10 @@ parts_of (Output source) = record { variant = 8; numbers = source ∷ []; items 
 
 -- the nodes have the same variant, numbers and items
 abbrev pub same_node : Node → Node → Bool
-same_node node other = eqb (parts_of node).variant (parts_of other).variant && (pointwise eqb (parts_of node).numbers (parts_of other).numbers && same_items (parts_of node).items (parts_of other).items)
+same_node node other =
+    eqb (parts_of node).variant (parts_of other).variant
+    && (pointwise eqb (parts_of node).numbers (parts_of other).numbers
+    && same_items (parts_of node).items (parts_of other).items)
 
 -- the plans have the same nodes
 abbrev pub same_plan : List Node → List Node → Bool
@@ -113,7 +117,8 @@ found_again : (node : Node) → from_parts (parts_of node) ≡ node
 unfolding from_parts node_from test_from
 found_again (Input width) = refl
 found_again (Map source items) = refl
-found_again (Filter source test) = ap (λ op. Filter source (record { left = test.left; op = op; right = test.right })) (same_cmp_from test.op)
+found_again (Filter source test) =
+    ap (λ op. Filter source (record { left = test.left; op = op; right = test.right })) (same_cmp_from test.op)
 found_again (Concat left right) = refl
 found_again (Negate source) = refl
 found_again (Arrange source key) = refl
@@ -141,7 +146,8 @@ nodes_decide node other = (
   λ e.
       let parts = ap parts_of e in
       and_from _ _ (eq-eqb _ _ (ap (λ (p : Parts). p.variant) parts))
-      (and_from _ _ ((numbers_decide _ _).1 (ap (λ (p : Parts). p.numbers) parts)) ((items_decide _ _).1 (ap (λ (p : Parts). p.items) parts))),
+      (and_from _ _ ((numbers_decide _ _).1 (ap (λ (p : Parts). p.numbers) parts))
+      ((items_decide _ _).1 (ap (λ (p : Parts). p.items) parts))),
 )
 
 -- the test is an equivalence, as `PartialEq` and `Eq` of a node ask

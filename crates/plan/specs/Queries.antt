@@ -13,4 +13,6 @@ source_value outside of (Some source) = of source
 
 -- the bag of node n, given a bag for each input
 unfoldable pub query : List Node → (ℕ → List Entry) → ℕ → List Entry
-query p inputs n = found [] (λ m node bags. operator_output (key_width p node) node (λ port. source_value (inputs m) bags (slice_get (sources node) port))) p n
+query p inputs n =
+    found [] (λ m node bags. operator_output (key_width p node) node
+    (λ port. source_value (inputs m) bags (slice_get (sources node) port))) p n

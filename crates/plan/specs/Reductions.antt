@@ -62,4 +62,5 @@ pub record IsReducer (k : ℕ) (reduce : List ℤ → List Entry → List Entry)
   -- no entries get no answer
   pub nothing : (key : List ℤ) → Alike (reduce key []) []
   -- each row of the answer begins with the key
-  pub keyed : (key row : List ℤ) (entries : List Entry) → length key ≡ k → same_row (take k row) key ≡ false → count_of (reduce key (filter (has_key k key) entries)) row ≡ pos 0
+  pub keyed : (key row : List ℤ) (entries : List Entry) → length key ≡ k → same_row (take k row) key ≡ false
+      → count_of (reduce key (filter (has_key k key) entries)) row ≡ pos 0

@@ -26,13 +26,20 @@ is_width width = nat_le 1 width && nat_le width 8
 -- count can be too wide
 abbrev pub node_faults : List Node → Node → List (Bool × Refusal)
 node_faults p (Input width) = (not (is_width width), BadWidth) ∷ []
-node_faults p (Map source items) = (not (is_width (length items)), BadWidth) ∷ (not (are_within items (width_of p source)), BadColumn) ∷ []
+node_faults p (Map source items) =
+    (not (is_width (length items)), BadWidth)
+    ∷ (not (are_within items (width_of p source)), BadColumn) ∷ []
 node_faults p (Filter source test) = (not (is_test_within test (width_of p source)), BadColumn) ∷ []
 node_faults p (Concat left right) = (not (eqb (width_of p left) (width_of p right)), WidthMismatch) ∷ []
 node_faults p (Negate source) = []
 node_faults p (Arrange source key) = (not (nat_le 1 key && nat_le key (width_of p source)), BadKey) ∷ []
-node_faults p (Join left right) = (not (is_arranged p left && is_arranged p right), NotArranged) ∷ (not (eqb (key_of p left) (key_of p right)), KeyMismatch) ∷ (not (is_width (width_from (key_width p (Join left right)) (Join left right) (width_of p))), BadWidth) ∷ []
-node_faults p (Reduce kind source) = (not (is_arranged p source), NotArranged) ∷ (not (is_width (width_from (key_width p (Reduce kind source)) (Reduce kind source) (width_of p))), BadWidth) ∷ []
+node_faults p (Join left right) =
+    (not (is_arranged p left && is_arranged p right), NotArranged)
+    ∷ (not (eqb (key_of p left) (key_of p right)), KeyMismatch)
+    ∷ (not (is_width (width_from (key_width p (Join left right)) (Join left right) (width_of p))), BadWidth) ∷ []
+node_faults p (Reduce kind source) =
+    (not (is_arranged p source), NotArranged)
+    ∷ (not (is_width (width_from (key_width p (Reduce kind source)) (Reduce kind source) (width_of p))), BadWidth) ∷ []
 node_faults p (Output source) = []
 
 -- the refusal of the first fault that is present
@@ -42,7 +49,9 @@ first_refusal (fault ∷ rest) = if fault.0 then Some fault.1 else first_refusal
 
 -- why the rules refuse a node after the nodes of a plan, if they do
 abbrev pub node_refusal : List Node → Node → Option Refusal
-node_refusal p node = first_refusal ((nat_le 256 (length p), TooManyNodes) ∷ (not (list_all (is_readable p) (sources node)), UnknownName) ∷ node_faults p node)
+node_refusal p node =
+    first_refusal ((nat_le 256 (length p), TooManyNodes)
+    ∷ (not (list_all (is_readable p) (sources node)), UnknownName) ∷ node_faults p node)
 
 -- a list of nodes is a plan if the rules accept each node after the nodes before it
 abbrev pub IsPlan : List Node → Type 0

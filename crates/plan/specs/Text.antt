@@ -37,7 +37,9 @@ node_text (Output source) = codes "view " ++ decimal source
 
 -- a line of a plan: the node's number, the node, the width of its rows, and the end of the line
 abbrev pub line_text : List Node → ℕ → List ℕ
-line_text p n = decimal n ++ (codes ": " ++ (node_text (node_at p n) ++ (codes ", width " ++ (decimal (width_of p n) ++ 10 ∷ []))))
+line_text p n =
+    decimal n ++ (codes ": " ++ (node_text (node_at p n)
+    ++ (codes ", width " ++ (decimal (width_of p n) ++ 10 ∷ []))))
 
 -- a line for each node, in the order of their numbers
 abbrev pub plan_text : List Node → List ℕ

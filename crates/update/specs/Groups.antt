@@ -20,7 +20,9 @@ pub record Group (T : Type 0) : Type 0 where
 -- the groups of a list, if u is the first update of the current group and n is its total so far
 abbrev pub groups_of : {T : Type 0} → (T → T → Ordering) → Update T → ℤ → List (Update T) → List (Group T)
 groups_of cmp u n [] = record { first = u; total = n } ∷ []
-groups_of cmp u n (v ∷ vs) = cond (is_same cmp u v) (groups_of cmp u (n +ℤ v.diff) vs) (record { first = u; total = n } ∷ groups_of cmp v v.diff vs)
+groups_of cmp u n (v ∷ vs) =
+    cond (is_same cmp u v) (groups_of cmp u (n +ℤ v.diff) vs)
+    (record { first = u; total = n } ∷ groups_of cmp v v.diff vs)
 
 -- the one update of a group, or none if its total is 0
 abbrev pub group_sum : {T : Type 0} → Update T → ℤ → List (Update T)
