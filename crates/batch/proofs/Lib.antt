@@ -1,3 +1,4 @@
+-- Lemmas about keys, seals and merges.
 pub mod KeyLemmas
 pub mod SealLemmas
 pub mod SumsLemmas

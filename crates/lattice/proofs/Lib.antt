@@ -1,3 +1,4 @@
+-- Lemmas about bounds, frontiers and representatives.
 pub mod BoundLemmas
 pub mod FrontierLemmas
 pub mod RepresentativeLemmas

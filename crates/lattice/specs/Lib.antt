@@ -1,3 +1,4 @@
+-- The definitions of timestamps: orders, lattices, pairs, frontiers and representatives.
 pub mod Order
 pub mod Frontiers
 pub mod Representatives

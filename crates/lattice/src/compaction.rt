@@ -1,6 +1,6 @@
 //! Representatives of times as of a frontier. If a time is read only at times beyond the frontier, then it may be
-//! replaced by its representative. Times that no such read can tell apart have one representative, so compaction merges
-//! all updates that can be merged.
+//! replaced by its representative. As of a frontier that is not empty, times that no such read can tell apart have one
+//! representative, so compaction merges all updates that can be merged.
 ghost use Rattle.std.specs.Prelude.{◌≡◌, ◌≢◌, List, [], IsTrue};
 ghost use Rattle.lattice.specs.Frontiers.{is_beyond, all_beyond};
 ghost use Rattle.lattice.specs.Representatives.{representative_of, Indistinguishable};
@@ -36,8 +36,9 @@ pub fn representative<T: Lattice>(t: T, frontier: &[T]) -> T
 /// - `reads`: at a time beyond the frontier, a read sees the representative if and only if it sees the time.
 /// - `one`: as of a frontier that is not empty, times that no read can tell apart have one representative.
 /// - `joins`: joined with a time beyond the frontier, the representative and the time give the same result.
-/// - `greatest`: take every time beyond the frontier at which the given time is visible. The representative is the
-///   greatest time at or before all of them. This clause says what a representative is, without its formula.
+/// - `greatest`: as of a frontier that is not empty, take every time beyond the frontier at which the given time is
+///   visible. The representative is the greatest time at or before all of them. This clause says what a representative
+///   is, without its formula.
 /// - `in_steps`: compacting as of one frontier and then as of a later one gives the same as compacting as of the later
 ///   one at once.
 pub fn representatives_are_canonical<T: Lattice>()

@@ -1,3 +1,4 @@
+-- Lemmas about the output of linear nodes.
 pub mod SumLemmas
 pub mod SizeLemmas
 pub mod WidthLemmas

@@ -1,3 +1,4 @@
+-- The definitions of linear nodes: ports, outputs and widths.
 pub mod Applied
 pub mod Ports
 pub mod Widths

@@ -63,9 +63,9 @@ fn negate_diffs<T: Lattice>(updates: &mut [Update<T>]) -> Result<(), Refusal>
 /// keeps the rows that pass, a negation negates each difference, and any other node passes on what comes. The times
 /// stay, and so does the order. At every time, the sum of the output is the operator's output for the sum of the input.
 ///
-/// The node must be no join and no reduction, and the rows must have the columns that its items or its test name; both
-/// hold in a plan ([`plans_fit`](crate::plans_fit)). [`Refusal::Overflow`] if and only if the node is a negation and
-/// some difference is -2^63, whose opposite does not fit in 64 bits; the list is then dropped. Takes no memory.
+/// The node must be no join and no reduction, and its items or its test must name only columns that the rows have; in a
+/// plan they do ([`plans_fit`](crate::plans_fit)). [`Refusal::Overflow`] if and only if the node is a negation and some
+/// difference is -2^63, whose opposite does not fit in 64 bits; the list is then dropped. Takes no memory.
 ///
 /// Cost: linear in the number of updates, and constant if the node passes on what comes. The list is not consolidated:
 /// rows with the same image stay apart.

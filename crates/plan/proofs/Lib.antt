@@ -1,3 +1,4 @@
+-- Lemmas about plans, operators, queries and bounds.
 pub mod AnswerLemmas
 pub mod BoundLemmas
 pub mod ChangeLemmas

@@ -1,3 +1,4 @@
+-- The definitions of plans and queries, with those of updates and frontiers that their contracts name.
 pub use Rattle.lattice.specs.Order
 pub use Rattle.lattice.specs.Frontiers
 pub use Rattle.update.specs.Bags

@@ -1,1 +1,2 @@
+-- Lemmas about rows.
 pub mod RoutingLemmas

@@ -1,3 +1,4 @@
+-- The definitions of rows: projections, routing, tests and text.
 pub mod Projection
 pub mod Routing
 pub mod Testing

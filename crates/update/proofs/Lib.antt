@@ -1,3 +1,4 @@
+-- Lemmas about totals, bags and consolidation.
 pub mod SumLemmas
 pub mod UniqueLemmas
 pub mod LeastLemmas
