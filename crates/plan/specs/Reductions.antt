@@ -28,11 +28,11 @@ present entries = each_once (filter (is_present entries) (map (λ e. e.row) entr
 abbrev pub is_before : List ℤ → List ℤ → Bool
 is_before row other = is_lt (slice_cmp int_cmp row other)
 
--- the rows that no other row is less than
+-- the least rows: no row of the list is less
 abbrev pub least_rows : List (List ℤ) → List (List ℤ)
 least_rows rows = filter (λ row. not (list_any (λ other. is_before other row) rows)) rows
 
--- the rows that are less than no other row
+-- the greatest rows: they are less than no row of the list
 abbrev pub greatest_rows : List (List ℤ) → List (List ℤ)
 greatest_rows rows = filter (λ row. not (list_any (λ other. is_before row other) rows)) rows
 
@@ -40,7 +40,7 @@ greatest_rows rows = filter (λ row. not (list_any (λ other. is_before row othe
 abbrev pub sum_of_counts : List Entry → ℤ
 sum_of_counts entries = total_by (λ e. e.count) entries
 
--- the key followed by that sum, unless it is 0
+-- the key followed by n, unless n is 0
 abbrev pub count_answer : List ℤ → ℤ → List Entry
 count_answer key n = if int_eq n (pos 0) then [] else single (key ++ n ∷ []) ∷ []
 
@@ -59,7 +59,7 @@ has_key k key e = same_row (take k e.row) key
 pub record IsReducer (k : ℕ) (reduce : List ℤ → List Entry → List Entry) : Type 0 where
   -- alike bags get alike answers
   pub alike : (key : List ℤ) (a b : List Entry) → Alike a b → Alike (reduce key a) (reduce key b)
-  -- no entries get no answer
+  -- without entries there is no answer
   pub nothing : (key : List ℤ) → Alike (reduce key []) []
   -- each row of the answer begins with the key
   pub keyed : (key row : List ℤ) (entries : List Entry) → length key ≡ k → same_row (take k row) key ≡ false

@@ -23,7 +23,7 @@ kind_text Distinct = codes "distinct"
 kind_text Min = codes "min"
 kind_text Max = codes "max"
 
--- the word of the node, its sources, and its other parameters, separated by one space
+-- the word of the node, its sources and its parameters, separated by one space
 abbrev pub node_text : Node → List ℕ
 node_text (Input width) = codes "input " ++ decimal width
 node_text (Map source items) = codes "map " ++ (decimal source ++ (codes " " ++ items_text items))
