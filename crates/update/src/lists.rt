@@ -69,6 +69,18 @@ impl<T: Lattice> Updates<T> {
         Ok(())
     }
 
+    /// A copy, in memory from this allocator. Refused only with `OutOfMemory`. Cost: linear in the number of updates.
+    pub fn copy(&self, alloc: Global) -> Result<Updates<T>, Refusal>
+        ensures copied { IfOk result (λ copy. copy ≡ self.now) }
+        ensures refused { IfErr result (λ refusal. refusal ≡ OutOfMemory) }
+    {
+        let mut items = Vec::with_capacity(alloc, self.items.len())?;
+        for update in self.as_slice() {
+            items.push(update.copy())?;
+        }
+        Ok(Updates { items })
+    }
+
     /// Moves all updates of `more` to the end of this list. Refused only with `OutOfMemory`, and then both lists are as
     /// before.
     pub fn append(&mut self, more: &mut Updates<T>) -> Result<(), Refusal>

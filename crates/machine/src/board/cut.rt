@@ -9,7 +9,7 @@ ghost use Rattle.update.specs.declared.refusal.Refusal.TheVariants.{OutOfMemory}
 ghost use Rattle.machine.specs.Histories.States.{place};
 ghost use Rattle.machine.specs.Histories.Cuts.{part_by_key, bundled, bundles_along};
 
-use crate::board::workers::{copied, stamp_of};
+use crate::board::workers::stamp_of;
 use crate::histories::event::{Bundle, Emission, Site};
 use lattice::Minimum;
 use plan::Edge;
@@ -28,8 +28,8 @@ pub(crate) fn push_for_giver<T: Minimum>(
         emission.now.updates) }
     ensures refused { IfErr result (λ refusal. refusal ≡ OutOfMemory) }
 {
-    let updates = copied(*sent.allocator(), emission.updates.as_slice())?;
-    push_bundle(sent, place_at(edge, emission.worker), updates.into())
+    let updates = emission.updates.copy(*sent.allocator())?;
+    push_bundle(sent, place_at(edge, emission.worker), updates)
 }
 
 // The bundles for the workers that get something by their keys, of so many columns, behind.

@@ -22,21 +22,6 @@ use std::alloc::Global;
 use std::snapshot::Snapshot;
 use update::{Refusal, Update};
 
-// A copy of the updates.
-pub(crate) fn copied<T: Minimum>(
-    alloc: Global,
-    updates: &[Update<T>],
-) -> Result<Vec<Update<T>>, Refusal>
-    ensures copied { IfOk result (λ copy. copy.items ≡ updates.now) }
-    ensures refused { IfErr result (λ refusal. refusal ≡ OutOfMemory) }
-{
-    let mut copy = Vec::with_capacity(alloc, updates.len())?;
-    for update in updates {
-        copy.push(update.copy())?;
-    }
-    Ok(copy)
-}
-
 // The frontier of the times of updates.
 #[tactic(auto, unfolding(crate::specs::Histories::Outstanding::stamp))]
 pub(crate) fn stamp_of<T: Minimum>(alloc: Global, updates: &[Update<T>]) -> Result<Vec<T>, Refusal>
