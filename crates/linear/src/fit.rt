@@ -5,7 +5,7 @@ ghost use Rattle.linear.specs.Widths.{takes_items, takes_width, takes_rows};
 
 use lattice::Lattice;
 use plan::Node;
-use row::{Item, are_within};
+use row::{Item, MAX_WIDTH, are_within};
 use update::Update;
 
 /// Whether each row has the columns that the node names, and the node makes a row of it. Takes no memory.
@@ -41,5 +41,5 @@ fn takes_items(items: &[Item], columns: usize) -> bool
 fn is_width(columns: usize) -> bool
     ensures { result ≡ is_width columns }
 {
-    1 <= columns && columns <= 8
+    1 <= columns && columns <= MAX_WIDTH
 }

@@ -60,8 +60,8 @@ pub above_local : (p : List Node) (m limit : ℕ) → Local p p (above_step m) (
 above_local p m limit n l f g h = ap (λ b. eqb m n || b) (list_any_same f g (sources (node_at p n)) h)
 
 -- the step for bounds looks only at the sources
-pub summed_size_local : (p : List Node) (own inputs : ℕ → ℕ) (limit : ℕ) → Local p p (bound_step own inputs) (bound_step own inputs) limit
-summed_size_local p own inputs limit n l f g h = ap (output_bound (node_at p n) (own n)) (ports_same (inputs n) f g (node_at p n) h)
+pub bound_local : (p : List Node) (own inputs : ℕ → ℕ) (limit : ℕ) → Local p p (bound_step own inputs) (bound_step own inputs) limit
+bound_local p own inputs limit n l f g h = ap (output_bound (node_at p n) (own n)) (ports_same (inputs n) f g (node_at p n) h)
 
 -- each property of a plan's node follows from the same property of its sources
 module _ (p : List Node) (plan : IsPlan p) where
@@ -83,7 +83,7 @@ module _ (p : List Node) (plan : IsPlan p) where
   -- the bound of a node, from the bounds of its sources
   pub bound_by_sources : (own inputs : ℕ → ℕ) (n : ℕ) → bound_by p own inputs n ≡ output_bound (node_at p n) (own n) (λ port. source_value (inputs n) (bound_by p own inputs) (slice_get (sources (node_at p n)) port))
   unfolding bound_by
-  bound_by_sources own inputs n = found_by_sources 0 p (bound_step own inputs) (suc n) (smaller p plan (suc n)) (summed_size_local p own inputs (suc n)) n (omega arith)
+  bound_by_sources own inputs n = found_by_sources 0 p (bound_step own inputs) (suc n) (smaller p plan (suc n)) (bound_local p own inputs (suc n)) n (omega arith)
 
 -- a plan that is extended
 module _ (p more : List Node) (plan : IsPlan p) where
@@ -124,7 +124,7 @@ module _ (p more : List Node) (plan : IsPlan p) where
   -- extending a plan changes no bound
   pub bound_before_more : (own inputs : ℕ → ℕ) (n : ℕ) → n < length p → bound_by (p ++ more) own inputs n ≡ bound_by p own inputs n
   unfolding bound_by
-  bound_before_more own inputs = kept 0 (bound_step own inputs) (bound_step own inputs) (summed_size_local p own inputs (length p)) (λ n l. refl)
+  bound_before_more own inputs = kept 0 (bound_step own inputs) (bound_step own inputs) (bound_local p own inputs (length p)) (λ n l. refl)
 
 -- a node that is added to a plan
 module _ (p : List Node) (node : Node) (plan : IsPlan p) (unrefused : node_refusal p node ≡ None) where

@@ -6,7 +6,7 @@
 ghost use Rattle.std.specs.Prelude.{◌≡◌, ◌≤◌, length, IsTrue};
 ghost use Rattle.row.specs.Projection.{item_value, is_within, are_within, projection};
 
-use crate::Row;
+use crate::{MAX_WIDTH, Row};
 
 /// Where a column comes from.
 #[derive(Clone, Copy, PartialEq, Eq)]
@@ -56,7 +56,7 @@ pub fn project(row: &Row, items: &[Item]) -> Row
     requires within { IsTrue (are_within items.now (length row.now)) }
     ensures { result ≡ projection items.now row.now }
 {
-    let mut values = [0; 8];
+    let mut values = [0; MAX_WIDTH];
     for (i, item) in items.iter().enumerate() {
         values[i] = item.value(row);
     }
