@@ -1,10 +1,10 @@
-//! The board: what lies between clients and workers.
+//! The board: the state between clients and workers.
 //!
-//! A board holds what a history leaves, and no more of the history than its last event: at each place the bundles that
-//! wait there, the times that workers hold, the frontiers of the inputs, each worker's piece in hand, what views captured,
-//! and how many changes each input accepted. There is no list of the changes. Which histories it may stand for is said by
-//! `Stands`; every call says what it makes of them: whatever history the board stood for, it then stands for one event
-//! more.
+//! A board holds what a history leaves, and of the history itself only the last event: the bundles that wait at each
+//! place, the times that workers hold, the frontiers of the inputs, each worker's piece in hand, what views captured,
+//! and how many changes each input accepted. There is no list of the changes. `Stands` says which histories a board
+//! may stand for. Every event keeps one invariant: if the board may stand for a history before the call, it stands
+//! afterwards for that history with one event more.
 ghost use Rattle.std.specs.Prelude.{◌≡◌, ◌≤◌, List, [], ◌∷◌, None, IfErr, IfOk, replicate};
 ghost use Rattle.update.specs.declared.refusal.Refusal.TheVariants.{OutOfMemory};
 ghost use Rattle.machine.specs.Histories.Dataflows.{IsDataflow};
@@ -39,7 +39,7 @@ use std::marker::Model;
 use std::snapshot::Snapshot;
 use update::Refusal;
 
-/// What lies between clients and workers. A contract sees what lies on it.
+/// The state between clients and workers. A contract sees all of it as a `BoardState`.
 #[derive(Drop)]
 pub struct Board<T: Minimum> {
     pub(crate) plan: Graph,
@@ -49,7 +49,7 @@ pub struct Board<T: Minimum> {
     pub(crate) hand: Vec<Option<NodeId>>,
     pub(crate) accepted: Vec<usize>,
     pub(crate) views: Vec<View<T>>,
-    // For clauses alone: it has no bytes, so that nothing is copied for it.
+    // For clauses alone: it has no bytes, so nothing is copied for it.
     pub(crate) last: Snapshot<Event<T>>,
 }
 
@@ -81,10 +81,10 @@ impl<T: Minimum> Model for Board<T> {
 }
 
 impl<T: Minimum> Board<T> {
-    /// A board of a plan, on which nothing has happened yet: each input's frontier, and each view's since, is the least
+    /// A board of a plan on which nothing has happened yet: each input's frontier and each view's since is the least
     /// time. Refused only with `OutOfMemory`.
     ///
-    /// Cost: the square of the nodes, of which a plan has 256 at most, and the nodes times the workers.
+    /// Cost: the square of the nodes, of which a plan has at most 256, and the nodes times the workers.
     pub fn open(alloc: Global, plan: Plan, workers: usize) -> Result<Board<T>, Refusal>
         requires { 1 ≤ workers }
         ensures first { IfOk result (λ board.
@@ -96,7 +96,7 @@ impl<T: Minimum> Board<T> {
         Board::first(alloc, graph, workers)
     }
 
-    // The first board of a graph. `new` adds that it stands for the empty history.
+    // Makes the first board of a graph. `open` adds that it stands for the empty history.
     fn first(alloc: Global, plan: Graph, workers: usize) -> Result<Board<T>, Refusal>
         requires { 1 ≤ workers }
         ensures first { IfOk result (λ board.
@@ -130,7 +130,7 @@ impl<T: Minimum> Board<T> {
         self.workers
     }
 
-    /// Costs nothing; it tells the prover that the board is one, and that its workers run a plan.
+    /// Costs nothing. It tells the prover that the board keeps its invariant and that its dataflow is well formed.
     pub fn known(&self)
         ensures dataflow { IsDataflow self.now.dataflow }
         ensures board { IsBoard self.now }
@@ -145,7 +145,7 @@ impl<T: Minimum> Board<T> {
         self.plan.plan()
     }
 
-    // An event is the board's last.
+    // Records an event as the board's last.
     pub(crate) fn note(&mut self, event: Snapshot<Event<T>>)
         ensures noted { self.new ≡ record self.old { last = event.value } }
         ensures board { IsBoard self.old }
@@ -153,7 +153,7 @@ impl<T: Minimum> Board<T> {
         self.last = event;
     }
 
-    /// A client or worker looks, and the board is as it was. Takes no memory.
+    /// A client or worker looks, and the board stays as it is. Takes no memory.
     pub fn look(&mut self, actor: usize)
         ensures looked { self.new ≡ after_look actor self.old }
         ensures stands { (h : List (Event T)) → Stands T.below T.least self.old h
@@ -163,7 +163,7 @@ impl<T: Minimum> Board<T> {
     }
 }
 
-// No worker has a piece in hand.
+// The list of hands when no worker has a piece in hand.
 fn empty_hands(alloc: Global, workers: usize) -> Result<Vec<Option<NodeId>>, Refusal>
     ensures empty { IfOk result (λ hand. hand.items ≡ replicate workers None) }
     ensures refused { IfErr result (λ refusal. refusal ≡ OutOfMemory) }
@@ -175,7 +175,7 @@ fn empty_hands(alloc: Global, workers: usize) -> Result<Vec<Option<NodeId>>, Ref
     Ok(hand)
 }
 
-// No input has accepted a change.
+// The counts when no input has accepted a change.
 fn no_changes(alloc: Global, nodes: usize) -> Result<Vec<usize>, Refusal>
     ensures none { IfOk result (λ accepted. accepted.items ≡ replicate nodes 0) }
     ensures refused { IfErr result (λ refusal. refusal ≡ OutOfMemory) }
@@ -187,7 +187,7 @@ fn no_changes(alloc: Global, nodes: usize) -> Result<Vec<usize>, Refusal>
     Ok(accepted)
 }
 
-// No view has captured anything, and each may be read at all times.
+// The views before the first event: none has captured anything, and each may be read at all times.
 fn first_views<T: Minimum>(alloc: Global, nodes: usize) -> Result<Vec<View<T>>, Refusal>
     ensures first { IfOk result (λ views.
         views.items ≡ replicate nodes (record { since = T.least ∷ []; captured = [] })) }

@@ -9,8 +9,8 @@ use lattice::Minimum;
 use plan::NodeId;
 
 impl<T: Minimum> Board<T> {
-    /// A place of a node on a worker at which a bundle waits: its first port, or where nothing waits there its second. None
-    /// where no bundle waits at any port. Takes no memory, and constant time.
+    /// The place of a node on a worker at which a bundle waits: its first port, or if nothing waits there, its
+    /// second. `None` if no bundle waits at any port. Takes no memory, and constant time.
     pub fn waiting_at(&self, node: NodeId, worker: usize) -> Option<Site>
         ensures node { IfSome result (λ site. site.node ≡ node) }
         ensures worker { IfSome result (λ site. site.worker ≡ worker) }
@@ -24,14 +24,14 @@ impl<T: Minimum> Board<T> {
         Some(Site { node, port, worker })
     }
 
-    /// How many bundles wait at a place. Takes no memory, and constant time.
+    /// The number of bundles that wait at a place. Takes no memory, and constant time.
     pub fn waiting(&self, site: &Site) -> usize
         ensures { result ≡ length (queue_of self.now.stations site.now) }
     {
         self.stations.waiting(site)
     }
 
-    /// The node of the piece that a worker has in hand. Takes no memory.
+    /// The node of the piece that a worker has in hand, if it has one. Takes no memory.
     pub fn in_hand(&self, worker: usize) -> Option<NodeId>
         requires { worker < self.now.dataflow.workers }
         ensures { result ≡ get_or self.now.hand worker None }

@@ -1,6 +1,6 @@
-//! The events of clients: changes of the inputs' tables, and the inputs' frontiers. A change that may not be fed, or a
-//! frontier that would go back, is refused, and then the event is a look: the history shows that the client was there, and
-//! that it did nothing.
+//! The events of clients: changes of the inputs' tables, and moves of the inputs' frontiers. If a change may not be
+//! fed, or a frontier would go back, the call is refused and the event is a look. The history then shows that the
+//! client was there and did nothing.
 ghost use Rattle.std.specs.Prelude.{◌≡◌, ◌<◌, ◌≤◌, ◌+◌, List, [], ◌∷◌, None, Some, IfErr, IfOk, OnErr, OnOk, length};
 ghost use Rattle.update.specs.declared.refusal.Refusal.TheVariants.{OutOfMemory};
 ghost use Rattle.update.specs.Refusals.{IsRefusalBy};
@@ -20,12 +20,12 @@ use std::snapshot::Snapshot;
 use update::{Refusal, Times, Update};
 
 impl<T: Minimum> Board<T> {
-    /// A client changes an input's table. The change comes to the input on the worker of its whole row.
+    /// A client changes an input's table. The change goes to the input on the worker of its whole row.
     ///
-    /// Refused for what [`InputFrontiers::feed_refusal`](crate::InputFrontiers::feed_refusal) names, in its order, or else
-    /// with `OutOfMemory`. After a refusal the event is a look, and nothing else changed.
+    /// Refused first with what [`InputFrontiers::feed_refusal`](crate::InputFrontiers::feed_refusal) answers, then
+    /// with `OutOfMemory`. After a refusal the event is a look, and nothing else changes.
     ///
-    /// Cost: linear in the elements of the input's frontier.
+    /// Cost: linear in the elements of the input's frontier, apart from the queue's growth now and then.
     pub fn feed(&mut self, client: usize, input: NodeId, update: Update<T>) -> Result<(), Refusal>
         requires client { self.old.dataflow.workers ≤ client }
         requires input { IsInput self.old.dataflow input }
@@ -64,7 +64,7 @@ impl<T: Minimum> Board<T> {
         }
     }
 
-    // Puts the change on the board, and gives the event that is to be noted.
+    // Puts the change on the board, and returns the event to be recorded.
     fn accept(
         &mut self,
         client: usize,
@@ -94,7 +94,7 @@ impl<T: Minimum> Board<T> {
         Ok(event)
     }
 
-    // The change waits at its input, and moves there.
+    // Moves the change to its input, where it then waits.
     fn send_change(&mut self, input: NodeId, update: Update<T>) -> Result<(), Refusal>
         ensures sent { OnOk result (self.new ≡ put_change (change_to input update) self.old) }
         ensures refused { IfErr result (λ refusal. refusal ≡ OutOfMemory) }
@@ -109,11 +109,11 @@ impl<T: Minimum> Board<T> {
         self.stations.put(&site, Parcel::Change(update))
     }
 
-    /// A client gives up the times of an input that are not beyond a frontier: no change may be fed there any more. With no
-    /// time the input is closed.
+    /// A client moves an input's frontier forward. From then on no change may be fed at a time that is not beyond it.
+    /// With no times the input is closed.
     ///
-    /// Refused with `NotForward` where one of the times is not beyond the old frontier, and never else: it takes no memory.
-    /// After a refusal the event is a look, and nothing else changed.
+    /// Refused only with `NotForward`, if one of the times is not beyond the old frontier. Takes no memory. After a
+    /// refusal the event is a look, and nothing else changes.
     ///
     /// Cost: the product of the times and the elements of the input's old frontier.
     pub fn advance(&mut self, client: usize, input: NodeId, times: Times<T>) -> Result<(), Refusal>
@@ -153,7 +153,7 @@ impl<T: Minimum> Board<T> {
         }
     }
 
-    /// A client closes an input: no change may be fed there any more. This is never refused, and takes no memory.
+    /// A client closes an input: from then on no change may be fed there. Never refused. Takes no memory.
     pub fn close(&mut self, client: usize, input: NodeId)
         requires client { self.old.dataflow.workers ≤ client }
         requires input { IsInput self.old.dataflow input }

@@ -1,9 +1,9 @@
-//! What a worker gave, cut into bundles along an edge: one for each worker that gets something. Into an arrange node an
-//! update goes to the worker of its key; along every other edge it stays on its worker.
+//! Cuts what a worker gave into bundles along an edge, one for each worker that gets something. Into an arrange node,
+//! an update goes to the worker of its key. Along every other edge it stays on its worker.
 //!
-//! A bundle is never empty: so each bundle that waits is something to do, and no more is sent than there is. The clauses
-//! say which bundles there are, in the order in which they are made. A giver needs of them only that each place gets
-//! exactly its share.
+//! No bundle is empty. So each bundle that waits is work to do, and no more is sent than there is. The clauses say
+//! which bundles there are and in which order they are made. `give` relies only on each place getting exactly its
+//! share, in bundles that are stamped and not empty.
 ghost use Rattle.std.specs.Prelude.{◌≡◌, ◌<◌, ◌≤◌, ◌++◌, IfErr, IfOk, OnOk, get_or, length, replicate, take, ℕ, []};
 ghost use Rattle.update.specs.declared.refusal.Refusal.TheVariants.{OutOfMemory};
 ghost use Rattle.machine.specs.Histories.States.{place};
@@ -17,7 +17,7 @@ use row::Row;
 use std::alloc::Global;
 use update::{Refusal, Update, Updates};
 
-// The bundle for the worker that gave, behind.
+// Appends the bundle that stays on the worker that gave it.
 pub(crate) fn push_for_giver<T: Minimum>(
     sent: &mut Vec<Bundle<T>>,
     edge: &Edge,
@@ -32,7 +32,7 @@ pub(crate) fn push_for_giver<T: Minimum>(
     push_bundle(sent, place_at(edge, emission.worker), updates)
 }
 
-// The bundles for the workers that get something by their keys, of so many columns, behind.
+// Appends the bundles for the workers that get something by their keys, of this many columns.
 pub(crate) fn push_for_workers<T: Minimum>(
     sent: &mut Vec<Bundle<T>>,
     edge: &Edge,
@@ -51,7 +51,7 @@ pub(crate) fn push_for_workers<T: Minimum>(
     push_bundles(sent, edge, parts)
 }
 
-// Copies of the updates, by worker: each goes to the worker of its key, of so many columns.
+// Copies the updates, by worker: each goes to the worker of its key, of this many columns.
 fn parts_by_key<T: Minimum>(
     alloc: Global,
     updates: &[Update<T>],
@@ -72,7 +72,7 @@ fn parts_by_key<T: Minimum>(
     Ok(parts)
 }
 
-// For each worker nothing yet.
+// An empty part for each worker.
 fn no_parts<T: Minimum>(alloc: Global, workers: usize) -> Result<Vec<Updates<T>>, Refusal>
     ensures none { IfOk result (λ parts. parts.items ≡ replicate workers []) }
     ensures refused { IfErr result (λ refusal. refusal ≡ OutOfMemory) }
@@ -84,7 +84,7 @@ fn no_parts<T: Minimum>(alloc: Global, workers: usize) -> Result<Vec<Updates<T>>
     Ok(parts)
 }
 
-// The bundles at the end of an edge, of what each worker gets, behind.
+// Appends the bundles that go along an edge, from each worker's part.
 fn push_bundles<T: Minimum>(
     sent: &mut Vec<Bundle<T>>,
     edge: &Edge,
@@ -100,7 +100,7 @@ fn push_bundles<T: Minimum>(
     Ok(())
 }
 
-// A bundle of these updates, behind, if there are any.
+// Appends a bundle of these updates, if there are any.
 fn push_bundle<T: Minimum>(
     sent: &mut Vec<Bundle<T>>,
     place: Site,
@@ -120,7 +120,7 @@ fn push_bundle<T: Minimum>(
     Ok(())
 }
 
-// Where an edge ends, on a worker.
+// The place at the end of an edge, on a worker.
 fn place_at(edge: &Edge, worker: usize) -> Site
     ensures { result ≡ place edge.now.reader edge.now.port worker }
 {
@@ -131,7 +131,7 @@ fn place_at(edge: &Edge, worker: usize) -> Site
     }
 }
 
-// The first columns of a row, so many as it has of them.
+// The first columns of a row; all of them if the row has fewer.
 fn key(row: &Row, columns: usize) -> &[i64]
     ensures key { result.now ≡ take columns row.now }
     ensures few { length result.now ≤ 8 }

@@ -1,4 +1,5 @@
-//! What a worker computed is given: it goes on to the next nodes, and what a view gets is captured.
+//! The event by which a worker gives what it computed. The updates go on to the next nodes; at a view they are
+//! captured.
 ghost use Rattle.std.specs.Prelude.{◌≡◌, ◌<◌, List, ◌∷◌, None, if◌then◌else◌, IfErr, OnErr, OnOk, length};
 ghost use Rattle.machine.specs.declared.histories.event.Event.{Event};
 ghost use Rattle.machine.specs.Boards.Stations.{lots, HasRoomFor};
@@ -13,28 +14,37 @@ use plan::NodeId;
 use std::alloc::Global;
 use update::{Refusal, Times};
 
-/// What could not be given for want of memory: all that was to be.
+/// The arguments of a `give` that ran out of memory, returned unchanged.
 #[derive(Drop)]
 pub struct Ungiven<T> {
-    /// What a worker computed.
+    /// The updates that the worker computed.
     pub emission: Emission<T>,
-    /// The times that it would then have held.
+    /// The times that it would have held from then on.
     pub held: Times<T>,
-    /// What would have been sent.
+    /// The bundles that would have been sent.
     pub sent: Bundles<T>,
 }
 
 impl<T: Minimum> Board<T> {
-    /// A worker gives what it computed at the node that it has in hand: the updates, the times that it holds there from
-    /// then on, and the bundles that are sent. It then has nothing in hand. What is given at a view is captured.
+    /// A worker gives what it computed at the node that it has in hand: the updates, the times that it holds there
+    /// from then on, and the bundles that are sent. After that it has nothing in hand. If the node is a view, the
+    /// updates are captured.
     ///
-    /// The board stands for that event if it may happen: if all that is given, held and sent is beyond the times that the
-    /// worker held, the node law and the load rule hold after it, and each place is sent exactly its share. The board does not test that, since
-    /// nothing on it tells what the worker received.
+    /// The board stands for that event if the event is allowed. It is allowed if all of this holds:
     ///
-    /// Refused only for want of memory; then all comes back, the event is a look, and nothing else changed.
+    /// - The worker has the node in hand.
+    /// - All times that are given, held and stamped are beyond the times that the worker held, and each bundle's
+    ///   times are beyond its stamp.
+    /// - The node law and the load rule hold after it.
+    /// - Each place is sent exactly its share, and no bundle is empty.
     ///
-    /// Cost: linear in the bundles that are sent; what is given, held and sent moves.
+    /// The board tests none of this. It could not test the two rules, since nothing on it tells what the worker
+    /// received.
+    ///
+    /// Refused only if memory runs out. Then all arguments come back, the event is a look, and nothing else changes.
+    ///
+    /// Cost: linear in the bundles that are sent, and at a view in the updates, which are appended. Nothing is
+    /// copied: what is given, held and sent moves.
     pub fn give(
         &mut self,
         emission: Emission<T>,
@@ -83,7 +93,7 @@ impl<T: Minimum> Board<T> {
         }
     }
 
-    // Does all that `give` does but note the event. What is given moves to where it goes.
+    // Does all that `give` does, except that it does not record the event. What is given moves to where it goes.
     fn try_give(
         &mut self,
         mut emission: Emission<T>,
@@ -124,7 +134,7 @@ impl<T: Minimum> Board<T> {
     }
 }
 
-// All of a give that may be refused: there is room for what is sent, and what a view gets is captured.
+// The part of a give that may be refused: it reserves room for the bundles, and captures the updates at a view.
 fn prepare<T: Minimum>(
     stations: &mut Stations<T>,
     views: &mut Vec<View<T>>,
@@ -148,7 +158,7 @@ fn prepare<T: Minimum>(
     capture(views, is_view, emission)
 }
 
-// What a node gave is captured where the node is a view.
+// Captures what a node gave, if the node is a view.
 fn capture<T: Minimum>(
     views: &mut Vec<View<T>>,
     is_view: bool,

@@ -1,6 +1,6 @@
-//! Frontiers, found on a board from scratch: from what is in flight, what is held and what the inputs leave open, at a node
-//! or above it, on every worker. Nothing is kept between two questions but the plan's graph, which never changes. So nothing
-//! can be out of date.
+//! Frontiers, found on a board from scratch: from what is in flight, what is held and what the inputs leave open, at
+//! a node or above it, on every worker. Between two questions nothing is kept except the plan's graph, which never
+//! changes. So nothing can be out of date.
 ghost use Rattle.std.specs.Prelude.{List, ◌≡◌, ◌<◌, ◌++◌, ◌&&◌, not, eqb, if◌then◌else◌, [], IfErr, IfOk, OnOk, length};
 ghost use Rattle.std.specs.List.{flat_map, list_any};
 ghost use Rattle.lattice.specs.Frontiers.{is_beyond};
@@ -27,7 +27,7 @@ use plan::NodeId;
 use std::alloc::Global;
 use update::Refusal;
 
-// Whether the stamp of a bundle at the node or above it is at or before a time.
+// Whether the stamp of some bundle at the node or above it has an element at or before a time.
 fn are_in_flight<T: Minimum>(plan: &Graph, stations: &Stations<T>, node: NodeId, t: &T) -> bool
     requires { node < length plan.now }
     ensures { result ≡ list_any (λ n.
@@ -101,7 +101,7 @@ fn are_open<T: Minimum>(plan: &Graph, inputs: &InputFrontiers<T>, node: NodeId, 
     false
 }
 
-// The stamps of the bundles at the node or above it, behind.
+// Appends the stamps of the bundles at the node or above it.
 fn push_in_flight<T: Minimum>(
     all: &mut Vec<T>,
     plan: &Graph,
@@ -123,7 +123,7 @@ fn push_in_flight<T: Minimum>(
     Ok(())
 }
 
-// The times that are held at the node or above it, behind.
+// Appends the times that are held at the node or above it.
 fn push_held<T: Minimum>(
     all: &mut Vec<T>,
     plan: &Graph,
@@ -145,7 +145,7 @@ fn push_held<T: Minimum>(
     Ok(())
 }
 
-// The times that are held above the node alone, behind.
+// Appends the times that are held above the node, not at it.
 fn push_held_above<T: Minimum>(
     all: &mut Vec<T>,
     plan: &Graph,
@@ -168,7 +168,7 @@ fn push_held_above<T: Minimum>(
     Ok(())
 }
 
-// The elements of the frontiers of the inputs at the node or above it, behind.
+// Appends the elements of the frontiers of the inputs at the node or above it.
 fn push_open<T: Minimum>(
     all: &mut Vec<T>,
     plan: &Graph,
@@ -191,7 +191,7 @@ fn push_open<T: Minimum>(
     Ok(())
 }
 
-// The least of the times.
+// The least of the times, as an antichain.
 fn least_of<T: Minimum>(alloc: Global, times: Vec<T>) -> Result<Antichain<T>, Refusal>
     ensures least { IfOk result (λ frontier. SameElements frontier (least T.below times.items)) }
     ensures beyond { IfOk result (λ frontier. (t : T)
@@ -203,8 +203,8 @@ fn least_of<T: Minimum>(alloc: Global, times: Vec<T>) -> Result<Antichain<T>, Re
 }
 
 impl<T: Minimum> Board<T> {
-    /// Whether the frontier of a node has passed a time: nothing that is in flight, held or open at the node or above it is
-    /// at or before the time. Takes no memory.
+    /// Whether the frontier of a node has passed a time: nothing that is in flight, held or open at the node or above
+    /// it is at or before the time. Takes no memory.
     ///
     /// Cost: linear in the nodes times the workers, and in what is in flight, held and open at the node or above it.
     pub fn has_passed(&mut self, node: NodeId, t: &T) -> bool
@@ -217,7 +217,7 @@ impl<T: Minimum> Board<T> {
         self.is_passed(node, t)
     }
 
-    // Answers `has_passed` of a board that is only lent, as reads need it.
+    // Answers `has_passed` for a board that is only borrowed, as reads need it.
     pub(crate) fn is_passed(&self, node: NodeId, t: &T) -> bool
         requires { node < length self.now.dataflow.nodes }
         ensures value { result ≡ has_passed T.below (front T.below self.now node) t.now }
@@ -227,8 +227,8 @@ impl<T: Minimum> Board<T> {
         !(self.is_in_flight(node, t) | self.is_held(node, t) | self.is_open(node, t))
     }
 
-    /// Whether the input frontier of a node has passed a time: then nothing more comes to the node at or before it. Takes no
-    /// memory.
+    /// Whether the input frontier of a node has passed a time. If it has, nothing more comes to the node at or before
+    /// that time. Takes no memory.
     ///
     /// Cost: linear in the nodes times the workers, and in what is in flight, held and open at the node or above it.
     pub fn input_has_passed(&mut self, node: NodeId, t: &T) -> bool
@@ -242,7 +242,7 @@ impl<T: Minimum> Board<T> {
         self.is_input_passed(node, t)
     }
 
-    // Answers `input_has_passed` of a board that is only lent.
+    // Answers `input_has_passed` for a board that is only borrowed.
     pub(crate) fn is_input_passed(&self, node: NodeId, t: &T) -> bool
         requires { node < length self.now.dataflow.nodes }
         ensures value { result ≡ has_passed T.below (input_front T.below self.now node) t.now }
@@ -253,7 +253,7 @@ impl<T: Minimum> Board<T> {
         !(self.is_in_flight(node, t) | self.is_held_above(node, t) | self.is_open(node, t))
     }
 
-    // Whether the stamp of a bundle at the node or above it is at or before a time.
+    // Whether the stamp of some bundle at the node or above it has an element at or before a time.
     fn is_in_flight(&self, node: NodeId, t: &T) -> bool
         requires { node < length self.now.dataflow.nodes }
         ensures { result ≡ list_any (λ b.
@@ -293,10 +293,10 @@ impl<T: Minimum> Board<T> {
         are_open(&self.plan, &self.inputs, node, t)
     }
 
-    /// The frontier of a node: the least of the times that are in flight, held or open at the node or above it. Refused only
-    /// with `OutOfMemory`.
+    /// The frontier of a node: the least of the times that are in flight, held or open at the node or above it.
+    /// Refused only with `OutOfMemory`.
     ///
-    /// Cost: that of [`Board::has_passed`], and each of the times is compared with the elements of the frontier.
+    /// Cost: that of [`Board::has_passed`], and a comparison of each of the times with the elements of the frontier.
     pub fn frontier(&mut self, node: NodeId) -> Result<Antichain<T>, Refusal>
         requires { node < length self.old.dataflow.nodes }
         ensures kept { self.new ≡ self.old }
@@ -312,7 +312,7 @@ impl<T: Minimum> Board<T> {
         self.front_of(node)
     }
 
-    // Finds `frontier` on a board that is only lent, as reads need it.
+    // Finds `frontier` on a board that is only borrowed, as reads need it.
     pub(crate) fn front_of(&self, node: NodeId) -> Result<Antichain<T>, Refusal>
         requires { node < length self.now.dataflow.nodes }
         ensures least { IfOk result (λ found.
@@ -328,8 +328,9 @@ impl<T: Minimum> Board<T> {
         least_of(*self.hand.allocator(), times)
     }
 
-    /// The input frontier of a node: from which times on something may still come to it. It is the least of the times that
-    /// are in flight or open at the node or above it, or held above it. Refused only with `OutOfMemory`.
+    /// The input frontier of a node: updates may still come to it at times beyond this frontier. It is the least of
+    /// the times that are in flight or open at the node or above it, or held above it. Refused only with
+    /// `OutOfMemory`.
     ///
     /// Cost: that of [`Board::frontier`].
     pub fn input_frontier(&mut self, node: NodeId) -> Result<Antichain<T>, Refusal>
@@ -347,7 +348,7 @@ impl<T: Minimum> Board<T> {
         self.input_front_of(node)
     }
 
-    // Finds `input_frontier` on a board that is only lent.
+    // Finds `input_frontier` on a board that is only borrowed.
     fn input_front_of(&self, node: NodeId) -> Result<Antichain<T>, Refusal>
         requires { node < length self.now.dataflow.nodes }
         ensures least { IfOk result (λ found.
@@ -397,10 +398,10 @@ impl<T: Minimum> Board<T> {
         Ok(times)
     }
 
-    /// Whether a worker holds a time at a node that the node's input frontier has passed: then it may turn to it, by
-    /// [`Board::take_held`]. Takes no memory.
+    /// Whether a worker holds a time at a node that the node's input frontier has passed. If so, it may turn to the
+    /// node by [`Board::take_held`]. Takes no memory.
     ///
-    /// Cost: [`Board::input_has_passed`] for each time that is held at the node by the worker.
+    /// Cost: that of [`Board::input_has_passed`], for each time that the worker holds at the node.
     pub fn is_ready(&mut self, worker: usize, node: NodeId) -> bool
         requires { node < length self.old.dataflow.nodes }
         ensures kept { self.new ≡ self.old }
@@ -413,7 +414,7 @@ impl<T: Minimum> Board<T> {
         self.holds_passed(worker, node)
     }
 
-    // Answers `is_ready` of a board that is only lent.
+    // Answers `is_ready` for a board that is only borrowed.
     fn holds_passed(&self, worker: usize, node: NodeId) -> bool
         requires { node < length self.now.dataflow.nodes }
         ensures value { result ≡ is_ready T.below self.now worker node }
@@ -422,7 +423,7 @@ impl<T: Minimum> Board<T> {
         self.any_ready(node, self.stations.held(node, worker))
     }
 
-    // Whether one of these times is passed at the node.
+    // Whether the node's input frontier has passed one of these times.
     fn any_ready(&self, node: NodeId, held: &[T]) -> bool
         requires { node < length self.now.dataflow.nodes }
         ensures { result

@@ -1,5 +1,6 @@
-//! A plan and its ancestors. Each question of a frontier asks of every node whether it is above another one, and a plan
-//! would be gone over for each answer. So the ancestors are found once, and an answer is two steps into a table.
+//! A plan and its ancestors. Each question about a frontier asks of every node whether it is above another one. To
+//! answer it from the plan, one would go over the plan each time. So the ancestors are found once, and an answer
+//! takes two steps into a table.
 ghost use Rattle.std.specs.Prelude.{◌≡◌, ◌<◌, ◌≤◌, IfErr, IfOk, false, get_or, length, map};
 ghost use Rattle.std.specs.List.{list_any};
 ghost use Rattle.update.specs.declared.refusal.Refusal.TheVariants.{OutOfMemory};
@@ -13,7 +14,7 @@ use std::alloc::Global;
 use std::marker::Model;
 use update::Refusal;
 
-// By node, whether it is a certain node or above it. A contract sees the list of these marks.
+// By node, whether it is one fixed node or above it. A contract sees the list of these marks.
 #[derive(Drop)]
 struct Ancestors {
     marks: Vec<bool>,
@@ -28,7 +29,7 @@ impl Model for Ancestors {
 }
 
 impl Ancestors {
-    // Whether a node is marked. A number that is no node's is not.
+    // Whether a node is marked; `false` for a number that is no node's.
     fn has(&self, node: NodeId) -> bool
         ensures { result ≡ get_or self.now node false }
     {
@@ -62,7 +63,7 @@ impl Model for Graph {
 impl Graph {
     /// The graph of a plan. Refused only with `OutOfMemory`.
     ///
-    /// Cost: the square of the nodes, of which a plan has 256 at most.
+    /// Cost: the square of the nodes, of which a plan has at most 256.
     pub(crate) fn of(alloc: Global, plan: Plan) -> Result<Graph, Refusal>
         ensures of { IfOk result (λ graph. graph ≡ plan) }
         ensures refused { IfErr result (λ refusal. refusal ≡ OutOfMemory) }
@@ -78,7 +79,7 @@ impl Graph {
         &self.plan
     }
 
-    /// How many nodes there are: 256 at most. Takes no memory.
+    /// The number of nodes, at most 256. Takes no memory.
     pub(crate) fn len(&self) -> usize
         ensures len { result ≡ length self.now }
         ensures few { length self.now ≤ 256 }
@@ -95,8 +96,8 @@ impl Graph {
         self.plan.node(id)
     }
 
-    /// Whether the one node is the other or an ancestor of it. A number that is no node's is above none. Takes no memory, and
-    /// constant time.
+    /// Whether the first node is the second or an ancestor of it; `false` if the first number is no node's. Takes no
+    /// memory, and constant time.
     pub(crate) fn reaches(&self, above: NodeId, node: NodeId) -> bool
         requires { node < length self.now }
         ensures { result ≡ reaches self.now above node }
@@ -105,7 +106,8 @@ impl Graph {
     }
 }
 
-// By node, its ancestors. Sources have smaller numbers, so those of a node are found from those before it.
+// By node, its ancestors. Sources have smaller numbers, so a node's ancestors are found from those of the nodes
+// before it.
 fn all_ancestors(alloc: Global, plan: &Plan) -> Result<Vec<Ancestors>, Refusal>
     ensures above { IfOk result (λ above. above.items ≡ all_ancestors plan.now) }
     ensures plan { IsPlan plan.now }
@@ -138,7 +140,7 @@ fn ancestors_of(
     Ok(Ancestors { marks })
 }
 
-// Whether some source of the node has the other node marked.
+// Whether the table marks `above` for some source of the node.
 fn reaches_sources(before: &[Ancestors], above: NodeId, node: &Node) -> bool
     ensures { result ≡ list_any (table_reaches before.now above) (sources node.now) }
 {
@@ -146,7 +148,7 @@ fn reaches_sources(before: &[Ancestors], above: NodeId, node: &Node) -> bool
         || tells_above_some(before, above, node.source(1))
 }
 
-// Whether there is such a source, and it has the node marked.
+// Whether there is a source, and the table marks `above` for it.
 fn tells_above_some(before: &[Ancestors], above: NodeId, source: Option<NodeId>) -> bool
     ensures { result ≡ table_reaches_some before.now above source }
 {
@@ -156,7 +158,7 @@ fn tells_above_some(before: &[Ancestors], above: NodeId, source: Option<NodeId>)
     }
 }
 
-// Whether a node's ancestors are in the table, and the other node is marked there.
+// Whether the table has the node's ancestors and marks `above` among them.
 fn tells_above(table: &[Ancestors], above: NodeId, node: NodeId) -> bool
     ensures { result ≡ table_reaches table.now above node }
 {

@@ -1,8 +1,8 @@
-//! The frontiers of a dataflow's inputs, each in its own list: from which times on changes may still be fed.
+//! The frontiers of a dataflow's inputs, one for each input: changes may still be fed at times beyond it.
 //!
-//! A board keeps them, and so does a run that takes changes without one. What refuses a change or a frontier is asked here
-//! alone, so that both refuse alike. A frontier only moves on: each of its times is beyond the one that stood before. An
-//! input whose frontier has no times is closed.
+//! A board keeps these frontiers, and so does a run that accepts changes without a board. The tests that refuse a
+//! change or a frontier stand here alone, so that both refuse alike. A frontier only moves forward: each of its new
+//! times is beyond the old frontier. An input whose frontier has no times is closed.
 ghost use Rattle.std.specs.Prelude.{◌≡◌, ◌<◌, IfErr, IfOk, OnOk, OnErr, None, Some, List, [], ◌∷◌, if◌then◌else◌, length, set};
 ghost use Rattle.lattice.specs.Frontiers.{is_beyond};
 ghost use Rattle.update.specs.declared.refusal.Refusal.TheVariants.{OutOfMemory};
@@ -17,14 +17,14 @@ use std::alloc::Global;
 use std::marker::Model;
 use update::{Refusal, Times, Update};
 
-/// The most changes that an input takes.
+/// The largest number of changes that an input takes.
 pub const MAX_CHANGES: usize = 1_048_576;
 
-/// The greatest difference of a change, either way.
+/// The largest absolute difference of a change.
 pub const MAX_DIFFERENCE: u64 = 2_147_483_647;
 
-/// The frontiers of the inputs of a plan. A contract sees the list of them, by node: no times where the input is closed, and
-/// where the node is no input.
+/// The frontiers of the inputs of a plan. A contract sees the list of them, by node. It has no times for an input
+/// that is closed, and none for a node that is no input.
 #[derive(Drop)]
 pub struct InputFrontiers<T> {
     by_node: Vec<Times<T>>,
@@ -39,7 +39,7 @@ impl<T> Model for InputFrontiers<T> {
 }
 
 impl<T: Minimum> InputFrontiers<T> {
-    /// The frontiers before anything has happened: each input stands at the least time. Refused only with `OutOfMemory`.
+    /// The frontiers before anything has happened: each input's is the least time. Refused only with `OutOfMemory`.
     ///
     /// Cost: linear in the nodes.
     pub fn first(alloc: Global, plan: &Plan) -> Result<InputFrontiers<T>, Refusal>
@@ -61,7 +61,8 @@ impl<T: Minimum> InputFrontiers<T> {
         self.by_node[input.number()].as_slice()
     }
 
-    /// Whether a change at the time may still be fed: whether the time is beyond the input's frontier. Takes no memory.
+    /// Whether a change may still be fed at a time, that is, whether the time is beyond the input's frontier. Takes
+    /// no memory.
     ///
     /// Cost: linear in the elements of the frontier.
     pub fn is_open(&self, input: NodeId, t: &T) -> bool
@@ -71,15 +72,16 @@ impl<T: Minimum> InputFrontiers<T> {
         is_beyond(self.of(input), t)
     }
 
-    /// What refuses a change of an input that has taken so many changes; `None` where it is accepted. Takes no memory.
+    /// The refusal of a change, given how many changes the input has taken; `None` if the change is accepted. Takes
+    /// no memory.
     ///
     /// The refusals, in the order in which they are tested:
     ///
-    /// | Refusal | Where |
+    /// | Refusal | When |
     /// |---|---|
-    /// | `WrongWidth` | the row has not the input's width |
+    /// | `WrongWidth` | the row does not have the input's width |
     /// | `ZeroWeight` | the difference is 0 |
-    /// | `WeightTooLarge` | the difference is above [`MAX_DIFFERENCE`], or below its negative |
+    /// | `WeightTooLarge` | the absolute difference is above [`MAX_DIFFERENCE`] |
     /// | `TimePassed` | the time is not beyond the input's frontier |
     /// | `InputFull` | the input has taken [`MAX_CHANGES`] changes |
     ///
@@ -111,8 +113,8 @@ impl<T: Minimum> InputFrontiers<T> {
         }
     }
 
-    /// An input's frontier moves on to these times; with no times the input is closed. `NotForward` where one of them is not
-    /// beyond the frontier that stood, and nothing else refuses; then nothing changed. Takes no memory.
+    /// Moves an input's frontier forward to these times; with no times the input is closed. Refused only with
+    /// `NotForward`, if one of the times is not beyond the old frontier; then nothing changes. Takes no memory.
     ///
     /// Cost: the product of the times and the elements of the old frontier.
     pub fn advance(&mut self, input: NodeId, times: Times<T>) -> Result<(), Refusal>
@@ -131,7 +133,7 @@ impl<T: Minimum> InputFrontiers<T> {
         Ok(())
     }
 
-    /// An input is closed: its frontier has no times. Takes no memory.
+    /// Closes an input: its frontier then has no times. Takes no memory.
     pub fn close(&mut self, input: NodeId)
         requires { input < length self.old }
         ensures { self.new ≡ set self.old input [] }
@@ -140,7 +142,7 @@ impl<T: Minimum> InputFrontiers<T> {
         self.stand_at(input, none.into());
     }
 
-    // From now on an input's frontier has these times.
+    // Replaces an input's frontier by these times, without a test.
     fn stand_at(&mut self, input: NodeId, times: Times<T>)
         requires { input < length self.old }
         ensures { self.new ≡ set self.old input times }
@@ -149,7 +151,7 @@ impl<T: Minimum> InputFrontiers<T> {
     }
 }
 
-// The frontier of a node before anything has happened.
+// The frontier of a node before anything has happened: the least time at an input, no times elsewhere.
 fn first_frontier<T: Minimum>(alloc: Global, is_input: bool) -> Result<Times<T>, Refusal>
     ensures first { IfOk result (λ times. times ≡ (if is_input then T.least ∷ [] else [])) }
     ensures refused { IfErr result (λ refusal. refusal ≡ OutOfMemory) }

@@ -1,7 +1,7 @@
-//! What waits at a place of a board, the oldest first.
+//! The queue of a place on a board: what waits there, the oldest first.
 //!
-//! Each place has a queue of its own, so that a bundle is put and taken without a look at any other. A change that was fed
-//! waits as it is, in no block of memory of its own: a million of them may wait.
+//! Each place has a queue of its own, so a bundle is put and taken without a look at any other. A change that was fed
+//! waits as it is, with no block of memory of its own, since a million changes may wait.
 ghost use Rattle.std.specs.Prelude.{◌≡◌, ◌<◌, ◌≤◌, ◌+◌, ◌++◌, List, [], ◌∷◌, Some, IfErr, IfOk, OnErr, OnOk, length, slice_get};
 ghost use Rattle.std.specs.List.{remove, flat_map};
 ghost use Rattle.lattice.specs.Frontiers.{is_beyond};
@@ -17,21 +17,22 @@ use std::collections::VecDeque;
 use std::marker::Model;
 use update::{Refusal, Times, Update, Updates};
 
-/// What waits at a place: a change as it was fed, or what a worker sent.
+/// One thing that waits at a place: a change as it was fed, or a bundle that a worker sent.
 #[derive(Drop)]
 pub(crate) enum Parcel<T> {
-    /// A change.
+    /// A change as it was fed.
     Change(Update<T>),
-    /// A worker's updates, and their stamp.
+    /// The updates that a worker sent, and their stamp.
     Sent(Updates<T>, Times<T>),
 }
 
-/// What waits at a place, the oldest first. A contract sees the loads, and for how many more room is reserved.
+/// What waits at a place, the oldest first. A contract sees the loads, and the number of further loads for which room
+/// is reserved.
 #[derive(Drop)]
 pub(crate) struct Queue<T> {
     parcels: VecDeque<Parcel<T>>,
-    // So many more fit without memory. One give reserves room before it puts anything, one bundle after another: without
-    // this number the second bundle of a place would count on the room of the first.
+    // This many more loads fit without allocating. A give reserves room for each of its bundles before it puts any.
+    // Without this number, the second bundle for a place would count on the room of the first.
     reserved: usize,
 }
 
@@ -58,16 +59,17 @@ impl<T: Minimum> Queue<T> {
         }
     }
 
-    /// How many loads wait. Takes no memory.
+    /// The number of loads that wait. Takes no memory.
     pub(crate) fn len(&self) -> usize
         ensures { result ≡ length self.now.loads }
     {
         self.parcels.len()
     }
 
-    /// One more, behind. No room is reserved any more. Refused only with `OutOfMemory`.
+    /// Appends a parcel, and gives up any reserved room. Refused only with `OutOfMemory`; then the loads stay as they
+    /// are.
     ///
-    /// Cost: constant, but for the queue's growth now and then.
+    /// Cost: constant, apart from the queue's growth now and then.
     pub(crate) fn push(&mut self, parcel: Parcel<T>) -> Result<(), Refusal>
         ensures pushed { OnOk result (self.new.loads ≡ self.old.loads ++ load_of parcel ∷ []) }
         ensures refused { IfErr result (λ refusal. refusal ≡ OutOfMemory) }
@@ -78,9 +80,10 @@ impl<T: Minimum> Queue<T> {
         Ok(())
     }
 
-    /// Reserves room for one more. Refused only with `OutOfMemory`.
+    /// Reserves room for one more load. Refused only with `OutOfMemory`; then the loads and the room stay as they
+    /// are.
     ///
-    /// Cost: constant, but for the queue's growth now and then.
+    /// Cost: constant, apart from the queue's growth now and then.
     pub(crate) fn reserve(&mut self) -> Result<(), Refusal>
         ensures unchanged { self.new.loads ≡ self.old.loads }
         ensures room { OnOk result (self.new.room ≡ self.old.room + 1) }
@@ -92,7 +95,7 @@ impl<T: Minimum> Queue<T> {
         Ok(())
     }
 
-    /// One more, behind, where room is reserved for it. Takes no memory.
+    /// Appends a parcel for which room is reserved. Takes no memory.
     pub(crate) fn push_reserved(&mut self, parcel: Parcel<T>)
         requires { 1 ≤ self.old.room }
         ensures pushed { self.new.loads ≡ self.old.loads ++ load_of parcel ∷ [] }
@@ -102,7 +105,7 @@ impl<T: Minimum> Queue<T> {
         self.parcels.push_back_reserved(parcel);
     }
 
-    /// No room is reserved any more. Takes no memory, and constant time.
+    /// Gives up all reserved room. Takes no memory, and constant time.
     pub(crate) fn release(&mut self)
         ensures unchanged { self.new.loads ≡ self.old.loads }
         ensures none { self.new.room ≡ 0 }
@@ -111,9 +114,10 @@ impl<T: Minimum> Queue<T> {
     }
 
     /// Takes the load of a number, from 0, out of the queue, and appends its stamp to `held`. Refused only with
-    /// `OutOfMemory`, since a change gets its two lists only now and `held` may have to grow; then nothing changed.
+    /// `OutOfMemory`; then nothing changes. It may allocate since a change gets lists of its own only now, and since
+    /// `held` may have to grow.
     ///
-    /// Cost: linear in the stamp, and in the number or in what waits behind it where that is less.
+    /// Cost: linear in the stamp, and in the number of loads before it or behind it, whichever is smaller.
     pub(crate) fn take(
         &mut self,
         number: usize,
@@ -137,7 +141,7 @@ impl<T: Minimum> Queue<T> {
         }
     }
 
-    /// Whether the stamp of some load is at or before a time. Takes no memory.
+    /// Whether the stamp of some load has an element at or before a time. Takes no memory.
     ///
     /// Cost: linear in the elements of the stamps.
     pub(crate) fn is_beyond_stamps(&self, t: &T) -> bool
@@ -151,7 +155,7 @@ impl<T: Minimum> Queue<T> {
         false
     }
 
-    /// The stamps of all loads, behind. Refused only with `OutOfMemory`.
+    /// Appends the stamps of all loads. Refused only with `OutOfMemory`.
     ///
     /// Cost: linear in the elements of the stamps.
     pub(crate) fn push_stamps(&self, all: &mut Vec<T>) -> Result<(), Refusal>
@@ -167,7 +171,7 @@ impl<T: Minimum> Queue<T> {
 }
 
 impl<T: Minimum> Parcel<T> {
-    // A change in two lists of its own, as a worker would send it.
+    // Copies a change into two lists of its own, as a worker would send it.
     fn sent_alone(alloc: Global, update: &Update<T>) -> Result<Parcel<T>, Refusal>
         ensures sent { IfOk result (λ parcel.
             parcel ≡ Sent (update.now ∷ []) (update.now.time ∷ [])) }
@@ -180,7 +184,8 @@ impl<T: Minimum> Parcel<T> {
         Ok(Parcel::Sent(updates.into(), stamp.into()))
     }
 
-    // Puts a change into lists of its own, where it waits. What a worker sent stays as it is.
+    // Turns a waiting change, where it lies, into the form that a worker would send. What a worker sent stays as it
+    // is.
     fn unpack(&mut self, alloc: Global) -> Result<(), Refusal>
         ensures sent { OnOk result ((updates : List (Update T)) × ((stamp : List T)
             × (self.new ≡ Sent updates stamp))) }
@@ -195,7 +200,7 @@ impl<T: Minimum> Parcel<T> {
         Ok(())
     }
 
-    // Whether the stamp is at or before a time.
+    // Whether the stamp has an element at or before a time.
     fn is_beyond_stamps(&self, t: &T) -> bool
         ensures { result ≡ is_beyond T.below (load_of self.now).stamp t.now }
     {
@@ -205,7 +210,7 @@ impl<T: Minimum> Parcel<T> {
         }
     }
 
-    // Appends the stamp. Refused only with `OutOfMemory`, and then nothing changed.
+    // Appends the stamp. Refused only with `OutOfMemory`, and then nothing changes.
     fn push_stamp(&self, all: &mut Vec<T>) -> Result<(), Refusal>
         ensures more { OnOk result (all.new.items ≡ all.old.items ++ (load_of self.now).stamp) }
         ensures refused { IfErr result (λ refusal. refusal ≡ OutOfMemory) }

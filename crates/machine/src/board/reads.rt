@@ -1,6 +1,6 @@
-//! What a client reads on a board: a view's frontier is found in `fronts`; here are its rows at a time, its changes, and
-//! whether the board is quiet. Each is a function of what lies on the board at one moment, so that rows and frontier are of
-//! one history; and each says what it is of whatever history that is.
+//! What a client reads on a board: a view's rows at a time, its changes, and whether the board is quiet. (Frontiers
+//! are found in `frontiers`.) Each answer is a function of what lies on the board at one moment, so rows and frontier
+//! belong to one history. Each contract says what the answer is for every history that the board may stand for.
 ghost use Rattle.std.specs.Prelude.{◌≡◌, ◌<◌, ◌↔◌, ◌&&◌, None, not, List, [], IfErr, IfOk, OnOk, IsTrue, length};
 ghost use Rattle.std.specs.List.{filter, list_all};
 ghost use Rattle.lattice.specs.Frontiers.{is_beyond};
@@ -28,7 +28,7 @@ use plan::NodeId;
 use std::alloc::Global;
 use update::{Bag, Refusal, Update, consolidate};
 
-// Whether nobody has a piece in hand.
+// Whether no worker has a piece in hand.
 fn are_free(hand: &[Option<NodeId>]) -> bool
     ensures { result ≡ hands_are_free hand.now }
 {
@@ -47,7 +47,7 @@ fn is_from_start<T: Minimum>(times: &[T]) -> bool
     is_beyond(times, &T::minimum())
 }
 
-// Copies of the updates that are at or after none of the times.
+// Copies the updates that are not beyond the times.
 fn passed_by<T: Minimum>(
     alloc: Global,
     updates: &[Update<T>],
@@ -79,7 +79,7 @@ fn least_times<T: Minimum>(alloc: Global, times: &[T]) -> Result<Vec<T>, Refusal
 }
 
 impl<T: Minimum> Board<T> {
-    /// The frontier beyond which a view may be read, as its elements. Takes no memory.
+    /// A view's since: the frontier beyond which it may be read, as its elements. Takes no memory.
     pub fn since(&self, view: NodeId) -> &[T]
         requires { view < length self.now.dataflow.nodes }
         ensures { result.now ≡ since_of self.now view }
@@ -95,20 +95,20 @@ impl<T: Minimum> Board<T> {
         self.views[view.number()].captured()
     }
 
-    /// A view's rows at a time: the query, from scratch, on the changes fed up to that time.
+    /// A view's rows at a time: the query, computed from scratch, on the changes fed up to that time.
     ///
     /// The refusals, in the order in which they are tested:
     ///
-    /// | Refusal | Where |
+    /// | Refusal | When |
     /// |---|---|
-    /// | `NotPassed` | the view's frontier has an element at or before the time |
+    /// | `NotPassed` | the view's frontier has not passed the time |
     /// | `GivenUp` | the time is not beyond the view's since |
     /// | `OutOfMemory` | an allocation was refused |
-    /// | `Overflow` | a row counts more often than a 64-bit number can say |
+    /// | `Overflow` | a row's count does not fit in 64 bits |
     ///
-    /// Cost: [`Board::has_passed`], and linear in the rows that count at the time. Besides, if the last read of the view was
-    /// at a time at or before this one, linear in what was captured since and in what that read knew and left out; else
-    /// linear in all that the view captured. What comes in is sorted.
+    /// Cost: that of [`Board::has_passed`], and linear in the rows at the time. Besides, if the view's last read was
+    /// at or before this time, linear in what was captured since and in what that read knew but left out; otherwise
+    /// linear in all that the view captured. The updates that come in are sorted.
     pub fn read(&mut self, view: NodeId, t: T) -> Result<Bag, Refusal>
         requires within { view < length self.old.dataflow.nodes }
         requires view { IsTrue (is_output (node_of self.old.dataflow view)) }
@@ -152,7 +152,7 @@ impl<T: Minimum> Board<T> {
         self.views[view.number()].sum_at(alloc, t)
     }
 
-    // What refuses a read, in the order of testing.
+    // What refuses a read, in the order in which it is tested.
     fn read_refusal(&self, view: NodeId, t: &T) -> Option<Refusal>
         requires { view < length self.now.dataflow.nodes }
         ensures { result ≡ read_refusal_on T.below self.now view t.now }
@@ -166,14 +166,16 @@ impl<T: Minimum> Board<T> {
         }
     }
 
-    /// A view's changes: the one consolidated list of updates at times that its frontier has passed, which sums at each of
-    /// them to the query, from scratch, on the changes fed up to that time. In the order of times, then rows.
+    /// A view's changes: the one consolidated list of updates at times that its frontier has passed. At each passed
+    /// time the list sums to the query, computed from scratch, on the changes fed up to that time. It is sorted by
+    /// time, then by row.
     ///
-    /// `GivenUp` where the view's since is not the least time alone, for then the times of some changes may be lost; else
-    /// `OutOfMemory` where an allocation was refused, and `Overflow` where the total of a row at some time is no 64-bit
-    /// number.
+    /// Refused with `GivenUp` if the least time is not beyond the view's since, for then the times of some changes
+    /// may be lost; otherwise with `OutOfMemory` if an allocation was refused, and with `Overflow` if the total of a
+    /// row at some time does not fit in 64 bits.
     ///
-    /// Cost: [`Board::frontier`], one pass over what the view captured, and a sort of what is passed.
+    /// Cost: that of [`Board::frontier`], one pass over what the view captured, and a sort of the updates at passed
+    /// times.
     pub fn changes(&mut self, view: NodeId) -> Result<Vec<Update<T>>, Refusal>
         requires within { view < length self.old.dataflow.nodes }
         requires view { IsTrue (is_output (node_of self.old.dataflow view)) }
@@ -188,7 +190,7 @@ impl<T: Minimum> Board<T> {
         self.passed_changes(view)
     }
 
-    // What the view captured at passed times. `changes` adds that it is the list of differences.
+    // What the view captured at passed times, consolidated. `changes` adds that it is the list of differences.
     fn passed_changes(&self, view: NodeId) -> Result<Vec<Update<T>>, Refusal>
         requires within { view < length self.now.dataflow.nodes }
         ensures accepted { OnOk result (changes_refusal_on T.below T.least self.now view ≡ None) }
@@ -220,7 +222,7 @@ impl<T: Minimum> Board<T> {
         }
     }
 
-    // The changes of a view, where nothing refuses them.
+    // The changes of a view, once nothing refuses them.
     fn consolidated_changes(&self, view: NodeId) -> Result<Vec<Update<T>>, Refusal>
         requires within { view < length self.now.dataflow.nodes }
         ensures refused { IfErr result
@@ -236,7 +238,7 @@ impl<T: Minimum> Board<T> {
         consolidate(passed)
     }
 
-    // Copies of what a view captured at times that its frontier has passed.
+    // Copies what a view captured at times that its frontier has passed.
     fn passed_captured(&self, view: NodeId) -> Result<Vec<Update<T>>, Refusal>
         requires within { view < length self.now.dataflow.nodes }
         ensures passed { IfOk result (λ passed.
@@ -248,7 +250,7 @@ impl<T: Minimum> Board<T> {
         self.captured_passed_by(view, least)
     }
 
-    // Copies of what a view captured that are at or after none of the times.
+    // Copies what a view captured that is not beyond the times.
     fn captured_passed_by(&self, view: NodeId, times: Vec<T>) -> Result<Vec<Update<T>>, Refusal>
         requires within { view < length self.now.dataflow.nodes }
         ensures passed { IfOk result (λ passed. passed.items ≡ filter (λ u.
@@ -262,10 +264,11 @@ impl<T: Minimum> Board<T> {
         )
     }
 
-    /// Whether the board is quiet: nothing is in flight, nobody has a piece in hand, and each time that is held waits for
-    /// what may still come to its node. Then every frontier stands where the inputs stand. Takes no memory.
+    /// Whether the board is quiet: nothing is in flight, no worker has a piece in hand, and each held time could
+    /// still receive input at or before it. Then every frontier is where the inputs' frontiers put it. Takes no
+    /// memory.
     ///
-    /// Cost: linear in the nodes times the workers, and [`Board::input_has_passed`] for each time that is held.
+    /// Cost: linear in the nodes times the workers, and that of [`Board::input_has_passed`] for each held time.
     pub fn is_quiet(&mut self) -> bool
         ensures kept { self.new ≡ self.old }
         ensures value { result ≡ is_quiet_board T.below self.old }
@@ -275,7 +278,7 @@ impl<T: Minimum> Board<T> {
         self.rests()
     }
 
-    // Whether nothing on the board can go on. `is_quiet` adds what that means for histories.
+    // Whether no worker can go on. `is_quiet` adds what that means for histories.
     fn rests(&self) -> bool
         ensures value { result ≡ is_quiet_board T.below self.now }
         ensures board { IsBoard self.now }
@@ -283,7 +286,7 @@ impl<T: Minimum> Board<T> {
         self.stations.is_empty() && are_free(&self.hand) && self.all_wait()
     }
 
-    // Whether each time that is held waits for what may still come to its node.
+    // Whether each held time could still receive input: its node's input frontier has not passed it.
     fn all_wait(&self) -> bool
         ensures { result ≡ all_wait T.below self.now }
     {
@@ -295,7 +298,7 @@ impl<T: Minimum> Board<T> {
         true
     }
 
-    // Whether each time that is held at a node does.
+    // Whether each time that is held at a node could still receive input.
     fn all_wait_at(&self, node: NodeId) -> bool
         requires { node < length self.now.dataflow.nodes }
         ensures { result ≡ list_all (λ k.
@@ -310,7 +313,7 @@ impl<T: Minimum> Board<T> {
         true
     }
 
-    // Whether something may still come to the node at or before each of these times.
+    // Whether each of these times could still receive input at the node.
     fn are_waiting(&self, node: NodeId, held: &[T]) -> bool
         requires { node < length self.now.dataflow.nodes }
         ensures { result

@@ -1,5 +1,5 @@
-//! Where what a node gave goes. It depends on the plan and the number of workers alone, so the edges from each node are
-//! found once, and a cut goes along those of one node and over nothing else of the plan. No board is needed for it.
+//! Routing: where the updates go that a node gives. This depends on the plan and the number of workers alone. So the
+//! edges from each node are found once, and a cut goes only along the edges of its own node. It needs no board.
 ghost use Rattle.std.specs.Prelude.{◌≡◌, ◌<◌, ◌≤◌, ◌++◌, ◌&&◌, List, IfErr, IfOk, OnOk, IsTrue, eqb, length, map, not};
 ghost use Rattle.std.specs.List.{list_all};
 ghost use Rattle.lattice.specs.Frontiers.{all_beyond};
@@ -47,8 +47,8 @@ impl Edges {
     }
 }
 
-/// Where what a node gave goes: the edges of a plan, and which nodes are arranged. A contract sees the plan and the number
-/// of workers.
+/// Where the updates go that a node gives: the edges of a plan, and which nodes are arranged. A contract sees the
+/// plan and the number of workers.
 #[derive(Drop)]
 pub struct Routing {
     // For clauses alone: it has no bytes.
@@ -56,7 +56,7 @@ pub struct Routing {
     workers: usize,
     // By node, the edges that lead from it.
     edges: Vec<Edges>,
-    // By node, by how many columns it is arranged.
+    // By node, the number of columns by which it is arranged; `None` for a node that is not.
     arranged: Vec<Option<usize>>,
 }
 
@@ -74,9 +74,9 @@ impl Model for Routing {
 }
 
 impl Routing {
-    /// The routing of a plan that these workers run. Refused only with `OutOfMemory`.
+    /// The routing of a plan that this many workers run. Refused only with `OutOfMemory`.
     ///
-    /// Cost: the square of the nodes, of which a plan has 256 at most.
+    /// Cost: the square of the nodes, of which a plan has at most 256.
     pub fn of(alloc: Global, plan: &Plan, workers: usize) -> Result<Routing, Refusal>
         requires { 1 ≤ workers }
         ensures routing { IfOk result (λ routing.
@@ -93,14 +93,14 @@ impl Routing {
         })
     }
 
-    /// What a worker gave, cut into bundles: along each edge from the node, and there for each worker, its share. Each place
-    /// gets it in one bundle, and no bundle is empty. A bundle's stamp is the frontier of its times. So if each time of
-    /// the emission is beyond the times that the giver held, so is each stamp.
+    /// Cuts what a worker gave into bundles. Along each edge from the node, each worker gets its share in one bundle,
+    /// and no bundle is empty. A bundle's stamp is the frontier of its times. So if each time of the emission is
+    /// beyond the times that the giver held, so is each stamp.
     ///
     /// Refused only with `OutOfMemory`.
     ///
-    /// Cost: for each edge from the node linear in what was given, and where it leads into an arrange node in the workers
-    /// too; and for each bundle the product of its updates and the elements of its stamp.
+    /// Cost: for each edge from the node, linear in the updates given, and in the workers if the edge leads into an
+    /// arrange node. Besides, for each bundle, the product of its updates and the elements of its stamp.
     pub fn cut<T: Minimum>(
         &self,
         alloc: Global,
@@ -120,14 +120,14 @@ impl Routing {
         Ok(sent.into())
     }
 
-    // Costs nothing; it tells the prover that the workers run a plan.
+    // Costs nothing. It tells the prover that the dataflow is well formed.
     fn known(&self)
         ensures { IsDataflow self.now }
     {
         let _ = &self.workers;
     }
 
-    // The bundles along the edges from the node.
+    // The bundles along all edges from the emission's node.
     fn cut_along_edges<T: Minimum>(
         &self,
         alloc: Global,
@@ -144,7 +144,7 @@ impl Routing {
         Ok(sent)
     }
 
-    // The bundles along an edge from the node, behind.
+    // Appends the bundles along one edge from the emission's node.
     fn push_along<T: Minimum>(
         &self,
         sent: &mut Vec<Bundle<T>>,
@@ -163,7 +163,7 @@ impl Routing {
         }
     }
 
-    // The edges that lead from a node. None leads from a number that the plan does not have.
+    // The edges that lead from a node; none if the plan has no such node.
     fn edges_from(&self, node: NodeId) -> &[Edge]
         ensures { result.now ≡ edges_from self.now.nodes node }
     {
@@ -189,7 +189,7 @@ fn edges_of(alloc: Global, plan: &Plan) -> Result<Vec<Edges>, Refusal>
     Ok(edges)
 }
 
-// By node, by how many columns it is arranged.
+// By node, the number of columns by which it is arranged; `None` for a node that is not.
 fn arranged_of(alloc: Global, plan: &Plan) -> Result<Vec<Option<usize>>, Refusal>
     ensures arranged { IfOk result (λ columns. columns.items ≡ map arranged_by plan.now) }
     ensures refused { IfErr result (λ refusal. refusal ≡ OutOfMemory) }

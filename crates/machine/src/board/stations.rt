@@ -1,7 +1,7 @@
-//! What lies at the nodes of a board, worker by worker: the bundles that wait at both ports, and the times that the worker
-//! holds there.
+//! The stations of a board. A station is what lies at a node for one worker: the bundles that wait at both ports, and
+//! the times that the worker holds there.
 //!
-//! A place is found by its numbers, so that what happens at it costs the same however much waits anywhere else.
+//! A place is found by its numbers, so an event there costs the same however much waits anywhere else.
 ghost use Rattle.std.specs.Prelude.{◌≡◌, ◌<◌, ◌&&◌, ℕ, suc, eqb, false, Some, IfErr, IfOk, IfSome, OnErr, OnOk, length, slice_get, map, replicate};
 ghost use Rattle.std.specs.List.{All};
 ghost use Rattle.update.specs.declared.refusal.Refusal.TheVariants.{OutOfMemory};
@@ -18,7 +18,8 @@ use std::alloc::Global;
 use std::marker::Model;
 use update::{Refusal, Times, Updates};
 
-// A list of more held times than these gives its memory back once no time is held.
+// A worker that held at most this many times at a node keeps the list's memory when it holds none any more. A longer
+// list is freed.
 const MAX_KEPT: usize = 64;
 
 /// What lies at a node for a worker.
@@ -45,7 +46,7 @@ impl<T> Model for Row<T> {
 }
 
 impl<T: Minimum> Station<T> {
-    // A station at which nothing lies.
+    // A station at which nothing lies. Takes no memory.
     fn new(alloc: Global) -> Station<T>
         ensures { lot result ≡ no_lot }
     {
@@ -56,7 +57,7 @@ impl<T: Minimum> Station<T> {
         }
     }
 
-    // A load waits at a port from now on, behind the others; it is dropped if no node has such a port.
+    // Puts a load at a port, behind the others; drops it if no node has such a port.
     fn put(&mut self, port: usize, parcel: Parcel<T>) -> Result<(), Refusal>
         ensures put { OnOk result
             (lot self.new ≡ with_load_at port (load_of parcel) (lot self.old)) }
@@ -70,7 +71,7 @@ impl<T: Minimum> Station<T> {
         }
     }
 
-    // Reserves room for one more at a port. No port loses room.
+    // Reserves room for one more load at a port. No port loses room.
     fn reserve(&mut self, port: usize) -> Result<(), Refusal>
         ensures unchanged { lot self.new ≡ lot self.old }
         ensures room { OnOk result ((n : ℕ)
@@ -85,7 +86,7 @@ impl<T: Minimum> Station<T> {
         }
     }
 
-    // No room is reserved any more.
+    // Gives up all reserved room.
     fn release(&mut self)
         ensures unchanged { lot self.new ≡ lot self.old }
         ensures none { IsReleased self.new }
@@ -94,7 +95,8 @@ impl<T: Minimum> Station<T> {
         self.right.release();
     }
 
-    // A load waits at a port that has room for it, behind the others. The port loses room for it, and no other port does.
+    // Puts a load at a port that has room for it, behind the others. The port's room shrinks by one, and no other
+    // port loses room.
     fn put_reserved(&mut self, port: usize, parcel: Parcel<T>)
         requires { has_room port 1 self.old }
         ensures put { lot self.new ≡ with_load_at port (load_of parcel) (lot self.old) }
@@ -109,7 +111,7 @@ impl<T: Minimum> Station<T> {
         }
     }
 
-    // The load of a number leaves its port, and the worker holds its stamp.
+    // Takes the load of a number from a port. The worker then holds its stamp.
     fn take(&mut self, port: usize, number: usize) -> Result<(Updates<T>, Times<T>), Refusal>
         requires { number < length (loads_at port (lot self.old)) }
         ensures load { IfOk result (λ load. slice_get (loads_at port (lot self.old)) number
@@ -126,8 +128,8 @@ impl<T: Minimum> Station<T> {
         }
     }
 
-    // The worker holds these times from now on, and no other. If there are none, a short list keeps its memory: the next
-    // stamp goes there.
+    // The worker holds these times from now on, and no other. If there are none, a short list keeps its memory, since
+    // the next stamp goes there.
     fn hold(&mut self, times: Times<T>)
         ensures { lot self.new ≡ record (lot self.old) { held = times } }
     {
@@ -140,7 +142,7 @@ impl<T: Minimum> Station<T> {
 }
 
 impl<T: Minimum> Row<T> {
-    // The stations of so many workers, at which nothing lies.
+    // The stations of this many workers, at which nothing lies.
     fn first(alloc: Global, workers: usize) -> Result<Row<T>, Refusal>
         ensures first { IfOk result (λ row. map lot row ≡ replicate workers no_lot) }
         ensures refused { IfErr result (λ refusal. refusal ≡ OutOfMemory) }
@@ -152,7 +154,7 @@ impl<T: Minimum> Row<T> {
         Ok(Row { by_worker })
     }
 
-    // A load waits at a worker's port from now on, behind the others; it is dropped if there is no such worker.
+    // Puts a load at a worker's port, behind the others; drops it if there is no such worker.
     fn put(&mut self, worker: usize, port: usize, parcel: Parcel<T>) -> Result<(), Refusal>
         ensures put { OnOk result (map lot self.new
             ≡ at_worker worker (with_load_at port (load_of parcel)) (map lot self.old)) }
@@ -165,7 +167,7 @@ impl<T: Minimum> Row<T> {
         self.by_worker[worker].put(port, parcel)
     }
 
-    // Reserves room for one more at a worker's port. No port loses room.
+    // Reserves room for one more load at a worker's port. No port loses room.
     fn reserve(&mut self, worker: usize, port: usize) -> Result<(), Refusal>
         ensures unchanged { map lot self.new ≡ map lot self.old }
         ensures room { OnOk result ((n : ℕ)
@@ -179,7 +181,7 @@ impl<T: Minimum> Row<T> {
         self.by_worker[worker].reserve(port)
     }
 
-    // No room is reserved for a worker any more.
+    // Gives up all room that is reserved for a worker.
     fn release(&mut self, worker: usize)
         ensures unchanged { map lot self.new ≡ map lot self.old }
         ensures none { IfSome (slice_get self.new worker) IsReleased }
@@ -191,8 +193,8 @@ impl<T: Minimum> Row<T> {
         }
     }
 
-    // A load waits at a worker's port that has room for it, behind the others; it is dropped if there is no such worker. The
-    // port loses room for it, and no other port does.
+    // Puts a load at a worker's port that has room for it, behind the others; drops it if there is no such worker.
+    // The port's room shrinks by one, and no other port loses room.
     fn put_reserved(&mut self, worker: usize, port: usize, parcel: Parcel<T>)
         requires { RowHasRoom worker port 1 self.old }
         ensures put { map lot self.new
@@ -207,7 +209,7 @@ impl<T: Minimum> Row<T> {
         }
     }
 
-    // The load of a number leaves a worker's port, and the worker holds its stamp.
+    // Takes the load of a number from a worker's port. The worker then holds its stamp.
     fn take(
         &mut self,
         worker: usize,
@@ -226,7 +228,7 @@ impl<T: Minimum> Row<T> {
         self.by_worker[worker].take(port, number)
     }
 
-    // A worker holds these times from now on, and no other; nothing changes if there is no such worker.
+    // A worker holds these times from now on, and no other. Nothing changes if there is no such worker.
     fn hold(&mut self, worker: usize, times: Times<T>)
         ensures { map lot self.new
             ≡ at_worker worker (λ l. record l { held = times }) (map lot self.old) }
@@ -253,7 +255,7 @@ impl<T> Model for Stations<T> {
 }
 
 impl<T: Minimum> Stations<T> {
-    /// The stations of so many nodes and workers, at which nothing lies. Refused only with `OutOfMemory`.
+    /// The stations of this many nodes and workers, at which nothing lies. Refused only with `OutOfMemory`.
     ///
     /// Cost: linear in the stations.
     pub(crate) fn first(alloc: Global, nodes: usize, workers: usize) -> Result<Stations<T>, Refusal>
@@ -267,10 +269,10 @@ impl<T: Minimum> Stations<T> {
         Ok(Stations { by_node })
     }
 
-    /// A change, or what a worker sent, waits at a place from now on; where there is no such place it is dropped. Refused
-    /// only with `OutOfMemory`, and then nothing changed.
+    /// Puts a change, or what a worker sent, at a place; drops it if there is no such place. Refused only with
+    /// `OutOfMemory`, and then nothing changes.
     ///
-    /// Cost: constant, but for the queue's growth now and then.
+    /// Cost: constant, apart from the queue's growth now and then.
     pub(crate) fn put(&mut self, site: &Site, parcel: Parcel<T>) -> Result<(), Refusal>
         ensures put { OnOk result
             (lots self.new ≡ put_at site.now (load_of parcel) (lots self.old)) }
@@ -284,10 +286,11 @@ impl<T: Minimum> Stations<T> {
         self.by_node[node].put(site.worker, site.port, parcel)
     }
 
-    /// Reserves room at each place for the bundles of the list that go there. Refused only with `OutOfMemory`.
+    /// Reserves room at each place for the bundles of the list that go there. Refused only with `OutOfMemory`. Some
+    /// room may then be reserved already; [`Stations::release`] gives it up.
     ///
-    /// Cost: linear in the bundles, but for the queues' growth now and then. Room: one slot for each bundle, at its own place
-    /// alone, and what a queue that grows takes ahead.
+    /// Cost: linear in the bundles, apart from the queues' growth now and then. Memory: one slot for each bundle, at
+    /// its own place alone, and what a growing queue takes ahead.
     pub(crate) fn reserve(&mut self, sent: &[Bundle<T>]) -> Result<(), Refusal>
         ensures unchanged { lots self.new ≡ lots self.old }
         ensures room { OnOk result (HasRoomFor sent.now self.new) }
@@ -299,7 +302,7 @@ impl<T: Minimum> Stations<T> {
         Ok(())
     }
 
-    // Reserves room for one more at a place. No place loses room.
+    // Reserves room for one more load at a place. No place loses room.
     fn reserve_at(&mut self, site: &Site) -> Result<(), Refusal>
         ensures unchanged { lots self.new ≡ lots self.old }
         ensures room { OnOk result ((n : ℕ)
@@ -314,8 +317,8 @@ impl<T: Minimum> Stations<T> {
         self.by_node[node].reserve(site.worker, site.port)
     }
 
-    /// No room is reserved any more at the places of these bundles, so that a list that was not sent leaves nothing behind
-    /// which a later one would add to. Takes no memory.
+    /// Gives up the reserved room at the places of these bundles. So a give that was refused leaves no reservation
+    /// behind that a later one would add to. Takes no memory.
     ///
     /// Cost: linear in the bundles.
     pub(crate) fn release(&mut self, sent: &[Bundle<T>])
@@ -327,7 +330,7 @@ impl<T: Minimum> Stations<T> {
         }
     }
 
-    // No room is reserved any more at a place, at both of its ports.
+    // Gives up the reserved room at a place's node and worker, at both ports.
     fn release_at(&mut self, site: &Site)
         ensures unchanged { lots self.new ≡ lots self.old }
         ensures none { HasReleased self.new site.now }
@@ -339,7 +342,7 @@ impl<T: Minimum> Stations<T> {
         }
     }
 
-    /// Each bundle waits at its place from now on; one whose place there is not is dropped. Takes no memory.
+    /// Puts each bundle at its place; drops a bundle whose place does not exist. Takes no memory.
     ///
     /// Cost: linear in the bundles.
     pub(crate) fn put_all(&mut self, sent: Vec<Bundle<T>>)
@@ -356,8 +359,8 @@ impl<T: Minimum> Stations<T> {
         }
     }
 
-    // A load waits at a place that has room for it, behind the others; it is dropped if there is no such place. The place
-    // loses room for it, and no other place does.
+    // Puts a load at a place that has room for it, behind the others; drops it if there is no such place. The place's
+    // room shrinks by one, and no other place loses room.
     fn put_reserved(&mut self, site: &Site, parcel: Parcel<T>)
         requires { HasRoom 1 self.old site.now }
         ensures put { lots self.new ≡ put_at site.now (load_of parcel) (lots self.old) }
@@ -371,10 +374,10 @@ impl<T: Minimum> Stations<T> {
         }
     }
 
-    /// The bundle of a number, from 0, leaves its place, and the worker holds its stamp there. Refused only with
-    /// `OutOfMemory`, and then nothing changed.
+    /// Takes the bundle of a number, from 0, from its place. The worker then holds its stamp there. Refused only with
+    /// `OutOfMemory`, and then nothing changes.
     ///
-    /// Cost: linear in the stamp, and in the number or in what waits behind it where that is less.
+    /// Cost: linear in the stamp, and in the number of bundles before it or behind it, whichever is smaller.
     pub(crate) fn take(&mut self, site: &Site, number: usize) -> Result<Bundle<T>, Refusal>
         requires { number < length (queue_of (lots self.old) site.now) }
         ensures waited { IfOk result (λ bundle.
@@ -394,8 +397,8 @@ impl<T: Minimum> Stations<T> {
         })
     }
 
-    /// A worker holds these times at a node from now on, and no other; at a node that is not there nothing changes. Takes
-    /// no memory.
+    /// A worker holds these times at a node from now on, and no other. Nothing changes if there is no such node.
+    /// Takes no memory.
     pub(crate) fn hold(&mut self, node: NodeId, worker: usize, times: Times<T>)
         ensures { lots self.new ≡ held_from node worker times (lots self.old) }
     {

@@ -1,5 +1,5 @@
-//! What is found at the stations of a board without a change: what waits at a place, what is held at a node, and which
-//! times are at or before one.
+//! What is read at the stations of a board without changing them: what waits at a place, what is held at a node, and
+//! which of these times are at or before a given one.
 ghost use Rattle.std.specs.Prelude.{◌≡◌, ◌<◌, ◌++◌, ℕ, [], None, IfErr, IfSome, OnOk, length, get_or, map};
 ghost use Rattle.std.specs.List.{list_all};
 ghost use Rattle.lattice.specs.Frontiers.{is_beyond};
@@ -16,7 +16,7 @@ use plan::NodeId;
 use update::Refusal;
 
 impl<T: Minimum> Station<T> {
-    // How many loads wait at a port.
+    // The number of loads that wait at a port.
     fn waiting(&self, port: usize) -> usize
         ensures { result ≡ length (loads_at port (lot self.now)) }
     {
@@ -27,14 +27,14 @@ impl<T: Minimum> Station<T> {
         }
     }
 
-    // Whether the stamp of something that waits here is at or before a time.
+    // Whether the stamp of some load here has an element at or before a time.
     fn is_beyond_stamps(&self, t: &T) -> bool
         ensures { result ≡ is_beyond T.below (stamps_of (lot self.now)) t.now }
     {
         self.left.is_beyond_stamps(t) || self.right.is_beyond_stamps(t)
     }
 
-    // The stamps of what waits here, behind.
+    // Appends the stamps of the loads that wait here.
     fn push_stamps(&self, all: &mut Vec<T>) -> Result<(), Refusal>
         ensures more { OnOk result (all.new.items ≡ all.old.items ++ stamps_of (lot self.now)) }
         ensures refused { IfErr result (λ refusal. refusal ≡ OutOfMemory) }
@@ -77,7 +77,7 @@ impl<T: Minimum> Stations<T> {
         }
     }
 
-    /// How many bundles wait at a place. Takes no memory.
+    /// The number of bundles that wait at a place. Takes no memory.
     pub(crate) fn waiting(&self, site: &Site) -> usize
         ensures { result ≡ length (queue_of (lots self.now) site.now) }
     {
@@ -89,7 +89,7 @@ impl<T: Minimum> Stations<T> {
         }
     }
 
-    /// The first port of a node at which something waits for a worker. Takes no memory.
+    /// The first port of a node at which a bundle waits for a worker. Takes no memory.
     pub(crate) fn port_waiting(&self, node: NodeId, worker: usize) -> Option<usize>
         ensures waits { IfSome result (λ port.
             0 < length (queue_of (lots self.now) (place node port worker))) }
@@ -118,9 +118,10 @@ impl<T: Minimum> Stations<T> {
         }
     }
 
-    /// Whether the stamp of something that waits at a node, for any worker, is at or before a time. Takes no memory.
+    /// Whether the stamp of some bundle at a node, on any worker, has an element at or before a time. Takes no
+    /// memory.
     ///
-    /// Cost: linear in the workers and in the stamps.
+    /// Cost: linear in the workers and in the elements of the stamps.
     pub(crate) fn is_beyond_stamps(&self, node: NodeId, t: &T) -> bool
         ensures { result ≡ is_beyond T.below (stamps_at (lots self.now) node) t.now }
     {
@@ -133,9 +134,9 @@ impl<T: Minimum> Stations<T> {
         false
     }
 
-    /// Whether some worker holds a time at a node that is at or before this one. Takes no memory.
+    /// Whether some worker holds a time at a node at or before this one. Takes no memory.
     ///
-    /// Cost: linear in the workers and in the times.
+    /// Cost: linear in the workers and in the times that are held at the node.
     pub(crate) fn holds(&self, node: NodeId, t: &T) -> bool
         ensures { result ≡ is_beyond T.below (times_at (lots self.now) node) t.now }
     {
@@ -148,9 +149,9 @@ impl<T: Minimum> Stations<T> {
         false
     }
 
-    /// The stamps of what waits at a node, for any worker, behind. Refused only with `OutOfMemory`.
+    /// Appends the stamps of the bundles that wait at a node, on every worker. Refused only with `OutOfMemory`.
     ///
-    /// Cost: linear in the workers and in the stamps.
+    /// Cost: linear in the workers and in the elements of the stamps.
     pub(crate) fn push_stamps(&self, all: &mut Vec<T>, node: NodeId) -> Result<(), Refusal>
         ensures more { OnOk result
             (all.new.items ≡ all.old.items ++ stamps_at (lots self.now) node) }
@@ -163,9 +164,9 @@ impl<T: Minimum> Stations<T> {
         Ok(())
     }
 
-    /// The times that are held at a node, by any worker, behind. Refused only with `OutOfMemory`.
+    /// Appends the times that are held at a node, by every worker. Refused only with `OutOfMemory`.
     ///
-    /// Cost: linear in the workers and in the times.
+    /// Cost: linear in the workers and in the times that are held at the node.
     pub(crate) fn push_held(&self, all: &mut Vec<T>, node: NodeId) -> Result<(), Refusal>
         ensures more { OnOk result
             (all.new.items ≡ all.old.items ++ times_at (lots self.now) node) }

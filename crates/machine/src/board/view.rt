@@ -1,10 +1,11 @@
-//! What a board keeps of each node for those who read it: what a view captured, and the frontier beyond which it may be
+//! What a board keeps of each node for its readers: what a view captured, and the frontier beyond which it may be
 //! read.
 //!
-//! A view also remembers its last read: the time, the bag, how many captured updates it knows, and the positions of those
-//! that are not at or before the time. A read at a time at or after that one looks at those positions and at what was
-//! captured since, and adds what is now at or before its time to the bag. So one read after each change costs what the
-//! bag is long, however much was captured. A read at any other time sums anew. Each read becomes the last one.
+//! A view also remembers its last read: its time, its bag, how many captured updates it knows, and the positions of
+//! those that are not at or before its time. A read at the same time or a later one looks only at those positions and
+//! at what was captured since. It adds the updates that are now at or before its time to the bag. So a read after
+//! each change costs as much as the bag is long, however much was captured. A read at any other time sums anew. Each
+//! read becomes the last one.
 ghost use Rattle.std.specs.Prelude.{◌≡◌, ◌≤◌, ◌<◌, ◌++◌, List, [], IfErr, IfOk, OnErr, OnOk, IsTrue, length, drop};
 ghost use Rattle.std.specs.List.{All, filter, flat_map};
 ghost use Rattle.update.specs.Bags.{Alike, IsBag};
@@ -17,18 +18,18 @@ use std::alloc::Global;
 use std::marker::Model;
 use update::{Bag, Refusal, Times, Update, Updates, sum_at};
 
-// A read: its time and its bag.
+// A read: its time, its bag, and what it knows of the captured updates.
 #[derive(Drop)]
 struct LastRead<T> {
     time: T,
     bag: Bag,
-    // How many of the captured updates it knows: the first so many.
+    // How many of the captured updates it knows, counted from the first.
     known: usize,
-    // The positions of those of them that are not at or before its time.
+    // The positions of the known updates that are not at or before its time.
     later: Vec<usize>,
 }
 
-/// What a view captured, and the frontier beyond which it may be read. Other nodes capture nothing.
+/// What a view captured, and the frontier beyond which it may be read. A node that is no view captures nothing.
 #[derive(Drop)]
 pub struct View<T: Minimum> {
     since: Times<T>,
@@ -50,7 +51,7 @@ impl<T: Minimum> Model for View<T> {
 }
 
 impl<T: Minimum> View<T> {
-    /// A view that captured nothing yet, and may be read beyond a frontier. Takes no memory.
+    /// A view that has captured nothing yet, and may be read beyond a frontier. Takes no memory.
     pub(crate) fn new(alloc: Global, since: Times<T>) -> View<T>
         ensures { result ≡ record { since = since; captured = [] } }
     {
@@ -75,7 +76,7 @@ impl<T: Minimum> View<T> {
         self.captured.as_slice()
     }
 
-    /// Captures all of these updates. Refused only with `OutOfMemory`, and then nothing changed.
+    /// Captures all of these updates. Refused only with `OutOfMemory`, and then nothing changes.
     pub(crate) fn append(&mut self, more: &mut Updates<T>) -> Result<(), Refusal>
         ensures more { OnOk result
             (self.new ≡ record self.old { captured = self.old.captured ++ more.old }) }
@@ -86,12 +87,12 @@ impl<T: Minimum> View<T> {
         self.captured.append(more)
     }
 
-    /// What the view captured, summed to a time. `Overflow` only where a row counts more often than a 64-bit number can
-    /// say, whatever the order of the updates, and `OutOfMemory` where an allocation was refused.
+    /// What the view captured, summed to a time. Refused with `Overflow` only if a row's count does not fit in 64
+    /// bits, whatever the order of the updates, and with `OutOfMemory` if an allocation was refused.
     ///
-    /// Cost: after a read at a time at or before this one, linear in the bag, in the updates which that read knew and that
-    /// are not at or before its time, and in what was captured since; and a sort of those that come in. Else linear in what
-    /// was captured, and a sort of what is at or before the time.
+    /// Cost: if the last read was at or before this time, linear in its bag, in the updates that it knew but left
+    /// out, and in what was captured since, and a sort of the updates that come in. Otherwise linear in all that was
+    /// captured, and a sort of the updates at or before the time.
     pub(crate) fn sum_at(&mut self, alloc: Global, t: T) -> Result<Bag, Refusal>
         ensures kept { self.new ≡ self.old }
         ensures bag { IfOk result IsBag }
@@ -104,7 +105,7 @@ impl<T: Minimum> View<T> {
         Ok(bag)
     }
 
-    // A read of all that was captured, from the last read where that is at or before the time.
+    // A read of all that was captured. It goes on from the last read if that was at or before the time.
     fn read_at(&self, alloc: Global, t: T) -> Result<LastRead<T>, Refusal>
         ensures read { IfOk result (λ r.
             IsReadOf T.below self.now.captured r.time r.bag r.known r.later.items) }
@@ -120,7 +121,7 @@ impl<T: Minimum> View<T> {
     }
 }
 
-// A read that knows nothing before.
+// A read that starts from nothing.
 fn read_anew<T: Minimum>(
     alloc: Global,
     captured: &[Update<T>],
@@ -143,7 +144,7 @@ fn read_anew<T: Minimum>(
     })
 }
 
-// A read that goes on from one at or before its time.
+// A read that goes on from an earlier read, whose time is at or before its own.
 fn read_on<T: Minimum>(
     alloc: Global,
     captured: &[Update<T>],
@@ -170,7 +171,7 @@ fn read_on<T: Minimum>(
     })
 }
 
-// Copies of the updates at or before a time that the bag of an earlier read lacks.
+// Copies the updates at or before a time that are missing from the bag of an earlier read.
 fn arrived_since<T: Minimum>(
     alloc: Global,
     captured: &[Update<T>],
@@ -190,7 +191,7 @@ fn arrived_since<T: Minimum>(
     Ok(arrived)
 }
 
-// The positions of all updates that are not at or before a time, from those of an earlier read.
+// The positions of all updates that are not at or before a time, found from those of an earlier read.
 fn later_since<T: Minimum>(
     alloc: Global,
     captured: &[Update<T>],
@@ -209,7 +210,7 @@ fn later_since<T: Minimum>(
     Ok(later)
 }
 
-// Copies of the updates at these positions that are at or before a time.
+// Copies the updates at these positions that are at or before a time.
 fn arrived_at<T: Minimum>(
     alloc: Global,
     captured: &[Update<T>],
@@ -232,7 +233,7 @@ fn arrived_at<T: Minimum>(
     Ok(arrived)
 }
 
-// Copies of the updates that are at or before a time, behind.
+// Appends copies of the updates that are at or before a time.
 fn push_arrived<T: Minimum>(
     arrived: &mut Vec<Update<T>>,
     updates: &[Update<T>],
@@ -250,7 +251,7 @@ fn push_arrived<T: Minimum>(
     Ok(())
 }
 
-// Those of these positions at which the update is still not at or before a time.
+// Keeps the positions at which the update is still not at or before a time.
 fn still_later<T: Minimum>(
     alloc: Global,
     captured: &[Update<T>],
@@ -272,7 +273,7 @@ fn still_later<T: Minimum>(
     Ok(later)
 }
 
-// The positions from `known` on of the updates that are not at or before a time, behind those of the ones before.
+// Appends the positions from `known` on at which the update is not at or before a time.
 fn push_later<T: Minimum>(
     later: &mut Vec<usize>,
     captured: &[Update<T>],

@@ -1,4 +1,5 @@
-//! The events of workers: a worker with nothing in hand takes a bundle that waits for it, or turns to times that it holds.
+//! The events by which a worker with nothing in hand gets to work: it takes a bundle that waits for it, or it turns
+//! to times that it holds. The file also builds stamps, the frontiers of the times of updates.
 ghost use Rattle.std.specs.Prelude.{◌≡◌, ◌<◌, List, ◌∷◌, Some, None, IfErr, IfOk, OnErr, OnOk, IsTrue, length, get_or, slice_get, set, not};
 ghost use Rattle.std.specs.List.{filter};
 ghost use Rattle.update.specs.declared.refusal.Refusal.TheVariants.{OutOfMemory};
@@ -22,7 +23,7 @@ use std::alloc::Global;
 use std::snapshot::Snapshot;
 use update::{Refusal, Update};
 
-// The frontier of the times of updates.
+// The stamp of updates: the frontier of their times.
 #[tactic(auto, unfolding(crate::specs::Histories::Outstanding::stamp))]
 pub(crate) fn stamp_of<T: Minimum>(alloc: Global, updates: &[Update<T>]) -> Result<Vec<T>, Refusal>
     ensures stamp { IfOk result (λ front. front.items ≡ stamp T.below updates.now) }
@@ -35,7 +36,7 @@ pub(crate) fn stamp_of<T: Minimum>(alloc: Global, updates: &[Update<T>]) -> Resu
     Ok(stamp)
 }
 
-// A time comes into a frontier.
+// Adds a time to a frontier, unless it is beyond the frontier already.
 pub(crate) fn insert<T: Minimum>(front: &mut Vec<T>, t: T) -> Result<(), Refusal>
     ensures with { OnOk result (front.new.items ≡ with_time T.below front.old.items t) }
     ensures refused { IfErr result (λ refusal. refusal ≡ OutOfMemory) }
@@ -48,7 +49,7 @@ pub(crate) fn insert<T: Minimum>(front: &mut Vec<T>, t: T) -> Result<(), Refusal
     Ok(())
 }
 
-// What a time makes superfluous goes.
+// Removes the elements of a frontier that are beyond a new time.
 fn leave<T: Minimum>(front: &mut Vec<T>, t: T)
     ensures left { front.new.items ≡ filter (λ f. not (T.below t f)) front.old.items }
 {
@@ -56,14 +57,14 @@ fn leave<T: Minimum>(front: &mut Vec<T>, t: T)
 }
 
 impl<T: Minimum> Board<T> {
-    /// A worker with nothing in hand takes a bundle that waits for it: of those of a place the one of this number, counted
-    /// from 0 in the order in which they were sent. Into an arrange node bundles are taken in any order, elsewhere in their
-    /// own. The worker then has the node in hand, and holds the least of the bundle's times there, so that no frontier
-    /// passes what it has still to give.
+    /// A worker with nothing in hand takes a bundle that waits at a place: the one of this number, counted from 0 in
+    /// the order in which they were sent. At an arrange node it may take any bundle, elsewhere only the first. It
+    /// then has the node in hand and holds the bundle's stamp there, so that no frontier passes an update that it
+    /// still has to give.
     ///
-    /// Refused only with `OutOfMemory`; then the event is a look, and nothing else changed.
+    /// Refused only with `OutOfMemory`. Then the event is a look, and nothing else changes.
     ///
-    /// Cost: linear in the stamp, and in the number or in what waits behind it where that is less.
+    /// Cost: linear in the stamp, and in the number of bundles before it or behind it, whichever is smaller.
     pub fn take(&mut self, place: Site, number: usize) -> Result<Bundle<T>, Refusal>
         requires worker { place.worker < self.old.dataflow.workers }
         requires free { get_or self.old.hand place.worker None ≡ None }
@@ -102,7 +103,7 @@ impl<T: Minimum> Board<T> {
         }
     }
 
-    // A bundle that has left its queue is in the worker's hand.
+    // Puts a bundle that has left its queue into the worker's hand.
     fn hand_over(&mut self, number: usize, bundle: Bundle<T>) -> Bundle<T>
         requires { bundle.place.worker < self.old.dataflow.workers }
         ensures same { result ≡ bundle }
@@ -118,8 +119,9 @@ impl<T: Minimum> Board<T> {
         bundle
     }
 
-    /// A worker with nothing in hand turns to the times that it holds at a node, where the node's input frontier has passed
-    /// one of them: nothing more comes there at or before it. The worker then has the node in hand. Takes no memory.
+    /// A worker with nothing in hand turns to the times that it holds at a node. The node's input frontier must have
+    /// passed one of them, so that nothing more comes there at or before it. The worker then has the node in hand.
+    /// Takes no memory.
     pub fn take_held(&mut self, worker: usize, node: NodeId)
         requires worker { worker < self.old.dataflow.workers }
         requires within { node < length self.old.dataflow.nodes }

@@ -1,5 +1,5 @@
-//! What may happen on a board, and the entries of the logs that it leaves. Each event names who did it and all that it
-//! did, so that a history is a list of events and nothing else.
+//! The events that may happen on a board, and the entries of the logs that they leave. Each event names who did it
+//! and everything that it did. So a history is a list of events and nothing else.
 ghost use Rattle.std.specs.Prelude.{◌≡◌};
 ghost use Rattle.machine.specs.declared.histories.event.Event.TheVariants.{Feed, Advance, Take, Give};
 ghost use Rattle.machine.specs.Histories.Remembered.{IsFeeding, HasFed, IsAdvancing, HasAdvanced, IsTaking, HasTaken, IsGiving, HasGiven};
@@ -19,14 +19,14 @@ pub struct Site {
     pub worker: usize,
 }
 
-/// Updates on their way to a place, taken all at once.
+/// Updates on their way to a place. A worker takes them all at once.
 #[derive(Drop)]
 pub struct Bundle<T> {
-    /// Where they wait.
+    /// The place where they wait.
     pub place: Site,
-    /// What they are.
+    /// The updates.
     pub updates: Updates<T>,
-    /// A frontier at or before each of their times; found once, by who sends.
+    /// Times such that each update is at or after one of them. The sender finds them once.
     pub stamp: Times<T>,
 }
 
@@ -39,18 +39,18 @@ pub struct Fed<T> {
     pub update: Update<T>,
 }
 
-/// What a worker gave at a node, in one event.
+/// The updates that a worker gave at a node in one event.
 #[derive(Drop)]
 pub struct Emission<T> {
     /// The node.
     pub node: NodeId,
     /// The worker, by its number.
     pub worker: usize,
-    /// What it gave.
+    /// The updates that it gave.
     pub updates: Updates<T>,
 }
 
-/// A time that a worker holds at a node: it may still give updates from it on.
+/// A time that a worker holds at a node: the worker may still give updates there at this time or later.
 #[derive(Clone, Copy)]
 pub struct HeldTime<T> {
     /// The node.
@@ -61,7 +61,7 @@ pub struct HeldTime<T> {
     pub time: T,
 }
 
-/// An element of an input's frontier: changes may still be fed from it on.
+/// An element of an input's frontier: changes may still be fed at this time or later.
 #[derive(Clone, Copy)]
 pub struct OpenTime<T> {
     /// The input.
@@ -96,7 +96,7 @@ impl<T> From<Vec<Bundle<T>>> for Bundles<T> {
     }
 }
 
-/// What happens on a board, one at a time.
+/// One event on a board.
 #[derive(Drop)]
 pub enum Event<T> {
     /// A client changes an input's table.
@@ -104,8 +104,8 @@ pub enum Event<T> {
         client: usize,
         fed: Fed<T>,
     },
-    /// A client moves an input's frontier on: it feeds no more changes at times that are not beyond it. With no times the
-    /// input is closed.
+    /// A client moves an input's frontier forward. From then on no change is fed at a time that is not beyond the
+    /// frontier. With no times the input is closed.
     Advance {
         client: usize,
         input: NodeId,
@@ -117,11 +117,11 @@ pub enum Event<T> {
         view: NodeId,
         times: Times<T>,
     },
-    /// A client or worker looks at the board, and leaves it as it is.
+    /// A client or worker looks at the board and leaves it as it is.
     Look {
         actor: usize,
     },
-    /// A worker takes a bundle: of those that wait at its place the one of this number, from 0.
+    /// A worker takes a bundle: the one of this number, from 0, among those that wait at its place.
     Take {
         number: usize,
         bundle: Bundle<T>,
@@ -131,7 +131,8 @@ pub enum Event<T> {
         worker: usize,
         node: NodeId,
     },
-    /// A worker gives what it computed at a node, says which times it holds there from now on, and sends the updates on.
+    /// A worker gives what it computed at a node, says which times it holds there from now on, and sends the updates
+    /// on.
     Give {
         given: Emission<T>,
         held: Times<T>,
@@ -139,7 +140,8 @@ pub enum Event<T> {
     },
 }
 
-// The event of a change, for clauses alone, and the change: it moves through.
+// Makes the event of a change, for clauses alone, and returns the change. Nothing is copied: the change moves into
+// the event and out again.
 pub(crate) fn remembered_feed<T>(
     client: usize,
     input: NodeId,
@@ -167,7 +169,7 @@ fn fed_in<T>(event: Event<T>) -> Fed<T>
     }
 }
 
-// The event of a take, for clauses alone, and what is taken: it moves through.
+// Makes the event of a take, for clauses alone, and returns the bundle, which moves through it.
 pub(crate) fn remembered_take<T>(
     number: usize,
     bundle: Bundle<T>,
@@ -190,7 +192,7 @@ fn taken_in<T>(event: Event<T>) -> Bundle<T>
     }
 }
 
-// The event of a frontier, for clauses alone, and the frontier: it moves through.
+// Makes the event of an advance, for clauses alone, and returns the times, which move through it.
 pub(crate) fn remembered_advance<T>(
     client: usize,
     input: NodeId,
@@ -218,7 +220,7 @@ fn times_in<T>(event: Event<T>) -> Times<T>
     }
 }
 
-// The event of a give, for clauses alone, and what is given: it moves through.
+// Makes the event of a give, for clauses alone, and returns its parts, which move through it.
 pub(crate) fn remembered_give<T>(
     given: Emission<T>,
     held: Times<T>,

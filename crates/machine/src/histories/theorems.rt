@@ -1,6 +1,6 @@
-//! What holds of every legal history, at every lattice: the theorems of this crate. The functions do nothing. Who holds a
-//! board calls [`crate::meets`]; the theorems are stated here of histories alone, so that they can be read without any
-//! code.
+//! What holds of every legal history, over every lattice: the theorems of this crate. The functions do nothing; their
+//! contracts are the theorems. They speak of histories alone, so that they can be read without any code. A caller
+//! that holds a board uses [`crate::meets`] instead.
 ghost use Rattle.std.specs.Prelude.{◌≡◌, ◌≢◌, ℕ, ◌<◌, ◌++◌, ◌∷◌, List, IsTrue};
 ghost use Rattle.update.specs.Bags.{Alike};
 ghost use Rattle.update.specs.Updates.{as_of};
@@ -20,16 +20,18 @@ ghost use Rattle.machine.specs.Histories.Promises.{IsInPlace, changes_after, Mee
 
 use lattice::Minimum;
 
-/// The headline. In every legal history, of any number of workers, with bundles cut, sent and taken in any order: what a
-/// node gave on all workers, and so what a view captured, summed to any time that its frontier has passed, is the query
-/// from scratch on the changes fed, summed to that time.
+/// The headline. In every legal history, for any number of workers and however bundles were cut, sent and taken: if a
+/// node's frontier has passed a time, then what the node gave on all workers, summed to that time, is the query
+/// computed from scratch on the changes fed, summed to that time. At a view, what the node gave is what the view
+/// captured.
 pub fn headline<T: Minimum>()
     ensures { (p : Dataflow) → IsDataflow p → (h : List (Event T)) → IsLegal T.below T.least p h
         → (n : ℕ) → MeetsQuery T.below (dataflow_after p h) (state_after T.below T.least p h) n }
 {}
 
-/// Consolidated at passed times, what a node gave is the one list of differences of its query, in which no worker occurs.
-/// So two legal histories of one plan with alike changes agree at what both have passed, whatever their workers.
+/// At passed times, what a node gave consolidates to the one list of differences of its query. No worker occurs in
+/// that list. So if two legal histories of one plan have alike changes, they agree at each time that both frontiers
+/// have passed, even if they have different numbers of workers.
 pub fn one_list<T: Minimum>()
     ensures differences { (p : Dataflow) → IsDataflow p
         → (h : List (Event T)) → IsLegal T.below T.least p h → (n : ℕ)
@@ -44,15 +46,15 @@ pub fn one_list<T: Minimum>()
         (as_of T.below t (emitted_after T.below T.least q k n)) }
 {}
 
-/// What one worker gave at a join or reduction is the part of the query whose keys are its own, wherever the input
-/// frontier and the times that it still holds there have passed.
+/// At a join or reduction, what one worker gave is the part of the query whose keys are its own, at each time that
+/// has been passed both by the node's input frontier and by the times that the worker still holds there.
 pub fn parts_of_workers<T: Minimum>()
     ensures { (p : Dataflow) → IsDataflow p → (h : List (Event T)) → IsLegal T.below T.least p h
         → (n k : ℕ) → MeetsPart T.below (dataflow_after p h) (state_after T.below T.least p h) n k }
 {}
 
-/// No frontier goes back: what it has passed it has passed in every legal continuation. That holds of the frontier of a
-/// node, of its input frontier, and of that of each of its ports.
+/// No frontier goes back: a time that a frontier has passed stays passed in every legal continuation. This holds of a
+/// node's frontier, of its input frontier, and of the frontier of each of its ports.
 pub fn frontiers_do_not_go_back<T: Minimum>()
     ensures frontiers { (p : Dataflow) → IsDataflow p
         → (h later : List (Event T)) → IsLegal T.below T.least p (later ++ h)
@@ -68,9 +70,10 @@ pub fn frontiers_do_not_go_back<T: Minimum>()
         (port_frontier_after T.below T.least p (later ++ h) n port) }
 {}
 
-/// No time that a node's frontier has passed has anything outstanding at it or before it, at the node or above it. And what
-/// comes to a node is beyond what its input frontier had passed: then and ever after, nothing is in flight to the node at
-/// such a time or before it, and nothing above the node from which it could come.
+/// If a node's frontier has passed a time, then nothing is outstanding at or before that time, at the node or above
+/// it. If its input frontier has passed the time, then now and after any later events nothing that could still reach
+/// the node is outstanding at or before that time: no bundle in flight to the node or above it, no time held above
+/// it, and no open input.
 pub fn nothing_lurks<T: Minimum>()
     ensures frontiers { (p : Dataflow) → IsDataflow p
         → (h : List (Event T)) → IsLegal T.below T.least p h
@@ -84,16 +87,21 @@ pub fn nothing_lurks<T: Minimum>()
         (strictly_upstream p n) t }
 {}
 
-/// A node that reads others is sent nothing more at a time where that holds of each of its ports: its input frontier has
-/// passed just what the frontiers of all its ports have.
+/// For a node that reads other nodes, the input frontier has passed a time exactly if the frontier of each of its
+/// ports has passed it.
 pub fn port_frontiers_are_the_input_frontier<T: Minimum>()
     ensures { (p : Dataflow) → IsDataflow p → (h : List (Event T)) → IsLegal T.below T.least p h
         → (n : ℕ) → PortsAreInput T.below (dataflow_after p h) (state_after T.below T.least p h) n }
 {}
 
-/// What a node gave on all workers is within its bound, which is found from the plan and the changes fed alone; and so is
-/// what a reduction has computed so far and not yet given, so that it may answer that a number is too large only where the
-/// bound is.
+/// Sizes stay within bounds. A node's bound is found from the plan and the changes fed alone.
+///
+/// - `emitted`: what a node gave on all workers is within its bound.
+/// - `owed`: so is what a reduction has computed so far, before it gives it. So a reduction may answer that a number
+///   is too large only if its bound is too large.
+/// - `received`: what a worker received at a port is within the bound of the node that the port reads.
+/// - `loads`: at a node that is no reduction, what the node may make of what a worker received is within its own
+///   bound.
 pub fn bounds_are_kept<T: Minimum>()
     ensures emitted { (p : Dataflow) → IsDataflow p
         → (h : List (Event T)) → IsLegal T.below T.least p h → (n : ℕ)
@@ -109,38 +117,40 @@ pub fn bounds_are_kept<T: Minimum>()
         → LoadsWithinBound T.below (dataflow_after p h) (state_after T.below T.least p h) n T.cmp }
 {}
 
-/// The stamp that is found of updates stands for all their times, and has none of them twice: no two of its times can be
-/// compared.
+/// The stamp of some updates is the frontier of their times: the same times are beyond both, and no two elements of
+/// the stamp can be compared, so none occurs twice.
 pub fn stamps_are_frontiers<T: Minimum>()
     ensures apart { (us : List (Update T)) → IsTrue (is_antichain T.below (stamp T.below us)) }
     ensures beyond { (us : List (Update T)) → (t : T)
         → is_beyond T.below (stamp T.below us) t ≡ is_beyond T.below (times us) t }
 {}
 
-/// Where a board is quiet it has caught up: each node's frontier, and so each view's, is the least of the frontiers of the
-/// inputs that feed it.
+/// If a board is quiet, it has caught up: each node's frontier, and so each view's, is the least of the frontiers of
+/// the inputs that feed it.
 pub fn quiet_is_caught_up<T: Minimum>()
     ensures { (p : Dataflow) → IsDataflow p → (h : List (Event T)) → IsLegal T.below T.least p h
         → IsQuiet T.below (dataflow_after p h) (state_after T.below T.least p h) → (n : ℕ)
         → IsCaughtUp T.below (dataflow_after p h) (state_after T.below T.least p h) n }
 {}
 
-/// Whatever waits, waits at a place that there is: so a worker that goes through its places finds it.
+/// Everything that waits is at a place that exists: bundles, of which none is empty, held times, open inputs and
+/// pieces in hand. So a worker that goes through its places finds every bundle for it.
 pub fn what_waits_has_its_place<T: Minimum>()
     ensures { (p : Dataflow) → IsDataflow p → (h : List (Event T)) → IsLegal T.below T.least p h
         → IsInPlace (dataflow_after p h) (state_after T.below T.least p h) }
 {}
 
-/// An event leaves what another worker has as it was: what it received and gave, the times that it holds, its piece in hand,
-/// and the input frontiers that its takes left. So a worker knows these without a look at the board.
+/// An event changes nothing of any other worker: what that worker received and gave, the times that it holds, its
+/// piece in hand, and the input frontiers that its takes recorded. So a worker knows these without a look at the
+/// board.
 pub fn workers_are_apart<T: Minimum>()
     ensures { (p : Dataflow) → (h : List (Event T)) (e : Event T) → (k : ℕ) → actor_of e ≢ k
         → IsSameOfWorker k (state_after T.below T.least p h)
         (state_after T.below T.least p (e ∷ h)) }
 {}
 
-/// An event of a worker leaves what clients did as it was: the changes that they fed, the inputs' frontiers, and the sinces
-/// of the views. Only numbers from the number of workers on are clients'.
+/// An event of a worker changes nothing that clients did: the changes that they fed, the frontiers of the inputs, and
+/// the sinces of the views. A number below the number of workers is a worker's; the others are clients'.
 pub fn clients_are_apart<T: Minimum>()
     ensures { (p : Dataflow) → (h : List (Event T)) (e : Event T)
         → IsLegal T.below T.least p (e ∷ h) → actor_of e < p.workers
@@ -148,8 +158,8 @@ pub fn clients_are_apart<T: Minimum>()
         (state_after T.below T.least p (e ∷ h)) }
 {}
 
-/// The premises of all this can be met: there are a plan with a join and a reduction, a legal history of it on two workers in
-/// which every kind of event occurs, and a reading of a view of it, from which something is read at a time that its frontier
+/// The premises of these theorems can be met. There is a plan with a join and a reduction, a legal history of it in
+/// which every kind of event occurs, and a reading of a view that contains a row at a time that the view's frontier
 /// has passed and that is still held.
 pub fn premises_can_be_met()
     ensures { (p : Dataflow) × (h : List (Event ℕ)) × (v : ℕ) × (us : List (Update ℕ))

@@ -1,8 +1,8 @@
-//! What the definitions say of examples. The theorems of this crate hold of every legal history, and so they would hold as
-//! well if a definition forbade what an engine has to do: fewer histories would be legal, and nothing would be refused. A
-//! definition may also find another frontier or bound than it should, and each proof follow it. So here stand, for times
-//! that are pairs, cases that are easily forbidden and numbers that can be found by hand. The function does nothing. A
-//! change of a definition with which one of its clauses is false does not pass the check.
+//! What the definitions say of examples. The theorems of this crate hold of every legal history, so they would still
+//! hold if a definition forbade something that an engine has to do: fewer histories would be legal, and no proof
+//! would fail. A definition could also find a wrong frontier or bound, and every proof would follow it. So this file
+//! states cases that a definition could easily forbid, and numbers that can be found by hand, for times that are
+//! pairs. The function does nothing. If a changed definition makes one of its clauses false, the check fails.
 ghost use Rattle.std.specs.Prelude.{◌≡◌, true, false, List, [], ◌∷◌, map, pos, negsuc};
 ghost use Rattle.lattice.specs.Pairs.{make_pair};
 ghost use Rattle.plan.specs.Rules.{IsPlan};
@@ -21,20 +21,21 @@ ghost use Rattle.lattice.specs.Bitimes.{bitime_below};
 /// The examples, by clause:
 ///
 /// - `dataflows`, `plans`: the plans of the examples are plans.
-/// - `distinct`: a row came to a distinct at (0, 3) and at (3, 0). It gives the row at both times, and takes one of the two
-///   back at their join (3, 3), a time that it never held.
-/// - `cut_in_two`: what goes to one place is cut as the worker likes: of three updates the first and the last in one bundle,
-///   and the other one in a bundle of its own.
-/// - `allow`, `allowed`: a view's since moves on, from (0, 0) to (4, 4).
-/// - `in_flight`, `held`, `gone`: the frontiers at a count and at its view while an update at (10, 1) waits for a worker there,
-///   while its time is held, and after that. The input is open from (0, 2) on.
-/// - `quiet`: all is quiet while a worker holds (10, 3) and there may still be changes from (0, 2) on.
-/// - `stamp`, `stamp_of_one`: the stamp of three updates has the least of their times, and that of two updates at one time has
-///   it once.
-/// - `home`: the row (5, -7) comes to worker 2 of 4.
-/// - `product`, `doubled`, `linear`: bounds at a join, of sums that leave 64 bits, and along linear nodes.
-/// - `from_start`: nothing was given up where the least time is in the since, whatever stands beside it.
-/// - `given_up`: something was where the since is empty, a later time, or two of them.
+/// - `distinct`: a row came to a distinct at (0, 3) and at (3, 0). The node gives the row at both times, and takes
+///   one of the two back at their join (3, 3), a time that the worker never held.
+/// - `cut_in_two`: a worker may cut what goes to one place as it likes. Of three updates, the first and the last go
+///   in one bundle, and the second in a bundle of its own.
+/// - `allow`, `allowed`: a view's since moves forward, from (0, 0) to (4, 4).
+/// - `in_flight`, `held`, `gone`: the frontiers at a count and at its view, first while an update at (10, 1) waits
+///   for a worker at the count, then while its time is held there, and then after that. The input is open from (0, 2)
+///   on.
+/// - `quiet`: the board is quiet while a worker holds (10, 3) and changes may still come from (0, 2) on.
+/// - `stamp`, `stamp_of_one`: the stamp of three updates has the least of their times, and the stamp of two updates
+///   at one time has that time once.
+/// - `home`: the row (5, -7) goes to worker 2 of 4.
+/// - `product`, `doubled`, `linear`: the bounds at a join, of sums that exceed 64 bits, and along linear nodes.
+/// - `from_start`: nothing was given up if the since contains the least time, even if it contains other times too.
+/// - `given_up`: something was given up if the since is empty, one later time, or two later times.
 pub fn definitions_fit_examples()
     ensures dataflows { IsDataflow counting × IsDataflow listing × IsDataflow copying }
     ensures plans { IsPlan joining × IsPlan doubling × IsPlan linear_row }
