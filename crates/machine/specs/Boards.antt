@@ -1,4 +1,6 @@
--- What a contract sees of a board, what each event makes of it, and which histories it may stand for.
+-- What a contract sees of a board, what each event makes of it, and which histories it may stand for. `Stands` is the
+-- invariant of this room: the board has at each place what the history leaves there. Several histories may leave the
+-- same, so a contract speaks of every history that the board may stand for.
 pub mod Loads
 pub mod Stations
 pub mod Inputs
@@ -32,7 +34,7 @@ use Rattle.machine.specs.Histories.Promises.{changes_in}
 use Rattle.machine.specs.Histories.Readings.{IsQuiet, is_from_start}
 use Rattle.machine.specs.Boards.Loads.{Lot, load_in, lot_of, first_stations, put_at, put_all, taken_from, held_from, queue_of}
 
--- what lies on a board
+-- the state of a board
 pub record BoardState (T : Type 0) : Type 0 where
   pub dataflow : Dataflow
   -- by node and by worker, what waits there and what is held
@@ -49,10 +51,11 @@ pub record BoardState (T : Type 0) : Type 0 where
   pub last : Event T
 
 module _ {T : Type 0} where
+  -- the entry that is read for a number that is no node's
   abbrev pub no_view : ViewState T
   no_view = record { since = []; captured = [] }
 
-  -- what every board keeps: a worker there is, and each list has its places
+  -- the invariant of every board: its dataflow is well formed, and each list has an entry for each node or worker
   pub record IsBoard (b : BoardState T) : Type 0 where
     pub dataflow : Rattle.machine.specs.Histories.Dataflows.IsDataflow b.dataflow
     pub stations : length b.stations ≡ length b.dataflow.nodes
@@ -62,7 +65,7 @@ module _ {T : Type 0} where
     pub views : length b.views ≡ length b.dataflow.nodes
     pub inputs : length b.inputs ≡ length b.dataflow.nodes
 
-  -- a board on which nothing has happened: each input and each view stands at the least time
+  -- a board on which nothing has happened: each input's frontier and each view's since is the least time
   abbrev pub first_board : T → Dataflow → BoardState T
   first_board minimum p = record {
     dataflow = p;
@@ -74,39 +77,42 @@ module _ {T : Type 0} where
     last = Look 0;
   }
 
-  -- the board after a look, and after a change, a frontier and a since of clients
+  -- the board after a look
   abbrev pub after_look : ℕ → BoardState T → BoardState T
   after_look actor b = record b { last = Look actor }
 
-  -- a change waits at its input from now on, and is counted there
+  -- the board with a change that waits at its input, first not yet counted there, then counted
   abbrev pub put_change : Fed T → BoardState T → BoardState T
   put_change f b = record b { stations = put_at (home b.dataflow f) (load_in (alone b.dataflow f)) b.stations }
 
   abbrev pub accept_change : Fed T → BoardState T → BoardState T
   accept_change f b = record (put_change f b) { accepted = set b.accepted f.input (suc (get_or b.accepted f.input 0)) }
 
+  -- the board after a feed
   abbrev pub after_feed : ℕ → Fed T → BoardState T → BoardState T
   after_feed client f b = record (accept_change f b) { last = Feed client f }
 
+  -- the board after an advance; a close is an advance to no times
   abbrev pub after_advance : ℕ → ℕ → List T → BoardState T → BoardState T
   after_advance client i ts b = record b {
     inputs = set b.inputs i ts;
     last = Advance client i ts;
   }
 
-  -- what a view captured, and this
+  -- the view after it captured these updates too
   abbrev pub capture : ViewState T → List (Update T) → ViewState T
   capture view us = record view { captured = view.captured ++ us }
 
-  -- the views, where this one captured it
+  -- the views after the view of node n captured these updates
   abbrev pub capture_at : ℕ → List (Update T) → List (ViewState T) → List (ViewState T)
   capture_at n us views = set views n (capture (get_or views n no_view) us)
 
-  -- the views, where a node gave this: only a view captures it
+  -- the views after node n gave these updates: captured if the node is a view, unchanged if not
   abbrev pub capture_output : Dataflow → ℕ → List (Update T) → List (ViewState T) → List (ViewState T)
   capture_output p n us views = if is_output (node_of p n) then capture_at n us views else views
 
-  -- what a worker gave is sent, and captured at a view; it then holds these times there, and has nothing in hand
+  -- the board after a give, before the event is recorded: the bundles wait at their places, a view captured the
+  -- updates, and the worker holds these times at the node and has nothing in hand
   abbrev pub give_output : Emission T → List T → List (Bundle T) → BoardState T → BoardState T
   give_output g ts sent b = record b {
     stations = held_from g.node g.worker ts (put_all sent b.stations);
@@ -114,7 +120,7 @@ module _ {T : Type 0} where
     views = capture_output b.dataflow g.node g.updates b.views;
   }
 
-  -- the board after it
+  -- the board after a give
   abbrev pub after_give : Emission T → List T → List (Bundle T) → BoardState T → BoardState T
   after_give g ts sent b = record (give_output g ts sent b) { last = Give g ts sent }
 
@@ -131,14 +137,14 @@ module _ {T : Type 0} where
   }
 
 module _ {T : Type 0} (below : T → T → Bool) where
-  -- what refuses a change, and an input's frontier
+  -- the refusal of a change, and of times as an input's next frontier, if there is one
   abbrev pub feed_refusal : BoardState T → Fed T → Option Refusal
   feed_refusal b f = first_refusal (feed_faults below b.dataflow.nodes (front_at f.input b.inputs) (get_or b.accepted f.input 0) f)
 
   abbrev pub advance_refusal : BoardState T → ℕ → List T → Option Refusal
   advance_refusal b i ts = first_refusal (advance_faults below (front_at i b.inputs) ts)
 
--- the dataflow with which the board was opened: so far it stays as it was
+-- the dataflow with which the board was opened. No event changes it
 abbrev pub opened_dataflow : {T : Type 0} → BoardState T → Dataflow
 opened_dataflow b = b.dataflow
 
@@ -147,7 +153,7 @@ abbrev pub plan_on : {T : Type 0} → BoardState T → List (Event T) → Datafl
 plan_on b h = dataflow_after (opened_dataflow b) h
 
 module _ {T : Type 0} (below : T → T → Bool) (minimum : T) where
-  -- what a history leaves on the board
+  -- the state that a history leaves, if it began with the board's dataflow
   abbrev pub state_on : BoardState T → List (Event T) → State T
   state_on b h = state_after below minimum (opened_dataflow b) h
 
@@ -158,38 +164,38 @@ module _ {T : Type 0} (below : T → T → Bool) (minimum : T) where
   abbrev pub input_frontier_on : BoardState T → List (Event T) → ℕ → List T
   input_frontier_on b h n = input_frontier below (plan_on b h) (state_on b h) n
 
-  -- the times that a worker then holds at a node
+  -- the times that a worker holds at a node after a history of the board
   abbrev pub held_on : BoardState T → List (Event T) → ℕ → ℕ → List T
   held_on b h n k = held_at n k (state_on b h).held
 
-  -- the changes that were fed by then, and the query on those up to a time
+  -- the changes fed in a history of the board, and the query on those up to a time
   abbrev pub changes_on : BoardState T → List (Event T) → ℕ → List (Update T)
   changes_on b h = changes_in (state_on b h)
 
   abbrev pub query_on : BoardState T → List (Event T) → ℕ → T → List Entry
   query_on b h view t = query_at below (plan_on b h).nodes (changes_on b h) view t
 
-  -- a worker may then give this
+  -- a worker may give this after a history of the board
   abbrev pub IsGiveOn : BoardState T → List (Event T) → Emission T → List T → List (Bundle T) → Type 0
   IsGiveOn b h g ts sent = IsGive below (plan_on b h) (state_on b h) g ts sent
 
-  -- the history leaves nothing to do
+  -- the board is quiet after the history
   abbrev pub IsQuietOn : BoardState T → List (Event T) → Type 0
   IsQuietOn b h = IsQuiet below (plan_on b h) (state_on b h)
 
-  -- the event was the last one
+  -- the board's last event is the newest event of the history
   abbrev pub IsLast : BoardState T → List (Event T) → Type 0
   IsLast b [] = ⊤
   IsLast b (e ∷ h) = b.last ≡ e
 
-  -- what a view keeps of what it captured: at the times at which it may still be read, and where nothing was given up at
-  -- every time, the same sums; and the diffs add to no more
+  -- what a view keeps of what was given to it: the same sums at each time beyond its since, and at every time if
+  -- nothing was given up; and its absolute diffs add up to no more
   pub record IsKeptOf (since : List T) (captured emitted : List (Update T)) : Type 0 where
     pub sums : (t : T) → IsTrue (is_from_start below minimum since || is_beyond below since t) → Alike (as_of below t captured) (as_of below t emitted)
     pub small : size captured ≤ size emitted
 
-  -- the board may stand after a history: the history is legal, and what lies on the board is what it leaves at each place,
-  -- whatever order the board keeps between places
+  -- the board may stand for a history: the history is legal, and at each place the board has what the history leaves
+  -- there. The board may keep the places in any order
   pub record Stands (b : BoardState T) (h : List (Event T)) : Type 0 where
     pub legal : IsLegal below minimum (opened_dataflow b) h
     pub queues : (site : Site) → queue_of b.stations site ≡ queue site (state_on b h).in_flight

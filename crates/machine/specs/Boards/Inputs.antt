@@ -1,4 +1,4 @@
--- The frontiers of a dataflow's inputs, by node: from which times on changes may still be fed.
+-- The frontiers of a dataflow's inputs, by node: changes may still be fed at times beyond them.
 use Rattle.std.specs.Prelude.{ℕ, Bool, not, eqb, if◌then◌else◌, List, [], ◌∷◌, map, get_or, length, nat_lt, nat_le, pos, unsigned_abs}
 use Rattle.std.specs.Ordering.{int_eq}
 use Rattle.lattice.specs.Frontiers.{is_beyond, all_beyond}
@@ -10,16 +10,17 @@ use Rattle.plan.specs.declared.node.Node.{Node}
 use Rattle.machine.specs.declared.histories.event.Fed.{Fed}
 
 module _ {T : Type 0} where
-  -- the frontier of a node: of no times where the input is closed, and where the node is no input
+  -- the frontier of a node; it has no times if the input is closed, or if the node is no input
   abbrev pub front_at : ℕ → List (List T) → List T
   front_at i inputs = get_or inputs i []
 
-  -- before the first event each input stands at the least time
+  -- the frontiers before the first event: each input's is the least time
   abbrev pub first_inputs : T → List Node → List (List T)
   first_inputs minimum p = map (λ node. if is_input node then minimum ∷ [] else []) p
 
 module _ {T : Type 0} (below : T → T → Bool) where
-  -- what refuses a change, in the order of testing, where its input stands at this frontier and has taken so many changes
+  -- the faults of a change, in the order in which they are tested, from its input's frontier and the number of
+  -- changes that the input has taken
   abbrev pub feed_faults : List Node → List T → ℕ → Fed T → List (Bool × Refusal)
   feed_faults nodes frontier taken f = (not (eqb (length f.update.row) (width_of nodes f.input)), WrongWidth)
       ∷ (int_eq f.update.diff (pos 0), ZeroWeight)
@@ -28,6 +29,6 @@ module _ {T : Type 0} (below : T → T → Bool) where
       ∷ (not (nat_lt taken 1048576), InputFull)
       ∷ []
 
-  -- what refuses times as the frontier of an input that stands at this one
+  -- the faults of times as the next frontier of an input whose frontier is this one
   abbrev pub advance_faults : List T → List T → List (Bool × Refusal)
   advance_faults frontier ts = (not (all_beyond below frontier ts), NotForward) ∷ []

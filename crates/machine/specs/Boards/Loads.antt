@@ -1,4 +1,5 @@
--- What lies at the nodes of a board, by node and by worker: what waits at both ports, and the times that the worker holds.
+-- What lies at the nodes of a board, by node and by worker: what waits at both ports, and the times that the worker
+-- holds. A load is a bundle without its place, since the place is known from where the load lies.
 use Rattle.std.specs.Prelude.{ℕ, zero, suc, Bool, true, false, List, [], ◌∷◌, ◌++◌, map, get_or, set, replicate, length}
 use Rattle.std.specs.List.{remove, flat_map}
 use Rattle.update.specs.declared.change.Update.{Update}
@@ -11,7 +12,7 @@ use Rattle.machine.specs.declared.board.queue.Parcel.TheVariants.{Change, Sent}
 use Rattle.machine.specs.Histories.States.{place}
 use Rattle.machine.specs.Histories.{held_entries}
 
--- nothing of the list
+-- the list is empty
 abbrev pub is_none : {A : Type 0} → List A → Bool
 is_none [] = true
 is_none (x ∷ xs) = false
@@ -21,30 +22,32 @@ pub record Load (T : Type 0) : Type 0 where
   pub updates : List (Update T)
   pub stamp : List T
 
--- a queue: what waits in it, the oldest first, and for how many more room is reserved, so that they take no memory
+-- a queue: what waits in it, the oldest first, and for how many more loads room is reserved, so that they take no
+-- memory
 pub record QueueState (T : Type 0) : Type 0 where
   pub loads : List (Load T)
   pub room : ℕ
 
--- what lies at a node for a worker: what waits at its first and its second port, and the times that it holds
+-- what lies at a node for one worker: what waits at its first and its second port, and the times that it holds
 pub record Lot (T : Type 0) : Type 0 where
   pub left : List (Load T)
   pub right : List (Load T)
   pub held : List T
 
 module _ {T : Type 0} where
-  -- a change waits by itself
+  -- a parcel as a load; a change is a load of one update
   abbrev pub load_of : Parcel T → Load T
   load_of (Change update) = record { updates = update ∷ []; stamp = update.time ∷ [] }
   load_of (Sent updates stamp) = record { updates = updates; stamp = stamp }
 
-  -- what a bundle brings to its place, and back
+  -- a bundle as a load, and a load as a bundle
   abbrev pub load_in : Bundle T → Load T
   load_in b = record { updates = b.updates; stamp = b.stamp }
 
   abbrev pub bundle_at : Site → Load T → Bundle T
   bundle_at site load = record { place = site; updates = load.updates; stamp = load.stamp }
 
+  -- the lot of a node and worker at which nothing lies
   abbrev pub no_lot : Lot T
   no_lot = record { left = []; right = []; held = [] }
 
@@ -60,15 +63,15 @@ module _ {T : Type 0} where
   with_loads (suc zero) loads lot = record lot { right = loads }
   with_loads (suc (suc port)) loads lot = lot
 
-  -- the lot with one load more at a port, behind
+  -- the lot with one more load at a port, behind the others
   abbrev pub with_load_at : ℕ → Load T → Lot T → Lot T
   with_load_at port load lot = with_loads port (loads_at port lot ++ load ∷ []) lot
 
-  -- the lot without the load of a number, from 0, at a port, and with its stamp held
+  -- the lot after a take: the load of a number, from 0, has left its port, and its stamp is held
   abbrev pub without_load_at : ℕ → ℕ → List T → Lot T → Lot T
   without_load_at port number stamp lot = record (with_loads port (remove (loads_at port lot) number) lot) { held = lot.held ++ stamp }
 
-  -- the lot of a worker among those of a node, and these with another one for the worker
+  -- the lot of a worker among those of a node, and these with the worker's lot changed
   abbrev pub lot_in : List (Lot T) → ℕ → Lot T
   lot_in row k = get_or row k no_lot
 
@@ -79,15 +82,16 @@ module _ {T : Type 0} where
   abbrev pub lot_of : List (List (Lot T)) → ℕ → ℕ → Lot T
   lot_of stations n k = lot_in (get_or stations n []) k
 
-  -- the same but for one lot, which is another one now
+  -- the stations with the lot of one worker at one node changed
   abbrev pub with_lot : ℕ → ℕ → (Lot T → Lot T) → List (List (Lot T)) → List (List (Lot T))
   with_lot n k change stations = set stations n (at_worker k change (get_or stations n []))
 
-  -- where nothing lies anywhere
+  -- the stations at which nothing lies
   abbrev pub first_stations : ℕ → ℕ → List (List (Lot T))
   first_stations nodes workers = replicate nodes (replicate workers no_lot)
 
-  -- a load waits at a place from now on, behind; and so does each bundle of a list at its own
+  -- the stations after a load was put at a place, behind the others, and after each bundle of a list was put at its
+  -- own
   abbrev pub put_at : Site → Load T → List (List (Lot T)) → List (List (Lot T))
   put_at site load stations = with_lot site.node site.worker (with_load_at site.port load) stations
 
@@ -95,11 +99,11 @@ module _ {T : Type 0} where
   put_all [] stations = stations
   put_all (b ∷ bundles) stations = put_all bundles (put_at b.place (load_in b) stations)
 
-  -- a bundle was taken from its place, by the number that it had there
+  -- the stations after a bundle was taken from its place, by its number there
   abbrev pub taken_from : ℕ → Bundle T → List (List (Lot T)) → List (List (Lot T))
   taken_from number b stations = with_lot b.place.node b.place.worker (without_load_at b.place.port number b.stamp) stations
 
-  -- a worker holds these times at a node, and no other
+  -- the stations after a worker came to hold these times at a node, and no other
   abbrev pub held_from : ℕ → ℕ → List T → List (List (Lot T)) → List (List (Lot T))
   held_from n k ts stations = with_lot n k (λ lot. record lot { held = ts }) stations
 
@@ -123,7 +127,7 @@ module _ {T : Type 0} where
   abbrev pub all_held : List (List (Lot T)) → List (HeldTime T)
   all_held stations = flat_map (λ n. held_in n (get_or stations n [])) (numbers_below (length stations))
 
-  -- the stamps of what waits at a node, and the times that are held there, on all workers
+  -- the stamps of what waits in a lot or at a node, and the times that are held at a node, on all workers
   abbrev pub stamps_of : Lot T → List T
   stamps_of lot = flat_map (λ load. load.stamp) (lot.left ++ lot.right)
 

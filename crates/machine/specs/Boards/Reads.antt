@@ -1,4 +1,4 @@
--- What is found on a board when it is asked: frontiers, a view's rows at a time, its changes, and whether it is quiet.
+-- What a board answers: frontiers, a view's rows at a time, its changes, and whether it is quiet.
 use Rattle.std.specs.Prelude.{ℕ, Bool, true, false, not, ◌&&◌, List, [], ◌∷◌, length, get_or, Option, Some, None, nat_lt}
 use Rattle.std.specs.List.{filter, list_all, list_any, flat_map}
 use Rattle.lattice.specs.Frontiers.{is_beyond}
@@ -23,7 +23,8 @@ use Rattle.machine.specs.Boards.{BoardState, no_view, is_from_start}
 abbrev pub open_on : {T : Type 0} → BoardState T → List (OpenTime T)
 open_on b = flat_map (λ i. open_entries i (front_at i b.inputs)) (numbers_below (length b.dataflow.nodes))
 
--- what lies on a board, as what a history leaves: its logs of what is past are not there
+-- the board as a state that a history leaves, with the logs of the past empty: frontiers need only what is
+-- outstanding
 abbrev pub on_board : {T : Type 0} → BoardState T → State T
 on_board b = record {
   fed = [];
@@ -44,7 +45,7 @@ captured_of b v = (get_or b.views v no_view).captured
 abbrev pub since_of : {T : Type 0} → BoardState T → ℕ → List T
 since_of b v = (get_or b.views v no_view).since
 
--- nobody has a piece in hand
+-- no worker has a piece in hand
 abbrev pub hands_are_free : List (Option ℕ) → Bool
 hands_are_free [] = true
 hands_are_free (None ∷ hand) = hands_are_free hand
@@ -62,27 +63,28 @@ module _ {T : Type 0} (below : T → T → Bool) where
   abbrev pub is_ready : BoardState T → ℕ → ℕ → Bool
   is_ready b k n = list_any (has_passed below (input_front b n)) (lot_of b.stations n k).held
 
-  -- whatever is held waits for what may still come to its node
+  -- each held time could still receive input: its node's input frontier has not passed it
   abbrev pub all_wait : BoardState T → Bool
   all_wait b = list_all (λ m. nat_lt m.node (length b.dataflow.nodes) && is_beyond below (input_front b m.node) m.time) (all_held b.stations)
 
-  -- nothing is in flight or in hand, and whatever is held waits
+  -- nothing is in flight or in hand, and each held time could still receive input
   abbrev pub is_quiet_board : BoardState T → Bool
   is_quiet_board b = is_none (all_bundles b.stations) && (hands_are_free b.hand && all_wait b)
 
-  -- what refuses a read, in the order of testing
+  -- the refusal of a read, in the order in which its faults are tested
   abbrev pub read_refusal_on : BoardState T → ℕ → T → Option Refusal
   read_refusal_on b v t = first_refusal ((is_beyond below (front b v) t, NotPassed) ∷ (not (is_beyond below (since_of b v) t), GivenUp) ∷ [])
 
-  -- what refuses the changes of a view
+  -- the refusal of a view's changes
   abbrev pub changes_refusal_on : T → BoardState T → ℕ → Option Refusal
   changes_refusal_on minimum b v = first_refusal ((not (is_from_start below minimum (since_of b v)), GivenUp) ∷ [])
 
-  -- of what a view captured, what is at times that its frontier has passed
+  -- what a view captured at times that its frontier has passed
   abbrev pub passed_captured : BoardState T → ℕ → List (Update T)
   passed_captured b v = filter (λ u. has_passed below (front b v) u.time) (captured_of b v)
 
-  -- a refusal of a read, and of the changes of a view: a fault, want of memory, or a number that is too large
+  -- how a read, and the changes of a view, may be refused: with a fault, for want of memory, or with a number that is
+  -- too large
   abbrev pub IsReadRefusal : BoardState T → ℕ → T → Refusal → Type 0
   IsReadRefusal b v t refusal = IsRefusalOr (HasLargeSum below (captured_of b v) t) (read_refusal_on b v t) refusal
 

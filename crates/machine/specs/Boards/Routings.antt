@@ -1,4 +1,4 @@
--- What a routing keeps of a dataflow, so that nothing of it is found anew.
+-- What a routing keeps of a dataflow, so that a cut need not go over the plan.
 use Rattle.std.specs.Prelude.{◌≡◌, ℕ, List, map, length, Option}
 use Rattle.plan.specs.Ancestors.{numbers_below}
 use Rattle.plan.specs.Edges.{edges_from}
@@ -11,7 +11,7 @@ use Rattle.machine.specs.Histories.Dataflows.{Dataflow, IsDataflow}
 abbrev pub all_edges : List Node → List (List Edge)
 all_edges nodes = map (edges_from nodes) (numbers_below (length nodes))
 
--- these are the edges from each node of the dataflow, and the columns by which each is arranged
+-- the tables have the edges from each node, and the number of columns by which each node is arranged
 pub record IsRouting (p : Dataflow) (outgoing : List (List Edge)) (columns : List (Option ℕ)) : Type 0 where
   pub dataflow : IsDataflow p
   pub edges : outgoing ≡ all_edges p.nodes

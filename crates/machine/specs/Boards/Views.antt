@@ -13,16 +13,16 @@ pub record ViewState (T : Type 0) : Type 0 where
   pub since : List T
   pub captured : List (Update T)
 
--- the update at a position, as a list: none where the position is past the end
+-- the update at a position, as a list; empty if the position is past the end
 abbrev pub update_at : {T : Type 0} → List (Update T) → ℕ → List (Update T)
 update_at us k = take 1 (drop k us)
 
 module _ {T : Type 0} (below : T → T → Bool) where
-  -- summed to a time some row of the updates counts more often than a 64-bit number can say
+  -- summed to a time, some row of the updates has a count that does not fit in 64 bits
   abbrev pub HasLargeSum : List (Update T) → T → Type 0
   HasLargeSum us t = HasLargeCount (as_of below t us)
 
-  -- what refuses their sum at a time
+  -- how the sum of updates at a time may be refused
   abbrev pub IsSumRefusal : List (Update T) → T → Refusal → Type 0
   IsSumRefusal us t refusal = IsMemoryOrOverflow (HasLargeSum us t) refusal
 
@@ -34,8 +34,8 @@ module _ {T : Type 0} (below : T → T → Bool) where
   abbrev pub later_below : T → List (Update T) → ℕ → List ℕ
   later_below t us n = filter (is_later_at t us) (numbers_below n)
 
-  -- a read at a time: its bag is what the updates that it knows, the first so many, sum to at the time, and the positions
-  -- are those of the rest of them
+  -- a read at a time: its bag is the sum of the first `known` captured updates to that time, and `later` are the
+  -- positions of those of them that are not at or before it
   pub record IsReadOf (captured : List (Update T)) (time : T) (bag : List Entry) (known : ℕ) (later : List ℕ) : Type 0 where
     pub within : known ≤ length captured
     pub sum : Alike bag (as_of below time (take known captured))

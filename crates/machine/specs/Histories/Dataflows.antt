@@ -12,19 +12,20 @@ pub record Dataflow : Type 0 where
   pub nodes : List Node
   pub workers : ℕ
 
--- the nodes are a plan, and some worker runs it
+-- the nodes are a plan, and at least one worker runs it
 pub record IsDataflow (p : Dataflow) : Type 0 where
   pub plan : IsPlan p.nodes
   pub staffed : 1 ≤ p.workers
 
+-- the node of a number
 abbrev pub node_of : Dataflow → ℕ → Node
 node_of p n = node_at p.nodes n
 
--- the node that is read at a port; an input reads none
+-- the node that is read at a port; none at an input
 abbrev pub source_of : Dataflow → ℕ → ℕ → Option ℕ
 source_of p n port = slice_get (sources (node_of p n)) port
 
--- what a node gives, from a bag for each port
+-- what a node makes of a bag for each port
 abbrev pub node_output : Dataflow → ℕ → (ℕ → List Entry) → List Entry
 node_output p n bags = operator_output (key_width p.nodes (node_of p n)) (node_of p n) bags
 

@@ -1,4 +1,5 @@
--- A history in which every kind of event occurs, so that what is promised of legal histories is promised of something.
+-- What an example shows: a legal history in which every kind of event occurs, and a view that is read. There is one,
+-- so the theorems about legal histories are about something.
 use Rattle.std.specs.Prelude.{◌≢◌, ℕ, ◌<◌, eqb, List, [], length, IsTrue, nat_le}
 use Rattle.std.specs.List.{list_all, list_any}
 use Rattle.lattice.specs.Frontiers.{is_beyond}
@@ -13,7 +14,7 @@ use Rattle.machine.specs.Histories.Dataflows.{Dataflow, IsDataflow, node_of}
 use Rattle.machine.specs.Histories.{IsLegal, state_after}
 use Rattle.machine.specs.Histories.Readings.{IsReading}
 
--- which of the seven kinds an event is of
+-- the number of an event's kind, among the seven kinds
 abbrev pub event_number : {T : Type 0} → Event T → ℕ
 event_number (Feed client f) = 0
 event_number (Advance client i ts) = 1
@@ -23,8 +24,8 @@ event_number (Take number bundle) = 4
 event_number (TakeHeld k n) = 5
 event_number (Give g ts sent) = 6
 
--- a legal history of a plan with a join and a reduction, an event of each kind in it, and a reading of a view, from which
--- something is read at a time that is passed and held
+-- a legal history of a plan with a join and a reduction, in which each kind of event occurs, and a reading of a view
+-- that contains something at a time that is passed and still held
 pub record IsExample (p : Dataflow) (h : List (Event ℕ)) (v : ℕ) (us : List (Update ℕ)) (front since : List ℕ) (t : ℕ) : Type 0 where
   pub dataflow : IsDataflow p
   pub join : IsTrue (list_any is_join p.nodes)

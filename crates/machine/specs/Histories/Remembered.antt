@@ -1,4 +1,5 @@
--- What an event has in it, so that it can be remembered for clauses and its parts move on.
+-- The parts of an event. The board makes an event of the arguments of a call, remembers it for clauses alone, and
+-- takes the arguments out again. So nothing is copied, and these definitions say that nothing is lost.
 use Rattle.std.specs.Prelude.{◌≡◌, List, ⊤}
 use Rattle.machine.specs.declared.histories.event.Bundle.{Bundle}
 use Rattle.machine.specs.declared.histories.event.Emission.{Emission}
@@ -11,7 +12,7 @@ module _ {T : Type 0} where
   IsFeeding (Feed client f) = ⊤
   IsFeeding e = ⊥
 
-  -- the change that the event has fed
+  -- the change of a feed
   abbrev pub HasFed : Event T → Fed T → Type 0
   HasFed (Feed client f) fed = fed ≡ f
   HasFed e fed = ⊥
@@ -20,7 +21,7 @@ module _ {T : Type 0} where
   IsAdvancing (Advance client input ts) = ⊤
   IsAdvancing e = ⊥
 
-  -- the frontier that the event has moved on to
+  -- the times of an advance
   abbrev pub HasAdvanced : Event T → List T → Type 0
   HasAdvanced (Advance client input ts) us = us ≡ ts
   HasAdvanced e us = ⊥
@@ -29,7 +30,7 @@ module _ {T : Type 0} where
   IsTaking (Take number bundle) = ⊤
   IsTaking e = ⊥
 
-  -- what the event has taken
+  -- the bundle of a take
   abbrev pub HasTaken : Event T → Bundle T → Type 0
   HasTaken (Take number bundle) taken = taken ≡ bundle
   HasTaken e taken = ⊥
@@ -38,7 +39,7 @@ module _ {T : Type 0} where
   IsGiving (Give g ts sent) = ⊤
   IsGiving e = ⊥
 
-  -- what the event has given
+  -- the parts of a give
   abbrev pub HasGiven : Event T → Emission T → List T → List (Bundle T) → Type 0
   HasGiven (Give g ts sent) f us bundles = (f ≡ g) × (us ≡ ts) × (bundles ≡ sent)
   HasGiven e f us bundles = ⊥

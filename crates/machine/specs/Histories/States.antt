@@ -1,5 +1,5 @@
--- What a history leaves: a record of logs. Each entry names its node, and where it matters its port and its worker, so
--- that what is asked of a node or place is found by going through a log (after the configurations of Abadi, McSherry,
+-- What a history leaves: a record of logs. Each entry names its node, and its port and worker if they matter. So a
+-- question about a node or a place is answered by going through a log (after the configurations of Abadi, McSherry,
 -- Murray and Rodeheffer, Formal Analysis of a Distributed Algorithm for Tracking Progress, 2013).
 use Rattle.std.specs.Prelude.{ℕ, Bool, ◌&&◌, eqb, if◌then◌else◌, List, [], ◌∷◌, map, Option}
 use Rattle.std.specs.List.{flat_map}
@@ -11,12 +11,13 @@ use Rattle.machine.specs.declared.histories.event.Emission.{Emission}
 use Rattle.machine.specs.declared.histories.event.HeldTime.{HeldTime}
 use Rattle.machine.specs.declared.histories.event.OpenTime.{OpenTime}
 
--- an input frontier that a take at a node left
+-- the input frontier that a worker found at a node when it took there
 pub record ObservedFrontier (T : Type 0) : Type 0 where
   pub node : ℕ
   pub worker : ℕ
   pub frontier : List T
 
+-- the state that a history leaves
 pub record State (T : Type 0) : Type 0 where
   -- the changes that clients fed, the newest first
   pub fed : List (Fed T)
@@ -34,12 +35,14 @@ pub record State (T : Type 0) : Type 0 where
   pub hand : ℕ → Option ℕ
   -- by view, the frontier beyond which it may be read
   pub since : ℕ → List T
-  -- the input frontiers that takes left, the newest first
+  -- the input frontiers that takes recorded, the newest first
   pub observed : List (ObservedFrontier T)
 
+-- a port of node n on worker k
 abbrev pub place : ℕ → ℕ → ℕ → Site
 place n port k = record { node = n; port = port; worker = k }
 
+-- the two places are one
 abbrev pub same_place : Site → Site → Bool
 same_place a b = eqb a.node b.node && (eqb a.port b.port && eqb a.worker b.worker)
 
@@ -48,6 +51,7 @@ module _ {T : Type 0} where
   abbrev pub change_to : ℕ → Update T → Fed T
   change_to i u = record { input = i; update = u }
 
+  -- the times of the updates
   abbrev pub times : List (Update T) → List T
   times us = map (λ u. u.time) us
 

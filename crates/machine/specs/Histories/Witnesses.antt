@@ -1,5 +1,5 @@
--- Examples of what the definitions allow and what they compute, over times that are pairs. A definition that is too strict
--- or that finds another number fails at one of them.
+-- Examples of what the definitions allow and what they compute, over times that are pairs. A definition that is too
+-- strict, or that finds another number, fails at one of them.
 use Rattle.std.specs.Prelude.{◌≡◌, ℕ, eqb, if◌then◌else◌, List, [], ◌∷◌, Some, None, pos, negsuc}
 use Rattle.lattice.specs.Pairs.{make_pair}
 use Rattle.row.specs.declared.projection.Item.TheVariants.{Column}
@@ -17,21 +17,21 @@ use Rattle.machine.specs.Histories.{held_entries}
 use Rattle.machine.specs.Histories.Outstanding.{stamp, frontier, input_frontier, port_frontier}
 use Rattle.lattice.specs.Bitimes.{Bitime, bitime_below}
 
--- the row of one column, 7, comes and goes at a time
+-- the row (7) comes, or goes, at a time
 abbrev pub seven_comes : ℕ → ℕ → Update Bitime
 seven_comes x y = record { time = make_pair x y; row = pos 7 ∷ []; diff = pos 1 }
 
 abbrev pub seven_goes : ℕ → ℕ → Update Bitime
 seven_goes x y = record { time = make_pair x y; row = pos 7 ∷ []; diff = negsuc 0 }
 
--- a bundle, and what worker 1 gave at a node
+-- a bundle of these updates, and an emission of them by worker 1
 abbrev pub bundle_of : Site → List (Update Bitime) → Bundle Bitime
 bundle_of site us = record { place = site; updates = us; stamp = stamp bitime_below us }
 
 abbrev pub given_at_node : ℕ → List (Update Bitime) → Emission Bitime
 given_at_node n us = record { node = n; worker = 1; updates = us }
 
--- nothing has happened, but one input's frontier is a time
+-- nothing has happened, except that the frontier of input 0 is this time
 abbrev pub open_from : Bitime → State Bitime
 open_from t = record {
   fed = [];
@@ -45,19 +45,19 @@ open_from t = record {
   observed = [];
 }
 
--- the rows of an input by key: how many there are, and which; a view of either is node 3
+-- an input arranged by key, and then how many rows each key has, or which rows there are. In both, node 3 is the view
 abbrev pub counting : Dataflow
 counting = record { nodes = Input 2 ∷ Arrange 0 1 ∷ Reduce Count 1 ∷ Output 2 ∷ []; workers = 2 }
 
 abbrev pub listing : Dataflow
 listing = record { nodes = Input 1 ∷ Arrange 0 1 ∷ Reduce Distinct 1 ∷ Output 2 ∷ []; workers = 2 }
 
--- the rows of an input as they are
+-- an input, and a view of its rows as they are
 abbrev pub copying : Dataflow
 copying = record { nodes = Input 1 ∷ Output 0 ∷ []; workers = 2 }
 
--- worker 1 is at the distinct of the listing: the row came at (0, 3) and at (3, 0), it holds these two times, and from
--- (4, 4) on there may be more
+-- worker 1 is at the distinct of `listing`. The row came at (0, 3) and at (3, 0), the worker holds these two times,
+-- and more may come from (4, 4) on
 abbrev pub came_twice : State Bitime
 came_twice = record (open_from (make_pair 4 4)) {
   received = bundle_of (place 2 0 1) (seven_comes 3 0 ∷ []) ∷ bundle_of (place 2 0 1) (seven_comes 0 3 ∷ []) ∷ [];
@@ -66,7 +66,7 @@ came_twice = record (open_from (make_pair 4 4)) {
   observed = record { node = 2; worker = 1; frontier = make_pair 4 4 ∷ [] } ∷ [];
 }
 
--- worker 1 took these updates at the input of the copying, and holds their stamp
+-- worker 1 took these updates at the input of `copying`, and holds their stamp
 abbrev pub came_at_input : List (Update Bitime) → State Bitime
 came_at_input us = record (open_from (make_pair 0 0)) {
   received = bundle_of (place 0 0 1) us ∷ [];
@@ -74,7 +74,7 @@ came_at_input us = record (open_from (make_pair 0 0)) {
   hand = λ k. if eqb k 1 then Some 0 else None;
 }
 
--- an update at (10, 1) waits for worker 1 at the count, or is taken and its time is held there, while the input is open
+-- an update at (10, 1) waits for worker 1 at the count, or it was taken and a time is held there. The input is open
 -- from (0, 2) on
 abbrev pub waits_at_count : State Bitime
 waits_at_count = record (open_from (make_pair 0 2)) { in_flight = bundle_of (place 2 0 1) (seven_comes 10 1 ∷ []) ∷ [] }
@@ -82,7 +82,7 @@ waits_at_count = record (open_from (make_pair 0 2)) { in_flight = bundle_of (pla
 abbrev pub held_at_count : ℕ → ℕ → State Bitime
 held_at_count x y = record (open_from (make_pair 0 2)) { held = record { node = 2; worker = 1; time = make_pair x y } ∷ [] }
 
--- the frontiers at the count: what may still come to it, and what may still come from it to its view
+-- the frontiers at the count: `to` for what may still come to it, `from` for what may still come from it to its view
 pub record HasFrontiers (w : State Bitime) (to from : List Bitime) : Type 0 where
   pub input : input_frontier bitime_below counting w 2 ≡ to
   pub port : port_frontier bitime_below counting w 2 0 ≡ to
@@ -91,7 +91,8 @@ pub record HasFrontiers (w : State Bitime) (to from : List Bitime) : Type 0 wher
   pub view_port : port_frontier bitime_below counting w 3 0 ≡ from
   pub view : frontier bitime_below counting w 3 ≡ from
 
--- the join of two inputs; an input joined with itself, and three times added to itself; the linear nodes in a row
+-- three plans: the join of two inputs; an input joined with itself and then three times added to itself; and all
+-- linear nodes in a row
 abbrev pub joining : List Node
 joining = Input 1 ∷ Input 1 ∷ Arrange 0 1 ∷ Arrange 1 1 ∷ Join 2 3 ∷ Output 4 ∷ []
 
