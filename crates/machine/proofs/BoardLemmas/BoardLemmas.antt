@@ -21,8 +21,7 @@ use Rattle.std.specs.Result.{IfOk, OnOk, OnErr}
 use Rattle.std.specs.Prelude.{Result, Ok, Err, replicate, IsTrue, Option, Some}
 use Rattle.update.specs.Bags.{count_of}
 use Rattle.update.specs.Updates.{as_of, size}
-use Rattle.update.proofs.ConsolidatedLemmas.{summed_size_is}
-use Rattle.machine.proofs.HistoryLemmas.SizeLemmas.{size-append}
+use Rattle.update.proofs.ConsolidatedLemmas.{summed_size_is, summed_size-append}
 use Rattle.machine.specs.Histories.Dataflows.{Dataflow, node_of}
 use Rattle.update.specs.declared.change.Update.{Update}
 use Rattle.plan.specs.Nodes.{arranged_by, sources, is_output}
@@ -308,7 +307,7 @@ module _ {T : Type 0} (below : T → T → Bool) (minimum : T) where
   stands_after_take (Err r) b c h site number board l free turn waits there e err s = stands_looked below minimum b c h site.worker err s
 
 size_both : {T : Type 0} (a c : List (Update T)) → size (a ++ c) ≡ size a + size c
-size_both a c = let x = summed_size_is a in let y = summed_size_is c in let z = summed_size_is (a ++ c) in let h = size-append a c in omega (arith, x, y, z, h)
+size_both a c = let x = summed_size_is a in let y = summed_size_is c in let z = summed_size_is (a ++ c) in let h = summed_size-append a c in omega (arith, x, y, z, h)
 
 module _ {T : Type 0} (below : T → T → Bool) (minimum : T) where
   pub stands_given : (b : BoardState T) → IsBoard b → (h : List (Event T)) (g : Emission T) (ts : List T) (sent : List (Bundle T)) → g.worker < b.dataflow.workers → g.node < length b.dataflow.nodes

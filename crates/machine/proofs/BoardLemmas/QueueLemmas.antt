@@ -11,8 +11,8 @@ use Rattle.machine.specs.declared.board.queue.Parcel.{Parcel}
 
 module _ {T : Type 0} where
   -- the stamps of loads, one after another
-  abbrev pub stamps : List (Load T) → List T
-  stamps loads = flat_map (λ load. load.stamp) loads
+  abbrev pub load_stamps : List (Load T) → List T
+  load_stamps loads = flat_map (λ load. load.stamp) loads
 
   -- The parcel of the number `i` among `items`, which are seen as `loads`.
   module _ (items : List (Parcel T)) (loads : List (Load T)) (v : map load_of items ≡ loads) (i : ℕ) (parcel : Parcel T) (l : i < length items) (e : parcel ≡ get_or items i parcel) where
@@ -23,33 +23,33 @@ module _ {T : Type 0} where
     here = ap (λ ys. get_or ys i (load_of parcel)) (sym v) ∙ (get_or-map load_of items i parcel (load_of parcel) l ∙ ap load_of (sym e))
 
     -- its stamp comes behind those before it
-    pub stamps_next : stamps (take (i + 1) loads) ≡ stamps (take i loads) ++ (load_of parcel).stamp
+    pub stamps_next : load_stamps (take (i + 1) loads) ≡ load_stamps (take i loads) ++ (load_of parcel).stamp
     stamps_next =
-        ap stamps (take_more loads i (load_of parcel) within)
+        ap load_stamps (take_more loads i (load_of parcel) within)
         ∙ (flat_map-append (λ load. load.stamp) (take i loads) (get_or loads i (load_of parcel) ∷ [])
-        ∙ ap (λ ts. stamps (take i loads) ++ ts) (append-nil (get_or loads i (load_of parcel)).stamp ∙ ap (λ (load : Load T). load.stamp) here))
+        ∙ ap (λ ts. load_stamps (take i loads) ++ ts) (append-nil (get_or loads i (load_of parcel)).stamp ∙ ap (λ (load : Load T). load.stamp) here))
 
     -- the step of a loop that gathers the stamps
-    pub stamps_pushed : (old mid new : List T) → mid ≡ old ++ stamps (take i loads) → new ≡ mid ++ (load_of parcel).stamp → new ≡ old ++ stamps (take (i + 1) loads)
+    pub stamps_pushed : (old mid new : List T) → mid ≡ old ++ load_stamps (take i loads) → new ≡ mid ++ (load_of parcel).stamp → new ≡ old ++ load_stamps (take (i + 1) loads)
     stamps_pushed old mid new m h =
         h
         ∙ (ap (λ ts. ts ++ (load_of parcel).stamp) m
-        ∙ (append_assoc old (stamps (take i loads)) (load_of parcel).stamp
+        ∙ (append_assoc old (load_stamps (take i loads)) (load_of parcel).stamp
         ∙ ap (λ ts. old ++ ts) (sym stamps_next)))
 
     module _ (below : T → T → Bool) (t : T) where
-      any_in : (all : List (Load T)) (j : ℕ) (d : Load T) → j < length all → is_beyond below (get_or all j d).stamp t ≡ true → is_beyond below (stamps all) t ≡ true
+      any_in : (all : List (Load T)) (j : ℕ) (d : Load T) → j < length all → is_beyond below (get_or all j d).stamp t ≡ true → is_beyond below (load_stamps all) t ≡ true
       any_in [] j d k h = absurd (omega (arith, k))
-      any_in (x ∷ xs) zero d k h = list_any-append (λ s. below s t) x.stamp (stamps xs) ∙ or_left (is_beyond below x.stamp t) (is_beyond below (stamps xs) t) h
-      any_in (x ∷ xs) (suc j) d k h = list_any-append (λ s. below s t) x.stamp (stamps xs) ∙ or_right (is_beyond below x.stamp t) (is_beyond below (stamps xs) t) (any_in xs j d (omega (arith, k)) h)
+      any_in (x ∷ xs) zero d k h = list_any-append (λ s. below s t) x.stamp (load_stamps xs) ∙ or_left (is_beyond below x.stamp t) (is_beyond below (load_stamps xs) t) h
+      any_in (x ∷ xs) (suc j) d k h = list_any-append (λ s. below s t) x.stamp (load_stamps xs) ∙ or_right (is_beyond below x.stamp t) (is_beyond below (load_stamps xs) t) (any_in xs j d (omega (arith, k)) h)
 
       -- a loop that asks whether a time is beyond the stamps ends at the first yes, and goes on at a no
-      pub stamps_reach : true ≡ is_beyond below (load_of parcel).stamp t → true ≡ is_beyond below (stamps loads) t
+      pub stamps_reach : true ≡ is_beyond below (load_of parcel).stamp t → true ≡ is_beyond below (load_stamps loads) t
       stamps_reach h = sym (any_in loads i (load_of parcel) within (ap (λ (load : Load T). is_beyond below load.stamp t) here ∙ sym h))
 
       -- the step past a load that does not reach the time
-      pub stamps_pass : is_beyond below (stamps (take i loads)) t ≡ false → false ≡ is_beyond below (load_of parcel).stamp t → is_beyond below (stamps (take (i + 1) loads)) t ≡ false
-      stamps_pass b h = ap (λ ts. is_beyond below ts t) stamps_next ∙ (list_any-append (λ s. below s t) (stamps (take i loads)) (load_of parcel).stamp ∙ ap₂ (λ a c. a || c) b (sym h))
+      pub stamps_pass : is_beyond below (load_stamps (take i loads)) t ≡ false → false ≡ is_beyond below (load_of parcel).stamp t → is_beyond below (load_stamps (take (i + 1) loads)) t ≡ false
+      stamps_pass b h = ap (λ ts. is_beyond below ts t) stamps_next ∙ (list_any-append (λ s. below s t) (load_stamps (take i loads)) (load_of parcel).stamp ∙ ap₂ (λ a c. a || c) b (sym h))
 
   -- at the end of those loops
   module _ (items : List (Parcel T)) (loads : List (Load T)) (v : map load_of items ≡ loads) (i : ℕ) (l : length items ≤ i) where
@@ -57,9 +57,9 @@ module _ {T : Type 0} where
     all_read = let long = length-map items load_of in let same = ap length v in take_all i loads (omega (arith, l, long, same))
 
     -- at the end all stamps are gathered
-    pub stamps_gathered : (old new : List T) → new ≡ old ++ stamps (take i loads) → new ≡ old ++ stamps loads
-    stamps_gathered old new h = h ∙ ap (λ all. old ++ stamps all) all_read
+    pub stamps_gathered : (old new : List T) → new ≡ old ++ load_stamps (take i loads) → new ≡ old ++ load_stamps loads
+    stamps_gathered old new h = h ∙ ap (λ all. old ++ load_stamps all) all_read
 
     -- at the end no stamp reaches the time
-    pub stamps_passed : (below : T → T → Bool) (t : T) → is_beyond below (stamps (take i loads)) t ≡ false → false ≡ is_beyond below (stamps loads) t
-    stamps_passed below t h = sym h ∙ ap (λ all. is_beyond below (stamps all) t) all_read
+    pub stamps_passed : (below : T → T → Bool) (t : T) → is_beyond below (load_stamps (take i loads)) t ≡ false → false ≡ is_beyond below (load_stamps loads) t
+    stamps_passed below t h = sym h ∙ ap (λ all. is_beyond below (load_stamps all) t) all_read

@@ -1,5 +1,5 @@
 -- What a node gave on all workers is within its bound.
-use Rattle.update.proofs.ConsolidatedLemmas.{summed_size, summed_size_is}
+use Rattle.update.proofs.ConsolidatedLemmas.{summed_size, summed_size_is, summed_size-append}
 use Rattle.std.proofs.Common.{◌≡◌, ℕ, zero, suc, slice_get, ⊎_elim, ◌+◌, ◌<◌, ◌≤◌, Bool, true, false, cond, ◌&&◌, List, [], ◌∷◌, ◌++◌, take, length, sym, refl, ap, ◌∙◌, subst, Option, Some, None, eqb, arith, IsTrue, ◌⊎◌, inl, inr}
 use Rattle.std.specs.List.{flat_map, filter}
 use Rattle.std.specs.declared.cmp.Ordering.{Ordering}
@@ -40,7 +40,7 @@ use Rattle.plan.proofs.CountLemmas.{count_of-filter}
 use Rattle.machine.specs.declared.histories.event.Fed.{Fed}
 use Rattle.machine.specs.declared.histories.event.Emission.{Emission}
 use Rattle.machine.proofs.HistoryLemmas.KeptLemmas.{IsKept, AreInputs, coming, kept_world}
-use Rattle.machine.proofs.HistoryLemmas.SizeLemmas.{absolute, size_is, size-append, all, all-le, all-sum, all-product, all-emitted, all-routed, all-shared, all-fed}
+use Rattle.machine.proofs.HistoryLemmas.SizeLemmas.{absolute, size_is, all, all-le, all-sum, all-product, all-emitted, all-routed, all-shared, all-fed}
 use Rattle.machine.proofs.HistoryLemmas.LoadRuleLemmas.{IsLoaded, loaded_world, to_size}
 use Rattle.machine.proofs.HistoryLemmas.FewestLemmas.{fewest, fewest_below, AgreeBelow}
 use Rattle.machine.proofs.HistoryLemmas.PassedLemmas.{AllPassed, AllWere, each_passed, each_was, passed_down}
@@ -81,7 +81,7 @@ module _ {T : Type 0} (leq : T → T → Bool) (o : PartialOrderLaws leq) (p : D
       le (summed_size (updates_at site w.received)) (summed_size (updates_at site w.in_flight)) (summed_size (coming p site w.emitted w.fed)) (summed_size (flat_map (share p site) w.emitted)) (summed_size (flat_map (share_fed p site) w.fed))
       (total_by absolute (updates_at site w.received)) (total_by absolute (updates_at site w.in_flight)) (total_by absolute (coming p site w.emitted w.fed))
       (size_is (updates_at site w.received)) (size_is (updates_at site w.in_flight)) (size_is (coming p site w.emitted w.fed)) (kept.conserved site absolute)
-      (size-append (flat_map (share p site) w.emitted) (flat_map (share_fed p site) w.fed))
+      (summed_size-append (flat_map (share p site) w.emitted) (flat_map (share_fed p site) w.fed))
     where
       le : (a b c x y : ℕ) (i j k : ℤ) → i ≡ pos a → j ≡ pos b → k ≡ pos c → i +ℤ j ≡ k → c ≡ x + y → a ≤ x + y
       le a b c x y i j k d e f g h = omega (arith, ints)

@@ -107,18 +107,18 @@ module _ {T : Type 0} (leq : T → T → Bool) (p : Dataflow) (q : IsDataflow p)
     key = key_width p.nodes (node_of p n)
 
     -- what comes to the ports, on all workers
-    abbrev ports : ℕ → List Entry
-    ports port = source_value (ins n) bag (source_of p n port)
+    abbrev source_bags : ℕ → List Entry
+    source_bags port = source_value (ins n) bag (source_of p n port)
 
-    bag_is : bag n ≡ node_output p n ports
+    bag_is : bag n ≡ node_output p n source_bags
     bag_is = query_by_sources p.nodes q.plan ins n
 
     -- at a join or reduction, what one worker owes, of what it received
     pub due : is_linear (node_of p n) ≡ false → (k : ℕ) (r : List ℤ) → count_of (node_output p n (recv n k)) r ≡ cond (eqb (route p (take key r)) k) (count_of (bag n) r) (pos 0)
     due e k r =
-        given_alike key (node_of p n) (recv n k) (λ port. filter (λ y. eqb (route p (take key y.row)) k) (ports port)) (λ port l. port_alike port l (source_of p n port) refl) r
-        ∙ (given_parts key (node_of p n) e (λ x. eqb (route p x) k) ports r
-        ∙ (count_of-filter (λ x. eqb (route p (take key x)) k) (node_output p n ports) r
+        given_alike key (node_of p n) (recv n k) (λ port. filter (λ y. eqb (route p (take key y.row)) k) (source_bags port)) (λ port l. port_alike port l (source_of p n port) refl) r
+        ∙ (given_parts key (node_of p n) e (λ x. eqb (route p x) k) source_bags r
+        ∙ (count_of-filter (λ x. eqb (route p (take key x)) k) (node_output p n source_bags) r
         ∙ ap (λ z. cond (eqb (route p (take key r)) k) (count_of z r) (pos 0)) (sym bag_is)))
       where
         none : (port : ℕ) → (port ≡ 0) ⊎ (port < length (sources (node_of p n))) → source_of p n port ≡ None → ⊥
@@ -169,7 +169,7 @@ module _ {T : Type 0} (leq : T → T → Bool) (p : Dataflow) (q : IsDataflow p)
               ∙ (ap (λ z. count_of z r) (identity (recv n k))
               ∙ (came_by_key n 0 found.0 k c r arrived source e
               ∙ ap (λ z. cond (eqb (route p (take c r)) k) z (pos 0))
-              ((below 0 found.0 source).all r ∙ sym (ap (λ z. count_of z r) (bag_is ∙ (identity ports ∙ ap (source_value (ins n) bag) source))))))
+              ((below 0 found.0 source).all r ∙ sym (ap (λ z. count_of z r) (bag_is ∙ (identity source_bags ∙ ap (source_value (ins n) bag) source))))))
 
       along : is_linear (node_of p n) ≡ true → arranged_by (node_of p n) ≡ None → IsClaim leq p w t (bag n) n
       along e f = record { all = all; parts = λ c k s. absurd (two s) }
@@ -197,7 +197,7 @@ module _ {T : Type 0} (leq : T → T → Bool) (p : Dataflow) (q : IsDataflow p)
               sym (over-emitted leq t n p.workers w.emitted r kept.workers)
               ∙ (over-same p.workers (λ k. sum_at leq t (emitted_by n k w.emitted) r) (λ k. count_of (node_output p n (recv n k)) r) (λ k l. kept.law n k t (is_passed _ (held k)) r)
               ∙ (op-gather key (node_of p n) e p.workers (λ k port. recv n k port) r
-              ∙ (given_alike key (node_of p n) (λ port. gather p.workers (λ k. recv n k port)) ports (λ port l. port_alike port l (source_of p n port) refl) r
+              ∙ (given_alike key (node_of p n) (λ port. gather p.workers (λ k. recv n k port)) source_bags (λ port l. port_alike port l (source_of p n port) refl) r
               ∙ ap (λ z. count_of z r) (sym bag_is))))
 
       pub claim_step : (x : Bool) (y : Option ℕ) → is_linear (node_of p n) ≡ x → arranged_by (node_of p n) ≡ y → IsClaim leq p w t (bag n) n

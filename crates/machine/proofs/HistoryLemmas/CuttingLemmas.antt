@@ -93,10 +93,10 @@ filled_bundle leq site [] = refl
 filled_bundle leq site (u ∷ us) = rw (ne_eqb (suc (length us)) 0 (λ z. absurd (omega (arith, z)))) refl
 
 -- a stamp that nothing of the bundle is before, and that is not before a frontier
-abbrev pub is_between : {T : Type 0} → (T → T → Bool) → List T → Bundle T → Bool
-is_between leq F b = all_beyond leq F b.stamp && all_beyond leq b.stamp (times b.updates)
+abbrev pub is_stamped_beyond : {T : Type 0} → (T → T → Bool) → List T → Bundle T → Bool
+is_stamped_beyond leq F b = all_beyond leq F b.stamp && all_beyond leq b.stamp (times b.updates)
 
-between_bundle : {T : Type 0} (leq : T → T → Bool) → PartialOrderLaws leq → (F : List T) (site : Site) (us : List (Update T)) → all_beyond leq F (times us) ≡ true → list_all (is_between leq F) (bundled leq site us) ≡ true
+between_bundle : {T : Type 0} (leq : T → T → Bool) → PartialOrderLaws leq → (F : List T) (site : Site) (us : List (Update T)) → all_beyond leq F (times us) ≡ true → list_all (is_stamped_beyond leq F) (bundled leq site us) ≡ true
 between_bundle leq o F site [] h = refl
 between_bundle leq o F site (u ∷ us) h =
     and_from (all_beyond leq F (stamp leq (u ∷ us)) && all_beyond leq (stamp leq (u ∷ us)) (times (u ∷ us))) true
@@ -180,8 +180,8 @@ module _ {T : Type 0} (leq : T → T → Bool) (p : Dataflow) (g : Emission T) w
       step (Some s) c = either (eqb g.node s) (part p c g.worker site.worker g.updates) (parted c)
 
   -- each stamp of a cut is beyond what was held
-  pub cut_stamped : PartialOrderLaws leq → (F : List T) → all_beyond leq F (times g.updates) ≡ true → list_all (is_between leq F) (cut leq p g) ≡ true
-  cut_stamped o F h = cut_all (is_between leq F) (λ site. between_bundle leq o F site (share p site g) (share_all (is_beyond leq F) h site))
+  pub cut_stamped : PartialOrderLaws leq → (F : List T) → all_beyond leq F (times g.updates) ≡ true → list_all (is_stamped_beyond leq F) (cut leq p g) ≡ true
+  cut_stamped o F h = cut_all (is_stamped_beyond leq F) (λ site. between_bundle leq o F site (share p site g) (share_all (is_beyond leq F) h site))
 
   module _ (site : Site) where
     abbrev mine : List (Update T)

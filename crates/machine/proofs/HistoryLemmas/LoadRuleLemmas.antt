@@ -1,5 +1,5 @@
 -- The load rule holds at each worker and node after each event; what a take's input frontier had passed stays passed.
-use Rattle.update.proofs.ConsolidatedLemmas.{summed_size, summed_size_is}
+use Rattle.update.proofs.ConsolidatedLemmas.{summed_size, summed_size_is, summed_size-append}
 use Rattle.std.proofs.Common.{◌≡◌, ℕ, ◌≤◌, Bool, true, false, cond, not, ◌&&◌, ◌||◌, List, [], ◌∷◌, ◌++◌, sym, refl, ap, ◌∙◌, subst, Some, eqb, arith}
 use Rattle.std.specs.List.{filter, slice_get}
 use Rattle.std.proofs.lemmas.Bool.{and_parts, or_from, or_right, eqb-true}
@@ -24,7 +24,6 @@ use Rattle.machine.specs.Histories.NodeLaws.{received_at, AreApart, was_passed, 
 use Rattle.machine.specs.Histories.{with_at, held_entries, initial_state, turn_state, take_state, give_state, next_state, IsGive, IsAllowed, state_after, IsLegal}
 use Rattle.machine.proofs.HistoryLemmas.KeptLemmas.{held_marked, held_unmarked, held_kept}
 use Rattle.machine.proofs.HistoryLemmas.OnwardLemmas.{input_onward, taken_later}
-use Rattle.machine.proofs.HistoryLemmas.SizeLemmas.{size-append}
 use Rattle.machine.proofs.HistoryLemmas.PassedLemmas.{AllPassed, AllWere, each_passed, passed_each, each_was, was_each}
 
 -- the load rule, with the recursion of sizes
@@ -111,7 +110,7 @@ module _ {T : Type 0} (leq : T → T → Bool) (o : PartialOrderLaws leq) (p : D
       more = held_entries b.place.node b.place.worker b.stamp
 
       received : (port : ℕ) → summed_size (updates_at (place n port k) w.received) ≤ summed_size (updates_at (place n port k) v.received)
-      received port = let e = size-append (cond (same_place b.place (place n port k)) b.updates []) (updates_at (place n port k) w.received) in omega arith
+      received port = let e = summed_size-append (cond (same_place b.place (place n port k)) b.updates []) (updates_at (place n port k) w.received) in omega arith
 
       held : (t : T) → was_passed leq n k w.observed t ≡ true → is_beyond leq (held_at n k w.held) t ≡ false → is_beyond leq (held_at n k v.held) t ≡ false
       held t h f =

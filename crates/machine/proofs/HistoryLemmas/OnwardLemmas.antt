@@ -274,25 +274,25 @@ module _ {T : Type 0} (leq : T → T → Bool) (o : PartialOrderLaws leq) (t : T
       one false false y = (refl, refl)
 
   module _ (p : Dataflow) (q : IsDataflow p) (n port : ℕ) where
-    abbrev at_port : Site → Bool
-    at_port site = eqb site.node n && eqb site.port port
+    abbrev is_at_port : Site → Bool
+    is_at_port site = eqb site.node n && eqb site.port port
 
     abbrev or_above : ℕ → Site → Bool
-    or_above s site = at_port site || upstream p s site.node
+    or_above s site = is_at_port site || upstream p s site.node
 
     -- at an input a port has nothing above it but the input's own frontier
     input_port : (w : State T) (e : Event T) → IsAllowed leq p w e → source_of p n port ≡ None
-        → IsPassed (stamps at_port w.in_flight) → IsPassed (open_at n w.open_times)
-        → IsPassed (stamps at_port (next_state leq p w e).in_flight) × IsPassed (open_at n (next_state leq p w e).open_times)
+        → IsPassed (stamps is_at_port w.in_flight) → IsPassed (open_at n w.open_times)
+        → IsPassed (stamps is_at_port (next_state leq p w e).in_flight) × IsPassed (open_at n (next_state leq p w e).open_times)
     input_port w e a none h k =
-        let r = onward p q at_port (λ m. false) (λ i. eqb i n) sources (λ i k b x. (and_parts (eqb i n) (eqb 0 port) x).0) (λ site x. absurd (false≢true x)) w e a (h, no_held w.held, k) in
+        let r = onward p q is_at_port (λ m. false) (λ i. eqb i n) sources (λ i k b x. (and_parts (eqb i n) (eqb 0 port) x).0) (λ site x. absurd (false≢true x)) w e a (h, no_held w.held, k) in
         (r.0, r.2)
       where
         no_held : (ms : List (HeldTime T)) → IsPassed (held_where (λ m. false) ms)
         no_held [] = refl
         no_held (m ∷ ms) = no_held ms
 
-        sources : (site : Site) → at_port site ≡ true → (s : ℕ) → source_of p site.node site.port ≡ Some s → false ≡ true
+        sources : (site : Site) → is_at_port site ≡ true → (s : ℕ) → source_of p site.node site.port ≡ Some s → false ≡ true
         sources site x s f =
             let y = and_parts (eqb site.node n) (eqb site.port port) x in
             absurd (clash (subst (λ b. source_of p n b ≡ Some s) (eqb-true site.port port y.1) (subst (λ a. source_of p a site.port ≡ Some s) (eqb-true site.node n y.0) f)))
@@ -301,18 +301,18 @@ module _ {T : Type 0} (leq : T → T → Bool) (o : PartialOrderLaws leq) (t : T
             clash g = cc (none, g)
 
     source_port : (s : ℕ) (w : State T) (e : Event T) → IsAllowed leq p w e → source_of p n port ≡ Some s
-        → IsPassed (stamps at_port w.in_flight) → IsPassed (counted_times w (upstream p s) (upstream p s))
-        → IsPassed (stamps at_port (next_state leq p w e).in_flight) × IsPassed (counted_times (next_state leq p w e) (upstream p s) (upstream p s))
+        → IsPassed (stamps is_at_port w.in_flight) → IsPassed (counted_times w (upstream p s) (upstream p s))
+        → IsPassed (stamps is_at_port (next_state leq p w e).in_flight) × IsPassed (counted_times (next_state leq p w e) (upstream p s) (upstream p s))
     source_port s w e a some h k =
         let c = passed_counts (upstream p s) (upstream p s) w k in
-        let r = onward p q (or_above s) (upstream p s) (upstream p s) sources inputs (λ site x. or_right (at_port site) (upstream p s site.node) x) w e a (passed_either at_port (λ site. upstream p s site.node) w.in_flight h c.0, c.1, c.2) in
-        let y = passed_each at_port (λ site. upstream p s site.node) (next_state leq p w e).in_flight r.0 in
+        let r = onward p q (or_above s) (upstream p s) (upstream p s) sources inputs (λ site x. or_right (is_at_port site) (upstream p s site.node) x) w e a (passed_either is_at_port (λ site. upstream p s site.node) w.in_flight h c.0, c.1, c.2) in
+        let y = passed_each is_at_port (λ site. upstream p s site.node) (next_state leq p w e).in_flight r.0 in
         (y.0, counts_passed (upstream p s) (upstream p s) (next_state leq p w e) (y.1, r.1, r.2))
       where
         sources : (site : Site) → or_above s site ≡ true → (m : ℕ) → source_of p site.node site.port ≡ Some m → upstream p s m ≡ true
-        sources site x m f = step (at_port site) refl x
+        sources site x m f = step (is_at_port site) refl x
           where
-            step : (b : Bool) → at_port site ≡ b → (b || upstream p s site.node) ≡ true → upstream p s m ≡ true
+            step : (b : Bool) → is_at_port site ≡ b → (b || upstream p s site.node) ≡ true → upstream p s m ≡ true
             step true y z =
                 let v = and_parts (eqb site.node n) (eqb site.port port) y in
                 let g : source_of p n port ≡ Some m = subst (λ b. source_of p n b ≡ Some m) (eqb-true site.port port v.1) (subst (λ a. source_of p a site.port ≡ Some m) (eqb-true site.node n v.0) f) in
@@ -328,15 +328,15 @@ module _ {T : Type 0} (leq : T → T → Bool) (o : PartialOrderLaws leq) (t : T
 
     -- what the frontier of a port has passed it has passed after each event
     pub port_onward : (w : State T) (e : Event T) → IsAllowed leq p w e → IsPassed (port_frontier leq p w n port) → IsPassed (port_frontier leq p (next_state leq p w e) n port)
-    port_onward w e a h = step (source_of p n port) refl (passed_parts (stamps at_port w.in_flight) (outstanding_from p w n (source_of p n port)) (passed-least leq o (stamps at_port w.in_flight ++ outstanding_from p w n (source_of p n port)) t h))
+    port_onward w e a h = step (source_of p n port) refl (passed_parts (stamps is_at_port w.in_flight) (outstanding_from p w n (source_of p n port)) (passed-least leq o (stamps is_at_port w.in_flight ++ outstanding_from p w n (source_of p n port)) t h))
       where
         z : State T
         z = next_state leq p w e
 
-        step : (s : Option ℕ) → source_of p n port ≡ s → IsPassed (stamps at_port w.in_flight) × IsPassed (outstanding_from p w n (source_of p n port)) → IsPassed (port_frontier leq p z n port)
+        step : (s : Option ℕ) → source_of p n port ≡ s → IsPassed (stamps is_at_port w.in_flight) × IsPassed (outstanding_from p w n (source_of p n port)) → IsPassed (port_frontier leq p z n port)
         step None f x =
             let r = input_port w e a f x.0 (subst (λ s. IsPassed (outstanding_from p w n s)) f x.1) in
-            passed_least (stamps at_port z.in_flight ++ outstanding_from p z n (source_of p n port)) (passed_both (stamps at_port z.in_flight) (outstanding_from p z n (source_of p n port)) r.0 (subst (λ s. IsPassed (outstanding_from p z n s)) (sym f) r.1))
+            passed_least (stamps is_at_port z.in_flight ++ outstanding_from p z n (source_of p n port)) (passed_both (stamps is_at_port z.in_flight) (outstanding_from p z n (source_of p n port)) r.0 (subst (λ s. IsPassed (outstanding_from p z n s)) (sym f) r.1))
         step (Some s) f x =
             let r = source_port s w e a f x.0 (subst (λ s. IsPassed (outstanding_from p w n s)) f x.1) in
-            passed_least (stamps at_port z.in_flight ++ outstanding_from p z n (source_of p n port)) (passed_both (stamps at_port z.in_flight) (outstanding_from p z n (source_of p n port)) r.0 (subst (λ s. IsPassed (outstanding_from p z n s)) (sym f) r.1))
+            passed_least (stamps is_at_port z.in_flight ++ outstanding_from p z n (source_of p n port)) (passed_both (stamps is_at_port z.in_flight) (outstanding_from p z n (source_of p n port)) r.0 (subst (λ s. IsPassed (outstanding_from p z n s)) (sym f) r.1))

@@ -29,8 +29,8 @@ module _ {T : Type 0} (leq : T → T → Bool) (o : PartialOrderLaws leq) (t : T
   abbrev IsOver : List T → Type 0
   IsOver F = IsPassed leq o t F
 
-  abbrev ports : ℕ
-  ports = length (sources (node_of p n))
+  abbrev port_count : ℕ
+  port_count = length (sources (node_of p n))
 
   abbrev is_at : ℕ → Site → Bool
   is_at port site = eqb site.node n && eqb site.port port
@@ -66,13 +66,13 @@ module _ {T : Type 0} (leq : T → T → Bool) (o : PartialOrderLaws leq) (t : T
         (passed_both leq o t (stamps (is_at port) w.in_flight) (outstanding_from p w n (source_of p n port)) flight_at (subst (λ x. IsOver (outstanding_from p w n x)) (sym e) at_source))
 
   -- each port reads some node
-  source_at : (port : ℕ) → port < ports → (x : Option ℕ) → source_of p n port ≡ x → (s : ℕ) × (source_of p n port ≡ Some s)
+  source_at : (port : ℕ) → port < port_count → (x : Option ℕ) → source_of p n port ≡ x → (s : ℕ) × (source_of p n port ≡ Some s)
   source_at port l None e = absurd (some_within (sources (node_of p n)) port l e)
   source_at port l (Some s) e = (s, e)
 
   -- and back
-  module _ (placed : IsInPlace p w) (some : 1 ≤ ports) (h : (port : ℕ) → port < ports → IsOver (port_frontier leq p w n port)) where
-    parts : (port : ℕ) → port < ports → IsOver (stamps (is_at port) w.in_flight) × IsOver (outstanding_from p w n (source_of p n port))
+  module _ (placed : IsInPlace p w) (some : 1 ≤ port_count) (h : (port : ℕ) → port < port_count → IsOver (port_frontier leq p w n port)) where
+    parts : (port : ℕ) → port < port_count → IsOver (stamps (is_at port) w.in_flight) × IsOver (outstanding_from p w n (source_of p n port))
     parts port l =
         let all = stamps (is_at port) w.in_flight ++ outstanding_from p w n (source_of p n port) in
         passed_parts leq o t (stamps (is_at port) w.in_flight) (outstanding_from p w n (source_of p n port)) (passed-least leq o all t (h port l))
@@ -81,7 +81,7 @@ module _ {T : Type 0} (leq : T → T → Bool) (o : PartialOrderLaws leq) (t : T
     of_source port s e = subst (λ x. IsOver (outstanding_from p w n x)) e (parts port (slice_get_within (sources (node_of p n)) port s e)).1
 
     -- a place of the node is at one of its ports
-    port_of : (site : Site) → site.node ≡ n → (site.port ≡ 0) ⊎ (site.port < length (sources (node_of p site.node))) → site.port < ports
+    port_of : (site : Site) → site.node ≡ n → (site.port ≡ 0) ⊎ (site.port < length (sources (node_of p site.node))) → site.port < port_count
     port_of site e (inl z) = omega (arith, z, some)
     port_of site e (inr l) = subst (λ m. site.port < length (sources (node_of p m))) e l
 

@@ -1,5 +1,5 @@
 -- Absolute diffs, added up; over the workers.
-use Rattle.update.proofs.ConsolidatedLemmas.{summed_size}
+use Rattle.update.proofs.ConsolidatedLemmas.{summed_size, summed_size-append}
 use Rattle.std.proofs.Common.{◌≡◌, ℕ, zero, suc, ◌+◌, ◌*◌, ◌<◌, ◌≤◌, Bool, true, false, cond, ◌&&◌, List, [], ◌∷◌, ◌++◌, take, sym, refl, ◌∙◌, Option, Some, None, eqb, arith, unsigned_abs}
 use Rattle.std.specs.List.{flat_map, filter}
 use Rattle.std.proofs.lemmas.Bool.{eqb-true, eqb-false, ne_eqb}
@@ -16,11 +16,6 @@ use Rattle.machine.proofs.HistoryLemmas.KeptLemmas.{AreWorkers}
 -- what an update adds to the size of its list
 abbrev pub absolute : {T : Type 0} → Update T → ℤ
 absolute u = pos (unsigned_abs u.diff)
-
--- sizes of two lists add up
-pub size-append : {T : Type 0} (a b : List (Update T)) → summed_size (a ++ b) ≡ summed_size a + summed_size b
-size-append [] b = omega arith
-size-append (u ∷ a) b = let h = size-append a b in omega arith
 
 -- a size as a total, so that lemmas of totals serve it
 pub size_is : {T : Type 0} (us : List (Update T)) → total_by absolute us ≡ pos (summed_size us)
@@ -96,9 +91,9 @@ module _ {T : Type 0} where
   all-emitted n k [] a = all-zero k
   all-emitted n k (g ∷ gs) a =
       all-same k (λ j. summed_size (emitted_by n j (g ∷ gs))) (λ j. summed_size (cond (eqb g.node n && eqb g.worker j) g.updates []) + summed_size (emitted_by n j gs))
-      (λ j. size-append (cond (eqb g.node n && eqb g.worker j) g.updates []) (emitted_by n j gs))
+      (λ j. summed_size-append (cond (eqb g.node n && eqb g.worker j) g.updates []) (emitted_by n j gs))
       ∙ (all-sum k (λ j. summed_size (cond (eqb g.node n && eqb g.worker j) g.updates [])) (λ j. summed_size (emitted_by n j gs))
-      ∙ (rw (all-emitted n k gs a.1, all-chosen (eqb g.node n) k g.worker g.updates a.0) (sym (size-append (cond (eqb g.node n) g.updates []) (emitted_at n gs)))))
+      ∙ (rw (all-emitted n k gs a.1, all-chosen (eqb g.node n) k g.worker g.updates a.0) (sym (summed_size-append (cond (eqb g.node n) g.updates []) (emitted_at n gs)))))
 
   -- what is sent by key, on all workers
   pub all-routed : (n : ℕ) (to : List ℤ → ℕ) (us : List (Update T)) → all n (λ k. summed_size (filter (λ u. eqb (to u.row) k) us)) ≤ summed_size us
@@ -118,10 +113,10 @@ module _ {T : Type 0} where
   pub all-shared : (p : Dataflow) (s n : ℕ) (c : Option ℕ) (gs : List (Emission T)) → all n (λ k. summed_size (flat_map (share_from p (Some s) c k) gs)) ≤ summed_size (emitted_at s gs)
   all-shared p s n c [] = let z = all-zero n in omega arith
   all-shared p s n c (g ∷ gs) =
-      let a = all-same n (λ k. summed_size (flat_map (share_from p (Some s) c k) (g ∷ gs))) (λ k. summed_size (share_from p (Some s) c k g) + summed_size (flat_map (share_from p (Some s) c k) gs)) (λ k. size-append (share_from p (Some s) c k g) (flat_map (share_from p (Some s) c k) gs)) in
+      let a = all-same n (λ k. summed_size (flat_map (share_from p (Some s) c k) (g ∷ gs))) (λ k. summed_size (share_from p (Some s) c k g) + summed_size (flat_map (share_from p (Some s) c k) gs)) (λ k. summed_size-append (share_from p (Some s) c k g) (flat_map (share_from p (Some s) c k) gs)) in
       let b = all-sum n (λ k. summed_size (share_from p (Some s) c k g)) (λ k. summed_size (flat_map (share_from p (Some s) c k) gs)) in
       let d = all-shared p s n c gs in
-      let e = size-append (cond (eqb g.node s) g.updates []) (emitted_at s gs) in
+      let e = summed_size-append (cond (eqb g.node s) g.updates []) (emitted_at s gs) in
       let f = one (eqb g.node s) c in
       omega arith
     where
@@ -138,10 +133,10 @@ module _ {T : Type 0} where
   all-fed p n j [] = let z = all-zero j in omega arith
   all-fed p n j (f ∷ fs) =
       let a = all-same j (λ k. summed_size (flat_map (share_fed p (place n 0 k)) (f ∷ fs))) (λ k. summed_size (cond (eqb f.input n && eqb (route p f.update.row) k) (f.update ∷ []) []) + summed_size (flat_map (share_fed p (place n 0 k)) fs))
-      (λ k. size-append (cond (eqb f.input n && eqb (route p f.update.row) k) (f.update ∷ []) []) (flat_map (share_fed p (place n 0 k)) fs)) in
+      (λ k. summed_size-append (cond (eqb f.input n && eqb (route p f.update.row) k) (f.update ∷ []) []) (flat_map (share_fed p (place n 0 k)) fs)) in
       let b = all-sum j (λ k. summed_size (cond (eqb f.input n && eqb (route p f.update.row) k) (f.update ∷ []) [])) (λ k. summed_size (flat_map (share_fed p (place n 0 k)) fs)) in
       let d = all-fed p n j fs in
-      let e = size-append (cond (eqb f.input n) (f.update ∷ []) []) (fed_to n fs) in
+      let e = summed_size-append (cond (eqb f.input n) (f.update ∷ []) []) (fed_to n fs) in
       let g = one (eqb f.input n) in
       omega arith
     where
