@@ -1,4 +1,4 @@
--- A change is accepted, or refused, and a frontier likewise.
+-- A change is accepted or refused, and so is a frontier. In each case the board keeps its invariant.
 use Rattle.std.proofs.Common.{◌≡◌, ℕ, suc, ◌+◌, ◌<◌, List, [], length, get_or, set, sym, ap, ap₂, ◌∙◌, subst, arith, Option, Some, None, Result, Ok, Err}
 use Rattle.std.specs.Result.{IfErr, IfOk, OnOk, OnErr, IsErrAnd}
 use Rattle.std.proofs.lemmas.List.{get_or_default, length-set}
@@ -13,7 +13,7 @@ use Rattle.machine.specs.Boards.Views.{ViewState}
 use Rattle.machine.specs.Boards.{BoardState, IsBoard, put_change, accept_change}
 use Rattle.machine.proofs.BoardLemmas.PlacingLemmas.{as_many, as_wide, many_put_all, wide_put_all}
 
--- what is found to refuse is what refuses
+-- the refusal that the code finds is the one that the definition names
 pub refuses : (o found : Option Refusal) (refusal : Refusal) → found ≡ o → found ≡ Some refusal → IsRefusalBy o refusal
 refuses o found refusal e s = subst (λ z. IsRefusalBy z refusal) (sym s ∙ e) (λ _. refusal)
 
@@ -21,27 +21,27 @@ pub refuses_nothing : (o found : Option Refusal) → found ≡ o → ((refusal :
 refuses_nothing o None e n = sym e
 refuses_nothing o (Some refusal) e n = absurd (n refusal (λ _. Some refusal))
 
--- where nothing refuses, memory does
+-- if no fault refuses, the refusal is for want of memory
 pub refused_for_memory : {A : Type 0} (o : Option Refusal) (r : Result A Refusal) (x : Refusal) → o ≡ None → IsErrAnd r (λ y. y ≡ x) → x ≡ OutOfMemory → IfErr r (IsRefusalBy o)
 refused_for_memory o (Ok a) x n h m = absurd h
 refused_for_memory o (Err y) x n h m = subst (λ z. IsRefusalBy z y) (sym n) (h ∙ m)
 
 module _ {T : Type 0} (b : BoardState T) {v : BoardState T} (e : v ≡ b) (n k : ℕ) (s : k ≡ n) (l : n < length b.dataflow.nodes) where
-  -- the count that is read is the input's
+  -- the count that the code reads is the input's
   pub count_read : (t : ℕ) → IsBoard v → t ≡ get_or v.accepted k t → t ≡ get_or b.accepted n 0
   count_read t is h =
       let long : length v.dataflow.nodes ≡ length b.dataflow.nodes = ap (λ (z : BoardState T). length z.dataflow.nodes) e in
       let inside : k < length v.accepted = omega (arith, long, is.accepted, s, l) in
       h ∙ (get_or_default v.accepted k t 0 inside ∙ (ap (λ (z : BoardState T). get_or z.accepted k 0) e ∙ ap (λ i. get_or b.accepted i 0) s))
 
--- with one change more
+-- the board after one more change was counted
 pub one_accepted : {T : Type 0} (b sent : BoardState T) {v : BoardState T} (e : v ≡ sent) (f : Fed T) (k t : ℕ) → sent ≡ put_change f b → k ≡ f.input → t ≡ get_or b.accepted f.input 0
     → record v { accepted = set v.accepted k (t + 1) } ≡ accept_change f b
 one_accepted {T} b sent e f k t put s c =
     ap (λ (z : BoardState T). record z { accepted = set z.accepted k (t + 1) }) (e ∙ put)
     ∙ ap₂ (λ i n. record (put_change f b) { accepted = set b.accepted i n }) s (let more : t + 1 ≡ suc t = omega arith in more ∙ ap suc c)
 
--- the places stay, and so a board is one
+-- a board with another count at one input is still a board
 pub board_accepting : {T : Type 0} (b : BoardState T) (k t : ℕ) → IsBoard b → IsBoard (record b { accepted = set b.accepted k t })
 board_accepting b k t is = record { dataflow = is.dataflow; stations = is.stations; rows = is.rows; hand = is.hand; accepted = length-set b.accepted k t ∙ is.accepted; views = is.views; inputs = is.inputs }
 
@@ -52,7 +52,7 @@ module _ {T : Type 0} (b : BoardState T) (is : IsBoard b) where
   pub board_changed : (n k : ℕ) (change : Lot T → Lot T) → IsBoard (record b { stations = with_lot n k change b.stations })
   board_changed n k change = board_lots (with_lot n k change b.stations) (as_many b.stations n k change) (as_wide b.stations n k change)
 
-  -- all that was given is there
+  -- after all of a give was put, the board is still a board
   pub board_gave : (bundles : List (Bundle T)) (n k : ℕ) (ts : List T) (before mid after : List (List (Lot T))) → before ≡ b.stations → mid ≡ put_all bundles before → after ≡ held_from n k ts mid
       → (worker : ℕ) (views : List (ViewState T)) → length views ≡ length b.views → IsBoard (record b { stations = after; hand = set b.hand worker None; views = views })
   board_gave bundles n k ts before mid after e f g worker views long =
@@ -75,12 +75,12 @@ module _ {T : Type 0} (b : BoardState T) (is : IsBoard b) where
           ∙ (ap (λ stations. length (get_or stations m [])) f
           ∙ (wide_put_all bundles before m ∙ ap (λ stations. length (get_or stations m [])) e)))
 
-  -- a change was sent, or it was not
+  -- whether or not a change was put at its place, the board is still a board
   pub board_sent : {A E : Type 0} (r : Result A E) (after : List (List (Lot T))) (site : Site) (load : Load T) → OnOk r (after ≡ put_at site load b.stations) → OnErr r (after ≡ b.stations) → IsBoard (record b { stations = after })
   board_sent (Ok x) after site load e f = subst (λ stations. IsBoard (record b { stations = stations })) (sym e) (board_changed site.node site.worker (with_load_at site.port load))
   board_sent (Err x) after site load e f = subst (λ stations. IsBoard (record b { stations = stations })) (sym f) is
 
-  -- a bundle was taken, or it was not
+  -- whether or not a bundle was taken, the board is still a board
   pub board_taken : {E : Type 0} (r : Result (Bundle T) E) (after : List (List (Lot T))) (number : ℕ) → IfOk r (λ x. after ≡ taken_from number x b.stations) → OnErr r (after ≡ b.stations) → IsBoard (record b { stations = after })
   board_taken (Ok x) after number e f = subst (λ stations. IsBoard (record b { stations = stations })) (sym e) (board_changed x.place.node x.place.worker (without_load_at x.place.port number x.stamp))
   board_taken (Err x) after number e f = subst (λ stations. IsBoard (record b { stations = stations })) (sym f) is

@@ -1,4 +1,5 @@
--- What each event makes of the histories that a board may stand for: the events of clients.
+-- What each event makes of the histories that a board may stand for: after each call the board stands for the history
+-- with its event on top. First come the events of clients, then those of workers.
 use Rattle.std.proofs.Common.{◌≡◌, map, ◌⊎◌, inl, inr, ⊎_elim, ℕ, zero, suc, ◌+◌, ◌<◌, ◌≤◌, Bool, true, false, cond, not, ◌&&◌, ◌||◌, List, [], ◌∷◌, ◌++◌, length, set, get_or, sym, refl, ap, ◌∙◌, subst, None, eqb, arith, unsigned_abs, nat_lt, nat_le, get_or-set_same, get_or-set_other}
 use Rattle.std.specs.List.{list_any, slice_get}
 use Rattle.std.specs.Ordering.{int_eq}
@@ -45,7 +46,7 @@ use Rattle.std.proofs.lemmas.List.Concat.{flat_map-append}
 use Rattle.machine.proofs.BoardLemmas.OpenLemmas.{first_front, open_set}
 use Rattle.machine.specs.Boards.Inputs.{front_at}
 
--- an input's frontier, tested element by element
+-- a time is beyond an input's frontier if an element of the log of open times says so
 pub open_any : {T : Type 0} (below : T → T → Bool) (i : ℕ) (t : T) (os : List (OpenTime T)) → is_beyond below (open_at i os) t ≡ list_any (λ o. eqb o.input i && below o.time t) os
 open_any below i t [] = refl
 open_any below i t (o ∷ os) = step (eqb o.input i) (open_any below i t os)
@@ -55,11 +56,11 @@ open_any below i t (o ∷ os) = step (eqb o.input i) (open_any below i t os)
     step true h = ap (λ z. below o.time t || z) h
     step false h = h
 
--- a queue of more bundles
+-- the queue of two lists of bundles is the queue of each, one after the other
 pub queue_append : {T : Type 0} (site : Site) (xs more : List (Bundle T)) → queue site (xs ++ more) ≡ queue site xs ++ queue site more
 queue_append site xs more = flat_map-append (λ b. cond (same_place b.place site) (b ∷ []) []) xs more
 
--- what no fault refuses
+-- if no fault refuses, each test passed
 unfaulted : (b : Bool) → not b ≡ false → b ≡ true
 unfaulted true h = refl
 unfaulted false h = absurd (true≢false h)
@@ -95,7 +96,7 @@ module _ {T : Type 0} (below : T → T → Bool) (minimum : T) where
       room : (n : ℕ) → nat_lt n 1048576 ≡ true → n < 1048576
       room n h = grind (arith, nat_tests)
 
-  -- after a feed the board stands for the history with the feed on top
+  -- after a feed, the board stands for the history with the feed on top
   pub stands_fed : (b : BoardState T) → IsBoard b → (h : List (Event T)) (client : ℕ) (f : Fed T) → b.dataflow.workers ≤ client → feed_refusal below b f ≡ None → IsInput b.dataflow f.input → Stands below minimum b h → Stands below minimum (after_feed client f b) (Feed client f ∷ h)
   stands_fed b board h client f m e i s = record {
     legal = (allowed_feed b h client f m e i s, s.legal);
@@ -123,7 +124,7 @@ module _ {T : Type 0} (below : T → T → Bool) (minimum : T) where
           (get_or-set_same b.accepted f.input (suc (get_or b.accepted f.input 0)) 0 n ∙ ap suc (s.accepted f.input i.0))
       counted j l false g = get_or-set_other b.accepted f.input j (suc (get_or b.accepted f.input 0)) 0 (λ m. false≢true (sym g ∙ eq-eqb f.input j (sym m))) ∙ s.accepted j l
 
-  -- so it does after a frontier has moved on
+  -- after an advance, the board stands for the history with the advance on top
   pub stands_advanced : (b : BoardState T) → IsBoard b → (h : List (Event T)) (client i : ℕ) (ts : List T) → b.dataflow.workers ≤ client → advance_refusal below b i ts ≡ None → IsInput b.dataflow i → Stands below minimum b h → Stands below minimum (after_advance client i ts b) (Advance client i ts ∷ h)
   stands_advanced b board h client i ts m e n s = record {
     legal = (record { client = m; input = n; onward = subst (λ os. all_beyond below os ts ≡ true) (s.open_times i) (unfaulted _ (no_first (not (all_beyond below (front_at i b.inputs) ts)) NotForward [] e).0) }, s.legal);
@@ -137,12 +138,12 @@ module _ {T : Type 0} (below : T → T → Bool) (minimum : T) where
     last = refl;
   }
 
-  -- after a call that either did its event or looked
+  -- what holds after a call's event and after a look holds after the call
   pub on_both : {A E R : Type 0} (r : Result A E) (P Q : Type 0) → OnOk r P → OnErr r Q → (P → R) → (Q → R) → R
   on_both (Ok x) P Q a b f g = f a
   on_both (Err e) P Q a b f g = g b
 
-  -- so it does after a look
+  -- after a look, the board stands for the history with the look on top
   pub stands_looked : (b c : BoardState T) (h : List (Event T)) (actor : ℕ) → c ≡ after_look actor b → Stands below minimum b h → Stands below minimum c (c.last ∷ h)
   stands_looked b c h actor e s = subst (λ z. Stands below minimum z (z.last ∷ h)) (sym e) (record {
     legal = (tt, s.legal);
@@ -156,13 +157,13 @@ module _ {T : Type 0} (below : T → T → Bool) (minimum : T) where
     last = refl;
   })
 
--- what is the same at each place
+-- each element of a list of equal elements is that element
 repeated : {A : Type 0} (n k : ℕ) (x d : A) → k < n → get_or (replicate n x) k d ≡ x
 repeated zero k x d l = absurd (omega arith)
 repeated (suc n) zero x d l = refl
 repeated (suc n) (suc k) x d l = repeated n k x d (omega arith)
 
--- where nothing lies anywhere
+-- nothing lies at any place of the first stations
 pub first_lot : {T : Type 0} (nodes workers n k : ℕ) → lot_of (first_stations {T = T} nodes workers) n k ≡ no_lot
 first_lot zero workers n k = refl
 first_lot {T = T} (suc nodes) workers zero k = row workers k
@@ -208,7 +209,7 @@ empty_waits : {X : Type 0} (n : ℕ) (x : X) → slice_get [] n ≡ Some x → �
 empty_waits zero x e = cc
 empty_waits (suc n) x e = cc
 
--- what waits somewhere waits at a place that there is
+-- what waits, waits at a place that exists on the board
 module _ {T : Type 0} (stations : List (List (Lot T))) (site : Site) (number : ℕ) (bundle : Bundle T) (waits : slice_get (queue_of stations site) number ≡ Some bundle) where
   past_end : {X : Type 0} (xs : List X) (i : ℕ) (d : X) → length xs ≤ i → get_or xs i d ≡ d
   past_end [] i d l = refl
@@ -218,20 +219,20 @@ module _ {T : Type 0} (stations : List (List (Lot T))) (site : Site) (number : �
   nothing_there : lot_of stations site.node site.worker ≡ no_lot → ⊥
   nothing_there e = empty_waits number bundle (sym (ap (λ q. slice_get q number) (ap (λ lot. map (bundle_at site) (loads_at site.port lot)) e ∙ none_at site site.port)) ∙ waits)
 
-  -- where something waits there is a node
+  -- if something waits at a place, its node exists
   pub waits_within : site.node < length stations
   waits_within = ⊎_elim (λ l. l) (λ l. absurd (nothing_there (ap (λ row. get_or row site.worker no_lot) (past_end stations site.node [] l)))) (cases_lt site.node (length stations))
 
-  -- where something waits there is a worker
+  -- if something waits at a place, its worker exists
   pub waits_staffed : site.worker < length (get_or stations site.node [])
   waits_staffed = ⊎_elim (λ l. l) (λ l. absurd (nothing_there (past_end (get_or stations site.node []) site.worker no_lot l))) (cases_lt site.worker (length (get_or stations site.node [])))
 
--- places that there are
+-- places that exist
 among_behind : {X : Type 0} (x : X) (xs ys : List X) → Among x ys → Among x (xs ++ ys)
 among_behind x [] ys m = m
 among_behind x (y ∷ xs) ys m = inr (among_behind x xs ys m)
 
--- each place that the plan has is on the board
+-- each place that the plan has exists on the board
 pub all_there : {T : Type 0} (stations : List (List (Lot T))) (p : Dataflow) → length stations ≡ length p.nodes → ((n : ℕ) → n < length p.nodes → length (get_or stations n []) ≡ p.workers)
     → (bundles : List (Bundle T)) → ((b : Bundle T) → Among b bundles → IsPlace p b.place) → AreThere stations bundles
 all_there stations p many wide [] places = tt
@@ -246,7 +247,7 @@ all_there stations p many wide (b ∷ bundles) places =
     few ports (inr l) f = omega (arith, l, f)
 
 module _ {T : Type 0} (below : T → T → Bool) (minimum : T) where
-  -- a hand with another node in it
+  -- the hands after one worker's hand changed
   hand_set : (hand : List (Option ℕ)) (f : ℕ → Option ℕ) (workers worker : ℕ) (node : Option ℕ) → length hand ≡ workers → worker < workers
       → ((k : ℕ) → k < workers → get_or hand k None ≡ f k) → (k : ℕ) → k < workers → get_or (set hand worker node) k None ≡ with_at f worker node k
   hand_set hand f workers worker node e l h k m = step (eqb k worker) refl
@@ -276,7 +277,7 @@ module _ {T : Type 0} (below : T → T → Bool) (minimum : T) where
         last = refl;
       }
 
-  -- after a worker turned to what it holds the board stands for that event on top
+  -- after a worker turned to what it holds, the board stands for the history with that event on top
   pub stands_turned : (b c : BoardState T) → IsBoard b → (h : List (Event T)) (k n : ℕ) → k < b.dataflow.workers → IsTakeHeld below b.dataflow (state_after below minimum b.dataflow h) k n
       → c ≡ after_turn k n b → Stands below minimum b h → Stands below minimum c (c.last ∷ h)
   stands_turned b c board h k n l legal e s = subst (λ z. Stands below minimum z (z.last ∷ h)) (sym e) (record {
@@ -291,7 +292,7 @@ module _ {T : Type 0} (below : T → T → Bool) (minimum : T) where
     last = refl;
   })
 
-  -- so it does after a take, whether or not it was refused
+  -- after a take, refused or not, the board stands for the history with its event on top
   pub stands_after_take : (r : Result (Bundle T) Refusal) (b c : BoardState T) (h : List (Event T)) (site : Site) (number : ℕ) → OnOk r (IsBoard b) → site.worker < b.dataflow.workers → get_or b.hand site.worker None ≡ None
       → (arranged_by (node_of b.dataflow site.node) ≡ None → number ≡ 0)
       → IfOk r (λ x. slice_get (queue_of b.stations site) number ≡ Some x) → IfOk r (λ x. x.place ≡ site) → IfOk r (λ x. c ≡ after_take number x b) → OnErr r (c ≡ after_look site.worker b)
@@ -336,7 +337,7 @@ module _ {T : Type 0} (below : T → T → Bool) (minimum : T) where
       staffed : g.worker < length (get_or (put_all sent b.stations) g.node [])
       staffed = subst (λ z. g.worker < z) (sym (wide_put_all sent b.stations g.node ∙ board.rows g.node within)) l
 
-      -- what is sent waits at places that there are
+      -- the bundles that are sent go to places that exist
       there : AreThere b.stations sent
       there = all_there b.stations b.dataflow board.stations board.rows sent (λ x m. ((in_place_lem b.dataflow board.dataflow below minimum (Give g ts sent ∷ h) (legal, s.legal)).bundles x (contains_among x (w.in_flight ++ sent) (among_behind x w.in_flight sent m))).0)
 
@@ -385,7 +386,7 @@ module _ {T : Type 0} (below : T → T → Bool) (minimum : T) where
       small v m o false f true e = absurd (false≢true (sym f ∙ ap (λ n. is_output (node_of b.dataflow n)) (eqb-true g.node v e) ∙ o))
       small v m o false f false e = (s.captured v m o).small
 
-  -- so it does after a give, whether or not it was refused
+  -- after a give, refused or not, the board stands for the history with its event on top
   pub stands_after_give : {A E : Type 0} (r : Result A E) (b c : BoardState T) (h : List (Event T)) (g : Emission T) (ts : List T) (sent : List (Bundle T)) → OnOk r (IsBoard b) → g.worker < b.dataflow.workers → g.node < length b.dataflow.nodes
       → OnOk r (c ≡ after_give g ts sent b) → OnErr r (c ≡ after_look g.worker b)
       → Stands below minimum b h → IsGive below b.dataflow (state_after below minimum b.dataflow h) g ts sent → Stands below minimum c (c.last ∷ h)

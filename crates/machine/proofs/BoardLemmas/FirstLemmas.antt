@@ -1,4 +1,4 @@
--- The board on which nothing has happened, from its lists.
+-- The first board, on which nothing has happened, from the lists that the code makes.
 use Rattle.std.proofs.Common.{◌≡◌, ℕ, zero, suc, ◌<◌, List, [], ◌∷◌, length, get_or, replicate, ap, ◌∙◌, Option, None, cond, arith}
 use Rattle.std.proofs.lemmas.List.{length-replicate, length-map}
 use Rattle.plan.specs.Nodes.{is_input}
@@ -14,7 +14,7 @@ module _ {T : Type 0} (least : T) (p : Dataflow) (last : Event T) (look : last �
     (n m : ℕ) (z : ℕ) (a : stations ≡ first_stations z p.workers) (b : z ≡ length p.nodes) (c : inputs ≡ first_inputs least p.nodes)
     (f : hand ≡ replicate p.workers None) (g : accepted ≡ replicate n 0) (h : n ≡ length p.nodes)
     (i : views ≡ replicate m (record { since = least ∷ []; captured = [] })) (k : m ≡ length p.nodes) where
-  -- the lists as they are made are those of the first board
+  -- the lists that the code makes are those of the first board
   pub first_made : record { dataflow = p; stations = stations; inputs = inputs; hand = hand; accepted = accepted; views = views; last = last } ≡ first_board least p
   first_made =
       let nowhere : stations ≡ first_stations (length p.nodes) p.workers = a ∙ ap (λ n. first_stations n p.workers) b in
@@ -22,7 +22,7 @@ module _ {T : Type 0} (least : T) (p : Dataflow) (last : Event T) (look : last �
       let shown : views ≡ replicate (length p.nodes) (record { since = least ∷ []; captured = [] }) = i ∙ ap (λ m. replicate m (record { since = least ∷ []; captured = [] })) k in
       λ j. record { dataflow = p; stations = nowhere j; inputs = c j; hand = f j; accepted = none j; views = shown j; last = look j }
 
--- the first board has its places
+-- the first board keeps the invariant of boards
 pub first_is_board : {T : Type 0} (least : T) (p : Dataflow) → IsDataflow p → IsBoard (first_board least p)
 first_is_board {T} least p is = record { dataflow = is; stations = length-replicate (length p.nodes) (replicate p.workers (no_lot {T = T})); rows = λ n l. rows (length p.nodes) n l; hand = length-replicate p.workers None; accepted = length-replicate (length p.nodes) 0; views = length-replicate (length p.nodes) (record { since = least ∷ []; captured = [] }); inputs = length-map p.nodes (λ node. cond (is_input node) (least ∷ []) []) }
   where

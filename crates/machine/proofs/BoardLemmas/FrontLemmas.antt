@@ -1,4 +1,5 @@
--- What is found on a board from scratch is what the definitions say of the histories that it may stand for.
+-- What is found on a board from scratch is what the definitions say of each history that the board may stand for. So
+-- frontiers need no bookkeeping, and cannot be out of date.
 use Rattle.std.proofs.Common.{◌≡◌, ℕ, zero, suc, ◌<◌, Bool, true, false, cond, not, ◌&&◌, ◌||◌, List, [], ◌∷◌, ◌++◌, length, get_or, sym, refl, ap, ap₂, ◌∙◌, subst, Option, Some, None, arith, append_assoc, nat_lt, inl, inr}
 use Rattle.std.specs.List.{flat_map, list_any, list_all}
 use Rattle.std.specs.Result.{IfOk}
@@ -68,7 +69,7 @@ module _ {T : Type 0} (below : T → T → Bool) (o : PartialOrderLaws below) wh
       step true = or_nothing (below x.time t)
       step false = refl
 
-  -- what waits and what is held, asked node by node
+  -- a question about what waits or is held may be asked node by node
   one_node : (c : Bool) (xs : List T) (t : T) → is_beyond below (cond c xs []) t ≡ (c && is_beyond below xs t)
   one_node true xs t = refl
   one_node false xs t = refl
@@ -100,7 +101,7 @@ module _ {T : Type 0} (below : T → T → Bool) (o : PartialOrderLaws below) wh
       list_any-append (λ f. below f t) (stamps (λ site. there site.node) w.in_flight) (held_where holds w.held ++ open_where there w.open_times)
       ∙ ap₂ (λ x y. x || y) (stamps_any there t w.in_flight) (list_any-append (λ f. below f t) (held_where holds w.held) (open_where there w.open_times) ∙ ap₂ (λ x y. x || y) (held_any holds t w.held) (opened_any there t w.open_times))
 
-  -- what is alike at each place is counted alike
+  -- states that are alike at each place count the same
   pub counted_like : (v w : State T) (there holds : ℕ → Bool) → AreQueued v.in_flight w.in_flight → AreHeld v.held w.held → AreOpen v.open_times w.open_times
       → (t : T) → is_beyond below (least below (counted_times v there holds)) t ≡ is_beyond below (least below (counted_times w there holds)) t
   counted_like v w there holds queued held opened t =
@@ -121,8 +122,7 @@ module _ {T : Type 0} (below : T → T → Bool) (o : PartialOrderLaws below) wh
   passed_found w there holds t a b c e f g =
       ap not (or_thrice a b c ∙ ap₂ (λ x y. x || y) e (ap₂ (λ x y. x || y) f g) ∙ sym (counted_any w there holds t) ∙ sym (least_beyond o (counted_times w there holds) t))
 
-  -- the least of all times that were collected are the frontier
-  -- what was collected part by part is all of it
+  -- the three parts that were collected, one after another, are all times that count for a node
   pub all_collected : (b : BoardState T) {v : BoardState T} → v ≡ b → IsBoard v → (n : ℕ) (none flight some all : List T) → none ≡ []
       → flight ≡ none ++ flat_map (λ m. cond (upstream v.dataflow n m) (stamps_at v.stations m) []) (numbers_below (length v.dataflow.nodes))
       → some ≡ flight ++ flat_map (λ m. cond (upstream v.dataflow n m) (times_at v.stations m) []) (numbers_below (length v.dataflow.nodes))
@@ -139,17 +139,18 @@ module _ {T : Type 0} (below : T → T → Bool) (o : PartialOrderLaws below) wh
   collected : (b : BoardState T) (n : ℕ) (all : List T) → all ≡ (stamps (λ site. upstream b.dataflow n site.node) (all_bundles b.stations) ++ held_where (upstream b.dataflow n) (all_held b.stations)) ++ open_where (upstream b.dataflow n) (open_on b) → all ≡ outstanding b.dataflow (on_board b) n
   collected b n all e = e ∙ append_assoc (stamps (λ site. upstream b.dataflow n site.node) (all_bundles b.stations)) (held_where (upstream b.dataflow n) (all_held b.stations)) (open_where (upstream b.dataflow n) (open_on b))
 
-  -- the least of the times gathered are the frontier
+  -- the least of the collected times are the node's frontier
   pub front_found : (b : BoardState T) (n : ℕ) (all found : List T) → all ≡ (stamps (λ site. upstream b.dataflow n site.node) (all_bundles b.stations) ++ held_where (upstream b.dataflow n) (all_held b.stations)) ++ open_where (upstream b.dataflow n) (open_on b)
       → SameElements found (least below all) → SameElements found (front below b n)
   front_found b n all found e same = subst (λ ts. SameElements found (least below ts)) (collected b n all e) same
 
-  -- and the same times are beyond both
+  -- the same times are beyond the collected times' least and beyond the frontier
   pub beyond_found : (b : BoardState T) (n : ℕ) (all found : List T) → all ≡ (stamps (λ site. upstream b.dataflow n site.node) (all_bundles b.stations) ++ held_where (upstream b.dataflow n) (all_held b.stations)) ++ open_where (upstream b.dataflow n) (open_on b)
       → ((t : T) → is_beyond below found t ≡ is_beyond below all t) → (t : T) → is_beyond below found t ≡ is_beyond below (front below b n) t
   beyond_found b n all found e same t = same t ∙ (ap (λ ts. is_beyond below ts t) (collected b n all e) ∙ sym (least_beyond o (outstanding b.dataflow (on_board b) n) t))
 
-  -- the same without what is held at the node itself
+  -- the three parts that were collected for an input frontier: as for a frontier, but without what is held at the
+  -- node itself
   pub input_collected : (b : BoardState T) {v : BoardState T} → v ≡ b → IsBoard v → (n : ℕ) (none flight some all : List T) → none ≡ []
       → flight ≡ none ++ flat_map (λ m. cond (upstream v.dataflow n m) (stamps_at v.stations m) []) (numbers_below (length v.dataflow.nodes))
       → some ≡ flight ++ flat_map (λ m. cond (strictly_upstream v.dataflow n m) (times_at v.stations m) []) (numbers_below (length v.dataflow.nodes))
@@ -166,17 +167,17 @@ module _ {T : Type 0} (below : T → T → Bool) (o : PartialOrderLaws below) wh
   input_all : (b : BoardState T) (n : ℕ) (all : List T) → all ≡ (stamps (λ site. upstream b.dataflow n site.node) (all_bundles b.stations) ++ held_where (strictly_upstream b.dataflow n) (all_held b.stations)) ++ open_where (upstream b.dataflow n) (open_on b) → all ≡ counted_times (on_board b) (upstream b.dataflow n) (strictly_upstream b.dataflow n)
   input_all b n all e = e ∙ append_assoc (stamps (λ site. upstream b.dataflow n site.node) (all_bundles b.stations)) (held_where (strictly_upstream b.dataflow n) (all_held b.stations)) (open_where (upstream b.dataflow n) (open_on b))
 
-  -- the least of the times gathered are the input frontier
+  -- the least of the collected times are the node's input frontier
   pub input_front_found : (b : BoardState T) (n : ℕ) (all found : List T) → all ≡ (stamps (λ site. upstream b.dataflow n site.node) (all_bundles b.stations) ++ held_where (strictly_upstream b.dataflow n) (all_held b.stations)) ++ open_where (upstream b.dataflow n) (open_on b)
       → SameElements found (least below all) → SameElements found (input_front below b n)
   input_front_found b n all found e same = subst (λ ts. SameElements found (least below ts)) (input_all b n all e) same
 
-  -- and the same times are beyond both
+  -- the same times are beyond the collected times' least and beyond the frontier
   pub input_beyond_found : (b : BoardState T) (n : ℕ) (all found : List T) → all ≡ (stamps (λ site. upstream b.dataflow n site.node) (all_bundles b.stations) ++ held_where (strictly_upstream b.dataflow n) (all_held b.stations)) ++ open_where (upstream b.dataflow n) (open_on b)
       → ((t : T) → is_beyond below found t ≡ is_beyond below all t) → (t : T) → is_beyond below found t ≡ is_beyond below (input_front below b n) t
   input_beyond_found b n all found e same t = same t ∙ (ap (λ ts. is_beyond below ts t) (input_all b n all e) ∙ sym (least_beyond o (counted_times (on_board b) (upstream b.dataflow n) (strictly_upstream b.dataflow n)) t))
 
--- what holds of an answer holds of what follows from it
+-- what follows from a fact about an answer holds if the fact does
 pub on_ok : {A E : Type 0} (r : Result A E) (P Q : A → Type 0) → ((x : A) → P x → Q x) → IfOk r P → IfOk r Q
 on_ok (Ok x) P Q f p = f x p
 on_ok (Err e) P Q f p = p
@@ -185,36 +186,37 @@ module _ {T : Type 0} (below : T → T → Bool) (o : PartialOrderLaws below) (m
   opened : (b : BoardState T) → IsBoard b → (h : List (Event T)) → Stands below minimum b h → AreOpen (open_on b) (state_after below minimum b.dataflow h).open_times
   opened b board h s i = open_on_at b.inputs (length b.dataflow.nodes) i board.inputs ∙ s.open_times i
 
-  -- what waits, and what is held, as lists
+  -- the board and the history have alike bundles in flight, and alike held times
   pub queued : (b : BoardState T) (h : List (Event T)) → Stands below minimum b h → AreQueued (all_bundles b.stations) (state_after below minimum b.dataflow h).in_flight
   queued b h s site = all_queued b.stations site ∙ s.queues site
 
   pub holds : (b : BoardState T) (h : List (Event T)) → Stands below minimum b h → AreHeld (all_held b.stations) (state_after below minimum b.dataflow h).held
   holds b h s n k = all_held_at b.stations n k ∙ s.held n k
 
-  -- what a board shows of frontiers is what its history leaves: the same times are beyond them
+  -- the same times are beyond a frontier found on the board and the one that the history leaves
   pub front_stands : (b : BoardState T) → IsBoard b → (h : List (Event T)) → Stands below minimum b h → (n : ℕ) (t : T) → is_beyond below (front below b n) t ≡ is_beyond below (frontier below b.dataflow (state_after below minimum b.dataflow h) n) t
   front_stands b board h s n t = counted_like below o (on_board b) (state_after below minimum b.dataflow h) (upstream b.dataflow n) (upstream b.dataflow n) (queued b h s) (holds b h s) (opened b board h s) t
 
-  -- and so they have the same elements
+  -- they have the same elements
   pub front_elements : (b : BoardState T) → IsBoard b → (h : List (Event T)) → Stands below minimum b h → (n : ℕ) → SameElements (front below b n) (frontier below b.dataflow (state_after below minimum b.dataflow h) n)
   front_elements b board h s n =
       let found = outstanding b.dataflow (on_board b) n in
       let left = outstanding b.dataflow (state_after below minimum b.dataflow h) n in
       least_same below o found left (λ t. sym (least_beyond o found t) ∙ (front_stands b board h s n t ∙ least_beyond o left t))
 
-  -- an input frontier found on the board opens what the history leaves open
+  -- the same times are beyond an input frontier found on the board and the one that the history leaves
   pub input_front_stands : (b : BoardState T) → IsBoard b → (h : List (Event T)) → Stands below minimum b h → (n : ℕ) (t : T) → is_beyond below (input_front below b n) t ≡ is_beyond below (input_frontier below b.dataflow (state_after below minimum b.dataflow h) n) t
   input_front_stands b board h s n t = counted_like below o (on_board b) (state_after below minimum b.dataflow h) (upstream b.dataflow n) (strictly_upstream b.dataflow n) (queued b h s) (holds b h s) (opened b board h s) t
 
-  -- and it has the same elements
+  -- they have the same elements
   pub input_front_elements : (b : BoardState T) → IsBoard b → (h : List (Event T)) → Stands below minimum b h → (n : ℕ) → SameElements (input_front below b n) (input_frontier below b.dataflow (state_after below minimum b.dataflow h) n)
   input_front_elements b board h s n =
       let found = counted_times (on_board b) (upstream b.dataflow n) (strictly_upstream b.dataflow n) in
       let left = counted_times (state_after below minimum b.dataflow h) (upstream b.dataflow n) (strictly_upstream b.dataflow n) in
       least_same below o found left (λ t. sym (least_beyond o found t) ∙ (input_front_stands b board h s n t ∙ least_beyond o left t))
 
-  -- what a worker holds and may turn to is the same
+  -- a worker is ready on the board if some time that it holds after the history is one that the input frontier has
+  -- passed
   pub ready_stands : (b : BoardState T) → IsBoard b → (h : List (Event T)) → Stands below minimum b h → (k n : ℕ)
       → is_ready below b k n ≡ list_any (has_passed below (input_frontier below b.dataflow (state_after below minimum b.dataflow h) n)) (held_at n k (state_after below minimum b.dataflow h).held)
   ready_stands b board h s k n =
@@ -243,12 +245,12 @@ module _ {T : Type 0} (below : T → T → Bool) (o : PartialOrderLaws below) (m
       taken (Some n) = true
       taken None = false
 
-  -- tests that answer alike of each element
+  -- two tests that agree on each element of a list agree on all of them together
   all_alike : {A : Type 0} (f g : A → Bool) (xs : List A) → ((x : A) → Among x xs → f x ≡ g x) → list_all f xs ≡ list_all g xs
   all_alike f g [] e = refl
   all_alike f g (x ∷ xs) e = ap₂ (λ a b. a && b) (e x (inl refl)) (all_alike f g xs (λ y m. e y (inr m)))
 
-  -- whether each time that is held waits, found worker by worker
+  -- going over nodes and workers finds whether each held time could still receive input
   pub wait_found : (b : BoardState T) → IsBoard b
       → list_all (λ n. list_all (λ k. list_all (is_beyond below (input_front below b n)) (lot_of b.stations n k).held) (numbers_below b.dataflow.workers)) (numbers_below (length b.dataflow.nodes))
       ≡ list_all (λ m. nat_lt m.node (length b.dataflow.nodes) && is_beyond below (input_front below b m.node) m.time) (all_held b.stations)
@@ -301,7 +303,7 @@ module _ {T : Type 0} (below : T → T → Bool) (o : PartialOrderLaws below) (m
       within : (m n : ℕ) → m < n → nat_lt m n ≡ true
       within m n l = grind (arith, nat_tests)
 
-  -- where a worker is ready it may turn to what it holds
+  -- if a worker is ready on the board, the history allows it to turn to what it holds
   pub may_turn : (b : BoardState T) → IsBoard b → (h : List (Event T)) → Stands below minimum b h → (k n : ℕ) → k < b.dataflow.workers → n < length b.dataflow.nodes → get_or b.hand k None ≡ None → is_ready below b k n ≡ true
       → IsTakeHeld below b.dataflow (state_after below minimum b.dataflow h) k n
   may_turn b board h s k n l m free ready =

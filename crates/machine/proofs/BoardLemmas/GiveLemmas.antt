@@ -1,4 +1,4 @@
--- What a board shows where what was given went through.
+-- The board after a give that was not refused.
 use Rattle.std.proofs.Common.{◌≡◌, ℕ, Bool, cond, List, set, get_or, ap, ap₂, ◌∙◌, None}
 use Rattle.plan.specs.Nodes.{is_output}
 use Rattle.plan.specs.declared.node.Node.{Node}
@@ -10,7 +10,7 @@ use Rattle.machine.specs.Boards.{BoardState, capture_output, capture, give_outpu
 use Rattle.machine.specs.Boards.Loads.{Lot, put_all, held_from}
 
 module _ {T : Type 0} (b : BoardState T) {v : BoardState T} (e : v ≡ b) (n k : ℕ) where
-  -- all that was given is there
+  -- what the code wrote, part by part, is the board after the give
   pub all_given : (g : Emission T) (ts : List T) (sent : List (Bundle T)) (stations : List (List (Lot T))) (views seen : List (ViewState T)) (node : Node) (is_view : Bool)
       → stations ≡ held_from g.node g.worker ts (put_all sent v.stations)
       → views ≡ cond is_view (set seen g.node (capture (get_or seen g.node no_view) g.updates)) seen → seen ≡ v.views → is_view ≡ is_output node → node ≡ node_of v.dataflow g.node

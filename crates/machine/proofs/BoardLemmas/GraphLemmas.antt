@@ -1,4 +1,4 @@
--- The table of ancestors that a graph keeps.
+-- The table of ancestors that a graph keeps: how it is built, and what it answers.
 use Rattle.std.proofs.Common.{◌≡◌, ℕ, suc, ◌+◌, ◌<◌, ◌≤◌, Bool, true, false, ◌||◌, eqb, List, [], ◌∷◌, ◌++◌, map, length, get_or, refl, ap, sym, subst, ◌∙◌, ⊎_elim, arith}
 use Rattle.std.specs.List.{list_any}
 use Rattle.std.proofs.lemmas.Bool.{cases_lt}
@@ -19,7 +19,7 @@ is_false true h = absurd (h refl)
 is_false false h = refl
 
 module _ (nodes : List Node) (plan : IsPlan nodes) where
-  -- the mark of a number in the row of a node
+  -- the mark of one node among the ancestors of another
   mark_there : (m n : ℕ) → n < length nodes → get_or (ancestors_of nodes n) m false ≡ reaches nodes m n
   mark_there m n within =
       let all = numbers_long (length nodes) in
@@ -30,14 +30,14 @@ module _ (nodes : List Node) (plan : IsPlan nodes) where
       ∙ sym (is_false (reaches nodes m n) (λ h. let e = above_earlier nodes plan m n h in absurd (omega (arith, e, l, within)))))
       (cases_lt m (length nodes))
 
-  -- the marks in the rows of the nodes below a number
+  -- in a table of the first k nodes, the marks of each of them tell its ancestors
   pub marked_there : (table : List (List Bool)) (m n k : ℕ) → table ≡ map (ancestors_of nodes) (numbers_below k) → n < k → n < length nodes → table_reaches table m n ≡ reaches nodes m n
   marked_there table m n k e l within =
       ap (λ rows. get_or (get_or rows n []) m false) e
       ∙ (ap (λ row. get_or row m false) (get_or-map (ancestors_of nodes) (numbers_below k) n 0 [] (subst (λ z. n < z) (sym (numbers_long k)) l) ∙ ap (ancestors_of nodes) (number_at k n 0 l))
       ∙ mark_there m n within)
 
-  -- the marks of a node from those of the nodes before it
+  -- the step that adds one mark, found from the marks of the nodes before
   pub marks_more : (before : List (List Bool)) (old new : List Bool) (k m n : ℕ) (mark : Bool) → n < length nodes → before ≡ map (ancestors_of nodes) (numbers_below n) → m ≡ k → mark ≡ (eqb m n || list_any (table_reaches before m) (sources (node_at nodes n))) → old ≡ map (λ j. reaches nodes j n) (numbers_below k) → new ≡ old ++ mark ∷ [] → new ≡ map (λ j. reaches nodes j n) (numbers_below (k + 1))
   marks_more before old new k m n mark within rows same is kept more =
       let here : mark ≡ reaches nodes k n = (
@@ -53,7 +53,7 @@ module _ (nodes : List Node) (plan : IsPlan nodes) where
       ∙ (sym (map_push (λ j. reaches nodes j n) (numbers_below k) k)
       ∙ ap (λ j. map (λ i. reaches nodes i n) (numbers_below j)) next))
 
--- what a graph's table answers: the nodes are those of v, which are p
+-- a graph's table tells which node reaches which; the code knows the nodes as v, which is p
 pub answered : (v p : List Node) → v ≡ p → (table : List (List Bool)) → IsGraph v table → (m n : ℕ) → n < length p → table_reaches table m n ≡ reaches p m n
 answered v p same table kept m n l =
     let r = subst (λ q. IsGraph q table) same kept in

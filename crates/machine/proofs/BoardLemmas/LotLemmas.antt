@@ -1,5 +1,5 @@
--- The lists of all bundles and of all held times against the stations that they are made from: what a definition finds in
--- such a list is what lies at the stations.
+-- The lists of all bundles and of all held times, against the stations that they are made from. What a definition
+-- finds in such a list is what lies at the stations.
 use Rattle.std.proofs.Common.{◌≡◌, ℕ, zero, suc, ◌+◌, ◌<◌, ◌≤◌, Bool, true, false, cond, ◌&&◌, ◌||◌, List, [], ◌∷◌, ◌++◌, map, length, get_or, take, sym, refl, ap, ap₂, ◌∙◌, eqb, arith, ⊎_elim}
 use Rattle.std.specs.List.{flat_map, list_any, list_all}
 use Rattle.std.proofs.lemmas.Bool.{and_from, eqb-true, eq-eqb, cases_lt}
@@ -20,12 +20,12 @@ use Rattle.machine.specs.Boards.Stations.{lot}
 -- ---- lists of lists, one after another
 
 module _ {X Y : Type 0} where
-  -- lists of lists may be made flat in either order
+  -- nested lists may be flattened from the inside or from the outside
   pub flat_flat : {Z : Type 0} (f : Y → List Z) (g : X → List Y) (xs : List X) → flat_map f (flat_map g xs) ≡ flat_map (λ x. flat_map f (g x)) xs
   flat_flat f g [] = refl
   flat_flat f g (x ∷ xs) = flat_map-append f (g x) (flat_map g xs) ∙ ap (λ ys. flat_map f (g x) ++ ys) (flat_flat f g xs)
 
-  -- a test of a flat list asks each piece
+  -- some element of a flat list passes if some piece has one that passes
   pub any_flat : (p : Y → Bool) (f : X → List Y) (xs : List X) → list_any p (flat_map f xs) ≡ list_any (λ x. list_any p (f x)) xs
   any_flat p f [] = refl
   any_flat p f (x ∷ xs) = list_any-append p (f x) (flat_map f xs) ∙ ap (λ b. list_any p (f x) || b) (any_flat p f xs)
@@ -42,12 +42,12 @@ module _ {X Y : Type 0} where
       step [] = refl
       step (y ∷ ys) = refl
 
-  -- nothing, if each of them gives nothing
+  -- the flat list is empty if each piece is
   flat_empty : (f : X → List Y) (xs : List X) → ((x : X) → f x ≡ []) → flat_map f xs ≡ []
   flat_empty f [] e = refl
   flat_empty f (x ∷ xs) e = ap₂ (λ ys zs. ys ++ zs) (e x) (flat_empty f xs e)
 
--- ---- the numbers below one
+-- ---- the numbers below a number
 
 one_more : (n : ℕ) → n + 1 ≡ suc n
 one_more n = omega arith
@@ -69,7 +69,8 @@ module _ {X : Type 0} where
       (λ k. let same : n ≡ i = omega (arith, k, l) in ap₂ (λ xs ys. xs ++ ys) (none_below f n (λ j m. others j (λ e. omega (arith, k, m, e)))) (ap f same))
       (cases_lt i n)
 
-  -- if all numbers but one give nothing, and that one too unless it is below n, then together they give what that one gives
+  -- if at most number i has something, and i has nothing unless it is below n, then the numbers below n have together
+  -- what i has
   pub only_at : (f : ℕ → List X) (i n : ℕ) → ((j : ℕ) → (i ≡ j → ⊥) → f j ≡ []) → (n ≤ i → f i ≡ []) → flat_map f (numbers_below n) ≡ f i
   only_at f i n others beyond =
       ⊎_elim
@@ -84,7 +85,7 @@ module _ {X : Type 0} where
       ∙ (ap (λ ys. ys ++ get_or xs n d ∷ []) (read_below xs d n (omega (arith, l)))
       ∙ (sym (take_more xs n d (omega (arith, l))) ∙ ap (λ k. take k xs) (one_more n)))
 
-  -- what lies at the numbers below a list's length is the list
+  -- the elements at the numbers below a list's length are the list
   numbered : (xs : List X) (d : X) → map (λ k. get_or xs k d) (numbers_below (length xs)) ≡ xs
   numbered xs d = read_below xs d (length xs) (omega arith) ∙ take_all (length xs) xs (omega arith)
 
@@ -100,7 +101,7 @@ no_and : (b : Bool) → (b && false) ≡ false
 no_and true = refl
 no_and false = refl
 
--- numbers that differ are told apart
+-- the test tells apart numbers that differ
 pub apart : (i j : ℕ) → (i ≡ j → ⊥) → eqb j i ≡ false
 apart i j e = step (eqb j i) refl
   where
@@ -115,14 +116,14 @@ same_self s = and_from (eqb s.node s.node) (eqb s.port s.port && eqb s.worker s.
 module _ {T : Type 0} where
   -- ---- the bundles of a place
 
-  -- all bundles of a place wait there, or none of them
+  -- of the bundles of one place, a queue has all if it is the place's own, and none if not
   queue_at : (other site : Site) (c : Bool) → same_place other site ≡ c → (loads : List (Load T)) → queue site (map (bundle_at other) loads) ≡ cond c (map (bundle_at other) loads) []
   queue_at other site true e [] = refl
   queue_at other site false e [] = refl
   queue_at other site true e (load ∷ loads) = ap₂ (λ b bs. cond b (bundle_at other load ∷ []) [] ++ bs) e (queue_at other site true e loads)
   queue_at other site false e (load ∷ loads) = ap₂ (λ b bs. cond b (bundle_at other load ∷ []) [] ++ bs) e (queue_at other site false e loads)
 
-  -- those of a lot, by the two tests of its places
+  -- of the bundles of a lot, a queue has those of each port that is at its place
   queue_both : (n k : ℕ) (lot : Lot T) (site : Site) (c d : Bool) → same_place (place n 0 k) site ≡ c → same_place (place n 1 k) site ≡ d
       → queue site (bundles_of n k lot) ≡ cond c (map (bundle_at (place n 0 k)) lot.left) [] ++ cond d (map (bundle_at (place n 1 k)) lot.right) []
   queue_both n k lot site c d e f =
@@ -158,7 +159,7 @@ module _ {T : Type 0} where
       flat_flat (λ b. cond (same_place b.place site) (b ∷ []) []) (λ k. bundles_of n k (get_or row k no_lot)) (numbers_below (length row))
       ∙ flat_empty (λ k. queue site (bundles_of n k (get_or row k no_lot))) (numbers_below (length row)) (λ k. queue_elsewhere n k (get_or row k no_lot) site (ap (λ b. b && eqb k site.worker) (apart site.node n e)))
 
-  -- the bundles of a place, out of all, are those that wait at its lot
+  -- the queue of a place, out of all bundles, is what waits at its lot
   pub all_queued : (stations : List (List (Lot T))) (site : Site) → queue site (all_bundles stations) ≡ queue_of stations site
   all_queued stations site =
       flat_flat (λ b. cond (same_place b.place site) (b ∷ []) []) (λ n. bundles_in n (get_or stations n [])) (numbers_below (length stations))
@@ -225,13 +226,13 @@ module _ {T : Type 0} where
       ∙ (ap (λ (f : ℕ → List T). flat_map f (numbers_below (length row))) (λ i k. stamps_lot test n k (get_or row k no_lot) (test n) refl i)
       ∙ numbered_row stamps_of (test n) row)
 
-  -- the stamps that are collected node by node are those of all bundles
+  -- stamps that are collected node by node are those of all bundles
   pub stamps_spread : (test : ℕ → Bool) (stations : List (List (Lot T))) → stamps (λ site. test site.node) (all_bundles stations) ≡ flat_map (λ n. cond (test n) (stamps_at stations n) []) (numbers_below (length stations))
   stamps_spread test stations =
       flat_flat (λ b. cond (test b.place.node) b.stamp []) (λ n. bundles_in n (get_or stations n [])) (numbers_below (length stations))
       ∙ ap (λ (f : ℕ → List T). flat_map f (numbers_below (length stations))) (λ i n. stamps_row test n (get_or stations n []) i)
 
-  -- ---- the same of the times that are held
+  -- ---- what is held at the nodes that pass a test, node by node
 
   where_like : (test : ℕ → Bool) (n k : ℕ) (c : Bool) → test n ≡ c → (ts : List T) → held_where test (held_entries n k ts) ≡ cond c ts []
   where_like test n k true e [] = refl
@@ -245,13 +246,13 @@ module _ {T : Type 0} where
       ∙ (ap (λ (f : ℕ → List T). flat_map f (numbers_below (length row))) (λ i k. where_like test n k (test n) refl (get_or row k no_lot).held i)
       ∙ numbered_row (λ lot. lot.held) (test n) row)
 
-  -- the held times that are collected node by node are those of all
+  -- held times that are collected node by node are all of them
   pub held_spread : (test : ℕ → Bool) (stations : List (List (Lot T))) → held_where test (all_held stations) ≡ flat_map (λ n. cond (test n) (times_at stations n) []) (numbers_below (length stations))
   held_spread test stations =
       flat_flat (λ m. cond (test m.node) (m.time ∷ []) []) (λ n. held_in n (get_or stations n [])) (numbers_below (length stations))
       ∙ ap (λ (f : ℕ → List T). flat_map f (numbers_below (length stations))) (λ i n. where_row test n (get_or stations n []) i)
 
-  -- ---- tests of them, node by node
+  -- ---- whether a stamp or a held time is at or before a time, node by node
 
   module _ (below : T → T → Bool) (test : ℕ → Bool) (t : T) where
     any_where : (c : Bool) (ts : List T) → is_beyond below (cond c ts []) t ≡ (c && is_beyond below ts t)
@@ -266,11 +267,11 @@ module _ {T : Type 0} where
         or_nothing false = refl
     any_one false u = refl
 
-    -- among the times of the numbers that pass there is one at or before t exactly if one of these numbers has one
+    -- t is beyond the times of the numbers that pass exactly if it is beyond those of one such number
     any_spread : (f : ℕ → List T) (ns : List ℕ) → is_beyond below (flat_map (λ n. cond (test n) (f n) []) ns) t ≡ list_any (λ n. test n && is_beyond below (f n) t) ns
     any_spread f ns = any_flat (λ u. below u t) (λ n. cond (test n) (f n) []) ns ∙ ap (λ (p : ℕ → Bool). list_any p ns) (λ i n. any_where (test n) (f n) i)
 
-    -- a stamp at or before a time is found node by node
+    -- asking node by node finds whether a stamp has an element at or before the time
     pub in_flight_any : (stations : List (List (Lot T))) → list_any (λ n. test n && is_beyond below (stamps_at stations n) t) (numbers_below (length stations)) ≡ list_any (λ b. test b.place.node && is_beyond below b.stamp t) (all_bundles stations)
     in_flight_any stations =
         sym (any_spread (stamps_at stations) (numbers_below (length stations)))
@@ -278,7 +279,7 @@ module _ {T : Type 0} where
         ∙ (any_flat (λ u. below u t) (λ b. cond (test b.place.node) b.stamp []) (all_bundles stations)
         ∙ ap (λ (p : Bundle T → Bool). list_any p (all_bundles stations)) (λ i b. any_where (test b.place.node) b.stamp i)))
 
-    -- and so is a held time
+    -- asking node by node finds whether a held time is at or before the time
     pub held_any_spread : (stations : List (List (Lot T))) → list_any (λ n. test n && is_beyond below (times_at stations n) t) (numbers_below (length stations)) ≡ list_any (λ m. test m.node && below m.time t) (all_held stations)
     held_any_spread stations =
         sym (any_spread (times_at stations) (numbers_below (length stations)))
@@ -292,7 +293,7 @@ module _ {T : Type 0} where
       all_flat (λ m. f m.node m.time) (λ k. held_entries n k (get_or row k no_lot).held) (numbers_below (length row))
       ∙ ap (λ (p : ℕ → Bool). list_all p (numbers_below (length row))) (λ i k. list_all-map (λ m. f m.node m.time) (held_by k) (get_or row k no_lot).held i)
 
-  -- what holds of all times that are held is found worker by worker
+  -- asking worker by worker finds whether all held times pass a test
   pub all_held_all : (f : ℕ → T → Bool) (stations : List (List (Lot T)))
       → list_all (λ n. list_all (λ k. list_all (f n) (lot_of stations n k).held) (numbers_below (length (get_or stations n [])))) (numbers_below (length stations)) ≡ list_all (λ m. f m.node m.time) (all_held stations)
   all_held_all f stations =
@@ -316,7 +317,7 @@ module _ {T : Type 0} where
       ∙ (ap (λ (p : ℕ → Bool). list_all p (numbers_below (length row))) (λ i k. none_lot n k (get_or row k no_lot) i)
       ∙ all_numbered (λ lot. is_none (lot.left ++ lot.right)) row no_lot)
 
-  -- nothing waits exactly if nothing waits at any lot
+  -- nothing waits anywhere exactly if nothing waits at any lot
   pub none_anywhere : (stations : List (List (Lot T))) → is_none (all_bundles stations) ≡ list_all (λ row. list_all (λ lot. is_none (lot.left ++ lot.right)) row) stations
   none_anywhere stations =
       none_flat (λ n. bundles_in n (get_or stations n [])) (numbers_below (length stations))

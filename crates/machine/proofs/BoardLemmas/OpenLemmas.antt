@@ -1,4 +1,5 @@
--- The inputs' frontiers, node by node, and all their elements one after another.
+-- The frontiers of the inputs, kept by node on a board and as one log of open times in a history, and how one is
+-- found from the other.
 use Rattle.std.proofs.Common.{◌≡◌, ℕ, zero, suc, ◌+◌, ◌<◌, ◌≤◌, Bool, true, false, cond, not, ◌&&◌, ◌||◌, List, [], ◌∷◌, ◌++◌, map, take, length, get_or, set, get_or-set_same, get_or-set_other, sym, refl, ap, ap₂, ◌∙◌, subst, eqb, arith, append_assoc, ◌⊎◌, inl, inr, ⊎_elim}
 use Rattle.std.specs.List.{filter, flat_map, list_any, list_all}
 use Rattle.std.proofs.lemmas.Bool.{eqb-true, eq-eqb, false≢true, or_left, or_right, cases_lt}
@@ -18,12 +19,12 @@ use Rattle.machine.specs.Histories.Outstanding.{open_where}
 use Rattle.machine.specs.Histories.{open_entries}
 use Rattle.machine.specs.Boards.Inputs.{front_at, first_inputs}
 
--- ---- what is asked of the numbers below one
+-- ---- loops that ask something of the numbers below a number
 
 one_more : (n : ℕ) → n + 1 ≡ suc n
 one_more n = omega arith
 
--- one of them passes
+-- if one number passes, some number does
 pub any_below : (f : ℕ → Bool) (i n : ℕ) → i < n → f i ≡ true → list_any f (numbers_below n) ≡ true
 any_below f i zero l e = absurd (omega (arith, l))
 any_below f i (suc n) l e =
@@ -33,15 +34,15 @@ any_below f i (suc n) l e =
     (λ k. let same : i ≡ n = omega (arith, k, l) in or_right (list_any f (numbers_below n)) (f n || false) (or_left (f n) false (ap f (sym same) ∙ e)))
     (cases_lt i n)
 
--- none of them and not the next
+-- if no number so far passes, and the next does not, then still none does
 pub none_next : (f : ℕ → Bool) (n : ℕ) → list_any f (numbers_below n) ≡ false → f n ≡ false → list_any f (numbers_below (n + 1)) ≡ false
 none_next f n h e = ap (λ m. list_any f (numbers_below m)) (one_more n) ∙ (list_any-append f (numbers_below n) (n ∷ []) ∙ ap₂ (λ a b. a || (b || false)) h e)
 
--- each of them and the next
+-- if each number so far passes, and the next does, then still each does
 pub all_next : (f : ℕ → Bool) (n : ℕ) → list_all f (numbers_below n) ≡ true → f n ≡ true → list_all f (numbers_below (n + 1)) ≡ true
 all_next f n h e = ap (λ m. list_all f (numbers_below m)) (one_more n) ∙ (list_all-append f (numbers_below n) (n ∷ []) ∙ ap₂ (λ a b. a && (b && true)) h e)
 
--- not each of them
+-- if one number fails, not all pass
 pub all_fails : (f : ℕ → Bool) (i n : ℕ) → i < n → f i ≡ false → list_all f (numbers_below n) ≡ false
 all_fails f i zero l e = absurd (omega (arith, l))
 all_fails f i (suc n) l e =
@@ -55,7 +56,7 @@ all_fails f i (suc n) l e =
     and_false true = refl
     and_false false = refl
 
--- what each of them gives, one after another, and what the next one gives
+-- what the numbers so far give, one after another, and then what the next one gives
 pub give_next : {X : Type 0} (f : ℕ → List X) (old mid new : List X) (n : ℕ) → mid ≡ old ++ flat_map f (numbers_below n) → new ≡ mid ++ f n → new ≡ old ++ flat_map f (numbers_below (n + 1))
 give_next f old mid new n m e =
     e
@@ -63,7 +64,7 @@ give_next f old mid new n m e =
     ∙ (append_assoc old (flat_map f (numbers_below n)) (f n)
     ∙ ap (λ xs. old ++ xs) (sym (ap (λ k. flat_map f (numbers_below k)) (one_more n) ∙ (flat_map-append f (numbers_below n) (n ∷ []) ∙ ap (λ xs. flat_map f (numbers_below n) ++ xs) (append-nil (f n)))))))
 
--- ---- a list for each of them, as elements that name it
+-- ---- the times of each number, as one log of open times
 
 module _ {T : Type 0} where
   abbrev pub spread : (ℕ → List T) → ℕ → List (OpenTime T)
@@ -102,7 +103,7 @@ module _ {T : Type 0} where
       other k true e = let same = eqb-true n i e in absurd (omega (arith, k, same))
       other k false e = e
 
-  -- the elements that name a node are its frontier
+  -- in the log, the times of an input are its frontier
   pub open_on_at : (inputs : List (List T)) (n i : ℕ) → length inputs ≡ n → open_at i (spread (λ j. front_at j inputs) n) ≡ front_at i inputs
   open_on_at inputs n i long = by (cases_lt i n)
     where
@@ -115,7 +116,7 @@ module _ {T : Type 0} where
       by (inl k) = open_within (λ j. front_at j inputs) i n k
       by (inr k) = open_beyond (λ j. front_at j inputs) i n k ∙ sym (beyond inputs i (omega (arith, long, k)))
 
-  -- another frontier of one input, and those of the others
+  -- after an input's frontier is replaced, the log has the new times for it, and the old ones for the others
   others_gone : (i : ℕ) (os : List (OpenTime T)) → open_at i (filter (λ o. not (eqb o.input i)) os) ≡ []
   others_gone i [] = refl
   others_gone i (o ∷ os) = step (eqb o.input i) refl (others_gone i os)
@@ -150,7 +151,7 @@ module _ {T : Type 0} where
       other true e = absurd (apart (eqb-true i j e))
       other false e = e
 
-  -- the log of open times follows when an input's frontier is set
+  -- if the board and the log agree, they still do after an input's frontier is set in both
   pub open_set : (inputs : List (List T)) (i : ℕ) (ts : List T) (os : List (OpenTime T)) → i < length inputs → ((j : ℕ) → front_at j inputs ≡ open_at j os)
       → (j : ℕ) → front_at j (set inputs i ts) ≡ open_at j (open_entries i ts ++ filter (λ o. not (eqb o.input i)) os)
   open_set inputs i ts os l same j = by (eqb j i) refl
@@ -161,7 +162,7 @@ module _ {T : Type 0} where
           (get_or-set_same inputs i ts [] l ∙ sym (open_moved i ts os))
       by false f = get_or-set_other inputs i j ts [] (λ z. false≢true (sym f ∙ eq-eqb j i z)) ∙ (same j ∙ sym (open_stays i j ts os (λ z. false≢true (sym f ∙ eq-eqb j i (sym z)))))
 
-  -- a test of their elements, node by node
+  -- whether some open time is at or before t, input by input
   module _ (below : T → T → Bool) (there : ℕ → Bool) (t : T) where
     any_opening : (i : ℕ) (ts : List T) → list_any (λ o. there o.input && below o.time t) (open_entries i ts) ≡ (there i && is_beyond below ts t)
     any_opening i ts = step (there i) refl ts
@@ -172,7 +173,7 @@ module _ {T : Type 0} where
         step true e (u ∷ us) = ap₂ (λ b d. (b && below u t) || d) e (step true e us)
         step false e (u ∷ us) = ap₂ (λ b d. (b && below u t) || d) e (step false e us)
 
-    -- a test of all open times asks input by input
+    -- some open time passes exactly if some input's frontier has such a time
     pub any_spread : (f : ℕ → List T) (n : ℕ) → list_any (λ o. there o.input && below o.time t) (spread f n) ≡ list_any (λ i. there i && is_beyond below (f i) t) (numbers_below n)
     any_spread f zero = refl
     any_spread f (suc n) =
@@ -185,14 +186,14 @@ module _ {T : Type 0} where
         or_nothing true = refl
         or_nothing false = refl
 
-  -- those of the nodes that pass a test
+  -- an input's open times count if the input passes the test
   where_opening : (there : ℕ → Bool) (i : ℕ) (c : Bool) → there i ≡ c → (ts : List T) → open_where there (open_entries i ts) ≡ cond c ts []
   where_opening there i true e [] = refl
   where_opening there i false e [] = refl
   where_opening there i true e (t ∷ ts) = ap₂ (λ b us. cond b (t ∷ []) [] ++ us) e (where_opening there i true e ts)
   where_opening there i false e (t ∷ ts) = ap₂ (λ b us. cond b (t ∷ []) [] ++ us) e (where_opening there i false e ts)
 
-  -- the open times of some inputs, input by input
+  -- the open times of the inputs that pass a test, input by input
   pub where_spread : (there : ℕ → Bool) (f : ℕ → List T) (n : ℕ) → open_where there (spread f n) ≡ flat_map (λ i. cond (there i) (f i) []) (numbers_below n)
   where_spread there f zero = refl
   where_spread there f (suc n) =
@@ -215,7 +216,7 @@ module _ {T : Type 0} where
       step true h = ap (λ xs. open_entries i (minimum ∷ []) ++ xs) h
       step false h = h
 
-  -- each input's frontier is that of the first elements
+  -- on a first board, each input's frontier is that of the first state
   pub first_front : (minimum : T) (p : List Node) (i : ℕ) → front_at i (first_inputs minimum p) ≡ open_at i (flat_map (λ i. open_entries i (minimum ∷ [])) (numbers_where is_input p))
   first_front minimum p i = by (cases_lt i (length p))
     where
@@ -237,7 +238,7 @@ module _ {T : Type 0} where
           ∙ (sym (open_within f i (length p) k) ∙ sym all))
       by (inr k) = beyond p i k ∙ (sym (open_beyond f i (length p) k) ∙ sym all)
 
-  -- one node more
+  -- the step that makes the first frontier of one more node
   pub first_more : (minimum : T) (p : List Node) (old new : List (List T)) (n : ℕ) (node : Node) (ts : List T) → n < length p → node ≡ node_at p n → ts ≡ cond (is_input node) (minimum ∷ []) []
       → old ≡ first_inputs minimum (take n p) → new ≡ old ++ ts ∷ [] → new ≡ first_inputs minimum (take (n + 1) p)
   first_more minimum p old new n node ts l is e m h =

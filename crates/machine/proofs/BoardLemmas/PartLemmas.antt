@@ -5,7 +5,7 @@ use Rattle.std.proofs.lemmas.List.{append-nil}
 use Rattle.std.proofs.lemmas.List.Concat.{flat_map-append}
 use Rattle.plan.specs.Ancestors.{numbers_below}
 
--- with what one number more gives
+-- what the numbers so far give, and then what the next one gives
 pub with_next : {A : Type 0} (f : ℕ → List A) (old mid new more : List A) (n : ℕ) → more ≡ f n → mid ≡ old ++ flat_map f (numbers_below n) → new ≡ mid ++ more → new ≡ old ++ flat_map f (numbers_below (n + 1))
 with_next f old mid new more n e m h =
     let next : suc n ≡ n + 1 = omega arith in

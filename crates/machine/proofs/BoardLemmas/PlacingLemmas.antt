@@ -1,4 +1,5 @@
--- What each event makes of what lies at the places of a board.
+-- What each event makes of what lies at the places of a board: it changes the queue of its own place, or what one
+-- worker holds at one node, and nothing else.
 use Rattle.std.proofs.Common.{◌≡◌, ℕ, zero, suc, ◌<◌, ◌≤◌, Bool, true, false, cond, not, ◌&&◌, List, [], ◌∷◌, ◌++◌, map, length, get_or, set, get_or-set_same, get_or-set_other, sym, refl, ap, ap₂, ◌∙◌, subst, eqb, arith, ◌⊎◌, inl, inr}
 use Rattle.std.specs.List.{filter, flat_map, remove}
 use Rattle.std.proofs.lemmas.Bool.{eqb-true, eqb-false, eq-eqb, ne_eqb, and_from, cases_lt}
@@ -18,7 +19,7 @@ use Rattle.machine.proofs.BoardLemmas.SiteLemmas.{less, queue_less, queue_other}
 pub itself : (site : Site) → same_place site site ≡ true
 itself site = and_from (eqb site.node site.node) (eqb site.port site.port && eqb site.worker site.worker) (eq-eqb site.node site.node refl) (and_from (eqb site.port site.port) (eqb site.worker site.worker) (eq-eqb site.port site.port refl) (eq-eqb site.worker site.worker refl))
 
--- ---- a list with another element
+-- ---- a list with one element replaced
 
 same_either_way : (i j : ℕ) → eqb i j ≡ eqb j i
 same_either_way i j = step (eqb i j) refl
@@ -40,7 +41,7 @@ module _ {X : Type 0} where
       step true e = subst (λ z. get_or (set xs i x) z d ≡ x) (sym (eqb-true j i e)) (get_or-set_same xs i x d l)
       step false e = get_or-set_other xs i j x d (eqb-false j i e)
 
--- ---- a list with an element less
+-- ---- a list with one element removed
 
 removed : {X : Type 0} (xs : List X) (i : ℕ) → remove xs i ≡ less xs i
 removed [] zero = refl
@@ -53,10 +54,10 @@ less_images f [] i = refl
 less_images f (x ∷ xs) zero = refl
 less_images f (x ∷ xs) (suc i) = ap (λ ys. f x ∷ ys) (less_images f xs i)
 
--- ---- one lot of all
+-- ---- one lot changes
 
 module _ {T : Type 0} (stations : List (List (Lot T))) (n k : ℕ) (change : Lot T → Lot T) where
-  -- as many nodes and workers as before
+  -- changing one lot leaves as many nodes
   pub as_many : length (with_lot n k change stations) ≡ length stations
   as_many = length-set stations n (set (get_or stations n []) k (change (lot_of stations n k)))
 
@@ -84,7 +85,7 @@ module _ {T : Type 0} (stations : List (List (Lot T))) (n k : ℕ) (change : Lot
         step true e = set_seen (get_or stations n []) k j (change (lot_of stations n k)) no_lot staffed ∙ ap (λ z. cond (eqb j k) (change (lot_of stations n k)) (lot_of stations z j)) (sym (eqb-true m n e))
         step false e = refl
 
-    -- so it does for the times held
+    -- changing one lot changes what is held there alone
     pub held_of : (m j : ℕ) → (lot_of (with_lot n k change stations) m j).held ≡ cond (eqb m n && eqb j k) (change (lot_of stations n k)).held (lot_of stations m j).held
     held_of m j = ap (λ lot. lot.held) (lot_at m j) ∙ each (eqb m n && eqb j k)
       where
@@ -92,7 +93,7 @@ module _ {T : Type 0} (stations : List (List (Lot T))) (n k : ℕ) (change : Lot
         each true = refl
         each false = refl
 
--- ---- one queue of all
+-- ---- one queue changes
 
 module _ {T : Type 0} (stations : List (List (Lot T))) (site : Site) (change : Lot T → Lot T) (within : site.node < length stations) (staffed : site.worker < length (get_or stations site.node [])) where
   abbrev was : Lot T
@@ -100,7 +101,7 @@ module _ {T : Type 0} (stations : List (List (Lot T))) (site : Site) (change : L
 
   module _ (to : List (Bundle T) → List (Bundle T)) (own : map (bundle_at site) (loads_at site.port (change was)) ≡ to (queue_of stations site))
       (others : (port : ℕ) → (site.port ≡ port → ⊥) → loads_at port (change was) ≡ loads_at port was) where
-    -- what the change makes of the queue of its place, and every other queue is as it was
+    -- the queue of the place is what the change makes of it, and every other queue is as it was
     queue_changed : (other : Site) → queue_of (with_lot site.node site.worker change stations) other ≡ cond (same_place site other) (to (queue_of stations other)) (queue_of stations other)
     queue_changed other =
         ap (λ lot. map (bundle_at other) (loads_at other.port lot)) (lot_at stations site.node site.worker change within staffed other.node other.worker)
@@ -119,7 +120,7 @@ module _ {T : Type 0} (stations : List (List (Lot T))) (site : Site) (change : L
         step true e false f false g = refl
         step false e b f c g = refl
 
--- ---- a load more
+-- ---- a load is put
 
 module _ {T : Type 0} where
   loads_more : (port : ℕ) (load : Load T) (lot : Lot T) → port < 2 → loads_at port (with_load_at port load lot) ≡ loads_at port lot ++ load ∷ []
@@ -141,7 +142,7 @@ module _ {T : Type 0} where
   held_beside (suc zero) loads lot = refl
   held_beside (suc (suc port)) loads lot = refl
 
-  -- where a change leaves what is held, it is as it was everywhere
+  -- if a change leaves what is held at its lot, it leaves all that is held
   held_alike : (stations : List (List (Lot T))) (n k : ℕ) (change : Lot T → Lot T) → n < length stations → k < length (get_or stations n []) → (change (lot_of stations n k)).held ≡ (lot_of stations n k).held
       → (m j : ℕ) → (lot_of (with_lot n k change stations) m j).held ≡ (lot_of stations m j).held
   held_alike stations n k change within staffed e m j = held_of stations n k change within staffed m j ∙ step (eqb m n) refl (eqb j k) refl
@@ -151,11 +152,11 @@ module _ {T : Type 0} where
       step true f false g = refl
       step false f b g = refl
 
-  -- a place that there is
+  -- the place exists on the board
   abbrev pub IsThere : List (List (Lot T)) → Site → Type 0
   IsThere stations site = (site.node < length stations) × (site.worker < length (get_or stations site.node [])) × (site.port < 2)
 
-  -- a place stays when a lot changes
+  -- a place still exists after a lot changes
   pub there_still : (stations : List (List (Lot T))) (n k : ℕ) (change : Lot T → Lot T) (site : Site) → IsThere stations site → IsThere (with_lot n k change stations) site
   there_still stations n k change site there =
       let many = as_many stations n k change in
@@ -163,7 +164,7 @@ module _ {T : Type 0} where
       (subst (λ z. site.node < z) (sym many) there.0, subst (λ z. site.worker < z) (sym wide) there.1, there.2)
 
   module _ (stations : List (List (Lot T))) (site : Site) (load : Load T) (there : IsThere stations site) where
-    -- a load joins the queue of its place alone
+    -- a load that is put joins the queue of its place alone
     pub queue_put : (other : Site) → queue_of (put_at site load stations) other ≡ queue_of stations other ++ queue other (bundle_at site load ∷ [])
     queue_put other =
         queue_changed stations site (with_load_at site.port load) there.0 there.1 (λ q. q ++ bundle_at site load ∷ []) own
@@ -181,12 +182,12 @@ module _ {T : Type 0} where
     pub held_put : (m j : ℕ) → (lot_of (put_at site load stations) m j).held ≡ (lot_of stations m j).held
     held_put m j = held_alike stations site.node site.worker (with_load_at site.port load) there.0 there.1 (held_beside site.port (loads_at site.port (lot_of stations site.node site.worker) ++ load ∷ []) (lot_of stations site.node site.worker)) m j
 
-  -- bundles one after another
+  -- the places of all these bundles exist on the board
   abbrev pub AreThere : List (List (Lot T)) → List (Bundle T) → Type 0
   AreThere stations [] = Rattle.std.specs.Prelude.⊤
   AreThere stations (b ∷ bundles) = IsThere stations b.place × AreThere stations bundles
 
-  -- each bundle joins the queue of its place
+  -- bundles that are put join the queues of their places alone
   pub queue_put_all : (bundles : List (Bundle T)) (stations : List (List (Lot T))) → AreThere stations bundles → (other : Site) → queue_of (put_all bundles stations) other ≡ queue_of stations other ++ queue other bundles
   queue_put_all [] stations there other = sym (append-nil (queue_of stations other))
   queue_put_all (b ∷ bundles) stations there other =
@@ -214,12 +215,12 @@ module _ {T : Type 0} where
   many_put_all [] stations = refl
   many_put_all (b ∷ bundles) stations = many_put_all bundles (put_at b.place (load_in b) stations) ∙ as_many stations b.place.node b.place.worker (with_load_at b.place.port (load_in b))
 
-  -- and as many workers at each
+  -- putting bundles leaves as many workers at each node
   pub wide_put_all : (bundles : List (Bundle T)) (stations : List (List (Lot T))) (m : ℕ) → length (get_or (put_all bundles stations) m []) ≡ length (get_or stations m [])
   wide_put_all [] stations m = refl
   wide_put_all (b ∷ bundles) stations m = wide_put_all bundles (put_at b.place (load_in b) stations) m ∙ as_wide stations b.place.node b.place.worker (with_load_at b.place.port (load_in b)) m
 
-  -- ---- a load less
+  -- ---- a load is taken
 
   loads_less : (port number : ℕ) (stamp : List T) (lot : Lot T) → loads_at port (without_load_at port number stamp lot) ≡ less (loads_at port lot) number
   loads_less zero number stamp lot = removed lot.left number
@@ -245,7 +246,7 @@ module _ {T : Type 0} where
         (ap (map (bundle_at b.place)) (loads_less b.place.port number b.stamp here) ∙ less_images (bundle_at b.place) (loads_at b.place.port here) number)
         beside other
 
-    -- queues follow the log of what is in flight when a bundle is taken
+    -- if the queues agree with the log of what is in flight, they still do after a take
     pub queue_taken : (flight : List (Bundle T)) → ((site : Site) → queue_of stations site ≡ queue site flight) → (other : Site) → queue_of (taken_from number b stations) other ≡ queue other (without b.place flight number)
     queue_taken flight same other = queue_less_at other ∙ each (same_place b.place other) refl
       where
@@ -255,7 +256,7 @@ module _ {T : Type 0} where
             ∙ subst (λ (o : Site). less (queue o flight) number ≡ queue o (without b.place flight number)) (place_same b.place other e) (sym (queue_less b.place flight number))
         each false e = same other ∙ sym (queue_other b.place other (λ p f. ap (λ (q : Site). same_place q other) (place_same p b.place f) ∙ e) flight number)
 
-    -- held times follow their log when a bundle is taken
+    -- if the held times agree with their log, they still do after a take
     pub held_taken : (held : List (HeldTime T)) → ((m j : ℕ) → (lot_of stations m j).held ≡ held_at m j held) → (m j : ℕ) → (lot_of (taken_from number b stations) m j).held ≡ held_at m j (held ++ held_entries b.place.node b.place.worker b.stamp)
     held_taken held same m j =
         held_of stations b.place.node b.place.worker (without_load_at b.place.port number b.stamp) within staffed m j
@@ -271,9 +272,9 @@ module _ {T : Type 0} where
         step true e false f = same m j ∙ (sym (append-nil (held_at m j held)) ∙ ap (λ ts. held_at m j held ++ ts) (sym (held_unmarked m j b.place.node b.place.worker b.stamp (ap₂ (λ x y. x && y) (same_either_way b.place.node m ∙ e) (same_either_way b.place.worker j ∙ f)))))
         step false e c f = same m j ∙ (sym (append-nil (held_at m j held)) ∙ ap (λ ts. held_at m j held ++ ts) (sym (held_unmarked m j b.place.node b.place.worker b.stamp (ap (λ x. x && eqb b.place.worker j) (same_either_way b.place.node m ∙ e)))))
 
-  -- ---- other times held
+  -- ---- what is held is replaced
 
-  -- what was held at the place itself is gone
+  -- after a worker's times at a node are dropped from the log, it holds none there
   held_gone : (n k : ℕ) (ms : List (HeldTime T)) → held_at n k (filter (λ m. not (is_held_by n k m)) ms) ≡ []
   held_gone n k [] = refl
   held_gone n k (m ∷ ms) = step (is_held_by n k m) refl (held_gone n k ms)
@@ -283,7 +284,7 @@ module _ {T : Type 0} where
       step false e h = rw e h
 
   module _ (stations : List (List (Lot T))) (n k : ℕ) (ts : List T) (within : n < length stations) (staffed : k < length (get_or stations n [])) where
-    -- holding other times changes no queue
+    -- replacing what is held changes no queue
     pub queue_held : (other : Site) → queue_of (held_from n k ts stations) other ≡ queue_of stations other
     queue_held other =
         ap (λ lot. map (bundle_at other) (loads_at other.port lot)) (lot_at stations n k (λ lot. record lot { held = ts }) within staffed other.node other.worker)
@@ -299,7 +300,7 @@ module _ {T : Type 0} where
         step true e false f port = refl
         step false e b f port = refl
 
-    -- held times follow their log when a worker gives
+    -- if the held times agree with their log, they still do after a give
     pub held_instead : (held : List (HeldTime T)) → ((m j : ℕ) → (lot_of stations m j).held ≡ held_at m j held) → (m j : ℕ)
         → (lot_of (held_from n k ts stations) m j).held ≡ held_at m j (held_entries n k ts ++ filter (λ x. not (is_held_by n k x)) held)
     held_instead held same m j =

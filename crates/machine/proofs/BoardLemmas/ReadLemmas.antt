@@ -1,4 +1,4 @@
--- What is read on a board is the query on what the history fed.
+-- What is read on a board is the query on what each history fed that the board may stand for.
 use Rattle.std.proofs.Common.{arith, get_or, subst, ◌≡◌, ℕ, ◌<◌, Bool, true, false, cond, not, List, [], ◌∷◌, length, sym, refl, ap, ap₂, ◌∙◌, None, map, IsTrue}
 use Rattle.std.specs.List.{filter, list_all}
 use Rattle.std.specs.Result.{IfOk, OnOk}
@@ -30,7 +30,7 @@ use Rattle.machine.proofs.HistoryLemmas.PassedLemmas.{passed_down}
 use Rattle.machine.proofs.HistoryLemmas.HeadlineLemmas.{headline_lem, differences_lem}
 use Rattle.machine.proofs.BoardLemmas.FrontLemmas.{front_stands}
 
--- the view that is read on a board is the view of its number
+-- the view that the code reads is the view of its number
 pub view_read : {T : Type 0} (b : BoardState T) {v : BoardState T} (e : v ≡ b) (n k : ℕ) → k ≡ n → n < length b.dataflow.nodes → (x : ViewState T) → IsBoard v → x ≡ get_or v.views k x → x ≡ get_or b.views n no_view
 view_read {T} b {v} e n k s l x is h =
     let long : length v.dataflow.nodes ≡ length b.dataflow.nodes = ap (λ (z : BoardState T). length z.dataflow.nodes) e in
@@ -42,7 +42,7 @@ unrefused true h = refl
 unrefused false h = absurd (false≢true (sym h))
 
 module _ {T : Type 0} (below : T → T → Bool) (minimum : T) (o : PartialOrderLaws below) where
-  -- a read that is answered is the query, for every history the board stands for
+  -- a read that is answered is the query, for every history that the board may stand for
   pub read_answers : (r : Result (List Entry) Refusal) (b : BoardState T) (h : List (Event T)) (v : ℕ) (t : T) → IsBoard b → v < length b.dataflow.nodes → IsTrue (is_output (node_of b.dataflow v))
       → OnOk r (read_refusal_on below b v t ≡ None) → IfOk r (λ bag. Alike bag (as_of below t (captured_of b v))) → Stands below minimum b h
       → IfOk r (λ bag. Alike bag (query_at below b.dataflow.nodes (changes_in (state_after below minimum b.dataflow h)) v t))
@@ -66,7 +66,7 @@ module _ {T : Type 0} (below : T → T → Bool) (minimum : T) (o : PartialOrder
       (ap (λ f. list_all f us) (λ i u. not (sym (e u.time) i)) ∙ passed)
       (λ t f row. sums t (ap not (e t) ∙ f) row ∙ (s.captured v l m).sums t (or_left (is_from_start below minimum ((state_after below minimum b.dataflow h).since v)) _ start) row)
 
-  -- changes that are answered are the list of differences
+  -- changes that are answered are the list of differences, for every history that the board may stand for
   pub changes_answers : {V : Type 0} (r : Result V Refusal) (list : V → List (Update T)) (b : BoardState T) (h : List (Event T)) (v : ℕ) (cmp : T → T → Ordering) → IsBoard b → v < length b.dataflow.nodes → IsTrue (is_output (node_of b.dataflow v))
       → IfOk r (λ us. IsConsolidated cmp (list us)) → IfOk r (λ us. IsTrue (list_all (λ u. has_passed below (front below b v) u.time) (list us)))
       → IfOk r (λ us. (t : T) → IsTrue (has_passed below (front below b v) t) → Alike (as_of below t (list us)) (as_of below t (captured_of b v)))
@@ -74,7 +74,7 @@ module _ {T : Type 0} (below : T → T → Bool) (minimum : T) (o : PartialOrder
   changes_answers (Ok us) list b h v cmp p l m consolidated passed sums accepted s = changes_answer (list us) b h v cmp p l m consolidated passed sums accepted s
   changes_answers (Err e) list b h v cmp p l m consolidated passed sums accepted s = tt
 
-  -- the sum at a passed time is that of the updates at passed times
+  -- at a passed time, the sum is that of the updates at passed times
   module _ (F : List T) where
     passed_filter : (t : T) → has_passed below F t ≡ true → (us : List (Update T)) → filter (λ u. below u.time t) (filter (λ u. has_passed below F u.time) us) ≡ filter (λ u. below u.time t) us
     passed_filter t e [] = refl
@@ -87,11 +87,11 @@ module _ {T : Type 0} (below : T → T → Bool) (minimum : T) (o : PartialOrder
         step false f true g ih = absurd (false≢true (sym f ∙ is_passed (is_beyond below F u.time) (passed_down below o F u.time t g (not_beyond (is_beyond below F t) e))))
         step false f false g ih = ih
 
-    -- leaving out what is not passed changes no sum at a passed time
+    -- leaving out the updates at times that are not passed changes no sum at a passed time
     pub passed_sums : (us : List (Update T)) (t : T) → has_passed below F t ≡ true → as_of below t (filter (λ u. has_passed below F u.time) us) ≡ as_of below t us
     passed_sums us t e = ap (λ z. map entry z) (passed_filter t e us)
 
-    -- what is kept is passed
+    -- the updates that are kept are at passed times
     pub all_passed : (us : List (Update T)) → list_all (λ u. has_passed below F u.time) (filter (λ u. has_passed below F u.time) us) ≡ true
     all_passed [] = refl
     all_passed (u ∷ us) = step (has_passed below F u.time) refl (all_passed us)

@@ -1,4 +1,4 @@
--- The edges and the columns that a routing keeps.
+-- The edges and the columns that a routing keeps: how the tables are built, and what they answer.
 use Rattle.std.proofs.Common.{◌≡◌, ℕ, zero, suc, ◌+◌, ◌<◌, ◌≤◌, Bool, true, false, cond, List, [], ◌∷◌, ◌++◌, map, take, length, get_or, sym, refl, ap, ap₂, ◌∙◌, subst, Option, arith, inl, inr, ⊎_elim}
 use Rattle.std.specs.List.{filter}
 use Rattle.std.proofs.lemmas.Bool.{cases_lt}
@@ -16,14 +16,14 @@ use Rattle.machine.specs.Histories.Dataflows.{Dataflow, node_of}
 use Rattle.machine.specs.Boards.Routings.{IsRouting}
 use Rattle.machine.proofs.HistoryLemmas.CuttingLemmas.{source_there}
 
--- ---- the numbers below one
+-- ---- the numbers below a number
 
 -- there are n numbers below n
 pub numbers_long : (n : ℕ) → length (numbers_below n) ≡ n
 numbers_long zero = refl
 numbers_long (suc n) = let e = numbers_long n in length-append (numbers_below n) (n ∷ []) ∙ omega (arith, e)
 
--- the number at a place is the place
+-- the number at a position is the position
 pub number_at : (n k d : ℕ) → k < n → get_or (numbers_below n) k d ≡ k
 number_at zero k d l = absurd (omega (arith, l))
 number_at (suc n) k d l =
@@ -34,7 +34,7 @@ number_at (suc n) k d l =
     ap (λ j. get_or (numbers_below n ++ n ∷ []) j d) same ∙ (get_or_at (numbers_below n) n [] d n (numbers_long n) ∙ sym same))
     (cases_lt k n)
 
--- ---- as they are found
+-- ---- how the tables are built
 
 -- the step that adds a node's columns
 pub arranged_more : (nodes : List Node) (old new : List (Option ℕ)) (n m : ℕ) (more : Option ℕ) → n < length nodes → m ≡ n → more ≡ arranged_by (node_at nodes m) → old ≡ map arranged_by (take n nodes) → new ≡ old ++ more ∷ [] → new ≡ map arranged_by (take (n + 1) nodes)
@@ -44,9 +44,9 @@ arranged_more nodes old new n m more l s e k h =
     ∙ (sym (map_push arranged_by (take n nodes) (get_or nodes n (Input 0)))
     ∙ ap (map arranged_by) (sym (take_more nodes n (Input 0) l))))
 
--- ---- as they are asked for
+-- ---- what the tables answer
 
--- an edge of a node leads from it, and to a node that there is
+-- each edge of a node leads from it, and to a node that exists
 pub leading : (nodes : List Node) (n i : ℕ) (edge : Edge) (edges : List Edge) → edges ≡ edges_from nodes n → i < length edges → edge ≡ get_or edges i edge → leads_from nodes n edge ≡ true
 leading nodes n i edge edges s l e = (filter_has (leads_from nodes n) _ edge (subst (Among edge) s (at edges i edge l e))).1
   where
@@ -66,7 +66,7 @@ none_passes {X} test (x ∷ xs) h = step (test x) refl (none_passes test xs h)
     step true e ih = absurd (h x e)
     step false e ih = ih
 
--- what is kept for a dataflow, as a function finds it: the fields are those of v, which is p
+-- A routing as a function sees it: its fields are those of v, which is p
 module _ (v p : Dataflow) (same : v ≡ p) (outgoing : List (List Edge)) (columns : List (Option ℕ)) (kept : IsRouting v outgoing columns) where
   abbrev r : IsRouting p outgoing columns
   r = subst (λ q. IsRouting q outgoing columns) same kept
@@ -86,7 +86,7 @@ module _ (v p : Dataflow) (same : v ≡ p) (outgoing : List (List Edge)) (column
       ∙ (get_or-map (edges_from p.nodes) (numbers_below (length p.nodes)) m 0 here (subst (λ z. m < z) (sym (numbers_long (length p.nodes))) k)
       ∙ ap (edges_from p.nodes) (number_at (length p.nodes) m 0 k ∙ s)))
 
-  -- none lead from a number that is no node's
+  -- no edges lead from a number that is no node's
   pub none_there : (n m : ℕ) → m ≡ n → length outgoing ≤ m → [] ≡ edges_from p.nodes n
   none_there n m same l =
       sym (none_passes (leads_from p.nodes n) _ (λ edge h.
@@ -97,11 +97,11 @@ module _ (v p : Dataflow) (same : v ≡ p) (outgoing : List (List Edge)) (column
 
   -- the columns that are kept for the reader of an edge
   module _ (n m : ℕ) (edge : Edge) (leads : leads_from p.nodes n edge ≡ true) (s : m ≡ edge.reader) where
-    -- the reader of an edge has a place in the table
+    -- the reader of an edge has an entry in the table
     pub column_within : m < length columns
     column_within = let k = reader_there p n edge leads in let long = columns_long in omega (arith, k, long, s)
 
-    -- and the table has its columns
+    -- the entry of an edge's reader is the number of columns by which it is arranged
     pub column_there : (c : Option ℕ) → c ≡ get_or columns m c → arranged_by (node_of p edge.reader) ≡ c
     column_there c e = sym (
         e

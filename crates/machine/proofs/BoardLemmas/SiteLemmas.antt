@@ -1,4 +1,5 @@
--- Lists whose entries lie at places: what follows where two of them are alike at each place, in whatever order.
+-- Lists whose entries lie at places, and what follows if two of them are alike at each place. A board and a history
+-- keep the places in different orders, so this is how they are compared.
 use Rattle.std.proofs.Common.{◌≡◌, ℕ, zero, suc, Bool, true, false, cond, not, ◌&&◌, ◌||◌, List, [], ◌∷◌, ◌++◌, sym, refl, ap, ap₂, ◌∙◌, subst, eqb, ◌⊎◌, inl, inr, ⊎_elim}
 use Rattle.std.specs.List.{flat_map, filter, list_any, list_all}
 use Rattle.std.proofs.lemmas.Bool.{and_parts, and_from, or_left, or_right, eqb-true, eq-eqb, false≢true, true≢false}
@@ -13,7 +14,7 @@ use Rattle.machine.specs.Histories.States.{same_place, queue, held_at, open_at}
 use Rattle.machine.specs.Histories.{without, is_held_by, open_entries}
 use Rattle.machine.proofs.HistoryLemmas.FlowLemmas.{place_same}
 
--- one that passes is among them
+-- if some element passes a test, there is an element of the list that passes
 pub any_among : {A : Type 0} (f : A → Bool) (xs : List A) → list_any f xs ≡ true → (x : A) × Among x xs × (f x ≡ true)
 any_among {A} f [] e = absurd (false≢true e)
 any_among {A} f (x ∷ xs) e = step (f x) refl e (any_among f xs)
@@ -26,7 +27,7 @@ pub among_any : {A : Type 0} (f : A → Bool) (xs : List A) (x : A) → Among x 
 among_any f [] x a e = absurd a
 among_any f (y ∷ xs) x a e = ⊎_elim (λ s. or_left (f y) (list_any f xs) (ap f s ∙ e)) (λ b. or_right (f y) (list_any f xs) (among_any f xs x b e)) a
 
--- entries with a place and a value
+-- Entries with a place and a value
 module _ {A K V : Type 0} (is : A → K → Bool) (at_own : A → K) (value : A → V) (own : (x : A) → is x (at_own x) ≡ true) where
   abbrev at : K → List A → List V
   at k xs = flat_map (λ x. cond (is x k) (value x ∷ []) []) xs
@@ -50,7 +51,7 @@ module _ {A K V : Type 0} (is : A → K → Bool) (at_own : A → K) (value : A 
       step true e b rest = ⊎_elim (λ s. (y, inl refl, e, s)) (λ m. more (rest m)) b
       step false e b rest = more (rest b)
 
-  -- each entry of the one list has its like in the other
+  -- each entry of one list has its like in the other
   like_in : (xs ys : List A) → ((k : K) → at k xs ≡ at k ys) → (x : A) → Among x xs → (y : A) × Among y ys × (is y (at_own x) ≡ true) × (value y ≡ value x)
   like_in xs ys same x a = entry_at (at_own x) (value x) ys (subst (λ vs. Among (value x) vs) (same (at_own x)) (value_at x xs a))
 
@@ -67,12 +68,12 @@ module _ {A K V : Type 0} (is : A → K → Bool) (at_own : A → K) (value : A 
         (λ e. all_from f ys (λ y a. let s = like_in ys xs (λ k. sym (same k)) y a in sym (like y s.0 s.2 s.3) ∙ all_at f xs s.0 e s.1))
         (λ e. all_from f xs (λ x a. let s = like_in xs ys same x a in sym (like x s.0 s.2 s.3) ∙ all_at f ys s.0 e s.1))
 
-  -- where nothing is at any place there is nothing
+  -- if nothing is at any place, the list is empty
   pub nothing_at : (xs : List A) → ((k : K) → at k xs ≡ []) → xs ≡ []
   nothing_at [] e = refl
   nothing_at (x ∷ xs) e = absurd (subst (λ vs. Among (value x) vs) (e (at_own x)) (value_at x (x ∷ xs) (inl refl)))
 
-  -- without the entries of one place, the same at each other
+  -- after the entries of one place are dropped, the lists are still alike at each place
   at_others : (k gone : K) → ((x : A) → is x k ≡ is x gone) ⊎ ((x : A) → is x k ≡ true → is x gone ≡ false) → (xs ys : List A) → at k xs ≡ at k ys → at k (filter (λ x. not (is x gone)) xs) ≡ at k (filter (λ x. not (is x gone)) ys)
   at_others k gone which xs ys e =
       ⊎_elim
@@ -97,9 +98,9 @@ module _ {A K V : Type 0} (is : A → K → Bool) (at_own : A → K) (value : A 
           step true g false f h = h
           step false g d f h = rw f (ap (λ vs. cond d (value z ∷ []) [] ++ vs) h)
 
--- Bundles
+-- ---- bundles
 
--- a queue without the one of a number
+-- a list without the element of a number
 abbrev pub less : {A : Type 0} → List A → ℕ → List A
 less [] n = []
 less (x ∷ xs) zero = xs
@@ -116,11 +117,11 @@ module _ {T : Type 0} where
   abbrev pub AreQueued : List (Bundle T) → List (Bundle T) → Type 0
   AreQueued xs ys = (site : Site) → queue site xs ≡ queue site ys
 
-  -- bundles that wait alike are tested alike
+  -- lists of bundles that are alike at each place pass the same tests
   pub queued_any : (f : Bundle T → Bool) (xs ys : List (Bundle T)) → AreQueued xs ys → list_any f xs ≡ list_any f ys
   queued_any f xs ys same = any_like (λ b. same_place b.place) (λ b. b.place) (λ b. b) one_site f (λ x y e v. ap f v) xs ys same
 
-  -- alike to nothing is nothing
+  -- a list that is alike to the empty list is empty
   pub none_queued : (xs : List (Bundle T)) → AreQueued xs [] → xs ≡ []
   none_queued xs e = nothing_at (λ b. same_place b.place) (λ b. b.place) (λ b. b) one_site xs e
 
@@ -130,7 +131,7 @@ module _ {T : Type 0} where
       ∙ (ap (λ q. q ++ queue site more) (same site)
       ∙ sym (flat_map-append (λ b. cond (same_place b.place site) (b ∷ []) []) ys more))
 
-  -- a take from the log is a take from the queue
+  -- a take from the log is a take from the place's queue
   pub queue_less : (site : Site) (xs : List (Bundle T)) (n : ℕ) → queue site (without site xs n) ≡ less (queue site xs) n
   queue_less site [] n = refl
   queue_less site (x ∷ xs) zero = step (same_place x.place site) refl (queue_less site xs zero)
@@ -169,7 +170,7 @@ module _ {T : Type 0} where
           apart : (p : Site) → same_place p site ≡ true → same_place p other ≡ false
           apart p f = ap (λ q. same_place q other) (place_same p site f) ∙ e
 
-  -- HeldTime times
+  -- ---- held times
 
   -- two lists of held times are alike at each node and worker
   abbrev pub AreHeld : List (HeldTime T) → List (HeldTime T) → Type 0
@@ -185,15 +186,15 @@ module _ {T : Type 0} where
     like_held : (x y : HeldTime T) → holds_at y (x.node, x.worker) ≡ true → y.time ≡ x.time → f y.node y.time ≡ f x.node x.time
     like_held x y e v = ap₂ f (eqb-true y.node x.node (and_parts (eqb y.node x.node) (eqb y.worker x.worker) e).0) v
 
-    -- so some time passes a test in both or in neither
+    -- some time passes a test in both lists or in neither
     pub held_any_like : list_any (λ m. f m.node m.time) xs ≡ list_any (λ m. f m.node m.time) ys
     held_any_like = any_like holds_at (λ m. (m.node, m.worker)) (λ m. m.time) one_holder (λ m. f m.node m.time) like_held xs ys (λ at. same at.0 at.1)
 
-    -- so all times pass a test in both or in neither
+    -- all times pass a test in both lists or not in both
     pub held_all_like : list_all (λ m. f m.node m.time) xs ≡ list_all (λ m. f m.node m.time) ys
     held_all_like = all_like holds_at (λ m. (m.node, m.worker)) (λ m. m.time) one_holder (λ m. f m.node m.time) like_held xs ys (λ at. same at.0 at.1)
 
-  -- alike to nothing is nothing
+  -- a list that is alike to the empty list is empty
   pub none_held : (xs : List (HeldTime T)) → AreHeld xs [] → xs ≡ []
   none_held xs e = nothing_at holds_at (λ m. (m.node, m.worker)) (λ m. m.time) one_holder xs (λ at. e at.0 at.1)
 
@@ -221,13 +222,13 @@ module _ {T : Type 0} where
           no_and false = refl
       step false e d f = inr (λ x h. rw (eqb-true x.node m (and_parts (eqb x.node m) (eqb x.worker j) h).0, e) refl)
 
-  -- OpenTime times
+  -- ---- open times
 
   -- two lists of open times are alike at each input
   abbrev pub AreOpen : List (OpenTime T) → List (OpenTime T) → Type 0
   AreOpen xs ys = (i : ℕ) → open_at i xs ≡ open_at i ys
 
-  -- so some time passes a test in both or in neither
+  -- some time passes a test in both lists or in neither
   pub open_any_like : (f : ℕ → T → Bool) (xs ys : List (OpenTime T)) → AreOpen xs ys → list_any (λ o. f o.input o.time) xs ≡ list_any (λ o. f o.input o.time) ys
   open_any_like f xs ys same = any_like (λ o. eqb o.input) (λ o. o.input) (λ o. o.time) (λ o. eq-eqb o.input o.input refl) (λ o. f o.input o.time) (λ x y e v. ap₂ f (eqb-true y.input x.input e) v) xs ys same
 

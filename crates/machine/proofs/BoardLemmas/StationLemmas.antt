@@ -1,4 +1,4 @@
--- Where a queue, a row or all stations are written: how what a contract sees of them changes.
+-- How what a contract sees of the stations changes when a queue, a row or all stations are written.
 use Rattle.std.proofs.Common.{◌≡◌, ℕ, zero, suc, ◌<◌, List, [], ◌∷◌, map, length, get_or, set, slice_get, Some, Result, Ok, Err, refl, sym, ap, subst, ◌∙◌, arith}
 use Rattle.std.specs.List.{remove}
 use Rattle.std.specs.Option.{IfSome, option_map}
@@ -16,7 +16,7 @@ pub on_err_plain : {T E P : Type 0} (r : Result T E) → P → OnErr r P
 on_err_plain (Ok x) p = tt
 on_err_plain (Err y) p = p
 
--- as map-set
+-- removing an element and then mapping is mapping and then removing
 map_remove : {X Y : Type 0} (f : X → Y) (xs : List X) (i : ℕ) → map f (remove xs i) ≡ remove (map f xs) i
 map_remove f [] zero = refl
 map_remove f [] (suc i) = refl
@@ -27,11 +27,11 @@ map_remove f (x ∷ xs) (suc i) = ap (λ ys. f x ∷ ys) (map_remove f xs i)
 pub seen_within : {X Y : Type 0} (f : X → Y) (xs now : List X) → xs ≡ now → (i n : ℕ) → i ≡ n → n < length (map f now) → i < length xs
 seen_within f xs now v i n k l = let long = length-map now f ∙ ap length (sym v) in omega (arith, long, k, l)
 
--- The list `xs` is written at `i`: `new` takes the place of `old`. A contract calls the list `now` and the number `n`, and
--- sees each element by `f`.
+-- The list `xs` is written at `i`: `new` replaces `old`. A contract calls the list `now` and the number `n`, and sees
+-- each element by `f`.
 module _ {X : Type 0} (xs now : List X) (v : xs ≡ now) (i n : ℕ) (k : i ≡ n) (old new : X) (l : i < length xs) (e : old ≡ get_or xs i old) where
   module _ {Y : Type 0} (f : X → Y) where
-    -- the element is seen as another
+    -- if the new element is seen as another, so is the list
     pub one_put : (g : Y → Y) (d : Y) → f new ≡ g (f old) → map f (set xs i new) ≡ set (map f now) n (g (get_or (map f now) n d))
     one_put g d h =
         map-set f xs i new
@@ -39,19 +39,19 @@ module _ {X : Type 0} (xs now : List X) (v : xs ≡ now) (i n : ℕ) (k : i ≡ 
         ∙ (ap (λ ys. set (map f ys) i (g (get_or (map f ys) i d))) v
         ∙ ap (λ j. set (map f now) j (g (get_or (map f now) j d))) k))
 
-    -- or as it was
+    -- if the new element is seen as before, so is the list
     pub none_put : f new ≡ f old → map f (set xs i new) ≡ map f now
     none_put h = map-set f xs i new ∙ (ap (set (map f xs) i) (h ∙ (ap f e ∙ sym (get_or-map f xs i old (f old) l))) ∙ (set-get_or (map f xs) i (f old) ∙ ap (map f) v))
 
-    -- it is seen where it stood
+    -- the old element is what was seen at its number
     pub one_seen : (d : Y) → f old ≡ get_or (map f now) n d
     one_seen d = ap f e ∙ (sym (get_or-map f xs i old d l) ∙ (ap (λ ys. get_or (map f ys) i d) v ∙ ap (λ j. get_or (map f now) j d) k))
 
-    -- the element is taken out of what is seen, if it was seen as before
+    -- removing the element removes what was seen, if it was seen as before
     pub one_gone : f new ≡ f old → map f (remove (set xs i new) i) ≡ remove (map f now) n
     one_gone h = map_remove f (set xs i new) i ∙ (ap (λ ys. remove ys i) (none_put h) ∙ ap (remove (map f now)) k)
 
-    -- what is read there, once written, is what was seen
+    -- reading the written element is reading what was seen
     pub one_read : (x : X) → f new ≡ f old → x ≡ get_or (set xs i new) i x → slice_get (map f now) n ≡ Some (f x)
     one_read x h r =
         ap (λ ys. slice_get (map f ys) n) (sym v)
@@ -59,7 +59,7 @@ module _ {X : Type 0} (xs now : List X) (v : xs ≡ now) (i n : ℕ) (k : i ≡ 
         ∙ (slice_get-get_or (map f xs) i (f old) (omega (arith, length-map xs f, l))
         ∙ ap Some (get_or-map f xs i old (f old) l ∙ (ap f (sym e) ∙ (sym h ∙ ap f (sym (r ∙ get_or-set_same xs i new x l)))))))
 
-  -- a property of each element, by number, is kept if the element that is written keeps it
+  -- a property of each element, by number, is kept if the written element keeps it
   pub each_kept : (P : X → Type 0) (j : ℕ) → (n ≡ j → P old → P new) → IfSome (slice_get now j) P → IfSome (slice_get (set xs i new) j) P
   each_kept P j step h = go xs i e j (λ s. step (sym k ∙ s)) (subst (λ ys. IfSome (slice_get ys j) P) (sym v) h)
     where
@@ -70,7 +70,7 @@ module _ {X : Type 0} (xs now : List X) (v : xs ≡ now) (i n : ℕ) (k : i ≡ 
       go (y ∷ ys) (suc m) e zero step h = h
       go (y ∷ ys) (suc m) e (suc j) step h = go ys m e j (λ s. step (ap suc s)) h
 
-  -- the same of the element or the default that a number reads
+  -- a property of the element that a number reads, or of the default, is kept if the written element keeps it
   pub one_kept : (P : X → Type 0) (d : X) (j : ℕ) → (n ≡ j → P old → P new) → P (get_or now j d) → P (get_or (set xs i new) j d)
   one_kept P d j step h = go xs i e j (λ s. step (sym k ∙ s)) (subst (λ ys. P (get_or ys j d)) (sym v) h)
     where
@@ -81,7 +81,7 @@ module _ {X : Type 0} (xs now : List X) (v : xs ≡ now) (i n : ℕ) (k : i ≡ 
       go (y ∷ ys) (suc m) e zero step h = h
       go (y ∷ ys) (suc m) e (suc j) step h = go ys m e j (λ s. step (ap suc s)) h
 
-  -- what held of the element that is written becomes what holds of the new one
+  -- if a property of the old element gives one of the new element, the list has the new one at the number
   pub one_turned : (P Q : X → Type 0) → (P old → Q new) → IfSome (slice_get now n) P → IfSome (slice_get (set xs i new) n) Q
   one_turned P Q step h = subst (λ j. IfSome (slice_get (set xs i new) j) Q) k (go xs i e (subst (λ j. IfSome (slice_get xs j) P) (sym k) (subst (λ ys. IfSome (slice_get ys n) P) (sym v) h)))
     where
@@ -90,7 +90,7 @@ module _ {X : Type 0} (xs now : List X) (v : xs ≡ now) (i n : ℕ) (k : i ≡ 
       go (y ∷ ys) zero e h = step (subst P (sym e) h)
       go (y ∷ ys) (suc m) e h = go ys m e h
 
-  -- a fact about the written element, from the fact about the old one
+  -- as `one_turned`, for what a number reads or the default
   pub new_turned : (P Q : X → Type 0) (d : X) → (P old → Q new) → P (get_or now n d) → Q (get_or (set xs i new) n d)
   new_turned P Q d step h = subst (λ j. Q (get_or (set xs i new) j d)) k (go xs i l e (subst (λ j. P (get_or xs j d)) (sym k) (subst (λ ys. P (get_or ys n d)) (sym v) h)))
     where
@@ -110,12 +110,12 @@ module _ {X : Type 0} (xs now : List X) (v : xs ≡ now) (i n : ℕ) (k : i ≡ 
       go (y ∷ ys) (suc m) zero k = absurd (omega (arith, k))
       go (y ∷ ys) (suc m) (suc j) k = go ys m j (omega (arith, k))
 
-  -- a fact about the written element
+  -- as `one_there`, for what a number reads or the default
   pub new_there : (Q : X → Type 0) (d : X) → Q new → Q (get_or (set xs i new) n d)
   new_there Q d h = subst (λ j. Q (get_or (set xs i new) j d)) k (subst Q (sym (get_or-set_same xs i new d l)) h)
 
 module _ {T : Type 0} where
-  -- if something waits, its worker is there, and its node
+  -- if something waits for a worker, the worker exists
   pub worker_within : (port worker number : ℕ) (row : List (Lot T)) → number < length (loads_at port (get_or row worker no_lot)) → worker < length row
   worker_within zero worker number [] l = absurd (omega (arith, l))
   worker_within (suc zero) worker number [] l = absurd (omega (arith, l))
@@ -128,13 +128,13 @@ module _ {T : Type 0} where
   node_within (row ∷ rows) zero worker l = omega arith
   node_within (row ∷ rows) (suc node) worker l = let below = node_within rows node worker l in omega (arith, below)
 
-  -- a bundle that waits is among the loads of its row
+  -- a bundle that waits at a place is among the loads of the place's row
   pub waits_in_row : (rows : List (List (Lot T))) (site : Site) (number : ℕ) (row : List (Lot T)) → row ≡ get_or rows site.node [] → number < length (queue_of rows site) → number < length (loads_at site.port (get_or row site.worker no_lot))
   waits_in_row rows site number row e l =
       subst (λ (lots : List (Lot T)). number < length (loads_at site.port (get_or lots site.worker no_lot))) (sym e)
       (subst (λ n. number < n) (length-map (loads_at site.port (lot_of rows site.node site.worker)) (bundle_at site)) l)
 
-  -- where something waits there is a node
+  -- if something waits at a place, its node exists
   pub waits_at_node : (rows : List (List (Lot T))) (site : Site) (number : ℕ) → number < length (queue_of rows site) → site.node < length rows
   waits_at_node rows site number l = node_within rows site.node site.worker (worker_within site.port site.worker number (get_or rows site.node []) (waits_in_row rows site number (get_or rows site.node []) refl l))
 
@@ -147,11 +147,11 @@ module _ {T : Type 0} where
 
   -- ---- a list of bundles, each put at its place
 
-  -- the rest is put from where the first one was put
+  -- the other bundles are put after the first one was put
   pub put_next : (all : List (Bundle T)) (b : Bundle T) (rest : List (Bundle T)) (old new end : List (List (Lot T))) → all ≡ b ∷ rest → new ≡ put_at b.place (load_in b) old → put_all all old ≡ end → put_all rest new ≡ end
   put_next all b rest old new end e put h = ap (put_all rest) put ∙ (ap (λ (bs : List (Bundle T)). put_all bs old) (sym e) ∙ h)
 
-  -- none is left
+  -- if no bundle is left, the stations are as they are to be
   pub put_last : (all : List (Bundle T)) (now end : List (List (Lot T))) → length all ≡ 0 → put_all all now ≡ end → now ≡ end
   put_last [] now end e h = h
   put_last (b ∷ bs) now end e h = absurd (omega (arith, e))

@@ -1,4 +1,4 @@
--- What the loops of `survey.rt` read at the stations: what they have found so far, against what a contract sees of all.
+-- What the loops of `survey.rt` have found so far at the stations, against what a contract sees of all stations.
 use Rattle.std.proofs.Common.{◌≡◌, ℕ, zero, suc, ◌+◌, ◌<◌, ◌≤◌, Bool, true, false, ◌&&◌, List, [], ◌∷◌, ◌++◌, map, length, get_or, take, drop, sym, refl, ap, ◌∙◌, eqb, arith}
 use Rattle.std.specs.List.{flat_map, list_any, list_all}
 use Rattle.std.proofs.lemmas.List.{at_drop_all, drop_more}
@@ -13,18 +13,18 @@ use Rattle.machine.proofs.BoardLemmas.FoundLemmas.{found}
 use Rattle.machine.proofs.BoardLemmas.PutLemmas.{put_all}
 use Rattle.machine.proofs.BoardLemmas.LotLemmas.{any_flat, none_anywhere, apart}
 
--- ---- loops that go over a list until they find what they look for
+-- ---- loops that go over a list until they find an element that passes a test
 
 module _ {X : Type 0} (p : X → Bool) (xs : List X) (i : ℕ) where
-  -- all was read, and none passes
+  -- all elements were read, and none passes
   not_found : length xs ≤ i → list_any p (drop i xs) ≡ list_any p xs → false ≡ list_any p xs
   not_found l so_far = sym (at_drop_all (list_any p) xs i l) ∙ so_far
 
-  -- all was read, and each passes
+  -- all elements were read, and each passes
   all_passed : length xs ≤ i → list_all p (drop i xs) ≡ list_all p xs → true ≡ list_all p xs
   all_passed l so_far = sym (at_drop_all (list_all p) xs i l) ∙ so_far
 
-  -- the one that is read does not pass
+  -- if the element that was read does not pass, not all do
   not_passed : (x : X) → i < length xs → x ≡ get_or xs i x → list_all p (drop i xs) ≡ list_all p xs → p x ≡ false → false ≡ list_all p xs
   not_passed x l e so_far h =
       let here : list_all p (drop i xs) ≡ (p x && list_all p (drop (i + 1) xs)) = ap (list_all p) (drop_more xs i x l) ∙ ap (λ y. p y && list_all p (drop (i + 1) xs)) (sym e) in
@@ -39,12 +39,12 @@ module _ {T : Type 0} where
   lots_at (row ∷ stations) zero = refl
   lots_at (row ∷ stations) (suc n) = lots_at stations n
 
-  -- what the stations of a node give is what its lots give
+  -- what the stations of a node have is what its lots have
   given_at : (f : Lot T → List T) (stations : List (List (Station T))) (n : ℕ) (row : List (Station T)) → row ≡ get_or stations n [] → flat_map (λ s. f (lot s)) row ≡ flat_map f (get_or (lots stations) n [])
   given_at f stations n row e = sym (flat_map-map f lot row) ∙ ap (flat_map f) (ap (map lot) e ∙ sym (lots_at stations n))
 
   module _ (below : T → T → Bool) (t : T) where
-    -- a time at or before one is found load by load
+    -- whether a load's stamp has an element at or before a time, load by load
     module _ (parcels : List (Parcel T)) (loads : List (Load T)) (same : map load_of parcels ≡ loads) (i : ℕ) (so_far : list_any (λ p. is_beyond below (load_of p).stamp t) (drop i parcels) ≡ list_any (λ p. is_beyond below (load_of p).stamp t) parcels) where
       load_by_load : list_any (λ p. is_beyond below (load_of p).stamp t) parcels ≡ is_beyond below (flat_map (λ load. load.stamp) loads) t
       load_by_load =
@@ -57,49 +57,49 @@ module _ {T : Type 0} where
       pub no_load_reaches : length parcels ≤ i → false ≡ is_beyond below (flat_map (λ load. load.stamp) loads) t
       no_load_reaches l = not_found (λ p. is_beyond below (load_of p).stamp t) parcels i l so_far ∙ load_by_load
 
-    -- and so it is station by station
+    -- the same question, station by station
     module _ (f : Lot T → List T) (stations : List (List (Station T))) (n : ℕ) (row : List (Station T)) (e : row ≡ get_or stations n []) (i : ℕ) (so_far : list_any (λ s. is_beyond below (f (lot s)) t) (drop i row) ≡ list_any (λ s. is_beyond below (f (lot s)) t) row) where
       one_by_one : list_any (λ s. is_beyond below (f (lot s)) t) row ≡ is_beyond below (flat_map f (get_or (lots stations) n [])) t
       one_by_one = sym (any_flat (λ u. below u t) (λ s. f (lot s)) row) ∙ ap (λ ts. is_beyond below ts t) (given_at f stations n row e)
 
-      -- a station that reaches the time decides the question
+      -- a station that has such a time decides the question
       pub station_reaches : (s : Station T) → i < length row → s ≡ get_or row i s → (b : Bool) → b ≡ is_beyond below (f (lot s)) t → b ≡ true → true ≡ is_beyond below (flat_map f (get_or (lots stations) n [])) t
       station_reaches s l d b r h = found (λ s. is_beyond below (f (lot s)) t) row i s l d so_far (sym r ∙ h) ∙ one_by_one
 
-      -- at the end no station reaches it
+      -- at the end, no station has such a time
       pub no_station_reaches : length row ≤ i → false ≡ is_beyond below (flat_map f (get_or (lots stations) n [])) t
       no_station_reaches l = not_found (λ s. is_beyond below (f (lot s)) t) row i l so_far ∙ one_by_one
 
-  -- once all stations of a node were read, what they gave is what its lots give
+  -- once all stations of a node were read, what was collected is what its lots have
   pub station_by_station : (f : Lot T → List T) (stations : List (List (Station T))) (n : ℕ) (row : List (Station T)) → row ≡ get_or stations n [] → (old mid : List T) (i : ℕ) → length row ≤ i
       → mid ≡ old ++ flat_map (λ s. f (lot s)) (take i row) → mid ≡ old ++ flat_map f (get_or (lots stations) n [])
   station_by_station f stations n row e old mid i l m = put_all (flat_map (λ s. f (lot s))) old mid row i l m ∙ ap (λ ts. old ++ ts) (given_at f stations n row e)
 
-  -- the same of the loads of a queue and their stamps
+  -- once all loads of a queue were read, the stamps that were collected are all of them
   pub stamp_by_stamp : (parcels : List (Parcel T)) (loads : List (Load T)) → map load_of parcels ≡ loads → (old mid : List T) (i : ℕ) → length parcels ≤ i
       → mid ≡ old ++ flat_map (λ p. (load_of p).stamp) (take i parcels) → mid ≡ old ++ flat_map (λ load. load.stamp) loads
   stamp_by_stamp parcels loads same old mid i l m =
       put_all (flat_map (λ p. (load_of p).stamp)) old mid parcels i l m
       ∙ ap (λ ts. old ++ ts) (sym (flat_map-map (λ load. load.stamp) load_of parcels) ∙ ap (flat_map (λ load. load.stamp)) same)
 
-  -- nothing waits at any port if nothing waits at the first two
+  -- nothing waits at any port if nothing waits at the first two, since a node has no others
   pub none_at_ports : (stations : List (List (Lot T))) (n k i : ℕ) → 2 ≤ i → ((port : ℕ) → port < i → queue_of stations (place n port k) ≡ []) → (port : ℕ) → queue_of stations (place n port k) ≡ []
   none_at_ports stations n k i l none zero = none 0 (omega (arith, l))
   none_at_ports stations n k i l none (suc zero) = none 1 (omega (arith, l))
   none_at_ports stations n k i l none (suc (suc port)) = refl
 
--- a list that begins with something is not empty
+-- a list that is not empty stays so with another behind it
 pub first_there : {X : Type 0} (xs ys : List X) → (length xs ≡ 0 → ⊥) → eqb (length xs) 0 ≡ is_none (xs ++ ys)
 first_there [] ys h = absurd (h refl)
 first_there (x ∷ xs) ys h = apart 0 (suc (length xs)) (λ e. h (sym e))
 
 module _ {T : Type 0} where
-  -- whether nothing waits is told station by station
+  -- whether nothing waits, station by station
   module _ (row now : List (Station T)) (same : row ≡ now) (i : ℕ) (so_far : list_all (λ s. is_none ((lot s).left ++ (lot s).right)) (drop i row) ≡ list_all (λ s. is_none ((lot s).left ++ (lot s).right)) row) where
     none_by_one : list_all (λ s. is_none ((lot s).left ++ (lot s).right)) row ≡ list_all (λ l. is_none (l.left ++ l.right)) (map lot now)
     none_by_one = ap (list_all (λ s. is_none ((lot s).left ++ (lot s).right))) same ∙ sym (list_all-map (λ (l : Lot T). is_none (l.left ++ l.right)) lot now)
 
-    -- at the end nothing waits in the row
+    -- at the end, nothing waits in the row
     pub row_none : length row ≤ i → true ≡ list_all (λ l. is_none (l.left ++ l.right)) (map lot now)
     row_none l = all_passed (λ s. is_none ((lot s).left ++ (lot s).right)) row i l so_far ∙ none_by_one
 
@@ -107,7 +107,7 @@ module _ {T : Type 0} where
     pub row_some : (s : Station T) → i < length row → s ≡ get_or row i s → (b : Bool) → b ≡ is_none ((lot s).left ++ (lot s).right) → b ≡ false → false ≡ list_all (λ l. is_none (l.left ++ l.right)) (map lot now)
     row_some s l e b d h = not_passed (λ s. is_none ((lot s).left ++ (lot s).right)) row i s l e so_far (sym d ∙ h) ∙ none_by_one
 
-  -- and node by node
+  -- whether nothing waits, node by node
   module _ (stations now : List (List (Station T))) (same : stations ≡ now) (i : ℕ)
       (so_far : list_all (λ row. list_all (λ l. is_none (l.left ++ l.right)) (map lot row)) (drop i stations) ≡ list_all (λ row. list_all (λ l. is_none (l.left ++ l.right)) (map lot row)) stations) where
     none_by_row : list_all (λ row. list_all (λ l. is_none (l.left ++ l.right)) (map lot row)) stations ≡ is_none (all_bundles (lots now))
@@ -115,7 +115,7 @@ module _ {T : Type 0} where
         ap (list_all (λ row. list_all (λ l. is_none (l.left ++ l.right)) (map lot row))) same
         ∙ sym (none_anywhere (lots now) ∙ list_all-map (list_all (λ (l : Lot T). is_none (l.left ++ l.right))) (map lot) now)
 
-    -- at the end nothing waits anywhere
+    -- at the end, nothing waits anywhere
     pub all_none : length stations ≤ i → true ≡ is_none (all_bundles (lots now))
     all_none l = all_passed (λ row. list_all (λ l. is_none (l.left ++ l.right)) (map lot row)) stations i l so_far ∙ none_by_row
 

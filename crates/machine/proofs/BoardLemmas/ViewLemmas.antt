@@ -1,4 +1,4 @@
--- What a view remembers of its last read.
+-- What a view remembers of its last read, and why a read that goes on from it is right.
 use Rattle.std.proofs.Common.{◌≡◌, ℕ, zero, suc, ◌+◌, ◌<◌, ◌≤◌, Bool, true, false, cond, not, ◌||◌, List, [], ◌∷◌, ◌++◌, length, take, drop, take_all, get_or, map, refl, sym, ap, ap₂, ◌∙◌, subst, ◌⊎◌, inl, inr, ⊎_elim, add-one, arith}
 use Rattle.std.specs.Prelude.{ℤ, ◌+ℤ◌, Option, Some, None, Result, Ok, Err}
 use Rattle.std.specs.Option.{IfSome}
@@ -23,13 +23,13 @@ or_none true = refl
 or_none false = refl
 
 module _ {T : Type 0} where
-  -- where there is an update at a position, it is the list
+  -- an update at a position is the list that is read there
   pub update_there : (us : List (Update T)) (k : ℕ) (u : Update T) → k < length us → u ≡ get_or us k u → update_at us k ≡ u ∷ []
   update_there [] k u l e = absurd (omega (arith, l))
   update_there (v ∷ us) zero u l e = ap (λ w. w ∷ []) (sym e)
   update_there (v ∷ us) (suc k) u l e = update_there us k u (omega (arith, l)) e
 
-  -- one position more
+  -- the first updates with one more are those, and what is at the next position
   take_position : (us : List (Update T)) (k : ℕ) → take (suc k) us ≡ take k us ++ update_at us k
   take_position [] zero = refl
   take_position [] (suc k) = refl
@@ -37,16 +37,16 @@ module _ {T : Type 0} where
   take_position (u ∷ us) (suc k) = ap (λ vs. u ∷ vs) (take_position us k)
 
 module _ {T : Type 0} (below : T → T → Bool) (t : T) where
-  -- an update is later or not, by its time
+  -- whether the update at a position is later is found from its time
   pub later_there : (us : List (Update T)) (k : ℕ) (u : Update T) (b : Bool) → update_at us k ≡ u ∷ [] → below u.time t ≡ b → is_later_at below t us k ≡ not b
   later_there us k u b e h = ap (list_any (λ v. not (below v.time t))) e ∙ or_none (not (below u.time t)) ∙ ap not h
 
-  -- the step past one more update
+  -- the later positions with one more, by whether its update is later
   pub later_more : (us : List (Update T)) (k : ℕ) (b : Bool) → is_later_at below t us k ≡ b → later_below below t us (k + 1) ≡ later_below below t us k ++ cond b (k ∷ []) []
   later_more us k b h =
       rw add-one (filter-append (is_later_at below t us) (numbers_below k) (k ∷ []) ∙ ap (λ c. later_below below t us k ++ cond c (k ∷ []) []) h)
 
--- an implication of tests on lists
+-- A test that implies another
 module _ {X : Type 0} (p q : X → Bool) (weaker : (x : X) → p x ≡ true → q x ≡ true) where
   any_weaker : (xs : List X) → list_any p xs ≡ true → list_any q xs ≡ true
   any_weaker [] h = absurd (true≢false (sym h))
@@ -57,7 +57,7 @@ module _ {X : Type 0} (p q : X → Bool) (weaker : (x : X) → p x ≡ true → 
       step true e false f rest k = absurd (true≢false (sym (weaker x e) ∙ f))
       step false e false f rest k = rest k
 
-  -- what passes the stronger test is found among what passes the weaker
+  -- of the elements that pass the weaker test, those that pass the stronger are all that do
   filter_again : (xs : List X) → filter p (filter q xs) ≡ filter p xs
   filter_again [] = refl
   filter_again (x ∷ xs) = step (p x) refl (q x) refl (filter_again xs)
@@ -69,7 +69,7 @@ module _ {X : Type 0} (p q : X → Bool) (weaker : (x : X) → p x ≡ true → 
       step true e false f ih = absurd (true≢false (sym (weaker x e) ∙ f))
       step false e false f ih = ih
 
--- the numbers below n are below n
+-- the numbers below n are below any m from n on
 small_numbers : (n m : ℕ) → n ≤ m → AllByRecursion (λ k. k < m) (numbers_below n)
 small_numbers zero m l = tt
 small_numbers (suc n) m l = all_both (numbers_below n) (small_numbers n m (omega (arith, l))) (omega (arith, l))
@@ -78,7 +78,7 @@ small_numbers (suc n) m l = all_both (numbers_below n) (small_numbers n m (omega
     all_both [] a h = (h, tt)
     all_both (k ∷ ks) a h = (a.0, all_both ks a.1 h)
 
--- tests that agree below n
+-- two tests that agree below n keep the same numbers
 same_below : (p q : ℕ → Bool) (n : ℕ) → ((k : ℕ) → k < n → p k ≡ q k) → filter p (numbers_below n) ≡ filter q (numbers_below n)
 same_below p q zero h = refl
 same_below p q (suc n) h =
@@ -87,7 +87,7 @@ same_below p q (suc n) h =
     ∙ sym (filter-append q (numbers_below n) (n ∷ []))
 
 module _ {T : Type 0} where
-  -- more updates behind leave those before where they are
+  -- appending updates leaves the earlier positions as they were
   update_before : (us more : List (Update T)) (k : ℕ) → k < length us → update_at (us ++ more) k ≡ update_at us k
   update_before [] more k l = absurd (omega (arith, l))
   update_before (u ∷ us) more zero l = refl
@@ -100,13 +100,13 @@ module _ {T : Type 0} where
   one_or_none (u ∷ us) (suc k) = one_or_none us k
 
 module _ {T : Type 0} (below : T → T → Bool) where
-  -- the positions of a read are those of captured updates
+  -- the positions that a read keeps are those of captured updates
   pub later_within : (us : List (Update T)) (t : T) (bag : List Entry) (n : ℕ) (ks : List ℕ) → IsReadOf below us t bag n ks → All (λ k. k < length us) ks
   later_within us t bag n ks r =
       subst (All (λ k. k < length us)) (sym r.rest)
       (All-filter (is_later_at below t us) (λ k. k < length us) (numbers_below n) (All-from_recursion (λ k. k < length us) (numbers_below n) (small_numbers n (length us) r.within)))
 
-  -- a read stays one of more updates
+  -- a read stays right after more updates are captured
   pub read_appended : (us more : List (Update T)) (t : T) (bag : List Entry) (n : ℕ) (ks : List ℕ) → IsReadOf below us t bag n ks → IsReadOf below (us ++ more) t bag n ks
   read_appended us more t bag n ks r = record {
     within = let l = r.within in omega (arith, l, length-append us more);
@@ -114,14 +114,14 @@ module _ {T : Type 0} (below : T → T → Bool) where
     rest = r.rest ∙ same_below (is_later_at below t us) (is_later_at below t (us ++ more)) n (λ k l. ap (list_any (λ u. not (below u.time t))) (sym (update_before us more k (let m = r.within in omega (arith, l, m)))));
   }
 
-  -- what is remembered stays right where updates are captured, and where none are
+  -- what a view remembers stays right whether or not a capture was refused
   pub still_remembered : {V E L : Type 0} (r : Result V E) (last : Option L) (time : L → T) (bag : L → List Entry) (n : L → ℕ) (ks : L → List ℕ) (old new more : List (Update T))
       → OnOk r (new ≡ old ++ more) → OnErr r (new ≡ old) → IfSome last (λ x. IsReadOf below old (time x) (bag x) (n x) (ks x)) → IfSome last (λ x. IsReadOf below new (time x) (bag x) (n x) (ks x))
   still_remembered r None time bag n ks old new more h k a = tt
   still_remembered (Ok v) (Some x) time bag n ks old new more h k a = subst (λ us. IsReadOf below us (time x) (bag x) (n x) (ks x)) (sym h) (read_appended old more (time x) (bag x) (n x) (ks x) a)
   still_remembered (Err e) (Some x) time bag n ks old new more h k a = subst (λ us. IsReadOf below us (time x) (bag x) (n x) (ks x)) (sym k) a
 
-  -- a read of all
+  -- a read that knows all captured updates
   pub read_of_all : (us : List (Update T)) (t : T) (bag : List Entry) (ks : List ℕ) → Alike bag (as_of below t us) → ks ≡ later_below below t us (length us) → IsReadOf below us t bag (length us) ks
   read_of_all us t bag ks same e = record {
     within = omega arith;
@@ -130,7 +130,7 @@ module _ {T : Type 0} (below : T → T → Bool) where
   }
 
   module _ (o : PartialOrderLaws below) (s t : T) (onward : below s t ≡ true) where
-    -- what is not at or before the later time is not at or before the earlier one
+    -- an update that is not at or before the later time is not at or before the earlier one
     still : (u : Update T) → not (below u.time t) ≡ true → not (below u.time s) ≡ true
     still u h = step (below u.time s) refl
       where
@@ -138,7 +138,7 @@ module _ {T : Type 0} (below : T → T → Bool) where
         step true e = absurd (true≢false (sym h ∙ ap not (o.transitive u.time s t e onward)))
         step false e = refl
 
-    -- the positions that are left
+    -- the later positions of a read that goes on are among those of the earlier read
     pub later_again : (us : List (Update T)) (n : ℕ) → filter (is_later_at below t us) (later_below below s us n) ≡ later_below below t us n
     later_again us n =
         filter_again (is_later_at below t us) (is_later_at below s us)
@@ -150,7 +150,7 @@ module _ {T : Type 0} (below : T → T → Bool) where
     abbrev unknown : List (Update T) → List (Update T)
     unknown us = filter (λ u. not (below u.time s)) us
 
-    -- what comes in from one position
+    -- the update that comes in from one position
     come_in : (us : List (Update T)) (n : ℕ) → flat_map (λ k. arrived (update_at us k)) (cond (is_later_at below s us n) (n ∷ []) []) ≡ arrived (unknown (update_at us n))
     come_in us n = ⊎_elim
         (λ e. rw e refl)
@@ -169,7 +169,7 @@ module _ {T : Type 0} (below : T → T → Bool) where
             ∙ ap (λ b. arrived (cond b (u ∷ []) [])) (sym h)
             ∙ ap (λ vs. arrived (unknown vs)) (sym e)
 
-    -- what comes in from the positions of a read
+    -- the updates that come in from the positions of a read
     pub all_come_in : (us : List (Update T)) (n : ℕ) → flat_map (λ k. arrived (update_at us k)) (later_below below s us n) ≡ arrived (unknown (take n us))
     all_come_in us zero = refl
     all_come_in us (suc n) =
@@ -180,7 +180,7 @@ module _ {T : Type 0} (below : T → T → Bool) where
         ∙ ap arrived (sym (filter-append (λ u. not (below u.time s)) (take n us) (update_at us n)))
         ∙ ap (λ vs. arrived (unknown vs)) (sym (take_position us n))
 
-    -- what a bag at the earlier time has, and what comes in, are what there is at the later one
+    -- the sum at the earlier time, and what comes in, are the sum at the later time
     both_parts : (us : List (Update T)) (row : List ℤ) → count_of (as_of below s us) row +ℤ count_of (map entry (arrived (unknown us))) row ≡ count_of (as_of below t us) row
     both_parts [] row = refl
     both_parts (u ∷ us) row = step (below u.time s) refl (below u.time t) refl (both_parts us row)
@@ -194,7 +194,7 @@ module _ {T : Type 0} (below : T → T → Bool) where
         step false e true f ih = rw f (omega (arith, ints, ih))
         step false e false f ih = rw f ih
 
-    -- the bag of the earlier read, with all that came in, sums to the later time
+    -- the bag of the earlier read, with all that came in, is the sum at the later time
     pub read_onward : (us came : List (Update T)) (bag : List Entry) (n : ℕ) (ks : List ℕ) → IsReadOf below us s bag n ks
         → came ≡ flat_map (λ k. arrived (update_at us k)) ks ++ arrived (drop n us) → Alike (bag ++ map entry came) (as_of below t us)
     read_onward us came bag n ks r e row =

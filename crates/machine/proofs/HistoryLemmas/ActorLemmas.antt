@@ -1,4 +1,4 @@
--- An event changes nothing of a worker that is not its actor, and an event of a worker nothing of clients.
+-- An event changes nothing of any worker but its actor, and an event of a worker changes nothing of the clients.
 use Rattle.std.proofs.Common.{◌≡◌, ◌≢◌, ℕ, ◌<◌, Bool, true, false, ◌&&◌, eqb, List, [], ◌∷◌, ◌++◌, sym, refl, ap, cond, ◌∙◌, arith}
 use Rattle.std.proofs.lemmas.Bool.{eqb-true}
 use Rattle.std.proofs.lemmas.List.{append-nil}
@@ -28,7 +28,7 @@ not_there true b = not_both b
 not_there false b = refl
 
 module _ {T : Type 0} (leq : T → T → Bool) (p : Dataflow) (w : State T) where
-  -- what another worker holds from now on is added
+  -- the times that another worker comes to hold do not change what this worker holds
   held_before : (n k m a : ℕ) (ts : List T) (ms : List (HeldTime T)) → eqb a k ≡ false → held_at n k (held_entries m a ts ++ ms) ≡ held_at n k ms
   held_before n k m a ts ms e =
       flat_map-append (λ (h : HeldTime T). cond (eqb h.node n && eqb h.worker k) (h.time ∷ []) []) (held_entries m a ts) ms
@@ -39,7 +39,7 @@ module _ {T : Type 0} (leq : T → T → Bool) (p : Dataflow) (w : State T) wher
       flat_map-append (λ (h : HeldTime T). cond (eqb h.node n && eqb h.worker k) (h.time ∷ []) []) ms (held_entries m a ts)
       ∙ (ap (λ z. held_at n k ms ++ z) (held_unmarked n k m a ts (rw e (not_both (eqb m n)))) ∙ append-nil (held_at n k ms))
 
-  -- workers share nothing: an event leaves every worker but its actor as it was
+  -- an event leaves every worker except its actor as it was
   pub worker_apart : (k : ℕ) (e : Event T) → actor_of e ≢ k → IsSameOfWorker k w (next_state leq p w e)
   worker_apart k (Feed c f) ne = record { received = λ n port. refl; emitted = λ n. refl; held = λ n. refl; hand = refl; observed = refl }
   worker_apart k (Advance c i ts) ne = record { received = λ n port. refl; emitted = λ n. refl; held = λ n. refl; hand = refl; observed = refl }
@@ -67,7 +67,7 @@ module _ {T : Type 0} (leq : T → T → Bool) (p : Dataflow) (w : State T) wher
     observed = refl;
   }
 
-  -- what a worker does changes nothing that clients fed or opened
+  -- an event of a worker changes nothing that clients fed, opened or allowed
   pub clients_apart : (e : Event T) → IsAllowed leq p w e → actor_of e < p.workers → IsSameOfClients w (next_state leq p w e)
   clients_apart (Feed c f) a l = let m = a.client in absurd (omega arith)
   clients_apart (Advance c i ts) a l = let m = a.client in absurd (omega arith)

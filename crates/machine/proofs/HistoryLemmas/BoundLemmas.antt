@@ -1,4 +1,6 @@
--- What a node gave on all workers is within its bound.
+-- What a node gave on all workers is within its bound. The proof goes down the plan. A node that is no reduction
+-- gives no more than it received, which is no more than its sources gave. A reduction gives the fewest absolute diffs
+-- of all lists with its sums.
 use Rattle.update.proofs.ConsolidatedLemmas.{summed_size, summed_size_is, summed_size-append}
 use Rattle.std.proofs.Common.{◌≡◌, ℕ, zero, suc, slice_get, ⊎_elim, ◌+◌, ◌<◌, ◌≤◌, Bool, true, false, cond, ◌&&◌, List, [], ◌∷◌, ◌++◌, take, length, sym, refl, ap, ◌∙◌, subst, Option, Some, None, eqb, arith, IsTrue, ◌⊎◌, inl, inr}
 use Rattle.std.specs.List.{flat_map, filter}
@@ -47,7 +49,7 @@ use Rattle.machine.proofs.HistoryLemmas.PassedLemmas.{AllPassed, AllWere, each_p
 use Rattle.machine.proofs.HistoryLemmas.HeadlineLemmas.{part_lem, due_lem}
 use Rattle.machine.proofs.HistoryLemmas.FlowLemmas.{is_passed}
 
--- nothing is fed to what is no input, and nothing is shared along a port with no source
+-- nothing is fed to a node that is no input, and nothing is shared along a port without a source
 nothing_fed : {T : Type 0} (p : Dataflow) (site : Site) (fs : List (Fed T)) → AreInputs p fs → (IsTrue (is_input (node_of p site.node)) → ⊥) → flat_map (share_fed p site) fs ≡ []
 nothing_fed p site [] a d = refl
 nothing_fed p site (f ∷ fs) a d = step (same_place (home p f) site) refl (nothing_fed p site fs a.1 d)
@@ -60,7 +62,7 @@ nothing_shared : {T : Type 0} (p : Dataflow) (c : Option ℕ) (k : ℕ) (gs : Li
 nothing_shared p c k [] = refl
 nothing_shared p c k (g ∷ gs) = nothing_shared p c k gs
 
--- one of the numbers that are added up
+-- a number is at most the sum that it is part of
 all-one : (n : ℕ) (f : ℕ → ℕ) (k : ℕ) → k < n → f k ≤ all n f
 all-one zero f k l = omega (arith, l)
 all-one (suc n) f k l =
@@ -75,7 +77,7 @@ module _ {T : Type 0} (leq : T → T → Bool) (o : PartialOrderLaws leq) (p : D
   abbrev got : ℕ → ℕ → ℕ → ℕ
   got n port k = summed_size (received_at w n k port)
 
-  -- what was received at a place is no more than what came
+  -- what was received at a place is no more than what was sent or fed to it
   received_le : (site : Site) → summed_size (updates_at site w.received) ≤ summed_size (flat_map (share p site) w.emitted) + summed_size (flat_map (share_fed p site) w.fed)
   received_le site =
       le (summed_size (updates_at site w.received)) (summed_size (updates_at site w.in_flight)) (summed_size (coming p site w.emitted w.fed)) (summed_size (flat_map (share p site) w.emitted)) (summed_size (flat_map (share_fed p site) w.fed))
@@ -120,7 +122,7 @@ module _ {T : Type 0} (leq : T → T → Bool) (o : PartialOrderLaws leq) (p : D
               let g = ap summed_size (ap (λ z. flat_map (share_from p z (arranged_by (node_of p n)) k) w.emitted) f ∙ nothing_shared p (arranged_by (node_of p n)) k w.emitted) in
               omega arith
 
-  -- a reduction: each worker's updates are fewest among those with their sums
+  -- a reduction: no list with the same sums has fewer absolute diffs than each worker's updates
   module _ (loaded : IsLoaded leq o p q w) (cmp : T → T → Ordering) (own : ℕ → ℕ) (differences : AreOwn leq cmp p.nodes (changes_in w) own) where
     abbrev by : ℕ → ℕ → Update T → Bool
     by n k u = eqb (route p (take (key_width p.nodes (node_of p n)) u.row)) k
@@ -195,7 +197,7 @@ module _ {T : Type 0} (leq : T → T → Bool) (o : PartialOrderLaws leq) (p : D
       pub bound : (n : ℕ) → gave_at n ≤ limit n
       bound = by_smaller (λ n. gave_at n ≤ limit n) bound_step
 
-      -- what one worker received at a port
+      -- what one worker received at a port is within the source's bound
       pub from_source : (n port s k : ℕ) → k < p.workers → source_of p n port ≡ Some s → got n port k ≤ limit s
       from_source n port s k l e =
           let one = all-one p.workers (got n port) k l in
@@ -203,7 +205,7 @@ module _ {T : Type 0} (leq : T → T → Bool) (o : PartialOrderLaws leq) (p : D
           let b = bound s in
           omega (arith, one, all_got, b)
 
-      -- what a node may make of it
+      -- what a node may make of what a worker received is within the node's bound
       pub loads : (n k : ℕ) → k < p.workers → is_reduction (node_of p n) ≡ false → output_bound (node_of p n) 0 (λ port. got n port k) ≤ limit n
       loads n k l e =
           let z = bound_by_sources p.nodes q.plan own ins n in
@@ -222,7 +224,7 @@ module _ {T : Type 0} (leq : T → T → Bool) (o : PartialOrderLaws leq) (p : D
               let b = handed_le port (source_of p n port) refl in
               omega (arith, one, a, b)
 
-    -- a reduction's outputs so far
+    -- a reduction's updates up to some step of its computation
     partly : (n : ℕ) (kind : Kind) (source : ℕ) → node_of p n ≡ Reduce kind source → (k : ℕ)
         → ((t : T) → is_beyond leq (input_frontier leq p w n) t ≡ false → (r : List ℤ) → count_of (node_output p n (λ port. as_of leq t (received_at w n k port))) r ≡ cond (eqb (route p (take (key_width p.nodes (node_of p n)) r)) k) (count_of (query_at leq p.nodes (changes_in w) n t) r) (pos 0))
         → (test : List ℤ → Bool) (us : List (Update T)) → AreOwed leq p w n test k us → summed_size us ≤ own n
@@ -265,7 +267,7 @@ module _ {T : Type 0} (leq : T → T → Bool) (minimum : T) (o : PartialOrderLa
       ∙ count_of-filter (λ x. eqb (route p (take (key_width p.nodes (node_of p m)) x)) k) (query_at leq p.nodes (changes_in w) m t) r)
       kind source e
 
-  -- what a node gave is within its bound, so no number is too large unless a bound is
+  -- what a node gave is within its bound, so a number is too large only if a bound is
   pub bound_lem : KeepsBound leq p w n cmp
   bound_lem limit is =
       let kept = kept_world leq o p minimum h l-h in
@@ -275,7 +277,7 @@ module _ {T : Type 0} (leq : T → T → Bool) (minimum : T) (o : PartialOrderLa
       let f = is.2 in
       omega arith
 
-  -- a reduction that is about to answer is within its bound
+  -- what a reduction is about to give is within its bound
   pub owed_lem : OwesWithinBound leq p w n cmp
   owed_lem source kind e test k us a limit is =
       let kept = kept_world leq o p minimum h l-h in
@@ -298,7 +300,7 @@ module _ {T : Type 0} (leq : T → T → Bool) (minimum : T) (o : PartialOrderLa
       let f = is.2 in
       omega (arith, x, v, f)
 
-  -- and so is what a linear node is about to give
+  -- what a node that is no reduction may give is within its bound
   pub loads_lem : LoadsWithinBound leq p w n cmp
   loads_lem e k l limit is =
       let kept = kept_world leq o p minimum h l-h in

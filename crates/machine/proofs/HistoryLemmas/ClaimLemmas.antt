@@ -1,5 +1,5 @@
--- The headline, by going down the plan: where nothing is in flight or held at a node and above it, what the node gave is
--- the query.
+-- The headline, by going down the plan: if nothing that counts at a time is in flight or held at a node or above it,
+-- then what the node gave, summed to the time, is the query.
 use Rattle.std.proofs.Common.{◌≡◌, ℕ, zero, suc, ◌<◌, ◌≤◌, Bool, true, false, cond, List, [], ◌∷◌, ◌++◌, take, length, sym, refl, ap, ◌∙◌, subst, Option, Some, None, eqb, arith, ◌⊎◌, inl, inr}
 use Rattle.std.specs.List.{flat_map, filter, slice_get}
 use Rattle.std.proofs.lemmas.Bool.{true≢false}
@@ -34,9 +34,9 @@ use Rattle.machine.proofs.HistoryLemmas.FlowLemmas.{sum_at, sum_at-append, value
 use Rattle.machine.proofs.HistoryLemmas.KeptLemmas.{IsKept, coming}
 use Rattle.machine.proofs.HistoryLemmas.WorkerLemmas.{over, over-same, over-one, gather, total-gather, over-emitted, shared_along, shared_by_key, shared_none, over-fed, fed_none}
 
--- of a dataflow's nodes
+-- ---- the nodes of a dataflow
 
--- a key goes to a worker that there is
+-- a key is routed to a worker that exists
 pub routed : (p : Dataflow) → IsDataflow p → (key : List ℤ) → route p key < p.workers
 routed p q key = remainder (column_sum key) p.workers q.staffed
   where
@@ -44,20 +44,21 @@ routed p q key = remainder (column_sum key) p.workers q.staffed
     remainder (pos a) n h = omega (arith, ints)
     remainder (negsuc a) n h = omega (arith, ints)
 
--- a list has something at each place below its length
+-- a list has an element at each position below its length
 pub some_within : (xs : List ℕ) (i : ℕ) → i < length xs → slice_get xs i ≡ None → ⊥
 some_within [] i l e = omega arith
 some_within (x ∷ xs) zero l e = cc
 some_within (x ∷ xs) (suc i) l e = some_within xs i (omega arith) e
 
--- what is given of the bags of all workers together is what is given of each, together
+-- a linear node makes of the bags of all workers together what it makes of each, added up
 op-gather : (k : ℕ) (node : Node) → is_linear node ≡ true → (n : ℕ) (b : ℕ → ℕ → List Entry) (r : List ℤ) → over n (λ i. count_of (operator_output k node (b i)) r) ≡ count_of (operator_output k node (λ port. gather n (λ i. b i port))) r
 op-gather k node e zero b r = sym (given_nothing k node r)
 op-gather k node e (suc n) b r =
     ap (λ z. count_of (operator_output k node (b n)) r +ℤ z) (op-gather k node e n b r)
     ∙ sym (given_sum k node e (b n) (λ port. gather n (λ i. b i port)) r ∙ count_of-append (operator_output k node (b n)) (operator_output k node (λ port. gather n (λ i. b i port))) r)
 
--- what a node gave is this bag: on all workers; and on each worker, where the edges into the node send by key, its keys
+-- what a node gave, summed to t, is this bag: on all workers together; and if the node is arranged, on each worker
+-- the part with its keys
 pub record IsClaim {T : Type 0} (leq : T → T → Bool) (p : Dataflow) (w : State T) (t : T) (bag : List Entry) (n : ℕ) : Type 0 where
   pub all : (r : List ℤ) → sum_at leq t (emitted_at n w.emitted) r ≡ count_of bag r
   pub parts : (c k : ℕ) → arranged_by (node_of p n) ≡ Some c → (r : List ℤ) → sum_at leq t (emitted_by n k w.emitted) r ≡ cond (eqb (route p (take c r)) k) (count_of bag r) (pos 0)
@@ -72,7 +73,7 @@ module _ {T : Type 0} (leq : T → T → Bool) (p : Dataflow) (q : IsDataflow p)
   abbrev bag : ℕ → List Entry
   bag n = query p.nodes ins n
 
-  -- what was received is all that came
+  -- at a node to which everything has arrived, what was received is all that came
   came : (n port k : ℕ) (r : List ℤ) → IsArrived leq w t n → count_of (recv n k port) r ≡ sum_at leq t (coming p (place n port k) w.emitted w.fed) r
   came n port k r c =
       let v : Update T → ℤ = λ u. cond (leq u.time t) (value r u) (pos 0) in
@@ -106,14 +107,14 @@ module _ {T : Type 0} (leq : T → T → Bool) (p : Dataflow) (q : IsDataflow p)
     abbrev key : ℕ
     key = key_width p.nodes (node_of p n)
 
-    -- what comes to the ports, on all workers
+    -- the bag of each port's source, on all workers
     abbrev source_bags : ℕ → List Entry
     source_bags port = source_value (ins n) bag (source_of p n port)
 
     bag_is : bag n ≡ node_output p n source_bags
     bag_is = query_by_sources p.nodes q.plan ins n
 
-    -- at a join or reduction, what one worker owes, of what it received
+    -- at a join or reduction, what a worker owes of what it received is the part of the query with its keys
     pub due : is_linear (node_of p n) ≡ false → (k : ℕ) (r : List ℤ) → count_of (node_output p n (recv n k)) r ≡ cond (eqb (route p (take key r)) k) (count_of (bag n) r) (pos 0)
     due e k r =
         given_alike key (node_of p n) (recv n k) (λ port. filter (λ y. eqb (route p (take key y.row)) k) (source_bags port)) (λ port l. port_alike port l (source_of p n port) refl) r
@@ -132,12 +133,12 @@ module _ {T : Type 0} (leq : T → T → Bool) (p : Dataflow) (q : IsDataflow p)
             ∙ ((below port s h).parts key k (source_arranged p.nodes q.plan n port s (has_source p.nodes n port s h) e h) r
             ∙ sym (count_of-filter (λ x. eqb (route p (take key x)) k) (bag s) r))
 
-    -- and what it gave, where it holds no more, whatever the other workers hold there
+    -- so is what the worker gave, if it holds nothing at or before the time, whatever the other workers hold
     pub each_keyed : is_linear (node_of p n) ≡ false → (k : ℕ) → is_beyond leq (held_at n k w.held) t ≡ false → (r : List ℤ)
         → sum_at leq t (emitted_by n k w.emitted) r ≡ cond (eqb (route p (take key r)) k) (count_of (bag n) r) (pos 0)
     each_keyed e k held r = kept.law n k t (is_passed _ held) r ∙ due e k r
 
-    -- from what each worker gave, what all did
+    -- the claim for all workers, from what each worker gave
     all_from_parts : (c : ℕ) → ((k : ℕ) (r : List ℤ) → sum_at leq t (emitted_by n k w.emitted) r ≡ cond (eqb (route p (take c r)) k) (count_of (bag n) r) (pos 0)) → (r : List ℤ) → sum_at leq t (emitted_at n w.emitted) r ≡ count_of (bag n) r
     all_from_parts c h r =
         sym (over-emitted leq t n p.workers w.emitted r kept.workers)
@@ -205,7 +206,7 @@ module _ {T : Type 0} (leq : T → T → Bool) (p : Dataflow) (q : IsDataflow p)
       claim_step true (Some c) e f = sent c f
       claim_step true None e f = along e f
 
-  -- where a node and all above it are clear
+  -- the claim holds of a node if the node and all nodes above it are clear
   pub claim : (n : ℕ) → ((m : ℕ) → upstream p n m ≡ true → IsClear leq w t m) → IsClaim leq p w t (bag n) n
   claim = by_smaller (λ n. ((m : ℕ) → upstream p n m ≡ true → IsClear leq w t m) → IsClaim leq p w t (bag n) n) (λ n rest c.
       let here = c n (above_itself p.nodes q.plan n) in
@@ -218,10 +219,11 @@ module _ {T : Type 0} (leq : T → T → Bool) (p : Dataflow) (q : IsDataflow p)
         let smaller = source_smaller p.nodes q.plan n port s e in
         claim s (λ m a. let le = above_earlier p.nodes q.plan m s a in others m (above_from_source p.nodes q.plan m n port s e a) (omega arith))
 
-    -- what a worker gave at a join or reduction, wherever the input frontier and what the worker holds there have passed
+    -- at a join or reduction, what a worker gave is its part of the query, if the input frontier and what the worker
+    -- holds there have passed the time
     pub part_claim : is_linear (node_of p n) ≡ false → (k : ℕ) → is_beyond leq (held_at n k w.held) t ≡ false → (r : List ℤ) → sum_at leq t (emitted_by n k w.emitted) r ≡ cond (eqb (route p (take (key_width p.nodes (node_of p n)) r)) k) (count_of (bag n) r) (pos 0)
     part_claim e k held r = each_keyed n arrived sources_claim e k held r
 
-    -- what it owes there, wherever the input frontier has passed
+    -- at a join or reduction, what a worker owes is its part of the query, if the input frontier has passed the time
     pub due_claim : is_linear (node_of p n) ≡ false → (k : ℕ) (r : List ℤ) → count_of (node_output p n (recv n k)) r ≡ cond (eqb (route p (take (key_width p.nodes (node_of p n)) r)) k) (count_of (bag n) r) (pos 0)
     due_claim e k r = due n arrived sources_claim e k r

@@ -1,4 +1,5 @@
--- What a passed frontier says of a node and its ancestors.
+-- What a passed frontier says of a node and its ancestors: nothing that counts at the time is in flight, held or open
+-- there.
 use Rattle.std.proofs.Common.{◌≡◌, ℕ, Bool, true, false, cond, not, ◌&&◌, ◌||◌, List, [], ◌∷◌, ◌++◌, sym, refl, ap, ◌∙◌, subst, eqb}
 use Rattle.std.specs.List.{flat_map}
 use Rattle.std.proofs.lemmas.Bool.{and_parts, or_parts, or_from, eqb-true}
@@ -20,7 +21,7 @@ use Rattle.machine.specs.Histories.Promises.{IsClearAt}
 use Rattle.machine.proofs.HistoryLemmas.FlowLemmas.{as_of-append, passed-least}
 use Rattle.machine.proofs.HistoryLemmas.KeptLemmas.{as_of-passed, is_stamped}
 
--- nothing that came to a node and counts at t is still in flight
+-- nothing that counts at t is still in flight to the node
 pub record IsArrived {T : Type 0} (leq : T → T → Bool) (w : State T) (t : T) (n : ℕ) : Type 0 where
   pub flight : (port k : ℕ) → as_of leq t (updates_at (place n port k) w.in_flight) ≡ []
 
@@ -61,7 +62,7 @@ module _ {T : Type 0} (leq : T → T → Bool) (o : PartialOrderLaws leq) (t : T
           subst (λ b. is_beyond leq (cond b (x.time ∷ []) []) t ≡ false) passes g
 
 module _ {T : Type 0} (leq : T → T → Bool) (o : PartialOrderLaws leq) (t : T) (there holding : ℕ → Bool) (w : State T) where
-  -- what is counted, in its three parts
+  -- if all that counts has passed the time, so has each of the three logs
   pub counted_parts : is_beyond leq (counted_times w there holding) t ≡ false
       → (is_beyond leq (stamps (λ site. there site.node) w.in_flight) t ≡ false) × (is_beyond leq (held_where holding w.held) t ≡ false) × (is_beyond leq (open_where there w.open_times) t ≡ false)
   counted_parts h =
@@ -72,15 +73,15 @@ module _ {T : Type 0} (leq : T → T → Bool) (o : PartialOrderLaws leq) (t : T
       let g = or_parts (is_beyond leq b t) (is_beyond leq c t) (sym (list_any-append (λ f. leq f t) b c) ∙ f.1) in
       (f.0, g.0, g.1)
 
-  -- once a frontier has passed a time, all that counts there at or before it has arrived
+  -- if a frontier has passed a time, all that counts at or before it has arrived at the nodes counted
   pub arrived_passed : list_all (is_stamped leq) w.in_flight ≡ true → is_beyond leq (counted_times w there holding) t ≡ false → (m : ℕ) → there m ≡ true → IsArrived leq w t m
   arrived_passed a h m e = record { flight = clear_flight leq o t there m e w.in_flight a (counted_parts h).0 }
 
-  -- once a frontier has passed a time, nothing of it is in flight, held or open at the nodes counted
+  -- if a frontier has passed a time, nothing at or before it is in flight or held at the nodes counted
   pub clear_passed : list_all (is_stamped leq) w.in_flight ≡ true → is_beyond leq (counted_times w there holding) t ≡ false → (m : ℕ) → there m ≡ true → holding m ≡ true → IsClear leq w t m
   clear_passed a h m e f = record { arrived = arrived_passed a h m e; held = clear_held leq o t holding m f w.held (counted_parts h).1 }
 
--- Nothing is outstanding at or before a passed time
+-- If a frontier has passed a time, nothing is outstanding at or before it
 
 module _ {T : Type 0} (leq : T → T → Bool) (o : PartialOrderLaws leq) (t : T) where
   abbrev is_clear : (ℕ → Bool) → Bundle T → Bool
@@ -98,7 +99,7 @@ module _ {T : Type 0} (leq : T → T → Bool) (o : PartialOrderLaws leq) (t : T
       one s true k = and_from (has_passed leq b.stamp t) (has_passed leq (times b.updates) t) (ap not k) (ap not (beyond_passed leq o b.stamp (times b.updates) t s k))
       one s false k = refl
 
-  -- so it is of held times, and of the elements of frontiers
+  -- no held time that counts, and no element of an input's frontier that counts, is at or before the time
   none_of : {X : Type 0} (there : X → Bool) (time : X → T) (xs : List X) → is_beyond leq (flat_map (λ x. cond (there x) (time x ∷ []) []) xs) t ≡ false → list_all (λ x. not (there x && leq (time x) t)) xs ≡ true
   none_of there time [] h = refl
   none_of {X} there time (x ∷ xs) h =
@@ -110,7 +111,7 @@ module _ {T : Type 0} (leq : T → T → Bool) (o : PartialOrderLaws leq) (t : T
       one true k = ap not (or_parts (leq (time x) t) false k).0
       one false k = refl
 
--- the step from a passed frontier to nothing lurking, at one node
+-- if a frontier has passed a time, nothing is outstanding at or before it, at one node
 pub lurks_lem : {T : Type 0} (leq : T → T → Bool) → PartialOrderLaws leq → (p : Dataflow) (w : State T) (n : ℕ) (holding : ℕ → Bool) (t : T) → list_all (is_stamped leq) w.in_flight ≡ true
     → is_beyond leq (least leq (counted_times w (upstream p n) holding)) t ≡ false → IsClearAt leq p w n holding t
 lurks_lem leq o p w n holding t a h =

@@ -1,4 +1,5 @@
--- A cut gives each place its share, in bundles none of which is empty.
+-- A cut gives each place exactly its share, in bundles none of which is empty and whose stamps are beyond what was
+-- held. So a give that sends a cut is allowed as far as its bundles go.
 use Rattle.std.proofs.Common.{◌≡◌, ℕ, zero, suc, ◌<◌, ◌≤◌, Bool, true, false, cond, not, ◌&&◌, List, [], ◌∷◌, ◌++◌, take, length, sym, refl, ap, ap₂, ◌∙◌, Option, Some, None, eqb, arith, ◌⊎◌, inl, inr}
 use Rattle.std.specs.List.{flat_map, filter, list_all}
 use Rattle.std.proofs.lemmas.Bool.{eqb-true, eqb-false, eq-eqb, ne_eqb, and_parts, and_from, false≢true}
@@ -28,13 +29,13 @@ use Rattle.machine.proofs.HistoryLemmas.PlaceLemmas.{shared}
 abbrev edge_at : ℕ → ℕ → Edge
 edge_at n port = record { reader = n; port = port }
 
--- Over the numbers below one, at most one of which gives something
+-- Lists that are put together over the numbers below n, if at most one number gives something
 
 pub none_below : {A : Type 0} (n : ℕ) (f : ℕ → List A) → ((m : ℕ) → m < n → f m ≡ []) → flat_map f (numbers_below n) ≡ []
 none_below zero f h = refl
 none_below (suc n) f h = flat_map-append f (numbers_below n) (n ∷ []) ∙ rw (none_below n f (λ m l. h m (omega arith)), h n (omega arith)) refl
 
--- if only one number has something, the whole is that
+-- if only one number has something, together they have what that number has
 pub one_below : {A : Type 0} (n x : ℕ) (f : ℕ → List A) → ((m : ℕ) → (m ≡ x → ⊥) → f m ≡ []) → x < n → flat_map f (numbers_below n) ≡ f x
 one_below zero x f h l = absurd (omega arith)
 one_below {A} (suc n) x f h l = flat_map-append f (numbers_below n) (n ∷ []) ∙ step (eqb n x) refl (one_below n x f h)
@@ -47,7 +48,7 @@ one_below {A} (suc n) x f h l = flat_map-append f (numbers_below n) (n ∷ []) �
         let d = eqb-false n x e in
         rw (h n d, ih (omega arith)) (append-nil (f x))
 
--- the same of each of them
+-- if two functions agree below n, what they give together agrees
 pub same_below : {A : Type 0} (n : ℕ) (f g : ℕ → List A) → ((m : ℕ) → m < n → f m ≡ g m) → flat_map f (numbers_below n) ≡ flat_map g (numbers_below n)
 same_below zero f g h = refl
 same_below (suc n) f g h =
@@ -55,7 +56,7 @@ same_below (suc n) f g h =
     ∙ (ap₂ (λ xs ys. xs ++ (ys ++ [])) (same_below n f g (λ m l. h m (omega arith))) (h n (omega arith))
     ∙ sym (flat_map-append g (numbers_below n) (n ∷ [])))
 
--- Over a list, some of whose elements give nothing
+-- Lists that are put together over a list, if some elements give nothing
 
 over_passing : {X A : Type 0} (test : X → Bool) (f : X → List A) → ((x : X) → test x ≡ false → f x ≡ []) → (xs : List X) → flat_map f (filter test xs) ≡ flat_map f xs
 over_passing test f h [] = refl
@@ -71,7 +72,7 @@ over_ports f (n ∷ ns) =
     flat_map-append f (ports_of n) (flat_map ports_of ns)
     ∙ ap₂ (λ xs ys. xs ++ ys) (ap (λ xs. f (edge_at n 0) ++ xs) (append-nil (f (edge_at n 1)))) (over_ports f ns)
 
--- Of the bundles that are made one after another
+-- A property of each bundle, over bundles that are made one after another
 
 updates_over : {T X : Type 0} (site : Site) (f : X → List (Bundle T)) (ns : List X) → updates_at site (flat_map f ns) ≡ flat_map (λ n. updates_at site (f n)) ns
 updates_over site f [] = refl
@@ -92,7 +93,7 @@ filled_bundle : {T : Type 0} (leq : T → T → Bool) (site : Site) (us : List (
 filled_bundle leq site [] = refl
 filled_bundle leq site (u ∷ us) = rw (ne_eqb (suc (length us)) 0 (λ z. absurd (omega (arith, z)))) refl
 
--- a stamp that nothing of the bundle is before, and that is not before a frontier
+-- the stamp is beyond the times F, and each update of the bundle is beyond the stamp
 abbrev pub is_stamped_beyond : {T : Type 0} → (T → T → Bool) → List T → Bundle T → Bool
 is_stamped_beyond leq F b = all_beyond leq F b.stamp && all_beyond leq b.stamp (times b.updates)
 
@@ -107,18 +108,18 @@ nothing : {A : Type 0} (b : Bool) (xs : List A) → xs ≡ [] → cond b xs [] �
 nothing true xs e = e
 nothing false xs e = refl
 
--- a bundle is where it is, and nowhere else
+-- a bundle counts at its own place and at no other
 bundle_there : {T : Type 0} (leq : T → T → Bool) (site other : Site) (us : List (Update T)) → updates_at site (bundled leq other us) ≡ cond (same_place other site) us []
 bundle_there leq site other [] = sym (nothing (same_place other site) [] refl)
 bundle_there leq site other (u ∷ us) = append-nil (cond (same_place other site) (u ∷ us) [])
 
--- what goes to a place that reads the node
+-- the share of a place that reads the giver's node is its part of the updates
 pub share_is : {T : Type 0} (p : Dataflow) (site : Site) (g : Emission T) → source_of p site.node site.port ≡ Some g.node → share p site g ≡ part p (arranged_by (node_of p site.node)) g.worker site.worker g.updates
 share_is p site g e =
     ap (λ x. share_from p x (arranged_by (node_of p site.node)) site.worker g) e
     ∙ ap (λ b. cond b (part p (arranged_by (node_of p site.node)) g.worker site.worker g.updates) []) (eq-eqb g.node g.node refl)
 
--- and to one that does not
+-- a place that does not read the giver's node has no share
 pub share_none : {T : Type 0} (p : Dataflow) (site : Site) (g : Emission T) → (source_of p site.node site.port ≡ Some g.node → ⊥) → share p site g ≡ []
 share_none {T} p site g d = step (source_of p site.node site.port) refl
   where
@@ -126,7 +127,7 @@ share_none {T} p site g d = step (source_of p site.node site.port) refl
     step None e = refl
     step (Some s) e = ap (λ b. cond b (part p (arranged_by (node_of p site.node)) g.worker site.worker g.updates) []) (ne_eqb g.node s (λ z. d (e ∙ ap Some (sym z))))
 
--- an edge leads from a node exactly where its reader has that source
+-- an edge that leads from a node ends at a port whose source is the node
 pub source_there : (p : Dataflow) (edge : Edge) (n : ℕ) → leads_from p.nodes n edge ≡ true → source_of p edge.reader edge.port ≡ Some n
 source_there p edge n h = step (source_of p edge.reader edge.port) h
   where
@@ -144,7 +145,7 @@ module _ {T : Type 0} (leq : T → T → Bool) (p : Dataflow) (g : Emission T) w
   no_cut : (n port : ℕ) → (source_of p n port ≡ Some g.node → ⊥) → cut_at n port ≡ []
   no_cut n port d = none_below p.workers (λ k. bundled leq (place n port k) (share p (place n port k) g)) (λ k l. ap (bundled leq (place n port k)) (share_none p (place n port k) g d))
 
-  -- what holds of each bundle
+  -- a test that each share's bundle passes is one that each bundle of the cut passes
   cut_all : (test : Bundle T → Bool) → ((site : Site) → list_all test (bundled leq site (share p site g)) ≡ true) → list_all test (cut leq p g) ≡ true
   cut_all test h = all_over test (cut_along leq p g) along (edges_from p.nodes g.node)
     where
@@ -155,7 +156,7 @@ module _ {T : Type 0} (leq : T → T → Bool) (p : Dataflow) (g : Emission T) w
   pub cut_filled : is_filled (cut leq p g) ≡ true
   cut_filled = cut_all (λ b. not (eqb (length b.updates) 0)) (λ site. filled_bundle leq site (share p site g))
 
-  -- what holds of all times that were given holds of those that a place gets
+  -- a property of all times that were given is one of the times in each share
   share_all : (test : T → Bool) → list_all test (times g.updates) ≡ true → (site : Site) → list_all test (times (share p site g)) ≡ true
   share_all test h site = step (source_of p site.node site.port) (arranged_by (node_of p site.node))
     where
@@ -187,7 +188,7 @@ module _ {T : Type 0} (leq : T → T → Bool) (p : Dataflow) (g : Emission T) w
     abbrev mine : List (Update T)
     mine = share p site g
 
-    -- what the bundle for one place has for this one
+    -- the updates that the bundle for one place has at this place
     one_place : (other : Site) → updates_at site (bundled leq other (share p other g)) ≡ cond (same_place other site) mine []
     one_place other = bundle_there leq site other (share p other g) ∙ step (same_place other site) refl
       where
@@ -210,7 +211,7 @@ module _ {T : Type 0} (leq : T → T → Bool) (p : Dataflow) (g : Emission T) w
         ∙ (over_passing (leads_from p.nodes g.node) from_edge (λ edge e. ap (updates_at site) (no_cut edge.reader edge.port (no_source p edge g.node e))) (flat_map ports_of (numbers_below (length p.nodes)))
         ∙ over_ports from_edge (numbers_below (length p.nodes)))
 
-    -- what comes of a port, where no worker gets anything but perhaps one
+    -- what a place gets from the cut along one edge: its share if the edge ends at its node and port, else nothing
     port_none : mine ≡ [] → (n port : ℕ) → from_port n port ≡ []
     port_none e n port = over_workers n port ∙ none_below p.workers (λ k. updates_at site (bundled leq (place n port k) (share p (place n port k) g))) (λ k l. one_place (place n port k) ∙ nothing (same_place (place n port k) site) mine e)
 
@@ -257,7 +258,7 @@ module _ {T : Type 0} (leq : T → T → Bool) (p : Dataflow) (g : Emission T) w
           cons_some : u ∷ us ≡ [] → ⊥
           cons_some z = cc
 
--- Along an edge from the node
+-- The bundles along an edge from the node, as `Routing` makes them
 
 module _ {T : Type 0} (leq : T → T → Bool) (p : Dataflow) (g : Emission T) (edge : Edge) (leads : leads_from p.nodes g.node edge ≡ true) where
   source : source_of p edge.reader edge.port ≡ Some g.node
@@ -266,7 +267,7 @@ module _ {T : Type 0} (leq : T → T → Bool) (p : Dataflow) (g : Emission T) (
   gets : (k : ℕ) → share p (place edge.reader edge.port k) g ≡ part p (arranged_by (node_of p edge.reader)) g.worker k g.updates
   gets k = share_is p (place edge.reader edge.port k) g source
 
-  -- into a node that is not arranged only the giver's worker gets something
+  -- into a node that is not arranged, only the giver's own worker gets something
   pub along_giver : arranged_by (node_of p edge.reader) ≡ None → g.worker < p.workers → bundled leq (place edge.reader edge.port g.worker) g.updates ≡ cut_along leq p g edge
   along_giver none l = sym (
       one_below p.workers g.worker (λ k. bundled leq (place edge.reader edge.port k) (share p (place edge.reader edge.port k) g))
@@ -276,7 +277,7 @@ module _ {T : Type 0} (leq : T → T → Bool) (p : Dataflow) (g : Emission T) (
       own : (k : ℕ) → share p (place edge.reader edge.port k) g ≡ cond (eqb g.worker k) g.updates []
       own k = gets k ∙ ap (λ c. part p c g.worker k g.updates) none
 
-  -- into an arrange node each worker gets what it has by the key
+  -- into an arrange node, each worker gets the updates that have its keys
   pub along_workers : (columns : ℕ) → arranged_by (node_of p edge.reader) ≡ Some columns → bundles_along leq edge p.workers (part_by_key columns p.workers g.updates) ≡ cut_along leq p g edge
   along_workers columns some =
       same_below p.workers (λ k. bundled leq (place edge.reader edge.port k) (part_by_key columns p.workers g.updates k)) (λ k. bundled leq (place edge.reader edge.port k) (share p (place edge.reader edge.port k) g))

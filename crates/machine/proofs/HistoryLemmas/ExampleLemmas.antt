@@ -1,5 +1,5 @@
--- A legal history with an event of each kind: a row goes through an arrange node into a join and a count, and is read at a
--- view of the count.
+-- A legal history in which each kind of event occurs. A row goes through an arrange node into a join and a count, on
+-- two workers, and is read at a view of the count. It shows that the premises of the theorems can be met.
 use Rattle.std.proofs.Common.{◌≡◌, ℕ, zero, suc, ◌≤◌, Bool, true, false, not, ◌||◌, List, [], ◌∷◌, ◌++◌, sym, refl, ap, ◌∙◌, IsTrue, None, Some, arith, nat_le, pos, inl}
 use Rattle.std.proofs.lemmas.Bool.{and_parts, false≢true, true≢false}
 use Rattle.std.proofs.lemmas.List.Folds.{list_all-append}
@@ -54,7 +54,7 @@ is_plan (suc (suc (suc (suc (suc (suc n)))))) l = absurd (omega (arith, l))
 is_dataflow : IsDataflow p
 is_dataflow = record { plan = is_plan; staffed = omega (arith) }
 
--- the row and its count
+-- the row (5), and what the count gives for it
 abbrev five : Update ℕ
 five = record { time = 0; row = pos 5 ∷ []; diff = pos 1 }
 
@@ -64,7 +64,7 @@ counted = record { time = 0; row = pos 5 ∷ pos 1 ∷ []; diff = pos 1 }
 abbrev site : ℕ → ℕ → Site
 site n port = record { node = n; port = port; worker = 1 }
 
--- updates at the time 0, in a bundle
+-- a bundle of updates at the time 0
 abbrev parcel : ℕ → ℕ → List (Update ℕ) → Bundle ℕ
 parcel n port us = record { place = site n port; updates = us; stamp = 0 ∷ [] }
 
@@ -114,14 +114,14 @@ allowed_feed : IsAllowed nat_le p (state_after nat_le 0 p []) (Feed 2 (record { 
 unfolding width_of
 allowed_feed = record { client = omega (arith); input = (omega (arith), refl); width = refl; some = λ e. false≢true ((Decides-int_eq (pos 1) (pos 0)).1 e); small = at_most refl; not_passed = refl; room = omega (arith) }
 
--- a bundle that waits is taken
+-- each take of a waiting bundle is allowed
 allowed_take : (n port : ℕ) (us : List (Update ℕ)) (h : List (Event ℕ)) → (state_after nat_le 0 p h).hand 1 ≡ None → slice_get (queue (site n port) (state_after nat_le 0 p h).in_flight) 0 ≡ Some (parcel n port us) → IsAllowed nat_le p (state_after nat_le 0 p h) (Take 0 (parcel n port us))
 allowed_take n port us h free waits = record { worker = omega (arith); free = free; waits = waits; turn = λ _. refl }
 
 abbrev held : List (Event ℕ) → ℕ → List ℕ
 held h n = held_at n 1 (state_after nat_le 0 p h).held
 
--- what was computed is given
+-- each give is allowed
 allowed_give : (n : ℕ) (us : List (Update ℕ)) (ts : List ℕ) (h : List (Event ℕ)) → (state_after nat_le 0 p h).hand 1 ≡ Some n
     → IsTrue (all_beyond nat_le (held_at n 1 (state_after nat_le 0 p h).held) (times us ++ ts))
     → NodeLaw nat_le p (give_state nat_le p (state_after nat_le 0 p h) (by n us) ts (cut nat_le p (by n us))) n 1 → LoadRule nat_le p (give_state nat_le p (state_after nat_le 0 p h) (by n us) ts (cut nat_le p (by n us))) n 1
@@ -148,7 +148,7 @@ arranged_give : IsAllowed nat_le p (state_after nat_le 0 p arranged) (give 1 (fi
 unfolding stamp least
 arranged_give = allowed_give 1 (five ∷ []) [] arranged refl refl (λ t e row. rw (from_start t) refl) (light 1 _ refl (at_most refl))
 
--- the join gives nothing while the other side has nothing
+-- the join gives nothing while nothing has come to the other side
 joined_give : IsAllowed nat_le p (state_after nat_le 0 p joined_next) (give 2 [] [])
 unfolding stamp least
 joined_give = allowed_give 2 [] [] joined_next refl refl (λ t e row. rw (from_start t) refl) (light 2 _ refl (at_most refl))
@@ -157,7 +157,7 @@ joined_again_give : IsAllowed nat_le p (state_after nat_le 0 p joined_again) (gi
 unfolding stamp least
 joined_again_give = allowed_give 2 (five ∷ []) [] joined_again refl refl (λ t e row. rw (from_start t) refl) (light 2 _ refl (at_most refl))
 
--- the count holds its time until no more can come
+-- the count holds its time until no more input can come at or before it
 count_give : IsAllowed nat_le p (state_after nat_le 0 p count_next) (give 3 [] (0 ∷ []))
 unfolding stamp least
 count_give = allowed_give 3 [] (0 ∷ []) count_next refl refl (λ t e row. absurd (false≢true (ap (λ b. not (b || false)) (sym (from_start t)) ∙ e)))
@@ -198,7 +198,7 @@ all_legal : IsLegal nat_le 0 p all
 unfolding stamp
 all_legal = (record { client = omega (arith); within = omega (arith); view = refl; onward = refl }, (seen_give, (allowed_take 5 0 (counted ∷ []) (give 3 (counted ∷ []) [] ∷ turned) refl refl, (counted_give, (allowed_turn, waiting_legal)))))
 
--- the history itself, with the proof that it shows all that is asked
+-- the history, with the proof that it is an example
 pub example : (q : Dataflow) × (h : List (Event ℕ)) × (v : ℕ) × (us : List (Update ℕ)) × (front : List ℕ) × (since : List ℕ) × (t : ℕ) × IsExample q h v us front since t
 unfolding stamp least reaches
 example = (

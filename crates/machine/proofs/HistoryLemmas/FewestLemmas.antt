@@ -1,4 +1,5 @@
--- A list with one update for each row and time has the least absolute diffs of all lists with its sums.
+-- A list in which no two updates have the same row and time has the least size, which is its sum of absolute diffs,
+-- of all lists with its sums. So a reduction that gives only what is final stays within its bound.
 use Rattle.update.proofs.ConsolidatedLemmas.{summed_size}
 use Rattle.std.proofs.Common.{◌≡◌, ℕ, ◌+◌, ◌≤◌, Bool, true, false, cond, ◌&&◌, ◌||◌, List, [], ◌∷◌, sym, refl, ◌∙◌, subst, arith, unsigned_abs}
 use Rattle.std.specs.List.{list_any}
@@ -37,7 +38,7 @@ triangle : (a b : ℤ) → unsigned_abs (a +ℤ b) ≤ unsigned_abs a + unsigned
 triangle a b = omega (arith, ints)
 
 module _ {T : Type 0} (leq : T → T → Bool) (o : PartialOrderLaws leq) where
-  -- of one row and time
+  -- the two updates have the same row and time
   abbrev pub meets : Update T → Update T → Bool
   meets u v = (leq u.time v.time && leq v.time u.time) && same_row u.row v.row
 
@@ -64,7 +65,7 @@ module _ {T : Type 0} (leq : T → T → Bool) (o : PartialOrderLaws leq) where
   through_other u v x h k =
       subst (λ (t : T). ((leq t x.time && leq x.time t) && same_row v.row x.row) ≡ true) (meets_time u v h) (subst (λ (r : List ℤ). ((leq u.time x.time && leq x.time u.time) && same_row r x.row) ≡ true) (meets_row u v h) k)
 
-  -- what an update adds to a count
+  -- what an update adds to the total of a row at a time
   shown : (v u : Update T) → cond (same_row v.row u.row && (leq v.time u.time && leq u.time v.time)) v.diff (pos 0) ≡ cond (meets v u) v.diff (pos 0)
   shown v u = step (leq v.time u.time && leq u.time v.time) (same_row v.row u.row)
     where
@@ -88,7 +89,7 @@ module _ {T : Type 0} (leq : T → T → Bool) (o : PartialOrderLaws leq) where
       step true e f ih = absurd (false≢true (sym f ∙ through_other v u x h e))
       step false e f ih = ih
 
-  -- of updates that are apart one at most meets v
+  -- at most one of some updates that are apart has the row and time of v
   once : (v : Update T) (d : ℕ) (us : List (Update T)) → AreApart leq us → sum_of (λ u. cond (meets v u) d 0) us ≤ d
   once v d [] a = omega arith
   once v d (u ∷ us) a = step (meets v u) refl (once v d us a.1)
@@ -97,7 +98,7 @@ module _ {T : Type 0} (leq : T → T → Bool) (o : PartialOrderLaws leq) where
       step true e ih = let z = none_met v d us (none_through v u e us a.0) in omega arith
       step false e ih = omega arith
 
-  -- what another list counts at the rows and times of updates that are apart
+  -- the totals of another list, at the rows and times of updates that are apart, add up to no more than its size
   cover : (us : List (Update T)) → AreApart leq us → (vs : List (Update T)) → sum_of (counted vs) us ≤ summed_size vs
   cover us a [] = let z = sum_of-zero us in omega arith
   cover us a (v ∷ vs) =
@@ -126,7 +127,7 @@ module _ {T : Type 0} (leq : T → T → Bool) (o : PartialOrderLaws leq) where
       not_met true e f = absurd (false≢true (sym f ∙ turned v u e))
       not_met false e f = refl
 
-  -- updates that are apart are what they count
+  -- the totals of updates that are apart, at their own rows and times, add up to their size
   own_counts : (us : List (Update T)) → AreApart leq us → sum_of (counted us) us ≡ summed_size us
   own_counts [] a = refl
   own_counts (u ∷ us) a =
@@ -147,7 +148,7 @@ module _ {T : Type 0} (leq : T → T → Bool) (o : PartialOrderLaws leq) where
           let g = or_parts (meets u x) (list_any (meets u) xs) k in
           rw (shown u x, g.0, +ℤ_idl (total_at leq x.row x.time us), rest xs g.1) refl
 
-  -- a final list is no larger than any list with its sums, so a reduction stays within its bound
+  -- updates that are apart, at passed times, are no larger than any list with the same sums at passed times
   pub fewest : (front : List T) (us vs : List (Update T)) → AreApart leq us → AllPassed leq front us → ((t : T) → is_beyond leq front t ≡ false → (r : List ℤ) → count_of (as_of leq t us) r ≡ count_of (as_of leq t vs) r) → summed_size us ≤ summed_size vs
   fewest front us vs a b h =
       let x = own_counts us a in
@@ -159,12 +160,12 @@ module _ {T : Type 0} (leq : T → T → Bool) (o : PartialOrderLaws leq) where
       same [] c = refl
       same (x ∷ xs) c = rw (same_totals o (λ t. has_passed leq front t) us vs (λ s t l a. is_passed _ (passed_down leq o front s t l (not_beyond _ a))) (λ t k. h t (not_beyond _ k)) x.row x.time (is_passed _ c.0), same xs c.1) refl
 
-  -- each update's sums, and those at each earlier time, are the other list's
+  -- at the time of each of these updates, and at every time before it, the two lists have the same sums
   abbrev pub AgreeBelow : List (Update T) → List (Update T) → List (Update T) → Type 0
   AgreeBelow us vs [] = Unit {0}
   AgreeBelow us vs (x ∷ xs) = ((s : T) → leq s x.time ≡ true → (r : List ℤ) → count_of (as_of leq s us) r ≡ count_of (as_of leq s vs) r) × AgreeBelow us vs xs
 
-  -- the step of it, time by time from the earliest on
+  -- updates that are apart are no larger than a list that agrees with them at and before each of their times
   pub fewest_below : (us vs : List (Update T)) → AreApart leq us → AgreeBelow us vs us → summed_size us ≤ summed_size vs
   fewest_below us vs a b =
       let x = own_counts us a in

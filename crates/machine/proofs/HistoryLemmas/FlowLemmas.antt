@@ -1,4 +1,4 @@
--- What one event changes: sums at a time, of what is at a site, and of what was to come there.
+-- What one event changes: the sums at a time of the updates at a place, and of those that were to come there.
 use Rattle.std.proofs.Common.{◌≡◌, ℕ, zero, suc, Bool, true, false, cond, not, ◌&&◌, List, [], ◌∷◌, ◌++◌, map, sym, refl, ap, ◌∙◌, Some, eqb, arith, inl, inr, ⊎_elim}
 use Rattle.std.specs.List.{filter, slice_get}
 use Rattle.std.proofs.lemmas.Int.{ints}
@@ -21,7 +21,7 @@ use Rattle.update.proofs.SumLemmas.{total_by-append}
 use Rattle.plan.proofs.CountLemmas.{count_of-append}
 use Rattle.antichain.proofs.InsertionLemmas.{least_beyond}
 
--- places that test the same are the same
+-- places that the test calls the same are equal
 pub place_same : (a b : Site) → same_place a b ≡ true → a ≡ b
 place_same a b h =
     let p = and_parts (eqb a.node b.node) (eqb a.port b.port && eqb a.worker b.worker) h in
@@ -39,7 +39,7 @@ module _ {T : Type 0} (leq : T → T → Bool) (t : T) where
   abbrev counts : Update T → Bool
   counts u = leq u.time t
 
-  -- sums at a time go through lists piece by piece
+  -- the sum of two lists at a time is the sum of each
   pub as_of-append : (xs ys : List (Update T)) → as_of leq t (xs ++ ys) ≡ as_of leq t xs ++ as_of leq t ys
   as_of-append [] ys = refl
   as_of-append (u ∷ xs) ys = step (leq u.time t) (as_of-append xs ys)
@@ -48,11 +48,11 @@ module _ {T : Type 0} (leq : T → T → Bool) (t : T) where
       step true h = ap (λ z. entry u ∷ z) h
       step false h = h
 
-  -- totals of a row go through lists piece by piece
+  -- the count of a row in two lists is the sum of its counts in each
   pub sum_at-append : (xs ys : List (Update T)) (r : List ℤ) → sum_at (xs ++ ys) r ≡ sum_at xs r +ℤ sum_at ys r
   sum_at-append xs ys r = rw (as_of-append xs ys) (count_of-append (as_of leq t xs) (as_of leq t ys) r)
 
--- what an update is, of a row
+-- what an update adds to a row
 abbrev pub value : {T : Type 0} → List ℤ → Update T → ℤ
 value r u = cond (same_row u.row r) u.diff (pos 0)
 
@@ -66,7 +66,7 @@ through_is {T} leq r t (u ∷ us) = step (leq u.time t) (through_is leq r t us)
     step false h = h ∙ sym (+ℤ_idl (total_by (λ u. cond (leq u.time t) (value r u) (pos 0)) us))
 
 module _ {T : Type 0} (f : Update T → ℤ) where
-  -- what is at a site goes through lists of bundles piece by piece
+  -- the total at a place over two lists of bundles is the sum over each
   pub measure_place-append : (site : Site) (xs ys : List (Bundle T)) → total_by f (updates_at site (xs ++ ys)) ≡ total_by f (updates_at site xs) +ℤ total_by f (updates_at site ys)
   measure_place-append site xs ys = rw (flat_map-append (λ (q : Bundle T). cond (same_place q.place site) q.updates []) xs ys) (total_by-append f (updates_at site xs) (updates_at site ys))
 
@@ -76,7 +76,8 @@ module _ {T : Type 0} (f : Update T → ℤ) where
       swap_first : (x y z : ℤ) → x +ℤ (y +ℤ z) ≡ y +ℤ (x +ℤ z)
       swap_first x y z = omega (arith, ints)
 
-  -- what is taken from a site is no longer there, and each other site is as it was
+  -- the totals at each place before a take, from those after it: the place of the bundle lost its updates, and every
+  -- other place is as it was
   pub taken : (site : Site) (qs : List (Bundle T)) (j : ℕ) (b : Bundle T) → slice_get (queue site qs) j ≡ Some b → (other : Site) → total_by f (updates_at other qs) ≡ total_by f (cond (same_place site other) b.updates []) +ℤ total_by f (updates_at other (without site qs j))
   taken site [] j b h other = cc
   taken site (q ∷ qs) zero b h other = step (same_place q.place site) refl h (taken site qs zero b)
@@ -95,10 +96,10 @@ module _ {T : Type 0} (f : Update T → ℤ) where
       step true e ih jh = past (cond (same_place q.place other) q.updates []) (updates_at other qs) (updates_at other (without site qs j)) (total_by f (cond (same_place site other) b.updates [])) (ih e other)
       step false e ih jh = past (cond (same_place q.place other) q.updates []) (updates_at other qs) (updates_at other (without site qs (suc j))) (total_by f (cond (same_place site other) b.updates [])) (jh e other)
 
--- A bundle that waits at a place is one of those in flight, and the others are those that are left
+-- A bundle that waits at a place is in flight, and so is each bundle that a take leaves
 
 module _ {T : Type 0} where
-  -- what a number picks from a queue is in flight, at that site
+  -- the bundle of a number in a queue is in flight, at the queue's place
   pub queued : (site : Site) (qs : List (Bundle T)) (j : ℕ) (b : Bundle T) → slice_get (queue site qs) j ≡ Some b → Among b qs × (b.place ≡ site)
   queued site [] j b e = cc
   queued site (q ∷ qs) zero b e = step (same_place q.place site) refl e (queued site qs zero b)
@@ -112,7 +113,7 @@ module _ {T : Type 0} where
       step true f ih jh = let r = ih f in (inr r.0, r.1)
       step false f ih jh = let r = jh f in (inr r.0, r.1)
 
-  -- what is left after a take was there before it
+  -- each bundle that a take leaves was in flight before it
   pub among_left : (site : Site) (qs : List (Bundle T)) (j : ℕ) (b : Bundle T) → Among b (without site qs j) → Among b qs
   among_left site [] j b m = m
   among_left site (q ∷ qs) zero b m = step (same_place q.place site) m (among_left site qs zero b)
@@ -126,23 +127,23 @@ module _ {T : Type 0} where
       step true m ih jh = ih m
       step false m ih jh = jh m
 
--- What the least elements have passed, all have
+-- Least elements and the list that they come from have passed the same times
 
 module _ {T : Type 0} (leq : T → T → Bool) (o : PartialOrderLaws leq) where
   pub beyond-least : (S : List T) (t : T) → is_beyond leq S t ≡ true → is_beyond leq (least leq S) t ≡ true
   beyond-least S t h = least_beyond o S t ∙ h
 
-  -- a frontier has passed what its least elements have
+  -- a list has passed what its least elements have passed
   pub passed-least : (S : List T) (t : T) → is_beyond leq (least leq S) t ≡ false → is_beyond leq S t ≡ false
   passed-least S t h = sym (least_beyond o S t) ∙ h
 
--- A frontier has passed a time where nothing of it is at or before the time
+-- Passed as a test, and as the fact that the time is not beyond
 
--- turns a test that is false into the fact that its negation holds
+-- a test that is false has a negation that is true
 pub is_passed : (b : Bool) → b ≡ false → not b ≡ true
 is_passed b h = ap not h
 
--- the same backwards
+-- a negation that is true has a test that is false
 pub not_beyond : (b : Bool) → not b ≡ true → b ≡ false
 not_beyond true h = absurd (false≢true h)
 not_beyond false h = refl

@@ -1,4 +1,4 @@
--- The headline and what follows from it, from the lemmas of claims.
+-- The headline and what follows from it. Each lemma here is a theorem of `theorems.rt`, from the lemmas of claims.
 use Rattle.std.proofs.Common.{◌≡◌, ℕ, ◌<◌, Bool, true, false, cond, not, List, [], ◌∷◌, ◌++◌, take, sym, ap, ◌∙◌, eqb, arith, IsTrue}
 use Rattle.std.proofs.Math.IntN.{ℤ, pos}
 use Rattle.std.proofs.lemmas.Bool.{and_from, ne_eqb}
@@ -37,12 +37,12 @@ module _ {T : Type 0} (leq : T → T → Bool) (minimum : T) (o : PartialOrderLa
     stamped : list_all (is_stamped leq) w.in_flight ≡ true
     stamped = (kept_world leq o p minimum h l).stamped
 
-    -- every view is right wherever its frontier has passed; all promises to readers follow from it
+    -- the headline: a view is right at each time that its frontier has passed; all promises to readers follow from it
     pub headline_lem : MeetsQuery leq p w n
     headline_lem t e r =
         (claim leq p q w (kept_world leq o p minimum h l) t n (λ m a. clear_passed leq o t (upstream p n) (upstream p n) w stamped (passed-least leq o (outstanding p w n) t (not_beyond _ e)) m a a)).all r
 
-    -- consolidated, what a view captured is the one list of differences
+    -- consolidated, what a node gave at passed times is the one list of differences
     pub differences_lem : (cmp : T → T → Ordering) → MeetsDifferences leq p w n cmp
     differences_lem cmp = record {
       into = λ us c a f. record { consolidated = c; passed = a; sums = λ t e row. f t e row ∙ headline_lem t e row };
@@ -55,23 +55,23 @@ module _ {T : Type 0} (leq : T → T → Bool) (minimum : T) (o : PartialOrderLa
     others : (t : T) → is_beyond leq (input_frontier leq p w n) t ≡ false → (m : ℕ) → upstream p n m ≡ true → m < n → IsClear leq w t m
     others t f m a b = clear_passed leq o t (upstream p n) (strictly_upstream p n) w stamped (passed-least leq o (counted_times w (upstream p n) (strictly_upstream p n)) t f) m a (and_from (upstream p n m) (not (eqb m n)) a (ap not (ne_eqb m n (λ x. absurd (omega arith)))))
 
-    -- behind a frontier there is nothing that could still change an answer
+    -- nothing at or before a passed time is outstanding, so no answer at a passed time can still change
     pub lurks : NothingLurks leq p w n
     lurks t e = lurks_lem leq o p w n (upstream p n) t stamped (not_beyond _ e)
 
-    -- each worker has exactly its part of an arranged node
+    -- at a join or reduction, each worker gave exactly its part of the query
     pub part_lem : (k : ℕ) → MeetsPart leq p w n k
     part_lem k e t f g r =
         part_claim leq p q w (kept_world leq o p minimum h l) t n (arrived t (not_beyond _ f)) (others t (not_beyond _ f)) e k (not_beyond _ g) r
         ∙ sym (count_of-filter (λ x. eqb (route p (take (key_width p.nodes (node_of p n)) x)) k) (query_at leq p.nodes (changes_in w) n t) r)
 
-    -- what a worker owes at a join or reduction, in terms of the query: the base of the bounds
+    -- what a worker owes at a join or reduction, in terms of the query; bounds start from it
     pub due_lem : is_linear (node_of p n) ≡ false → (k : ℕ) (t : T) → is_beyond leq (input_frontier leq p w n) t ≡ false → (r : List ℤ)
         → count_of (node_output p n (λ port. as_of leq t (received_at w n k port))) r ≡ cond (eqb (route p (take (key_width p.nodes (node_of p n)) r)) k) (count_of (query_at leq p.nodes (changes_in w) n t) r) (pos 0)
     due_lem e k t f r = due_claim leq p q w (kept_world leq o p minimum h l) t n (arrived t f) (others t f) e k r
 
   module _ (h later : List (Event T)) where
-    -- a time that a frontier has passed stays passed
+    -- a time that a node's frontier has passed stays passed
     pub frontiers_lem : IsLegal leq minimum p (later ++ h) → (n : ℕ) → NeverGoesBack leq (frontier leq p (state_after leq minimum p h) n) (frontier leq p (state_after leq minimum p (later ++ h)) n)
     frontiers_lem = on later
       where
@@ -79,7 +79,7 @@ module _ {T : Type 0} (leq : T → T → Bool) (minimum : T) (o : PartialOrderLa
         on [] l n t k = k
         on (e ∷ es) l n t k = is_passed _ (frontier_onward leq o t p q n (state_after leq minimum p (es ++ h)) e l.0 (not_beyond _ (on es l.1 n t k)))
 
-    -- so it does for what may still come to a node
+    -- a time that a node's input frontier has passed stays passed
     pub inputs_lem : IsLegal leq minimum p (later ++ h) → (n : ℕ) → NeverGoesBack leq (input_frontier leq p (state_after leq minimum p h) n) (input_frontier leq p (state_after leq minimum p (later ++ h)) n)
     inputs_lem = on later
       where
@@ -87,11 +87,12 @@ module _ {T : Type 0} (leq : T → T → Bool) (minimum : T) (o : PartialOrderLa
         on [] l n t k = k
         on (e ∷ es) l n t k = is_passed _ (input_onward leq o t p q n (state_after leq minimum p (es ++ h)) e l.0 (not_beyond _ (on es l.1 n t k)))
 
-    -- so what comes to a node later is beyond what its input frontier has passed now
+    -- if an input frontier has passed a time, then in every later state nothing that could reach the node is
+    -- outstanding at or before it
     pub lurks_later : IsLegal leq minimum p (later ++ h) → (n : ℕ) (t : T) → IsTrue (has_passed leq (input_frontier leq p (state_after leq minimum p h) n) t) → IsClearAt leq p (state_after leq minimum p (later ++ h)) n (strictly_upstream p n) t
     lurks_later l n t k = lurks_lem leq o p (state_after leq minimum p (later ++ h)) n (strictly_upstream p n) t (kept_world leq o p minimum (later ++ h) l).stamped (not_beyond _ (inputs_lem l n t k))
 
-    -- so it does for each port
+    -- a time that a port's frontier has passed stays passed
     pub ports_lem : IsLegal leq minimum p (later ++ h) → (n port : ℕ) → NeverGoesBack leq (port_frontier leq p (state_after leq minimum p h) n port) (port_frontier leq p (state_after leq minimum p (later ++ h)) n port)
     ports_lem = on later
       where
@@ -99,7 +100,7 @@ module _ {T : Type 0} (leq : T → T → Bool) (minimum : T) (o : PartialOrderLa
         on [] l n port t k = k
         on (e ∷ es) l n port t k = is_passed _ (port_onward leq o t p q n port (state_after leq minimum p (es ++ h)) e l.0 (not_beyond _ (on es l.1 n port t k)))
 
--- two histories of one plan with alike changes agree at what both have passed
+-- two histories of one plan with alike changes agree at each time that both frontiers have passed
 pub agree_lem : {T : Type 0} (leq : T → T → Bool) (minimum : T) → PartialOrderLaws leq → (p q : Dataflow) → IsDataflow p → IsDataflow q → q.nodes ≡ p.nodes
     → (h k : List (Event T)) → IsLegal leq minimum p h → IsLegal leq minimum q k
     → ((input : ℕ) (t : T) → Alike (as_of leq t (changes_in (state_after leq minimum p h) input)) (as_of leq t (changes_in (state_after leq minimum q k) input)))

@@ -1,4 +1,5 @@
--- What each event keeps: what came to a site is there or was received; each node meets its law.
+-- The invariant of legal histories, `IsKept`, and that each event keeps it. What came to a place is in flight there
+-- or was received there; each worker obeys the node law; and each update in flight is beyond its bundle's stamp.
 use Rattle.std.proofs.Common.{◌≡◌, ℕ, ◌+◌, ◌<◌, Bool, true, false, cond, not, ◌&&◌, List, [], ◌∷◌, ◌++◌, sym, refl, ap, ◌∙◌, subst, Some, eqb, arith, IsTrue}
 use Rattle.std.specs.List.{flat_map, filter, list_all, slice_get}
 use Rattle.std.proofs.lemmas.Int.{ints}
@@ -52,33 +53,33 @@ marked_same test us vs h =
     let e = h (λ u. cond (test u) (pos 1) (pos 0)) in
     omega (arith, ints)
 
--- lists of equal totals are empty alike
+-- two lists with equal totals are both empty or neither
 pub no_totals : {T : Type 0} (us vs : List (Update T)) → ((f : Update T → ℤ) → total_by f us ≡ total_by f vs) → vs ≡ [] → us ≡ []
 no_totals [] vs h e = refl
 no_totals (u ∷ us) vs h e =
     let a = marked_same (λ x. true) (u ∷ us) vs h ∙ ap (marked (λ x. true)) e in
     absurd (omega arith)
 
--- all that was ever sent or fed to a site
+-- all that was ever sent or fed to a place
 abbrev pub coming : {T : Type 0} → Dataflow → Site → List (Emission T) → List (Fed T) → List (Update T)
 coming p site gs fs = flat_map (share p site) gs ++ flat_map (share_fed p site) fs
 
--- every emission is of a worker that there is
+-- every emission is of a worker that exists
 abbrev pub AreWorkers : {T : Type 0} → ℕ → List (Emission T) → Type 0
 AreWorkers n [] = Unit {0}
 AreWorkers n (g ∷ gs) = (g.worker < n) × AreWorkers n gs
 
--- every change is of an input that there is
+-- every change is of an input that exists
 abbrev pub AreInputs : {T : Type 0} → Dataflow → List (Fed T) → Type 0
 AreInputs p [] = Unit {0}
 AreInputs p (f ∷ fs) = IsTrue (is_input (node_of p f.input)) × AreInputs p fs
 
--- no update of the bundle is before its stamp
+-- each update of the bundle is beyond its stamp
 abbrev pub is_stamped : {T : Type 0} → (T → T → Bool) → Bundle T → Bool
 is_stamped leq b = all_beyond leq b.stamp (times b.updates)
 
 pub record IsKept {T : Type 0} (leq : T → T → Bool) (p : Dataflow) (w : State T) : Type 0 where
-  -- what was received at a site and what is in flight there are what came
+  -- what was received at a place, and what is in flight there, are together what came
   pub conserved : (site : Site) (f : Update T → ℤ) → total_by f (updates_at site w.received) +ℤ total_by f (updates_at site w.in_flight) ≡ total_by f (coming p site w.emitted w.fed)
   pub law : (n k : ℕ) → NodeLaw leq p w n k
   pub workers : AreWorkers p.workers w.emitted
@@ -86,24 +87,24 @@ pub record IsKept {T : Type 0} (leq : T → T → Bool) (p : Dataflow) (w : Stat
   -- each update in flight is beyond its bundle's stamp
   pub stamped : IsTrue (list_all (is_stamped leq) w.in_flight)
 
--- at a time that is passed, no update counts
+-- at a time that a list has passed, no update of it counts
 pub as_of-passed : {T : Type 0} (leq : T → T → Bool) (t : T) (us : List (Update T)) → is_beyond leq (times us) t ≡ false → as_of leq t us ≡ []
 as_of-passed leq t [] h = refl
 as_of-passed leq t (u ∷ us) h =
     let b = or_parts (leq u.time t) (is_beyond leq (times us) t) h in
     rw b.0 (as_of-passed leq t us b.1)
 
--- a worker holds at its node just the times noted for it there
+-- the times that are noted for a worker and a node are those that it holds there
 pub held_marked : {T : Type 0} (n k a b : ℕ) (ts : List T) → (eqb a n && eqb b k) ≡ true → held_at n k (held_entries a b ts) ≡ ts
 held_marked n k a b [] h = refl
 held_marked n k a b (t ∷ ts) h = rw h (ap (λ z. t ∷ z) (held_marked n k a b ts h))
 
--- times noted for another worker or node do not count
+-- times that are noted for another worker or node do not count
 pub held_unmarked : {T : Type 0} (n k a b : ℕ) (ts : List T) → (eqb a n && eqb b k) ≡ false → held_at n k (held_entries a b ts) ≡ []
 held_unmarked n k a b [] h = refl
 held_unmarked n k a b (t ∷ ts) h = rw h (held_unmarked n k a b ts h)
 
--- dropping what one worker holds at one node leaves the others as they were
+-- dropping what one worker holds at one node changes nothing that another holds, or that it holds elsewhere
 pub held_kept : {T : Type 0} (n k a b : ℕ) (ms : List (HeldTime T)) → (eqb a n && eqb b k) ≡ false → held_at n k (filter (λ m. not (eqb m.node a && eqb m.worker b)) ms) ≡ held_at n k ms
 held_kept n k a b [] h = refl
 held_kept {T} n k a b (m ∷ ms) h = step (eqb m.node a && eqb m.worker b) refl (held_kept n k a b ms h)
@@ -130,7 +131,7 @@ module _ {T : Type 0} (leq : T → T → Bool) (o : PartialOrderLaws leq) (p : D
       or_parts (is_beyond leq (held_at n k xs) t) (is_beyond leq (held_at n k ys) t)
       (sym (list_any-append (λ f. leq f t) (held_at n k xs) (held_at n k ys)) ∙ (ap (λ z. is_beyond leq z t) (sym (flat_map-append (λ (m : HeldTime T). cond (eqb m.node n && eqb m.worker k) (m.time ∷ []) []) xs ys)) ∙ h))
 
-  -- at a time that the stamp has passed, a bundle is nothing at any site
+  -- at a time that a bundle's stamp has passed, the bundle adds nothing at any place
   not_there : (b : Bundle T) → is_stamped leq b ≡ true → (n m port : ℕ) (t : T) → is_beyond leq (held_at n m (held_entries b.place.node b.place.worker b.stamp)) t ≡ false → as_of leq t (cond (same_place b.place (place n port m)) b.updates []) ≡ []
   not_there b a n m port t h = step (same_place b.place (place n port m)) refl
     where
@@ -142,7 +143,7 @@ module _ {T : Type 0} (leq : T → T → Bool) (o : PartialOrderLaws leq) (p : D
           let there = held_marked n m b.place.node b.place.worker b.stamp (and_from (eqb b.place.node n) (eqb b.place.worker m) q.0 q1.1) in
           as_of-passed leq t b.updates (beyond_passed leq o b.stamp (times b.updates) t a (subst (λ z. is_beyond leq z t ≡ false) there h))
 
-  -- what is added in flight is stamped
+  -- if bundles in flight are stamped and those added are too, all are
   stamped_more : (xs ys : List (Bundle T)) → list_all (is_stamped leq) xs ≡ true → list_all (is_stamped leq) ys ≡ true → list_all (is_stamped leq) (xs ++ ys) ≡ true
   stamped_more xs ys a b = list_all-append (is_stamped leq) xs ys ∙ and_from (list_all (is_stamped leq) xs) (list_all (is_stamped leq) ys) a b
 
@@ -227,7 +228,7 @@ module _ {T : Type 0} (leq : T → T → Bool) (o : PartialOrderLaws leq) (p : D
   pub kept_first : (minimum : T) → IsKept leq p (initial_state leq minimum p)
   kept_first minimum = record { conserved = λ site v. refl; law = λ n k t h r. sym (given_nothing (key_width p.nodes (node_of p n)) (node_of p n) r); workers = tt; inputs = tt; stamped = refl }
 
-  -- every legal history keeps the invariant; all promises start from it
+  -- the invariant holds in every legal history; all promises start from it
   pub kept_world : (minimum : T) (h : List (Event T)) → IsLegal leq minimum p h → IsKept leq p (state_after leq minimum p h)
   kept_world minimum [] l = kept_first minimum
   kept_world minimum (e ∷ h) l = kept_after (state_after leq minimum p h) e l.0 (kept_world minimum h l.1)

@@ -1,4 +1,5 @@
--- The load rule holds at each worker and node after each event; what a take's input frontier had passed stays passed.
+-- The load rule holds at each worker and node after each event, and what a take found passed stays passed. Bounds are
+-- kept because of this.
 use Rattle.update.proofs.ConsolidatedLemmas.{summed_size, summed_size_is, summed_size-append}
 use Rattle.std.proofs.Common.{◌≡◌, ℕ, ◌≤◌, Bool, true, false, cond, not, ◌&&◌, ◌||◌, List, [], ◌∷◌, ◌++◌, sym, refl, ap, ◌∙◌, subst, Some, eqb, arith}
 use Rattle.std.specs.List.{filter, slice_get}
@@ -26,14 +27,14 @@ use Rattle.machine.proofs.HistoryLemmas.KeptLemmas.{held_marked, held_unmarked, 
 use Rattle.machine.proofs.HistoryLemmas.OnwardLemmas.{input_onward, taken_later}
 use Rattle.machine.proofs.HistoryLemmas.PassedLemmas.{AllPassed, AllWere, each_passed, passed_each, each_was, was_each}
 
--- the load rule, with the recursion of sizes
+-- from the load rule to its inequality of recursive sizes, which arithmetic can use
 pub to_size : {T : Type 0} (leq : T → T → Bool) (p : Dataflow) (w : State T) (n k : ℕ) → IsWithinLoad leq p w n k → summed_size (emitted_by n k w.emitted) ≤ output_bound (node_of p n) 0 (λ port. summed_size (received_at w n k port))
 to_size leq p w n k h =
     let e = summed_size_is (emitted_by n k w.emitted) in
     let f : output_bound (node_of p n) 0 (λ port. summed_size (received_at w n k port)) ≡ output_bound (node_of p n) 0 (λ port. size (received_at w n k port)) = ap (output_bound (node_of p n) 0) (fun_ext (λ port. summed_size_is (received_at w n k port))) in
     omega arith
 
--- the load rule in terms of sums
+-- the load rule from the inequality of recursive sizes
 pub from_size : {T : Type 0} (leq : T → T → Bool) (p : Dataflow) (w : State T) (n k : ℕ) → summed_size (emitted_by n k w.emitted) ≤ output_bound (node_of p n) 0 (λ port. summed_size (received_at w n k port)) → IsWithinLoad leq p w n k
 from_size leq p w n k h =
     let e = summed_size_is (emitted_by n k w.emitted) in
@@ -53,7 +54,7 @@ module _ {T : Type 0} (leq : T → T → Bool) (o : PartialOrderLaws leq) (p : D
   were_still n k ls ms h [] b = tt
   were_still n k ls ms h (u ∷ us) b = (h u.time b.0, were_still n k ls ms h us b.1)
 
-  -- what an event keeps site a worker and node that it gives nothing site
+  -- an event keeps the load rule of a worker and node at which it gives nothing
   record IsCarried (w v : State T) (n k : ℕ) : Type 0 where
     emitted : emitted_by n k w.emitted ≡ emitted_by n k v.emitted
     received : (port : ℕ) → summed_size (updates_at (place n port k) w.received) ≤ summed_size (updates_at (place n port k) v.received)
@@ -80,7 +81,7 @@ module _ {T : Type 0} (leq : T → T → Bool) (o : PartialOrderLaws leq) (p : D
             observed = was_each leq n k v.observed (emitted_by n k v.emitted) (subst (AllWere leq n k v.observed) c.emitted (were_still n k w.observed v.observed c.observed (emitted_by n k w.emitted) observed));
           }
 
-  -- a take's own frontier, or an earlier one
+  -- a recorded frontier is the take's own, or an earlier one
   observed_now : (v : State T) (n k : ℕ) → ((m j : ℕ) (t : T) → was_passed leq m j v.observed t ≡ true → is_beyond leq (input_frontier leq p v m) t ≡ false)
       → (m j : ℕ) (t : T) → was_passed leq m j (turn_state leq p v n k).observed t ≡ true → is_beyond leq (input_frontier leq p v m) t ≡ false
   observed_now v n k old m j t h = step (eqb n m) refl (is_beyond leq (input_frontier leq p v n) t) refl (eqb k j) h

@@ -1,4 +1,4 @@
--- What holds of a board, from what holds of the histories that it may stand for.
+-- What holds of a reading follows from the headline.
 use Rattle.std.proofs.Common.{Bool, not, List, ap, sym, ◌∙◌}
 use Rattle.lattice.specs.Order.{PartialOrderLaws}
 use Rattle.machine.specs.declared.histories.event.Event.{Event}
@@ -9,7 +9,7 @@ use Rattle.machine.specs.Histories.Readings.{ReadsQuery}
 use Rattle.machine.proofs.HistoryLemmas.HeadlineLemmas.{headline_lem}
 use Rattle.machine.proofs.HistoryLemmas.QuietLemmas.{beyond_elements}
 
--- any reading of a view is the query, in every legal history
+-- in every legal history, any reading of a view is the query at times that are passed and still held
 pub reads_lem : {T : Type 0} (leq : T → T → Bool) (minimum : T) → PartialOrderLaws leq → (p : Dataflow) → IsDataflow p → (h : List (Event T)) → IsLegal leq minimum p h → ReadsQuery leq p (state_after leq minimum p h)
 reads_lem leq minimum o p q h l view us front since r t passed held row =
     r.sums t held row

@@ -1,4 +1,6 @@
--- No frontier goes back.
+-- No frontier goes back. Each event adds only times that are beyond what was outstanding at the nodes from which they
+-- come. The lemma `onward` proves this once, for any choice of what a frontier counts; the frontiers of nodes, inputs
+-- and ports follow.
 use Rattle.std.proofs.Common.{◌≡◌, ℕ, Bool, true, false, cond, not, ◌&&◌, ◌||◌, List, [], ◌∷◌, ◌++◌, sym, refl, ap, ◌∙◌, subst, Option, Some, None, eqb, arith, inl, inr, ⊎_elim}
 use Rattle.std.specs.List.{flat_map, filter, slice_get}
 use Rattle.std.proofs.lemmas.Bool.{and_parts, and_from, or_parts, or_from, or_right, eqb-true, ne_eqb, false≢true}
@@ -36,18 +38,18 @@ module _ {T : Type 0} (leq : T → T → Bool) (o : PartialOrderLaws leq) (t : T
   abbrev pub IsPassed : List T → Type 0
   IsPassed F = is_beyond leq F t ≡ false
 
-  -- passed by two lists together, so by each
+  -- if two lists together have passed the time, each has
   pub passed_parts : (F G : List T) → IsPassed (F ++ G) → IsPassed F × IsPassed G
   passed_parts F G h = or_parts (is_beyond leq F t) (is_beyond leq G t) (sym (list_any-append (λ f. leq f t) F G) ∙ h)
 
-  -- passed by each of two lists, so by both together
+  -- if each of two lists has passed the time, both together have
   pub passed_both : (F G : List T) → IsPassed F → IsPassed G → IsPassed (F ++ G)
   passed_both F G f g = list_any-append (λ x. leq x t) F G ∙ or_from (is_beyond leq F t) (is_beyond leq G t) f g
 
   passed_onward : (F G : List T) → all_beyond leq F G ≡ true → IsPassed F → IsPassed G
   passed_onward F G a f = beyond_passed leq o F G t a f
 
-  -- a list made of parts: each part's
+  -- if all parts of a list have passed the time, so have those that a test keeps
   passed_some : {X : Type 0} (part : X → List T) (keep : X → Bool) (xs : List X) → IsPassed (flat_map part xs) → IsPassed (flat_map part (filter keep xs))
   passed_some part keep [] h = h
   passed_some {X} part keep (x ∷ xs) h = let g = passed_parts (part x) (flat_map part xs) h in step (keep x) g.0 (passed_some part keep xs g.1)
@@ -56,7 +58,7 @@ module _ {T : Type 0} (leq : T → T → Bool) (o : PartialOrderLaws leq) (t : T
       step true f g = passed_both (part x) (flat_map part (filter keep xs)) f g
       step false f g = g
 
-  -- the parts that count, each of which is passed
+  -- if each part that counts has passed the time, so has the whole
   pub passed_all : {X : Type 0} (test : X → Bool) (part : X → List T) (xs : List X) → ((x : X) → Among x xs → test x ≡ true → IsPassed (part x)) → IsPassed (flat_map (λ x. cond (test x) (part x) []) xs)
   passed_all test part [] h = refl
   passed_all {X} test part (y ∷ xs) h = passed_both (cond (test y) (part y) []) (flat_map (λ x. cond (test x) (part x) []) xs) (head (test y) refl) (passed_all test part xs (λ x m. h x (inr m)))
@@ -65,7 +67,7 @@ module _ {T : Type 0} (leq : T → T → Bool) (o : PartialOrderLaws leq) (t : T
       head false e = refl
       head true e = h y (inl refl) e
 
-  -- and back
+  -- if the whole has passed the time, so has each part that counts
   pub passed_one : {X : Type 0} (test : X → Bool) (part : X → List T) (xs : List X) → IsPassed (flat_map (λ x. cond (test x) (part x) []) xs) → (x : X) → Among x xs → test x ≡ true → IsPassed (part x)
   passed_one test part [] h x m a = absurd m
   passed_one {X} test part (y ∷ xs) h x m a =
@@ -75,12 +77,12 @@ module _ {T : Type 0} (leq : T → T → Bool) (o : PartialOrderLaws leq) (t : T
       (λ n. passed_one test part xs g.1 x n a)
       m
 
-  -- only the least times count
+  -- if a list has passed the time, so have its least elements
   pub passed_least : (F : List T) → IsPassed F → IsPassed (least leq F)
   passed_least F h = least_beyond o F t ∙ h
 
   module _ (test : ℕ → Bool) where
-    -- what is held, or an edge, at a node that passes
+    -- if what counts at the nodes that pass a test has passed the time, so has what counts at one of them
     passed_edge : (i : ℕ) → test i ≡ true → (es : List (OpenTime T)) → IsPassed (open_where test es) → IsPassed (open_at i es)
     passed_edge i a [] h = h
     passed_edge i a (e ∷ es) h =
@@ -132,15 +134,16 @@ module _ {T : Type 0} (leq : T → T → Bool) (o : PartialOrderLaws leq) (t : T
         step false e = subst IsPassed (sym (off ts e)) refl
 
   module _ (test : Site → Bool) where
-    -- what is left, and what is taken
+    -- bundles that have passed the time still have after a take, and so has the bundle that was taken
     passed_without : (site : Site) (qs : List (Bundle T)) (j : ℕ) → IsPassed (stamps test qs) → IsPassed (stamps test (without site qs j))
     passed_without site qs j h = passed_all (λ b. test b.place) (λ b. b.stamp) (without site qs j) (λ b m a. passed_one (λ b. test b.place) (λ b. b.stamp) qs h b (among_left site qs j b m) a)
 
     passed_taken : (qs : List (Bundle T)) (j : ℕ) (b : Bundle T) → slice_get (queue b.place qs) j ≡ Some b → test b.place ≡ true → IsPassed (stamps test qs) → IsPassed b.stamp
     passed_taken qs j b e a h = passed_one (λ b. test b.place) (λ b. b.stamp) qs h b (queued b.place qs j b e).0 a
 
-  -- What is counted: bundles at some places, times held at some nodes, frontiers of some inputs. It may be any such choice
-  -- with the source of each place, with the input of each fed place, and with the places of each node that it counts at.
+  -- What a frontier counts: bundles at some places, times held at some nodes, the frontiers of some inputs. The
+  -- choice is free, but with a place it counts the place's source, with a place that is fed its input, and with a
+  -- node at which it counts held times all of the node's places.
   module _ (p : Dataflow) (q : IsDataflow p) (there : Site → Bool) (holds opens : ℕ → Bool)
       (of_sources : (site : Site) → there site ≡ true → (s : ℕ) → source_of p site.node site.port ≡ Some s → holds s ≡ true)
       (of_inputs : (i k : ℕ) → is_input (node_of p i) ≡ true → there (place i 0 k) ≡ true → opens i ≡ true)
@@ -199,19 +202,19 @@ module _ {T : Type 0} (leq : T → T → Bool) (o : PartialOrderLaws leq) (t : T
     onward w (TakeHeld m k) a h = h
     onward w (Give g held sent) a h = onward_gave w g held sent a h
 
-  -- what is counted, in its three parts, and back
+  -- if all that counts has passed the time, so has each of the three logs
   pub passed_counts : (there holds : ℕ → Bool) (w : State T) → IsPassed (counted_times w there holds) → IsPassed (stamps (λ site. there site.node) w.in_flight) × IsPassed (held_where holds w.held) × IsPassed (open_where there w.open_times)
   passed_counts there holds w h =
       let a = passed_parts (stamps (λ site. there site.node) w.in_flight) (held_where holds w.held ++ open_where there w.open_times) h in
       let b = passed_parts (held_where holds w.held) (open_where there w.open_times) a.1 in
       (a.0, b.0, b.1)
 
-  -- passed by what is in flight, held and open, so by all that counts
+  -- if each of the three logs has passed the time, so has all that counts
   pub counts_passed : (there holds : ℕ → Bool) (w : State T) → IsPassed (stamps (λ site. there site.node) w.in_flight) × IsPassed (held_where holds w.held) × IsPassed (open_where there w.open_times) → IsPassed (counted_times w there holds)
   counts_passed there holds w h = passed_both (stamps (λ site. there site.node) w.in_flight) (held_where holds w.held ++ open_where there w.open_times) h.0 (passed_both (held_where holds w.held) (open_where there w.open_times) h.1 h.2)
 
   module _ (p : Dataflow) (q : IsDataflow p) (n : ℕ) where
-    -- a source of what is above is above
+    -- the source of a node that is above is above too
     upward : (site : Site) → upstream p n site.node ≡ true → (s : ℕ) → source_of p site.node site.port ≡ Some s → upstream p n s ≡ true
     upward site a s e = above_transitive p.nodes q.plan s site.node n (above_from_source p.nodes q.plan s site.node site.port s e (above_itself p.nodes q.plan s)) a
 
@@ -224,7 +227,7 @@ module _ {T : Type 0} (leq : T → T → Bool) (o : PartialOrderLaws leq) (t : T
     abbrev site_above : Site → Bool
     site_above site = upstream p n site.node
 
-    -- what a frontier has passed it has passed after each event
+    -- a frontier has passed after each event what it had passed before
     pub frontier_onward : (w : State T) (e : Event T) → IsAllowed leq p w e → IsPassed (frontier leq p w n) → IsPassed (frontier leq p (next_state leq p w e) n)
     frontier_onward w e a h =
         passed_least (counted_times (next_state leq p w e) (upstream p n) (upstream p n))
@@ -232,22 +235,22 @@ module _ {T : Type 0} (leq : T → T → Bool) (o : PartialOrderLaws leq) (t : T
         (onward p q site_above (upstream p n) (upstream p n) upward (λ i k b x. x) (λ site x. x) w e a
         (passed_counts (upstream p n) (upstream p n) w (passed-least leq o (counted_times w (upstream p n) (upstream p n)) t h))))
 
-    -- what a passed input frontier says of each of the three logs
+    -- if an input frontier has passed the time, each of the three logs has
     pub in_passed : (w : State T) → IsPassed (input_frontier leq p w n) → IsPassed (stamps site_above w.in_flight) × IsPassed (held_where (strictly_upstream p n) w.held) × IsPassed (open_where (upstream p n) w.open_times)
     in_passed w h = passed_counts (upstream p n) (strictly_upstream p n) w (passed-least leq o (counted_times w (upstream p n) (strictly_upstream p n)) t h)
 
-    -- what an input frontier has passed it has passed after each event
+    -- an input frontier has passed after each event what it had passed before
     pub input_onward : (w : State T) (e : Event T) → IsAllowed leq p w e → IsPassed (input_frontier leq p w n) → IsPassed (input_frontier leq p (next_state leq p w e) n)
     input_onward w e a h =
         passed_least (counted_times (next_state leq p w e) (upstream p n) (strictly_upstream p n))
         (counts_passed (upstream p n) (strictly_upstream p n) (next_state leq p w e)
         (onward p q site_above (strictly_upstream p n) (upstream p n) source_strict (λ i k b x. x) (λ site x. (and_parts (upstream p n site.node) (not (eqb site.node n)) x).0) w e a (in_passed w h)))
 
-    -- what waits at a node is beyond its input frontier
+    -- a bundle that is taken at a node is beyond what the node's input frontier had passed
     pub taken_later : (w : State T) (j : ℕ) (b : Bundle T) → slice_get (queue b.place w.in_flight) j ≡ Some b → b.place.node ≡ n → IsPassed (input_frontier leq p w n) → IsPassed b.stamp
     taken_later w j b e i h = passed_taken site_above w.in_flight j b e (ap (upstream p n) i ∙ above_itself p.nodes q.plan n) (in_passed w h).0
 
-  -- bundles at the places that pass one of two tests
+  -- bundles at the places that pass one of two tests have passed the time if those of each test have, and back
   passed_either : (f g : Site → Bool) (qs : List (Bundle T)) → IsPassed (stamps f qs) → IsPassed (stamps g qs) → IsPassed (stamps (λ site. f site || g site) qs)
   passed_either f g [] h k = refl
   passed_either f g (x ∷ qs) h k =
@@ -280,7 +283,7 @@ module _ {T : Type 0} (leq : T → T → Bool) (o : PartialOrderLaws leq) (t : T
     abbrev or_above : ℕ → Site → Bool
     or_above s site = is_at_port site || upstream p s site.node
 
-    -- at an input a port has nothing above it but the input's own frontier
+    -- a port of an input has nothing above it but the input's own frontier
     input_port : (w : State T) (e : Event T) → IsAllowed leq p w e → source_of p n port ≡ None
         → IsPassed (stamps is_at_port w.in_flight) → IsPassed (open_at n w.open_times)
         → IsPassed (stamps is_at_port (next_state leq p w e).in_flight) × IsPassed (open_at n (next_state leq p w e).open_times)
@@ -326,7 +329,7 @@ module _ {T : Type 0} (leq : T → T → Bool) (o : PartialOrderLaws leq) (t : T
             step true y z = absurd (no_source (node_of p n) port s some (subst (λ m. is_input (node_of p m) ≡ true) (eqb-true i n (and_parts (eqb i n) (eqb 0 port) y).0) b))
             step false y z = z
 
-    -- what the frontier of a port has passed it has passed after each event
+    -- the frontier of a port has passed after each event what it had passed before
     pub port_onward : (w : State T) (e : Event T) → IsAllowed leq p w e → IsPassed (port_frontier leq p w n port) → IsPassed (port_frontier leq p (next_state leq p w e) n port)
     port_onward w e a h = step (source_of p n port) refl (passed_parts (stamps is_at_port w.in_flight) (outstanding_from p w n (source_of p n port)) (passed-least leq o (stamps is_at_port w.in_flight ++ outstanding_from p w n (source_of p n port)) t h))
       where

@@ -1,4 +1,4 @@
--- Whatever waits, waits at a place that there is.
+-- Everything that waits is at a place that exists. So a worker that goes through its places misses nothing.
 use Rattle.std.proofs.Common.{◌≡◌, ◌≢◌, ℕ, zero, suc, ◌<◌, Bool, true, false, cond, not, ◌&&◌, List, [], ◌∷◌, ◌++◌, map, take, length, sym, refl, ap, ◌∙◌, subst, Option, Some, None, eqb, arith, IsTrue, inl, inr, ⊎_elim}
 use Rattle.std.specs.List.{flat_map, filter, slice_get, list_all}
 use Rattle.std.proofs.Math.IntN.{ℤ}
@@ -27,7 +27,7 @@ use Rattle.machine.proofs.HistoryLemmas.ClaimLemmas.{routed}
 use Rattle.machine.proofs.HistoryLemmas.FlowLemmas.{queued, among_left}
 use Rattle.machine.proofs.HistoryLemmas.KeptLemmas.{no_totals}
 
--- what holds of each element
+-- a property holds of each element
 abbrev Each : {X : Type 0} → (X → Type 0) → List X → Type 0
 Each {X} P xs = (x : X) → Among x xs → P x
 
@@ -49,7 +49,7 @@ each_flat P f (x ∷ xs) h = each_both P (f x) (flat_map f xs) (h x (inl refl)) 
 each_filter : {X : Type 0} (P : X → Type 0) (keep : X → Bool) (xs : List X) → Each P xs → Each P (filter keep xs)
 each_filter P keep xs h x m = h x (filter_has keep xs x m).0
 
--- numbers listed below n are below n
+-- each of the numbers below n is below n
 pub number_below : (n i : ℕ) → Among i (numbers_below n) → i < n
 number_below zero i m = absurd m
 number_below (suc n) i m = parts (numbers_below n) (number_below n i) m
@@ -59,7 +59,7 @@ number_below (suc n) i m = parts (numbers_below n) (number_below n i) m
     parts (x ∷ xs) h m = ⊎_elim (λ e. let r = h (inl e) in omega arith) (λ k. parts xs (λ j. h (inr j)) k) m
 
 module _ {T : Type 0} where
-  -- what is at a place of the bundles, some of it where one of them is there
+  -- if a bundle that is not empty is among these, there are updates at its place
   pub there_some : (qs : List (Bundle T)) (b : Bundle T) → Among b qs → b.updates ≢ [] → updates_at b.place qs ≢ []
   there_some [] b m h e = absurd m
   there_some (q ∷ qs) b m h e =
@@ -95,9 +95,9 @@ hand_with p f i x h y k n e = step (eqb k i) refl e
     step true g z = let r = y n z in (r.0, subst (λ j. j < p.workers) (sym (eqb-true k i g)) r.1)
     step false g z = h k n z
 
--- only a place that there is has a share of what a worker gave
+-- If a place has a share of an emission, the place exists.
 module _ {T : Type 0} (p : Dataflow) (q : IsDataflow p) where
-  -- only places that there are get a share
+  -- a place with a share exists
   pub shared : (site : Site) (g : Emission T) → g.worker < p.workers → share p site g ≢ [] → IsPlace p site
   shared site g l h = step (source_of p site.node site.port) refl (arranged_by (node_of p site.node)) h
     where
@@ -127,7 +127,7 @@ module _ {T : Type 0} (p : Dataflow) (q : IsDataflow p) where
           one true k = record { node = has_source p.nodes site.node site.port s e; port = inr (within (sources (node_of p site.node)) site.port s e); worker = to_worker c g.updates k }
           one false k = absurd (k refl)
 
-  -- and only from the node that is read there
+  -- a place with a share reads the giver's node
   shared_from : (site : Site) (g : Emission T) → share p site g ≢ [] → source_of p site.node site.port ≡ Some g.node
   shared_from site g h = step (source_of p site.node site.port) refl (arranged_by (node_of p site.node)) h
     where
@@ -139,12 +139,12 @@ module _ {T : Type 0} (p : Dataflow) (q : IsDataflow p) where
           one true f k = e ∙ ap (λ z. Some z) (sym (eqb-true g.node s f))
           one false f k = absurd (k refl)
 
-  -- so a bundle that is sent has a share in it, and its place reads the giver's node
+  -- a sent bundle has a share of what was given, so its place reads the giver's node
   pub sent_some : (g : Emission T) (sent : List (Bundle T)) → ((site : Site) (f : Update T → ℤ) → total_by f (updates_at site sent) ≡ total_by f (share p site g)) → IsTrue (list_all (λ b. not (eqb (length b.updates) 0)) sent)
       → (b : Bundle T) → Among b sent → share p b.place g ≢ []
   sent_some g sent whole filled b m e = there_some sent b m (filled_some sent filled b m) (no_totals (updates_at b.place sent) (share p b.place g) (whole b.place) e)
 
-  -- a bundle that was sent comes from the source that its place reads
+  -- a sent bundle goes to a place that reads the giver's node
   pub sent_from : (g : Emission T) (sent : List (Bundle T)) → ((site : Site) (f : Update T → ℤ) → total_by f (updates_at site sent) ≡ total_by f (share p site g)) → IsTrue (list_all (λ b. not (eqb (length b.updates) 0)) sent)
       → (b : Bundle T) → Among b sent → source_of p b.place.node b.place.port ≡ Some g.node
   sent_from g sent whole filled b m = shared_from b.place g (sent_some g sent whole filled b m)
@@ -158,7 +158,7 @@ module _ {T : Type 0} (p : Dataflow) (q : IsDataflow p) where
   abbrev IsOpen : OpenTime T → Type 0
   IsOpen o = IsInput p o.input
 
-  -- the same, of elements
+  -- everything that waits is at a place that exists, stated element by element
   record IsSited (w : State T) : Type 0 where
     bundles : Each IsBundle w.in_flight
     held : Each IsHeld w.held
@@ -216,7 +216,7 @@ module _ {T : Type 0} (p : Dataflow) (q : IsDataflow p) where
     sited_world minimum [] l = sited_first minimum
     sited_world minimum (e ∷ h) l = sited_after (state_after leq minimum p h) e l.0 (sited_world minimum h l.1)
 
-    -- in every legal history each bundle waits at a place that there is
+    -- in every legal history, everything that waits is at a place that exists
     pub in_place_lem : (minimum : T) (h : List (Event T)) → IsLegal leq minimum p h → IsInPlace p (state_after leq minimum p h)
     in_place_lem minimum h l =
         let w = state_after leq minimum p h in

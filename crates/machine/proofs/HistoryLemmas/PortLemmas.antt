@@ -1,4 +1,5 @@
--- A node that reads others is sent something only through its ports: its input frontier has passed what those of all have.
+-- A node that reads other nodes is sent updates only through its ports. So its input frontier has passed exactly the
+-- times that the frontiers of all its ports have passed.
 use Rattle.std.proofs.Common.{◌≡◌, ℕ, ◌<◌, ◌≤◌, Bool, true, not, ◌&&◌, List, [], ◌∷◌, ◌++◌, length, sym, ap, ◌∙◌, subst, Option, Some, None, eqb, arith, ◌⊎◌, inl, inr, ⊎_elim, refl}
 use Rattle.std.specs.List.{list_all}
 use Rattle.std.proofs.lemmas.Bool.{and_parts, and_from, eqb-true, eq-eqb, ne_eqb, false≢true}
@@ -35,7 +36,7 @@ module _ {T : Type 0} (leq : T → T → Bool) (o : PartialOrderLaws leq) (t : T
   abbrev is_at : ℕ → Site → Bool
   is_at port site = eqb site.node n && eqb site.port port
 
-  -- of what may come to the node, what may come to one of its ports
+  -- what may come to one of the node's ports is part of what may come to the node
   module _ (h : IsOver (input_frontier leq p w n)) (port s : ℕ) (e : source_of p n port ≡ Some s) where
     from_source : (m : ℕ) → upstream p s m ≡ true → upstream p n m ≡ true
     from_source m a = above_from_source p.nodes q.plan m n port s e a
@@ -70,7 +71,7 @@ module _ {T : Type 0} (leq : T → T → Bool) (o : PartialOrderLaws leq) (t : T
   source_at port l None e = absurd (some_within (sources (node_of p n)) port l e)
   source_at port l (Some s) e = (s, e)
 
-  -- and back
+  -- if the frontiers of all ports have passed a time, so has the input frontier
   module _ (placed : IsInPlace p w) (some : 1 ≤ port_count) (h : (port : ℕ) → port < port_count → IsOver (port_frontier leq p w n port)) where
     parts : (port : ℕ) → port < port_count → IsOver (stamps (is_at port) w.in_flight) × IsOver (outstanding_from p w n (source_of p n port))
     parts port l =
@@ -103,7 +104,7 @@ module _ {T : Type 0} (leq : T → T → Bool) (o : PartialOrderLaws leq) (t : T
         (λ r. passed_one leq o t (λ y. upstream p r.1 y.node) (λ y. y.time ∷ []) w.held (passed_counts leq o t (upstream p r.1) (upstream p r.1) w (of_source r.0 r.1 r.2)).1 x m r.3)
         (above_cases p.nodes q.plan x.node n b.0))
 
-    -- the node is no input
+    -- no input at the node or above it is open at or before the time; the node is no input, since it has a port
     all_open : IsOver (open_where (upstream p n) w.open_times)
     all_open = passed_all leq o t (λ x. upstream p n x.input) (λ x. x.time ∷ []) w.open_times (λ x m a.
         ⊎_elim
@@ -126,7 +127,7 @@ module _ {T : Type 0} (leq : T → T → Bool) (minimum : T) (o : PartialOrderLa
   abbrev over : T → ℕ → Bool
   over t port = has_passed leq (port_frontier leq p left n port) t
 
-  -- the input frontier of a node is that of its ports together
+  -- the input frontier of a node passes what the frontiers of all its ports pass
   pub port_fronts_lem : PortsAreInput leq p left n
   port_fronts_lem some t = same_test (has_passed leq (input_frontier leq p left n) t) (list_all (over t) (numbers_below all)) into back
     where

@@ -24,7 +24,7 @@ use Rattle.machine.specs.Histories.Outstanding.{held_where, open_where, counted_
 use Rattle.machine.specs.Histories.Readings.{IsQuiet, IsCaughtUp}
 use Rattle.plan.proofs.StandLemmas.{above_earlier}
 
--- where the same times are beyond two lists, their least elements are the same
+-- if the same times are beyond two lists, their least elements are the same
 module _ {T : Type 0} (below : T → T → Bool) (o : PartialOrderLaws below) where
   least_into : (S R : List T) → ((t : T) → is_beyond below S t ≡ is_beyond below R t) → (t : T) → Among t (least below S) → Among t (least below R)
   unfolding least
@@ -48,14 +48,14 @@ module _ {T : Type 0} (below : T → T → Bool) (o : PartialOrderLaws below) wh
       implies true c h = h refl
       implies false c h = refl
 
-  -- the least elements depend only on which times are beyond
+  -- least elements depend only on which times are beyond the list
   pub least_same : (S R : List T) → ((t : T) → is_beyond below S t ≡ is_beyond below R t) → SameElements (least below S) (least below R)
   least_same S R same = record {
     into = λ t c. contains_among t (least below R) (least_into S R same t (among_contains t (least below S) c));
     back = λ t c. contains_among t (least below S) (least_into R S (λ s. sym (same s)) t (among_contains t (least below R) c));
   }
 
--- the numbers below n
+-- each number below n is among the numbers below n
 pub numbered : (n i : ℕ) → i < n → Among i (numbers_below n)
 numbered zero i l = absurd (omega arith)
 numbered (suc n) i l = step (eqb i n) refl (numbered n i)
@@ -77,11 +77,11 @@ numbered (suc n) i l = step (eqb i n) refl (numbered n i)
 
 module _ {T : Type 0} (leq : T → T → Bool) (o : PartialOrderLaws leq) (p : Dataflow) (q : IsDataflow p) (w : State T) (n : ℕ)
     (at_inputs : (x : OpenTime T) → Among x w.open_times → (x.input < length p.nodes) × IsTrue (is_input (node_of p x.input))) where
-  -- what is open for a node
+  -- the elements of the frontiers of the inputs that feed the node
   abbrev fronts : List T
   fronts = open_for leq p.nodes (λ i. open_at i w.open_times) n
 
-  -- an opening of an input that feeds the node, at or before t
+  -- if an open time is at or before t, t is beyond the frontier of its input
   found_in : (t : T) (x : OpenTime T) → leq x.time t ≡ true → (os : List (OpenTime T)) → Among x os → is_beyond leq (open_at x.input os) t ≡ true
   found_in t x h [] a = absurd a
   found_in t x h (y ∷ os) a =
@@ -100,7 +100,7 @@ module _ {T : Type 0} (leq : T → T → Bool) (o : PartialOrderLaws leq) (p : D
       (λ b. or_right (is_beyond leq (open_at j w.open_times) t) (is_beyond leq (flat_map (λ j. open_at j w.open_times) is) t) (in_parts t i h is b))
       a
 
-  -- a time beyond what is open at or above the node is beyond what is open for it
+  -- a time beyond what is open at the node or above it is beyond what is open for it
   open_into : (t : T) (os : List (OpenTime T)) → ((x : OpenTime T) → Among x os → Among x w.open_times) → is_beyond leq (open_where (upstream p n) os) t ≡ true → is_beyond leq fronts t ≡ true
   open_into t [] among h = absurd (false≢true h)
   open_into t (x ∷ os) among h = step (upstream p n x.input) refl (leq x.time t) refl h (open_into t os (λ y a. among y (inr a)))
@@ -121,7 +121,7 @@ module _ {T : Type 0} (leq : T → T → Bool) (o : PartialOrderLaws leq) (p : D
       step true e false f k rest = rest (skip (leq x.time t) f k)
       step false e c f k rest = rest k
 
-  -- and back
+  -- a time beyond what is open for the node is beyond what is open at it or above it
   one_open : (t : T) (i : ℕ) → upstream p n i ≡ true → (os : List (OpenTime T)) → is_beyond leq (open_at i os) t ≡ true → is_beyond leq (open_where (upstream p n) os) t ≡ true
   one_open t i a [] h = h
   one_open t i a (x ∷ os) h = step (eqb x.input i) refl h (one_open t i a os)
@@ -147,7 +147,7 @@ module _ {T : Type 0} (leq : T → T → Bool) (o : PartialOrderLaws leq) (p : D
       step false e k rest = rest k
 
   module _ (quiet : IsQuiet leq p w) where
-    -- a held time that counts is at or after some element of an input's frontier
+    -- on a quiet board, each held time that counts is at or after some element of an input's frontier
     held_of : (holds : ℕ → Bool) (t : T) (ms : List (HeldTime T)) → is_beyond leq (held_where holds ms) t ≡ true → (m : HeldTime T) × Among m ms × (holds m.node ≡ true) × (leq m.time t ≡ true)
     held_of holds t [] h = absurd (false≢true h)
     held_of holds t (m ∷ ms) h = step (holds m.node) refl (leq m.time t) refl h (held_of holds t ms)
@@ -207,7 +207,7 @@ module _ {T : Type 0} (leq : T → T → Bool) (o : PartialOrderLaws leq) (p : D
         differs : (i j : ℕ) → not (eqb i j) ≡ true → i ≡ j → ⊥
         differs i j h e = false≢true (sym (ap not (eq-eqb i j e)) ∙ h)
 
-    -- on a quiet board a node stands where its inputs stand
+    -- on a quiet board each node's frontier is where the inputs put it
     pub caught_up_lem : IsCaughtUp leq p w n
     caught_up_lem = least_same leq o (outstanding p w n) fronts (λ t. same_test (is_beyond leq (outstanding p w n) t) (is_beyond leq fronts t) (into t) (back t))
       where
@@ -229,7 +229,7 @@ module _ {T : Type 0} (leq : T → T → Bool) (o : PartialOrderLaws leq) (p : D
             (list_any-append (λ f. leq f t) (held_where (upstream p n) w.held) (open_where (upstream p n) w.open_times)
             ∙ or_right (is_beyond leq (held_where (upstream p n) w.held) t) (is_beyond leq (open_where (upstream p n) w.open_times) t) k)
 
--- the same elements have the same times beyond them
+-- lists with the same elements have the same times beyond them
 pub beyond_elements : {T : Type 0} (below : T → T → Bool) (F G : List T) → SameElements F G → (t : T) → is_beyond below F t ≡ is_beyond below G t
 beyond_elements below F G same t =
     same_test (is_beyond below F t) (is_beyond below G t)

@@ -1,4 +1,4 @@
--- Absolute diffs, added up; over the workers.
+-- Sizes, which are sums of absolute diffs, added up over the workers. The bounds are proved with these.
 use Rattle.update.proofs.ConsolidatedLemmas.{summed_size, summed_size-append}
 use Rattle.std.proofs.Common.{◌≡◌, ℕ, zero, suc, ◌+◌, ◌*◌, ◌<◌, ◌≤◌, Bool, true, false, cond, ◌&&◌, List, [], ◌∷◌, ◌++◌, take, sym, refl, ◌∙◌, Option, Some, None, eqb, arith, unsigned_abs}
 use Rattle.std.specs.List.{flat_map, filter}
@@ -22,7 +22,7 @@ pub size_is : {T : Type 0} (us : List (Update T)) → total_by absolute us ≡ p
 size_is [] = refl
 size_is (u ∷ us) = rw (size_is us) refl
 
--- the numbers below n, added up
+-- the sum of a function over the numbers below n
 abbrev pub all : ℕ → (ℕ → ℕ) → ℕ
 all zero f = 0
 all (suc n) f = f n + all n f
@@ -32,12 +32,12 @@ pub all-le : (n : ℕ) (f g : ℕ → ℕ) → ((k : ℕ) → f k ≤ g k) → a
 all-le zero f g h = omega arith
 all-le (suc n) f g h = let x = h n in let y = all-le n f g h in omega arith
 
--- sums over the workers go through addition
+-- the sum over the workers of sums is the sum of the sums
 pub all-sum : (n : ℕ) (f g : ℕ → ℕ) → all n (λ k. f k + g k) ≡ all n f + all n g
 all-sum zero f g = refl
 all-sum (suc n) f g = let h = all-sum n f g in omega arith
 
--- products, added up, are no more than the product of the sums
+-- a sum of products is no more than the product of the sums
 pub all-product : (n : ℕ) (f g : ℕ → ℕ) → all n (λ k. f k * g k) ≤ all n f * all n g
 all-product zero f g = omega arith
 all-product (suc n) f g = step (f n) (g n) (all n f) (all n g) (all n (λ k. f k * g k)) (all-product n f g)
@@ -64,7 +64,7 @@ all-one (suc n) j x h = step (eqb j n) refl (all-one n j x)
         below : (j ≡ n → ⊥) → j < n
         below d = omega arith
 
--- at most one of the numbers below n
+-- a sum in which at most one worker has something is at most that
 pub all-at : (n j x : ℕ) → all n (λ k. cond (eqb j k) x 0) ≤ x
 all-at zero j x = omega arith
 all-at (suc n) j x = step (eqb j n) refl (all-at n j x)
@@ -86,7 +86,7 @@ module _ {T : Type 0} where
   all-chosen true n j us l = all-same n (λ i. summed_size (cond (eqb j i) us [])) (λ i. cond (eqb j i) (summed_size us) 0) (λ i. size-cond (eqb j i) us) ∙ all-one n j (summed_size us) l
   all-chosen false n j us l = all-zero n
 
-  -- what a node emitted on all workers
+  -- what the workers gave at a node adds up to what the node gave
   pub all-emitted : (n k : ℕ) (gs : List (Emission T)) → AreWorkers k gs → all k (λ j. summed_size (emitted_by n j gs)) ≡ summed_size (emitted_at n gs)
   all-emitted n k [] a = all-zero k
   all-emitted n k (g ∷ gs) a =
@@ -95,7 +95,7 @@ module _ {T : Type 0} where
       ∙ (all-sum k (λ j. summed_size (cond (eqb g.node n && eqb g.worker j) g.updates [])) (λ j. summed_size (emitted_by n j gs))
       ∙ (rw (all-emitted n k gs a.1, all-chosen (eqb g.node n) k g.worker g.updates a.0) (sym (summed_size-append (cond (eqb g.node n) g.updates []) (emitted_at n gs)))))
 
-  -- what is sent by key, on all workers
+  -- updates that are sent by key add up to no more than there were, over the workers
   pub all-routed : (n : ℕ) (to : List ℤ → ℕ) (us : List (Update T)) → all n (λ k. summed_size (filter (λ u. eqb (to u.row) k) us)) ≤ summed_size us
   all-routed n to [] = let z = all-zero n in omega arith
   all-routed n to (u ∷ us) =
@@ -109,7 +109,7 @@ module _ {T : Type 0} where
       one k true = refl
       one k false = omega arith
 
-  -- what goes along an edge, to all workers
+  -- what the workers get along an edge adds up to no more than its source gave
   pub all-shared : (p : Dataflow) (s n : ℕ) (c : Option ℕ) (gs : List (Emission T)) → all n (λ k. summed_size (flat_map (share_from p (Some s) c k) gs)) ≤ summed_size (emitted_at s gs)
   all-shared p s n c [] = let z = all-zero n in omega arith
   all-shared p s n c (g ∷ gs) =
@@ -128,7 +128,7 @@ module _ {T : Type 0} where
           omega arith
       one true (Some x) = all-routed n (λ r. route p (take x r)) g.updates
 
-  -- what is fed, at all workers
+  -- what the workers get of the changes of an input adds up to no more than was fed
   pub all-fed : (p : Dataflow) (n j : ℕ) (fs : List (Fed T)) → all j (λ k. summed_size (flat_map (share_fed p (place n 0 k)) fs)) ≤ summed_size (fed_to n fs)
   all-fed p n j [] = let z = all-zero j in omega arith
   all-fed p n j (f ∷ fs) =

@@ -1,4 +1,5 @@
--- A stamp stands for the times that it was made from, and has none of them twice.
+-- A stamp stands for the times that it was made from: the same times are beyond both. No two of its times can be
+-- compared, so none occurs twice.
 use Rattle.std.proofs.Common.{◌≡◌, Bool, true, false, cond, not, ◌||◌, List, [], ◌∷◌, ◌++◌, sym, refl, ap, ap₂, ◌∙◌}
 use Rattle.std.specs.List.{filter, list_all}
 use Rattle.std.proofs.lemmas.Bool.{and_parts, and_from, or_parts, true≢false, false_from_ne_true}
@@ -28,7 +29,7 @@ or_three true b c = refl
 or_three false b c = refl
 
 module _ {T : Type 0} (below : T → T → Bool) (o : PartialOrderLaws below) where
-  -- what is beyond t is not missed where t is not at or before s
+  -- if t is not at or before s, dropping the elements beyond t does not change whether s is beyond the rest
   beyond_left : (t s : T) → below t s ≡ false → (F : List T) → is_beyond below (filter (λ f. not (below t f)) F) s ≡ is_beyond below F s
   beyond_left t s e [] = refl
   beyond_left t s e (f ∷ F) = step (below t f) refl (below f s) refl (beyond_left t s e F)
@@ -51,7 +52,7 @@ module _ {T : Type 0} (below : T → T → Bool) (o : PartialOrderLaws below) wh
       step false g true h = list_any-append (λ f. below f s) (filter (λ f. not (below t f)) F) (t ∷ []) ∙ (ap (λ b. is_beyond below (filter (λ f. not (below t f)) F) s || (b || false)) h ∙ (all_true (is_beyond below (filter (λ f. not (below t f)) F) s) ∙ sym (all_true (is_beyond below F s))))
       step false g false h = list_any-append (λ f. below f s) (filter (λ f. not (below t f)) F) (t ∷ []) ∙ ap₂ (λ x y. x || y) (beyond_left t s h F) (or_false (below t s) ∙ h)
 
-  -- adding times to a frontier opens just what is beyond them
+  -- what is beyond a frontier with times added is what was beyond it, and what is beyond one of those times
   pub with_times_beyond : (F ts : List T) (s : T) → is_beyond below (with_times below F ts) s ≡ (is_beyond below F s || is_beyond below ts s)
   with_times_beyond F [] s = sym (or_false (is_beyond below F s))
   with_times_beyond F (t ∷ ts) s =
@@ -59,7 +60,7 @@ module _ {T : Type 0} (below : T → T → Bool) (o : PartialOrderLaws below) wh
       ∙ (ap (λ b. b || is_beyond below ts s) (with_time_beyond F t s)
       ∙ or_three (is_beyond below F s) (below t s) (is_beyond below ts s))
 
-  -- what a stamp has passed, its times have
+  -- the same times are beyond a stamp and beyond the times that it was made from
   pub stamp_beyond : (us : List (Update T)) (s : T) → is_beyond below (stamp below us) s ≡ is_beyond below (times us) s
   unfolding stamp
   stamp_beyond us s = with_times_beyond [] (times us) s
@@ -68,11 +69,11 @@ module _ {T : Type 0} (below : T → T → Bool) (o : PartialOrderLaws below) wh
   pub stamp_before : (us : List (Update T)) → all_beyond below (stamp below us) (times us) ≡ true
   stamp_before us = all_beyond_from o (stamp below us) (times us) (λ t h. stamp_beyond us t ∙ h)
 
-  -- where a frontier has passed a time, so have the times that are beyond it
+  -- if a frontier has passed a time, so have the times that are beyond the frontier
   pub beyond_passed : (F G : List T) (t : T) → all_beyond below F G ≡ true → is_beyond below F t ≡ false → is_beyond below G t ≡ false
   beyond_passed F G t a h = false_from_ne_true (is_beyond below G t) (λ b. true≢false (sym (beyond_later o F G t a b) ∙ h))
 
-  -- What holds of all times holds of their stamp
+  -- A test that all times pass is one that all times of their stamp pass
 
   all_with_time : (p : T → Bool) (F : List T) (t : T) → list_all p F ≡ true → p t ≡ true → list_all p (with_time below F t) ≡ true
   all_with_time p F t a h = step (is_beyond below F t)
@@ -85,12 +86,12 @@ module _ {T : Type 0} (below : T → T → Bool) (o : PartialOrderLaws below) wh
   all_with_times p F [] a h = a
   all_with_times p F (t ∷ ts) a h = let g = and_parts (p t) (list_all p ts) h in all_with_times p (with_time below F t) ts (all_with_time p F t a g.0) g.1
 
-  -- what holds of all times of a list holds of its stamp
+  -- a test that all times of a list pass is one that all times of its stamp pass
   pub all_stamp : (p : T → Bool) (us : List (Update T)) → list_all p (times us) ≡ true → list_all p (stamp below us) ≡ true
   unfolding stamp
   all_stamp p us h = all_with_times p [] (times us) refl h
 
-  -- No two of its times can be compared
+  -- No two times of a stamp can be compared
 
   apart_filter : (p : T → Bool) (t : T) (F : List T) → list_all (is_incomparable below t) F ≡ true → list_all (is_incomparable below t) (filter p F) ≡ true
   apart_filter p t [] h = refl
@@ -119,7 +120,7 @@ module _ {T : Type 0} (below : T → T → Bool) (o : PartialOrderLaws below) wh
       let b = and_parts (is_incomparable below f t) (list_all (λ f. is_incomparable below f t) F) e in
       and_from (list_all (is_incomparable below f) (F ++ t ∷ [])) (is_antichain below (F ++ t ∷ [])) (apart_last f t F a.0 b.0) (antichain_last t F a.1 b.1)
 
-  -- what is left is neither before nor after the time that comes in
+  -- the elements that stay cannot be compared with the time that comes in
   left_apart : (t : T) (F : List T) → is_beyond below F t ≡ false → list_all (λ f. is_incomparable below f t) (filter (λ f. not (below t f)) F) ≡ true
   left_apart t [] h = refl
   left_apart t (f ∷ F) h = let a = or_parts (below f t) (is_beyond below F t) h in step (below t f) refl a.0 (left_apart t F a.1)
@@ -145,7 +146,7 @@ module _ {T : Type 0} (below : T → T → Bool) (o : PartialOrderLaws below) wh
   unfolding stamp
   stamp_apart us = with_times_apart [] (times us) refl
 
--- a time comes in, by the test and by what is left
+-- the frontier after a time came in, from the loop's test and the elements that it kept
 pub time_in : {T : Type 0} (below : T → T → Bool) (old left new : List T) (t : T) (test : Bool) → test ≡ is_beyond below old t → test ≡ false → left ≡ filter (λ f. not (below t f)) old → new ≡ left ++ t ∷ [] → new ≡ with_time below old t
 time_in below old left new t test e f l n = n ∙ (ap (λ ts. ts ++ t ∷ []) l ∙ ap (λ c. cond c old (filter (λ f. not (below t f)) old ++ t ∷ [])) (sym f ∙ e))
 

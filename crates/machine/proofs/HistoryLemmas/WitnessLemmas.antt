@@ -1,4 +1,4 @@
--- The examples over times that are pairs.
+-- The examples over times that are pairs: each is computed, or a short proof shows that the event is allowed.
 use Rattle.std.proofs.Common.{◌≡◌, ℕ, zero, suc, ◌≤◌, Bool, true, false, List, [], ◌∷◌, ◌++◌, map, cond, sym, refl, ap, ◌∙◌, arith, nat_le, ℤ, pos}
 use Rattle.std.proofs.Math.IntN.{negsuc, ◌+ℤ◌}
 use Rattle.std.proofs.lemmas.Int.{ints}
@@ -59,15 +59,15 @@ copying_plan zero l = refl
 copying_plan (suc zero) l = refl
 copying_plan (suc (suc n)) l = absurd (omega (arith, l))
 
--- the counting is a dataflow
+-- `counting` is a dataflow
 pub counting_flows : IsDataflow counting
 counting_flows = record { plan = counting_plan; staffed = omega (arith) }
 
--- the listing is a dataflow
+-- `listing` is a dataflow
 pub listing_flows : IsDataflow listing
 listing_flows = record { plan = listing_plan; staffed = omega (arith) }
 
--- the copying is a dataflow
+-- `copying` is a dataflow
 pub copying_flows : IsDataflow copying
 copying_flows = record { plan = copying_plan; staffed = omega (arith) }
 
@@ -105,7 +105,7 @@ linear_plan (suc (suc (suc (suc zero)))) l = refl
 linear_plan (suc (suc (suc (suc (suc zero))))) l = refl
 linear_plan (suc (suc (suc (suc (suc (suc n)))))) l = absurd (omega (arith, l))
 
--- ---- the row at a distinct that came at two times
+-- ---- the row that came to a distinct at two times
 
 abbrev three : List (Update Bitime)
 three = seven_comes 0 3 ∷ seven_comes 3 0 ∷ seven_goes 3 3 ∷ []
@@ -116,7 +116,7 @@ once = record { row = pos 7 ∷ []; count = pos 1 }
 abbrev back : Entry
 back = record { row = pos 7 ∷ []; count = negsuc 0 }
 
--- twice, and one of them back, is once
+-- two of a row, and one taken back, is one
 three_sum : (z : Bool) → cond z (pos 1) (pos 0) +ℤ (cond z (pos 1) (pos 0) +ℤ (cond z (negsuc 0) (pos 0) +ℤ pos 0)) ≡ cond z (pos 1) (pos 0) +ℤ pos 0
 three_sum true = refl
 three_sum false = refl
@@ -130,7 +130,7 @@ one_gives = refl
 abbrev came : Bitime → List Entry
 came t = as_of bitime_below t (received_at came_twice 2 1 0)
 
--- what came and what is given, by whether either component of the time is 3 or more
+-- what came and what is given, by whether each component of the time is at least 3
 came_both : (t : Bitime) → nat_le 3 t.first ≡ true → nat_le 3 t.second ≡ true → came t ≡ once ∷ once ∷ []
 came_both t ex ey = rw (from_zero t.first, from_zero t.second, ex, ey) refl
 
@@ -165,7 +165,7 @@ distinct_law t e row = step (nat_le 3 t.first) refl (nat_le 3 t.second) refl
     step false ex true ey = ap (λ es. count_of es row) (gone_right t ex ey ∙ (sym one_gives ∙ ap (reduction_output 1 (reduction_answer Distinct)) (sym (came_right t ex ey))))
     step false ex false ey = ap (λ es. count_of es row) (gone_none t ex ey ∙ ap (reduction_output 1 (reduction_answer Distinct)) (sym (came_none t ex ey)))
 
--- a distinct may give at a join of times that it never held
+-- a distinct may give at a join of times, which the worker never held
 pub distinct_gives : IsAllowed bitime_below listing came_twice (Give (given_at_node 2 three) [] (cut bitime_below listing (given_at_node 2 three)))
 distinct_gives = record {
   worker = omega (arith);
@@ -183,7 +183,7 @@ distinct_gives = record {
 another_order : (x y z : ℤ) → x +ℤ (z +ℤ (y +ℤ pos 0)) ≡ x +ℤ (y +ℤ (z +ℤ pos 0))
 another_order x y z = omega (arith, ints)
 
--- the first and the last of three, and then the other one
+-- three updates in two bundles: the first and the last, then the second
 cut_whole_in_two : (c : Bool) (f : Update Bitime → ℤ) (u v w : Update Bitime) → total_by f (cond c (u ∷ w ∷ []) [] ++ (cond c (v ∷ []) [] ++ [])) ≡ total_by f (cond c (u ∷ v ∷ w ∷ []) [] ++ [])
 cut_whole_in_two true f u v w = another_order (f u) (f v) (f w)
 cut_whole_in_two false f u v w = refl
@@ -206,21 +206,21 @@ cut_in_two = record {
 
 -- ---- sinces, frontiers and bounds
 
--- a view may give up the past
+-- readers of a view may give up the past
 pub allow_legal : IsLegal bitime_below (make_pair 0 0) counting (Allow 2 3 (make_pair 4 4 ∷ []) ∷ [])
 allow_legal = (record { client = omega (arith); within = omega (arith); view = refl; onward = refl }, tt)
 
--- the frontiers while an update waits
+-- the frontiers while an update waits at the count
 pub in_flight_fronts : HasFrontiers waits_at_count (make_pair 10 1 ∷ make_pair 0 2 ∷ []) (make_pair 10 1 ∷ make_pair 0 2 ∷ [])
 unfolding stamp least reaches
 in_flight_fronts = record { input = refl; port = refl; count = refl; view_input = refl; view_port = refl; view = refl }
 
--- the frontiers while its time is held
+-- the frontiers while a worker holds its time
 pub held_fronts : HasFrontiers (held_at_count 10 1) (make_pair 0 2 ∷ []) (make_pair 10 1 ∷ make_pair 0 2 ∷ [])
 unfolding stamp least reaches
 held_fronts = record { input = refl; port = refl; count = refl; view_input = refl; view_port = refl; view = refl }
 
--- the frontiers once it is gone
+-- the frontiers after that
 pub gone_fronts : HasFrontiers (open_from (make_pair 0 2)) (make_pair 0 2 ∷ []) (make_pair 0 2 ∷ [])
 unfolding stamp least reaches
 gone_fronts = record { input = refl; port = refl; count = refl; view_input = refl; view_port = refl; view = refl }
@@ -230,7 +230,7 @@ pub quiet_while_held : IsQuiet bitime_below counting (held_at_count 10 3)
 unfolding least reaches
 quiet_while_held = record { in_flight = refl; hand = λ k l. refl; held = refl }
 
--- a stamp of three times has the least two
+-- the stamp of three times has the least two
 pub stamp_of_three : stamp bitime_below (seven_comes 0 3 ∷ seven_comes 3 3 ∷ seven_comes 3 0 ∷ []) ≡ make_pair 0 3 ∷ make_pair 3 0 ∷ []
 unfolding stamp
 stamp_of_three = refl
@@ -245,7 +245,7 @@ pub product_bound : bound_by joining (λ n. 0) (λ input. 2147483647) 5 ≡ 4611
 unfolding bound_by
 product_bound = refl
 
--- bounds may leave 64 bits
+-- bounds may exceed 64 bits
 pub doubled_bounds : map (bound_by doubling (λ n. 0) (λ input. 1073741824)) (4 ∷ 6 ∷ []) ≡ 4611686018427387904 ∷ 9223372036854775808 ∷ []
 unfolding bound_by
 doubled_bounds = refl

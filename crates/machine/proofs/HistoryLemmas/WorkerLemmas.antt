@@ -1,4 +1,5 @@
--- Sums over the workers.
+-- Sums over the workers. What all workers gave, got or were fed is the sum of what each did, so that a fact about
+-- each worker becomes one about a node.
 use Rattle.std.proofs.Common.{◌≡◌, ℕ, zero, suc, ◌<◌, ◌≤◌, Bool, true, false, cond, ◌&&◌, List, [], ◌∷◌, ◌++◌, map, take, sym, refl, ap, ◌∙◌, Option, Some, None, eqb, arith, IsTrue}
 use Rattle.std.specs.List.{flat_map, filter}
 use Rattle.std.proofs.lemmas.Int.{ints}
@@ -18,7 +19,7 @@ use Rattle.plan.specs.Nodes.{is_input}
 use Rattle.machine.proofs.HistoryLemmas.FlowLemmas.{sum_at, sum_at-append}
 use Rattle.machine.proofs.HistoryLemmas.KeptLemmas.{AreWorkers, AreInputs}
 
--- the numbers below n, added up
+-- the sum of a function over the numbers below n
 abbrev pub over : ℕ → (ℕ → ℤ) → ℤ
 over zero f = pos 0
 over (suc n) f = f n +ℤ over n f
@@ -34,7 +35,7 @@ pub over-zero : (n : ℕ) → over n (λ k. pos 0) ≡ pos 0
 over-zero zero = refl
 over-zero (suc n) = +ℤ_idl (over n (λ k. pos 0)) ∙ over-zero n
 
--- sums over the workers agree where each part does
+-- sums over the workers agree if each part does
 pub over-same : (n : ℕ) (f g : ℕ → ℤ) → ((k : ℕ) → k < n → f k ≡ g k) → over n f ≡ over n g
 over-same zero f g h = refl
 over-same (suc n) f g h = rw (h n (omega arith), over-same n f g (λ k l. h k (omega arith))) refl
@@ -43,7 +44,7 @@ over-past : (n j : ℕ) (x : ℤ) → n ≤ j → over n (λ k. cond (eqb j k) x
 over-past zero j x h = refl
 over-past (suc n) j x h = rw (ne_eqb j n (λ e. absurd (omega arith))) (+ℤ_idl (over n (λ k. cond (eqb j k) x (pos 0))) ∙ over-past n j x (omega arith))
 
--- a sum with one part is that part
+-- a sum in which one worker alone has something is that
 pub over-one : (n j : ℕ) (x : ℤ) → j < n → over n (λ k. cond (eqb j k) x (pos 0)) ≡ x
 over-one zero j x h = absurd (omega arith)
 over-one (suc n) j x h = step (eqb j n) refl (over-one n j x)
@@ -55,12 +56,12 @@ over-one (suc n) j x h = step (eqb j n) refl (over-one n j x)
         below : (j ≡ n → ⊥) → j < n
         below d = omega arith
 
--- the bags below n, joined
+-- the bags of the numbers below n, one after another
 abbrev pub gather : ℕ → (ℕ → List Entry) → List Entry
 gather zero f = []
 gather (suc n) f = f n ++ gather n f
 
--- what all workers have of a row is the sum of what each has
+-- the count of a row in all workers' bags together is the sum of its counts in each
 pub total-gather : (n : ℕ) (f : ℕ → List Entry) (r : List ℤ) → count_of (gather n f) r ≡ over n (λ k. count_of (f k) r)
 total-gather zero f r = refl
 total-gather (suc n) f r = count_of-append (f n) (gather n f) r ∙ ap (λ z. count_of (f n) r +ℤ z) (total-gather n f r)
@@ -74,7 +75,7 @@ module _ {T : Type 0} (leq : T → T → Bool) (t : T) where
   over-chosen true k j us r l = over-same k (λ i. sum_at leq t (cond (eqb j i) us []) r) (λ i. cond (eqb j i) (sum_at leq t us r) (pos 0)) (λ i m. sum_at-cond (eqb j i) us r) ∙ over-one k j (sum_at leq t us r) l
   over-chosen false k j us r l = over-zero k
 
-  -- over all workers
+  -- what the workers gave at a node adds up to what the node gave
   pub over-emitted : (n k : ℕ) (gs : List (Emission T)) (r : List ℤ) → AreWorkers k gs → over k (λ j. sum_at leq t (emitted_by n j gs) r) ≡ sum_at leq t (emitted_at n gs) r
   over-emitted n k [] r a = over-zero k
   over-emitted n k (g ∷ gs) r a =
@@ -91,7 +92,7 @@ module _ {T : Type 0} (leq : T → T → Bool) (t : T) where
   both_parts true x y = refl
   both_parts false x y = refl
 
-  -- what passes a test of its row
+  -- updates whose rows pass a test: the sum of a row is as before if the row passes, and 0 if not
   pub sum_at-filter : (test : List ℤ → Bool) (us : List (Update T)) (r : List ℤ) → sum_at leq t (filter (λ u. test u.row) us) r ≡ cond (test r) (sum_at leq t us r) (pos 0)
   sum_at-filter test [] r = sym (cond_zero (test r))
   sum_at-filter test (u ∷ us) r =
@@ -115,7 +116,7 @@ module _ {T : Type 0} (leq : T → T → Bool) (t : T) where
           step true h = ap (λ b. sum_at leq t (cond b (u ∷ []) []) r) (ap test (row_same u.row r h)) ∙ sum_at-cond (test r) (u ∷ []) r
           step false h = sum_at-cond (test u.row) (u ∷ []) r ∙ rw (alone (leq u.time t) h) (cond_zero (test u.row) ∙ sym (cond_zero (test r)))
 
-  -- an edge that stays on its worker
+  -- along an edge that stays on its worker, a worker gets all that it gave at the source
   pub shared_along : (p : Dataflow) (s k : ℕ) (gs : List (Emission T)) → flat_map (share_from p (Some s) None k) gs ≡ emitted_by s k gs
   shared_along p s k [] = refl
   shared_along p s k (g ∷ gs) = rw (shared_along p s k gs) (ap (λ z. z ++ emitted_by s k gs) (step (eqb g.node s) (eqb g.worker k)))
@@ -124,7 +125,7 @@ module _ {T : Type 0} (leq : T → T → Bool) (t : T) where
       step true b = refl
       step false b = refl
 
-  -- an edge that sends by columns
+  -- along an edge that sends by columns, a worker gets the rows of its keys
   pub shared_by_key : (p : Dataflow) (s k w : ℕ) (gs : List (Emission T)) (r : List ℤ) → sum_at leq t (flat_map (share_from p (Some s) (Some w) k) gs) r ≡ cond (eqb (route p (take w r)) k) (sum_at leq t (emitted_at s gs) r) (pos 0)
   shared_by_key p s k w [] r = sym (cond_zero (eqb (route p (take w r)) k))
   shared_by_key p s k w (g ∷ gs) r =
@@ -137,12 +138,12 @@ module _ {T : Type 0} (leq : T → T → Bool) (t : T) where
       one true = sum_at-filter (λ x. eqb (route p (take w x)) k) g.updates r
       one false = sym (cond_zero (eqb (route p (take w r)) k))
 
-  -- a port with no source
+  -- through a port with no source nothing comes
   pub shared_none : (p : Dataflow) (c : Option ℕ) (k : ℕ) (gs : List (Emission T)) → flat_map (share_from p None c k) gs ≡ []
   shared_none p c k [] = refl
   shared_none p c k (g ∷ gs) = shared_none p c k gs
 
-  -- what is fed, over all workers
+  -- what the workers get of the changes of an input adds up to what was fed
   pub over-fed : (p : Dataflow) → ((r : List ℤ) → route p r < p.workers) → (n : ℕ) (fs : List (Fed T)) (r : List ℤ) → over p.workers (λ k. sum_at leq t (flat_map (share_fed p (place n 0 k)) fs) r) ≡ sum_at leq t (fed_to n fs) r
   over-fed p b n [] r = over-zero p.workers
   over-fed p b n (f ∷ fs) r =
@@ -152,7 +153,7 @@ module _ {T : Type 0} (leq : T → T → Bool) (t : T) where
       ∙ (over-sum p.workers (λ k. sum_at leq t (cond (eqb f.input n && eqb (route p u.row) k) (u ∷ []) []) r) (λ k. sum_at leq t (flat_map (share_fed p (place n 0 k)) fs) r)
       ∙ (rw (over-fed p b n fs r, over-chosen (eqb f.input n) p.workers (route p u.row) (u ∷ []) r (b u.row)) (sym (sum_at-append leq t (cond (eqb f.input n) (u ∷ []) []) (fed_to n fs) r))))
 
-  -- nothing is fed to what is no input
+  -- nothing is fed to a node that is no input
   pub fed_none : (p : Dataflow) (site : Site) (fs : List (Fed T)) → AreInputs p fs → (IsTrue (is_input (node_of p site.node)) → ⊥) → flat_map (share_fed p site) fs ≡ []
   fed_none p site [] a d = refl
   fed_none p site (f ∷ fs) a d = step (same_place (home p f) site) refl (fed_none p site fs a.1 d)

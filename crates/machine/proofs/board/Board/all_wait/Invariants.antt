@@ -6,7 +6,7 @@ use Rattle.machine.specs.Boards.Loads.{lot_of}
 use Rattle.machine.specs.Boards.Reads.{input_front}
 use Rattle.machine.proofs.board.Board.all_wait.Given as goal
 
--- all of the nodes so far
+-- at each node so far, each held time could still receive input
 abbrev pub invariant-loop-n : goal.invariant-loop-n
 invariant-loop-n g l =
     let below = g.T.PartialOrder.below in

@@ -6,7 +6,7 @@ use Rattle.machine.specs.Boards.Loads.{lot_of}
 use Rattle.machine.specs.Boards.Reads.{input_front}
 use Rattle.machine.proofs.board.Board.all_wait_at.Given as goal
 
--- all of the workers so far
+-- for each worker so far, each held time could still receive input
 abbrev pub invariant-loop-worker : goal.invariant-loop-worker
 invariant-loop-worker g l =
     let below = g.T.PartialOrder.below in

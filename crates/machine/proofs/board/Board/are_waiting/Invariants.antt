@@ -4,7 +4,7 @@ use Rattle.lattice.specs.Frontiers.{is_beyond}
 use Rattle.machine.specs.Boards.Reads.{input_front}
 use Rattle.machine.proofs.board.Board.are_waiting.Given as goal
 
--- what is left decides
+-- the times that are left give the answer
 abbrev pub invariant-loop-t : goal.invariant-loop-t
 invariant-loop-t g l =
     let below = g.T.PartialOrder.below in

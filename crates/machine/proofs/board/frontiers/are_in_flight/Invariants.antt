@@ -6,6 +6,6 @@ use Rattle.machine.specs.Boards.Loads.{stamps_at}
 use Rattle.machine.specs.Boards.Stations.{lots}
 use Rattle.machine.proofs.board.frontiers.are_in_flight.Given as goal
 
--- none of the nodes so far
+-- no node so far has such a time
 abbrev pub invariant-loop-n : goal.invariant-loop-n
 invariant-loop-n g l = list_any (λ i. reaches l.plan i l.node && is_beyond g.T.PartialOrder.below (stamps_at (lots l.stations) i) l.t) (numbers_below l.n) ≡ false

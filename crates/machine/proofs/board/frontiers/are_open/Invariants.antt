@@ -5,6 +5,6 @@ use Rattle.plan.specs.Ancestors.{reaches, numbers_below}
 use Rattle.machine.specs.Boards.Inputs.{front_at}
 use Rattle.machine.proofs.board.frontiers.are_open.Given as goal
 
--- none of the nodes so far
+-- no node so far has such a time
 abbrev pub invariant-loop-n : goal.invariant-loop-n
 invariant-loop-n g l = list_any (λ i. reaches l.plan i l.node && is_beyond g.T.PartialOrder.below (front_at i l.inputs) l.t) (numbers_below l.n) ≡ false

@@ -5,6 +5,6 @@ use Rattle.machine.specs.Boards.Loads.{stamps_at}
 use Rattle.machine.specs.Boards.Stations.{lots}
 use Rattle.machine.proofs.board.frontiers.push_in_flight.Given as goal
 
--- what the nodes so far have
+-- the times of the nodes so far are appended
 abbrev pub invariant-loop-n : goal.invariant-loop-n
 invariant-loop-n g l = l.all.items ≡ l.fn.all.items ++ flat_map (λ i. cond (reaches l.plan i l.node) (stamps_at (lots l.stations) i) []) (numbers_below l.n)

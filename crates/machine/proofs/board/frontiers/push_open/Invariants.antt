@@ -4,6 +4,6 @@ use Rattle.plan.specs.Ancestors.{reaches, numbers_below}
 use Rattle.machine.specs.Boards.Inputs.{front_at}
 use Rattle.machine.proofs.board.frontiers.push_open.Given as goal
 
--- what the nodes so far have
+-- the times of the nodes so far are appended
 abbrev pub invariant-loop-n : goal.invariant-loop-n
 invariant-loop-n g l = l.all.items ≡ l.fn.all.items ++ flat_map (λ i. cond (reaches l.plan i l.node) (front_at i l.inputs) []) (numbers_below l.n)

@@ -4,7 +4,7 @@ use Rattle.lattice.specs.Frontiers.{is_beyond}
 use Rattle.machine.specs.Boards.Stations.{lot}
 use Rattle.machine.proofs.board.stations.Stations.holds.Given as goal
 
--- those that are left tell the same as all of them
+-- the stations that are left give the answer
 abbrev pub invariant-loop-station : goal.invariant-loop-station
 invariant-loop-station g l =
     let below = g.T.PartialOrder.below in

@@ -5,7 +5,7 @@ use Rattle.machine.specs.Boards.Loads.{stamps_of}
 use Rattle.machine.specs.Boards.Stations.{lot}
 use Rattle.machine.proofs.board.stations.Stations.is_beyond_stamps.Given as goal
 
--- those that are left tell the same as all of them
+-- the stations that are left give the answer
 abbrev pub invariant-loop-station : goal.invariant-loop-station
 invariant-loop-station g l =
     let below = g.T.PartialOrder.below in
