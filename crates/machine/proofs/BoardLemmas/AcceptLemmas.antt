@@ -17,6 +17,7 @@ use Rattle.machine.proofs.BoardLemmas.PlacingLemmas.{as_many, as_wide, many_put_
 pub refuses : (o found : Option Refusal) (refusal : Refusal) → found ≡ o → found ≡ Some refusal → IsRefusalBy o refusal
 refuses o found refusal e s = subst (λ z. IsRefusalBy z refusal) (sym s ∙ e) (λ _. refusal)
 
+-- if the code finds no refusal, there is none
 pub refuses_nothing : (o found : Option Refusal) → found ≡ o → ((refusal : Refusal) → found ≡ Some refusal → ⊥) → o ≡ None
 refuses_nothing o None e n = sym e
 refuses_nothing o (Some refusal) e n = absurd (n refusal (λ _. Some refusal))
@@ -46,9 +47,11 @@ pub board_accepting : {T : Type 0} (b : BoardState T) (k t : ℕ) → IsBoard b 
 board_accepting b k t is = record { dataflow = is.dataflow; stations = is.stations; rows = is.rows; hand = is.hand; accepted = length-set b.accepted k t ∙ is.accepted; views = is.views; inputs = is.inputs }
 
 module _ {T : Type 0} (b : BoardState T) (is : IsBoard b) where
+  -- stations with as many nodes and workers as before keep the invariant of boards
   pub board_lots : (stations : List (List (Lot T))) → length stations ≡ length b.stations → ((m : ℕ) → length (get_or stations m []) ≡ length (get_or b.stations m [])) → IsBoard (record b { stations = stations })
   board_lots stations many wide = record { dataflow = is.dataflow; stations = many ∙ is.stations; rows = λ n l. wide n ∙ is.rows n l; hand = is.hand; accepted = is.accepted; views = is.views; inputs = is.inputs }
 
+  -- changing one lot keeps the invariant of boards
   pub board_changed : (n k : ℕ) (change : Lot T → Lot T) → IsBoard (record b { stations = with_lot n k change b.stations })
   board_changed n k change = board_lots (with_lot n k change b.stations) (as_many b.stations n k change) (as_wide b.stations n k change)
 

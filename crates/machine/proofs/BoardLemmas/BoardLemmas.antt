@@ -76,6 +76,7 @@ none_of_five a b c d e r s t u v h =
     (i.0, j.0, k.0, l.0, m.0)
 
 module _ {T : Type 0} (below : T → T → Bool) (minimum : T) where
+  -- a change that no fault refuses is allowed in every history that the board may stand for
   pub allowed_feed : (b : BoardState T) (h : List (Event T)) (client : ℕ) (f : Fed T) → b.dataflow.workers ≤ client → feed_refusal below b f ≡ None → IsInput b.dataflow f.input → Stands below minimum b h → IsFeed below b.dataflow (state_after below minimum b.dataflow h) client f
   allowed_feed b h client f m e i s =
       let w = state_after below minimum b.dataflow h in
@@ -183,6 +184,7 @@ none_at site (suc (suc port)) = refl
 pub first_queue : {T : Type 0} (nodes workers : ℕ) (site : Site) → queue_of (first_stations {T = T} nodes workers) site ≡ []
 first_queue nodes workers site = ap (λ lot. map (bundle_at site) (loads_at site.port lot)) (first_lot nodes workers site.node site.worker) ∙ none_at site site.port
 
+-- the first board stands for the empty history
 pub stands_first : {T : Type 0} (below : T → T → Bool) (minimum : T) (p : Dataflow) → Stands below minimum (first_board minimum p) []
 stands_first below minimum p = record {
   legal = tt;
@@ -258,6 +260,7 @@ module _ {T : Type 0} (below : T → T → Bool) (minimum : T) where
           subst (λ z. get_or (set hand worker node) z None ≡ node) (sym (eqb-true k worker g)) (get_or-set_same hand worker node None n)
       step false g = get_or-set_other hand worker k node None (λ z. false≢true (sym g ∙ eq-eqb k worker z)) ∙ h k m
 
+  -- after a take that was not refused, the board stands for the history with the take on top
   pub stands_taken : (b : BoardState T) → IsBoard b → (h : List (Event T)) (number : ℕ) (bundle : Bundle T) → bundle.place.worker < b.dataflow.workers → get_or b.hand bundle.place.worker None ≡ None
       → slice_get (queue_of b.stations bundle.place) number ≡ Some bundle → (arranged_by (node_of b.dataflow bundle.place.node) ≡ None → number ≡ 0)
       → Stands below minimum b h → Stands below minimum (after_take number bundle b) (Take number bundle ∷ h)
@@ -311,6 +314,7 @@ size_both : {T : Type 0} (a c : List (Update T)) → size (a ++ c) ≡ size a + 
 size_both a c = let x = summed_size_is a in let y = summed_size_is c in let z = summed_size_is (a ++ c) in let h = summed_size-append a c in omega (arith, x, y, z, h)
 
 module _ {T : Type 0} (below : T → T → Bool) (minimum : T) where
+  -- after a give that was not refused and is allowed, the board stands for the history with it on top
   pub stands_given : (b : BoardState T) → IsBoard b → (h : List (Event T)) (g : Emission T) (ts : List T) (sent : List (Bundle T)) → g.worker < b.dataflow.workers → g.node < length b.dataflow.nodes
       → IsGive below b.dataflow (state_after below minimum b.dataflow h) g ts sent → Stands below minimum b h → Stands below minimum (after_give g ts sent b) (Give g ts sent ∷ h)
   stands_given b board h g ts sent l within legal s = record {

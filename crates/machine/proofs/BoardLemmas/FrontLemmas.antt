@@ -190,6 +190,7 @@ module _ {T : Type 0} (below : T → T → Bool) (o : PartialOrderLaws below) (m
   pub queued : (b : BoardState T) (h : List (Event T)) → Stands below minimum b h → AreQueued (all_bundles b.stations) (state_after below minimum b.dataflow h).in_flight
   queued b h s site = all_queued b.stations site ∙ s.queues site
 
+  -- the board and the history have alike held times
   pub holds : (b : BoardState T) (h : List (Event T)) → Stands below minimum b h → AreHeld (all_held b.stations) (state_after below minimum b.dataflow h).held
   holds b h s n k = all_held_at b.stations n k ∙ s.held n k
 

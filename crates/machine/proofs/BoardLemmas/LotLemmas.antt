@@ -30,10 +30,12 @@ module _ {X Y : Type 0} where
   any_flat p f [] = refl
   any_flat p f (x ∷ xs) = list_any-append p (f x) (flat_map f xs) ∙ ap (λ b. list_any p (f x) || b) (any_flat p f xs)
 
+  -- all elements of a flat list pass if those of each piece do
   pub all_flat : (p : Y → Bool) (f : X → List Y) (xs : List X) → list_all p (flat_map f xs) ≡ list_all (λ x. list_all p (f x)) xs
   all_flat p f [] = refl
   all_flat p f (x ∷ xs) = list_all-append p (f x) (flat_map f xs) ∙ ap (λ b. list_all p (f x) && b) (all_flat p f xs)
 
+  -- a flat list is empty if each piece is
   pub none_flat : (f : X → List Y) (xs : List X) → is_none (flat_map f xs) ≡ list_all (λ x. is_none (f x)) xs
   none_flat f [] = refl
   none_flat f (x ∷ xs) = step (f x) ∙ ap (λ b. is_none (f x) && b) (none_flat f xs)
@@ -89,9 +91,11 @@ module _ {X : Type 0} where
   numbered : (xs : List X) (d : X) → map (λ k. get_or xs k d) (numbers_below (length xs)) ≡ xs
   numbered xs d = read_below xs d (length xs) (omega arith) ∙ take_all (length xs) xs (omega arith)
 
+  -- going over a list by its numbers gives what going over its elements gives
   pub flat_numbered : {Y : Type 0} (f : X → List Y) (xs : List X) (d : X) → flat_map (λ k. f (get_or xs k d)) (numbers_below (length xs)) ≡ flat_map f xs
   flat_numbered f xs d = sym (flat_map-map f (λ k. get_or xs k d) (numbers_below (length xs))) ∙ ap (flat_map f) (numbered xs d)
 
+  -- a test of a list may go by its numbers
   pub all_numbered : (p : X → Bool) (xs : List X) (d : X) → list_all (λ k. p (get_or xs k d)) (numbers_below (length xs)) ≡ list_all p xs
   all_numbered p xs d = sym (list_all-map p (λ k. get_or xs k d) (numbers_below (length xs))) ∙ ap (list_all p) (numbered xs d)
 

@@ -67,6 +67,7 @@ give_next f old mid new n m e =
 -- ---- the times of each number, as one log of open times
 
 module _ {T : Type 0} where
+  -- the times of the numbers below n, as one log of open times
   abbrev pub spread : (ℕ → List T) → ℕ → List (OpenTime T)
   spread f n = flat_map (λ i. open_entries i (f i)) (numbers_below n)
 
@@ -82,6 +83,7 @@ module _ {T : Type 0} where
   open_more : (f : ℕ → List T) (i n : ℕ) → open_at i (spread f (suc n)) ≡ open_at i (spread f n) ++ open_at i (open_entries n (f n))
   open_more f i n = ap (open_at i) (spread_more f n) ∙ flat_map-append (λ o. cond (eqb o.input i) (o.time ∷ []) []) (spread f n) (open_entries n (f n))
 
+  -- a log of the numbers below n has nothing for a number from n on
   pub open_beyond : (f : ℕ → List T) (i n : ℕ) → n ≤ i → open_at i (spread f n) ≡ []
   open_beyond f i zero l = refl
   open_beyond f i (suc n) l = open_more f i n ∙ ap₂ (λ xs ys. xs ++ ys) (open_beyond f i n (omega (arith, l))) (open_in i n (f n) false (other (eqb n i) refl))
@@ -90,6 +92,7 @@ module _ {T : Type 0} where
       other true e = let same = eqb-true n i e in absurd (omega (arith, l, same))
       other false e = e
 
+  -- a log of the numbers below n has for each of them its own times
   pub open_within : (f : ℕ → List T) (i n : ℕ) → i < n → open_at i (spread f n) ≡ f i
   open_within f i zero l = absurd (omega (arith, l))
   open_within f i (suc n) l =
@@ -137,11 +140,13 @@ module _ {T : Type 0} where
       step true e h = h ∙ ap (λ b. cond b (o.time ∷ []) [] ++ open_at j os) (sym (none (eqb-true o.input i e) (eqb o.input j) refl))
       step false e h = ap (λ us. cond (eqb o.input j) (o.time ∷ []) [] ++ us) h
 
+  -- an input whose frontier is replaced has the new times in the log
   pub open_moved : (i : ℕ) (ts : List T) (os : List (OpenTime T)) → open_at i (open_entries i ts ++ filter (λ o. not (eqb o.input i)) os) ≡ ts
   open_moved i ts os =
       flat_map-append (λ o. cond (eqb o.input i) (o.time ∷ []) []) (open_entries i ts) (filter (λ o. not (eqb o.input i)) os)
       ∙ (ap₂ (λ xs ys. xs ++ ys) (open_in i i ts true (eq-eqb i i refl)) (others_gone i os) ∙ append-nil ts)
 
+  -- every other input has its old times in the log
   pub open_stays : (i j : ℕ) (ts : List T) (os : List (OpenTime T)) → (i ≡ j → ⊥) → open_at j (open_entries i ts ++ filter (λ o. not (eqb o.input i)) os) ≡ open_at j os
   open_stays i j ts os apart =
       flat_map-append (λ o. cond (eqb o.input j) (o.time ∷ []) []) (open_entries i ts) (filter (λ o. not (eqb o.input i)) os)
@@ -248,5 +253,6 @@ module _ {T : Type 0} where
       ∙ (sym (map_push f (take n p) (get_or p n (Input 0)))
       ∙ ap (map f) (sym (take_more p n (Input 0) l))))
 
+  -- at the end, the first frontiers of all nodes are made
   pub first_all : (minimum : T) (p : List Node) (all : List (List T)) (n : ℕ) → length p ≤ n → all ≡ first_inputs minimum (take n p) → all ≡ first_inputs minimum p
   first_all minimum p all n l e = e ∙ ap (first_inputs minimum) (take_all n p l)

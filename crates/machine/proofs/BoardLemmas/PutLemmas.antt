@@ -23,6 +23,7 @@ module _ {X : Type 0} where
   pub put_behind : (old mid more : List X) → mid ≡ old ++ more → take (length old) mid ≡ old
   put_behind old mid more m = ap (take (length old)) m ∙ take_at old more (length old) (λ _. length old)
 
+  -- what was there before stays in front, also after a call that changed nothing
   pub put_behind_more : (old mid new more : List X) → mid ≡ old ++ more → new ≡ mid → take (length old) new ≡ old
   put_behind_more old mid new more m n = put_behind old new more (n ∙ m)
 
@@ -46,10 +47,12 @@ module _ {X : Type 0} where
 
   -- the step of a loop that appends a list made of each element that passes a test
   module _ {Y : Type 0} (test : X → Bool) (image : X → List Y) (old mid new : List Y) (xs : List X) (i : ℕ) (x : X) (l : i < length xs) (e : x ≡ get_or xs i x) where
+    -- the step at an element that passes
     pub put_if : (now : List Y) → test x ≡ true → mid ≡ old ++ flat_map (λ y. cond (test y) (image y) []) (take i xs) → now ≡ mid ++ image x → new ≡ now → new ≡ old ++ flat_map (λ y. cond (test y) (image y) []) (take (i + 1) xs)
     put_if now h m n s =
         put_images (λ y. cond (test y) (image y) []) old mid new xs i x l e m (s ∙ (n ∙ ap (λ b. mid ++ cond b (image x) []) (sym h)))
 
+    -- the step at an element that does not pass
     pub put_else : test x ≡ false → mid ≡ old ++ flat_map (λ y. cond (test y) (image y) []) (take i xs) → new ≡ mid → new ≡ old ++ flat_map (λ y. cond (test y) (image y) []) (take (i + 1) xs)
     put_else h m s =
         put_images (λ y. cond (test y) (image y) []) old mid new xs i x l e m (s ∙ (sym (append-nil mid) ∙ ap (λ b. mid ++ cond b (image x) []) (sym h)))
@@ -79,8 +82,10 @@ module _ {X : Type 0} where
         ∙ (map-append image (filter p (map f (take i xs))) (cond (p (f x)) (f x ∷ []) [])
         ∙ ap (λ b. map image (filter p (map f (take i xs))) ++ map image (cond b (f x ∷ []) [])) h)))
 
+    -- the step at an element that passes
     pub put_passing : (now : List Z) → p (f x) ≡ true → mid ≡ map image (filter p (map f (take i xs))) → now ≡ mid ++ image (f x) ∷ [] → new ≡ now → new ≡ map image (filter p (map f (take (i + 1) xs)))
     put_passing now h m n t = t ∙ (n ∙ (ap (λ ys. ys ++ image (f x) ∷ []) m ∙ sym (passing_more true h)))
 
+    -- the step at an element that does not pass
     pub put_passed : p (f x) ≡ false → mid ≡ map image (filter p (map f (take i xs))) → new ≡ mid → new ≡ map image (filter p (map f (take (i + 1) xs)))
     put_passed h m t = t ∙ (m ∙ (sym (append-nil (map image (filter p (map f (take i xs))))) ∙ sym (passing_more false h)))

@@ -23,6 +23,7 @@ any_among {A} f (x ∷ xs) e = step (f x) refl e (any_among f xs)
     step true g k rest = (x, inl refl, g)
     step false g k rest = let r = rest k in (r.0, inr r.1, r.2)
 
+-- if an element of the list passes a test, some element does
 pub among_any : {A : Type 0} (f : A → Bool) (xs : List A) (x : A) → Among x xs → f x ≡ true → list_any f xs ≡ true
 among_any f [] x a e = absurd a
 among_any f (y ∷ xs) x a e = ⊎_elim (λ s. or_left (f y) (list_any f xs) (ap f s ∙ e)) (λ b. or_right (f y) (list_any f xs) (among_any f xs x b e)) a
@@ -56,12 +57,14 @@ module _ {A K V : Type 0} (is : A → K → Bool) (at_own : A → K) (value : A 
   like_in xs ys same x a = entry_at (at_own x) (value x) ys (subst (λ vs. Among (value x) vs) (same (at_own x)) (value_at x xs a))
 
   module _ (f : A → Bool) (like : (x y : A) → is y (at_own x) ≡ true → value y ≡ value x → f y ≡ f x) (xs ys : List A) (same : (k : K) → at k xs ≡ at k ys) where
+    -- some entry passes a test in both lists or in neither
     pub any_like : list_any f xs ≡ list_any f ys
     any_like =
         same_test (list_any f xs) (list_any f ys)
         (λ e. let r = any_among f xs e in let s = like_in xs ys same r.0 r.1 in among_any f ys s.0 s.1 (like r.0 s.0 s.2 s.3 ∙ r.2))
         (λ e. let r = any_among f ys e in let s = like_in ys xs (λ k. sym (same k)) r.0 r.1 in among_any f xs s.0 s.1 (like r.0 s.0 s.2 s.3 ∙ r.2))
 
+    -- all entries pass a test in both lists or not in both
     pub all_like : list_all f xs ≡ list_all f ys
     all_like =
         same_test (list_all f xs) (list_all f ys)
@@ -125,6 +128,7 @@ module _ {T : Type 0} where
   pub none_queued : (xs : List (Bundle T)) → AreQueued xs [] → xs ≡ []
   none_queued xs e = nothing_at (λ b. same_place b.place) (λ b. b.place) (λ b. b) one_site xs e
 
+  -- lists that are alike at each place still are with more bundles behind both
   pub queued_more : (xs ys more : List (Bundle T)) → AreQueued xs ys → AreQueued (xs ++ more) (ys ++ more)
   queued_more xs ys more same site =
       flat_map-append (λ b. cond (same_place b.place site) (b ∷ []) []) xs more
@@ -160,6 +164,7 @@ module _ {T : Type 0} where
       step true h k = h
       step false h k = k
 
+  -- lists that are alike at each place still are after a take from both
   pub queued_less : (xs ys : List (Bundle T)) (site : Site) (n : ℕ) → AreQueued xs ys → AreQueued (without site xs n) (without site ys n)
   queued_less xs ys site n same other = step (same_place site other) refl
     where
@@ -198,18 +203,21 @@ module _ {T : Type 0} where
   pub none_held : (xs : List (HeldTime T)) → AreHeld xs [] → xs ≡ []
   none_held xs e = nothing_at holds_at (λ m. (m.node, m.worker)) (λ m. m.time) one_holder xs (λ at. e at.0 at.1)
 
+  -- lists of alike held times still are with more times before both
   pub held_more : (xs ys more : List (HeldTime T)) → AreHeld xs ys → AreHeld (more ++ xs) (more ++ ys)
   held_more xs ys more same n k =
       flat_map-append (λ m. cond (is_held_by n k m) (m.time ∷ []) []) more xs
       ∙ (ap (λ q. held_at n k more ++ q) (same n k)
       ∙ sym (flat_map-append (λ m. cond (is_held_by n k m) (m.time ∷ []) []) more ys))
 
+  -- lists of alike held times still are with more times behind both
   pub held_behind : (xs ys more : List (HeldTime T)) → AreHeld xs ys → AreHeld (xs ++ more) (ys ++ more)
   held_behind xs ys more same n k =
       flat_map-append (λ m. cond (is_held_by n k m) (m.time ∷ []) []) xs more
       ∙ (ap (λ q. q ++ held_at n k more) (same n k)
       ∙ sym (flat_map-append (λ m. cond (is_held_by n k m) (m.time ∷ []) []) ys more))
 
+  -- lists of alike held times still are after one worker's times at a node are dropped from both
   pub held_others : (xs ys : List (HeldTime T)) (n k : ℕ) → AreHeld xs ys → AreHeld (filter (λ m. not (is_held_by n k m)) xs) (filter (λ m. not (is_held_by n k m)) ys)
   held_others xs ys n k same m j = at_others holds_at (λ m. (m.node, m.worker)) (λ m. m.time) one_holder (m, j) (n, k) (step (eqb m n) refl (eqb j k) refl) xs ys (same m j)
     where
@@ -232,6 +240,7 @@ module _ {T : Type 0} where
   pub open_any_like : (f : ℕ → T → Bool) (xs ys : List (OpenTime T)) → AreOpen xs ys → list_any (λ o. f o.input o.time) xs ≡ list_any (λ o. f o.input o.time) ys
   open_any_like f xs ys same = any_like (λ o. eqb o.input) (λ o. o.input) (λ o. o.time) (λ o. eq-eqb o.input o.input refl) (λ o. f o.input o.time) (λ x y e v. ap₂ f (eqb-true y.input x.input e) v) xs ys same
 
+  -- lists of alike open times still are after an input's frontier is replaced in both
   pub open_instead : (xs ys : List (OpenTime T)) (i : ℕ) (ts : List T) → AreOpen xs ys → AreOpen (open_entries i ts ++ filter (λ o. not (eqb o.input i)) xs) (open_entries i ts ++ filter (λ o. not (eqb o.input i)) ys)
   open_instead xs ys i ts same j =
       flat_map-append (λ o. cond (eqb o.input j) (o.time ∷ []) []) (open_entries i ts) (filter (λ o. not (eqb o.input i)) xs)

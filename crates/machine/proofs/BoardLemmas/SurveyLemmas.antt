@@ -51,9 +51,11 @@ module _ {T : Type 0} where
           sym (any_flat (λ u. below u t) (λ p. (load_of p).stamp) parcels)
           ∙ ap (λ ts. is_beyond below ts t) (sym (flat_map-map (λ load. load.stamp) load_of parcels) ∙ ap (flat_map (λ load. load.stamp)) same)
 
+      -- a load whose stamp has such an element decides the question
       pub load_reaches : (p : Parcel T) → i < length parcels → p ≡ get_or parcels i p → (b : Bool) → b ≡ is_beyond below (load_of p).stamp t → b ≡ true → true ≡ is_beyond below (flat_map (λ load. load.stamp) loads) t
       load_reaches p l e b d h = found (λ p. is_beyond below (load_of p).stamp t) parcels i p l e so_far (sym d ∙ h) ∙ load_by_load
 
+      -- at the end, no load's stamp has such an element
       pub no_load_reaches : length parcels ≤ i → false ≡ is_beyond below (flat_map (λ load. load.stamp) loads) t
       no_load_reaches l = not_found (λ p. is_beyond below (load_of p).stamp t) parcels i l so_far ∙ load_by_load
 

@@ -194,6 +194,7 @@ module _ {T : Type 0} (leq : T → T → Bool) (o : PartialOrderLaws leq) (p : D
               let c = output_bound-le (node_of p n) (own n) (λ port. all p.workers (got n port)) above port_le in
               omega arith
 
+      -- what a node gave is within its bound, by going down the plan
       pub bound : (n : ℕ) → gave_at n ≤ limit n
       bound = by_smaller (λ n. gave_at n ≤ limit n) bound_step
 

@@ -201,6 +201,7 @@ module _ {T : Type 0} (leq : T → T → Bool) (p : Dataflow) (q : IsDataflow p)
               ∙ (given_alike key (node_of p n) (λ port. gather p.workers (λ k. recv n k port)) source_bags (λ port l. port_alike port l (source_of p n port) refl) r
               ∙ ap (λ z. count_of z r) (sym bag_is))))
 
+      -- the claim for a node whose sources have theirs
       pub claim_step : (x : Bool) (y : Option ℕ) → is_linear (node_of p n) ≡ x → arranged_by (node_of p n) ≡ y → IsClaim leq p w t (bag n) n
       claim_step false y e f = keyed e
       claim_step true (Some c) e f = sent c f

@@ -25,11 +25,13 @@ use Rattle.machine.proofs.HistoryLemmas.KeptLemmas.{as_of-passed, is_stamped}
 pub record IsArrived {T : Type 0} (leq : T → T → Bool) (w : State T) (t : T) (n : ℕ) : Type 0 where
   pub flight : (port k : ℕ) → as_of leq t (updates_at (place n port k) w.in_flight) ≡ []
 
+-- nothing that counts at t is in flight to the node, or held there at or before t
 pub record IsClear {T : Type 0} (leq : T → T → Bool) (w : State T) (t : T) (n : ℕ) : Type 0 where
   pub arrived : IsArrived leq w t n
   pub held : (k : ℕ) → is_beyond leq (held_at n k w.held) t ≡ false
 
 module _ {T : Type 0} (leq : T → T → Bool) (o : PartialOrderLaws leq) (t : T) (test : ℕ → Bool) (m : ℕ) (there : test m ≡ true) where
+  -- if the stamps at the nodes that pass have passed t, no update in flight to one of them counts at t
   pub clear_flight : (qs : List (Bundle T)) → list_all (is_stamped leq) qs ≡ true → is_beyond leq (flat_map (λ q. cond (test q.place.node) q.stamp []) qs) t ≡ false → (port k : ℕ) → as_of leq t (updates_at (place m port k) qs) ≡ []
   clear_flight [] a h port k = refl
   clear_flight (q ∷ qs) a h port k =
@@ -46,6 +48,7 @@ module _ {T : Type 0} (leq : T → T → Bool) (o : PartialOrderLaws leq) (t : T
           let passes : test q.place.node ≡ true = ap test n ∙ there in
           as_of-passed leq t q.updates (beyond_passed leq o q.stamp (times q.updates) t s (subst (λ b. is_beyond leq (cond b q.stamp []) t ≡ false) passes g))
 
+  -- if the times held at the nodes that pass have passed t, no worker holds one at or before t there
   pub clear_held : (ms : List (HeldTime T)) → is_beyond leq (flat_map (λ x. cond (test x.node) (x.time ∷ []) []) ms) t ≡ false → (k : ℕ) → is_beyond leq (held_at m k ms) t ≡ false
   clear_held [] h k = refl
   clear_held (x ∷ ms) h k =

@@ -31,6 +31,7 @@ edge_at n port = record { reader = n; port = port }
 
 -- Lists that are put together over the numbers below n, if at most one number gives something
 
+-- if no number has something, together they have nothing
 pub none_below : {A : Type 0} (n : ℕ) (f : ℕ → List A) → ((m : ℕ) → m < n → f m ≡ []) → flat_map f (numbers_below n) ≡ []
 none_below zero f h = refl
 none_below (suc n) f h = flat_map-append f (numbers_below n) (n ∷ []) ∙ rw (none_below n f (λ m l. h m (omega arith)), h n (omega arith)) refl

@@ -18,6 +18,7 @@ use Rattle.machine.proofs.HistoryLemmas.FlowLemmas.{is_passed, not_beyond}
 use Rattle.machine.proofs.HistoryLemmas.PassedLemmas.{AllPassed, passed_down}
 use Rattle.update.proofs.UniqueLemmas.{same_totals}
 
+-- the sum of a function over a list
 abbrev pub sum_of : {X : Type 0} → (X → ℕ) → List X → ℕ
 sum_of f [] = 0
 sum_of f (x ∷ xs) = f x + sum_of f xs
@@ -45,12 +46,14 @@ module _ {T : Type 0} (leq : T → T → Bool) (o : PartialOrderLaws leq) where
   abbrev counted : List (Update T) → Update T → ℕ
   counted us u = unsigned_abs (total_at leq u.row u.time us)
 
+  -- updates that meet have one time
   pub meets_time : (u v : Update T) → meets u v ≡ true → u.time ≡ v.time
   meets_time u v h =
       let a = and_parts (leq u.time v.time && leq v.time u.time) (same_row u.row v.row) h in
       let b = and_parts (leq u.time v.time) (leq v.time u.time) a.0 in
       o.antisymmetric u.time v.time b.0 b.1
 
+  -- updates that meet have one row
   pub meets_row : (u v : Update T) → meets u v ≡ true → u.row ≡ v.row
   meets_row u v h = row_same u.row v.row (and_parts (leq u.time v.time && leq v.time u.time) (same_row u.row v.row) h).1
 

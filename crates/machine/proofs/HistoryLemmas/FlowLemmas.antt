@@ -130,6 +130,7 @@ module _ {T : Type 0} where
 -- Least elements and the list that they come from have passed the same times
 
 module _ {T : Type 0} (leq : T → T → Bool) (o : PartialOrderLaws leq) where
+  -- what is beyond a list is beyond its least elements
   pub beyond-least : (S : List T) (t : T) → is_beyond leq S t ≡ true → is_beyond leq (least leq S) t ≡ true
   beyond-least S t h = least_beyond o S t ∙ h
 

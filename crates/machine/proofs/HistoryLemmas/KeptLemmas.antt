@@ -78,6 +78,7 @@ AreInputs p (f ∷ fs) = IsTrue (is_input (node_of p f.input)) × AreInputs p fs
 abbrev pub is_stamped : {T : Type 0} → (T → T → Bool) → Bundle T → Bool
 is_stamped leq b = all_beyond leq b.stamp (times b.updates)
 
+-- the invariant of legal histories
 pub record IsKept {T : Type 0} (leq : T → T → Bool) (p : Dataflow) (w : State T) : Type 0 where
   -- what was received at a place, and what is in flight there, are together what came
   pub conserved : (site : Site) (f : Update T → ℤ) → total_by f (updates_at site w.received) +ℤ total_by f (updates_at site w.in_flight) ≡ total_by f (coming p site w.emitted w.fed)
@@ -216,6 +217,7 @@ module _ {T : Type 0} (leq : T → T → Bool) (o : PartialOrderLaws leq) (p : D
               let old : is_beyond leq (held_at n m w.held) t ≡ false = subst (λ z. is_beyond leq z t ≡ false) (held_kept n m g.node g.worker w.held e) hp.1 in
               ap (λ b. count_of (as_of leq t (cond b g.updates [] ++ emitted_by n m w.emitted)) r) e ∙ k.law n m t (is_passed _ old) r
 
+  -- each allowed event keeps the invariant
   pub kept_after : (w : State T) (e : Event T) → IsAllowed leq p w e → IsKept leq p w → IsKept leq p (next_state leq p w e)
   kept_after w (Feed c f) a k = kept_feed w c f a.input.1 k
   kept_after w (Advance c i ts) a k = record { conserved = k.conserved; law = k.law; workers = k.workers; inputs = k.inputs; stamped = k.stamped }
@@ -225,6 +227,7 @@ module _ {T : Type 0} (leq : T → T → Bool) (o : PartialOrderLaws leq) (p : D
   kept_after w (TakeHeld m n) a k = record { conserved = k.conserved; law = k.law; workers = k.workers; inputs = k.inputs; stamped = k.stamped }
   kept_after w (Give g held sent) a k = kept_gave w g held sent a k
 
+  -- the invariant holds before the first event
   pub kept_first : (minimum : T) → IsKept leq p (initial_state leq minimum p)
   kept_first minimum = record { conserved = λ site v. refl; law = λ n k t h r. sym (given_nothing (key_width p.nodes (node_of p n)) (node_of p n) r); workers = tt; inputs = tt; stamped = refl }
 

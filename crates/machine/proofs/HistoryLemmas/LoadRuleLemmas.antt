@@ -42,6 +42,7 @@ from_size leq p w n k h =
     omega arith
 
 module _ {T : Type 0} (leq : T → T → Bool) (o : PartialOrderLaws leq) (p : Dataflow) (q : IsDataflow p) where
+  -- the load rule holds everywhere, and each time that a take found passed is still passed
   pub record IsLoaded (w : State T) : Type 0 where
     pub rule : (n k : ℕ) → LoadRule leq p w n k
     pub observed : (n k : ℕ) (t : T) → was_passed leq n k w.observed t ≡ true → is_beyond leq (input_frontier leq p w n) t ≡ false

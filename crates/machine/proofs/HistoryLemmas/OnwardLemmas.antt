@@ -148,6 +148,7 @@ module _ {T : Type 0} (leq : T → T → Bool) (o : PartialOrderLaws leq) (t : T
       (of_sources : (site : Site) → there site ≡ true → (s : ℕ) → source_of p site.node site.port ≡ Some s → holds s ≡ true)
       (of_inputs : (i k : ℕ) → is_input (node_of p i) ≡ true → there (place i 0 k) ≡ true → opens i ≡ true)
       (of_places : (site : Site) → holds site.node ≡ true → there site ≡ true) where
+    -- each of the three logs has passed the time, as far as it counts
     abbrev pub IsCountPassed : State T → Type 0
     IsCountPassed w = IsPassed (stamps there w.in_flight) × IsPassed (held_where holds w.held) × IsPassed (open_where opens w.open_times)
 
@@ -184,6 +185,7 @@ module _ {T : Type 0} (leq : T → T → Bool) (o : PartialOrderLaws leq) (t : T
         later : holds g.node ≡ true → IsPassed held
         later f = (passed_parts (times g.updates) held (passed_onward (held_at g.node g.worker w.held) (times g.updates ++ held) a.onward (passed_held holds g.node g.worker f w.held h.1))).1
 
+    -- after each event, what counts has passed the time if it had before; every lemma of frontiers uses this
     pub onward : (w : State T) (e : Event T) → IsAllowed leq p w e → IsCountPassed w → IsCountPassed (next_state leq p w e)
     onward w (Feed c f) a h = (
       subst IsPassed (sym (flat_map-append (λ (q : Bundle T). cond (there q.place) q.stamp []) w.in_flight (alone p f ∷ []))) (passed_both (stamps there w.in_flight) (stamps there (alone p f ∷ [])) h.0 (onward_feed w c f a h)),

@@ -150,5 +150,6 @@ module _ {T : Type 0} (below : T → T → Bool) (o : PartialOrderLaws below) wh
 pub time_in : {T : Type 0} (below : T → T → Bool) (old left new : List T) (t : T) (test : Bool) → test ≡ is_beyond below old t → test ≡ false → left ≡ filter (λ f. not (below t f)) old → new ≡ left ++ t ∷ [] → new ≡ with_time below old t
 time_in below old left new t test e f l n = n ∙ (ap (λ ts. ts ++ t ∷ []) l ∙ ap (λ c. cond c old (filter (λ f. not (below t f)) old ++ t ∷ [])) (sym f ∙ e))
 
+-- a time that is beyond a frontier already leaves it as it was
 pub time_known : {T : Type 0} (below : T → T → Bool) (old : List T) (t : T) (test : Bool) → test ≡ is_beyond below old t → test ≡ true → old ≡ with_time below old t
 time_known below old t test e f = ap (λ c. cond c old (filter (λ f. not (below t f)) old ++ t ∷ [])) (sym f ∙ e)

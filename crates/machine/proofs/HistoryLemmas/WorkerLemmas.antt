@@ -27,10 +27,12 @@ over (suc n) f = f n +ℤ over n f
 mid_swap : (a b c d : ℤ) → (a +ℤ b) +ℤ (c +ℤ d) ≡ (a +ℤ c) +ℤ (b +ℤ d)
 mid_swap a b c d = omega (arith, ints)
 
+-- the sum over the workers of sums is the sum of the sums
 pub over-sum : (n : ℕ) (f g : ℕ → ℤ) → over n (λ k. f k +ℤ g k) ≡ over n f +ℤ over n g
 over-sum zero f g = refl
 over-sum (suc n) f g = rw (over-sum n f g) (mid_swap (f n) (g n) (over n f) (over n g))
 
+-- the sum over the workers of zeros is zero
 pub over-zero : (n : ℕ) → over n (λ k. pos 0) ≡ pos 0
 over-zero zero = refl
 over-zero (suc n) = +ℤ_idl (over n (λ k. pos 0)) ∙ over-zero n

@@ -4,6 +4,6 @@ use Rattle.machine.specs.Boards.Loads.{is_none}
 use Rattle.machine.specs.Boards.Stations.{lot}
 use Rattle.machine.proofs.board.stations.Stations.is_empty.Given as goal
 
--- the stations that are left give the answer
+-- the rows that are left give the answer
 abbrev pub invariant-loop-row : goal.invariant-loop-row
 invariant-loop-row g l = list_all (λ row. list_all (λ l. is_none (l.left ++ l.right)) (map lot row)) (drop l.row-index l.row-items) ≡ list_all (λ row. list_all (λ l. is_none (l.left ++ l.right)) (map lot row)) l.row-items
