@@ -59,7 +59,8 @@ module _ {T : Type 0} where
   pub record IsBoard (b : BoardState T) : Type 0 where
     pub dataflow : Rattle.machine.specs.Histories.Dataflows.IsDataflow b.dataflow
     pub stations : length b.stations ≡ length b.dataflow.nodes
-    pub rows : (n : ℕ) → n < length b.dataflow.nodes → length (get_or b.stations n []) ≡ b.dataflow.workers
+    pub rows : (n : ℕ) → n < length b.dataflow.nodes → length (get_or b.stations n [])
+        ≡ b.dataflow.workers
     pub hand : length b.hand ≡ b.dataflow.workers
     pub accepted : length b.accepted ≡ length b.dataflow.nodes
     pub views : length b.views ≡ length b.dataflow.nodes
@@ -83,7 +84,8 @@ module _ {T : Type 0} where
 
   -- the board with a change that waits at its input, first not yet counted there, then counted
   abbrev pub put_change : Fed T → BoardState T → BoardState T
-  put_change f b = record b { stations = put_at (home b.dataflow f) (load_in (alone b.dataflow f)) b.stations }
+  put_change f b =
+      record b { stations = put_at (home b.dataflow f) (load_in (alone b.dataflow f)) b.stations }
 
   abbrev pub accept_change : Fed T → BoardState T → BoardState T
   accept_change f b = record (put_change f b) { accepted = set b.accepted f.input (suc (get_or b.accepted f.input 0)) }
@@ -108,7 +110,8 @@ module _ {T : Type 0} where
   capture_at n us views = set views n (capture (get_or views n no_view) us)
 
   -- the views after node n gave these updates: captured if the node is a view, unchanged if not
-  abbrev pub capture_output : Dataflow → ℕ → List (Update T) → List (ViewState T) → List (ViewState T)
+  abbrev pub capture_output : Dataflow → ℕ → List (Update T) → List (ViewState T)
+      → List (ViewState T)
   capture_output p n us views = if is_output (node_of p n) then capture_at n us views else views
 
   -- the board after a give, before the event is recorded: the bundles wait at their places, a view captured the
@@ -176,7 +179,8 @@ module _ {T : Type 0} (below : T → T → Bool) (minimum : T) where
   query_on b h view t = query_at below (plan_on b h).nodes (changes_on b h) view t
 
   -- a worker may give this after a history of the board
-  abbrev pub IsGiveOn : BoardState T → List (Event T) → Emission T → List T → List (Bundle T) → Type 0
+  abbrev pub IsGiveOn : BoardState T → List (Event T) → Emission T → List T → List (Bundle T)
+      → Type 0
   IsGiveOn b h g ts sent = IsGive below (plan_on b h) (state_on b h) g ts sent
 
   -- the board is quiet after the history
@@ -191,7 +195,8 @@ module _ {T : Type 0} (below : T → T → Bool) (minimum : T) where
   -- what a view keeps of what was given to it: the same sums at each time beyond its since, and at every time if
   -- nothing was given up; and its absolute diffs add up to no more
   pub record IsKeptOf (since : List T) (captured emitted : List (Update T)) : Type 0 where
-    pub sums : (t : T) → IsTrue (is_from_start below minimum since || is_beyond below since t) → Alike (as_of below t captured) (as_of below t emitted)
+    pub sums : (t : T) → IsTrue (is_from_start below minimum since || is_beyond below since t)
+        → Alike (as_of below t captured) (as_of below t emitted)
     pub small : size captured ≤ size emitted
 
   -- the board may stand for a history: the history is legal, and at each place the board has what the history leaves
@@ -202,8 +207,10 @@ module _ {T : Type 0} (below : T → T → Bool) (minimum : T) where
     pub held : (n k : ℕ) → (lot_of b.stations n k).held ≡ held_at n k (state_on b h).held
     pub open_times : (i : ℕ) → front_at i b.inputs ≡ open_at i (state_on b h).open_times
     pub hand : (k : ℕ) → k < b.dataflow.workers → get_or b.hand k None ≡ (state_on b h).hand k
-    pub accepted : (i : ℕ) → i < length b.dataflow.nodes → get_or b.accepted i 0 ≡ length (fed_to i (state_on b h).fed)
-    pub since : (v : ℕ) → v < length b.dataflow.nodes → (get_or b.views v no_view).since ≡ (state_on b h).since v
+    pub accepted : (i : ℕ) → i < length b.dataflow.nodes → get_or b.accepted i 0
+        ≡ length (fed_to i (state_on b h).fed)
+    pub since : (v : ℕ) → v < length b.dataflow.nodes → (get_or b.views v no_view).since
+        ≡ (state_on b h).since v
     pub captured : (v : ℕ) → v < length b.dataflow.nodes → IsTrue (is_output (node_of b.dataflow v))
         → IsKeptOf ((state_on b h).since v) (get_or b.views v no_view).captured (emitted_at v (state_on b h).emitted)
     pub last : IsLast b h

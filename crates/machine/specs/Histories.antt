@@ -44,7 +44,8 @@ module _ {T : Type 0} where
   -- the bundles, except the one of this number, from 0, among those of a place
   abbrev pub without : Site → List (Bundle T) → ℕ → List (Bundle T)
   without site [] number = []
-  without site (b ∷ bundles) zero = if same_place b.place site then bundles else b ∷ without site bundles zero
+  without site (b ∷ bundles) zero =
+      if same_place b.place site then bundles else b ∷ without site bundles zero
   without site (b ∷ bundles) (suc number) = b ∷ (if same_place b.place site then without site bundles number else without site bundles (suc number))
 
   -- worker k holds the time at node n
@@ -108,11 +109,14 @@ module _ {T : Type 0} (below : T → T → Bool) (p : Dataflow) where
 
   -- the state after an event
   abbrev pub next_state : State T → Event T → State T
-  next_state w (Feed client f) = record w { fed = f ∷ w.fed; in_flight = w.in_flight ++ alone p f ∷ [] }
-  next_state w (Advance client i ts) = record w { open_times = open_entries i ts ++ filter (λ o. not (eqb o.input i)) w.open_times }
+  next_state w (Feed client f) =
+      record w { fed = f ∷ w.fed; in_flight = w.in_flight ++ alone p f ∷ [] }
+  next_state w (Advance client i ts) =
+      record w { open_times = open_entries i ts ++ filter (λ o. not (eqb o.input i)) w.open_times }
   next_state w (Allow client v ts) = record w { since = with_at w.since v ts }
   next_state w (Look actor) = w
-  next_state w (Take number bundle) = turn_state (take_state w number bundle) bundle.place.node bundle.place.worker
+  next_state w (Take number bundle) =
+      turn_state (take_state w number bundle) bundle.place.node bundle.place.worker
   next_state w (TakeHeld k n) = turn_state w n k
   next_state w (Give g ts sent) = give_state w g ts sent
 
@@ -167,7 +171,8 @@ module _ {T : Type 0} (below : T → T → Bool) (p : Dataflow) where
     pub onward : IsTrue (all_beyond below (held_at g.node g.worker w.held) (times g.updates ++ ts))
     pub law : NodeLaw below p (give_state w g ts sent) g.node g.worker
     pub load : LoadRule below p (give_state w g ts sent) g.node g.worker
-    pub whole : (site : Site) (f : Update T → ℤ) → total_by f (updates_at site sent) ≡ total_by f (share p site g)
+    pub whole : (site : Site) (f : Update T → ℤ) → total_by f (updates_at site sent)
+        ≡ total_by f (share p site g)
     pub filled : IsTrue (are_filled sent)
     pub stamped : IsTrue (are_stamped below (held_at g.node g.worker w.held) sent)
 
@@ -219,7 +224,8 @@ module _ {T : Type 0} (below : T → T → Bool) (minimum : T) (opened : Dataflo
   input_frontier_after h n = input_frontier below (dataflow_after opened h) (state_after h) n
 
   abbrev pub port_frontier_after : List (Event T) → ℕ → ℕ → List T
-  port_frontier_after h n port = port_frontier below (dataflow_after opened h) (state_after h) n port
+  port_frontier_after h n port =
+      port_frontier below (dataflow_after opened h) (state_after h) n port
 
   -- what was given at a node, on all workers, after a history
   abbrev pub emitted_after : List (Event T) → ℕ → List (Update T)

@@ -22,7 +22,8 @@ module _ {T : Type 0} (below : T → T → Bool) where
   -- the faults of a change, in the order in which they are tested, from its input's frontier and the number of
   -- changes that the input has taken
   abbrev pub feed_faults : List Node → List T → ℕ → Fed T → List (Bool × Refusal)
-  feed_faults nodes frontier taken f = (not (eqb (length f.update.row) (width_of nodes f.input)), WrongWidth)
+  feed_faults nodes frontier taken f =
+      (not (eqb (length f.update.row) (width_of nodes f.input)), WrongWidth)
       ∷ (int_eq f.update.diff (pos 0), ZeroWeight)
       ∷ (not (nat_le (unsigned_abs f.update.diff) 2147483647), WeightTooLarge)
       ∷ (not (is_beyond below frontier f.update.time), TimePassed)

@@ -69,7 +69,8 @@ module _ {T : Type 0} where
 
   -- the lot after a take: the load of a number, from 0, has left its port, and its stamp is held
   abbrev pub without_load_at : ℕ → ℕ → List T → Lot T → Lot T
-  without_load_at port number stamp lot = record (with_loads port (remove (loads_at port lot) number) lot) { held = lot.held ++ stamp }
+  without_load_at port number stamp lot =
+      record (with_loads port (remove (loads_at port lot) number) lot) { held = lot.held ++ stamp }
 
   -- the lot of a worker among those of a node, and these with the worker's lot changed
   abbrev pub lot_in : List (Lot T) → ℕ → Lot T
@@ -101,7 +102,8 @@ module _ {T : Type 0} where
 
   -- the stations after a bundle was taken from its place, by its number there
   abbrev pub taken_from : ℕ → Bundle T → List (List (Lot T)) → List (List (Lot T))
-  taken_from number b stations = with_lot b.place.node b.place.worker (without_load_at b.place.port number b.stamp) stations
+  taken_from number b stations =
+      with_lot b.place.node b.place.worker (without_load_at b.place.port number b.stamp) stations
 
   -- the stations after a worker came to hold these times at a node, and no other
   abbrev pub held_from : ℕ → ℕ → List T → List (List (Lot T)) → List (List (Lot T))
@@ -109,23 +111,29 @@ module _ {T : Type 0} where
 
   -- the bundles that wait at a place
   abbrev pub queue_of : List (List (Lot T)) → Site → List (Bundle T)
-  queue_of stations site = map (bundle_at site) (loads_at site.port (lot_of stations site.node site.worker))
+  queue_of stations site =
+      map (bundle_at site) (loads_at site.port (lot_of stations site.node site.worker))
 
   -- all bundles that wait, and all times that are held: node by node, worker by worker
   abbrev pub bundles_of : ℕ → ℕ → Lot T → List (Bundle T)
-  bundles_of n k lot = map (bundle_at (place n 0 k)) lot.left ++ map (bundle_at (place n 1 k)) lot.right
+  bundles_of n k lot = map (bundle_at (place n 0 k)) lot.left
+      ++ map (bundle_at (place n 1 k)) lot.right
 
   abbrev pub bundles_in : ℕ → List (Lot T) → List (Bundle T)
-  bundles_in n row = flat_map (λ k. bundles_of n k (get_or row k no_lot)) (numbers_below (length row))
+  bundles_in n row =
+      flat_map (λ k. bundles_of n k (get_or row k no_lot)) (numbers_below (length row))
 
   abbrev pub all_bundles : List (List (Lot T)) → List (Bundle T)
-  all_bundles stations = flat_map (λ n. bundles_in n (get_or stations n [])) (numbers_below (length stations))
+  all_bundles stations =
+      flat_map (λ n. bundles_in n (get_or stations n [])) (numbers_below (length stations))
 
   abbrev pub held_in : ℕ → List (Lot T) → List (HeldTime T)
-  held_in n row = flat_map (λ k. held_entries n k (get_or row k no_lot).held) (numbers_below (length row))
+  held_in n row =
+      flat_map (λ k. held_entries n k (get_or row k no_lot).held) (numbers_below (length row))
 
   abbrev pub all_held : List (List (Lot T)) → List (HeldTime T)
-  all_held stations = flat_map (λ n. held_in n (get_or stations n [])) (numbers_below (length stations))
+  all_held stations =
+      flat_map (λ n. held_in n (get_or stations n [])) (numbers_below (length stations))
 
   -- the stamps of what waits in a lot or at a node, and the times that are held at a node, on all workers
   abbrev pub stamps_of : Lot T → List T

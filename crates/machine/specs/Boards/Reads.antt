@@ -21,7 +21,8 @@ use Rattle.machine.specs.Boards.{BoardState, no_view, is_from_start}
 
 -- the elements of the inputs' frontiers
 abbrev pub open_on : {T : Type 0} → BoardState T → List (OpenTime T)
-open_on b = flat_map (λ i. open_entries i (front_at i b.inputs)) (numbers_below (length b.dataflow.nodes))
+open_on b =
+    flat_map (λ i. open_entries i (front_at i b.inputs)) (numbers_below (length b.dataflow.nodes))
 
 -- the board as a state that a history leaves, with the logs of the past empty: frontiers need only what is
 -- outstanding
@@ -77,7 +78,8 @@ module _ {T : Type 0} (below : T → T → Bool) where
 
   -- the refusal of a view's changes
   abbrev pub changes_refusal_on : T → BoardState T → ℕ → Option Refusal
-  changes_refusal_on minimum b v = first_refusal ((not (is_from_start below minimum (since_of b v)), GivenUp) ∷ [])
+  changes_refusal_on minimum b v =
+      first_refusal ((not (is_from_start below minimum (since_of b v)), GivenUp) ∷ [])
 
   -- what a view captured at times that its frontier has passed
   abbrev pub passed_captured : BoardState T → ℕ → List (Update T)
@@ -86,7 +88,8 @@ module _ {T : Type 0} (below : T → T → Bool) where
   -- how a read, and the changes of a view, may be refused: with a fault, for want of memory, or with a number that is
   -- too large
   abbrev pub IsReadRefusal : BoardState T → ℕ → T → Refusal → Type 0
-  IsReadRefusal b v t refusal = IsRefusalOr (HasLargeSum below (captured_of b v) t) (read_refusal_on b v t) refusal
+  IsReadRefusal b v t refusal =
+      IsRefusalOr (HasLargeSum below (captured_of b v) t) (read_refusal_on b v t) refusal
 
   abbrev pub IsChangesRefusal : T → BoardState T → ℕ → Refusal → Type 0
   IsChangesRefusal minimum b v refusal = IsRefusalOr (HasLargeTotal below (passed_captured b v)) (changes_refusal_on minimum b v) refusal

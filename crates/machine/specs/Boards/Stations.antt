@@ -40,4 +40,5 @@ module _ {T : Type 0} where
   IsReleased s = (s.left.room ≡ 0) × (s.right.room ≡ 0)
 
   abbrev pub HasReleased : List (List (Station T)) → Site → Type 0
-  HasReleased stations site = IfSome (slice_get (get_or stations site.node []) site.worker) IsReleased
+  HasReleased stations site =
+      IfSome (slice_get (get_or stations site.node []) site.worker) IsReleased

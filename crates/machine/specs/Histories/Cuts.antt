@@ -24,16 +24,19 @@ module _ {T : Type 0} (below : T → T → Bool) where
   -- updates
   abbrev pub bundled : Site → List (Update T) → List (Bundle T)
   bundled site [] = []
-  bundled site (u ∷ us) = record { place = site; updates = u ∷ us; stamp = stamp below (u ∷ us) } ∷ []
+  bundled site (u ∷ us) =
+      record { place = site; updates = u ∷ us; stamp = stamp below (u ∷ us) } ∷ []
 
   -- the bundles that go along an edge, in the order of the workers, from what each worker gets
   abbrev pub bundles_along : Edge → ℕ → (ℕ → List (Update T)) → List (Bundle T)
-  bundles_along edge workers gets = flat_map (λ k. bundled (place edge.reader edge.port k) (gets k)) (numbers_below workers)
+  bundles_along edge workers gets =
+      flat_map (λ k. bundled (place edge.reader edge.port k) (gets k)) (numbers_below workers)
 
 module _ {T : Type 0} (below : T → T → Bool) (p : Dataflow) (g : Emission T) where
   -- the bundles along an edge, from each worker's share
   abbrev pub cut_along : Edge → List (Bundle T)
-  cut_along edge = bundles_along below edge p.workers (λ k. share p (place edge.reader edge.port k) g)
+  cut_along edge =
+      bundles_along below edge p.workers (λ k. share p (place edge.reader edge.port k) g)
 
   -- the bundles along all edges from the node
   abbrev pub cut : List (Bundle T)

@@ -34,7 +34,8 @@ module _ {T : Type 0} (below : T → T → Bool) where
 
   -- at some take of the worker at the node, the input frontier had passed the time
   abbrev pub was_passed : ℕ → ℕ → List (ObservedFrontier T) → T → Bool
-  was_passed n k observed t = list_any (λ l. (eqb l.node n && eqb l.worker k) && has_passed below l.frontier t) observed
+  was_passed n k observed t =
+      list_any (λ l. (eqb l.node n && eqb l.worker k) && has_passed below l.frontier t) observed
 
   -- what a worker gave at a reduction is final: each row at most once at each time, at times that the worker no
   -- longer holds, and that the input frontier had passed at some take

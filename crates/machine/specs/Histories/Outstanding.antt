@@ -17,7 +17,8 @@ module _ {T : Type 0} (below : T → T → Bool) where
   -- a frontier with one time added: if the time is not beyond it, the time comes in, and the elements beyond the time
   -- go out
   abbrev pub with_time : List T → T → List T
-  with_time front t = if is_beyond below front t then front else filter (λ f. not (below t f)) front ++ t ∷ []
+  with_time front t = if is_beyond below front t then front
+      else filter (λ f. not (below t f)) front ++ t ∷ []
 
   -- a frontier with these times added, one by one
   abbrev pub with_times : List T → List T → List T
@@ -47,7 +48,8 @@ open_where test open_times = flat_map (λ o. if test o.input then o.time ∷ [] 
 -- what is outstanding, if bundles and inputs count at the nodes that pass one test, and held times at those that pass
 -- another
 abbrev pub counted_times : {T : Type 0} → State T → (ℕ → Bool) → (ℕ → Bool) → List T
-counted_times w there holding = stamps (λ site. there site.node) w.in_flight ++ (held_where holding w.held ++ open_where there w.open_times)
+counted_times w there holding = stamps (λ site. there site.node) w.in_flight
+    ++ (held_where holding w.held ++ open_where there w.open_times)
 
 -- what is outstanding at a node or above it
 abbrev pub outstanding : {T : Type 0} → Dataflow → State T → ℕ → List T

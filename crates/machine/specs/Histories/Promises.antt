@@ -28,7 +28,8 @@ abbrev pub changes_in : {T : Type 0} → State T → ℕ → List (Update T)
 changes_in w i = fed_to i w.fed
 
 -- the changes that were fed in a history, by input
-abbrev pub changes_after : {T : Type 0} → (T → T → Bool) → T → Dataflow → List (Event T) → ℕ → List (Update T)
+abbrev pub changes_after : {T : Type 0} → (T → T → Bool) → T → Dataflow → List (Event T) → ℕ
+    → List (Update T)
 changes_after below minimum opened h = changes_in (state_after below minimum opened h)
 
 module _ {T : Type 0} (below : T → T → Bool) (p : Dataflow) (w : State T) (n : ℕ) where
@@ -42,16 +43,21 @@ module _ {T : Type 0} (below : T → T → Bool) (p : Dataflow) (w : State T) (n
   -- sums at each passed time to what the node gave is that list. `back`: at each passed time, each row has the same
   -- total in that list as in what the node gave
   pub record MeetsDifferences (cmp : T → T → Ordering) : Type 0 where
-    pub into : (us : List (Update T)) → IsConsolidated cmp us → IsTrue (list_all (λ u. has_passed below (frontier below p w n) u.time) us)
+    pub into : (us : List (Update T)) → IsConsolidated cmp us
+        → IsTrue (list_all (λ u. has_passed below (frontier below p w n) u.time) us)
         → ((t : T) → IsTrue (has_passed below (frontier below p w n) t) → Alike (as_of below t us) (as_of below t (emitted_at n w.emitted)))
         → AreDifferences below cmp p.nodes (changes_in w) (frontier below p w n) n us
-    pub back : (us : List (Update T)) → AreDifferences below cmp p.nodes (changes_in w) (frontier below p w n) n us
-        → (row : List ℤ) (t : T) → IsTrue (has_passed below (frontier below p w n) t) → total_at below row t us ≡ total_at below row t (emitted_at n w.emitted)
+    pub back : (us : List (Update T))
+        → AreDifferences below cmp p.nodes (changes_in w) (frontier below p w n) n us
+        → (row : List ℤ) (t : T) → IsTrue (has_passed below (frontier below p w n) t)
+            → total_at below row t us ≡ total_at below row t (emitted_at n w.emitted)
 
   -- at a join or reduction: if the input frontier and the times that the worker still holds there have passed a time,
   -- then what the worker gave, summed to that time, is the part of the query whose keys are its own
   abbrev pub MeetsPart : ℕ → Type 0
-  MeetsPart k = is_linear (node_of p n) ≡ false → (t : T) → IsTrue (has_passed below (input_frontier below p w n) t) → IsTrue (has_passed below (held_at n k w.held) t)
+  MeetsPart k = is_linear (node_of p n) ≡ false → (t : T)
+      → IsTrue (has_passed below (input_frontier below p w n) t)
+      → IsTrue (has_passed below (held_at n k w.held) t)
       → Alike (as_of below t (emitted_by n k w.emitted)) (filter (λ e. eqb (route p (take (key_width p.nodes (node_of p n)) e.row)) k) (query_at below p.nodes (changes_in w) n t))
 
   -- nothing is outstanding at or before a time: no stamp and no update of a bundle in flight at the node or above it,
@@ -63,7 +69,8 @@ module _ {T : Type 0} (below : T → T → Bool) (p : Dataflow) (w : State T) (n
 
   -- if the node's frontier has passed a time, nothing is outstanding at or before it, at the node or above it
   abbrev pub NothingLurks : Type 0
-  NothingLurks = (t : T) → IsTrue (has_passed below (frontier below p w n) t) → IsClearAt (upstream p n) t
+  NothingLurks = (t : T) → IsTrue (has_passed below (frontier below p w n) t)
+      → IsClearAt (upstream p n) t
 
   -- for a node that reads others, the input frontier has passed a time exactly if the frontiers of all its ports have
   abbrev pub PortsAreInput : Type 0
@@ -72,7 +79,8 @@ module _ {T : Type 0} (below : T → T → Bool) (p : Dataflow) (w : State T) (n
 
   -- the absolute diffs that the node gave, on all workers, add up to no more than its bound
   abbrev pub KeepsBound : (T → T → Ordering) → Type 0
-  KeepsBound cmp = (weight : ℕ) → IsBound below cmp p.nodes (changes_in w) n weight → size (emitted_at n w.emitted) ≤ weight
+  KeepsBound cmp = (weight : ℕ) → IsBound below cmp p.nodes (changes_in w) n weight
+      → size (emitted_at n w.emitted) ≤ weight
 
   -- a reduction's updates of the rows that pass a test, up to some step of its computation. Each row occurs at most
   -- once at each time, and the input frontier has passed each time. At each time at or before one of theirs, they sum
@@ -84,23 +92,28 @@ module _ {T : Type 0} (below : T → T → Bool) (p : Dataflow) (w : State T) (n
 
   -- so such updates stay within the bound, and a reduction may answer that a number is too large only if its bound is
   abbrev pub OwesWithinBound : (T → T → Ordering) → Type 0
-  OwesWithinBound cmp = (source : ℕ) (kind : Kind) → node_of p n ≡ Reduce kind source → (test : List ℤ → Bool) (k : ℕ) (us : List (Update T)) → AreOwed test k us
+  OwesWithinBound cmp = (source : ℕ) (kind : Kind) → node_of p n ≡ Reduce kind source
+      → (test : List ℤ → Bool) (k : ℕ) (us : List (Update T)) → AreOwed test k us
       → (weight : ℕ) → IsBound below cmp p.nodes (changes_in w) n weight → size us ≤ weight
 
   -- what a worker received at a port is within the bound of the node that the port reads
   abbrev pub TakesWithinBound : (T → T → Ordering) → Type 0
-  TakesWithinBound cmp = (port source : ℕ) → source_of p n port ≡ Some source → (k : ℕ) → k < p.workers
-      → (weight : ℕ) → IsBound below cmp p.nodes (changes_in w) source weight → size (received_at w n k port) ≤ weight
+  TakesWithinBound cmp = (port source : ℕ) → source_of p n port ≡ Some source → (k : ℕ)
+      → k < p.workers
+      → (weight : ℕ) → IsBound below cmp p.nodes (changes_in w) source weight
+          → size (received_at w n k port) ≤ weight
 
   -- at a node that is no reduction, what the node may make of what a worker received (at a join the product of both
   -- ports) is within the node's own bound
   abbrev pub LoadsWithinBound : (T → T → Ordering) → Type 0
   LoadsWithinBound cmp = is_reduction (node_of p n) ≡ false → (k : ℕ) → k < p.workers
-      → (weight : ℕ) → IsBound below cmp p.nodes (changes_in w) n weight → output_bound (node_of p n) 0 (λ port. size (received_at w n k port)) ≤ weight
+      → (weight : ℕ) → IsBound below cmp p.nodes (changes_in w) n weight
+          → output_bound (node_of p n) 0 (λ port. size (received_at w n k port)) ≤ weight
 
 -- what the earlier frontier has passed, the later one has passed too
 abbrev pub NeverGoesBack : {T : Type 0} → (T → T → Bool) → List T → List T → Type 0
-NeverGoesBack {T} below earlier later = (t : T) → IsTrue (has_passed below earlier t) → IsTrue (has_passed below later t)
+NeverGoesBack {T} below earlier later = (t : T) → IsTrue (has_passed below earlier t)
+    → IsTrue (has_passed below later t)
 
 -- a place that exists: a node, one of its ports (an input has the port 0), and a worker
 pub record IsPlace (p : Dataflow) (site : Site) : Type 0 where
@@ -112,6 +125,7 @@ pub record IsPlace (p : Dataflow) (site : Site) : Type 0 where
 -- pieces in hand
 pub record IsInPlace {T : Type 0} (p : Dataflow) (w : State T) : Type 0 where
   pub bundles : (b : Bundle T) → Contains w.in_flight b → IsPlace p b.place × (b.updates ≢ [])
-  pub held : (m : HeldTime T) → Contains w.held m → (m.node < length p.nodes) × (m.worker < p.workers)
+  pub held : (m : HeldTime T) → Contains w.held m → (m.node < length p.nodes)
+      × (m.worker < p.workers)
   pub inputs : (o : OpenTime T) → Contains w.open_times o → IsInput p o.input
   pub hand : (k n : ℕ) → w.hand k ≡ Some n → (n < length p.nodes) × (k < p.workers)

@@ -23,12 +23,15 @@ module _ {T : Type 0} (below : T → T → Bool) (p : Dataflow) (w : State T) wh
   pub record IsReading (view : ℕ) (us : List (Update T)) (front since : List T) : Type 0 where
     pub stands : SameElements front (frontier below p w view)
     pub held : since ≡ w.since view
-    pub sums : (t : T) → IsTrue (is_beyond below since t) → Alike (as_of below t us) (as_of below t (emitted_at view w.emitted))
+    pub sums : (t : T) → IsTrue (is_beyond below since t)
+        → Alike (as_of below t us) (as_of below t (emitted_at view w.emitted))
 
   -- so at a time that is passed and still held, the reading sums to the query
   abbrev pub ReadsQuery : Type 0
-  ReadsQuery = (view : ℕ) (us : List (Update T)) (front since : List T) → IsReading view us front since
-      → (t : T) → IsTrue (has_passed below front t) → IsTrue (is_beyond below since t) → Alike (as_of below t us) (query_at below p.nodes (changes_in w) view t)
+  ReadsQuery = (view : ℕ) (us : List (Update T)) (front since : List T)
+      → IsReading view us front since
+      → (t : T) → IsTrue (has_passed below front t) → IsTrue (is_beyond below since t)
+          → Alike (as_of below t us) (query_at below p.nodes (changes_in w) view t)
 
   -- nothing is in flight or in hand, and each held time could still receive input at or before it
   pub record IsQuiet : Type 0 where

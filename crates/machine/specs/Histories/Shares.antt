@@ -26,11 +26,13 @@ module _ {T : Type 0} (p : Dataflow) where
   -- the part of an emission that a worker gets along an edge from a source
   abbrev pub share_from : Option ℕ → Option ℕ → ℕ → Emission T → List (Update T)
   share_from None columns worker g = []
-  share_from (Some source) columns worker g = if eqb g.node source then part columns g.worker worker g.updates else []
+  share_from (Some source) columns worker g =
+      if eqb g.node source then part columns g.worker worker g.updates else []
 
   -- the part of an emission that goes to a place
   abbrev pub share : Site → Emission T → List (Update T)
-  share site g = share_from (source_of p site.node site.port) (arranged_by (node_of p site.node)) site.worker g
+  share site g =
+      share_from (source_of p site.node site.port) (arranged_by (node_of p site.node)) site.worker g
 
   -- the part of a change that goes to a place: all of it at its home, nothing elsewhere
   abbrev pub share_fed : Site → Fed T → List (Update T)
@@ -46,4 +48,5 @@ are_filled sent = list_all (λ b. not (eqb (length b.updates) 0)) sent
 
 -- each stamp is beyond these times, and each bundle's updates are beyond its stamp
 abbrev pub are_stamped : {T : Type 0} → (T → T → Bool) → List T → List (Bundle T) → Bool
-are_stamped below held sent = list_all (λ b. all_beyond below held b.stamp && all_beyond below b.stamp (times b.updates)) sent
+are_stamped below held sent =
+    list_all (λ b. all_beyond below held b.stamp && all_beyond below b.stamp (times b.updates)) sent

@@ -57,7 +57,8 @@ module _ {T : Type 0} where
 
   -- the updates of all bundles of a place
   abbrev pub updates_at : Site → List (Bundle T) → List (Update T)
-  updates_at site bundles = flat_map (λ b. if same_place b.place site then b.updates else []) bundles
+  updates_at site bundles =
+      flat_map (λ b. if same_place b.place site then b.updates else []) bundles
 
   -- the bundles of a place, in their order
   abbrev pub queue : Site → List (Bundle T) → List (Bundle T)
@@ -65,7 +66,8 @@ module _ {T : Type 0} where
 
   -- what a worker gave at a node
   abbrev pub emitted_by : ℕ → ℕ → List (Emission T) → List (Update T)
-  emitted_by n k emissions = flat_map (λ g. if eqb g.node n && eqb g.worker k then g.updates else []) emissions
+  emitted_by n k emissions =
+      flat_map (λ g. if eqb g.node n && eqb g.worker k then g.updates else []) emissions
 
   -- what was given at a node, on all workers; at a view it is what was captured
   abbrev pub emitted_at : ℕ → List (Emission T) → List (Update T)
