@@ -35,8 +35,8 @@ mod histories;
 pub use board::Board;
 pub use board::emission::Ungiven;
 pub use board::inputs::{InputFrontiers, MAX_CHANGES, MAX_DIFFERENCE};
-pub use board::routing::Routing;
 pub use board::promises::meets;
+pub use board::routing::Routing;
 pub use board::view::View;
 pub use histories::event::{Bundle, Bundles, Emission, Event, Fed, HeldTime, OpenTime, Site};
 pub use histories::theorems::{

@@ -50,7 +50,7 @@ module _ {T : Type 0} (below : T → T → Bool) (p : Dataflow) (w : State T) (n
     pub back : (us : List (Update T))
         → AreDifferences below cmp p.nodes (changes_in w) (frontier below p w n) n us
         → (row : List ℤ) (t : T) → IsTrue (has_passed below (frontier below p w n) t)
-            → total_at below row t us ≡ total_at below row t (emitted_at n w.emitted)
+        → total_at below row t us ≡ total_at below row t (emitted_at n w.emitted)
 
   -- at a join or reduction: if the input frontier and the times that the worker still holds there have passed a time,
   -- then what the worker gave, summed to that time, is the part of the query whose keys are its own
@@ -101,14 +101,14 @@ module _ {T : Type 0} (below : T → T → Bool) (p : Dataflow) (w : State T) (n
   TakesWithinBound cmp = (port source : ℕ) → source_of p n port ≡ Some source → (k : ℕ)
       → k < p.workers
       → (weight : ℕ) → IsBound below cmp p.nodes (changes_in w) source weight
-          → size (received_at w n k port) ≤ weight
+      → size (received_at w n k port) ≤ weight
 
   -- at a node that is no reduction, what the node may make of what a worker received (at a join the product of both
   -- ports) is within the node's own bound
   abbrev pub LoadsWithinBound : (T → T → Ordering) → Type 0
   LoadsWithinBound cmp = is_reduction (node_of p n) ≡ false → (k : ℕ) → k < p.workers
       → (weight : ℕ) → IsBound below cmp p.nodes (changes_in w) n weight
-          → output_bound (node_of p n) 0 (λ port. size (received_at w n k port)) ≤ weight
+      → output_bound (node_of p n) 0 (λ port. size (received_at w n k port)) ≤ weight
 
 -- what the earlier frontier has passed, the later one has passed too
 abbrev pub NeverGoesBack : {T : Type 0} → (T → T → Bool) → List T → List T → Type 0

@@ -31,7 +31,7 @@ module _ {T : Type 0} (below : T → T → Bool) (p : Dataflow) (w : State T) wh
   ReadsQuery = (view : ℕ) (us : List (Update T)) (front since : List T)
       → IsReading view us front since
       → (t : T) → IsTrue (has_passed below front t) → IsTrue (is_beyond below since t)
-          → Alike (as_of below t us) (query_at below p.nodes (changes_in w) view t)
+      → Alike (as_of below t us) (query_at below p.nodes (changes_in w) view t)
 
   -- nothing is in flight or in hand, and each held time could still receive input at or before it
   pub record IsQuiet : Type 0 where
