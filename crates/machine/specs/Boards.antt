@@ -59,8 +59,8 @@ module _ {T : Type 0} where
   pub record IsBoard (b : BoardState T) : Type 0 where
     pub dataflow : Rattle.machine.specs.Histories.Dataflows.IsDataflow b.dataflow
     pub stations : length b.stations ≡ length b.dataflow.nodes
-    pub rows : (n : ℕ) → n < length b.dataflow.nodes → length (get_or b.stations n [])
-        ≡ b.dataflow.workers
+    pub rows : (n : ℕ) → n < length b.dataflow.nodes
+        → length (get_or b.stations n []) ≡ b.dataflow.workers
     pub hand : length b.hand ≡ b.dataflow.workers
     pub accepted : length b.accepted ≡ length b.dataflow.nodes
     pub views : length b.views ≡ length b.dataflow.nodes
@@ -142,7 +142,8 @@ module _ {T : Type 0} where
 module _ {T : Type 0} (below : T → T → Bool) where
   -- the refusal of a change, and of times as an input's next frontier, if there is one
   abbrev pub feed_refusal : BoardState T → Fed T → Option Refusal
-  feed_refusal b f = first_refusal (feed_faults below b.dataflow.nodes (front_at f.input b.inputs) (get_or b.accepted f.input 0) f)
+  feed_refusal b f = first_refusal
+      (feed_faults below b.dataflow.nodes (front_at f.input b.inputs) (get_or b.accepted f.input 0) f)
 
   abbrev pub advance_refusal : BoardState T → ℕ → List T → Option Refusal
   advance_refusal b i ts = first_refusal (advance_faults below (front_at i b.inputs) ts)
@@ -207,10 +208,11 @@ module _ {T : Type 0} (below : T → T → Bool) (minimum : T) where
     pub held : (n k : ℕ) → (lot_of b.stations n k).held ≡ held_at n k (state_on b h).held
     pub open_times : (i : ℕ) → front_at i b.inputs ≡ open_at i (state_on b h).open_times
     pub hand : (k : ℕ) → k < b.dataflow.workers → get_or b.hand k None ≡ (state_on b h).hand k
-    pub accepted : (i : ℕ) → i < length b.dataflow.nodes → get_or b.accepted i 0
-        ≡ length (fed_to i (state_on b h).fed)
-    pub since : (v : ℕ) → v < length b.dataflow.nodes → (get_or b.views v no_view).since
-        ≡ (state_on b h).since v
+    pub accepted : (i : ℕ) → i < length b.dataflow.nodes
+        → get_or b.accepted i 0 ≡ length (fed_to i (state_on b h).fed)
+    pub since : (v : ℕ) → v < length b.dataflow.nodes
+        → (get_or b.views v no_view).since ≡ (state_on b h).since v
     pub captured : (v : ℕ) → v < length b.dataflow.nodes → IsTrue (is_output (node_of b.dataflow v))
-        → IsKeptOf ((state_on b h).since v) (get_or b.views v no_view).captured (emitted_at v (state_on b h).emitted)
+        → IsKeptOf ((state_on b h).since v)
+        (get_or b.views v no_view).captured (emitted_at v (state_on b h).emitted)
     pub last : IsLast b h

@@ -46,7 +46,9 @@ module _ {T : Type 0} where
   without site [] number = []
   without site (b ∷ bundles) zero =
       if same_place b.place site then bundles else b ∷ without site bundles zero
-  without site (b ∷ bundles) (suc number) = b ∷ (if same_place b.place site then without site bundles number else without site bundles (suc number))
+  without site (b ∷ bundles) (suc number) =
+      b ∷ (if same_place b.place site then without site bundles number
+      else without site bundles (suc number))
 
   -- worker k holds the time at node n
   abbrev pub is_held_by : ℕ → ℕ → HeldTime T → Bool
@@ -171,8 +173,8 @@ module _ {T : Type 0} (below : T → T → Bool) (p : Dataflow) where
     pub onward : IsTrue (all_beyond below (held_at g.node g.worker w.held) (times g.updates ++ ts))
     pub law : NodeLaw below p (give_state w g ts sent) g.node g.worker
     pub load : LoadRule below p (give_state w g ts sent) g.node g.worker
-    pub whole : (site : Site) (f : Update T → ℤ) → total_by f (updates_at site sent)
-        ≡ total_by f (share p site g)
+    pub whole : (site : Site) (f : Update T → ℤ)
+        → total_by f (updates_at site sent) ≡ total_by f (share p site g)
     pub filled : IsTrue (are_filled sent)
     pub stamped : IsTrue (are_stamped below (held_at g.node g.worker w.held) sent)
 

@@ -66,7 +66,9 @@ module _ {T : Type 0} (below : T → T → Bool) where
 
   -- each held time could still receive input: its node's input frontier has not passed it
   abbrev pub all_wait : BoardState T → Bool
-  all_wait b = list_all (λ m. nat_lt m.node (length b.dataflow.nodes) && is_beyond below (input_front b m.node) m.time) (all_held b.stations)
+  all_wait b = list_all
+      (λ m. nat_lt m.node (length b.dataflow.nodes) && is_beyond below (input_front b m.node) m.time)
+      (all_held b.stations)
 
   -- nothing is in flight or in hand, and each held time could still receive input
   abbrev pub is_quiet_board : BoardState T → Bool
@@ -74,7 +76,9 @@ module _ {T : Type 0} (below : T → T → Bool) where
 
   -- the refusal of a read, in the order in which its faults are tested
   abbrev pub read_refusal_on : BoardState T → ℕ → T → Option Refusal
-  read_refusal_on b v t = first_refusal ((is_beyond below (front b v) t, NotPassed) ∷ (not (is_beyond below (since_of b v) t), GivenUp) ∷ [])
+  read_refusal_on b v t = first_refusal
+      ((is_beyond below (front b v) t, NotPassed)
+      ∷ (not (is_beyond below (since_of b v) t), GivenUp) ∷ [])
 
   -- the refusal of a view's changes
   abbrev pub changes_refusal_on : T → BoardState T → ℕ → Option Refusal
@@ -92,4 +96,6 @@ module _ {T : Type 0} (below : T → T → Bool) where
       IsRefusalOr (HasLargeSum below (captured_of b v) t) (read_refusal_on b v t) refusal
 
   abbrev pub IsChangesRefusal : T → BoardState T → ℕ → Refusal → Type 0
-  IsChangesRefusal minimum b v refusal = IsRefusalOr (HasLargeTotal below (passed_captured b v)) (changes_refusal_on minimum b v) refusal
+  IsChangesRefusal minimum b v refusal =
+      IsRefusalOr (HasLargeTotal below (passed_captured b v))
+      (changes_refusal_on minimum b v) refusal

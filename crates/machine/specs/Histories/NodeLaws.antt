@@ -21,7 +21,8 @@ module _ {T : Type 0} (below : T → T → Bool) where
   -- the node law of worker k at node n
   abbrev pub NodeLaw : Dataflow → State T → ℕ → ℕ → Type 0
   NodeLaw p w n k = (t : T) → IsTrue (has_passed below (held_at n k w.held) t)
-      → Alike (as_of below t (emitted_by n k w.emitted)) (node_output p n (λ port. as_of below t (received_at w n k port)))
+      → Alike (as_of below t (emitted_by n k w.emitted))
+      (node_output p n (λ port. as_of below t (received_at w n k port)))
 
   -- the two updates have the same row and the same time
   abbrev pub is_doubled : Update T → Update T → Bool
@@ -47,7 +48,8 @@ module _ {T : Type 0} (below : T → T → Bool) where
   -- the absolute diffs given add up to no more than those received: at a concat to no more than the sum over both
   -- ports, at a join to no more than their product
   abbrev pub IsWithinLoad : Dataflow → State T → ℕ → ℕ → Type 0
-  IsWithinLoad p w n k = size (emitted_by n k w.emitted) ≤ output_bound (node_of p n) 0 (λ port. size (received_at w n k port))
+  IsWithinLoad p w n k = size (emitted_by n k w.emitted)
+      ≤ output_bound (node_of p n) 0 (λ port. size (received_at w n k port))
 
   -- the load rule of worker k at node n
   pub record LoadRule (p : Dataflow) (w : State T) (n k : ℕ) : Type 0 where

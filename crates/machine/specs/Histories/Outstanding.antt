@@ -72,4 +72,6 @@ module _ {T : Type 0} (below : T → T → Bool) where
 
   -- the frontier of one port: what is in flight to it, and what is outstanding at its source or above
   abbrev pub port_frontier : Dataflow → State T → ℕ → ℕ → List T
-  port_frontier p w n port = least below (stamps (λ site. eqb site.node n && eqb site.port port) w.in_flight ++ outstanding_from p w n (source_of p n port))
+  port_frontier p w n port = least below
+      (stamps (λ site. eqb site.node n && eqb site.port port) w.in_flight
+      ++ outstanding_from p w n (source_of p n port))

@@ -45,7 +45,8 @@ module _ {T : Type 0} (below : T → T → Bool) (p : Dataflow) (w : State T) (n
   pub record MeetsDifferences (cmp : T → T → Ordering) : Type 0 where
     pub into : (us : List (Update T)) → IsConsolidated cmp us
         → IsTrue (list_all (λ u. has_passed below (frontier below p w n) u.time) us)
-        → ((t : T) → IsTrue (has_passed below (frontier below p w n) t) → Alike (as_of below t us) (as_of below t (emitted_at n w.emitted)))
+        → ((t : T) → IsTrue (has_passed below (frontier below p w n) t)
+        → Alike (as_of below t us) (as_of below t (emitted_at n w.emitted)))
         → AreDifferences below cmp p.nodes (changes_in w) (frontier below p w n) n us
     pub back : (us : List (Update T))
         → AreDifferences below cmp p.nodes (changes_in w) (frontier below p w n) n us
@@ -58,12 +59,15 @@ module _ {T : Type 0} (below : T → T → Bool) (p : Dataflow) (w : State T) (n
   MeetsPart k = is_linear (node_of p n) ≡ false → (t : T)
       → IsTrue (has_passed below (input_frontier below p w n) t)
       → IsTrue (has_passed below (held_at n k w.held) t)
-      → Alike (as_of below t (emitted_by n k w.emitted)) (filter (λ e. eqb (route p (take (key_width p.nodes (node_of p n)) e.row)) k) (query_at below p.nodes (changes_in w) n t))
+      → Alike (as_of below t (emitted_by n k w.emitted))
+      (filter (λ e. eqb (route p (take (key_width p.nodes (node_of p n)) e.row)) k)
+      (query_at below p.nodes (changes_in w) n t))
 
   -- nothing is outstanding at or before a time: no stamp and no update of a bundle in flight at the node or above it,
   -- no element of an input's frontier there, and no time that is held at a node that passes the test
   pub record IsClearAt (holding : ℕ → Bool) (t : T) : Type 0 where
-    pub in_flight : IsTrue (list_all (λ b. not (upstream p n b.place.node) || (has_passed below b.stamp t && has_passed below (times b.updates) t)) w.in_flight)
+    pub in_flight : IsTrue (list_all (λ b. not (upstream p n b.place.node)
+        || (has_passed below b.stamp t && has_passed below (times b.updates) t)) w.in_flight)
     pub held : IsTrue (list_all (λ m. not (holding m.node && below m.time t)) w.held)
     pub inputs : IsTrue (list_all (λ o. not (upstream p n o.input && below o.time t)) w.open_times)
 
@@ -75,7 +79,9 @@ module _ {T : Type 0} (below : T → T → Bool) (p : Dataflow) (w : State T) (n
   -- for a node that reads others, the input frontier has passed a time exactly if the frontiers of all its ports have
   abbrev pub PortsAreInput : Type 0
   PortsAreInput = 1 ≤ length (sources (node_of p n)) → (t : T)
-      → has_passed below (input_frontier below p w n) t ≡ list_all (λ port. has_passed below (port_frontier below p w n port) t) (numbers_below (length (sources (node_of p n))))
+      → has_passed below (input_frontier below p w n) t
+      ≡ list_all (λ port. has_passed below (port_frontier below p w n port) t)
+      (numbers_below (length (sources (node_of p n))))
 
   -- the absolute diffs that the node gave, on all workers, add up to no more than its bound
   abbrev pub KeepsBound : (T → T → Ordering) → Type 0
@@ -88,7 +94,9 @@ module _ {T : Type 0} (below : T → T → Bool) (p : Dataflow) (w : State T) (n
   pub record AreOwed (test : List ℤ → Bool) (k : ℕ) (us : List (Update T)) : Type 0 where
     pub apart : AreApart below us
     pub passed : IsTrue (list_all (λ u. has_passed below (input_frontier below p w n) u.time) us)
-    pub sums : (u : Update T) → Contains us u → (t : T) → IsTrue (below t u.time) → Alike (as_of below t us) (filter (λ e. test e.row) (node_output p n (λ port. as_of below t (received_at w n k port))))
+    pub sums : (u : Update T) → Contains us u → (t : T) → IsTrue (below t u.time)
+        → Alike (as_of below t us) (filter (λ e. test e.row)
+        (node_output p n (λ port. as_of below t (received_at w n k port))))
 
   -- so such updates stay within the bound, and a reduction may answer that a number is too large only if its bound is
   abbrev pub OwesWithinBound : (T → T → Ordering) → Type 0
@@ -98,8 +106,8 @@ module _ {T : Type 0} (below : T → T → Bool) (p : Dataflow) (w : State T) (n
 
   -- what a worker received at a port is within the bound of the node that the port reads
   abbrev pub TakesWithinBound : (T → T → Ordering) → Type 0
-  TakesWithinBound cmp = (port source : ℕ) → source_of p n port ≡ Some source → (k : ℕ)
-      → k < p.workers
+  TakesWithinBound cmp = (port source : ℕ) → source_of p n port ≡ Some source
+      → (k : ℕ) → k < p.workers
       → (weight : ℕ) → IsBound below cmp p.nodes (changes_in w) source weight
       → size (received_at w n k port) ≤ weight
 
@@ -125,7 +133,7 @@ pub record IsPlace (p : Dataflow) (site : Site) : Type 0 where
 -- pieces in hand
 pub record IsInPlace {T : Type 0} (p : Dataflow) (w : State T) : Type 0 where
   pub bundles : (b : Bundle T) → Contains w.in_flight b → IsPlace p b.place × (b.updates ≢ [])
-  pub held : (m : HeldTime T) → Contains w.held m → (m.node < length p.nodes)
-      × (m.worker < p.workers)
+  pub held : (m : HeldTime T) → Contains w.held m
+      → (m.node < length p.nodes) × (m.worker < p.workers)
   pub inputs : (o : OpenTime T) → Contains w.open_times o → IsInput p o.input
   pub hand : (k n : ℕ) → w.hand k ≡ Some n → (n < length p.nodes) × (k < p.workers)

@@ -42,4 +42,5 @@ module _ {T : Type 0} (below : T → T → Bool) (p : Dataflow) (w : State T) wh
   -- the node's frontier is the least of the frontiers of the inputs that feed it; on a quiet board this holds of each
   -- node
   abbrev pub IsCaughtUp : ℕ → Type 0
-  IsCaughtUp n = SameElements (frontier below p w n) (least below (open_for below p.nodes (λ i. open_at i w.open_times) n))
+  IsCaughtUp n = SameElements (frontier below p w n)
+      (least below (open_for below p.nodes (λ i. open_at i w.open_times) n))
