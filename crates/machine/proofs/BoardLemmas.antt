@@ -1,3 +1,4 @@
+-- The lemmas of the board: what its code reads and writes is what the definitions of `specs/Boards` say.
 pub mod LotLemmas
 pub mod SurveyLemmas
 pub mod QueueLemmas

@@ -1,3 +1,4 @@
+-- The lemmas of histories. They know no code, and the theorems of `histories/theorems.rt` are their ends.
 pub mod StampLemmas
 pub mod FlowLemmas
 pub mod KeptLemmas

@@ -1,6 +1,6 @@
 -- Histories: lists of events, the newest first. This file says what state each event leaves, and in which states it
--- is allowed. A history is legal if each of its events was allowed in the state before it. Nothing else enters: an
--- event never depends on how an engine came to it.
+-- is allowed. A history is legal if each of its events was allowed in the state before it. An event is judged by that
+-- state alone, not by how an engine came to it.
 pub mod States
 pub mod Dataflows
 pub mod Shares
