@@ -207,7 +207,7 @@ module _ {T : Type 0} (leq : T → T → Bool) (o : PartialOrderLaws leq) (p : D
         differs : (i j : ℕ) → not (eqb i j) ≡ true → i ≡ j → ⊥
         differs i j h e = false≢true (sym (ap not (eq-eqb i j e)) ∙ h)
 
-    -- on a quiet board each node's frontier is where the inputs put it
+    -- on a quiet board, each node's frontier is the least of the frontiers of the inputs that feed it
     pub caught_up_lem : IsCaughtUp leq p w n
     caught_up_lem = least_same leq o (outstanding p w n) fronts (λ t. same_test (is_beyond leq (outstanding p w n) t) (is_beyond leq fronts t) (into t) (back t))
       where

@@ -184,7 +184,7 @@ impl<T: Minimum> Parcel<T> {
         Ok(Parcel::Sent(updates.into(), stamp.into()))
     }
 
-    // Turns a waiting change, where it lies, into the form that a worker would send. What a worker sent stays as it
+    // Turns a waiting change, in its place, into the form that a worker would send. What a worker sent stays as it
     // is.
     fn unpack(&mut self, alloc: Global) -> Result<(), Refusal>
         ensures sent { OnOk result ((updates : List (Update T)) × ((stamp : List T)

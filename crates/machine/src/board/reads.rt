@@ -265,8 +265,8 @@ impl<T: Minimum> Board<T> {
     }
 
     /// Whether the board is quiet: nothing is in flight, no worker has a piece in hand, and each held time could
-    /// still receive input at or before it. Then every frontier is where the inputs' frontiers put it. Takes no
-    /// memory.
+    /// still receive input at or before it. Then each node's frontier is the least of the frontiers of the inputs
+    /// that feed it. Takes no memory.
     ///
     /// Cost: linear in the nodes times the workers, and that of [`Board::input_has_passed`] for each held time.
     pub fn is_quiet(&mut self) -> bool

@@ -87,8 +87,8 @@ impl<T: Minimum> View<T> {
         self.captured.append(more)
     }
 
-    /// What the view captured, summed to a time. Refused with `Overflow` only if a row's count does not fit in 64
-    /// bits, whatever the order of the updates, and with `OutOfMemory` if an allocation was refused.
+    /// What the view captured, summed to a time. Refused with `Overflow` only if a row's count at the time does not
+    /// fit in 64 bits, in whatever order the updates came, and with `OutOfMemory` if an allocation was refused.
     ///
     /// Cost: if the last read was at or before this time, linear in its bag, in the updates that it knew but left
     /// out, and in what was captured since, and a sort of the updates that come in. Otherwise linear in all that was
