@@ -1,7 +1,7 @@
-//! What the program does with a file's bytes, whatever the outputs are.
+//! What the program does with a file's bytes, for any two outputs.
 //!
-//! A failure of the second output, standard error, changes nothing: what went wrong is then told by
-//! the status alone.
+//! If the second output, standard error, fails, nothing else changes: the status alone then says what went
+//! wrong.
 ghost use Rattle.std.specs.Prelude.{◌≡◌, ℕ, List, Ok, Some, IfErr, OnOk, option_map};
 ghost use Rattle.script.specs.Engines.{failures};
 ghost use Rattle.script.specs.Outs.{IsBeginning};
@@ -14,18 +14,18 @@ use grammar::{Fault, Script, parse};
 use script::{Out, RunFault, plain_script, put_all, run_script};
 use std::alloc::{AllocError, Global};
 
-/// Does what is asked with the file's bytes, which are `None` where it was not read: writes the
-/// script's text, or how many nodes and commands it has, to the first output, and what went wrong,
-/// in one line, to the second. The answer is the program's status:
+/// Carries out the action on the file's bytes, or on `None` if the file was not read. The script's text, or for
+/// `check` the number of its nodes and commands, goes to the first output. One line about what went wrong goes
+/// to the second. The result is the program's status:
 ///
 /// | Status | When | The line on the second output |
 /// |---|---|---|
 /// | 0 | done, refused commands included | none |
 /// | 2 | the file is at fault | `fault line L code C` |
-/// | 3 | memory was refused; the file was not read; the output failed; no thread | `no memory`; `cannot read FILE`; `cannot write`; `no thread` |
-/// | 4 | a number is no 64-bit number, which needs changes that give some node a bound of 2 to the 63 or more; exactly the text of the lines before the one that asked for it was written | `overflow` |
+/// | 3 | memory was refused; the file was not read; the output failed | `no memory`; `cannot read FILE`; `cannot write` |
+/// | 4 | a number does not fit in 64 bits, which happens only if the changes give some node a bound of 2 to the 63 or more; exactly the text of the lines before the one that asked for it was written | `overflow` |
 ///
-/// Cost: that of reading the script and of running it.
+/// Cost: that of parsing the script and of running it.
 pub fn act<W: Out, E: Out>(
     alloc: Global,
     action: Action<'_>,
@@ -48,7 +48,7 @@ pub fn act<W: Out, E: Out>(
     }
 }
 
-// Parses the bytes of a file that was read, and does what is asked.
+// Parses the bytes of the file and carries out the action.
 fn act_on<W: Out, E: Out>(
     alloc: Global,
     action: Action<'_>,
@@ -67,7 +67,7 @@ fn act_on<W: Out, E: Out>(
     }
 }
 
-// Does what is asked with a script.
+// Carries out the action on a script.
 fn carry_out<W: Out, E: Out>(
     alloc: Global,
     action: Action<'_>,
@@ -86,7 +86,7 @@ fn carry_out<W: Out, E: Out>(
     }
 }
 
-// Writes what is asked of a script.
+// Writes the text that the action asks for.
 fn write_asked<W: Out>(
     alloc: Global,
     action: Action<'_>,
@@ -109,7 +109,7 @@ fn write_asked<W: Out>(
     }
 }
 
-// Writes how many nodes and commands a script has.
+// Writes the numbers of nodes and commands of a script.
 fn write_size<W: Out>(alloc: Global, script: &Script, out: &mut W) -> Result<(), RunFault>
     ensures written { OnOk result (W.took out.old (check_text script.now) 0 out.new) }
     ensures beginning { IfErr result (λ fault. (part : List ℕ)
@@ -123,7 +123,8 @@ fn write_size<W: Out>(alloc: Global, script: &Script, out: &mut W) -> Result<(),
     Ok(())
 }
 
-// Tells why a run ended early.
+// Reports why a run ended early. Only codes 1 and 10 occur today: the number of workers is always 1, and there
+// are no threads that might not start.
 fn end<E: Out>(alloc: Global, fault: RunFault, error: &mut E) -> u8
     ensures { result ≡ status_of fault }
 {
@@ -137,7 +138,7 @@ fn end<E: Out>(alloc: Global, fault: RunFault, error: &mut E) -> u8
     status
 }
 
-// Tells which line of the file is at fault, or that memory was refused.
+// Reports the faulty line of the file, or that memory was refused.
 fn refuse<E: Out>(alloc: Global, fault: Fault, error: &mut E) -> u8
     ensures { result ≡ fault_status fault }
 {
@@ -150,7 +151,7 @@ fn refuse<E: Out>(alloc: Global, fault: Fault, error: &mut E) -> u8
     }
 }
 
-// Puts a line, where memory and the output allow it.
+// Writes a line to standard error, if memory and the output allow it.
 fn tell<E: Out>(error: &mut E, line: Result<String, AllocError>) {
     if let Ok(line) = line {
         let _told = put_all(error, line.as_str().as_bytes());

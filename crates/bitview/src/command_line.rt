@@ -1,4 +1,4 @@
-//! The program's words: what the command line asks for.
+//! The command line: which action it asks for.
 ghost use Rattle.std.specs.Prelude.{IfOk};
 ghost use Rattle.bitview.specs.Actions.{IsInRange};
 
@@ -6,8 +6,7 @@ use clap::error::ErrorKind;
 use clap::{Arg, ArgAction, ArgMatches, Command, Error};
 use std::alloc::{AllocError, Global};
 
-// What stands below the options when help is asked for. `docs/SCRIPT.md` says the same at more
-// length.
+// The text after the options in the help. `docs/SCRIPT.md` says the same in more detail.
 const AFTER_HELP: &str = "Example:
   bitview run examples/late_correction.bv --workers 1
 
@@ -51,19 +50,19 @@ docs/SCRIPT.md describes the lines of a file.";
 /// What the command line asks for.
 #[derive(Clone, Copy)]
 pub enum Action<'a> {
-    /// To run the commands of a file by so many workers.
+    /// Runs the commands of a file with workers.
     Run {
         /// The file's name.
         file: &'a str,
-        /// How many workers, which for now is 1.
+        /// The number of workers. For now it is 1.
         workers: u64,
     },
-    /// To work the same text out from scratch at each question, without workers.
+    /// Writes the same text without workers, with every answer computed from scratch.
     Plain {
         /// The file's name.
         file: &'a str,
     },
-    /// To read the commands, and carry none out.
+    /// Parses the commands without carrying them out.
     Check {
         /// The file's name.
         file: &'a str,
@@ -71,7 +70,7 @@ pub enum Action<'a> {
 }
 
 impl<'a> Action<'a> {
-    /// The name of the file that is to be read.
+    /// The name of the file to read.
     pub fn file(&self) -> &'a str {
         match self {
             Action::Run { file, workers: _ } | Action::Plain { file } | Action::Check { file } =>
@@ -80,12 +79,12 @@ impl<'a> Action<'a> {
     }
 }
 
-/// Reads the program's words, its name first.
+/// Reads the program's arguments. The first is the program's name.
 ///
-/// Where they are not understood, and where help or the version is asked for, the error has the
-/// text to print, and its kind.
+/// If the arguments are not understood, or if help or the version is asked for, the error holds the text to
+/// print and its kind.
 ///
-/// Cost: linear in the words.
+/// Cost: linear in the arguments.
 pub fn words<'a>(alloc: Global, words: &'a [&'a str]) -> Result<Action<'a>, Error>
     ensures { IfOk result IsInRange }
 {
@@ -96,7 +95,7 @@ pub fn words<'a>(alloc: Global, words: &'a [&'a str]) -> Result<Action<'a>, Erro
     }
 }
 
-// What the words behind the subcommand of that name ask for.
+// The action that the arguments after the subcommand `name` ask for.
 fn asked<'a>(alloc: Global, name: &str, inner: &ArgMatches<'a>) -> Result<Action<'a>, Error>
     ensures { IfOk result IsInRange }
 {
@@ -108,7 +107,7 @@ fn asked<'a>(alloc: Global, name: &str, inner: &ArgMatches<'a>) -> Result<Action
     }
 }
 
-// A run, by as many workers as are taken.
+// A run, if the number of workers is supported.
 fn asked_run<'a>(alloc: Global, file: &'a str, inner: &ArgMatches<'a>) -> Result<Action<'a>, Error>
     ensures { IfOk result IsInRange }
 {
@@ -118,7 +117,7 @@ fn asked_run<'a>(alloc: Global, file: &'a str, inner: &ArgMatches<'a>) -> Result
     }
 }
 
-// The words that are understood.
+// The grammar of the arguments.
 fn command<'a>(alloc: Global) -> Result<Command<'a>, AllocError> {
     Command::new(alloc, "bitview")
         .about("Views of changing tables, right at every pair of valid time and system time")
@@ -130,7 +129,7 @@ fn command<'a>(alloc: Global) -> Result<Command<'a>, AllocError> {
         .subcommand(check(alloc)?)
 }
 
-// The name of a file, which each subcommand takes.
+// The file name, an argument of each subcommand.
 fn file<'a>(alloc: Global) -> Arg<'a> {
     Arg::new(alloc, "FILE")
         .required(true)
@@ -138,7 +137,7 @@ fn file<'a>(alloc: Global) -> Arg<'a> {
         .help("The command file; /dev/stdin is one too")
 }
 
-// The words behind `run`.
+// The arguments of `run`.
 fn run<'a>(alloc: Global) -> Result<Command<'a>, AllocError> {
     let workers = Arg::new(alloc, "workers")
         .long("workers")
@@ -152,14 +151,14 @@ fn run<'a>(alloc: Global) -> Result<Command<'a>, AllocError> {
         .arg(workers)
 }
 
-// The words behind `plain`.
+// The arguments of `plain`.
 fn plain<'a>(alloc: Global) -> Result<Command<'a>, AllocError> {
     Command::new(alloc, "plain")
         .about("Writes the same, worked out from scratch at each question")
         .arg(file(alloc))
 }
 
-// The words behind `check`.
+// The arguments of `check`.
 fn check<'a>(alloc: Global) -> Result<Command<'a>, AllocError> {
     Command::new(alloc, "check")
         .about("Reads a command file, and writes how many nodes and commands it has")

@@ -1,11 +1,9 @@
-//! The program: `bitview run FILE` reads a command file and writes what it asks for, `bitview plain
-//! FILE` writes the same, worked out from scratch, and `bitview check FILE` says how much the file
-//! holds.
+//! The program. `bitview run FILE` reads a command file and writes the answers. `bitview plain FILE` writes the
+//! same, computed from scratch. `bitview check FILE` writes how many nodes and commands the file has.
 //!
-//! The command line is read by [`words`], the file is read here, and [`act`] does the rest: it
-//! knows no file and no process, only bytes and two outputs, so that its promise can be stated.
-//! What is left to `main` is what no promise reaches: the arguments, the file, and where standard
-//! output and standard error go.
+//! [`words`] reads the arguments, this file reads the command file, and [`act`] does the rest. `act` knows no
+//! file and no process, only bytes and two outputs, so its contract can be stated in full. `main` keeps what no
+//! contract covers: the arguments, the file, and the process's standard output and standard error.
 #![tactic(auto)]
 
 ghost use Rattle.bitview.specs.Actions.{IsInRange};
@@ -35,7 +33,7 @@ fn main(rt: HostRuntime) -> ExitCode {
     ExitCode::from(status)
 }
 
-// Tells why the arguments were not read: one is not UTF-8, or memory was refused.
+// Reports why the arguments were not read: one is not UTF-8, or memory was refused.
 fn misread<R: Eprint>(rt: &R, unread: &io::Error) -> u8 {
     if unread.kind() == io::ErrorKind::InvalidData {
         let _printed = rt.eprint("error: an argument is not UTF-8\n");
@@ -45,13 +43,13 @@ fn misread<R: Eprint>(rt: &R, unread: &io::Error) -> u8 {
     }
 }
 
-// Tells that memory was refused before the file was read.
+// Reports that memory was refused before the file was read.
 fn without_memory<R: Eprint>(rt: &R) -> u8 {
     let _printed = rt.eprint("no memory\n");
     3
 }
 
-// The words that the program was given, its name first.
+// The arguments of the program. The first is its name.
 fn arguments<R: Env + AllocGlobal>(rt: &R, alloc: Global) -> io::Result<Vec<String>> {
     let mut given = Vec::new(alloc);
     for word in env::args(rt)? {
@@ -60,7 +58,7 @@ fn arguments<R: Env + AllocGlobal>(rt: &R, alloc: Global) -> io::Result<Vec<Stri
     Ok(given)
 }
 
-// The words as slices, which is what [`words`] reads.
+// The arguments as slices, as [`words`] takes them.
 fn slices<'a>(alloc: Global, given: &'a [String]) -> Result<Vec<&'a str>, AllocError> {
     let mut slices = Vec::new(alloc);
     for word in given {
@@ -69,7 +67,7 @@ fn slices<'a>(alloc: Global, given: &'a [String]) -> Result<Vec<&'a str>, AllocE
     Ok(slices)
 }
 
-// Does what the words ask for, and says how it went.
+// Carries out what the arguments ask for, and returns the status.
 fn answer<R: Files + AllocGlobal + Print + Eprint>(rt: &R, alloc: Global, given: &[String]) -> u8 {
     match slices(alloc, given) {
         Ok(given) => parse_and_perform(rt, alloc, given.as_slice()),
@@ -77,7 +75,7 @@ fn answer<R: Files + AllocGlobal + Print + Eprint>(rt: &R, alloc: Global, given:
     }
 }
 
-// Finds the action that the words ask for, and performs it.
+// Parses the arguments and performs their action.
 fn parse_and_perform<R: Files + AllocGlobal + Print + Eprint>(
     rt: &R,
     alloc: Global,
@@ -89,7 +87,7 @@ fn parse_and_perform<R: Files + AllocGlobal + Print + Eprint>(
     }
 }
 
-// Reads the file, and acts on it.
+// Reads the file and acts on its bytes.
 fn perform<R: Files + AllocGlobal + Print + Eprint>(rt: &R, alloc: Global, action: Action<'_>) -> u8
     requires { IsInRange action }
 {
@@ -107,7 +105,7 @@ fn perform<R: Files + AllocGlobal + Print + Eprint>(rt: &R, alloc: Global, actio
     status
 }
 
-// Prints what was not understood, or the help that was asked for.
+// Prints why the arguments were not understood, or the help or version that was asked for.
 fn explain<R: Print + Eprint>(rt: &R, error: &Error) -> u8 {
     if error.kind() == ErrorKind::OutOfMemory {
         return without_memory(rt);

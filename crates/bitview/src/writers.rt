@@ -1,8 +1,8 @@
-//! The process's own outputs. Nothing is said of where their bytes go.
+//! The process's own outputs. No contract says where their bytes go.
 use script::{Out, OutFault};
 use std::io::Write;
 
-/// A writer, as an output.
+/// A writer, as an [`Out`].
 #[derive(Drop)]
 pub(crate) struct Output<W> {
     pub(crate) writer: W,

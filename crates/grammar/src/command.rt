@@ -1,7 +1,7 @@
-//! The commands of a script. A command either changes an input or asks about a view, and each of
-//! the two is a type of its own: a function that takes one of them has no arm for the other. Names
-//! are resolved, so a command names a node by its number, and each [`Script`](crate::Script)
-//! promises that the node is an input, or a view.
+//! The commands of a script. A command either changes an input or asks about a view. These are two types, so
+//! that a function that takes one of them has no arm for the other. Names are already resolved: a command names
+//! a node by its number, and each [`Script`](crate::Script) promises that this node is an input, or a view if
+//! the command asks about one.
 use lattice::Bitime;
 use plan::NodeId;
 use row::Row;
@@ -10,19 +10,20 @@ use update::Times;
 /// A command that changes an input. It prints nothing if it is accepted.
 #[derive(Drop)]
 pub enum InputCommand {
-    /// Adds `diff` to the weight of the row from the time on.
+    /// Adds `diff` to the row's count from `time` on.
     Change {
         input: NodeId,
         time: Bitime,
         diff: i64,
         row: Row,
     },
-    /// From now on the input changes at or after one of these times alone. There is one at least.
+    /// Moves the input's frontier: every later change of the input must be at or after one of these times.
+    /// There is at least one.
     Advance {
         input: NodeId,
         times: Times<Bitime>,
     },
-    /// The input changes no more.
+    /// Closes the input: it accepts no more changes.
     Close {
         input: NodeId,
     },
@@ -33,22 +34,22 @@ pub enum InputCommand {
 pub enum ViewCommand {
     /// Asks for the view's rows at the time.
     Read { view: NodeId, time: Bitime },
-    /// Asks for the view's changes at the times that have passed.
+    /// Asks for the view's changes at the times that its frontier has passed.
     Changes { view: NodeId },
     /// Asks for the view's frontier.
     Frontier { view: NodeId },
 }
 
-/// What a line after `start` says.
+/// A line after `start`.
 #[derive(Drop)]
 pub enum Command {
-    /// It changes an input.
+    /// A command that changes an input.
     Input(InputCommand),
-    /// It asks about a view.
+    /// A command that asks about a view.
     View(ViewCommand),
 }
 
-/// A command, and the line on which it stands, counted from 1, skipped lines too.
+/// A command with the number of its line. Lines are counted from 1, and skipped lines count too.
 #[derive(Drop)]
 pub struct CommandLine {
     pub line: u64,

@@ -1,4 +1,4 @@
-//! The lines before `start` but those of operators, and `start` itself.
+//! The lines before `start` (except `node` lines), and `start` itself.
 ghost use Rattle.std.specs.Prelude.{◌≡◌, map};
 ghost use Rattle.update.specs.declared.refusal.Refusal.TheVariants.{WrongWordCount};
 ghost use Rattle.grammar.specs.ParseStates.{parse_state};
@@ -13,7 +13,7 @@ use plan::Node;
 use std::alloc::Global;
 use update::Refusal;
 
-// Too few words, or too many.
+// The line has too few words, or too many.
 pub(crate) fn wrong_count() -> LineError
     ensures { result ≡ LineError.Refused WrongWordCount }
 {

@@ -1,6 +1,5 @@
-//! A script in the making: what the lines so far have said. Each node has one name, and both are
-//! kept in the order of the lines, so that a name's place among the names is the number of its
-//! node.
+//! A script that is being read: what its lines so far have said. Each node has exactly one name. Names and
+//! nodes are kept in the order of the lines, so the index of a name is the number of its node.
 ghost use Rattle.std.specs.Prelude.{◌≡◌, None, IfOk, string_bytes};
 ghost use Rattle.plan.specs.Rules.{is_readable};
 ghost use Rattle.update.specs.declared.refusal.Refusal.TheVariants.{UnknownName};
@@ -27,7 +26,7 @@ pub(crate) struct Draft {
     pub(crate) commands: Vec<CommandLine>,
 }
 
-// A name that is not there, or names a node of another sort.
+// The refusal of a name that does not exist, or that names a node of another kind.
 fn unknown() -> LineError
     ensures { result ≡ LineError.Refused UnknownName }
 {
@@ -46,7 +45,7 @@ impl Draft {
         }
     }
 
-    // The number of the node that has the name.
+    // The number of the node with this name.
     fn place(&self, word: &str) -> Option<usize>
         ensures { result ≡ number_of_name (parse_state self.now) word.now }
     {
@@ -65,7 +64,7 @@ impl Draft {
         id.number() < self.plan.len() && self.plan.node(id).is_output()
     }
 
-    // The named node, which others may read.
+    // The node with this name, if other nodes may read it.
     #[tactic(auto, unfolding(crate::specs::ParseStates::source))]
     pub(crate) fn source(&self, word: &str) -> Result<NodeId, LineError>
         ensures { Gives (λ id. id) result (source (parse_state self.now) word.now) }
@@ -76,7 +75,7 @@ impl Draft {
         }
     }
 
-    // The named input.
+    // The input with this name.
     #[tactic(auto, unfolding(crate::specs::ParseStates::input))]
     pub(crate) fn input(&self, word: &str) -> Result<NodeId, LineError>
         ensures { Gives (λ id. id) result (input (parse_state self.now) word.now) }
@@ -87,7 +86,7 @@ impl Draft {
         }
     }
 
-    // The named view.
+    // The view with this name.
     #[tactic(auto, unfolding(crate::specs::ParseStates::view))]
     pub(crate) fn view(&self, word: &str) -> Result<NodeId, LineError>
         ensures { Gives (λ id. id) result (view (parse_state self.now) word.now) }
@@ -98,7 +97,7 @@ impl Draft {
         }
     }
 
-    // The word as a name that is free.
+    // The word as a new name: it has the form of a name, and no node has it yet.
     #[tactic(auto, unfolding(crate::specs::ParseStates::new_name))]
     pub(crate) fn new_name(&self, alloc: Global, word: &str) -> Result<String, LineError>
         ensures name { Gives (λ name. string_bytes name) result
@@ -128,7 +127,8 @@ impl Draft {
     }
 }
 
-// Adds the node to the plan, which goes on for that: a finished plan costs nothing to open again.
+// Adds the node to the plan. Plans grow through a builder. Turning a plan into a builder and back costs
+// nothing.
 fn push_node(alloc: Global, plan: &mut Plan, node: Node) -> Result<(), LineError>
     ensures { Gives (λ _. plan.new) result (plan_with plan.old node) }
 {

@@ -1,5 +1,5 @@
-//! What is wrong with a file: a line, and the number of a refusal. While a file is read, want of
-//! memory is kept apart from what its lines are refused for: it says nothing about the file.
+//! What is wrong with a file: the number of a line and the code of a refusal. While a file is being read,
+//! running out of memory is kept apart from the refusals of its lines, because it says nothing about the file.
 ghost use Rattle.std.specs.Prelude.{◌≡◌};
 ghost use Rattle.grammar.specs.Faults.{error_code, IsErrorOf};
 
@@ -7,18 +7,18 @@ use std::alloc::{AllocError, AllocFailed};
 use thiserror::Error;
 use update::Refusal;
 
-/// The first line that is at fault, counted from 1, and the number of what it is refused for.
-/// Number 1 is want of memory, at the line that met it.
+/// The first faulty line, counted from 1, and the code of its refusal. Code 1 means that memory ran out while
+/// that line was being read.
 #[derive(Clone, Copy, Debug, PartialEq, Eq, Error)]
 #[error("fault line {line} code {code}")]
 pub struct Fault {
-    /// The line, counted from 1, skipped lines too.
+    /// The line, counted from 1. Skipped lines count too.
     pub line: u64,
-    /// The number of the refusal.
+    /// The code of the refusal, as [`Refusal::code`] gives it.
     pub code: u8,
 }
 
-/// Why a line was not taken.
+/// Why a line was refused.
 #[derive(Clone, Copy)]
 pub(crate) enum LineError {
     Memory,
@@ -26,7 +26,7 @@ pub(crate) enum LineError {
 }
 
 impl LineError {
-    // What a refusal of the plan says of the line.
+    // The plan's refusal, as an error of the line that adds the node.
     pub(crate) fn of(refusal: Refusal) -> LineError
         ensures { IsErrorOf refusal result }
     {
@@ -36,7 +36,7 @@ impl LineError {
         }
     }
 
-    // The number that is told.
+    // The code that the program prints.
     pub(crate) fn code(self) -> u8
         ensures { result ≡ error_code self }
     {

@@ -1,6 +1,5 @@
-//! Words that say what a map or a filter makes of rows: items, each a column or a constant, and
-//! tests that compare two. The first byte of an item says which of both it is, and the rest is a
-//! number in the one form that it has.
+//! The words of `map` and `filter` lines: items, each a column or a constant, and tests that compare two items.
+//! The first byte of an item says which of the two it is. The rest is a number in its only form.
 ghost use Rattle.std.specs.Prelude.{◌≡◌, map};
 ghost use Rattle.grammar.specs.Items.{item_of, item, items, comparison_of, comparison, filter_test};
 ghost use Rattle.grammar.specs.Outcomes.{Gives};
@@ -11,7 +10,7 @@ use row::{Cmp, Item, Test};
 use std::alloc::Global;
 use update::Refusal;
 
-// The item that the word is, if it is one.
+// The item that the word spells, if it spells one.
 fn item_of(word: &str) -> Option<Item>
     ensures { result ≡ item_of word.now }
 {
@@ -29,7 +28,7 @@ fn item_of(word: &str) -> Option<Item>
     }
 }
 
-// A word that should be an item.
+// The word as an item; `BadNumber` if it is not one.
 #[tactic(auto, unfolding(crate::specs::Items::item))]
 fn item(word: &str) -> Result<Item, LineError>
     ensures { Gives (λ item. item) result (item word.now) }
@@ -40,7 +39,7 @@ fn item(word: &str) -> Result<Item, LineError>
     }
 }
 
-// Words that should be items.
+// The words as items; `BadNumber` if one of them is not an item.
 #[tactic(auto, unfolding(crate::specs::Items::items))]
 pub(crate) fn items(alloc: Global, words: &[&str]) -> Result<Vec<Item>, LineError>
     ensures { Gives (λ v. v.items) result (items (map (λ w. w.now) words.now)) }
@@ -53,7 +52,7 @@ pub(crate) fn items(alloc: Global, words: &[&str]) -> Result<Vec<Item>, LineErro
     Ok(items)
 }
 
-// The comparison that the word is, if it is one.
+// The comparison that the word spells, if it spells one.
 fn comparison_of(word: &str) -> Option<Cmp>
     ensures { result ≡ comparison_of word.now }
 {
@@ -74,7 +73,7 @@ fn comparison_of(word: &str) -> Option<Cmp>
     }
 }
 
-// A word that should be a comparison.
+// The word as a comparison; `UnknownCommand` if it is not one.
 #[tactic(auto, unfolding(crate::specs::Items::comparison))]
 fn comparison(word: &str) -> Result<Cmp, LineError>
     ensures { Gives (λ op. op) result (comparison word.now) }
@@ -85,7 +84,7 @@ fn comparison(word: &str) -> Result<Cmp, LineError>
     }
 }
 
-// Words that should be a test: an item, a comparison and an item.
+// The words as a test: an item, a comparison and an item. They are checked from left to right.
 #[tactic(auto, unfolding(crate::specs::Items::filter_test))]
 pub(crate) fn test(left: &str, op: &str, right: &str) -> Result<Test, LineError>
     ensures { Gives (λ test. test) result (filter_test left.now op.now right.now) }

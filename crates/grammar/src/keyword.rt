@@ -1,4 +1,4 @@
-//! The first words of lines, and on which side of `start` each line stands.
+//! The first words of lines, and whether each kind of line belongs before or after `start`.
 ghost use Rattle.std.specs.Prelude.{◌≡◌};
 ghost use Rattle.grammar.specs.Lines.{keyword_of, is_declaring};
 
@@ -18,7 +18,7 @@ pub(crate) enum Keyword {
 }
 
 impl Keyword {
-    // The keyword that the word is, if it is one.
+    // The keyword that the word spells, if it spells one.
     pub(crate) fn of(word: &str) -> Option<Keyword>
         ensures { result ≡ keyword_of word.now }
     {
@@ -47,7 +47,7 @@ impl Keyword {
         }
     }
 
-    // Whether such a line stands before `start`, or is `start`.
+    // Whether the line belongs before `start`, or is `start`.
     pub(crate) fn is_early(self) -> bool
         ensures { result ≡ is_declaring self }
     {

@@ -1,5 +1,4 @@
-//! The kinds of nodes that a `node` line can declare, by their words. Those that need arranged rows
-//! are not among them yet.
+//! The kinds of nodes that a `node` line can declare. Kinds that need arranged rows are not among them yet.
 ghost use Rattle.std.specs.Prelude.{◌≡◌};
 ghost use Rattle.grammar.specs.Declarations.{kind_word};
 
@@ -13,7 +12,7 @@ pub(crate) enum KindWord {
 }
 
 impl KindWord {
-    // The kind that the word is, if it is one.
+    // The kind that the word spells, if it spells one.
     pub(crate) fn of(word: &str) -> Option<KindWord>
         ensures { result ≡ kind_word word.now }
     {

@@ -1,5 +1,5 @@
-//! One line: its bytes, its first word, and whether it may stand where it stands, in the order of
-//! the tests.
+//! One line: its bytes, its first word, and whether such a line may stand here. The tests are made in this
+//! order.
 ghost use Rattle.std.specs.Prelude.{map};
 ghost use Rattle.grammar.specs.ParseStates.{parse_state};
 ghost use Rattle.grammar.specs.Lines.{opening, keyword_line, words_line, line_of, with_command};
@@ -18,7 +18,7 @@ use crate::text::{opens_comment, text, words};
 use std::alloc::Global;
 use update::Refusal;
 
-// The keyword of a line that begins so, if there is one and it may stand here.
+// The keyword that the word spells; refused if it is not a keyword, or if such a line may not stand here.
 #[tactic(auto, unfolding(crate::specs::Lines::opening))]
 fn opening(draft: &Draft, word: &str) -> Result<Keyword, LineError>
     ensures { Gives (λ keyword. keyword) result (opening (parse_state draft.now) word.now) }
@@ -40,7 +40,7 @@ fn opening(draft: &Draft, word: &str) -> Result<Keyword, LineError>
     }
 }
 
-// Adds the command of line `number`.
+// Appends the command of line `number`.
 fn push_command(draft: &mut Draft, number: u64, command: Command) -> Result<(), LineError>
     ensures { Gives (λ _. parse_state draft.new) result
         (with_command number (parse_state draft.old) (Ok command)) }
@@ -52,7 +52,7 @@ fn push_command(draft: &mut Draft, number: u64, command: Command) -> Result<(), 
     Ok(())
 }
 
-// The words behind the keyword.
+// Handles the words after the keyword.
 fn keyword_line(
     alloc: Global,
     draft: &mut Draft,
@@ -78,7 +78,7 @@ fn keyword_line(
     push_command(draft, number, command)
 }
 
-// The words of a line that is text.
+// Handles the words of a line. An empty line or a comment is skipped.
 #[tactic(auto, unfolding(crate::specs::Lines::words_line))]
 fn words_line(
     alloc: Global,
@@ -101,7 +101,7 @@ fn words_line(
     }
 }
 
-// Takes the line of that number.
+// Handles line `number`.
 #[tactic(auto, unfolding(crate::specs::Lines::line_of))]
 pub(crate) fn take_line(
     alloc: Global,

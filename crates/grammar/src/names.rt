@@ -1,9 +1,9 @@
-//! The form of names.
+//! The form of a name: 1 to 32 letters, digits and underscores, of which the first is a letter.
 ghost use Rattle.std.specs.Prelude.{◌≡◌};
 ghost use Rattle.std.specs.List.{list_all};
 ghost use Rattle.grammar.specs.Names.{is_name, is_name_byte};
 
-// A letter, a digit or an underscore.
+// Whether the byte is a letter, a digit or an underscore.
 fn is_name_byte(byte: u8) -> bool
     ensures { result ≡ is_name_byte byte }
 {
@@ -16,10 +16,10 @@ fn are_name_bytes(word: &[u8]) -> bool
     word.iter().all(|byte| is_name_byte(*byte))
 }
 
-// The most bytes that a name has.
+// The greatest length of a name, in bytes.
 const MAX_NAME: usize = 32;
 
-// Whether a new name may have this form.
+// Whether the word has the form of a name.
 pub(crate) fn is_name(word: &str) -> bool
     ensures { result ≡ is_name word.now }
 {

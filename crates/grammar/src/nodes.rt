@@ -1,6 +1,5 @@
-//! The `node` lines. Such a line says its name before its kind, and how many words it has is for
-//! the kind to say: so the kind is looked at first, then the number of words, and only then the
-//! words from left to right.
+//! The `node` lines. A line has its name before its kind, but the kind decides how many words it must have. So
+//! the kind is tested first, then the number of words, and then the words from left to right.
 ghost use Rattle.std.specs.Prelude.{map};
 ghost use Rattle.grammar.specs.ParseStates.{parse_state};
 ghost use Rattle.grammar.specs.Declarations.{map_line, filter_line, concat_line, negate_line, kind_line, node_line};
@@ -96,7 +95,7 @@ fn negate_line(
     }
 }
 
-// The words behind the kind.
+// Handles the words after the kind.
 fn kind_line(
     alloc: Global,
     draft: &mut Draft,

@@ -1,5 +1,5 @@
-//! Numbers in words. A word is a number only in the one form in which that number is printed, so no
-//! two words are the same number: no sign before a whole number, no zero in front, no other digits.
+//! Numbers in words. A word is a number only in the form in which that number is printed, so no two words are
+//! the same number. A whole number has no sign, no leading zero, and only ASCII digits.
 ghost use Rattle.std.specs.Prelude.{◌≡◌, ◌<◌};
 ghost use Rattle.std.specs.List.{list_all};
 ghost use Rattle.std.specs.Char.{is_ascii_digit};
@@ -21,7 +21,7 @@ fn is_numeral(digits: &[u8]) -> bool
     }
 }
 
-// The whole number that the word is, if it is one.
+// The whole number that the word spells, if it spells one that fits in 64 bits.
 pub(crate) fn whole_number(word: &str) -> Option<u64>
     ensures { result ≡ whole_of word.now }
 {
@@ -32,7 +32,7 @@ pub(crate) fn whole_number(word: &str) -> Option<u64>
     }
 }
 
-// What stands behind a minus sign is not 0.
+// A minus sign may not stand before 0.
 fn is_signed_numeral(word: &[u8]) -> bool
     ensures { result ≡ is_signed_numeral word.now }
 {
@@ -42,7 +42,7 @@ fn is_signed_numeral(word: &[u8]) -> bool
     }
 }
 
-// The signed number that the word is, if it is one.
+// The signed number that the word spells, if it spells one that fits in 64 bits.
 pub(crate) fn signed_number(word: &str) -> Option<i64>
     ensures { result ≡ signed_of word.now }
 {

@@ -1,5 +1,5 @@
-//! A whole file: line by line from the front, up to the first fault. Each line is looked at once,
-//! and no line behind a faulty one is looked at.
+//! A whole file, read line by line up to the first fault. Each line is read once, and the lines after a faulty
+//! one are not read.
 ghost use Rattle.std.specs.Prelude.{◌≡◌, IfErr};
 ghost use Rattle.grammar.specs.Faults.{error_code};
 ghost use Rattle.grammar.specs.ParseStates.{parse_state};
@@ -23,7 +23,7 @@ fn fault(line: u64, error: LineError) -> Fault
     }
 }
 
-// Takes each line in turn.
+// Handles each line in turn.
 fn take_lines(alloc: Global, draft: &mut Draft, bytes: &[u8]) -> Result<(), Fault>
     requires { parse_state draft.old ≡ first_parse_state }
     ensures exact { Answers (λ _. model_of (parse_state draft.new)) result (script_of bytes.now) }
@@ -47,15 +47,16 @@ fn take_lines(alloc: Global, draft: &mut Draft, bytes: &[u8]) -> Result<(), Faul
     }
 }
 
-/// The script that the bytes are, or its first faulty line with the number of what that is refused
-/// for.
+/// Parses a command file: returns its script, or its first faulty line with the code of the refusal.
 ///
-/// The numbers are those of [`Refusal::code`]: 13 to 17, 20 and 31 to 37, and 1 where memory was
-/// refused while the line was read. Cost: linear in the bytes up to the fault.
+/// The codes are those of [`Refusal::code`]: 13 to 17, 20 and 31 to 37, and 1 if memory ran out while the line
+/// was being read.
+///
+/// Cost: linear in the bytes up to the fault.
 pub fn parse(alloc: Global, bytes: &[u8]) -> Result<Script, Fault>
-    // Which script it is, or which fault; want of memory, number 1, aside.
+    // Which script, or which fault, unless memory ran out (code 1).
     ensures exact { Answers (λ script. script) result (script_of bytes.now) }
-    // The lines before a fault are in order, also where memory was refused.
+    // The lines before the fault are in order, even if memory ran out.
     ensures reached { IfErr result (λ fault. IsReached (lines_of bytes.now) fault.line) }
 {
     let mut draft = Draft::new(alloc);

@@ -1,6 +1,6 @@
-//! A script that was read: a plan, a name for each of its nodes, and the commands in the order of
-//! their lines. What a reader of commands would else have to test is an invariant: each command
-//! names an input of the plan, or a view.
+//! A script that was read: a plan, a name for each of its nodes, and the commands in the order of their lines.
+//! The invariant saves a reader of the commands from testing them: each command names an input of the plan, or
+//! a view if it asks about one.
 ghost use Rattle.std.specs.Prelude.{◌≡◌, ◌<◌, IsTrue, length};
 ghost use Rattle.std.specs.List.{All};
 ghost use Rattle.plan.specs.Nodes.{is_linear};
@@ -15,7 +15,7 @@ use indexmap::IndexSet;
 use plan::{NodeId, Plan};
 use std::marker::Model;
 
-/// A script. A contract sees what it tells: the names, the plan and the commands.
+/// A script. A contract sees its names, its plan and its commands.
 #[derive(Drop)]
 pub struct Script {
     names: IndexSet<String>,
@@ -43,7 +43,7 @@ impl Model for Script {
 }
 
 impl Script {
-    // What the lines have said, as a script.
+    // The finished draft as a script.
     pub(crate) fn of(draft: Draft) -> Script
         requires { IsWhole (model_of (parse_state draft)) }
         ensures { result ≡ model_of (parse_state draft) }
@@ -61,22 +61,22 @@ impl Script {
         }
     }
 
-    /// How many inputs, nodes and views there are. Takes no memory.
+    /// The number of nodes, inputs and views included. Takes no memory.
     pub fn nodes(&self) -> u64
         ensures { result ≡ length self.now.plan }
     {
         self.plan.len() as u64
     }
 
-    /// How many commands there are: lines after `start` that are not skipped. Takes no memory.
+    /// The number of commands, which are the lines after `start` that are not skipped. Takes no memory.
     pub fn commands(&self) -> u64
         ensures { result ≡ length self.now.commands }
     {
         self.commands.len() as u64
     }
 
-    /// The plan, with the nodes in the order of their lines. None of them is a join or a reduction
-    /// so far. Takes no memory.
+    /// The plan, with the nodes in the order of their lines. None of them is a join or a reduction yet. Takes
+    /// no memory.
     pub fn plan(&self) -> &Plan
         ensures plan { result.now ≡ self.now.plan }
         ensures linear { All (λ node. IsTrue (is_linear node)) self.now.plan }
@@ -92,8 +92,8 @@ impl Script {
         self.names.get_index(id.number()).unwrap().as_str()
     }
 
-    /// The commands in the order of their lines. Each is about an input of the plan, or a view
-    /// where it asks one. Takes no memory.
+    /// The commands in the order of their lines. Each is about an input of the plan, or about a view if it is a
+    /// question. Takes no memory.
     pub fn command_lines(&self) -> &[CommandLine]
         ensures lines { result.now ≡ self.now.commands }
         ensures about { All (λ line. IsAbout self.now.plan line.command) self.now.commands }

@@ -1,4 +1,4 @@
-//! Lines and words of a file, as pieces of its own bytes: nothing is copied.
+//! The lines and words of a file, as slices of its bytes. Nothing is copied.
 ghost use Rattle.std.specs.Prelude.{◌≡◌, ◌<◌, ◌∷◌, ◌==◌, IfOk, length, map, position};
 ghost use Rattle.std.specs.List.{slice_split};
 ghost use Rattle.grammar.specs.Text.{lines_of, words_of, opens_comment};
@@ -9,17 +9,17 @@ use crate::fault::LineError;
 use std::alloc::{AllocError, Global};
 use update::Refusal;
 
-/// How many bytes a line has at most, without its newline.
+/// The greatest length of a line, in bytes, without its newline.
 const MAX_LINE: usize = 4096;
 
-// Where the first newline stands.
+// The index of the first newline.
 fn newline(bytes: &[u8]) -> Option<usize>
     ensures { result ≡ position (λ b. b == 10) bytes.now }
 {
     bytes.iter().position(|b| *b == b'\n')
 }
 
-// The first line without its newline, and what stands behind it.
+// The first line without its newline, and the bytes after it.
 pub(crate) fn first_line(bytes: &[u8]) -> (&[u8], &[u8])
     requires { 0 < length bytes.now }
     ensures line { lines_of bytes.now ≡ result.0.now ∷ lines_of result.1.now }
@@ -31,7 +31,7 @@ pub(crate) fn first_line(bytes: &[u8]) -> (&[u8], &[u8])
     }
 }
 
-// The line as text: refused first for its length, then for what is not UTF-8.
+// The line as text. A line that is too long is refused as such, even if it is not UTF-8 either.
 #[tactic(auto, unfolding(crate::specs::Lines::text_of))]
 pub(crate) fn text(line: &[u8]) -> Result<&str, LineError>
     ensures { Gives (λ text. text.now) result (text_of line.now) }
@@ -45,14 +45,14 @@ pub(crate) fn text(line: &[u8]) -> Result<&str, LineError>
     }
 }
 
-// What stands between the spaces.
+// The pieces between the spaces, empty ones included.
 fn pieces(alloc: Global, line: &str) -> Result<Vec<&str>, AllocError>
     ensures { IfOk result (λ v. map (λ w. w.now) v.items ≡ slice_split (λ b. b == 32) line.now) }
 {
     line.split(' ').collect(alloc)
 }
 
-// The words of a line.
+// The words of the line: the pieces that are not empty.
 pub(crate) fn words(alloc: Global, line: &str) -> Result<Vec<&str>, AllocError>
     ensures { IfOk result (λ v. map (λ w. w.now) v.items ≡ words_of line.now) }
 {
@@ -61,7 +61,7 @@ pub(crate) fn words(alloc: Global, line: &str) -> Result<Vec<&str>, AllocError>
     Ok(words)
 }
 
-// Whether a line with this first word is a comment.
+// Whether a line that begins with this word is a comment.
 pub(crate) fn opens_comment(word: &str) -> bool
     ensures { result ≡ opens_comment word.now }
 {

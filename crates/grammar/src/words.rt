@@ -1,4 +1,4 @@
-//! Words that should be numbers, one or several in a row. The first that is none refuses the line.
+//! Words as numbers, one or several in a row. The first word that is not a number refuses the line.
 ghost use Rattle.std.specs.Prelude.{◌≡◌, ◌++◌, ◌∷◌, [], ◌≤◌, length, map, OnOk, IfOk, IfErr};
 ghost use Rattle.grammar.specs.Outcomes.{Gives};
 ghost use Rattle.grammar.specs.Words.{whole, signed, wholes, columns, pairs_of};
@@ -11,7 +11,7 @@ use smallvec::SmallVec;
 use std::alloc::Global;
 use update::{Refusal, Times};
 
-// A word that should be a whole number.
+// The word as a whole number; `BadNumber` if it is not one.
 #[tactic(auto, unfolding(crate::specs::Words::whole))]
 pub(crate) fn whole(word: &str) -> Result<u64, LineError>
     ensures { Gives (λ n. n) result (whole word.now) }
@@ -22,7 +22,7 @@ pub(crate) fn whole(word: &str) -> Result<u64, LineError>
     }
 }
 
-// A word that should be a signed number.
+// The word as a signed number; `BadNumber` if it is not one.
 #[tactic(auto, unfolding(crate::specs::Words::signed))]
 pub(crate) fn signed(word: &str) -> Result<i64, LineError>
     ensures { Gives (λ z. z) result (signed word.now) }
@@ -33,7 +33,7 @@ pub(crate) fn signed(word: &str) -> Result<i64, LineError>
     }
 }
 
-// A row in the making: up to eight columns take no memory.
+// The columns of a row. Up to eight columns take no memory.
 type Columns = SmallVec<i64, 8>;
 
 fn push_column(columns: &mut Columns, column: i64) -> Result<(), LineError>
@@ -44,7 +44,7 @@ fn push_column(columns: &mut Columns, column: i64) -> Result<(), LineError>
     Ok(())
 }
 
-// Words that should be signed numbers.
+// The words as signed numbers; `BadNumber` if one of them is not one.
 #[tactic(auto, unfolding(crate::specs::Words::columns))]
 fn columns(alloc: Global, words: &[&str]) -> Result<Columns, LineError>
     ensures { Gives (λ v. v.items) result (columns (map (λ w. w.now) words.now)) }
@@ -57,7 +57,7 @@ fn columns(alloc: Global, words: &[&str]) -> Result<Columns, LineError>
     Ok(columns)
 }
 
-// The row of 1 to 8 words that should be signed numbers. The row itself takes no memory.
+// The row of 1 to 8 words that must be signed numbers. The row itself takes no memory.
 pub(crate) fn row(alloc: Global, words: &[&str]) -> Result<Row, LineError>
     requires some { 1 ≤ length words.now }
     requires few { length words.now ≤ 8 }
@@ -67,7 +67,7 @@ pub(crate) fn row(alloc: Global, words: &[&str]) -> Result<Row, LineError>
     Ok(Row::of(alloc, &columns))
 }
 
-// Words that should be whole numbers.
+// The words as whole numbers; `BadNumber` if one of them is not one.
 #[tactic(auto, unfolding(crate::specs::Words::wholes))]
 pub(crate) fn wholes(alloc: Global, words: &[&str]) -> Result<Vec<u64>, LineError>
     ensures { Gives (λ v. v.items) result (wholes (map (λ w. w.now) words.now)) }
@@ -80,7 +80,7 @@ pub(crate) fn wholes(alloc: Global, words: &[&str]) -> Result<Vec<u64>, LineErro
     Ok(numbers)
 }
 
-// The numbers two by two, each two as a time.
+// The numbers in pairs, each pair as a time.
 pub(crate) fn times(alloc: Global, numbers: &[u64]) -> Result<Times<Bitime>, LineError>
     ensures ok { IfOk result (λ times. times ≡ pairs_of numbers.now) }
     ensures err { IfErr result (λ e. e ≡ LineError.Memory) }
@@ -94,7 +94,7 @@ pub(crate) fn times(alloc: Global, numbers: &[u64]) -> Result<Times<Bitime>, Lin
     Ok(Times::from(times))
 }
 
-// The time of these two numbers.
+// The time with this valid time and this system time.
 pub(crate) fn time(valid: u64, system: u64) -> Bitime
     ensures { result ≡ record { first = valid; second = system } }
 {

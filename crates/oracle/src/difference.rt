@@ -1,6 +1,7 @@
-//! The differences of a view, from the query alone: at each time of the join closure that has passed, in order, what the view has
-//! there less what is listed at or before it. The list then sums to the query at these times, and so at every time
-//! that has passed, since between them neither changes.
+//! The differences of a view, computed from the query alone. The times of the join closure that the frontier
+//! has passed are visited in order. At each of them we list the view's rows there minus the updates listed at
+//! or before it. So the list sums to the query at each of these times. It also does so at every other passed
+//! time, because neither the query nor the sum changes between two times of the closure.
 ghost use Rattle.std.specs.Prelude.{◌≡◌, ◌++◌, ◌<◌, ◌⊎◌, map, length, IfOk, IfErr, IsTrue, OnOk};
 ghost use Rattle.plan.specs.Ancestors.{feeds};
 ghost use Rattle.plan.specs.Changes.{AreDifferences, open_for, query_at};
@@ -18,7 +19,7 @@ use plan::{NodeId, Plan};
 use std::alloc::Global;
 use update::{Refusal, Update};
 
-// The frontier of an input. One that is missing is read as an empty one.
+// The frontier of an input. A missing frontier is read as an empty one.
 fn frontier_of<'a, T: Lattice>(plan: &Plan, frontiers: &'a [Antichain<T>], id: NodeId) -> &'a [T]
     requires { id < length plan.now }
     ensures { result.now ≡ list_of plan.now frontiers.now id }
@@ -38,7 +39,7 @@ fn feeds(plan: &Plan, id: NodeId, view: NodeId) -> bool
     plan.node(id).is_input() && plan.reaches(id, view)
 }
 
-// What is open for the view: the elements of the frontiers of all inputs that feed it.
+// The times that are still open for the view: the elements of the frontiers of all inputs that feed it.
 fn open_for<T: Lattice>(
     alloc: Global,
     plan: &Plan,
@@ -59,7 +60,7 @@ fn open_for<T: Lattice>(
     Ok(times)
 }
 
-// Lists what changes at `t`.
+// Lists the view's changes at `t`.
 fn list_at<T: Lattice>(
     alloc: Global,
     plan: &Plan,
@@ -87,7 +88,7 @@ fn list_at<T: Lattice>(
     push_at(listed, &gap, t)
 }
 
-// Lists what changes at each time of the join closure that has passed.
+// Lists the view's changes at each time of the join closure that the frontier has passed.
 fn along<T: Lattice>(
     alloc: Global,
     plan: &Plan,
@@ -118,20 +119,20 @@ fn along<T: Lattice>(
     Ok(listed)
 }
 
-/// The differences of a node of a plan, as of the inputs' frontiers: the one consolidated list that at every time which all
-/// inputs that feed the node have passed sums to what [`evaluate`] answers, and that has no other times. `changes` and
-/// `frontiers` have a list and a frontier for each input, in the order of the inputs' numbers; one that is missing is read
-/// as an empty one.
+/// The differences of a node of a plan, as of the inputs' frontiers. This is the only consolidated list that
+/// sums to the answer of [`evaluate`] at every time that all inputs feeding the node have passed, and that has
+/// no other times. `changes` and `frontiers` have one list and one frontier for each input, in the order of the
+/// inputs' numbers. A missing one is read as empty.
 ///
 /// The refusals:
 ///
-/// | Refusal | Where |
+/// | Refusal | When |
 /// |---|---|
-/// | `Overflow` | at a passed time the query is refused so, or the difference of some row is no 64-bit number |
+/// | `Overflow` | at a passed time the query overflows, or the difference of some row does not fit in 64 bits |
 /// | `OutOfMemory` | an allocation was refused |
 ///
-/// Cost: a query for each time of the join closure, which has the times of all changes and all joins of them, and each time a sort
-/// of what is listed before it.
+/// Cost: one query for each time of the join closure (the times of all changes and all joins of them), and for
+/// each such time a sort of the updates listed before it.
 pub fn differences<T: Lattice>(
     alloc: Global,
     plan: &Plan,

@@ -1,11 +1,11 @@
-//! The entries of a bag, each by its number, as operators read them and write them.
+//! The entries of a bag, addressed by index, as operators read and write them.
 ghost use Rattle.std.specs.Prelude.{◌≡◌, ◌<◌, ◌++◌, ◌∷◌, [], length, slice_index_or, pos, int_lt, IfErr, OnOk};
 ghost use Rattle.update.specs.Bags.{Entry};
 
 use row::Row;
 use update::{Bag, Entries, Refusal};
 
-/// Adds the entry of a number of the bag at the end.
+/// Appends entry `i` of the bag.
 pub(crate) fn put_entry(entries: &mut Entries, bag: &Bag, i: usize) -> Result<(), Refusal>
     requires { i < length bag.now }
     ensures put { (d : Entry)
@@ -15,7 +15,7 @@ pub(crate) fn put_entry(entries: &mut Entries, bag: &Bag, i: usize) -> Result<()
     entries.push(bag.row(i).copy(), bag.count(i))
 }
 
-/// The row of an entry of the bag.
+/// The row of entry `i`.
 pub(crate) fn row_at(bag: &Bag, i: usize) -> &Row
     requires { i < length bag.now }
     ensures { (d : Entry) → result.now ≡ (slice_index_or bag.now i d).row }
@@ -23,7 +23,7 @@ pub(crate) fn row_at(bag: &Bag, i: usize) -> &Row
     bag.row(i)
 }
 
-/// The count of an entry of the bag.
+/// The count of entry `i`.
 pub(crate) fn count_at(bag: &Bag, i: usize) -> i64
     requires { i < length bag.now }
     ensures { (d : Entry) → result ≡ (slice_index_or bag.now i d).count }
@@ -31,7 +31,7 @@ pub(crate) fn count_at(bag: &Bag, i: usize) -> i64
     bag.count(i)
 }
 
-/// Whether an entry of the bag counts more than 0 times.
+/// Whether entry `i` has a count above 0.
 pub(crate) fn is_positive(bag: &Bag, i: usize) -> bool
     requires { i < length bag.now }
     ensures { (d : Entry) → result ≡ int_lt (pos 0) (slice_index_or bag.now i d).count }

@@ -1,6 +1,6 @@
-//! The query at a time, worked out from scratch. The bags of the nodes are found one after another in the order of their
-//! numbers, so that each is found once and its sources' are there before it. Nodes that do not stand above the view have
-//! the empty bag: they are not computed, and nothing in them can be too large.
+//! The query at one time, computed from scratch. The bags of the nodes are computed in the order of the nodes'
+//! numbers. So each is computed once, after those of its sources. A node from which the view cannot be reached
+//! gets an empty bag: it is not computed, so nothing in it can overflow.
 ghost use Rattle.std.specs.Prelude.{◌≡◌, ◌≤◌, ◌<◌, ◌↔◌, eqb, map, length, IfOk, IfErr, IsTrue};
 ghost use Rattle.std.specs.List.{list_all};
 ghost use Rattle.update.specs.Bags.{Alike, IsBag};
@@ -18,8 +18,10 @@ use plan::{NodeId, Plan};
 use std::alloc::Global;
 use update::{Bag, Entries, Refusal, Update};
 
-/// How many inputs have smaller numbers: the place of an input's list where each input has its own, in the order of their
-/// numbers. Linear in the nodes before it.
+/// How many inputs have smaller numbers. If there is one list for each input, in the order of their numbers,
+/// this is the index of the input's list. Takes no memory.
+///
+/// Cost: linear in the nodes before it.
 pub fn inputs_before(plan: &Plan, id: NodeId) -> usize
     requires { id ≤ length plan.now }
     ensures { result ≡ inputs_before plan.now id }
@@ -33,7 +35,7 @@ pub fn inputs_before(plan: &Plan, id: NodeId) -> usize
     count
 }
 
-// The changes of an input. A list that is missing is read as an empty one.
+// The changes of an input. A missing list is read as an empty one.
 fn list_of<'a, T: Lattice>(
     plan: &Plan,
     changes: &'a [Vec<Update<T>>],
@@ -48,7 +50,7 @@ fn list_of<'a, T: Lattice>(
     }
 }
 
-// Whether the rows of a list have so many columns.
+// Whether every row of the list has `width` columns.
 fn have_width<T: Lattice>(updates: &[Update<T>], width: usize) -> bool
     ensures { result ≡ list_all (λ u. eqb (length u.row) width) updates.now }
 {
@@ -60,7 +62,7 @@ fn have_width<T: Lattice>(updates: &[Update<T>], width: usize) -> bool
     true
 }
 
-// Whether the node is no input, or its changes have its width.
+// Whether the node is not an input, or its changes have its width.
 fn is_wide<T: Lattice>(plan: &Plan, changes: &[Vec<Update<T>>], id: NodeId) -> bool
     requires { id < length plan.now }
     ensures { result ≡ is_wide_at plan.now (map (λ v. v.items) changes.now) id }
@@ -68,10 +70,10 @@ fn is_wide<T: Lattice>(plan: &Plan, changes: &[Vec<Update<T>>], id: NodeId) -> b
     !plan.node(id).is_input() || have_width(list_of(plan, changes, id), plan.width(id))
 }
 
-/// Whether the changes of each input have its width, as [`evaluate`] asks. `changes` has a list for each input, in the order of
-/// the inputs' numbers. Takes no memory.
+/// Whether the changes of each input have its width, as [`evaluate`] requires. `changes` has a list for each
+/// input, in the order of the inputs' numbers. Takes no memory.
 ///
-/// Cost: the changes are looked at once.
+/// Cost: one pass over the changes.
 pub fn are_wide<T: Lattice>(plan: &Plan, changes: &[Vec<Update<T>>]) -> bool
     ensures { IsTrue result ↔ AreWide plan.now (map (λ v. v.items) changes.now) }
 {
@@ -83,7 +85,7 @@ pub fn are_wide<T: Lattice>(plan: &Plan, changes: &[Vec<Update<T>>]) -> bool
     true
 }
 
-// The bag of the node behind those whose bags are there.
+// The bag of the node that comes after those in `bags`.
 fn next_bag<T: Lattice>(
     alloc: Global,
     plan: &Plan,
@@ -141,17 +143,19 @@ fn bags_before<T: Lattice>(
     Ok(bags)
 }
 
-/// What a node of a plan is at `t`: the query on the bags to which the inputs' changes sum at `t`. `changes` has a list for
-/// each input, in the order of the inputs' numbers; one that is missing is read as an empty one.
+/// The rows of a node of a plan at `t`: the query on the bags to which the inputs' changes sum at `t`.
+/// `changes` has a list for each input, in the order of the inputs' numbers. A missing list is read as an empty
+/// one.
 ///
 /// The refusals:
 ///
-/// | Refusal | Where |
+/// | Refusal | When |
 /// |---|---|
-/// | `Overflow` | at a node above the view, or at the view, some row's count is no 64-bit number, or the product of two counts that a join multiplies, or the number of a key's rows |
+/// | `Overflow` | at the view or at a node above it, a number does not fit in 64 bits: the count of a row, the product of two counts in a join, or the total count of a key's rows |
 /// | `OutOfMemory` | an allocation was refused |
 ///
-/// Cost: for each node above the view a sort or two of what it reads and gives; the changes of an input are looked at once.
+/// Cost: for each node above the view, one or two sorts of the rows that it reads and writes; one pass over
+/// each input's changes.
 pub fn evaluate<T: Lattice>(
     alloc: Global,
     plan: &Plan,

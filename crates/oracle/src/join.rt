@@ -1,5 +1,5 @@
-//! The join of two bags. For each row of the left one the rows of its key are found in the right one by its order, so that
-//! no two rows of different keys are ever met.
+//! The join of two bags. For each row of the left bag, a binary search finds the rows with its key in the right
+//! bag. So rows with different keys are never paired.
 ghost use Rattle.std.specs.Prelude.{◌≡◌, ◌≤◌, ◌+◌, ◌-◌, ◌++◌, ◌*ℤ◌, map, take, length, nat_le, IfErr, OnOk, IsTrue, FitsSigned};
 ghost use Rattle.std.specs.Int.{w64};
 ghost use Rattle.std.specs.List.{filter, list_all};
@@ -15,7 +15,7 @@ use crate::keys::key_range;
 use row::Row;
 use update::{Bag, Entries, Refusal, Weight};
 
-// Adds the pairs of one row with the rows of its key.
+// Appends the pairs of one row with the right bag's rows of the same key.
 fn put_pairs(
     entries: &mut Entries,
     row: &Row,
@@ -43,10 +43,10 @@ fn put_pairs(
     Ok(())
 }
 
-/// Adds the pairs of the rows of two bags that have equal keys, of `k` columns. [`Refusal::Overflow`] only where the product
-/// of two such rows' counts is no 64-bit number.
+/// Appends the pairs of rows whose keys, of `k` columns, are equal. [`Refusal::Overflow`] only if the product
+/// of such a pair's counts does not fit in 64 bits.
 ///
-/// Cost: for each row of the left bag two binary searches in the right one, and one step for each pair.
+/// Cost: two binary searches in the right bag for each row of the left one, and one step for each pair.
 pub(crate) fn put_joined(
     entries: &mut Entries,
     left: &Bag,

@@ -1,6 +1,6 @@
-//! The times at which a view may change. It changes at none but the times of the inputs' changes and joins of such times:
-//! two changes are both visible only from the join of their times. The join closure has all of these, so at every time the
-//! view is what it is at the last of them at or before it.
+//! The times at which a view may change. A view changes only at the times of its inputs' changes and at joins
+//! of such times, because two changes are both visible only from the join of their times on. The join closure
+//! has all of these. So at every time, the view is what it is at the last time of the closure at or before it.
 ghost use Rattle.std.specs.Prelude.{◌≡◌, ◌++◌, map, IfOk, IfErr, OnOk};
 ghost use Rattle.std.specs.List.{All, Contains};
 ghost use Rattle.std.specs.List.Sorted.{IsStrictlySortedBy};
@@ -10,7 +10,7 @@ use lattice::Lattice;
 use std::alloc::Global;
 use update::{Refusal, Update};
 
-// Leaves each time once, in order.
+// Sorts the times and drops duplicates.
 fn keep_once<T: Lattice>(times: &mut Vec<T>)
     ensures ascending { IsStrictlySortedBy T.cmp times.new.items }
     ensures kept { (t : T) → Contains times.old.items t → Contains times.new.items t }
@@ -20,7 +20,7 @@ fn keep_once<T: Lattice>(times: &mut Vec<T>)
     times.dedup();
 }
 
-// Adds the join of each time with `t`.
+// Appends the join of each time with `t`.
 fn push_joins<T: Lattice>(times: &mut Vec<T>, t: T) -> Result<(), Refusal>
     ensures joins { OnOk result
         (times.new.items ≡ times.old.items ++ map (λ s. T.joined s t) times.old.items) }
@@ -33,7 +33,7 @@ fn push_joins<T: Lattice>(times: &mut Vec<T>, t: T) -> Result<(), Refusal>
     Ok(())
 }
 
-// Adds a time, and its joins with those that are there.
+// Adds `t` and its joins with the times already there. This keeps the list closed under joins.
 fn add_time<T: Lattice>(times: &mut Vec<T>, t: T) -> Result<(), Refusal>
     requires { IsClosed T.joined times.old.items }
     ensures ascending { OnOk result (IsStrictlySortedBy T.cmp times.new.items) }
@@ -48,7 +48,7 @@ fn add_time<T: Lattice>(times: &mut Vec<T>, t: T) -> Result<(), Refusal>
     Ok(())
 }
 
-// Adds the times of the updates.
+// Appends the times of the updates.
 fn push_times<T: Lattice>(times: &mut Vec<T>, updates: &[Update<T>]) -> Result<(), Refusal>
     ensures times { OnOk result
         (times.new.items ≡ times.old.items ++ map (λ u. u.time) updates.now) }
@@ -87,11 +87,11 @@ fn with_joins<T: Lattice>(alloc: Global, times: &[T]) -> Result<Vec<T>, Refusal>
     Ok(join_closure)
 }
 
-/// The join closure of the changes: all their times and all joins of them, each once and in order. Refused only for want
-/// of memory.
+/// The join closure of the changes: all their times and all joins of them, each once and in order. Refused only
+/// for lack of memory.
 ///
-/// Cost: a sort of the closure for each time of the changes. Of pairs of numbers it has at most as many as the first
-/// numbers that occur times the second ones.
+/// Cost: one sort of the closure for each distinct time of the changes. For pairs of numbers, the size of the
+/// closure is at most the number of distinct first numbers multiplied by the number of distinct second numbers.
 pub(crate) fn join_closure<T: Lattice>(
     alloc: Global,
     changes: &[Vec<Update<T>>],

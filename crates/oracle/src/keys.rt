@@ -1,5 +1,5 @@
-//! Where the rows of a key stand in a bag. The entries of a bag are in the order of their rows, and so of their keys: the
-//! rows of a key are neighbours, and two binary searches find the first of them and the first behind them.
+//! The range of a bag's entries that share a key. A bag is sorted by row, and so by key. The rows of a key are
+//! therefore neighbours, and two binary searches find the first of them and the first entry after them.
 ghost use Rattle.std.specs.Prelude.{◌≡◌, ◌≤◌, ◌<◌, true, false, take, length, slice_index_or, IsTrue};
 ghost use Rattle.std.specs.List.{AllWithin};
 ghost use Rattle.update.specs.Bags.{Entry};
@@ -10,7 +10,7 @@ use row::Row;
 use std::cmp::Ordering;
 use update::Bag;
 
-/// The first `k` columns of an entry's row.
+/// The first `k` columns of entry `i`'s row.
 pub(crate) fn key_at(bag: &Bag, i: usize, k: usize) -> &[i64]
     requires inside { i < length bag.now }
     requires keys { IsTrue (have_keys k bag.now) }
@@ -23,7 +23,7 @@ pub(crate) fn key_at(bag: &Bag, i: usize, k: usize) -> &[i64]
     row.key(k)
 }
 
-// Whether the key of an entry comes before the key, or is it where that is asked.
+// Whether the entry's key is less than `key` (or equal to it, if `equal`).
 fn is_before_key(bag: &Bag, i: usize, key: &[i64], equal: bool) -> bool
     requires inside { i < length bag.now }
     requires keys { IsTrue (have_keys (length key.now) bag.now) }
@@ -36,10 +36,9 @@ fn is_before_key(bag: &Bag, i: usize, key: &[i64], equal: bool) -> bool
     }
 }
 
-// How many entries of the bag have a key before the key, those of the key itself among them where that is asked. They are
-// the first ones.
+// How many entries have a key that is less than `key` (or equal to it, if `equal`). They are the first ones.
 //
-// Cost: comparisons of keys as many as the logarithm of the number of entries.
+// Cost: the number of comparisons of keys is logarithmic in the number of entries.
 fn before_key(bag: &Bag, key: &[i64], equal: bool) -> usize
     requires { IsTrue (have_keys (length key.now) bag.now) }
     ensures inside { result ≤ length bag.now }
@@ -60,7 +59,8 @@ fn before_key(bag: &Bag, key: &[i64], equal: bool) -> usize
     low
 }
 
-/// Where in the bag the rows stand that have the row's first `k` columns: from the first number up to the second.
+/// The range of the entries whose first `k` columns are those of `row`: from the first index up to, but not
+/// including, the second.
 pub(crate) fn key_range(bag: &Bag, row: &Row, k: usize) -> (usize, usize)
     requires key { k ≤ length row.now }
     requires keys { IsTrue (have_keys k bag.now) }

@@ -1,14 +1,16 @@
-//! The plain query: what a view is, worked out from scratch. It knows no workers and no frontiers that move: each input is
-//! summed to a time, and the operators are applied to bags, one upon another. Whatever the engine answers is to be compared
-//! with it.
+//! The plain query: it computes a view from scratch. It has no workers and no moving frontiers. Each input is
+//! summed to a bag at one time, and the operators are then applied to bags, one after another. The engine's
+//! answers are checked against it.
 //!
-//! [`evaluate`] answers the query at one time. Each operator writes entries, which are added up to its bag in one place, in
-//! 128 bits, so that it never depends on an order whether a sum is refused. What a node is stands in the definitions of
-//! crate `plan`, and what can be too large on the way in this crate's own: [`Refusal::Overflow`] comes for nothing else.
+//! [`evaluate`] answers the query at one time. Each operator writes entries, and one function adds them up to a
+//! bag, in 128 bits. So whether a sum is refused never depends on the order of the entries. Crate `plan`
+//! defines what a node is; the definitions here say which numbers can be too large on the way.
+//! [`Refusal::Overflow`] comes for no other reason.
 //!
-//! [`differences`] answers a view's changes, for the engine's lists of changes to be compared with: at each time at which the
-//! view may change, what the query answers there less what is listed at or before it. That is slow, and right for plain
-//! reasons. Whose changes and whose frontier a list is, its place says ([`lists_belong_to_inputs`]).
+//! [`differences`] lists the changes of a view, so that the engine's lists of changes can be compared with it.
+//! At each time at which the view may change, it lists the query's answer there minus the updates already
+//! listed at or before that time. This is slow, but it is easy to see why it is right. The lists of changes and
+//! of frontiers are matched to inputs by position ([`lists_belong_to_inputs`]).
 //!
 //! [`Refusal::Overflow`]: update::Refusal::Overflow
 #![tactic(auto)]

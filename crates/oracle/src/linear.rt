@@ -1,4 +1,4 @@
-//! The operators that work row by row: map, filter and negate, and those that only hand rows on.
+//! The operators that work row by row (map, filter and negate), and those that only pass rows on.
 ghost use Rattle.std.specs.Prelude.{◌≡◌, ◌≤◌, ◌++◌, map, length, IfErr, OnOk, IsTrue, FitsSigned, neg_ℤ};
 ghost use Rattle.std.specs.Int.{w64};
 ghost use Rattle.std.specs.List.{filter, list_all, Any};
@@ -11,7 +11,7 @@ use crate::entries::{count_at, put_entry, row_at};
 use row::{Item, Test, holds, project};
 use update::{Bag, Entries, Refusal, Weight};
 
-/// Adds the entries of the bag.
+/// Appends all entries of the bag.
 pub(crate) fn put_all(entries: &mut Entries, bag: &Bag) -> Result<(), Refusal>
     ensures all { OnOk result (entries.new ≡ entries.old ++ bag.now) }
     ensures refused { IfErr result (λ refused. refused ≡ Refusal.OutOfMemory) }
@@ -22,7 +22,7 @@ pub(crate) fn put_all(entries: &mut Entries, bag: &Bag) -> Result<(), Refusal>
     Ok(())
 }
 
-/// Adds for each row of the bag the row of these items.
+/// Appends the projection of each row of the bag to `items`.
 pub(crate) fn put_images(entries: &mut Entries, bag: &Bag, items: &[Item]) -> Result<(), Refusal>
     requires some { 1 ≤ length items.now }
     requires few { length items.now ≤ 8 }
@@ -38,7 +38,7 @@ pub(crate) fn put_images(entries: &mut Entries, bag: &Bag, items: &[Item]) -> Re
     Ok(())
 }
 
-/// Adds the entries whose rows pass.
+/// Appends the entries whose rows pass the test.
 pub(crate) fn put_passing(entries: &mut Entries, bag: &Bag, test: &Test) -> Result<(), Refusal>
     requires within { IsTrue (list_all (λ e. is_test_within test.now (length e.row)) bag.now) }
     ensures passing { OnOk result
@@ -53,7 +53,8 @@ pub(crate) fn put_passing(entries: &mut Entries, bag: &Bag, test: &Test) -> Resu
     Ok(())
 }
 
-/// Adds each row with the other sign. [`Refusal::Overflow`] only where some count is the least of 64 bits.
+/// Appends each row with the negated count. [`Refusal::Overflow`] only if some count is the least 64-bit
+/// number, whose opposite does not fit in 64 bits.
 pub(crate) fn put_opposites(entries: &mut Entries, bag: &Bag) -> Result<(), Refusal>
     ensures opposites { OnOk result (entries.new ≡ entries.old ++ map negated_entry bag.now) }
     ensures refused { IfErr result

@@ -1,4 +1,5 @@
-//! One time of a list of differences: what the view has there, less what is listed at or before that time already.
+//! One step of a list of differences: the rows of the view at a time, minus the updates already listed at or
+//! before it.
 ghost use Rattle.std.specs.Prelude.{◌≡◌, ◌++◌, ◌+ℤ◌, ℤ, List, cond, map, pos, IfOk, IfErr, OnOk};
 ghost use Rattle.update.specs.Bags.{IsBag, count_of, same_row};
 ghost use Rattle.update.specs.Updates.{as_of};
@@ -11,14 +12,15 @@ use lattice::Lattice;
 use std::alloc::Global;
 use update::{Bag, Entries, Refusal, Update};
 
-// One less than the opposite, which is a number of 64 bits whatever the count.
+// The opposite of the count, minus 1. Unlike the opposite itself, it fits in 64 bits for every count.
 fn before_opposite(count: i64) -> i64
     ensures { (result +ℤ pos 1) +ℤ count ≡ pos 0 }
 {
     -1 - count
 }
 
-// Takes the update off. In two entries, since the opposite of the least number is none of 64 bits.
+// Subtracts the update. It takes two entries, because the opposite of the least 64-bit number does not fit in
+// 64 bits.
 fn put_off<T: Lattice>(entries: &mut Entries, update: &Update<T>) -> Result<(), Refusal>
     ensures counts { OnOk result ((r : List ℤ)
         → count_of entries.new r +ℤ
@@ -32,7 +34,7 @@ fn put_off<T: Lattice>(entries: &mut Entries, update: &Update<T>) -> Result<(), 
     Ok(())
 }
 
-// Takes off what is listed at or before `t`.
+// Subtracts the updates listed at or before `t`.
 fn put_listed<T: Lattice>(entries: &mut Entries, listed: &[Update<T>], t: T) -> Result<(), Refusal>
     ensures counts { OnOk result ((r : List ℤ)
         → count_of entries.new r +ℤ count_of (as_of T.below t listed.now) r
@@ -47,10 +49,10 @@ fn put_listed<T: Lattice>(entries: &mut Entries, listed: &[Update<T>], t: T) -> 
     Ok(())
 }
 
-/// What the bag has more than is listed at or before `t`. [`Refusal::Overflow`] only where that is no 64-bit number of some
-/// row.
+/// The bag minus the updates listed at or before `t`. [`Refusal::Overflow`] only if that difference does not
+/// fit in 64 bits for some row.
 ///
-/// Cost: linear in the list, and a sort of the bag and of what is listed at or before `t`.
+/// Cost: linear in the list, plus a sort of the bag and of the updates listed at or before `t`.
 pub(crate) fn gap<T: Lattice>(
     alloc: Global,
     bag: &Bag,
@@ -68,7 +70,7 @@ pub(crate) fn gap<T: Lattice>(
     entries.into_bag()
 }
 
-/// Adds the entries of the bag, as changes at `t`. Refused only for want of memory.
+/// Appends the entries of the bag as updates at `t`. Refused only for lack of memory.
 pub(crate) fn push_at<T: Lattice>(
     listed: &mut Vec<Update<T>>,
     bag: &Bag,

@@ -1,5 +1,5 @@
-//! One node: its operator, on the bags that its sources have. That the sources are there, and that their rows have the
-//! columns that the operator names, holds of every plan.
+//! One node: its operator, applied to the bags of its sources. Every plan promises that the sources exist and
+//! that their rows have the columns that the operator names.
 ghost use Rattle.std.specs.Prelude.{◌≡◌, ◌≤◌, ◌<◌, ℕ, length, IfOk, IfErr, IsTrue};
 ghost use Rattle.update.specs.Bags.{Alike, IsBag};
 ghost use Rattle.update.specs.Updates.{as_of};
@@ -15,7 +15,7 @@ use plan::{Node, NodeId, Plan};
 use std::alloc::Global;
 use update::{Bag, Refusal, Update, sum_at};
 
-// The bag of a node.
+// The bag of a node, as the definitions look it up.
 fn bag_at(bags: &[Bag], id: NodeId) -> &Bag
     requires { id < length bags.now }
     ensures { result.now ≡ nth_bag bags.now id }
@@ -23,7 +23,7 @@ fn bag_at(bags: &[Bag], id: NodeId) -> &Bag
     &bags[id.number()]
 }
 
-// The same bag once more.
+// A copy of the bag. Arrange and output nodes pass their rows on.
 fn copied(bag: &Bag) -> Result<Bag, Refusal>
     ensures same { IfOk result (λ out. Alike out bag.now) }
     ensures bag { IfOk result IsBag }
@@ -33,10 +33,11 @@ fn copied(bag: &Bag) -> Result<Bag, Refusal>
     Ok(bag.clone()?)
 }
 
-/// What a node gives from the bags of the nodes before it, or, where it is an input, from its own updates at or before `t`.
-/// [`Refusal::Overflow`] only where a count that it gives, or what it multiplies or counts for that, is no 64-bit number.
+/// The rows of a node, from the bags of the nodes before it. An input has its own updates at or before `t`
+/// instead. [`Refusal::Overflow`] only if some row's count does not fit in 64 bits, or a product or a total on
+/// the way to it does not.
 ///
-/// Cost: that of a sort of what it reads and gives.
+/// Cost: that of a sort of the rows that the node reads and writes.
 pub(crate) fn of_node<T: Lattice>(
     alloc: Global,
     plan: &Plan,

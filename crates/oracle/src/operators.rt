@@ -1,4 +1,4 @@
-//! The operators but the reductions, each from bags to a bag: the entries that it gives, added up.
+//! The operators except the reductions. Each writes its entries, which are then added up to a bag.
 ghost use Rattle.std.specs.Prelude.{◌≡◌, ◌≤◌, ◌+◌, ◌-◌, ◌++◌, ◌⊎◌, map, length, nat_le, IfOk, IfErr, IsTrue};
 ghost use Rattle.std.specs.List.{filter, list_all};
 ghost use Rattle.row.specs.Projection.{are_within};
@@ -15,7 +15,7 @@ use row::{Item, Test};
 use std::alloc::Global;
 use update::{Bag, Entries, Refusal};
 
-/// For each row the row of these items.
+/// Map: the projection of each row to `items`.
 pub(crate) fn mapped(alloc: Global, bag: &Bag, items: &[Item]) -> Result<Bag, Refusal>
     requires some { 1 ≤ length items.now }
     requires few { length items.now ≤ 8 }
@@ -30,7 +30,7 @@ pub(crate) fn mapped(alloc: Global, bag: &Bag, items: &[Item]) -> Result<Bag, Re
     entries.into_bag()
 }
 
-/// The rows that pass.
+/// Filter: the rows that pass the test.
 pub(crate) fn passing(alloc: Global, bag: &Bag, test: &Test) -> Result<Bag, Refusal>
     requires { IsTrue (list_all (λ e. is_test_within test.now (length e.row)) bag.now) }
     ensures passing { IfOk result (λ out. Alike out (filter (λ e. passes test.now e.row) bag.now)) }
@@ -43,7 +43,7 @@ pub(crate) fn passing(alloc: Global, bag: &Bag, test: &Test) -> Result<Bag, Refu
     entries.into_bag()
 }
 
-/// The rows of both.
+/// Concat: the rows of both bags.
 pub(crate) fn together(alloc: Global, left: &Bag, right: &Bag) -> Result<Bag, Refusal>
     ensures together { IfOk result (λ out. Alike out (left.now ++ right.now)) }
     ensures bag { IfOk result IsBag }
@@ -55,7 +55,7 @@ pub(crate) fn together(alloc: Global, left: &Bag, right: &Bag) -> Result<Bag, Re
     entries.into_bag()
 }
 
-/// Each row with the other sign.
+/// Negate: each row with the opposite count.
 pub(crate) fn opposite(alloc: Global, bag: &Bag) -> Result<Bag, Refusal>
     ensures opposite { IfOk result (λ out. Alike out (map negated_entry bag.now)) }
     ensures bag { IfOk result IsBag }
@@ -68,7 +68,7 @@ pub(crate) fn opposite(alloc: Global, bag: &Bag) -> Result<Bag, Refusal>
     entries.into_bag()
 }
 
-/// The pairs of the rows of equal key.
+/// Join: the pairs of rows with equal keys.
 pub(crate) fn joined(alloc: Global, left: &Bag, right: &Bag, k: usize) -> Result<Bag, Refusal>
     requires left { IsTrue (have_keys k left.now) }
     requires right { IsTrue (have_keys k right.now) }

@@ -1,6 +1,6 @@
-//! The reductions, each in passes over the entries of bags. Distinct keeps the rows that count more than 0 times. Min and
-//! max keep of these the first and the last of each key, which its neighbour tells, since rows of equal key are
-//! neighbours. Count adds up the keys in place of the rows.
+//! The reductions, as passes over the entries of bags. Distinct keeps the rows whose count is above 0. Of
+//! these, min and max keep the first and the last row of each key. Rows with the same key are neighbours, so
+//! comparing an entry with its neighbour is enough. Count adds up the keys instead of the rows.
 ghost use Rattle.std.specs.Prelude.{◌≡◌, ◌≤◌, ◌<◌, ◌++◌, ℕ, map, not, pos, take, int_lt, length, nat_le, slice_index_or, IfOk, IfErr, OnOk, IsTrue};
 ghost use Rattle.std.specs.List.{filter, list_all};
 ghost use Rattle.update.specs.Bags.{Entry, Alike, IsBag, HasLargeCount};
@@ -18,7 +18,7 @@ use row::Row;
 use std::alloc::Global;
 use update::{Bag, Entries, Refusal};
 
-// Adds each row that counts more than 0 times, once.
+// Appends each row whose count is above 0, once.
 fn put_present(entries: &mut Entries, bag: &Bag) -> Result<(), Refusal>
     ensures present { OnOk result (entries.new ≡ entries.old
         ++ map (λ e. single e.row) (filter (λ e. int_lt (pos 0) e.count) bag.now)) }
@@ -32,7 +32,7 @@ fn put_present(entries: &mut Entries, bag: &Bag) -> Result<(), Refusal>
     Ok(())
 }
 
-// The rows that count more than 0 times, each once: what distinct answers, by a key of however many columns all rows have.
+// Distinct: the rows whose count is above 0, each once. The answer is the same for every key width that all rows have.
 fn distinct(alloc: Global, bag: &Bag) -> Result<Bag, Refusal>
     ensures distinct { IfOk result (λ out. (k : ℕ) → IsTrue (have_keys k bag.now)
         → Alike out (reduction_output k (reduction_answer Distinct) bag.now)) }
@@ -45,7 +45,7 @@ fn distinct(alloc: Global, bag: &Bag) -> Result<Bag, Refusal>
     entries.into_bag()
 }
 
-// Whether two entries have one key.
+// Whether the two entries have the same key.
 fn have_one_key(bag: &Bag, i: usize, j: usize, k: usize) -> bool
     requires one { i < length bag.now }
     requires other { j < length bag.now }
@@ -57,7 +57,7 @@ fn have_one_key(bag: &Bag, i: usize, j: usize, k: usize) -> bool
     key_at(bag, j, k) == key_at(bag, i, k)
 }
 
-// Whether no row of its key stands before that of the entry. It is enough to ask the one before it.
+// Whether the entry is the first of its key. It is enough to look at the entry before it.
 fn is_first(bag: &Bag, i: usize, k: usize) -> bool
     requires inside { i < length bag.now }
     requires keys { IsTrue (have_keys k bag.now) }
@@ -67,7 +67,7 @@ fn is_first(bag: &Bag, i: usize, k: usize) -> bool
     i == 0 || !have_one_key(bag, i, i - 1, k)
 }
 
-// Whether the entry's row stands before none of its key. It is enough to ask the one behind it.
+// Whether the entry is the last of its key. It is enough to look at the entry after it.
 fn is_last(bag: &Bag, i: usize, k: usize) -> bool
     requires inside { i < length bag.now }
     requires keys { IsTrue (have_keys k bag.now) }
@@ -77,7 +77,7 @@ fn is_last(bag: &Bag, i: usize, k: usize) -> bool
     i + 1 == count || !have_one_key(bag, i, i + 1, k)
 }
 
-// Adds the first entry of each key.
+// Appends the first entry of each key.
 fn put_first(entries: &mut Entries, bag: &Bag, k: usize) -> Result<(), Refusal>
     requires { IsTrue (have_keys k bag.now) }
     ensures first { OnOk result
@@ -92,7 +92,7 @@ fn put_first(entries: &mut Entries, bag: &Bag, k: usize) -> Result<(), Refusal>
     Ok(())
 }
 
-// Adds the last entry of each key.
+// Appends the last entry of each key.
 fn put_last(entries: &mut Entries, bag: &Bag, k: usize) -> Result<(), Refusal>
     requires { IsTrue (have_keys k bag.now) }
     ensures last { OnOk result
@@ -107,7 +107,7 @@ fn put_last(entries: &mut Entries, bag: &Bag, k: usize) -> Result<(), Refusal>
     Ok(())
 }
 
-// Adds the key of each row, as often as the row counts.
+// Appends the key of each row, with the row's count.
 fn put_keys(alloc: Global, entries: &mut Entries, bag: &Bag, k: usize) -> Result<(), Refusal>
     requires some { 1 ≤ k }
     requires keys { IsTrue (have_keys k bag.now) }
@@ -120,7 +120,7 @@ fn put_keys(alloc: Global, entries: &mut Entries, bag: &Bag, k: usize) -> Result
     Ok(())
 }
 
-// Adds for each row a row of it and the number of times that it counts, once.
+// Appends, for each row, the row extended by its count, once.
 fn put_numbered(entries: &mut Entries, bag: &Bag) -> Result<(), Refusal>
     requires { IsTrue (list_all (λ e. nat_le (length e.row) 7) bag.now) }
     ensures numbered { OnOk result (entries.new ≡ entries.old ++ map count_entry bag.now) }
@@ -133,7 +133,7 @@ fn put_numbered(entries: &mut Entries, bag: &Bag) -> Result<(), Refusal>
     Ok(())
 }
 
-// The keys, each as often as its rows count together.
+// The bag of keys: each has the total count of its rows.
 fn key_totals(alloc: Global, bag: &Bag, k: usize) -> Result<Bag, Refusal>
     requires some { 1 ≤ k }
     requires keys { IsTrue (have_keys k bag.now) }
@@ -146,7 +146,7 @@ fn key_totals(alloc: Global, bag: &Bag, k: usize) -> Result<Bag, Refusal>
     entries.into_bag()
 }
 
-// The bag of the rows and their numbers.
+// The bag of rows extended by their counts.
 fn numbered(alloc: Global, totals: &Bag) -> Result<Bag, Refusal>
     requires { IsTrue (list_all (λ e. nat_le (length e.row) 7) totals.now) }
     ensures numbered { IfOk result (λ out. Alike out (map count_entry totals.now)) }
@@ -159,8 +159,8 @@ fn numbered(alloc: Global, totals: &Bag) -> Result<Bag, Refusal>
     entries.into_bag()
 }
 
-// How often the rows of each key count together: the key and that number, where it is not 0. [`Refusal::Overflow`] only
-// where some such number is no 64-bit number.
+// Count: for each key the total count of its rows, as the key followed by that number, if it is not 0.
+// [`Refusal::Overflow`] only if some total does not fit in 64 bits.
 //
 // Cost: two sorts.
 fn counted(alloc: Global, bag: &Bag, k: usize) -> Result<Bag, Refusal>
@@ -176,7 +176,7 @@ fn counted(alloc: Global, bag: &Bag, k: usize) -> Result<Bag, Refusal>
     numbered(alloc, &totals)
 }
 
-// Of the rows that count more than 0 times the least of each key, once. Refused only for want of memory.
+// Min: for each key the least row whose count is above 0, once. Refused only for lack of memory.
 //
 // Cost: two sorts.
 fn least(alloc: Global, bag: &Bag, k: usize) -> Result<Bag, Refusal>
@@ -192,7 +192,7 @@ fn least(alloc: Global, bag: &Bag, k: usize) -> Result<Bag, Refusal>
     entries.into_bag()
 }
 
-// Of the rows that count more than 0 times the greatest of each key, once. Refused only for want of memory.
+// Max: for each key the greatest row whose count is above 0, once. Refused only for lack of memory.
 //
 // Cost: two sorts.
 fn greatest(alloc: Global, bag: &Bag, k: usize) -> Result<Bag, Refusal>
@@ -208,8 +208,8 @@ fn greatest(alloc: Global, bag: &Bag, k: usize) -> Result<Bag, Refusal>
     entries.into_bag()
 }
 
-/// What the reduction answers for each key of `k` columns. [`Refusal::Overflow`] only of a count, where the rows of some key
-/// count together as often as no 64-bit number says.
+/// The answer of the reduction for each key of `k` columns. [`Refusal::Overflow`] only for count, if the total
+/// count of some key's rows does not fit in 64 bits.
 pub(crate) fn reduced(alloc: Global, bag: &Bag, kind: Kind, k: usize) -> Result<Bag, Refusal>
     requires some { 1 ≤ k }
     requires room { kind ≡ Count → k ≤ 7 }

@@ -1,5 +1,6 @@
-//! A board and its one worker, which take turns: clients' events go to the board at once, and where
-//! rows are asked for, the worker first carries on what waits.
+//! The board engine: a board with one worker that runs on the caller's thread. Commands go to the board at
+//! once, as events of its only client. The worker catches up before a question is answered, and whenever many
+//! changes are queued.
 ghost use Rattle.std.specs.Prelude.{◌≡◌, None, IsTrue, IfErr, IfOk, OnOk};
 ghost use Rattle.std.specs.List.{All};
 ghost use Rattle.update.specs.declared.refusal.Refusal.TheVariants.{OutOfMemory};
@@ -23,23 +24,24 @@ use std::alloc::Global;
 use std::marker::Model;
 use update::{Bag, Refusal, Times, Update, Updates};
 
-// With so many changes waiting the worker carries on before there is one more, so that what waits
-// takes little memory, however many changes there are.
+// Once this many changes are queued, the worker catches up before another is accepted. So the queue stays
+// small, however many changes there are.
 const BACKLOG: usize = 64;
 
-// The number of the only client, beside worker 0: that of the events which commands are.
+// The number of the only client, after worker 0. Every command that changes an input is an event of this
+// client.
 const CLIENT: usize = 1;
 
-/// A board whose one worker carries on what waits where rows are asked for. A contract sees what
-/// lies on the board.
+/// A board and its one worker. A contract sees the board's state.
 #[derive(Drop)]
 pub(crate) struct BoardEngine {
     board: Board<Bitime>,
-    // Where what the worker gives goes.
+    // How the worker's output is cut into bundles for the nodes that read it.
     routing: Routing,
-    // Want of memory, if the worker met it: then it may have a piece in hand.
+    // The refusal that stopped the worker, if it ran out of memory. It may then have a bundle in hand, so it
+    // does not go on.
     ended: Option<Refusal>,
-    // How many changes may be waiting.
+    // An upper bound on the number of queued changes.
     waiting: usize,
 }
 
@@ -77,7 +79,7 @@ impl BoardEngine {
         })
     }
 
-    /// A change of an input.
+    /// Feeds a change to an input.
     pub(crate) fn feed(&mut self, input: NodeId, update: Update<Bitime>) -> Result<(), Refusal>
         requires { IsTrue (is_input_of self.old.dataflow.nodes input) }
         ensures plan { self.new.dataflow.nodes ≡ self.old.dataflow.nodes }
@@ -90,7 +92,8 @@ impl BoardEngine {
         self.board.feed(CLIENT, input, update)
     }
 
-    // The worker carries on what waits, until nothing does.
+    // The worker relays what is in flight until nothing is. If it ran out of memory earlier, the same refusal
+    // is returned again.
     fn carry_on(&mut self, alloc: Global) -> Result<(), Refusal>
         ensures plan { self.new.dataflow ≡ self.old.dataflow }
         ensures caught_up { OnOk result (IsRelayed self.new) }
@@ -110,7 +113,7 @@ impl BoardEngine {
         }
     }
 
-    // There is one change more, before which the worker carries on where many wait.
+    // Counts one more change. If the queue is full, the worker first catches up.
     fn make_room(&mut self, alloc: Global) -> Result<(), Refusal>
         ensures plan { self.new.dataflow ≡ self.old.dataflow }
         ensures stands { (s : BitemporalSession) → StandsAs bitime_below (make_pair 0 0) self.old s

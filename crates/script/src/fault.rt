@@ -1,4 +1,4 @@
-//! Why a run ended before its end.
+//! Why a run ended before the last line.
 ghost use Rattle.std.specs.Prelude.{◌≡◌};
 
 use crate::outputs::OutFault;
@@ -6,16 +6,16 @@ use std::alloc::AllocError;
 use thiserror::Error;
 use update::Refusal;
 
-/// Why a run ended early. What was written until then is a beginning of the script's text; where a
-/// number was too large, it is the whole text of the lines before.
+/// Why a run ended early. A beginning of the script's text has been written. If a number was too large, it is
+/// the whole text of the lines before the one that asked for it.
 #[derive(Clone, Copy, Debug, PartialEq, Eq, Error)]
 pub enum RunFault {
-    /// Refused, with the number of [`Refusal::code`]: 1 where memory was, 10 where a number was no
-    /// 64-bit number, 23 where the number of workers is none that is taken. 24 is kept for a thread that
-    /// could not be started; no run answers it yet.
+    /// The engine refused, with this code of [`Refusal::code`]: 1 if memory was refused, 10 if a number does
+    /// not fit in 64 bits, 23 if the number of workers is not supported. No run returns 24, which is reserved
+    /// for a thread that does not start.
     #[error("refused with {0}")]
     Refused(u8),
-    /// The output failed.
+    /// A call of the output failed.
     #[error("not written")]
     Write,
 }

@@ -1,5 +1,4 @@
-//! Laws of the definitions. The functions do nothing: they are called, or their clauses cited, for
-//! what they promise.
+//! Laws of the definitions. Each law is a function with an empty body. Callers call it, or cite its clauses.
 ghost use Rattle.std.specs.Prelude.{◌≡◌, ◌<◌, ℕ, List, length};
 ghost use Rattle.std.specs.List.Sorted.{IsStrictlySortedBy};
 ghost use Rattle.antichain.specs.Antichains.{SameElements};
@@ -15,8 +14,8 @@ ghost use Rattle.script.specs.Sessions.{Session, view_frontier, frontier_at, cha
 
 use lattice::Lattice;
 
-/// Entries put one by one into a list in row order make a bag that counts as they do, and there is
-/// no other.
+/// If entries are inserted one by one into a list in row order, the result is a bag with the same counts, and
+/// it is the only such bag.
 pub fn the_bag_of_entries()
     ensures bag { (entries : List Entry) → IsBag (consolidated_bag entries) }
     ensures alike { (entries : List Entry) → Alike (consolidated_bag entries) entries }
@@ -24,9 +23,8 @@ pub fn the_bag_of_entries()
         → bag ≡ consolidated_bag entries }
 {}
 
-/// The changes of a view are a consolidated list at times that its frontier has passed, which sums
-/// at each of them to the query, from scratch, on the accepted changes; and there is no other such
-/// list.
+/// The changes of a view are a consolidated list at times that its frontier has passed. At each of these times,
+/// the list sums to the query, computed from scratch on the accepted changes. There is no other such list.
 pub fn the_changes_of_a_view<T: Lattice>()
     ensures differences { (p : List Node) → IsPlan p → (s : Session T) (view : ℕ) → view < length p
         → AreDifferences T.below T.cmp p (λ input. fed_to input s.fed)
@@ -37,8 +35,7 @@ pub fn the_changes_of_a_view<T: Lattice>()
         (view_frontier T.below p s view) view us → us ≡ changes_at T.below p s T.cmp T.joined view }
 {}
 
-/// The frontier of a view as it is printed has just the elements of the frontier, each once and in
-/// order.
+/// The printed frontier of a view has exactly the elements of its frontier, each once and in order.
 pub fn the_frontier_of_a_view<T: Lattice>()
     ensures elements { (p : List Node) (s : Session T) (view : ℕ)
         → SameElements (frontier_at T.below p s T.cmp view) (view_frontier T.below p s view) }
@@ -46,8 +43,8 @@ pub fn the_frontier_of_a_view<T: Lattice>()
         → IsStrictlySortedBy T.cmp (frontier_at T.below p s T.cmp view) }
 {}
 
-/// Every node of a plan has a bound, whatever changes its inputs were fed: the bound that the
-/// other laws speak of is there, and by `plan::bounds_are_determined` there is one only.
+/// Every node of a plan has a bound, for any changes that its inputs were fed. So the bound that other laws
+/// speak of exists. By `plan::bounds_are_determined` there is only one.
 pub fn bounds_exist<T: Lattice>()
     ensures { (p : List Node) → IsPlan p → (changes : ℕ → List (Update T)) → (n : ℕ)
         → (bound : ℕ) × IsBound T.below T.cmp p changes n bound }

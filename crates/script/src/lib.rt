@@ -1,25 +1,26 @@
 //! Runs of command files: what a script writes, and how it comes to be written.
 //!
-//! What a script writes has a definition that knows no run: its text (`specs/Text`). A session is
-//! the changes that were accepted so far, where the inputs' frontiers stand, and from where on each
-//! view may be read (`specs/Sessions`). Each command is refused or accepted by that alone, and a
-//! read's rows are the query, from scratch, on the accepted changes at or before its time. The text
-//! knows no workers and no differences, no batches and no boards.
+//! What a script writes is a definition, its text (`specs/Text`). A session is the changes accepted so far, the
+//! inputs' frontiers, and the frontier from which each view may be read (`specs/Sessions`). The session alone
+//! decides whether a command is refused or accepted. The rows of a read are the query, computed from scratch on
+//! the accepted changes at or before its time. The definition of the text mentions no workers, differences,
+//! batches or boards.
 //!
-//! [`run_script`] and [`plain_script`] write exactly that text, or a beginning of it and a fault.
-//! If the fault is a number that is too large, the text of all earlier lines is written whole
-//! (`specs/Ends`). The two calls stand on three things, each of which knows nothing of the others:
+//! [`run_script`] and [`plain_script`] write exactly that text, or a beginning of it followed by a fault. If
+//! the fault is a number that is too large, the text of all earlier lines has been written whole
+//! (`specs/Ends`). Both rest on three parts, each independent of the others:
 //!
-//! - The loop over the lines (`run`, `line`) speaks to an `Engine`, which carries out commands and
-//!   of which is known for which session it stands. A command either changes an input or asks about
-//!   a view. Before it asks, the loop lets the engine catch up.
-//! - There are two engines. `board_engine` has a board of crate `machine`, on which clients'
-//!   commands are events, and one worker (`relay`) that carries on what waits; by the theorems
-//!   about histories its views are then right. `oracle_engine` keeps the changes and works each
-//!   answer out from scratch, by crate `oracle`, so that the text of the first engine can be
-//!   compared with its own.
-//! - What is printed (`printer`) is collected in an `output_buffer` and goes in large pieces to an
-//!   [`Out`], of which is known which bytes it took.
+//! - The loop over the lines (`run`, `line`) talks to an `Engine`, which carries out commands and stands for a
+//!   session. A command
+//! either changes an input or asks about a view. Before a question, the loop lets the engine catch up.
+//! - There are two engines. `board_engine` has a board of crate `machine`: commands that change inputs are
+//!   events there, and one
+//! worker (`relay`) carries on what is in flight. The theorems about histories then say that its views are
+//! right. `oracle_engine` keeps the changes and computes each answer from scratch, by crate `oracle`. So the
+//! text of the first engine can be compared with that of the second.
+//! - Printed text (`printer`) is collected in an `output_buffer` and goes in large pieces to an [`Out`], whose
+//!   contract says which
+//! bytes it took.
 #![tactic(auto)]
 
 mod board_engine;

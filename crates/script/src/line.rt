@@ -1,4 +1,4 @@
-//! One line of a script: its command goes to the engine, and what it answers is printed.
+//! One line of a script: its command goes to the engine, and the answer is printed.
 ghost use Rattle.std.specs.Prelude.{◌≡◌, [], false, IfErr, IsTrue, OnOk};
 ghost use Rattle.grammar.specs.Commands.{IsAbout, IsQuestion};
 ghost use Rattle.grammar.specs.declared.command.Command.TheVariants.{Input, View};
@@ -18,7 +18,7 @@ use grammar::{Command, CommandLine, InputCommand, Script, ViewCommand};
 use std::alloc::Global;
 use update::{Refusal, Times, Update};
 
-// Whether a refusal ends the run, so that it is no line of the text.
+// Whether the refusal ends the run. Such a refusal is never printed as a line.
 fn ends_run(refusal: Refusal) -> bool
     ensures ends { IsTrue result → EndsRun refusal }
     ensures goes_on { result ≡ false → EndsRun refusal → ⊥ }
@@ -62,7 +62,7 @@ fn hand_over<E: Engine>(
     }
 }
 
-// Ends the run: the text of the lines before is put, whole.
+// Ends the run. The whole text of the earlier lines is written first.
 fn end_run<W: Out>(buffer: &mut OutputBuffer, out: &mut W, refusal: Refusal) -> Result<(), RunFault>
     ensures ends { OnOk result ⊥ }
     ensures broke { IfErr result
@@ -75,7 +75,7 @@ fn end_run<W: Out>(buffer: &mut OutputBuffer, out: &mut W, refusal: Refusal) -> 
     Err(RunFault::from(refusal))
 }
 
-// Prints what a command was refused for, unless that ends the run.
+// Prints the refusal of a command, or ends the run if the refusal does.
 fn refuse<W: Out>(
     buffer: &mut OutputBuffer,
     out: &mut W,
@@ -98,7 +98,7 @@ fn refuse<W: Out>(
     Ok(())
 }
 
-// Runs a line that changes an input: it prints nothing, unless the engine refuses it.
+// Runs a line that changes an input. It prints nothing unless the engine refuses the command.
 fn run_update<E: Engine, W: Out>(
     alloc: Global,
     engine: &mut E,
@@ -124,7 +124,7 @@ fn run_update<E: Engine, W: Out>(
     }
 }
 
-// Runs a line that asks about a view. The engine has caught up.
+// Runs a line that asks about a view, once the engine has caught up.
 fn run_query<E: Engine, W: Out>(
     alloc: Global,
     engine: &mut E,
@@ -165,7 +165,7 @@ fn run_query<E: Engine, W: Out>(
     }
 }
 
-// Runs a line that asks about a view: the engine catches up first.
+// Lets the engine catch up, then runs a line that asks about a view.
 fn catch_up_and_query<E: CatchUp, W: Out>(
     alloc: Global,
     engine: &mut E,

@@ -1,12 +1,11 @@
-//! An output that keeps what it took: for tests, and for a caller that wants a run's text as bytes.
+//! An output that keeps the bytes it took. It serves tests, and callers that want a run's text as bytes.
 ghost use Rattle.std.specs.Prelude.{◌≡◌, []};
 
 use crate::outputs::{Out, OutFault};
 use std::alloc::Global;
 use std::marker::Model;
 
-/// An output in memory. A contract sees the bytes that it took. It fails where memory is refused,
-/// and only there.
+/// An output in memory. A contract sees the bytes that it took. It fails only if memory is refused.
 #[derive(Drop)]
 pub struct MemoryOut {
     bytes: Vec<u8>,

@@ -1,12 +1,11 @@
-//! The plain engine: it carries out commands by the plain query of crate `oracle` alone, and knows
-//! neither workers nor boards, batches nor differences that were kept.
+//! The oracle engine: it answers commands by the plain query of crate `oracle` alone. It has no workers, boards
+//! or batches, and it stores no differences.
 //!
-//! It keeps each input's accepted changes, as they came, and where the inputs' frontiers stand;
-//! whatever is asked of a view is worked out from these, from scratch. The invariant is what the
-//! query asks for: each input has its list, at its place in the order of the inputs, and the rows
-//! in it have the input's width. Nothing that was computed is kept, so there is nothing that could
-//! be out of date: this engine is slow, and right for plain reasons. What a command is refused for
-//! is asked where a board asks it (crate `machine`), so that both refuse alike.
+//! It keeps the accepted changes of each input, in the order in which they came, and the inputs' frontiers.
+//! Each answer is computed from these, from scratch. The invariant is what the query requires: each input has a
+//! list, at its index among the inputs, and the rows in it have the input's width. Nothing computed is stored,
+//! so nothing can be out of date. This engine is slow, but it is easy to see why it is right. It tests commands
+//! with the same function as a board (crate `machine`), so both refuse alike.
 ghost use Rattle.std.specs.Prelude.{◌≡◌, ◌<◌, ◌++◌, ℕ, List, [], ◌∷◌, None, Some, length, map, replicate, set, slice_index_or, IfErr, IfOk, IsTrue, OnErr, OnOk};
 ghost use Rattle.std.specs.List.{All};
 ghost use Rattle.lattice.specs.declared.product.Pair.{Pair};
@@ -41,14 +40,14 @@ use std::alloc::Global;
 use std::marker::Model;
 use update::{Bag, Refusal, Times, Update, Updates};
 
-/// All that was accepted, and nothing that follows from it. A contract sees the plan, the changes
-/// and the inputs' frontiers.
+/// The accepted changes and the inputs' frontiers, and nothing derived from them. A contract sees the plan, the
+/// changes and the frontiers.
 #[derive(Drop)]
 pub(crate) struct OracleEngine {
     plan: Plan,
-    // The changes of each input, the oldest first, in the order of the inputs' numbers.
+    // The changes of each input, oldest first, in the order of the inputs' numbers.
     changes: Vec<Vec<Update<Bitime>>>,
-    // Where the inputs stand.
+    // The frontier of each input.
     inputs: InputFrontiers<Bitime>,
 }
 
@@ -72,7 +71,7 @@ impl Model for OracleEngine {
     }) };
 }
 
-// So many lists of no changes.
+// One empty list of changes for each input.
 fn no_changes(alloc: Global, inputs: usize) -> Result<Vec<Vec<Update<Bitime>>>, Refusal>
     ensures none { IfOk result (λ lists. map (λ v. v.items) lists.items ≡ replicate inputs []) }
     ensures refused { IfErr result (λ refusal. refusal ≡ OutOfMemory) }
@@ -84,7 +83,7 @@ fn no_changes(alloc: Global, inputs: usize) -> Result<Vec<Vec<Update<Bitime>>>, 
     Ok(lists)
 }
 
-// One change more in the list of a place.
+// Appends a change to list number `place`.
 fn push_change(
     lists: &mut Vec<Vec<Update<Bitime>>>,
     place: usize,
@@ -102,7 +101,7 @@ fn push_change(
     Ok(())
 }
 
-// What is open for a view: the elements of the frontiers of all inputs that feed it.
+// The times that are still open for a view: the elements of the frontiers of all inputs that feed it.
 fn open_for(
     alloc: Global,
     plan: &Plan,
@@ -165,7 +164,7 @@ impl OracleEngine {
         })
     }
 
-    // Takes a change, or refuses it as a board does.
+    // Accepts a change, or refuses it as a board would.
     fn take_change(&mut self, input: NodeId, update: Update<Bitime>) -> Result<(), Refusal>
         requires { IsTrue (is_input_of self.old.plan input) }
         ensures taken { OnOk result
@@ -192,7 +191,7 @@ impl OracleEngine {
         }
     }
 
-    // Takes a frontier, or refuses it as a board does.
+    // Accepts a new frontier of an input, or refuses it as a board would.
     fn take_frontier(&mut self, input: NodeId, times: Times<Bitime>) -> Result<(), Refusal>
         requires { IsTrue (is_input_of self.old.plan input) }
         ensures taken { OnOk result (self.new ≡ with_input input times self.old) }
@@ -264,24 +263,23 @@ impl CatchUp for OracleEngine {
     }
 }
 
-/// Runs a script without workers, and puts what it writes: every view is worked out from scratch
-/// whenever it is asked for.
+/// Runs a script without workers and writes its text. Every view is computed from scratch each time it is asked
+/// for.
 ///
-/// Where it answers Ok, exactly the script's text was taken. After a fault a beginning of it was;
-/// after `Refused(10)` this is the text of the lines before the one that met it, whole:
+/// If the result is Ok, exactly the script's text was taken. After a fault, a beginning of it was. After
+/// `Refused(10)`, that beginning is the whole text of the lines before the one that overflowed:
 ///
-/// | Fault | Where |
+/// | Fault | When |
 /// |---|---|
 /// | `Refused(1)` | an allocation was refused |
-/// | `Refused(10)` | a number is too large for 64 bits: how often a row counts, at a view or at a node above it. This needs changes by which some node has a bound of 2 to the 63 or more |
-/// | `Write` | the output failed, which no other fault goes with |
+/// | `Refused(10)` | a number does not fit in 64 bits, at a view or at a node above it. This happens only if the accepted changes give some node a bound of 2 to the 63 or more |
+/// | `Write` | the output failed; after any other fault, no call of the output has failed |
 ///
-/// Cost: a change is linear in the nodes of the plan and the elements of the inputs' frontiers. A
-/// read goes over all changes that came before it, and sorts what each node above the view reads
-/// and gives, so that a script of reads and changes takes the square of its length. A view's
-/// changes take such a query for each time of the join closure, which has the times of all
-/// changes and all their joins: as many at most as the product of the valid and the system times
-/// that occur.
+/// Cost: a change is linear in the nodes of the plan and in the elements of the inputs' frontiers. A read goes
+/// over all earlier changes, and sorts what each node above the view reads and writes. So a script of reads and
+/// changes takes time quadratic in its length. The changes of a view take one such query for each time of the
+/// join closure, that is, for the times of all changes and all their joins. The closure has at most as many
+/// times as the number of distinct valid times multiplied by the number of distinct system times.
 pub fn plain_script<W: Out>(alloc: Global, script: &Script, out: &mut W) -> Result<(), RunFault>
     ensures written { OnOk result (W.took out.old (text script.now) 0 out.new) }
     ensures beginning { IfErr result (λ fault. (part : List ℕ) × IsBeginning part (text script.now)

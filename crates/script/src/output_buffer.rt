@@ -1,8 +1,8 @@
-//! Text on its way to an output: gathered, and put in large pieces.
+//! Text on its way to an output, collected and written in large pieces.
 //!
-//! A run writes many short lines, and each call of an output may cost a system call. So text waits
-//! here until there is a piece worth putting. Numbers and rows are printed straight into the
-//! waiting text, without an allocation each.
+//! A run prints many short lines, and each call of an output may cost a system call. So text waits here until a
+//! piece is large enough. Numbers and rows are printed straight into the waiting text, without an allocation
+//! for each.
 ghost use Rattle.std.specs.Prelude.{◌≡◌, ◌++◌, ℕ, List, [], OnErr, OnOk};
 ghost use Rattle.script.specs.Outs.{IsBeginning, Wrote, Broke};
 ghost use Rattle.script.specs.Printing.{refused_text, read_text, count_text, update_text, element_text};
@@ -15,7 +15,7 @@ use std::alloc::{AllocError, Global};
 use std::marker::Model;
 use update::{Refusal, Update};
 
-// From so many bytes on a piece is put.
+// The size, in bytes, from which a piece is written.
 const PIECE: usize = 65_536;
 
 /// Text that waits for an output. A contract sees its bytes.
@@ -41,7 +41,7 @@ impl OutputBuffer {
         }
     }
 
-    // Puts all that waits.
+    // Writes all waiting text.
     pub(crate) fn flush<W: Out>(&mut self, out: &mut W) -> Result<(), OutFault>
         ensures all { OnOk result (W.took out.old self.old 0 out.new) }
         ensures empty { OnOk result (self.new ≡ []) }
@@ -53,7 +53,7 @@ impl OutputBuffer {
         Ok(())
     }
 
-    // Puts what waits, if it is a piece worth a call.
+    // Writes the waiting text if it is large enough to be worth a call.
     pub(crate) fn pass_on<W: Out>(&mut self, out: &mut W) -> Result<(), OutFault>
         ensures wrote { OnOk result (Wrote W.took out.old self.old [] out.new self.new) }
         ensures broke { OnErr result (Broke W.took out.old self.old [] 1 out.new) }
@@ -64,7 +64,7 @@ impl OutputBuffer {
         self.flush(out)
     }
 
-    // That the command of a line was refused.
+    // `refused LINE CODE`: the command of the line was refused.
     pub(crate) fn print_refused(&mut self, line: u64, refusal: Refusal) -> Result<(), AllocError>
         ensures { OnOk result (self.new ≡ self.old ++ refused_text line refusal) }
     {
@@ -72,7 +72,7 @@ impl OutputBuffer {
         writeln!(self.text, "refused {line} {code}")
     }
 
-    // What is read, and how many rows there are.
+    // `read VIEW VALID SYSTEM ROWS`: the header of a read's rows.
     pub(crate) fn print_read(
         &mut self,
         view: &str,
@@ -86,7 +86,7 @@ impl OutputBuffer {
         writeln!(self.text, "read {view} {valid} {system} {rows}")
     }
 
-    // What is asked for of a view, and how many lines of it there are.
+    // `WORD VIEW LINES`: the header of a view's changes or of its frontier.
     pub(crate) fn print_count(
         &mut self,
         word: &str,
@@ -98,7 +98,7 @@ impl OutputBuffer {
         writeln!(self.text, "{word} {view} {lines}")
     }
 
-    // A change: its time, by how much, and the row.
+    // `VALID SYSTEM DIFF ROW`: one change of a view.
     pub(crate) fn print_update(&mut self, update: &Update<Bitime>) -> Result<(), AllocError>
         ensures { OnOk result (self.new ≡ self.old ++ update_text update.now) }
     {
@@ -109,7 +109,7 @@ impl OutputBuffer {
         writeln!(self.text, "{valid} {system} {diff} {row}")
     }
 
-    // A time alone.
+    // `VALID SYSTEM`: one element of a frontier.
     pub(crate) fn print_element(&mut self, time: Bitime) -> Result<(), AllocError>
         ensures { OnOk result (self.new ≡ self.old ++ element_text time) }
     {
@@ -118,7 +118,7 @@ impl OutputBuffer {
         writeln!(self.text, "{valid} {system}")
     }
 
-    // A row, behind how often it counts.
+    // `COUNT ROW`: one row of a read.
     pub(crate) fn print_row(&mut self, count: i64, row: &Row) -> Result<(), AllocError>
         ensures { OnOk result
             (self.new ≡ self.old ++ entry_text (record { row = row.now; count = count })) }

@@ -1,38 +1,40 @@
-//! Outputs, by what they mean: which bytes they took, and how many calls failed.
+//! Outputs: which bytes they took, and how many calls failed.
 //!
-//! An output may take less than it is given, as a pipe does, so a writer puts what is left until
-//! nothing is. Nothing is said of where the bytes go: that is the output's own.
+//! An output may take fewer bytes than it is given, as a pipe does. The writer then puts the rest, until
+//! nothing is left. The contract does not say where the bytes go: that is up to each output.
 ghost use Rattle.std.specs.Prelude.{ℕ, ◌<◌, ◌≤◌, ◌+◌, ◌++◌, List, [], IfOk, OnErr, OnOk, length, take};
 ghost use Rattle.script.specs.Outs.{IsBeginning};
 
 use thiserror::Error;
 
-/// Bytes could not be put.
+/// Bytes could not be written.
 #[derive(Clone, Copy, Debug, PartialEq, Eq, Error)]
 #[error("the bytes could not be put")]
 pub struct OutFault;
 
-/// Where bytes go.
+/// A place to write bytes to.
 pub trait Out {
-    /// From one value to another these bytes were taken, in this order, and so many calls failed.
+    /// Between the two states of the output, these bytes were taken, in this order, and this many calls failed.
     ghost took: { Self → List ℕ → ℕ → Self → Type 0 };
 
-    /// Takes some bytes from the front, one at least, and says how many; or fails, and takes none.
+    /// Takes at least one byte from the front and returns how many it took; or fails and takes none.
     fn put(&mut self, bytes: &[u8]) -> Result<usize, OutFault>
         requires { 0 < length bytes.now }
         ensures some { IfOk result (λ n. (0 < n) × (n ≤ length bytes.now)
             × took self.old (take n bytes.now) 0 self.new) }
         ensures failed { OnErr result (took self.old [] 1 self.new) };
 
-    /// Without a call nothing is taken.
+    /// Without a call, nothing is taken.
     ghost at_once: { (s : Self) → took s [] 0 s };
 
-    /// Calls one after another take their bytes one after another.
+    /// The bytes of one call are followed by those of the next.
     ghost in_turn: { (s t u : Self) (xs ys : List ℕ) (m n : ℕ) → took s xs m t → took t ys n u
         → took s (xs ++ ys) (m + n) u };
 }
 
-/// Puts all the bytes, or, where a call fails, a beginning of them.
+/// Puts all the bytes. If a call fails, only a beginning of them was taken.
+///
+/// Cost: at most one call for each byte.
 pub fn put_all<W: Out>(out: &mut W, bytes: &[u8]) -> Result<(), OutFault>
     ensures all { OnOk result (W.took out.old bytes.now 0 out.new) }
     ensures beginning { OnErr result ((part : List ℕ) × IsBeginning part bytes.now

@@ -1,5 +1,4 @@
-//! What a command asks for, printed line by line: each into the waiting text, which goes on to the
-//! output in large pieces.
+//! Prints answers line by line into the output buffer, which writes them in large pieces.
 ghost use Rattle.std.specs.Prelude.{◌<◌, IfErr, OnOk};
 ghost use Rattle.update.specs.Text.{entry_text};
 ghost use Rattle.script.specs.Engines.{IsEnd, failures};
@@ -13,7 +12,7 @@ use lattice::Bitime;
 use row::Row;
 use update::{Bag, Update};
 
-// A row, behind how often it counts.
+// Prints a row with its count.
 fn print_entry<W: Out>(
     buffer: &mut OutputBuffer,
     out: &mut W,
@@ -33,7 +32,7 @@ fn print_entry<W: Out>(
     Ok(())
 }
 
-/// What is read of a view at a time: how many rows, and each of them.
+/// Prints the rows of a view at a time: the header with their number, then each row.
 pub(crate) fn print_rows<W: Out>(
     buffer: &mut OutputBuffer,
     out: &mut W,
@@ -56,7 +55,7 @@ pub(crate) fn print_rows<W: Out>(
     Ok(())
 }
 
-// One change of a view.
+// Prints one change of a view.
 fn print_update<W: Out>(
     buffer: &mut OutputBuffer,
     out: &mut W,
@@ -74,7 +73,7 @@ fn print_update<W: Out>(
     Ok(())
 }
 
-/// The changes of a view: how many, and each of them.
+/// Prints the changes of a view: the header with their number, then each change.
 pub(crate) fn print_changes<W: Out>(
     buffer: &mut OutputBuffer,
     out: &mut W,
@@ -96,7 +95,7 @@ pub(crate) fn print_changes<W: Out>(
     Ok(())
 }
 
-// One element of a frontier.
+// Prints one element of a frontier.
 fn print_element<W: Out>(
     buffer: &mut OutputBuffer,
     out: &mut W,
@@ -114,7 +113,7 @@ fn print_element<W: Out>(
     Ok(())
 }
 
-/// The frontier of a view: how many elements it has, and each of them.
+/// Prints the frontier of a view: the header with the number of its elements, then each of them.
 pub(crate) fn print_frontier<W: Out>(
     buffer: &mut OutputBuffer,
     out: &mut W,

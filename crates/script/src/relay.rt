@@ -1,10 +1,10 @@
-//! The worker that carries bundles through a plan of linear nodes, on the caller's thread.
+//! A worker on the caller's thread that carries bundles through a plan of linear nodes.
 //!
-//! It goes through the nodes once, in the order of their numbers, and at each takes what waits
-//! there, applies the node, and gives what comes out. A node's readers have greater numbers, so
-//! nothing is sent to a node that is done, and one pass leaves nothing in flight. A linear node
-//! needs no time and no state: each bundle is a whole piece, after which the worker holds nothing.
-//! So between two pieces the node law holds at every time, and one piece more keeps it.
+//! It visits the nodes once, in the order of their numbers. At each node it takes the waiting bundles one by
+//! one, applies the node, and gives the output. The readers of a node have greater numbers, so nothing is sent
+//! to a node that was already visited, and one pass leaves nothing in flight. A linear node needs no time and
+//! no state, so after each bundle the worker holds nothing. The node law therefore holds at every time between
+//! two bundles, and handling one more bundle keeps it.
 ghost use Rattle.std.specs.Prelude.{◌≡◌, ◌<◌, suc, [], ◌∷◌, List, Some, IfErr, IfOk, OnOk, length, slice_get};
 ghost use Rattle.update.specs.declared.refusal.Refusal.TheVariants.{OutOfMemory};
 ghost use Rattle.linear.specs.Applied.{linear_output};
@@ -22,14 +22,13 @@ use plan::NodeId;
 use std::alloc::Global;
 use update::Refusal;
 
-/// Carries whatever is in flight through the plan, until nothing is. The worker then holds nothing
-/// and has nothing in hand: all is quiet. No client does anything meanwhile.
+/// Carries everything in flight through the plan until nothing is left. Afterwards the worker holds nothing and
+/// has no bundle in hand. No client acts in between.
 ///
-/// Refused only with `OutOfMemory`; then part of the work may be done, by events like those of all
-/// of it, and the worker may have a piece in hand.
+/// Refused only with `OutOfMemory`. Then part of the work may be done, by events of the same kinds, and the
+/// worker may have a bundle in hand.
 ///
-/// Cost: linear in the nodes, and for each bundle what taking, applying, cutting and giving it
-/// cost.
+/// Cost: linear in the nodes, plus the cost of taking, applying, cutting and giving each bundle.
 pub(crate) fn relay<T: Minimum>(
     alloc: Global,
     routing: &Routing,
@@ -50,7 +49,7 @@ pub(crate) fn relay<T: Minimum>(
     Ok(())
 }
 
-// Relays what waits at a node. What is sent meanwhile waits at later ones.
+// Relays the bundles that wait at a node. Everything sent meanwhile waits at later nodes.
 fn relay_node<T: Minimum>(
     alloc: Global,
     routing: &Routing,
@@ -72,7 +71,7 @@ fn relay_node<T: Minimum>(
     Ok(())
 }
 
-// Relays the first bundle of a place: takes it, applies the node, and gives what comes out.
+// Relays the first bundle at a place: takes it, applies the node, and gives the output.
 fn relay_one<T: Minimum>(
     alloc: Global,
     routing: &Routing,
@@ -98,7 +97,7 @@ fn relay_one<T: Minimum>(
     Ok(())
 }
 
-// Takes the first bundle of a place, and applies the node to it.
+// Takes the first bundle at a place and applies the node to it.
 fn compute<T: Minimum>(board: &mut Board<T>, place: Site) -> Result<Emission<T>, Refusal>
     requires idle { IsIdle board.old }
     requires due { AreDue board.old.dataflow place.node board.old.stations }
@@ -121,7 +120,7 @@ fn compute<T: Minimum>(board: &mut Board<T>, place: Site) -> Result<Emission<T>,
     board.known();
     let bundle = board.take(place, 0)?;
     let Bundle { place, updates, .. } = bundle;
-    // No difference is too large to be negated, so this is not refused.
+    // No diff here is too large to be negated, so this cannot be refused.
     let updates = linear::apply(board.plan().node(place.node), updates.into_vec()).unwrap();
     Ok(Emission {
         node: place.node,
@@ -130,7 +129,7 @@ fn compute<T: Minimum>(board: &mut Board<T>, place: Site) -> Result<Emission<T>,
     })
 }
 
-// Cuts what was computed, and gives it. The worker then holds nothing there.
+// Cuts the output into bundles and gives it. The worker then holds nothing there.
 fn hand_on<T: Minimum>(
     alloc: Global,
     routing: &Routing,

@@ -1,4 +1,4 @@
-//! The lines of a script, one after another.
+//! The loop over the lines of a script, and a run by one worker.
 ghost use Rattle.std.specs.Prelude.{◌≡◌, ◌≢◌, ◌⊎◌, ◌↔◌, ◌++◌, ℕ, List, [], IfErr, OnOk, IsErrOf};
 ghost use Rattle.script.specs.Ends.{IsTextBefore, IsTextBeforeOverflow};
 ghost use Rattle.update.specs.declared.refusal.Refusal.TheVariants.{Overflow};
@@ -18,7 +18,7 @@ use grammar::Script;
 use std::alloc::Global;
 use update::Refusal;
 
-// Carries out all lines.
+// Carries out all lines in order. The text of the last ones may still wait in the buffer.
 fn run_lines<E: CatchUp, W: Out>(
     alloc: Global,
     engine: &mut E,
@@ -51,8 +51,8 @@ fn run_lines<E: CatchUp, W: Out>(
     Ok(())
 }
 
-/// Carries out a script on an engine that has its plan: what is taken is what the lines write in
-/// the session for which the engine stands.
+/// Carries out a script on an engine that has its plan. The output takes what the lines write in the session
+/// for which the engine stands.
 pub(crate) fn run<E: CatchUp, W: Out>(
     alloc: Global,
     engine: &mut E,
@@ -82,24 +82,24 @@ pub(crate) fn run<E: CatchUp, W: Out>(
     Ok(())
 }
 
-/// Runs a script, and puts what it writes.
+/// Runs a script with workers and writes its text.
 ///
-/// Where it answers Ok, exactly the script's text was taken. After a fault a beginning of it was;
-/// after `Refused(10)` this is the text of the lines before the one that met it, whole:
+/// If the result is Ok, exactly the script's text was taken. After a fault, a beginning of it was. After
+/// `Refused(10)`, that beginning is the whole text of the lines before the one that overflowed:
 ///
-/// | Fault | Where |
+/// | Fault | When |
 /// |---|---|
-/// | `Refused(23)` | the number of workers is not 1: no other is taken yet |
+/// | `Refused(23)` | the number of workers is not 1; no other number is supported yet |
 /// | `Refused(1)` | an allocation was refused |
-/// | `Refused(10)` | a row counts more often than a 64-bit number can say. This needs changes by which some node has a bound of 2 to the 63 or more |
-/// | `Write` | the output failed, which no other fault goes with |
+/// | `Refused(10)` | the count of a row does not fit in 64 bits. This happens only if the accepted changes give some node a bound of 2 to the 63 or more |
+/// | `Write` | the output failed; after any other fault, no call of the output has failed |
 ///
-/// Cost: for each line what its event costs on the board, and for a change that of carrying it
-/// along every path of the plan: a node that another reads at both of its ports is passed on twice,
-/// and so a tower of n such nodes passes it on 2 to the n times. A read costs what its view's rows
-/// are and what was captured since the last read, where that was at a time at or before its own,
-/// and else a sort of what the view captured up to its time. A question for changes sorts all that
-/// the view captured at times that are passed.
+/// Cost: each line costs what its event costs on the board. A change also costs what it takes to carry it along
+/// every path of the plan. If a node reads another at both of its ports, it gets each change twice, so a tower
+/// of n such nodes passes a change on 2 to the n times. A read costs the size of its view's rows plus the
+/// number of updates captured since the view's last read, if that read was at a time at or before this one.
+/// Otherwise it costs a sort of everything that the view captured up to its time. A question for changes sorts
+/// everything that the view captured at passed times.
 pub fn run_script<W: Out>(
     alloc: Global,
     script: &Script,

@@ -1,11 +1,11 @@
-//! Antichains: the calls that take memory, where an allocation is refused, and joined antichains
-//! worked out by hand.
+//! Antichains: the calls that take memory, also after an allocation was refused, and joins of antichains that
+//! were worked out by hand.
 use crate::sketches::at;
 use antichain::{Antichain, NoMemory};
 use lattice::Bitime;
 use std::alloc::Global;
 
-// A copy, and what is beyond both it and the antichain, which is the antichain again.
+// The antichain joined with a copy of itself, which gives the antichain again.
 fn joined_with_copy(frontier: &Antichain<Bitime>) -> Result<Antichain<Bitime>, NoMemory> {
     let copy = frontier.clone()?;
     frontier.joined(&copy)
@@ -41,8 +41,8 @@ fn antichain(alloc: Global, times: &[Bitime]) -> Result<Antichain<Bitime>, NoMem
     Ok(antichain)
 }
 
-// A time is beyond the joined antichain exactly where it is beyond both, which a union or an
-// intersection of the elements would miss.
+// A time is beyond the joined antichain if and only if it is beyond both. A union or an intersection of the
+// elements would get this wrong.
 #[test]
 fn joined_antichains(rt: HostRuntime) -> Result<(), NoMemory> {
     let corner = antichain(rt.alloc(), &[at((0, 3)), at((3, 0))])?;

@@ -1,5 +1,4 @@
-//! Batches: that they are sealed and merged where there is memory, and in which order their updates
-//! lie.
+//! Batches: sealing and merging succeed if there is memory, and the updates are in the right order.
 use crate::sketches::{at, list};
 use antichain::Antichain;
 use batch::{Batch, BatchReader, Builder, merge};
@@ -9,7 +8,7 @@ use std::process::Abort;
 use std::test::Fail;
 use update::{Refusal, Update};
 
-// The batch of these updates, between the frontiers of one time each.
+// The batch of these updates, between two frontiers of one time each.
 fn sealed(
     alloc: Global,
     lower: (u64, u64),
@@ -24,7 +23,7 @@ fn sealed(
     builder.seal(&lower, &Antichain::from_elem(alloc, at(upper)))
 }
 
-// The batch has these updates in this order.
+// Checks that the batch has these updates, in this order.
 fn assert_reads<B: BatchReader<Time = Bitime>>(
     rt: &impl Abort,
     batch: &B,
@@ -38,7 +37,8 @@ fn assert_reads<B: BatchReader<Time = Bitime>>(
     }
 }
 
-// Rows before times, unlike a consolidated list, and a row before those that it begins.
+// The order is by row and then by time, unlike in a consolidated list. A row comes before a longer row that
+// begins with it.
 #[test]
 fn batches_are_in_order_of_rows(rt: HostRuntime) -> Result<(), Fail> {
     let given = list(
@@ -59,7 +59,7 @@ fn batches_are_in_order_of_rows(rt: HostRuntime) -> Result<(), Fail> {
     Ok(())
 }
 
-// Two neighbours, whose updates come by turns, and what they make.
+// Two neighbouring batches with interleaved rows, merged.
 fn merged(alloc: Global) -> Result<Batch<Bitime>, Refusal> {
     let first = list(alloc, &[((0, 3), &[7], 1), ((3, 9), &[8], 2)])?;
     let second = list(alloc, &[((4, 4), &[6], 1), ((4, 9), &[7], -3)])?;
@@ -78,7 +78,7 @@ fn merging_takes_memory(rt: HostRuntime) -> Result<(), Fail> {
     Ok(())
 }
 
-// What is pushed and taken back leaves nothing behind.
+// An update and its retraction cancel out.
 #[test]
 fn what_takes_itself_back_is_gone(rt: HostRuntime) -> Result<(), Fail> {
     let pushed = list(
@@ -90,8 +90,8 @@ fn what_takes_itself_back_is_gone(rt: HostRuntime) -> Result<(), Fail> {
     Ok(())
 }
 
-// (3, 9) is neither before (0, 0) nor at or after (4, 4); (4, 4) is outside. Nor is there a batch
-// of a total that is no number of 64 bits.
+// (3, 9) is inside: it is not before (0, 0), and not at or after (4, 4). But (4, 4) is outside. A batch whose
+// total does not fit in 64 bits is refused too.
 #[test]
 fn strays_and_large_totals_are_refused(rt: HostRuntime) -> Result<(), Fail> {
     let inside = list(rt.alloc(), &[((3, 9), &[7], 1)])?;
@@ -108,7 +108,7 @@ fn strays_and_large_totals_are_refused(rt: HostRuntime) -> Result<(), Fail> {
     Ok(())
 }
 
-// Between (4, 4) and (4, 5) something may have happened.
+// The two batches leave a gap from (4, 4) to (4, 5), in which something may have happened.
 #[test]
 fn batches_with_a_gap_are_not_merged(rt: HostRuntime) -> Result<(), Fail> {
     let first = sealed(rt.alloc(), (0, 0), (4, 4), &[])?;

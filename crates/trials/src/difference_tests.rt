@@ -1,6 +1,6 @@
-//! Differences of small views, worked out by hand from what the view is at each time. What no
-//! clause says is that there is a list at all; and where two changes cannot be compared, that the
-//! correction at the join of their times is there. The last tests stand at the end of 64 bits.
+//! Differences of small views, worked out by hand from the view's rows at each time. No clause says that a list
+//! is returned at all. These tests show that it is, and that two changes at incomparable times get their
+//! correction at the join of their times. The last test is at the limit of 64 bits.
 use crate::sketches::{arrange, at, built, input, join, list, reduction, view};
 use lattice::Bitime;
 use oracle::{are_wide, differences, evaluate};
@@ -10,10 +10,10 @@ use std::process::Abort;
 use std::test::Fail;
 use update::{Bag, Refusal, Update};
 
-// A change: its time, the row and how often.
+// A change: its time, its row and its diff.
 type Change = ((u64, u64), &'static [i64], i64);
 
-// The differences of the last node of the plan, once all inputs are closed.
+// The differences of the plan's last node, once all inputs are closed.
 fn listed(
     rt: &impl Abort,
     alloc: Global,
@@ -39,7 +39,7 @@ fn assert_listed(
     Ok(())
 }
 
-// The reduction of one input by its first column has these differences.
+// Checks the differences of the reduction of one input by its first column.
 fn assert_reduces(
     rt: &impl Abort,
     alloc: Global,
@@ -51,7 +51,7 @@ fn assert_reduces(
     assert_listed(rt, alloc, &plan, &[list(alloc, changes)?], want)
 }
 
-// 7 is there once at (3, 3) and not twice, though no change has that time.
+// 7 counts once at (3, 3) and not twice, although no change has that time.
 #[test]
 fn distinct_at_a_time_that_no_change_has(rt: HostRuntime) -> Result<(), Fail> {
     let changes: [Change; 2] = [((0, 3), &[7], 1), ((3, 0), &[7], 1)];
@@ -60,7 +60,7 @@ fn distinct_at_a_time_that_no_change_has(rt: HostRuntime) -> Result<(), Fail> {
     Ok(())
 }
 
-// A row that was late for day 5 joins the one of day 10 where it is known.
+// A row for day 5 comes late. From then on it counts together with the row of day 10.
 #[test]
 fn a_retroactive_count(rt: HostRuntime) -> Result<(), Fail> {
     let changes: [Change; 2] = [((10, 1), &[1, 8], 1), ((5, 2), &[1, 9], 1)];
@@ -74,8 +74,8 @@ fn a_retroactive_count(rt: HostRuntime) -> Result<(), Fail> {
     Ok(())
 }
 
-// Of three changes no two can be compared: each two meet at a join, and all three at (4, 4), where
-// nothing changes.
+// No two of the three changes are comparable. Each two meet at a join, and all three at (4, 4), where nothing
+// changes.
 #[test]
 fn three_changes_under_distinct(rt: HostRuntime) -> Result<(), Fail> {
     let changes: [Change; 3] = [((0, 4), &[7], 1), ((2, 2), &[7], 1), ((4, 0), &[7], 1)];
@@ -90,7 +90,8 @@ fn three_changes_under_distinct(rt: HostRuntime) -> Result<(), Fail> {
     Ok(())
 }
 
-// The same, counted: at (4, 4) the one row goes, both of the two go, and the three comes.
+// The same changes under count. At (4, 4) the row with 1 comes back once, the row with 2 goes twice, and the
+// row with 3 comes.
 #[test]
 fn three_changes_under_count(rt: HostRuntime) -> Result<(), Fail> {
     let changes: [Change; 3] = [((0, 4), &[7], 1), ((2, 2), &[7], 1), ((4, 0), &[7], 1)];
@@ -110,7 +111,7 @@ fn three_changes_under_count(rt: HostRuntime) -> Result<(), Fail> {
     Ok(())
 }
 
-// The least row comes, a lesser one takes its place, and goes again.
+// The least row comes, then a smaller row replaces it, and then the smaller row goes again.
 #[test]
 fn a_retraction_under_min(rt: HostRuntime) -> Result<(), Fail> {
     let changes: [Change; 3] = [
@@ -129,7 +130,7 @@ fn a_retraction_under_min(rt: HostRuntime) -> Result<(), Fail> {
     Ok(())
 }
 
-// Both copies of a row meet themselves, and each other in both orders.
+// Each of the two updates joins itself, and the two join each other in both orders.
 #[test]
 fn a_join_with_itself(rt: HostRuntime) -> Result<(), Fail> {
     let plan = built(rt.alloc(), &[input(1), arrange(0, 1), join(1, 1), view(2)])?;
@@ -139,7 +140,7 @@ fn a_join_with_itself(rt: HostRuntime) -> Result<(), Fail> {
     Ok(())
 }
 
-// Two inputs of so many columns, joined by the first.
+// Two inputs of this width, joined by the first column.
 fn joined(alloc: Global, width: usize) -> Result<Plan, Refusal> {
     let nodes = [
         input(width),
@@ -152,7 +153,7 @@ fn joined(alloc: Global, width: usize) -> Result<Plan, Refusal> {
     built(alloc, &nodes)
 }
 
-// Rows of two inputs meet at the join of their times, which neither has.
+// The rows of two inputs meet at the join of their times. Neither input has a change at that time.
 #[test]
 fn a_join_of_two_inputs(rt: HostRuntime) -> Result<(), Fail> {
     let changes = [
@@ -164,7 +165,7 @@ fn a_join_of_two_inputs(rt: HostRuntime) -> Result<(), Fail> {
     Ok(())
 }
 
-// How often 7 is in both of two inputs, which have it so often each.
+// The join of two inputs that hold the row 7 this many times.
 fn met(rt: &impl Abort, alloc: Global, left: i64, right: i64) -> Result<Bag, Refusal> {
     let plan = joined(alloc, 1)?;
     let changes = [
@@ -177,7 +178,7 @@ fn met(rt: &impl Abort, alloc: Global, left: i64, right: i64) -> Result<Bag, Ref
     evaluate(alloc, &plan, view, &changes, at((0, 0)))
 }
 
-// 2147483647 squared is a number of 64 bits; twice 2 to the 62 is none.
+// The square of 2147483647 fits in 64 bits. Twice 2 to the 62 does not.
 #[test]
 fn products_are_exact_to_the_end(rt: HostRuntime) -> Result<(), Fail> {
     let bag = met(&rt, rt.alloc(), 2147483647, 2147483647)?.to_string(rt.alloc())?;

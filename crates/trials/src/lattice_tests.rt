@@ -1,6 +1,6 @@
-//! Representatives, worked out by hand at two axes and at three. Their contract is the definition,
-//! so these rows show that the definition means what it should: the times that readers as of a
-//! frontier cannot tell apart.
+//! Representatives with two and with three axes, worked out by hand. Their contract is the definition. So these
+//! rows show that the definition means what it should: two times have the same representative if readers as of
+//! the frontier cannot tell them apart.
 use crate::times::at;
 use lattice::{Bitime, Pair, representative};
 
@@ -12,8 +12,8 @@ fn at_third(valid: u64, system: u64, third: u64) -> Pair<Bitime, u64> {
     }
 }
 
-// As of two times that cannot be compared. A join with one of them alone would move (3, 3), and the
-// meet of both would lose (1, 9).
+// As of two times that cannot be compared. A join with only one of them would move (3, 3), and the meet of both
+// would lose (1, 9).
 #[test]
 fn representatives_as_of_two_times(rt: HostRuntime) {
     let frontier = [at(2, 5), at(5, 2)];
@@ -31,7 +31,7 @@ fn representatives_as_of_two_times(rt: HostRuntime) {
     }
 }
 
-// The third axis is met apart from the other two.
+// The meet is taken on the third axis separately from the other two.
 #[test]
 fn representatives_at_three_axes(rt: HostRuntime) {
     let frontier = [at_third(2, 5, 1), at_third(5, 2, 4)];

@@ -1,19 +1,17 @@
-//! Trials: what no clause of the libraries says, seen by calling their public functions.
+//! Trials: tests of what no clause of the libraries says. They call only public functions.
 //!
-//! Contracts pin nearly every answer, and the command files of `cases/` show what the program makes
-//! of the rest, at no cost of proof. What is left stands here: that a call with ample memory
-//! succeeds at all, where its contract would allow that it is always refused; that a call whose
-//! memory was refused succeeds once there is memory (the tests with the word `memory` in their
-//! names, which `./refusals` runs); and small worked examples of what no command file reaches yet.
-//! The expected answers are worked out by hand.
+//! Contracts fix nearly every answer. The command files of `cases/` show most of the rest on the built program,
+//! at no cost of proof. What is left is tested here: that a call with enough memory succeeds at all, although
+//! its contract would allow it to be refused every time; that a call whose memory was refused succeeds once
+//! there is memory (the tests with `memory` in their names, which `./refusals` runs); and small worked examples
+//! of what no command file reaches yet. The expected answers were worked out by hand.
 //!
-//! Tests stand in no other crate. The merge gate proves a crate that has some twice, with them and
-//! without, and most of a large crate's proof knows nothing of its tests: here they are proved
-//! once, over libraries that are finished. They are proved like all else, some for half a minute of
-//! a processor, and so there are few.
+//! No other crate has tests. The merge gate proves a crate with tests twice, with and without them, and most
+//! proofs of a large crate do not depend on its tests. Here they are proved once, over finished libraries.
+//! Tests are proved like all other code, and some take half a minute of processor time, so there are few.
 //!
-//! There is one function to call, [`at`], by which all tests name times. What the tests are about
-//! stands in the crates below, and so do its wrong bodies.
+//! This crate exports one function, [`at`], with which all tests write times. The code under test is in the
+//! crates below, and so are its must-fail edits.
 #![tactic(auto)]
 
 #[cfg(test)]

@@ -1,10 +1,10 @@
-//! What a map makes of a list.
+//! The output of a map on a list of updates.
 use crate::sketches::{list, map};
 use linear::{apply, takes_rows};
 use row::Item;
 use std::test::Fail;
 
-// Columns moved and made up. Rows of one image stay apart, also where they would cancel, and each
+// Columns are moved and made up. Rows with the same image stay separate, even if they would cancel, and each
 // keeps its time.
 #[test]
 fn maps_make_images(rt: HostRuntime) -> Result<(), Fail> {

@@ -1,4 +1,4 @@
-//! Boards and routings: that their calls succeed where there is memory, and once there is.
+//! Boards and routings: their calls succeed if there is memory, and after a refusal once there is.
 use crate::sketches::{arrange, at, built, input, list, view};
 use lattice::Bitime;
 use machine::{Board, Bundles, Emission, Routing};
@@ -9,16 +9,16 @@ use std::process::Abort;
 use std::test::Fail;
 use update::{Refusal, Times, Update};
 
-// The number of the client, behind those of the workers.
+// The client's number, which is greater than those of the workers.
 const CLIENT: usize = 7;
 
-// A board of an input of one column, and a view of it, for two workers.
+// A board for two workers, with one input of one column and a view of it.
 fn opened(alloc: Global) -> Result<Board<Bitime>, Refusal> {
     Board::open(alloc, built(alloc, &[input(1), view(0)])?, 2)
 }
 
-// Feeds the row 7 at (0, 0). That the first node is an input and the client no worker is tested
-// here, since `feed` asks for it.
+// Feeds the row 7 at (0, 0). The asserts show that the first node is an input and that the client is not a
+// worker, as `feed` requires.
 fn fed(rt: &impl Abort, alloc: Global, board: &mut Board<Bitime>) -> Result<(), Refusal> {
     let input = NodeId::new(0);
     let there = input.number() < board.plan().len();
@@ -54,8 +54,8 @@ fn advanced(rt: &impl Abort, alloc: Global, board: &mut Board<Bitime>) -> Result
     board.advance(CLIENT, input, times(alloc, (0, 1))?)
 }
 
-// The change lies on the board and is not settled, so the view has one time in its frontier and no
-// change.
+// Asks for the view's frontier and changes. If nothing was fed, the frontier has one time and there are no
+// changes.
 fn is_answered(rt: &impl Abort, board: &mut Board<Bitime>) -> Result<bool, Refusal> {
     let view = NodeId::new(1);
     let there = view.number() < board.plan().len();
@@ -100,8 +100,8 @@ fn answers_take_memory(rt: HostRuntime) -> Result<(), Fail> {
     Ok(())
 }
 
-// The rows 7 and 4, which a worker of two gave at an input, cut for the readers of the input: an
-// arrange node, at which each row has a worker of its own, and a view.
+// The rows 7 and 4, given by worker 0 of two at an input, cut for the input's readers. These are an arrange
+// node, which sends each row to a different worker, and a view.
 fn cut(alloc: Global) -> Result<Bundles<Bitime>, Refusal> {
     let plan = built(alloc, &[input(1), arrange(0, 1), view(0)])?;
     let routing = Routing::of(alloc, &plan, 2)?;

@@ -1,6 +1,6 @@
-//! The plain query and its differences, for the nodes that no command file reaches: that there is
-//! an answer at all, and that the definition is the one that is meant. Differences come also at the
-//! join of two times that cannot be compared.
+//! The plain query and its differences, for the nodes that no command file reaches. The tests show that there
+//! is an answer at all, and that the definition is the intended one. There are differences also at the join of
+//! two incomparable times.
 use crate::sketches::{arrange, at, built, input, join, list, reduction, view};
 use lattice::Bitime;
 use oracle::{are_wide, differences, evaluate};
@@ -25,7 +25,7 @@ fn last_at(
     evaluate(alloc, plan, NodeId::new(last), changes, at(time))
 }
 
-// At (9, 9) the last node prints as this text: a line for each row, its weight first.
+// Checks that the last node at (9, 9) prints as this text: a line for each row, with its count first.
 fn assert_prints(
     rt: &impl Abort,
     alloc: Global,
@@ -38,7 +38,7 @@ fn assert_prints(
     Ok(())
 }
 
-// Three rows of key 1, of which the least counts -1, and one of key 2.
+// Three rows of key 1, of which the least counts -1, and one row of key 2.
 fn rows(alloc: Global) -> Result<[Vec<Update<Bitime>>; 1], Refusal> {
     let rows = list(
         alloc,
@@ -52,12 +52,12 @@ fn rows(alloc: Global) -> Result<[Vec<Update<Bitime>>; 1], Refusal> {
     Ok([rows])
 }
 
-// What the reduction of these rows by their first column prints.
+// Checks what the reduction of these rows by their first column prints.
 fn assert_reduces(rt: &impl Abort, alloc: Global, kind: Kind, want: &str) -> Result<(), Refusal> {
     assert_prints(rt, alloc, &reduction(alloc, 2, kind)?, &rows(alloc)?, want)
 }
 
-// 2 - 1 + 4 is 5; a negative number is one too.
+// 2 - 1 + 4 is 5. A negative total is listed too.
 #[test]
 fn counts_of_keys(rt: HostRuntime) -> Result<(), Fail> {
     assert_reduces(&rt, rt.alloc(), Kind::Count, "1 1 5\n1 2 -3\n")?;
@@ -82,7 +82,7 @@ fn greatest_rows(rt: HostRuntime) -> Result<(), Fail> {
     Ok(())
 }
 
-// A view of arranged rows has the rows themselves.
+// A view of arranged rows has the same rows.
 #[test]
 fn arranged_rows(rt: HostRuntime) -> Result<(), Fail> {
     let plan = built(rt.alloc(), &[input(2), arrange(0, 1), view(1)])?;
@@ -91,7 +91,7 @@ fn arranged_rows(rt: HostRuntime) -> Result<(), Fail> {
     Ok(())
 }
 
-// Rows of equal keys meet: 2 of the one and -3 of the other are -6.
+// Rows with equal keys meet: a count of 2 times a count of -3 is -6.
 #[test]
 fn joined_rows(rt: HostRuntime) -> Result<(), Fail> {
     let nodes = [input(2), input(2), arrange(0, 1), arrange(1, 1), join(2, 3)];
@@ -104,8 +104,8 @@ fn joined_rows(rt: HostRuntime) -> Result<(), Fail> {
     Ok(())
 }
 
-// The differences of a view of how often there is which row, once 7 came at two times that cannot
-// be compared, and all is closed.
+// The differences of the counts of one input, after 7 came at two incomparable times and all inputs were
+// closed.
 fn listed(rt: &impl Abort, alloc: Global) -> Result<Vec<Update<Bitime>>, Refusal> {
     let plan = reduction(alloc, 1, Kind::Count)?;
     let changes = [list(alloc, &[((0, 3), &[7], 1), ((3, 0), &[7], 1)])?];
@@ -115,7 +115,7 @@ fn listed(rt: &impl Abort, alloc: Global) -> Result<Vec<Update<Bitime>>, Refusal
     differences(alloc, &plan, view, &changes, &[])
 }
 
-// At (3, 3) both have come: "7 is there once" goes twice, and "7 is there twice" comes.
+// Both changes are visible at (3, 3): "7 is there once" goes twice, and "7 is there twice" comes.
 #[test]
 fn differences_take_memory(rt: HostRuntime) -> Result<(), Fail> {
     let found = match listed(&rt, rt.alloc()) {

@@ -1,5 +1,4 @@
-//! Plans: that a node of each kind is taken, and that calls which take memory succeed once there is
-//! some.
+//! Plans: a node of each kind is accepted, and calls that take memory succeed once there is some.
 use crate::sketches::{arrange, built, concat, filter, input, join, map, negate, reduce, view};
 use plan::{Kind, Node, NodeId, Plan, PlanBuilder};
 use row::{Cmp, Item};
@@ -7,7 +6,7 @@ use std::alloc::{AllocError, Global};
 use std::test::Fail;
 use update::Refusal;
 
-// The nodes that hand rows on one by one.
+// The nodes that pass rows on one by one.
 fn linear(alloc: Global) -> Result<Plan, Refusal> {
     let column = Item::Column(1);
     built(
@@ -52,7 +51,7 @@ fn keyed(alloc: Global) -> Result<Plan, Refusal> {
     )
 }
 
-// A join has the key and the rest of both rows: 2 + 1 + 1 columns.
+// A join has the key and the other columns of both rows: 2 + 1 + 1 columns.
 #[test]
 fn nodes_over_arranged_rows_are_taken(rt: HostRuntime) -> Result<(), Fail> {
     let text = keyed(rt.alloc())?.to_string(rt.alloc())?;
@@ -67,7 +66,7 @@ fn nodes_over_arranged_rows_are_taken(rt: HostRuntime) -> Result<(), Fail> {
     Ok(())
 }
 
-// A refused node changes nothing, and the builder goes on.
+// A refused node changes nothing, and the builder can be used further.
 #[test]
 fn adding_takes_memory(rt: HostRuntime) {
     let mut builder = PlanBuilder::new(rt.alloc());
@@ -88,7 +87,7 @@ fn copied(plan: &Plan) -> Result<Plan, AllocError> {
     Ok(plan.clone()?)
 }
 
-// A copy has a list of nodes, and items, of its own.
+// A copy has its own list of nodes, and its own items.
 #[test]
 fn copies_take_memory(rt: HostRuntime) -> Result<(), Fail> {
     let plan = match mapped(rt.alloc()) {
@@ -103,7 +102,7 @@ fn copies_take_memory(rt: HostRuntime) -> Result<(), Fail> {
     Ok(())
 }
 
-// How many edges, inputs and views a plan has.
+// The numbers of edges from the first node, of inputs and of views.
 fn counted(alloc: Global, nodes: &[Node]) -> Result<[usize; 3], Refusal> {
     let plan = built(alloc, nodes)?;
     let edges = plan.edges_from(alloc, NodeId::new(0))?;

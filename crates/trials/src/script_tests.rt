@@ -1,18 +1,18 @@
-//! Runs where an allocation is refused: they end with a fault, a beginning of the text was taken,
-//! and the same script runs once there is memory.
+//! Runs in which an allocation is refused. They end with a fault, a beginning of the text was taken, and the
+//! same script runs once there is memory.
 use grammar::{Fault, Script, parse};
 use script::{MemoryOut, RunFault, plain_script, run_script};
 use std::alloc::Global;
 use std::test::Fail;
 
-// What the script below writes.
+// The text of the script below.
 const TEXT: &str = "refused 5 8\nread v 0 0 1\n1 7\n";
 
-// A script with a refused and an answered read.
+// A script with a refused read and an answered one.
 const SCRIPT: &[u8] =
     b"input a 1\nview v a\nstart\nchange a 0 0 1 7\nread v 0 0\nadvance a 1 1\nread v 0 0\n";
 
-// The script, read once more where memory was refused.
+// The script, parsed again if memory was refused the first time.
 fn script(alloc: Global) -> Result<Script, Fault> {
     match parse(alloc, SCRIPT) {
         Err(_refused) => parse(alloc, SCRIPT),
@@ -20,8 +20,7 @@ fn script(alloc: Global) -> Result<Script, Fault> {
     }
 }
 
-// By one worker. Of its answer no more is said here than the tests use, which keeps their proofs
-// short.
+// A run by one worker. Its contract says no more than the tests use, which keeps their proofs short.
 fn run(alloc: Global, script: &Script, out: &mut MemoryOut) -> Result<(), RunFault> {
     run_script(alloc, script, 1, out)
 }

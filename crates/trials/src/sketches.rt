@@ -1,5 +1,5 @@
-//! Short words for the nodes, plans and changes that tests make. Sources are plain numbers here,
-//! and a time is a pair of them.
+//! Short helpers for the nodes, plans and changes that tests make. Sources are plain numbers here, and a time
+//! is a pair of numbers.
 use crate::times;
 use lattice::Bitime;
 use plan::{Items, Kind, Node, NodeId, Plan, PlanBuilder};
@@ -73,7 +73,7 @@ pub(crate) fn view(source: usize) -> Node {
     }
 }
 
-/// The plan of these nodes.
+/// The plan of these nodes, or the first refusal.
 pub(crate) fn built(alloc: Global, nodes: &[Node]) -> Result<Plan, Refusal> {
     let mut builder = PlanBuilder::new(alloc);
     for node in nodes {
@@ -82,7 +82,7 @@ pub(crate) fn built(alloc: Global, nodes: &[Node]) -> Result<Plan, Refusal> {
     Ok(builder.finish())
 }
 
-/// An input of so many columns, arranged by the first, a reduction of it, and a view of that.
+/// The plan of an input of this width, arranged by its first column, a reduction of it, and a view.
 pub(crate) fn reduction(alloc: Global, width: usize, kind: Kind) -> Result<Plan, Refusal> {
     built(
         alloc,
@@ -90,7 +90,7 @@ pub(crate) fn reduction(alloc: Global, width: usize, kind: Kind) -> Result<Plan,
     )
 }
 
-/// A list of changes: the time of each, the row and how often.
+/// A list of updates, each from its time, row and diff.
 pub(crate) fn list(
     alloc: Global,
     changes: &[((u64, u64), &[i64], i64)],

@@ -1,11 +1,11 @@
-//! The sum of a short ledger at a time, where an allocation is refused.
+//! The sum of a short ledger at a time, also if an allocation is refused.
 use crate::sketches::{at, list};
 use row::Row;
 use std::alloc::Global;
 use std::test::Fail;
 use update::{Bag, Refusal, Update, sum_at};
 
-// What the ledger sums to at (10, 2): of row 9 nothing is left, and the change at (10, 3) does not count yet.
+// The sum of the ledger at (10, 2). Nothing is left of row 9, and the change at (10, 3) does not count yet.
 fn summed(alloc: Global) -> Result<Bag, Refusal> {
     let ledger = list(
         alloc,
@@ -38,7 +38,7 @@ fn sums_take_memory(rt: HostRuntime) -> Result<(), Fail> {
     Ok(())
 }
 
-// The one update comes later, so nothing is kept, and no memory is taken.
+// The only update is later, so nothing is kept and no memory is taken.
 #[test]
 fn empty_sums_take_no_memory(rt: HostRuntime) -> Result<(), Fail> {
     let later = Update {
