@@ -22,8 +22,11 @@ use std::alloc::{AllocError, Global};
 /// |---|---|---|
 /// | 0 | done, refused commands included | none |
 /// | 2 | the file is at fault | `fault line L code C` |
-/// | 3 | memory was refused; the file was not read; the output failed | `no memory`; `cannot read FILE`; `cannot write` |
-/// | 4 | a number does not fit in 64 bits, which happens only if the changes give some node a bound of 2 to the 63 or more; exactly the text of the lines before the one that asked for it was written | `overflow` |
+/// | 3 | memory was refused, or the file or the output failed | `no memory`; `cannot read FILE`; `cannot write` |
+/// | 4 | a number does not fit in 64 bits | `overflow` |
+///
+/// Status 4 comes only if the changes give some node a bound of 2 to the 63 or more. Then exactly the text of
+/// the lines before the one that asked for the number was written.
 ///
 /// Cost: that of parsing the script and of running it.
 pub fn act<W: Out, E: Out>(

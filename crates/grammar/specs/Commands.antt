@@ -9,11 +9,11 @@ use Rattle.grammar.specs.declared.command.InputCommand.TheVariants.{Change, Adva
 use Rattle.grammar.specs.declared.command.ViewCommand.{ViewCommand}
 use Rattle.grammar.specs.declared.command.ViewCommand.TheVariants.{Read, Changes, Frontier}
 
--- an input of the plan
+-- n is an input of the plan
 abbrev pub is_input_of : List Node → ℕ → Bool
 is_input_of p n = nat_lt n (length p) && is_input (node_at p n)
 
--- a view of the plan
+-- n is a view of the plan
 abbrev pub is_view_of : List Node → ℕ → Bool
 is_view_of p n = nat_lt n (length p) && is_output (node_at p n)
 

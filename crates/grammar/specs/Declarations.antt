@@ -1,5 +1,5 @@
--- What the lines say that declare a node, or what they are refused for. As in all lines, the order
--- of the steps is the order of the tests.
+-- The lines that declare a node: what each says, or why it is refused. As in all lines, the order of the steps
+-- is the order of the tests.
 use Rattle.std.specs.Prelude.{ℕ, List, [], ◌∷◌, ◌++◌, length, Option, Some, None, Result, Ok, Err, nat_lt, codes, if◌then◌else◌}
 use Rattle.std.specs.Str.{bytes_eq}
 use Rattle.update.specs.declared.refusal.Refusal.{Refusal}
@@ -68,14 +68,14 @@ negate_line k name (from ∷ []) = do
   with_node k name (Negate from)
 negate_line k name _ = Err WrongWordCount
 
--- the kind that the third word of a node line names
+-- the kind that the third word of a `node` line names
 abbrev pub kind_word : List ℕ → Option KindWord
 kind_word word = if bytes_eq word (codes "map") then Some kind.Map
     else if bytes_eq word (codes "filter") then Some kind.Filter
     else if bytes_eq word (codes "concat") then Some kind.Concat
     else if bytes_eq word (codes "negate") then Some kind.Negate else None
 
--- the line of a node of the kind, with these words behind it
+-- a `node` line of this kind; these words come after the kind
 abbrev pub kind_line : ParseState → List ℕ → KindWord → List (List ℕ) → Result ParseState Refusal
 kind_line k name kind.Map words = map_line k name words
 kind_line k name kind.Filter words = filter_line k name words

@@ -1,4 +1,4 @@
--- What words say that are items, comparisons or tests.
+-- The words that are items, comparisons or tests.
 use Rattle.std.specs.Prelude.{ℕ, List, drop, Option, Some, None, Result, Ok, ◌==◌, slice_index, codes, if◌then◌else◌}
 use Rattle.std.specs.Option.{option_map}
 use Rattle.std.specs.Str.{bytes_eq}
@@ -13,7 +13,7 @@ use Rattle.grammar.specs.Outcomes.{◌>>=◌, or_refused}
 use Rattle.grammar.specs.Numbers.{whole_of, signed_of}
 use Rattle.grammar.specs.Words.{each, number}
 
--- c and a column's number, or = and a constant
+-- `c` followed by the number of a column, or `=` followed by a constant
 abbrev pub item_of : List ℕ → Option Item
 item_of word = if slice_index word 0 == 0x63 then option_map (λ n. Column n) (whole_of (drop 1 word))
     else if slice_index word 0 == 0x3d then option_map (λ z. Constant z) (signed_of (drop 1 word)) else None

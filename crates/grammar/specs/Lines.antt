@@ -1,6 +1,5 @@
--- What each line says, or what it is refused for: the first test that fails. The order of the steps
--- is the order of the tests, and a line of another number of words than those that stand here has
--- too few or too many.
+-- The meaning of each line, or the refusal of the first test that fails. The order of the steps is the order of
+-- the tests. If a line has another number of words than in the patterns here, it has too few or too many.
 use Rattle.std.specs.Prelude.{ℕ, ◌%◌, Bool, true, false, not, ◌&&◌, List, [], ◌∷◌, ◌++◌, length, Option, Some, None, Result, Ok, Err, nat_lt, ◌==◌, codes, if◌then◌else◌}
 use Rattle.std.specs.Str.{bytes_eq, is_utf8}
 use Rattle.update.specs.declared.refusal.Refusal.{Refusal}
@@ -72,7 +71,7 @@ frontier_line k (name ∷ []) = do
   Ok (View (Frontier name))
 frontier_line k _ = Err WrongWordCount
 
--- the keyword that the first word of a line is
+-- the keyword that a word spells
 abbrev pub keyword_of : List ℕ → Option Keyword
 keyword_of word = if bytes_eq word (codes "input") then Some keyword.Input
     else if bytes_eq word (codes "node") then Some keyword.Node
@@ -85,7 +84,7 @@ keyword_of word = if bytes_eq word (codes "input") then Some keyword.Input
     else if bytes_eq word (codes "changes") then Some keyword.Changes
     else if bytes_eq word (codes "frontier") then Some keyword.Frontier else None
 
--- the line stands before `start`, or is `start`
+-- such a line belongs before `start`, or is `start`
 abbrev pub is_declaring : Keyword → Bool
 is_declaring keyword.Input = true
 is_declaring keyword.Node = true
@@ -98,7 +97,7 @@ is_declaring keyword.Read = false
 is_declaring keyword.Changes = false
 is_declaring keyword.Frontier = false
 
--- the keyword of a line whose first word this is, if it may stand here
+-- the keyword of a line with this first word, if such a line may stand here
 unfoldable pub opening : ParseState → List ℕ → Result Keyword Refusal
 opening k word = or_refused UnknownCommand (keyword_of word)
     >>= λ keyword. if (if is_declaring keyword then k.started else not k.started) then Err BadOrder else Ok keyword
@@ -107,7 +106,7 @@ opening k word = or_refused UnknownCommand (keyword_of word)
 abbrev pub with_command : ℕ → ParseState → Result Command Refusal → Result ParseState Refusal
 with_command n k outcome = outcome >>= λ command. Ok (record k { commands = k.commands ++ record { line = n; command = command } ∷ [] })
 
--- what is known behind line n, with these words behind its keyword
+-- the parse state after line n; these words come after its keyword
 abbrev pub keyword_line : ℕ → ParseState → Keyword → List (List ℕ) → Result ParseState Refusal
 keyword_line n k keyword.Input words = input_line k words
 keyword_line n k keyword.Node words = node_line k words
@@ -120,18 +119,18 @@ keyword_line n k keyword.Read words = with_command n k (read_line k words)
 keyword_line n k keyword.Changes words = with_command n k (changes_line k words)
 keyword_line n k keyword.Frontier words = with_command n k (frontier_line k words)
 
--- a line without words is skipped, and so is one whose first word begins with #
+-- a line without words is skipped, and so is a line whose first word begins with #
 unfoldable pub words_line : ℕ → ParseState → List (List ℕ) → Result ParseState Refusal
 words_line n k [] = Ok k
 words_line n k (first ∷ words) = if opens_comment first then Ok k else (do
   keyword ← opening k first
   keyword_line n k keyword words)
 
--- the bytes of a line that is text, and not too long
+-- the bytes of the line, if it is UTF-8 text and not too long
 unfoldable pub text_of : List ℕ → Result (List ℕ) Refusal
 text_of line = if nat_lt 4096 (length line) then Err LineTooLong else if is_utf8 line then Ok line else Err NotUtf8
 
--- what is known behind line n
+-- the parse state after line n
 unfoldable pub line_of : ℕ → ParseState → List ℕ → Result ParseState Refusal
 line_of n k line = do
   text ← text_of line

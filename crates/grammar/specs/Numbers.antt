@@ -1,10 +1,10 @@
--- Numbers in words: their form, and their value.
+-- Numbers in words: their form and their value.
 use Rattle.std.specs.Prelude.{ℕ, ◌^◌, ℤ, pos, neg_ℤ, Bool, false, not, ◌&&◌, List, [], ◌∷◌, drop, Option, Some, None, nat_lt, ◌==◌, slice_index, if◌then◌else◌}
 use Rattle.std.specs.Char.{is_ascii_digit}
 use Rattle.std.specs.List.{list_all}
 use Rattle.std.specs.Str.Parse.{digits_value}
 
--- digits, of which the first is 0 only where it stands alone
+-- digits without a leading 0, or 0 itself
 abbrev pub is_numeral : List ℕ → Bool
 is_numeral [] = false
 is_numeral (only ∷ []) = is_ascii_digit only
@@ -18,11 +18,11 @@ whole_of word = if is_numeral word && nat_lt (digits_value 10 word) (2 ^ 64) the
 abbrev pub has_minus : List ℕ → Bool
 has_minus word = slice_index word 0 == 0x2d
 
--- a numeral, or one that is not 0 behind a minus sign
+-- a numeral, or a minus sign and a numeral other than 0
 abbrev pub is_signed_numeral : List ℕ → Bool
 is_signed_numeral word = if has_minus word then is_numeral (drop 1 word) && not (slice_index (drop 1 word) 0 == 0x30) else is_numeral word
 
--- from -2 ^ 63 to 2 ^ 63 - 1
+-- the value is at least -2 ^ 63 and at most 2 ^ 63 - 1
 abbrev pub is_in_range : List ℕ → Bool
 is_in_range word = if has_minus word then not (nat_lt (2 ^ 63) (digits_value 10 (drop 1 word))) else nat_lt (digits_value 10 word) (2 ^ 63)
 
@@ -30,6 +30,6 @@ is_in_range word = if has_minus word then not (nat_lt (2 ^ 63) (digits_value 10 
 abbrev pub signed_value : List ℕ → ℤ
 signed_value word = if has_minus word then neg_ℤ (pos (digits_value 10 (drop 1 word))) else pos (digits_value 10 word)
 
--- the value of a signed numeral in that range
+-- the value of a signed numeral that is in range
 abbrev pub signed_of : List ℕ → Option ℤ
 signed_of word = if is_signed_numeral word && is_in_range word then Some (signed_value word) else None

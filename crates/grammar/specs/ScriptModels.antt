@@ -1,4 +1,4 @@
--- What a script tells: what is left of its lines once they have been read.
+-- The contents of a script, which remain after its lines were read.
 use Rattle.std.specs.Prelude.{◌≡◌, ℕ, IsTrue, List, [], length, slice_get, unwrap_or}
 use Rattle.std.specs.List.{All}
 use Rattle.plan.specs.Nodes.{is_linear}
@@ -6,17 +6,17 @@ use Rattle.plan.specs.declared.node.Node.{Node}
 use Rattle.grammar.specs.declared.command.CommandLine.{CommandLine}
 use Rattle.grammar.specs.Commands.{IsAbout}
 
--- the nodes, in the same order their names, and the commands, each with the number of its line
+-- the nodes, their names in the same order, and the commands, each with the number of its line
 pub record ScriptModel : Type 0 where
   pub names : List (List ℕ)
   pub plan : List Node
   pub commands : List CommandLine
 
--- the name of a node; of a node that is not there, the empty one
+-- the name of a node; the empty name if there is no such node
 abbrev pub name_at : List (List ℕ) → ℕ → List ℕ
 name_at names n = unwrap_or (slice_get names n) []
 
--- each node has a name and adds up, and each command is about a node of the sort that it needs
+-- each node has a name and is linear, and each command is about a node of the kind that it needs
 pub record IsWhole (t : ScriptModel) : Type 0 where
   pub named : length t.names ≡ length t.plan
   pub linear : All (λ node. IsTrue (is_linear node)) t.plan

@@ -1,4 +1,4 @@
--- The words in which a script is printed. Numbers are printed as decimals and nodes by their names.
+-- The printed words of a script. Numbers are printed as decimals, and nodes by their names.
 use Rattle.std.specs.Prelude.{◌≡◌, ℕ, true, false, ◌⊎◌, not, List, [], ◌∷◌, ◌++◌, map, filter, None, Result, Ok, codes, decimal, IsTrue}
 use Rattle.std.specs.Fmt.{signed_decimal}
 use Rattle.std.specs.List.{flat_map}
@@ -32,8 +32,8 @@ time_words t = decimal t.first ∷ decimal t.second ∷ []
 abbrev pub test_words : Test → List (List ℕ)
 test_words test = item_text test.left ∷ cmp_text test.op ∷ item_text test.right ∷ []
 
--- the words of a node's line, where nodes have these names; no line declares an arrange node, a
--- join or a reduction yet
+-- the words of a node's line, given the names of nodes; no line can declare an arrange node, a join or a
+-- reduction yet
 abbrev pub node_words : List (List ℕ) → List ℕ → Node → List (List ℕ)
 node_words names name (Input width) = codes "input" ∷ name ∷ decimal width ∷ []
 node_words names name (Output source) = codes "view" ∷ name ∷ name_at names source ∷ []
@@ -62,7 +62,7 @@ abbrev pub command_words : List (List ℕ) → Command → List (List ℕ)
 command_words names (command.Input change) = input_command_words names change
 command_words names (command.View question) = view_command_words names question
 
--- the line is skipped, and says nothing
+-- the line is skipped, and changes nothing
 pub record Skips (k : ParseState) (words : List (List ℕ)) (next : ParseState) : Type 0 where
   pub skipped : IsTrue (is_skipped words)
   pub next_is : next ≡ k
@@ -85,7 +85,7 @@ pub record Starts (k : ParseState) (words : List (List ℕ)) (next : ParseState)
   pub is_early : k.started ≡ false
   pub next_is : next ≡ record k { started = true }
 
--- line n is a command, about a node of the plan
+-- line n is a command about a node of the plan
 pub record Asks (n : ℕ) (k : ParseState) (words : List (List ℕ)) (next : ParseState) : Type 0 where
   pub command : Command
   pub words_are : words ≡ command_words k.names command
@@ -93,12 +93,11 @@ pub record Asks (n : ℕ) (k : ParseState) (words : List (List ℕ)) (next : Par
   pub is_about : IsAbout k.plan command
   pub next_is : next ≡ record k { commands = k.commands ++ record { line = n; command = command } ∷ [] }
 
--- what line n with these words has said, where so much was known before and so much is known behind
--- it
+-- what line n with these words says, given the parse states before and after it
 abbrev pub Says : ℕ → ParseState → List (List ℕ) → ParseState → Type 0
 Says n k words next = Skips k words next ⊎ (Declares k words next ⊎ (Starts k words next ⊎ Asks n k words next))
 
--- the lines of the nodes, each with the names of those before it
+-- the words of the nodes' lines; each uses the names of the nodes before it
 abbrev pub plan_words : List (List ℕ) → List (List ℕ) → List Node → List (List (List ℕ))
 plan_words before [] nodes = []
 plan_words before (name ∷ names) [] = []
@@ -112,17 +111,17 @@ script_words t = plan_words [] t.names t.plan ++ (codes "start" ∷ []) ∷ map 
 abbrev pub kept_words : List (List ℕ) → List (List (List ℕ))
 kept_words lines = filter (λ words. not (is_skipped words)) (map words_of lines)
 
--- the lines of a script as it is printed, each with its number: those of its nodes and of `start`,
--- whose numbers a script does not keep, and those of its commands, which have their own
+-- the printed lines of a script, each with its number; a script keeps the numbers of its commands' lines, but
+-- not those of its nodes and of `start`, which are therefore `any`
 abbrev pub script_lines : ℕ → ScriptModel → List (ℕ × List (List ℕ))
 script_lines any t = map (λ words. (any, words)) (plan_words [] t.names t.plan)
     ++ (any, codes "start" ∷ []) ∷ map (λ line. (line.line, command_words t.names line.command)) t.commands
 
--- what is known behind lines of these words, each with its number
+-- the parse state after lines with these words and numbers
 abbrev pub read_lines : ParseState → List (ℕ × List (List ℕ)) → Result ParseState Refusal
 read_lines k [] = Ok k
 read_lines k (line ∷ lines) = words_line line.0 k line.1 >>= λ k. read_lines k lines
 
--- the lines of a script as it is printed are read as that script
+-- if the printed lines of a script are read, the same script comes out
 abbrev pub IsReadAgain : ℕ → ScriptModel → Type 0
 IsReadAgain any t = (k : ParseState) × (read_lines first_parse_state (script_lines any t) ≡ Ok k) × (k.started ≡ true) × (model_of k ≡ t)

@@ -1,4 +1,4 @@
--- What words say that are numbers.
+-- The words that are numbers.
 use Rattle.std.specs.Prelude.{ℕ, ℤ, List, [], ◌∷◌, Option, Some, Result}
 use Rattle.std.specs.Option.{option_map, option_and_then}
 use Rattle.update.specs.declared.refusal.Refusal.{Refusal}
@@ -8,12 +8,12 @@ use Rattle.lattice.specs.declared.product.Pair.{Pair}
 use Rattle.grammar.specs.Outcomes.{or_refused}
 use Rattle.grammar.specs.Numbers.{whole_of, signed_of}
 
--- what each word is, where each is something
+-- the value of each word, if every word has one
 abbrev pub each : {A : Type 0} → (List ℕ → Option A) → List (List ℕ) → Option (List A)
 each read [] = Some []
 each read (word ∷ words) = option_and_then (λ x. option_map (λ xs. x ∷ xs) (each read words)) (read word)
 
--- what was read of words, or a refusal: they must be numbers
+-- the value that was read, or `BadNumber` if there is none
 abbrev pub number : {A : Type 0} → Option A → Result A Refusal
 number o = or_refused BadNumber o
 
@@ -33,7 +33,7 @@ wholes words = number (each whole_of words)
 unfoldable pub columns : List (List ℕ) → Result (List ℤ) Refusal
 columns words = number (each signed_of words)
 
--- two by two
+-- the numbers in pairs; an odd last number is dropped
 abbrev pub pairs_of : List ℕ → List (Pair ℕ ℕ)
 pairs_of [] = []
 pairs_of (v ∷ []) = []

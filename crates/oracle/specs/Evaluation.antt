@@ -1,4 +1,5 @@
--- Where a query is worked out: what a node has at its ports, which list is which input's, and what can be no 64-bit number.
+-- The plain query as the code computes it: what a node reads at its ports, which list belongs to which input,
+-- and which numbers may fail to fit in 64 bits.
 use Rattle.std.specs.Prelude.{◌≡◌, ℕ, Bool, true, List, [], ◌⊎◌, ◌<◌, take, length, eqb, not, ◌||◌, ◌*ℤ◌, FitsSigned, IsTrue, slice_get, slice_index_or, ℤ}
 use Rattle.std.specs.Int.{w64}
 use Rattle.std.specs.List.{filter, list_all}
@@ -16,33 +17,33 @@ use Rattle.plan.specs.declared.node.Node.TheVariants.{Input, Map, Filter, Concat
 use Rattle.oracle.specs.Entries.{all_wide}
 use Rattle.oracle.specs.Reduced.{HasLargeNumber}
 
--- what a node has at its ports: the bags of its sources, or, where it is an input, what comes from outside
+-- the bag at a port of a node: that of the source, or the outside bag if the node is an input
 abbrev pub ports : List Node → ℕ → List Entry → (ℕ → List Entry) → ℕ → List Entry
 ports p n outside bags port = source_value outside bags (slice_get (sources (node_at p n)) port)
 
--- what a node gives from these
+-- the rows that a node gives from the bags at its ports
 abbrev pub output_at : List Node → ℕ → List Entry → (ℕ → List Entry) → List Entry
 output_at p n outside bags = operator_output (key_width p (node_at p n)) (node_at p n) (ports p n outside bags)
 
--- the bag of a number in a list of bags
+-- the bag of node n in a list of bags
 abbrev pub nth_bag : List (List Entry) → ℕ → List Entry
 nth_bag bags n = slice_index_or bags n []
 
--- of two rows of one key the product of how often they count is no 64-bit number
+-- two rows have the same key, and the product of their counts does not fit in 64 bits
 abbrev pub HasLargeProductOf : ℕ → List Entry → List Entry → Type 0
 HasLargeProductOf k left right = (row : List ℤ) × (other : List ℤ) × (take k row ≡ take k other) × (FitsSigned w64 (count_of left row *ℤ count_of right other) → ⊥)
 
--- what the operator multiplies, or counts, is no 64-bit number somewhere
+-- a product in a join, or the total of a count, does not fit in 64 bits
 abbrev pub HasLargeStep : ℕ → Node → (ℕ → List Entry) → Type 0
 HasLargeStep k (Join left right) bags = HasLargeProductOf k (bags 0) (bags 1)
 HasLargeStep k (Reduce Count source) bags = HasLargeNumber k (bags 0)
 HasLargeStep k other bags = ⊥
 
--- some row counts in what a node gives as often as no 64-bit number says, or one of its steps is too large
+-- some count in the node's output does not fit in 64 bits, or a step on the way to it does not
 abbrev pub HasLargeAt : List Node → ℕ → List Entry → (ℕ → List Entry) → Type 0
 HasLargeAt p n outside bags = HasLargeCount (output_at p n outside bags) ⊎ HasLargeStep (key_width p (node_at p n)) (node_at p n) (ports p n outside bags)
 
--- so it is at a node that stands above node n, or at that node itself
+-- this is so at node n, or at a node from which n can be reached
 abbrev pub HasLargeAbove : List Node → (ℕ → List Entry) → ℕ → Type 0
 HasLargeAbove p inputs n = (m : ℕ) × IsTrue (reaches p m n) × HasLargeAt p m (inputs m) (query p inputs)
 
@@ -50,11 +51,11 @@ HasLargeAbove p inputs n = (m : ℕ) × IsTrue (reaches p m n) × HasLargeAt p m
 abbrev pub inputs_before : List Node → ℕ → ℕ
 inputs_before p n = length (filter (λ m. is_input (node_at p m)) (numbers_below n))
 
--- the list of an input, where there is one list for each, in the order of their numbers
+-- the list of an input, in a list of lists in the order of the inputs' numbers
 abbrev pub list_of : {X : Type 0} → List Node → List (List X) → ℕ → List X
 list_of p lists n = slice_index_or lists (inputs_before p n) []
 
--- the node is no input, or the rows of its list have its width
+-- the node is not an input, or the rows of its list have its width
 abbrev pub is_wide_at : {T : Type 0} → List Node → List (List (Update T)) → ℕ → Bool
 is_wide_at p lists n = not (is_input (node_at p n)) || list_all (λ u. eqb (length u.row) (width_of p n)) (list_of p lists n)
 
@@ -62,11 +63,12 @@ is_wide_at p lists n = not (is_input (node_at p n)) || list_all (λ u. eqb (leng
 abbrev pub AreWide : {T : Type 0} → List Node → List (List (Update T)) → Type 0
 AreWide p lists = (n : ℕ) → n < length p → is_input (node_at p n) ≡ true → IsTrue (list_all (λ u. eqb (length u.row) (width_of p n)) (list_of p lists n))
 
--- what the inputs sum to at t
+-- the bag to which an input's list sums at t
 abbrev pub sums_at : {T : Type 0} → (T → T → Bool) → List Node → List (List (Update T)) → T → ℕ → List Entry
 sums_at below p lists t input = as_of below t (list_of p lists input)
 
--- the bags of the first nodes: their rows have the widths of the nodes, and those above node view are what the query says
+-- the bags of the first nodes: their rows have the widths of the nodes, and for each node above the view (or
+-- the view itself) the bag is the answer of the query
 pub record AreBags (p : List Node) (inputs : ℕ → List Entry) (view : ℕ) (bags : List (List Entry)) : Type 0 where
   pub wide : (m : ℕ) → m < length bags → IsTrue (all_wide (width_of p m) (nth_bag bags m))
   pub found : (m : ℕ) → m < length bags → IsTrue (reaches p m view) → Alike (nth_bag bags m) (query p inputs m)

@@ -1,4 +1,4 @@
--- How the differences of a view are listed, time by time along the join closure.
+-- How the differences of a view are listed: time by time, along the join closure.
 use Rattle.std.specs.Prelude.{◌≡◌, ◌⊎◌, ℕ, Bool, List, ◌++◌, map, IsTrue, ◌+ℤ◌, neg_ℤ, FitsSigned, ℤ}
 use Rattle.std.specs.Int.{w64}
 use Rattle.std.specs.List.{AllByRecursion, Contains}
@@ -10,27 +10,28 @@ use Rattle.plan.specs.Changes.{has_passed, query_at}
 use Rattle.plan.specs.declared.node.Node.{Node}
 use Rattle.oracle.specs.Evaluation.{HasLargeAbove, list_of, sums_at}
 
--- the row changes at t, by its count
+-- the entry as an update at t
 abbrev pub at_time : {T : Type 0} → T → Entry → Update T
 at_time t e = record { time = t; row = e.row; diff = e.count }
 
 module _ {T : Type 0} (below : T → T → Bool) where
-  -- what some row counts, less what is listed of it at or before t, is no 64-bit number
+  -- for some row, the wanted count minus the sum listed at or before t does not fit in 64 bits
   abbrev pub HasLargeGap : T → List Entry → List (Update T) → Type 0
   HasLargeGap t wanted us = (row : List ℤ) × (FitsSigned w64 (count_of wanted row +ℤ neg_ℤ (count_of (as_of below t us) row)) → ⊥)
 
-  -- the list goes up to some times of the closure: at these it sums to what is wanted, where they have passed, and it has no
-  -- others
+  -- the list is finished for these times of the closure: at each of them that has passed it sums to what is
+  -- wanted, and it has no other times
   pub record IsListed (cmp : T → T → Ordering) (frontier : List T) (wanted : T → List Entry) (times : List T) (us : List (Update T)) : Type 0 where
     pub sums : (t : T) → Contains times t → IsTrue (has_passed below frontier t) → Alike (as_of below t us) (wanted t)
     pub among : AllByRecursion (λ u. IsTrue (has_passed below frontier u.time) × Contains times u.time) us
     pub consolidated : IsConsolidated cmp us
 
-  -- the list goes on at t: by what is wanted there, less what is listed at or before t
+  -- the list continues at t with what is wanted there, minus what is listed at or before t
   abbrev pub ContinuesListing : T → List Entry → List (Update T) → List (Update T) → Type 0
   ContinuesListing t wanted us vs = (gap : List Entry) × IsBag gap × (vs ≡ us ++ map (at_time t) gap) × ((row : List ℤ) → count_of gap row +ℤ count_of (as_of below t us) row ≡ count_of wanted row)
 
-  -- at some passed time the query has too large a number, or what it has more than a list that sums to it at all times before
+  -- at some passed time t the query has a number that is too large, or the difference at t is too large: the
+  -- query's answer there minus a list that has no update at t and sums to the query at all earlier times
   abbrev pub HasLargeDifference : List Node → List (List (Update T)) → List T → ℕ → Type 0
   HasLargeDifference p lists frontier n = (t : T) × IsTrue (has_passed below frontier t)
       × (HasLargeAbove p (sums_at below p lists t) n

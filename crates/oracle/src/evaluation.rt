@@ -151,8 +151,11 @@ fn bags_before<T: Lattice>(
 ///
 /// | Refusal | When |
 /// |---|---|
-/// | `Overflow` | at the view or at a node above it, a number does not fit in 64 bits: the count of a row, the product of two counts in a join, or the total count of a key's rows |
+/// | `Overflow` | a number does not fit in 64 bits, at the view or at a node above it |
 /// | `OutOfMemory` | an allocation was refused |
+///
+/// The number that is too large is the count of a row, the product of two counts in a join, or the total count
+/// of a key's rows.
 ///
 /// Cost: for each node above the view, one or two sorts of the rows that it reads and writes; one pass over
 /// each input's changes.

@@ -1,4 +1,4 @@
--- The laws of an output that appends what it takes.
+-- The laws of an output that appends the bytes that it takes. `MemoryOut` is one.
 use Rattle.std.specs.Prelude.{◌≡◌, ℕ, List, [], ◌++◌}
 use Rattle.std.proofs.Common.{sym, ◌∙◌, ap, append_assoc}
 use Rattle.std.proofs.lemmas.List.{append-nil}

@@ -1,4 +1,4 @@
--- What carries out the commands of a session: how it answers them, and what ends its run.
+-- How an engine answers the commands of a session, and what ends its run.
 use Rattle.std.specs.Prelude.{◌≡◌, ◌⊎◌, ℕ, Option, Some, None, Result, Ok, Err}
 use Rattle.update.specs.declared.refusal.Refusal.{Refusal}
 use Rattle.update.specs.declared.refusal.Refusal.TheVariants.{OutOfMemory, Overflow, NoThread}
@@ -6,36 +6,36 @@ use Rattle.update.specs.Refusals.{code_of}
 use Rattle.script.specs.declared.fault.RunFault.{RunFault}
 use Rattle.script.specs.declared.fault.RunFault.TheVariants as fault
 
--- refusals that end a run and are no line of its text: memory was refused, a number is too large,
--- or no thread was started
+-- a refusal that ends the run and is not printed as a line: memory was refused, a number is too large, or a
+-- thread did not start
 abbrev pub EndsRun : Refusal → Type 0
 EndsRun refusal = (refusal ≡ OutOfMemory) ⊎ ((refusal ≡ Overflow) ⊎ (refusal ≡ NoThread))
 
--- an answer to what is told: if it is accepted, nothing refuses it; if not, it is refused for just
--- that, or memory was
+-- an answer to a command that changes an input. Ok: nothing refuses the command, and it takes effect. Err: the answer
+-- is the command's refusal, and nothing changes; or memory was refused
 abbrev pub IsTold : Option Refusal → Type 0 → Type 0 → Result (Unit {0}) Refusal → Type 0
 IsTold refusal Accepted Stays (Ok x) = (refusal ≡ None) × Accepted
 IsTold refusal Accepted Stays (Err r) = ((refusal ≡ Some r) × Stays) ⊎ (r ≡ OutOfMemory)
 
--- an answer to what is asked: if this is found, nothing refuses it; if not, it is refused for just
--- that, or for what ends the run
+-- an answer to a question. Ok: nothing refuses the question, and this is the wanted answer. Err: it is the question's
+-- refusal, or one that ends the run
 abbrev pub IsFound : {X : Type 0} → (Refusal → Type 0) → Option Refusal → X → Result X Refusal → Type 0
 IsFound Ends refusal wanted (Ok found) = (refusal ≡ None) × (found ≡ wanted)
 IsFound Ends refusal wanted (Err r) = (refusal ≡ Some r) ⊎ Ends r
 
--- why a run may end early: the output failed, memory was refused, or what it asked for was refused
--- so that the run ends
+-- why a run may end early: the output failed, memory was refused, or the engine gave a refusal that ends the
+-- run
 abbrev pub IsEnd : (Refusal → Type 0) → RunFault → Type 0
 IsEnd Ends (fault.Refused code) = (code ≡ 1) ⊎ ((refusal : Refusal) × (code ≡ code_of refusal) × Ends refusal)
 IsEnd Ends fault.Write = Unit {0}
 
--- why a run by one worker may end early: of all refusals only memory, and a number too large that
--- has a cause
+-- why a run by one worker may end early: the output failed, memory was refused, or a number is too large for
+-- this cause
 abbrev pub IsRunEnd : Type 0 → RunFault → Type 0
 IsRunEnd Large (fault.Refused code) = (code ≡ 1) ⊎ ((code ≡ 10) × Large)
 IsRunEnd Large fault.Write = Unit {0}
 
--- how many calls of the output failed where a run ended so
+-- how many calls of the output failed in a run that ended like this
 abbrev pub failures : RunFault → ℕ
 failures (fault.Refused code) = 0
 failures fault.Write = 1

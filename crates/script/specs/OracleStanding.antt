@@ -1,4 +1,4 @@
--- What the plain engine keeps, and for which session it stands.
+-- What the oracle engine keeps, and for which session it stands.
 use Rattle.std.specs.Prelude.{◌≡◌, ℕ, Bool, List, ◌∷◌, [], ◌++◌, length, reverse, set, Option, IsTrue}
 use Rattle.std.specs.List.{All}
 use Rattle.lattice.specs.Frontiers.{is_beyond}
@@ -15,47 +15,47 @@ use Rattle.grammar.specs.Commands.{is_input_of}
 use Rattle.oracle.specs.Evaluation.{AreWide, inputs_before, list_of}
 use Rattle.script.specs.Sessions.{Session}
 
--- what the oracle engine keeps
+-- the state of the oracle engine
 pub record Register (T : Type 0) : Type 0 where
   pub plan : List Node
-  -- the changes that each input accepted, the oldest first, in the order of the inputs' numbers
+  -- the accepted changes of each input, oldest first, in the order of the inputs' numbers
   pub changes : List (List (Update T))
-  -- by node, the frontier of an input
+  -- the frontier of each node that is an input, by node number
   pub inputs : List (List T)
 
 module _ {T : Type 0} where
-  -- the plan is linear; each input has its list, and the rows in it have its width
+  -- the plan is linear, each input has a list, and the rows in it have the input's width
   pub record IsRegister (r : Register T) : Type 0 where
     pub linear : All (λ node. IsTrue (is_linear node)) r.plan
     pub lists : length r.changes ≡ length (numbers_where is_input r.plan)
     pub wide : AreWide r.plan r.changes
     pub inputs : length r.inputs ≡ length r.plan
 
-  -- a change is put behind those of its input
+  -- the change is appended to its input's list
   abbrev pub with_entry : Fed T → Register T → Register T
   with_entry f r = record r { changes = set r.changes (inputs_before r.plan f.input) (list_of r.plan r.changes f.input ++ f.update ∷ []) }
 
-  -- an input's frontier is another one
+  -- the input has a new frontier
   abbrev pub with_input : ℕ → List T → Register T → Register T
   with_input i ts r = record r { inputs = set r.inputs i ts }
 
--- the changes of each input are the session's, and so are the frontiers; each view may be read from
--- the least time on
+-- the changes and the frontiers of the inputs are those of the session; each view may be read from the least
+-- time on
 pub record Records {T : Type 0} (minimum : T) (r : Register T) (s : Session T) : Type 0 where
   pub changes : (input : ℕ) → IsTrue (is_input_of r.plan input) → list_of r.plan r.changes input ≡ reverse (fed_to input s.fed)
   pub inputs : r.inputs ≡ s.inputs
   pub since : (view : ℕ) → s.since view ≡ minimum ∷ []
 
 module _ {T : Type 0} (below : T → T → Bool) where
-  -- what refuses a change, and a frontier
+  -- the refusal of a change
   abbrev pub entry_refusal : Register T → Fed T → Option Refusal
   entry_refusal r f = first_refusal (feed_faults below r.plan (front_at f.input r.inputs) (length (list_of r.plan r.changes f.input)) f)
 
-  -- what refuses an input's frontier
+  -- the refusal of a new frontier
   abbrev pub input_refusal : Register T → ℕ → List T → Option Refusal
   input_refusal r i ts = first_refusal (advance_faults below (front_at i r.inputs) ts)
 
-  -- the frontier of each input has the same times beyond it as that of the input's node
+  -- each of these frontiers, listed by input, has the same times beyond it as the input's own frontier
   abbrev pub AreFrontiers : List Node → List (List T) → List (List T) → Type 0
   AreFrontiers p inputs frontiers = (input : ℕ) → IsTrue (is_input_of p input)
       → (t : T) → is_beyond below (list_of p frontiers input) t ≡ is_beyond below (front_at input inputs) t

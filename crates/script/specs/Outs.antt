@@ -1,20 +1,19 @@
--- What has been written: taken by an output, or still waiting for it.
+-- What has been written: the output took it, or it still waits in the buffer.
 use Rattle.std.specs.Prelude.{◌≡◌, ℕ, List, ◌++◌}
 
--- the bytes with which others begin
+-- `whole` begins with `part`
 abbrev pub IsBeginning : List ℕ → List ℕ → Type 0
 IsBeginning part whole = (rest : List ℕ) × (part ++ rest ≡ whole)
 
 module _ {W : Type 0} (took : W → List ℕ → ℕ → W → Type 0) where
-  -- bytes were written behind those that waited: the first of all these were taken, and the others
-  -- wait
+  -- the bytes were written after those that waited; the output took a beginning of both together, and the rest
+  -- waits
   pub record Wrote (out : W) (waiting bytes : List ℕ) (later : W) (left : List ℕ) : Type 0 where
     pub part : List ℕ
     pub taken : took out part 0 later
     pub in_order : waiting ++ bytes ≡ part ++ left
 
-  -- no more than a beginning of the bytes, behind those that waited, was taken, and so many calls
-  -- failed
+  -- the output took only a beginning of the waiting bytes followed by the new ones, and this many calls failed
   pub record Broke (out : W) (waiting bytes : List ℕ) (failures : ℕ) (later : W) : Type 0 where
     pub part : List ℕ
     pub taken : took out part failures later

@@ -17,7 +17,7 @@ refused_text line refusal = codes "refused " ++ (decimal line ++ (codes " " ++ (
 abbrev pub read_text : List ℕ → Pair ℕ ℕ → ℕ → List ℕ
 read_text view t rows = codes "read " ++ (view ++ (codes " " ++ (decimal t.first ++ (codes " " ++ (decimal t.second ++ (codes " " ++ (decimal rows ++ 10 ∷ [])))))))
 
--- that line, and a line for each row
+-- the header, and a line for each row
 abbrev pub rows_text : List ℕ → Pair ℕ ℕ → List Entry → List ℕ
 rows_text view t rows = read_text view t (length rows) ++ bag_text rows
 
@@ -37,7 +37,7 @@ update_text u = time_text u.time ++ (codes " " ++ entry_text (entry u))
 abbrev pub changes_text : List ℕ → List (Update (Pair ℕ ℕ)) → List ℕ
 changes_text view us = count_text (codes "changes") view (length us) ++ flat_map update_text us
 
--- a line of a time alone
+-- V S, on a line of its own
 abbrev pub element_text : Pair ℕ ℕ → List ℕ
 element_text t = time_text t ++ 10 ∷ []
 

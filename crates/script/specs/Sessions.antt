@@ -1,5 +1,5 @@
--- A session by definition: which changes were accepted, where the inputs' frontiers stand, and from
--- where on each view may be read. It knows neither workers nor differences.
+-- A session by definition: the accepted changes, the inputs' frontiers, and the frontier from which each view
+-- may be read. It knows neither workers nor differences.
 use Rattle.std.specs.Prelude.{ℕ, Bool, not, List, [], ◌∷◌, length, map, set, Option}
 use Rattle.std.specs.declared.cmp.Ordering.{Ordering}
 use Rattle.lattice.specs.Frontiers.{is_beyond}
@@ -19,47 +19,47 @@ use Rattle.script.specs.Bags.{consolidated_bag}
 use Rattle.script.specs.Changes.{changes_along}
 use Rattle.script.specs.Orders.{in_order}
 
--- what the commands so far have made of a script: all that its text depends on
+-- what the commands so far have led to; the rest of the text depends on nothing else
 pub record Session (T : Type 0) : Type 0 where
-  -- the changes that were accepted, the newest first
+  -- the accepted changes, newest first
   pub fed : List (Fed T)
-  -- by node, the frontier of an input
+  -- the frontier of each input, by node number
   pub inputs : List (List T)
-  -- the frontier beyond which a view may be read
+  -- for each view, the frontier beyond which it may be read
   pub since : ℕ → List T
 
 module _ {T : Type 0} where
-  -- before the first command nothing was accepted, each input's frontier is the least time, and
-  -- each view may be read from it on
+  -- before the first command nothing has been accepted, each input's frontier is the least time, and each view
+  -- may be read from there on
   abbrev pub first_session : T → List Node → Session T
   first_session minimum p = record { fed = []; inputs = first_inputs minimum p; since = λ _. minimum ∷ [] }
 
-  -- a change is accepted
+  -- the session after an accepted change
   abbrev pub with_change : Fed T → Session T → Session T
   with_change f s = record s { fed = f ∷ s.fed }
 
-  -- an input's frontier moves on; with no time the input is closed
+  -- the session after a new frontier of an input; without times, the input is closed
   abbrev pub with_frontier : ℕ → List T → Session T → Session T
   with_frontier i ts s = record s { inputs = set s.inputs i ts }
 
 module _ {T : Type 0} (below : T → T → Bool) (p : List Node) (s : Session T) where
-  -- what refuses a change
+  -- the refusal of a change
   abbrev pub change_refusal : Fed T → Option Refusal
   change_refusal f = first_refusal (feed_faults below p (front_at f.input s.inputs) (length (fed_to f.input s.fed)) f)
 
-  -- what refuses an input's frontier: each of its times must be beyond the old one
+  -- the refusal of a new frontier of an input: each of its times must be beyond the old frontier
   abbrev pub frontier_refusal : ℕ → List T → Option Refusal
   frontier_refusal i ts = first_refusal (advance_faults below (front_at i s.inputs) ts)
 
-  -- the frontier of a view: the least of those of all inputs that feed it
+  -- the frontier of a view: the least times of the frontiers of all inputs that feed it
   abbrev pub view_frontier : ℕ → List T
   view_frontier v = least below (open_for below p (λ i. front_at i s.inputs) v)
 
-  -- what refuses a reading: the view may still change at the time, or the time was given up
+  -- the refusal of a read: the view may still change at the time, or readers gave up the time
   abbrev pub read_refusal : ℕ → T → Option Refusal
   read_refusal v t = first_refusal ((is_beyond below (view_frontier v) t, NotPassed) ∷ (not (is_beyond below (s.since v) t), GivenUp) ∷ [])
 
-  -- what refuses the changes of a view: some time was given up
+  -- the refusal when asked for a view's changes: readers gave up some time
   abbrev pub changes_refusal : T → ℕ → Option Refusal
   changes_refusal minimum v = first_refusal ((not (is_from_start below minimum (s.since v)), GivenUp) ∷ [])
 
@@ -71,7 +71,7 @@ module _ {T : Type 0} (below : T → T → Bool) (p : List Node) (s : Session T)
   abbrev pub frontier_at : (T → T → Ordering) → ℕ → List T
   frontier_at cmp v = in_order cmp (view_frontier v)
 
-  -- the changes of a view at the times that its frontier has passed: the one list of updates that
-  -- at each of them sums to the query, from scratch, on the accepted changes
+  -- the changes of a view at the times that its frontier has passed: the one list of updates that sums, at each
+  -- of these times, to the query, from scratch, on the accepted changes
   abbrev pub changes_at : (T → T → Ordering) → (T → T → T) → ℕ → List (Update T)
   changes_at cmp joined v = changes_along below cmp joined (view_frontier v) (λ t. query_at below p (λ i. fed_to i s.fed) v t) (map (λ f. f.update.time) s.fed)

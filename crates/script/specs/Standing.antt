@@ -1,4 +1,4 @@
--- Which board stands for which session.
+-- When a board stands for a session.
 use Rattle.std.specs.Prelude.{◌≡◌, ℕ, Bool, List, length, Option, Some, None}
 use Rattle.update.specs.declared.refusal.Refusal.{Refusal}
 use Rattle.update.specs.declared.refusal.Refusal.TheVariants.{OutOfMemory}
@@ -11,14 +11,14 @@ use Rattle.script.specs.Relays.{IsIdle, AreDue}
 use Rattle.script.specs.Sessions.{Session}
 
 module _ {T : Type 0} where
-  -- there is one worker, and it may carry on what waits, unless it met what ends a run
+  -- there is one worker, and it is ready to carry on what waits, unless it ran out of memory
   abbrev pub IsReadyUnless : Option Refusal → BoardState T → Type 0
   IsReadyUnless None b = IsIdle b × AreDue b.dataflow 0 b.stations
   IsReadyUnless (Some refusal) b = (refusal ≡ OutOfMemory) × (b.dataflow.workers ≡ 1)
 
 module _ {T : Type 0} (below : T → T → Bool) (minimum : T) where
-  -- the board may stand after a history in which just these changes were fed, and the inputs'
-  -- frontiers and those beyond which views may be read came to stand so
+  -- the board stands for some history with the session's changes, the session's input frontiers, and the
+  -- session's frontiers from which views may be read
   pub record StandsAs (b : BoardState T) (s : Session T) : Type 0 where
     pub history : List (Event T)
     pub stands : Stands below minimum b history

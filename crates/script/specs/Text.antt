@@ -1,4 +1,4 @@
--- The text of a script: the pieces of its commands, in order.
+-- The text of a script: the pieces that its commands print, in order.
 use Rattle.std.specs.Prelude.{◌≡◌, ℕ, List, [], ◌∷◌, ◌++◌, Option, Some, None}
 use Rattle.lattice.specs.declared.product.Pair.{Pair}
 use Rattle.lattice.specs.Pairs.{make_pair}
@@ -16,24 +16,24 @@ use Rattle.script.specs.Printing.{refused_text, rows_text, changes_text, frontie
 use Rattle.script.specs.Sessions.{Session, first_session, with_change, with_frontier, change_refusal, frontier_refusal, read_refusal, changes_refusal, rows_at, changes_at, frontier_at}
 use Rattle.lattice.specs.Bitimes.{bitime_below, bitime_cmp, bitime_join}
 
--- a script's session
+-- the session of a script; its times are pairs of a valid time and a system time
 abbrev pub BitemporalSession : Type 0
 BitemporalSession = Session (Pair ℕ ℕ)
 
 module _ (p : List Node) (s : BitemporalSession) where
-  -- what refuses a command that changes an input
+  -- the refusal of a command that changes an input
   abbrev pub input_command_refusal : InputCommand → Option Refusal
   input_command_refusal (Change input time diff row) = change_refusal bitime_below p s (record { input = input; update = record { time = time; row = row; diff = diff } })
   input_command_refusal (Advance input times) = frontier_refusal bitime_below p s input times
   input_command_refusal (Close input) = None
 
-  -- what refuses a command that asks about a view
+  -- the refusal of a command that asks about a view
   abbrev pub view_command_refusal : ViewCommand → Option Refusal
   view_command_refusal (Read view time) = read_refusal bitime_below p s view time
   view_command_refusal (Changes view) = changes_refusal bitime_below p s (make_pair 0 0) view
   view_command_refusal (Frontier view) = None
 
-  -- what refuses a command
+  -- the refusal of a command
   abbrev pub command_refusal : Command → Option Refusal
   command_refusal (command.Input change) = input_command_refusal change
   command_refusal (command.View question) = view_command_refusal question
@@ -44,7 +44,7 @@ module _ (p : List Node) (s : BitemporalSession) where
   carry_out (Advance input times) = with_frontier input times s
   carry_out (Close input) = with_frontier input [] s
 
-  -- if something refuses a command, the session stays as it is
+  -- a refused command leaves the session as it is
   abbrev pub carry_out_unless : Option Refusal → InputCommand → BitemporalSession
   carry_out_unless None change = carry_out change
   carry_out_unless (Some refusal) change = s
@@ -66,7 +66,7 @@ module _ (t : ScriptModel) (s : BitemporalSession) where
   command_text (command.Input change) = []
   command_text (command.View question) = answer question
 
-  -- what line n prints for its command: a refusal, if something refuses it
+  -- what line n prints: the refusal, if there is one, and otherwise the command's text
   abbrev pub text_unless : Option Refusal → ℕ → Command → List ℕ
   text_unless None n command = command_text command
   text_unless (Some refusal) n command = refused_text n refusal
@@ -75,21 +75,21 @@ module _ (t : ScriptModel) (s : BitemporalSession) where
   abbrev pub piece : ℕ → Command → List ℕ
   piece n command = text_unless (command_refusal t.plan s command) n command
 
--- the session after lines
+-- the session after these lines
 abbrev pub after_lines : List Node → BitemporalSession → List CommandLine → BitemporalSession
 after_lines p s [] = s
 after_lines p s (line ∷ lines) = after_lines p (after_command p s line.command) lines
 
--- this holds of the session after some of the lines, from the first one on
+-- the property holds of the session after some of the lines, counted from the first
 abbrev pub HoldsAlong : (BitemporalSession → Type 0) → List Node → BitemporalSession → List CommandLine → Type 0
 HoldsAlong Holds p s lines = (done : List CommandLine) × (rest : List CommandLine) × (done ++ rest ≡ lines) × Holds (after_lines p s done)
 
--- what lines write
+-- what the lines write
 abbrev pub lines_text : ScriptModel → BitemporalSession → List CommandLine → List ℕ
 lines_text t s [] = []
 lines_text t s (line ∷ lines) = piece t s line.line line.command ++ lines_text t (after_command t.plan s line.command) lines
 
--- a script's session begins at the least pair
+-- the session before the first line; it begins at the least pair
 abbrev pub opening_session : List Node → BitemporalSession
 opening_session p = first_session (make_pair 0 0) p
 

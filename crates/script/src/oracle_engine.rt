@@ -272,8 +272,10 @@ impl CatchUp for OracleEngine {
 /// | Fault | When |
 /// |---|---|
 /// | `Refused(1)` | an allocation was refused |
-/// | `Refused(10)` | a number does not fit in 64 bits, at a view or at a node above it. This happens only if the accepted changes give some node a bound of 2 to the 63 or more |
+/// | `Refused(10)` | a number does not fit in 64 bits, at a view or at a node above it |
 /// | `Write` | the output failed; after any other fault, no call of the output has failed |
+///
+/// `Refused(10)` comes only if the accepted changes give some node a bound of 2 to the 63 or more.
 ///
 /// Cost: a change is linear in the nodes of the plan and in the elements of the inputs' frontiers. A read goes
 /// over all earlier changes, and sorts what each node above the view reads and writes. So a script of reads and

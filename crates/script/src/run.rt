@@ -91,8 +91,10 @@ pub(crate) fn run<E: CatchUp, W: Out>(
 /// |---|---|
 /// | `Refused(23)` | the number of workers is not 1; no other number is supported yet |
 /// | `Refused(1)` | an allocation was refused |
-/// | `Refused(10)` | the count of a row does not fit in 64 bits. This happens only if the accepted changes give some node a bound of 2 to the 63 or more |
+/// | `Refused(10)` | the count of a row does not fit in 64 bits |
 /// | `Write` | the output failed; after any other fault, no call of the output has failed |
+///
+/// `Refused(10)` comes only if the accepted changes give some node a bound of 2 to the 63 or more.
 ///
 /// Cost: each line costs what its event costs on the board. A change also costs what it takes to carry it along
 /// every path of the plan. If a node reads another at both of its ports, it gets each change twice, so a tower

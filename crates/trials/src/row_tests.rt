@@ -7,6 +7,6 @@ use row::route;
 fn routes_are_remainders_from_zero_on(rt: HostRuntime) {
     assert!(rt; route(&[-1], 3) == 2);
     assert!(rt; route(&[5, -7], 4) == 2);
-    // 2 to the 64, less 2
+    // 2 to the 64, minus 2
     assert!(rt; route(&[i64::MAX, i64::MAX], 16) == 14);
 }
