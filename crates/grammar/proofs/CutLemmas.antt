@@ -1,4 +1,4 @@
--- Lines and words that are joined are cut again where they were.
+-- Lines and words that are joined are cut again at the same places.
 use Rattle.std.proofs.Common.{◌≡◌, ℕ, ◌<◌, Bool, true, false, not, cond, eqb, eq-eqb, ne_eqb, List, [], ◌∷◌, length, filter, refl, sym, ap, ◌∙◌, append_assoc, arith}
 use Rattle.std.specs.Prelude.{◌≢◌}
 use Rattle.std.specs.List.{slice_split, onto_first, All}
@@ -38,7 +38,7 @@ words_spaced (word ∷ next ∷ words) h =
     ∙ keep word (slice_split at_space (joined_words (next ∷ words))) h.0.0
     ∙ ap (λ (ws : List (List ℕ)). word ∷ ws) (words_spaced (next ∷ words) h.1)
 
--- no piece has a space
+-- no piece contains a space
 abbrev Clean : List (List ℕ) → Type 0
 Clean [] = Unit {0}
 Clean (piece ∷ pieces) = All (λ b. b ≢ 32) piece × Clean pieces
@@ -64,6 +64,6 @@ kept_pieces : (pieces : List (List ℕ)) → Clean pieces → AreWords (filter i
 kept_pieces [] c = tt
 kept_pieces (piece ∷ pieces) c = kept_piece piece (filter is_kept pieces) (eqb (length piece) 0) refl c.0 (kept_pieces pieces c.1)
 
--- shows that the words of a line meet what words_spaced asks for
+-- the words of a line meet the condition of words_spaced
 pub own_words : (line : List ℕ) → AreWords (words_of line)
 own_words line = kept_pieces (slice_split at_space line) (pieces_clean line)

@@ -1,4 +1,4 @@
--- A number is read from the text that is printed of it, and from no other.
+-- A number is read from its printed text, and from no other word.
 use Rattle.std.proofs.Common.{◌≡◌, ℕ, zero, suc, ◌≤◌, ℤ, pos, negsuc, neg_ℤ, drop, ap₂, w64, le-ltb, Bool, ltb-false, eqb-true, ◌^◌, ◌<◌, true, false, not, ◌&&◌, cond, eqb, ltb, List, [], ◌∷◌, length, get_or, Some, None, refl, sym, ap, ◌∙◌, inl, inr, arith, ltb-true, lt-ltb, ne_eqb, eq-eqb}
 use Rattle.std.specs.Char.{is_ascii_digit}
 use Rattle.std.specs.Fmt.{decimal, signed_decimal}
@@ -38,14 +38,14 @@ lead_decimal n lt h =
       | inr none ↦ let zero : n ≡ 0 = omega arith in ap (λ m. length (decimal m)) zero ∙ ap length (decimal_digit 0 (omega arith))
     ]
 
--- reads a printed number again, if it fits in 64 bits
+-- the printed text of a whole number is read as that number, if it fits in 64 bits
 pub whole_again : (n : ℕ) → n < 2 ^ 64 → whole_of (decimal n) ≡ Some n
 whole_again n lt = whole_is (decimal n) n (is_one (decimal n) (digits_decimal own n lt) (decimal_nonempty n lt) (lead_decimal n lt)) (digits_value-decimal own n lt) lt
 
 pub numeral_text : (w : List ℕ) → is_numeral w ≡ true → digits_value 10 w < 2 ^ 64 → decimal (digits_value 10 w) ≡ w
 numeral_text w e small = let d = numeral_digits w e in decimal-digits_value own w d.all d.some (lead w e) small
 
--- a word that is a whole number is what is printed of it
+-- a word that is a whole number is the printed text of that number
 pub whole_text : (w : List ℕ) (n : ℕ) → whole_of w ≡ Some n → w ≡ decimal n
 whole_text w n e =
     let h = some_is (is_numeral w && ltb (digits_value 10 w) (2 ^ 64)) (digits_value 10 w) n e in
@@ -53,7 +53,7 @@ whole_text w n e =
     let small = ltb-true _ _ (and-right (is_numeral w) (ltb (digits_value 10 w) (2 ^ 64)) h.0) in
     sym (numeral_text w one small) ∙ ap decimal h.1
 
--- the numeral behind a minus sign
+-- the numeral after a minus sign
 minus_text : (ds : List ℕ) (v : ℕ) → digits_value 10 ds ≡ v → is_numeral ds ≡ true → not (eqb (get_or ds 0 0) 0x30) ≡ true → v < 2 ^ 64 → signed_decimal (neg_ℤ (pos v)) ≡ 45 ∷ ds
 minus_text ds zero e one other small =
     let text : decimal 0 ≡ ds = sym (ap decimal e) ∙ numeral_text ds one (omega (arith, e)) in
@@ -88,7 +88,7 @@ signed_by w z false m e =
     let small : digits_value 10 w < 2 ^ 63 = ltb-true _ _ (and-right (is_numeral w) fits h.0) in
     sym (numeral_text w (and-left (is_numeral w) fits h.0) (omega (arith, small))) ∙ ap signed_decimal h.1
 
--- a word that is a signed number is what is printed of it
+-- a word that is a signed number is the printed text of that number
 pub signed_text : (w : List ℕ) (z : ℤ) → signed_of w ≡ Some z → w ≡ signed_decimal z
 signed_text w z e = signed_by w z (has_minus w) refl e
 
@@ -117,7 +117,7 @@ both : (a b : Bool) → a ≡ true → b ≡ true → (a && b) ≡ true
 both true b e f = f
 both false b e f = e
 
--- what is printed of a signed number is that number
+-- the printed text of a signed number is read as that number
 pub signed_again : (z : ℤ) → FitsSigned w64 z → signed_of (signed_decimal z) ≡ Some z
 signed_again (pos n) fits =
     let lt : n < 2 ^ 63 = fits.sfits in

@@ -1,4 +1,4 @@
--- What a line says that declares a node and was accepted: each kind of such lines.
+-- What an accepted line that declares a node says, for each kind of such lines.
 use Rattle.std.proofs.Common.{◌≡◌, ℕ, false, ltb, List, [], ◌∷◌, ◌++◌, length, Some, None, Ok, refl, sym, ap, subst, ◌∙◌, codes}
 use Rattle.std.specs.Prelude.{map}
 use Rattle.row.specs.Text.{item_text}
@@ -61,7 +61,7 @@ is_view_line k next (name ∷ from ∷ []) early e =
     (ap (λ (w : List ℕ). codes "view" ∷ name ∷ w ∷ []) (source_ok k from b.0 b.1).name_is) refl
 is_view_line k next (name ∷ from ∷ more ∷ words) early e = absurd cc
 
--- the words of a node line are printed again where those behind its kind are
+-- a `node` line is spelled if its source and the words after it are
 node_spelled : (name kind from : List ℕ) (words : List (List ℕ)) (from' : List ℕ) (words' : List (List ℕ)) → from ≡ from' → words ≡ words' → (codes "node" ∷ name ∷ kind ∷ from ∷ words) ≡ (codes "node" ∷ name ∷ kind ∷ from' ∷ words')
 node_spelled name kind from words from' words' e f = cc
 
@@ -112,21 +112,21 @@ is_negate_line k next name (from ∷ []) early e =
     (node_spelled name (codes "negate") from [] (name_at k.names b.0) [] (source_ok k from b.0 b.1).name_is refl) refl
 is_negate_line k next name (from ∷ more ∷ words) early e = absurd cc
 
--- the word of a kind
-abbrev kind_text : KindWord → List ℕ
-kind_text kind.Map = codes "map"
-kind_text kind.Filter = codes "filter"
-kind_text kind.Concat = codes "concat"
-kind_text kind.Negate = codes "negate"
+-- the word that spells a kind
+abbrev word_of_kind : KindWord → List ℕ
+word_of_kind kind.Map = codes "map"
+word_of_kind kind.Filter = codes "filter"
+word_of_kind kind.Concat = codes "concat"
+word_of_kind kind.Negate = codes "negate"
 
-kind_ok : (word : List ℕ) (found : KindWord) → kind_word word ≡ Some found → word ≡ kind_text found
+kind_ok : (word : List ℕ) (found : KindWord) → kind_word word ≡ Some found → word ≡ word_of_kind found
 kind_ok word found e =
-    one_of kind_text word (codes "map") kind.Map found _ e refl (λ e.
-    one_of kind_text word (codes "filter") kind.Filter found _ e refl (λ e.
-    one_of kind_text word (codes "concat") kind.Concat found _ e refl (λ e.
-    one_of kind_text word (codes "negate") kind.Negate found None e refl (λ e. absurd cc))))
+    one_of word_of_kind word (codes "map") kind.Map found _ e refl (λ e.
+    one_of word_of_kind word (codes "filter") kind.Filter found _ e refl (λ e.
+    one_of word_of_kind word (codes "concat") kind.Concat found _ e refl (λ e.
+    one_of word_of_kind word (codes "negate") kind.Negate found None e refl (λ e. absurd cc))))
 
-kind_declares : (k next : ParseState) (name : List ℕ) (found : KindWord) (words : List (List ℕ)) → k.started ≡ false → kind_line k name found words ≡ Ok next → Declares k (codes "node" ∷ name ∷ kind_text found ∷ words) next
+kind_declares : (k next : ParseState) (name : List ℕ) (found : KindWord) (words : List (List ℕ)) → k.started ≡ false → kind_line k name found words ≡ Ok next → Declares k (codes "node" ∷ name ∷ word_of_kind found ∷ words) next
 kind_declares k next name kind.Map words early e = is_map_line k next name words early e
 kind_declares k next name kind.Filter words early e = is_filter_line k next name words early e
 kind_declares k next name kind.Concat words early e = is_concat_line k next name words early e

@@ -1,4 +1,4 @@
--- Words that are items, comparisons or tests are what is printed of these.
+-- Words that are items, comparisons or tests are the printed text of these.
 use Rattle.std.proofs.Common.{◌≡◌, ℕ, ◌<◌, Bool, true, false, cond, eqb, eqb-true, get_or, drop, List, [], ◌∷◌, map, Option, Some, None, Ok, refl, ap, ◌∙◌, arith, codes}
 use Rattle.std.specs.Option.{option_map}
 use Rattle.row.specs.Text.{item_text, cmp_text}

@@ -1,4 +1,4 @@
--- What a line says that was accepted: each kind of line, and then any.
+-- What an accepted line says: first each kind of line, then any line.
 use Rattle.std.proofs.Common.{◌≡◌, ℕ, ◌%◌, Bool, true, false, not, ◌&&◌, cond, eqb, ltb, eqb-true, List, [], ◌∷◌, ◌++◌, length, Result, Ok, Err, inl, inr, refl, sym, ap, subst, ◌∙◌, codes}
 use Rattle.std.specs.Fmt.{decimal}
 use Rattle.std.specs.Str.{is_utf8}
@@ -29,7 +29,7 @@ unfolding start_line
 is_start_line n k next [] early e = record { words_are = refl; is_early = early; next_is = sym (same_ok (record k { started = true }) next e) }
 is_start_line n k next (word ∷ words) early e = absurd cc
 
--- a command, with the words of its line
+-- the line is the printed form of this command, which is about a node of the plan
 record IsSpelled (k : ParseState) (words : List (List ℕ)) (command : Command) : Type 0 where
   words_are : words ≡ command_words k.names command
   is_about : IsAbout k.plan command

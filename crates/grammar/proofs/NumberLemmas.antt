@@ -1,4 +1,4 @@
--- What parse reads, in the words of this crate.
+-- The contract of std's `parse`, in the words of this crate's definitions.
 use Rattle.std.proofs.Common.{◌≡◌, ℕ, ◌^◌, ◌<◌, ℤ, pos, neg_ℤ, Bool, true, false, not, ◌&&◌, cond, eqb, ltb, List, [], ◌∷◌, length, get_or, drop, Option, Some, None, Result, Ok, Err, refl, sym, ap, ◌∙◌, arith, rules, ltb-true, lt-ltb, eqb-true, w64}
 use Rattle.std.specs.Char.{is_ascii_digit}
 use Rattle.std.proofs.lemmas.Bool.Decides.{nat_tests}
@@ -8,23 +8,23 @@ use Rattle.std.specs.Str.Parse.{digits_value, ParsesUnsigned, ParsesSigned}
 use Rattle.std.proofs.lemmas.Str.Parse.{IsNumeralModel, numerals_by_value, parse_digits, parse_signed_digits, parse_signed_minus}
 use Rattle.grammar.specs.Numbers.{is_numeral, whole_of, has_minus, is_signed_numeral, is_in_range, signed_value, signed_of}
 
--- lets the lemmas of std about parsing speak of numerals in our form
+-- our numerals fit std's lemmas about parsing
 pub own : IsNumeralModel (λ ds. list_all is_ascii_digit ds ≡ true) (digits_value 10)
 own = numerals_by_value _ (search rules)
 
--- a parse that is Ok just where a test holds
+-- a parse that is Ok if and only if a test holds
 ok_when : {A E : Type 0} (r : Result A E) (P : Type 0) (t : Bool) (x : A) → OkIff r P x → (t ≡ true → P) → (P → t ≡ true) → result_ok r ≡ cond t (Some x) None
 ok_when (Ok y) P true x h f g = ap Some h.1
 ok_when (Ok y) P false x h f g = let e = g h.0 in absurd cc
 ok_when (Err e) P true x h f g = absurd (h (f refl))
 ok_when (Err e) P false x h f g = refl
 
--- takes a conjunction of tests apart
+-- takes the first test out of a conjunction
 pub and-left : (a b : Bool) → (a && b) ≡ true → a ≡ true
 and-left true b e = refl
 and-left false b e = e
 
--- takes a conjunction of tests apart, from the right
+-- takes the second test out of a conjunction
 pub and-right : (a b : Bool) → (a && b) ≡ true → b ≡ true
 and-right true b e = e
 and-right false b e = absurd cc
@@ -33,7 +33,7 @@ pub record Digits (word : List ℕ) : Type 0 where
   pub all : list_all is_ascii_digit word ≡ true
   pub some : 0 < length word
 
--- gives what std asks for before it parses a word
+-- gives the condition under which std parses a word
 pub numeral_digits : (word : List ℕ) → is_numeral word ≡ true → Digits word
 numeral_digits [] e = absurd cc
 numeral_digits (only ∷ []) e = record { all = ap (λ b. b && true) e; some = omega arith }

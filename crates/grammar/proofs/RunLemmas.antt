@@ -1,4 +1,4 @@
--- One line after the other.
+-- The loop over the lines of a file.
 use Rattle.std.proofs.Common.{◌≡◌, ℕ, ◌+◌, true, false, cond, List, [], ◌∷◌, ◌++◌, length, Result, Ok, Err, refl, sym, ap, ◌∙◌, inl, inr, append_assoc, length-append, arith}
 use Rattle.std.proofs.lemmas.List.{nil_from_length}
 use Rattle.update.specs.declared.refusal.Refusal.{Refusal}
@@ -22,7 +22,7 @@ pub line_taken : (n : ℕ) (k next : ParseState) (line : List ℕ) (all lines : 
 line_taken n k next line all lines total parts e so_far =
     sym (ap (lines_from n k) parts ∙ step n k line lines ∙ ap (λ r. on_line n r (λ k. lines_from (n + 1) k lines)) e) ∙ so_far
 
--- answers take_lines where it returns at a line that is refused
+-- answers take_lines if it returns at a refused line
 pub line_wrong : (e : LineError) (n : ℕ) (k : ParseState) (line : List ℕ) (all lines : List (List ℕ)) (total : Result ScriptModel (ℕ × Refusal)) → all ≡ line ∷ lines → Fails e (line_of n k line) → lines_from n k all ≡ total → IsFault n (error_code e) total
 line_wrong error.Memory n k line all lines total parts h so_far = inl refl
 line_wrong (error.Refused refusal) n k line all lines total parts h so_far =
@@ -31,17 +31,17 @@ line_wrong (error.Refused refusal) n k line all lines total parts h so_far =
 pub no_line : (bytes : List ℕ) → length bytes ≡ 0 → lines_of bytes ≡ []
 no_line bytes e = ap lines_of (nil_from_length bytes e)
 
--- answers take_lines at the end of a file that has its start line
+-- answers take_lines at the end of a file with a `start` line
 pub all_taken : (n : ℕ) (k : ParseState) (bytes : List ℕ) (total : Result ScriptModel (ℕ × Refusal)) → length bytes ≡ 0 → k.started ≡ true → lines_from n k (lines_of bytes) ≡ total → total ≡ Ok (model_of k)
 unfolding lines_from
 all_taken n k bytes total e s so_far = sym so_far ∙ ap (lines_from n k) (no_line bytes e) ∙ ap (λ b. cond b (Ok (model_of k)) (Err (n, BadOrder))) s
 
--- answers take_lines at the end of a file without a start line
+-- answers take_lines at the end of a file without a `start` line
 pub no_start : (n : ℕ) (k : ParseState) (bytes : List ℕ) (total : Result ScriptModel (ℕ × Refusal)) → length bytes ≡ 0 → k.started ≡ false → lines_from n k (lines_of bytes) ≡ total → IsFault n 34 total
 unfolding lines_from
 no_start n k bytes total e s so_far = inr (BadOrder, refl, sym so_far ∙ ap (lines_from n k) (no_line bytes e) ∙ ap (λ b. cond b (Ok (model_of k)) (Err (n, BadOrder))) s)
 
--- lines that are in order, and more behind them
+-- the parse state after more lines at the end
 pub parse_lines-append : (n : ℕ) (k : ParseState) (before more : List (List ℕ)) → parse_lines n k (before ++ more) ≡ (parse_lines n k before >>= λ k. parse_lines (n + length before) k more)
 parse_lines-append n k [] more = ap (λ (m : ℕ). parse_lines m k more) (omega arith)
 parse_lines-append n k (line ∷ before) more =
@@ -50,7 +50,7 @@ parse_lines-append n k (line ∷ before) more =
       | Err refusal ↦ refl
     ]
 
--- the lines that were taken: they are in order, and this is known behind them
+-- the lines so far are in order, and this is the parse state after them
 pub record Taken (all : List (List ℕ)) (n : ℕ) (k : ParseState) (rest : List (List ℕ)) : Type 0 where
   pub before : List (List ℕ)
   pub parts : all ≡ before ++ rest

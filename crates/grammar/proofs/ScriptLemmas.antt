@@ -1,5 +1,5 @@
--- What holds of every script that was read: each node has a name, each command is about a node of
--- its sort, and its words are those of its lines.
+-- What holds of every parsed script: each node has a name, each command is about a node of the kind that it
+-- needs, and its printed words are those of its lines.
 use Rattle.std.proofs.Common.{◌≡◌, ℕ, ◌+◌, ◌<◌, Bool, true, false, not, ◌&&◌, cond, ltb, ltb-true, lt-ltb, IsTrue, List, [], ◌∷◌, ◌++◌, length, map, Ok, inl, inr, refl, sym, ap, ap₂, subst, ◌∙◌, arith, codes, append_assoc, length-append}
 use Rattle.std.specs.List.{All, filter}
 use Rattle.std.proofs.lemmas.Bool.{and_parts, and_from}
@@ -22,10 +22,10 @@ use Rattle.grammar.specs.ParseStates.{ParseState}
 use Rattle.grammar.specs.Lines.{line_of}
 use Rattle.grammar.specs.Scripts.{model_of, lines_from, script_of, first_parse_state}
 use Rattle.grammar.specs.Spelling.{node_words, command_words, plan_words, script_words, kept_words, Declares, Starts, Asks, Says}
-use Rattle.grammar.proofs.FaultLemmas.{made, found, outcome, taken, stopped, ended}
+use Rattle.grammar.proofs.FaultLemmas.{made, parsed_script, outcome, taken, stopped, ended}
 use Rattle.grammar.proofs.LineLemmas.{line_says}
 
--- a node that is there stays what it is where a plan goes on
+-- if a plan grows, the nodes that it had stay the same
 within_more : (test : Node → Bool) (p more : List Node) (n : ℕ) → IsTrue (ltb n (length p) && test (node_at p n)) → IsTrue (ltb n (length (p ++ more)) && test (node_at (p ++ more) n))
 within_more test p more n h =
     let parts = and_parts _ _ h in
@@ -36,50 +36,50 @@ about_more : (p more : List Node) (command : Command) → IsAbout p command → 
 about_more p more (command.Input change) h = within_more is_input p more (changed_input change) h
 about_more p more (command.View question) h = within_more is_output p more (asked_view question) h
 
--- a node whose line is spelled and kept adds up
+-- a node whose printed line is not skipped is linear
 kept_is_linear : (names : List (List ℕ)) (name : List ℕ) (node : Node) → is_skipped (node_words names name node) ≡ false → IsTrue (is_linear node)
 kept_is_linear names name (Join left right) e = absurd cc
 kept_is_linear names name (Reduce kind source) e = absurd cc
 kept_is_linear names name node e = refl
 
--- what holds behind each line
-pub record Stands (k : ParseState) : Type 0 where
+-- what holds of the parse state after each line
+pub record IsConsistent (k : ParseState) : Type 0 where
   pub named : length k.names ≡ length k.plan
   pub linear : All (λ node. IsTrue (is_linear node)) k.plan
   pub about : All (λ line. IsAbout k.plan line.command) k.commands
   pub asked_late : k.started ≡ false → k.commands ≡ []
 
 -- begins the inductions over the lines of a script
-pub nothing_stands : Stands first_parse_state
+pub nothing_stands : IsConsistent first_parse_state
 nothing_stands = record { named = refl; linear = All-nil (λ (node : Node). IsTrue (is_linear node)); about = All-nil (λ (line : CommandLine). IsAbout [] line.command); asked_late = λ e. refl }
 
-declared_stands : (k next : ParseState) (words : List (List ℕ)) → Stands k → Declares k words next → Stands next
-declared_stands k next words s d = subst Stands (sym d.next_is) (record {
+declared_stands : (k next : ParseState) (words : List (List ℕ)) → IsConsistent k → Declares k words next → IsConsistent next
+declared_stands k next words s d = subst IsConsistent (sym d.next_is) (record {
   named = (let a = length-append k.names (d.name ∷ []) in let b = length-append k.plan (d.node ∷ []) in let e = s.named in omega arith);
   linear = All-push (λ (node : Node). IsTrue (is_linear node)) k.plan d.node s.linear (kept_is_linear k.names d.name d.node (ap is_skipped (sym d.words_are) ∙ d.is_kept));
   about = All-weaker (λ (line : CommandLine). IsAbout k.plan line.command) (λ line. IsAbout (k.plan ++ d.node ∷ []) line.command) (λ line h. about_more k.plan (d.node ∷ []) line.command h) k.commands s.about;
   asked_late = s.asked_late;
 })
 
-asked_stands : (n : ℕ) (k next : ParseState) (words : List (List ℕ)) → Stands k → Asks n k words next → Stands next
-asked_stands n k next words s a = subst Stands (sym a.next_is) (record {
+asked_stands : (n : ℕ) (k next : ParseState) (words : List (List ℕ)) → IsConsistent k → Asks n k words next → IsConsistent next
+asked_stands n k next words s a = subst IsConsistent (sym a.next_is) (record {
   named = s.named;
   linear = s.linear;
   about = All-push (λ (line : CommandLine). IsAbout k.plan line.command) k.commands (record { line = n; command = a.command }) s.about a.is_about;
   asked_late = λ e. (let no : true ≡ false = sym a.is_late ∙ e in absurd cc);
 })
 
--- keeps Stands over a line
-pub says_stands : (n : ℕ) (k next : ParseState) (words : List (List ℕ)) → Stands k → Says n k words next → Stands next
-says_stands n k next words s (inl h) = subst Stands (sym h.next_is) s
+-- every accepted line keeps IsConsistent
+pub says_stands : (n : ℕ) (k next : ParseState) (words : List (List ℕ)) → IsConsistent k → Says n k words next → IsConsistent next
+says_stands n k next words s (inl h) = subst IsConsistent (sym h.next_is) s
 says_stands n k next words s (inr (inl h)) = declared_stands k next words s h
-says_stands n k next words s (inr (inr (inl h))) = subst Stands (sym h.next_is) (record { named = s.named; linear = s.linear; about = s.about; asked_late = λ e. absurd (no e) })
+says_stands n k next words s (inr (inr (inl h))) = subst IsConsistent (sym h.next_is) (record { named = s.named; linear = s.linear; about = s.about; asked_late = λ e. absurd (no e) })
   where
     no : true ≡ false → ⊥
     no e = absurd cc
 says_stands n k next words s (inr (inr (inr h))) = asked_stands n k next words s h
 
--- the words of what is known: those of `start` and of commands where it has come
+-- the printed words of `start` and of the commands, if `start` has come
 abbrev late_words : Bool → List (List ℕ) → List CommandLine → List (List (List ℕ))
 late_words false names commands = []
 late_words true names commands = (codes "start" ∷ []) ∷ map (λ (line : CommandLine). command_words names line.command) commands
@@ -87,7 +87,7 @@ late_words true names commands = (codes "start" ∷ []) ∷ map (λ (line : Comm
 abbrev known_words : ParseState → List (List (List ℕ))
 known_words k = plan_words [] k.names k.plan ++ late_words k.started k.names k.commands
 
--- spells one node more
+-- the printed words of the nodes, with one more node at the end
 pub plan_words-push : (before names : List (List ℕ)) (nodes : List Node) (name : List ℕ) (node : Node) → length names ≡ length nodes
     → plan_words before (names ++ name ∷ []) (nodes ++ node ∷ []) ≡ plan_words before names nodes ++ node_words (before ++ names) name node ∷ []
 plan_words-push before [] [] name node e = ap (λ (names : List (List ℕ)). node_words names name node ∷ []) (sym (append-nil before))
@@ -98,7 +98,7 @@ plan_words-push before (own ∷ names) (other ∷ nodes) name node e =
     (plan_words-push (before ++ own ∷ []) names nodes name node (omega (arith, e))
     ∙ ap (λ (all : List (List ℕ)). plan_words (before ++ own ∷ []) names nodes ++ node_words all name node ∷ []) (append_assoc before (own ∷ []) names))
 
--- the words of one line more
+-- the words of one more line, or nothing if it is skipped
 abbrev one : List (List ℕ) → List (List (List ℕ))
 one words = filter (λ ws. not (is_skipped ws)) (words ∷ [])
 
@@ -108,7 +108,7 @@ kept_one words e = ap (λ b. cond (not b) (words ∷ []) []) e
 skipped_one : (words : List (List ℕ)) → IsTrue (is_skipped words) → one words ≡ []
 skipped_one words e = ap (λ b. cond (not b) (words ∷ []) []) e
 
-declared_words : (k next : ParseState) (words : List (List ℕ)) → Stands k → Declares k words next → known_words k ++ one words ≡ known_words next
+declared_words : (k next : ParseState) (words : List (List ℕ)) → IsConsistent k → Declares k words next → known_words k ++ one words ≡ known_words next
 declared_words k next words s d =
     ap₂ (λ (late ws : List (List (List ℕ))). (plan_words [] k.names k.plan ++ late) ++ ws) (ap (λ b. late_words b k.names k.commands) d.is_early) (kept_one words d.is_kept ∙ ap (λ (ws : List (List ℕ)). ws ∷ []) d.words_are)
     ∙ ap (λ (ws : List (List (List ℕ))). ws ++ node_words k.names d.name d.node ∷ []) (append-nil (plan_words [] k.names k.plan))
@@ -117,7 +117,7 @@ declared_words k next words s d =
     ∙ ap (λ b. plan_words [] (k.names ++ d.name ∷ []) (k.plan ++ d.node ∷ []) ++ late_words b (k.names ++ d.name ∷ []) k.commands) (sym d.is_early)
     ∙ ap known_words (sym d.next_is)
 
-started_words : (k next : ParseState) (words : List (List ℕ)) → Stands k → Starts k words next → known_words k ++ one words ≡ known_words next
+started_words : (k next : ParseState) (words : List (List ℕ)) → IsConsistent k → Starts k words next → known_words k ++ one words ≡ known_words next
 started_words k next words s d =
     ap₂ (λ (late ws : List (List (List ℕ))). (plan_words [] k.names k.plan ++ late) ++ ws) (ap (λ b. late_words b k.names k.commands) d.is_early) (ap one d.words_are)
     ∙ ap (λ (ws : List (List (List ℕ))). ws ++ (codes "start" ∷ []) ∷ []) (append-nil (plan_words [] k.names k.plan))
@@ -142,24 +142,24 @@ asked_words n k next words a =
     ∙ ap (λ b. plan_words [] k.names k.plan ++ late_words b k.names (k.commands ++ line ∷ [])) (sym a.is_late)
     ∙ ap known_words (sym a.next_is)
 
-says_words : (n : ℕ) (k next : ParseState) (words : List (List ℕ)) → Stands k → Says n k words next → known_words k ++ one words ≡ known_words next
+says_words : (n : ℕ) (k next : ParseState) (words : List (List ℕ)) → IsConsistent k → Says n k words next → known_words k ++ one words ≡ known_words next
 says_words n k next words s (inl h) = ap (λ (ws : List (List (List ℕ))). known_words k ++ ws) (skipped_one words h.skipped) ∙ append-nil (known_words k) ∙ ap known_words (sym h.next_is)
 says_words n k next words s (inr (inl h)) = declared_words k next words s h
 says_words n k next words s (inr (inr (inl h))) = started_words k next words s h
 says_words n k next words s (inr (inr (inr h))) = asked_words n k next words h
 
--- a script that was read from lines, with what was known before them
+-- a script that was parsed from these lines, beginning in the parse state k
 record Read_from (k : ParseState) (lines : List (List ℕ)) (t : ScriptModel) : Type 0 where
   whole : IsWhole t
   words : known_words k ++ kept_words lines ≡ script_words t
 
-at_end : (n : ℕ) (k : ParseState) (t : ScriptModel) → Stands k → cond k.started (found (model_of k)) (made n BadOrder) ≡ found t → Read_from k [] t
+at_end : (n : ℕ) (k : ParseState) (t : ScriptModel) → IsConsistent k → cond k.started (parsed_script (model_of k)) (made n BadOrder) ≡ parsed_script t → Read_from k [] t
 at_end n k t s e = by k.started refl e
   where
-    same : found (model_of k) ≡ found t → model_of k ≡ t
+    same : parsed_script (model_of k) ≡ parsed_script t → model_of k ≡ t
     same h = cc
 
-    by : (b : Bool) → k.started ≡ b → cond b (found (model_of k)) (made n BadOrder) ≡ found t → Read_from k [] t
+    by : (b : Bool) → k.started ≡ b → cond b (parsed_script (model_of k)) (made n BadOrder) ≡ parsed_script t → Read_from k [] t
     by true started h = record {
       whole = subst IsWhole (same h) (record { named = s.named; linear = s.linear; about = s.about });
       words = append-nil (known_words k) ∙ ap (λ b. plan_words [] k.names k.plan ++ late_words b k.names k.commands) started ∙ ap script_words (same h);
@@ -173,7 +173,7 @@ kept_first line lines = by (is_skipped (words_of line))
     by true = refl
     by false = refl
 
-one_more : (n : ℕ) (k next : ParseState) (line : List ℕ) (lines : List (List ℕ)) (t : ScriptModel) → Says n k (words_of line) next → Stands k → Read_from next lines t → Read_from k (line ∷ lines) t
+one_more : (n : ℕ) (k next : ParseState) (line : List ℕ) (lines : List (List ℕ)) (t : ScriptModel) → Says n k (words_of line) next → IsConsistent k → Read_from next lines t → Read_from k (line ∷ lines) t
 one_more n k next line lines t says s rest = record {
   whole = rest.whole;
   words =
@@ -183,14 +183,14 @@ one_more n k next line lines t says s rest = record {
       ∙ rest.words;
 }
 
-read_from : (n : ℕ) (k : ParseState) (lines : List (List ℕ)) (t : ScriptModel) → Stands k → lines_from n k lines ≡ Ok t → Read_from k lines t
+read_from : (n : ℕ) (k : ParseState) (lines : List (List ℕ)) (t : ScriptModel) → IsConsistent k → lines_from n k lines ≡ Ok t → Read_from k lines t
 read_from n k [] t s e = at_end n k t s (sym (ended n k) ∙ e)
 read_from n k (line ∷ lines) t s e =
     elim (outcome (line_of n k line)) [
       | inl good ↦
           let says = line_says n k good.0 line good.1 in
           one_more n k good.0 line lines t says s (read_from (n + 1) good.0 lines t (says_stands n k good.0 (words_of line) s says) (sym (taken n k good.0 line lines good.1) ∙ e))
-      | inr bad ↦ let no : made n bad.0 ≡ found t = sym (stopped n k bad.0 line lines bad.1) ∙ e in absurd cc
+      | inr bad ↦ let no : made n bad.0 ≡ parsed_script t = sym (stopped n k bad.0 line lines bad.1) ∙ e in absurd cc
     ]
 
 -- answers the clause `whole` of scripts_are_spelled

@@ -1,4 +1,4 @@
--- What is known of the steps of a line that was accepted.
+-- What holds of the steps of an accepted line.
 use Rattle.std.proofs.Common.{◌≡◌, ℕ, Bool, true, false, not, cond, IsTrue, List, [], ◌∷◌, ◌++◌, get_or, Option, Some, None, Result, Ok, Err, is_some, refl, sym, ap, ◌∙◌, codes}
 use Rattle.std.specs.Str.{bytes_eq}
 use Rattle.std.proofs.lemmas.List.Quantifiers.{position-Some}
@@ -18,7 +18,7 @@ use Rattle.grammar.specs.Declarations.{with_node}
 use Rattle.grammar.specs.Lines.{keyword_of, is_declaring, opening}
 use Rattle.grammar.specs.ScriptModels.{name_at}
 
--- a line that is in order, and one that is not
+-- an accepted value, with its types written out
 abbrev pub accepted : {A : Type 0} → A → Result A Refusal
 accepted x = Ok x
 
@@ -58,7 +58,7 @@ if_passes_some test (Some m) n e = by (test m) refl e
     by true t h = (h, (let same : m ≡ n = cc in sym (ap test same) ∙ t))
     by false t h = absurd cc
 
--- a word that names a node is its name
+-- a word that names a node is the name of that node
 pub place_name : (k : ParseState) (word : List ℕ) (n : ℕ) → number_of_name k word ≡ Some n → word ≡ name_at k.names n
 place_name k word n e =
     let found = position-Some (bytes_eq word) k.names n [] e in
@@ -97,7 +97,7 @@ pub record NewName (k : ParseState) (word name : List ℕ) : Type 0 where
   pub is_formed : IsTrue (is_name word)
   pub is_free : number_of_name k word ≡ None
 
--- gives what Declares asks of a new name
+-- gives what Declares needs of a new name
 pub new_name_ok : (k : ParseState) (word name : List ℕ) → new_name k word ≡ Ok name → NewName k word name
 unfolding new_name
 new_name_ok k word name e =
@@ -109,7 +109,7 @@ unless_ok : {A : Type 0} (o : Option Refusal) (x y : A) → unless o x ≡ Ok y 
 unless_ok None x y e = (refl, sym (same_ok x y e))
 unless_ok (Some refusal) x y e = absurd cc
 
--- gives what Declares asks of an added node
+-- gives what Declares needs of an added node
 pub with_node_ok : (k : ParseState) (name : List ℕ) (node : Node) (next : ParseState) → with_node k name node ≡ Ok next
     → (node_refusal k.plan node ≡ None) × (next ≡ record k { names = k.names ++ name ∷ []; plan = k.plan ++ node ∷ [] })
 unfolding with_node
@@ -118,7 +118,7 @@ with_node_ok k name node next e =
     let h = unless_ok (node_refusal k.plan node) (k.plan ++ node ∷ []) added.0 added.1 in
     (h.0, sym (same_ok _ _ added.2) ∙ ap (λ (p : List Node). record { names = k.names ++ name ∷ []; plan = p; started = k.started; commands = k.commands }) h.1)
 
--- the word of a keyword
+-- the word that spells a keyword
 abbrev pub keyword_text : Keyword → List ℕ
 keyword_text keyword.Input = codes "input"
 keyword_text keyword.Node = codes "node"
@@ -131,7 +131,7 @@ keyword_text keyword.Read = codes "read"
 keyword_text keyword.Changes = codes "changes"
 keyword_text keyword.Frontier = codes "frontier"
 
--- the first of a list of alternatives whose word this is
+-- goes through a list of alternatives: the first one whose word this is, or one of the others
 pub one_of : {A : Type 0} (text_of : A → List ℕ) (word text : List ℕ) (first found : A) (more : Option A) → cond (bytes_eq word text) (Some first) more ≡ Some found → text_of first ≡ text → (more ≡ Some found → word ≡ text_of found) → word ≡ text_of found
 one_of text_of word text first found more e t rest = by (bytes_eq word text) refl e
   where
@@ -152,7 +152,7 @@ keyword_ok word found e =
     one_of keyword_text word (codes "changes") keyword.Changes found _ e refl (λ e.
     one_of keyword_text word (codes "frontier") keyword.Frontier found None e refl (λ e. absurd cc))))))))))
 
--- spells the keyword of an accepted line, and says on which side of start the line stands
+-- spells the keyword of an accepted line, and says on which side of `start` the line stands
 pub opening_ok : (k : ParseState) (word : List ℕ) (found : Keyword) → opening k word ≡ Ok found → (word ≡ keyword_text found) × (cond (is_declaring found) k.started (not k.started) ≡ false)
 unfolding opening
 opening_ok k word found e =

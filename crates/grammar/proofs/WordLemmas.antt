@@ -1,4 +1,4 @@
--- Words that are numbers are what is printed of these numbers.
+-- Words that are numbers are the printed text of these numbers.
 use Rattle.std.proofs.Common.{◌≡◌, ℕ, ◌%◌, ℤ, List, [], ◌∷◌, length, map, inl, inr, ◌⊎◌, Option, Some, None, Ok, refl, sym, ap, ap₂, ◌∙◌, arith}
 use Rattle.std.specs.Fmt.{decimal, signed_decimal}
 use Rattle.std.specs.List.{flat_map}
@@ -12,12 +12,12 @@ use Rattle.grammar.specs.Spelling.{time_words}
 use Rattle.grammar.proofs.DecimalLemmas.{whole_text, signed_text}
 use Rattle.grammar.proofs.StepLemmas.{or_refused_ok}
 
--- spells a whole number of a line
+-- spells a whole number in a line
 pub whole_ok : (word : List ℕ) (n : ℕ) → whole word ≡ Ok n → word ≡ decimal n
 unfolding whole
 whole_ok word n e = whole_text word n (or_refused_ok BadNumber (whole_of word) n e)
 
--- spells a signed number of a line
+-- spells a signed number in a line
 pub signed_ok : (word : List ℕ) (z : ℤ) → signed word ≡ Ok z → word ≡ signed_decimal z
 unfolding signed
 signed_ok word z e = signed_text word z (or_refused_ok BadNumber (signed_of word) z e)
@@ -26,7 +26,7 @@ seen : {A : Type 0} (o : Option A) → ((x : A) × (o ≡ Some x)) ⊎ (o ≡ No
 seen (Some x) = inl (x, refl)
 seen None = inr refl
 
--- where each word is what is printed of what it is, so are all
+-- if one word is always the printed text of its value, so are all words
 module _ {A : Type 0} (read : List ℕ → Option A) (text : A → List ℕ) (exact : (word : List ℕ) (x : A) → read word ≡ Some x → word ≡ text x) where
   some_map : (x : A) (o : Option (List A)) (xs : List A) → option_map (λ ys. x ∷ ys) o ≡ Some xs → (ys : List A) × (o ≡ Some ys) × (xs ≡ x ∷ ys)
   some_map x (Some ys) xs e = (ys, refl, cc)
@@ -43,22 +43,22 @@ module _ {A : Type 0} (read : List ℕ → Option A) (text : A → List ℕ) (ex
         | inr none ↦ absurd (none-some xs (sym (ap (option_and_then (λ x. option_map (λ ys. x ∷ ys) (each read words))) none) ∙ e))
       ]
 
--- spells the pairs of an advance line
+-- spells the pairs of an `advance` line
 pub wholes_ok : (words : List (List ℕ)) (ns : List ℕ) → wholes words ≡ Ok ns → words ≡ map decimal ns
 unfolding wholes
 wholes_ok words ns e = each_text whole_of decimal whole_text words ns (or_refused_ok BadNumber (each whole_of words) ns e)
 
--- spells the row of a change line
+-- spells the row of a `change` line
 pub columns_ok : (words : List (List ℕ)) (zs : List ℤ) → columns words ≡ Ok zs → words ≡ map signed_decimal zs
 unfolding columns
 columns_ok words zs e = each_text signed_of signed_decimal signed_text words zs (or_refused_ok BadNumber (each signed_of words) zs e)
 
--- an even number of numbers are the words of their pairs
+-- an even number of printed numbers are the printed words of their pairs
 pub pairs_text : (ns : List ℕ) → length ns % 2 ≡ 0 → map decimal ns ≡ flat_map time_words (pairs_of ns)
 pairs_text [] e = refl
 pairs_text (v ∷ []) e = absurd (omega (arith, e))
 pairs_text (v ∷ s ∷ more) e = ap (λ (ws : List (List ℕ)). decimal v ∷ decimal s ∷ ws) (pairs_text more (omega (arith, e)))
 
--- as many columns as words
+-- there are as many columns as words
 pub columns_length : (words : List (List ℕ)) (zs : List ℤ) → columns words ≡ Ok zs → length zs ≡ length words
 columns_length words zs e = sym (ap length (columns_ok words zs e) ∙ length-map zs signed_decimal)

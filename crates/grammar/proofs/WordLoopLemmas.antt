@@ -1,4 +1,4 @@
--- Reading words one after the other, as a loop does.
+-- The loops that read words one after another.
 use Rattle.std.proofs.Common.{◌≡◌, ℕ, ◌+◌, ◌<◌, ◌≤◌, List, [], ◌∷◌, ◌++◌, length, map, drop, get_or, Option, Some, None, Ok, Err, Bor, refl, sym, ap, ◌∙◌, append_assoc, add-one}
 use Rattle.std.specs.Option.{option_map, option_and_then}
 use Rattle.std.proofs.lemmas.List.{append-nil, drop_all}
@@ -10,11 +10,11 @@ use Rattle.grammar.specs.declared.fault.LineError.TheVariants as error
 use Rattle.grammar.specs.Outcomes.{Fails}
 use Rattle.grammar.specs.Words.{each, number}
 
--- what was read before, and what is still read
+-- the values that were read, followed by those still to be read
 abbrev pub with_front : {A : Type 0} → List A → Option (List A) → Option (List A)
 with_front front o = option_map (λ xs. front ++ xs) o
 
--- the words behind the references that a loop goes over
+-- the bytes behind the references that a loop goes over
 abbrev pub texts : List (Bor (List ℕ)) → List (List ℕ)
 texts words = map (λ (w : Bor (List ℕ)). w.now) words
 
@@ -43,7 +43,7 @@ module _ {A : Type 0} (read : List ℕ → Option A) (words : List (Bor (List �
       let one = here i lt ∙ ap (option_and_then (λ x. option_map (λ xs. x ∷ xs) (each read (texts (drop (i + 1) words))))) (is_read (read (get_or words i d).now) x e) in
       sym (regroup front x (each read (texts (drop (i + 1) words)))) ∙ ap (with_front front) (sym one) ∙ so_far
 
-  -- answers a loop that returns at a word which is no number
+  -- answers a loop that returns at a word that cannot be read
   pub ends : (e : LineError) (front : List A) (i : ℕ) (total : Option (List A)) → i < length words → Fails e (number (read (get_or words i d).now))
       → with_front front (each read (texts (drop i words))) ≡ total → Fails e (number total)
   ends error.Memory front i total lt h so_far = tt

@@ -45,8 +45,8 @@ pub fn lines_are_spelled()
 {}
 
 /// The lines of a script that are not skipped have exactly the script's printed words: its nodes, then `start`,
-/// then its commands. If these words are read again as lines, they give the same script; this holds whatever
-/// the numbers of the nodes' lines are. Each node of a script has a name, and each command is about a node of
+/// then its commands. If these words are read again as lines, they give the same script, for any
+/// numbers of the nodes' lines. Each node of a script has a name, and each command is about a node of
 /// the kind that it needs.
 pub fn scripts_are_spelled()
     ensures words { (bytes : List ℕ) (t : ScriptModel) → script_of bytes ≡ Ok t

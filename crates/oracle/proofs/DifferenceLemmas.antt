@@ -1,4 +1,5 @@
--- Lists of differences: that they go on along a grid, and that at its end they are the differences of the view.
+-- Lists of differences: how the list grows along the join closure, and why the finished list is the differences
+-- of the view.
 use Rattle.std.proofs.Common.{◌≡◌, ◌≢◌, ℕ, zero, suc, ◌+◌, ◌<◌, Bool, true, false, cond, List, [], ◌∷◌, ◌++◌, ℤ, map, take, drop, length, get_or, IsTrue, ◌⊎◌, ⊎_elim, inl, inr, refl, ap, sym, subst, ◌∙◌, eq-or-lt_of_le, length-take-le, Option, Some, None, Result, Ok, Err, Vec, arith}
 use Rattle.std.specs.Prelude.{pos, ◌+ℤ◌, not, slice_get, IfOk}
 use Rattle.std.specs.List.{filter, flat_map, list_all, AllByRecursion, Contains}
@@ -70,7 +71,7 @@ module _ {T : Type 0} (below : T → T → Bool) where
   sum_at_time s t (e ∷ es) true h = ap (λ b. map entry (cond b (at_time t e ∷ filter (λ u. below u.time s) (map (at_time t) es)) (filter (λ u. below u.time s) (map (at_time t) es)))) h ∙ ap (λ l. e ∷ l) (sum_at_time s t es true h)
   sum_at_time s t (e ∷ es) false h = ap (λ b. map entry (cond b (at_time t e ∷ filter (λ u. below u.time s) (map (at_time t) es)) (filter (λ u. below u.time s) (map (at_time t) es)))) h ∙ sum_at_time s t es false h
 
-  -- where the same of the list's times are at or before both, the sums are equal
+  -- two sums of a list are equal if each of its times is at or before both times, or at or before neither
   sum_same : (s t : T) (us : List (Update T)) → AllByRecursion (λ u. below u.time s ≡ below u.time t) us → as_of below s us ≡ as_of below t us
   sum_same s t [] a = refl
   sum_same s t (u ∷ us) a =
@@ -85,7 +86,7 @@ module _ {T : Type 0} (below : T → T → Bool) where
   sum_none t [] a = refl
   sum_none t (u ∷ us) a = (λ i. map entry (cond (a.0 i) (u ∷ filter (λ u. below u.time t) us) (filter (λ u. below u.time t) us))) ∙ sum_none t us a.1
 
--- of no rows at all a query has none
+-- if the inputs have no rows, neither has the query
 query_nothing : (p : List Node) → IsPlan p → (n : ℕ) → Alike (query p (λ input. []) n) []
 query_nothing p plan = by_smaller (λ n. Alike (query p (λ input. []) n) []) (λ n rest row.
     ap (λ es. count_of es row) (query_by_sources p plan (λ input. []) n)
@@ -103,7 +104,7 @@ list_covered p lists join_closure covers n =
     (λ past. subst (AllByRecursion (λ u. Contains join_closure u.time)) (sym (get_or_past lists (inputs_before p n) [] past)) tt)
     (cases_lt (inputs_before p n) (length lists))
 
--- ---- along the grid
+-- ---- along the join closure
 
 module _ {T : Type 0} {below : T → T → Bool} {joined met : T → T → T} {cmp : T → T → Ordering} (o : PartialOrderLaws below) (b : LatticeLaws below joined met) (x : ExtendsLaws below cmp) (total : IsTotalOrder cmp)
     (p : List Node) (plan : IsPlan p) (lists : List (List (Update T))) (view : ℕ) (frontier join_closure : List T) (is : IsJoinClosure cmp joined lists join_closure) where
@@ -113,7 +114,7 @@ module _ {T : Type 0} {below : T → T → Bool} {joined met : T → T → T} {c
   passed_down : (s t : T) → IsTrue (below s t) → IsTrue (has_passed below frontier t) → IsTrue (has_passed below frontier s)
   passed_down s t h k = not_from (is_beyond below frontier s) (λ c. not_true (is_beyond below frontier t) k (beyond_up o frontier s t c h))
 
-  -- a time that sorts before another is not at or behind it
+  -- a time that sorts before another is not at or after it
   not_behind : (s t : T) → cmp s t ≡ Less → below t s ≡ true → ⊥
   not_behind s t l h = true≢false (sym (x.extends t s h) ∙ ap is_le (total.antisymm t s ∙ ap ordering_reverse l))
 
@@ -125,7 +126,7 @@ module _ {T : Type 0} {below : T → T → Bool} {joined met : T → T → T} {c
       step Equal h e = refl
       step Greater h e = absurd (true≢false (sym h))
 
-  -- what the sums are at a time, they are at the last time of the grid before it
+  -- a time of the closure is at or before t if and only if it is at or before f, the last one at or before t
   same_below : (t f : T) → IsTrue (below f t) → ((s : T) → Contains join_closure s → IsTrue (below s t) → IsTrue (below s f)) → (s : T) → Contains join_closure s → below s t ≡ below s f
   same_below t f h last s c = step (below s t) (below s f) refl refl
     where
@@ -147,7 +148,7 @@ module _ {T : Type 0} {below : T → T → Bool} {joined met : T → T → T} {c
       view row
       ∙ query_nothing p plan view row
 
-  -- of the times so far
+  -- one step: f is time number i of the closure
   module _ (i : ℕ) (f : T) (inside : i < length join_closure) (here : f ≡ get_or join_closure i f) where
     in_front : (t : T) → Contains (take i join_closure) t → cmp t f ≡ Less
     in_front t c =
@@ -171,7 +172,7 @@ module _ {T : Type 0} {below : T → T → Bool} {joined met : T → T → T} {c
     next_new : Contains (take (i + 1) join_closure) f
     next_new = subst (λ xs. Contains xs f) (sym next_times) (Contains-push (take i join_closure) f)
 
-    -- a time that has not passed adds nothing
+    -- if f has not passed, the list stays as it is
     pub listed_skip : (us : List (Update T)) → is_beyond below frontier f ≡ true → IsListed below cmp frontier wanted (take i join_closure) us → IsListed below cmp frontier wanted (take (i + 1) join_closure) us
     listed_skip us late so = record {
       sums = λ t c h. ⊎_elim (λ d. so.sums t d h) (λ e. absurd (not_true (is_beyond below frontier t) h (subst (λ s. IsTrue (is_beyond below frontier s)) e late))) (next_cases t c);
@@ -228,11 +229,11 @@ module _ {T : Type 0} {below : T → T → Bool} {joined met : T → T → T} {c
             swap : (m n : ℤ) → m +ℤ n ≡ n +ℤ m
             swap m n = omega (arith, ints)
 
-    -- a time that has passed adds what is wanted
+    -- if f has passed, the list is extended by the difference there
     pub listed_next : (us vs : List (Update T)) → is_beyond below frontier f ≡ false → ContinuesListing below f (wanted f) us vs → IsListed below cmp frontier wanted (take i join_closure) us → IsListed below cmp frontier wanted (take (i + 1) join_closure) vs
     listed_next us vs passed on so = subst (IsListed below cmp frontier wanted (take (i + 1) join_closure)) (sym on.2) (listed_more us on.0 (ap not passed) so on.1 on.3)
 
-    -- what the list sums to at each time before f
+    -- before f, the list sums to the wanted rows at each time
     sums_before : (us : List (Update T)) → IsTrue (has_passed below frontier f) → IsListed below cmp frontier wanted (take i join_closure) us → (s : T) → IsTrue (below s f) → (s ≡ f → ⊥) → Alike (as_of below s us) (wanted s)
     sums_before us passed so s h n =
         ⊎_elim
@@ -269,7 +270,7 @@ module _ {T : Type 0} {below : T → T → Bool} {joined met : T → T → T} {c
             (eq-or-lt_of_le k)))
             (cases_lt c.0 i)
 
-    -- a number too large at one time is one of the whole list
+    -- a number that is too large at one time is a cause for the whole list
     pub listed_large : (us : List (Update T)) → is_beyond below frontier f ≡ false → IsListed below cmp frontier wanted (take i join_closure) us → HasLargeAbove p (sums_at below p lists f) view ⊎ HasLargeGap below f (wanted f) us → HasLargeDifference below p lists frontier view
     listed_large us passed so large = (
       f,
@@ -285,7 +286,7 @@ module _ {T : Type 0} {below : T → T → Bool} {joined met : T → T → T} {c
           large,
     )
 
-  -- before the first time nothing is listed
+  -- before the first time the list is empty
   pub listed_none : IsListed below cmp frontier wanted (take 0 join_closure) []
   unfolding IsStrictlySortedBy
   listed_none = record {
@@ -294,7 +295,7 @@ module _ {T : Type 0} {below : T → T → Bool} {joined met : T → T → T} {c
     consolidated = record { ascending = tt; nonzero = tt };
   }
 
-  -- at its end
+  -- the finished list is the differences of the view
   pub listed_all : (us : List (Update T)) → IsListed below cmp frontier wanted join_closure us → AreDifferences below cmp p (list_of p lists) frontier view us
   listed_all us so = record {
     consolidated = so.consolidated;
@@ -317,12 +318,12 @@ module _ {T : Type 0} {below : T → T → Bool} {joined met : T → T → T} {c
           ∙ (so.sums r.0 r.1 (passed_down r.0 t r.2.0 h) row ∙ sym (wanted_same t r.0 r.2.0 r.2.1 row)))
           (last_of o b join_closure is.closed t)
 
-  -- at the end of the times the list is the differences
+  -- answers the clause `differences` of differences
   pub differences_ok : {A E : Type 0} (times : List T) → frontier ≡ times → (r : Result (Vec (Update T) A) E) → IfOk r (λ us. IsListed below cmp frontier wanted join_closure us.items) → IfOk r (λ us. AreDifferences below cmp p (list_of p lists) times view us.items)
   differences_ok times e (Ok us) h = subst (λ fs. AreDifferences below cmp p (list_of p lists) fs view us.items) e (listed_all us.items h)
   differences_ok times e (Err r) h = tt
 
--- ---- what is open
+-- ---- the open times
 
 next_number : (n : ℕ) → n + 1 ≡ suc n
 next_number n = omega arith
@@ -330,14 +331,14 @@ next_number n = omega arith
 next_feeders : (p : List Node) (view n : ℕ) → filter (λ m. feeds p m view) (numbers_below (n + 1)) ≡ filter (λ m. feeds p m view) (numbers_below n) ++ cond (feeds p n view) (n ∷ []) []
 next_feeders p view n = ap (λ k. filter (λ m. feeds p m view) (numbers_below k)) (next_number n) ∙ filter-append (λ m. feeds p m view) (numbers_below n) (n ∷ [])
 
--- the step over an input that feeds the view
+-- the step over an input that feeds the view: its frontier is appended
 pub feeds_more : (T : Type 0) (p : List Node) (frontiers : ℕ → List T) (view n : ℕ) (old new : List T) → feeds p n view ≡ true → old ≡ flat_map frontiers (filter (λ m. feeds p m view) (numbers_below n)) → new ≡ old ++ frontiers n → new ≡ flat_map frontiers (filter (λ m. feeds p m view) (numbers_below (n + 1)))
 feeds_more T p frontiers view n old new h e f =
     f ∙ (ap (λ xs. xs ++ frontiers n) e
     ∙ (flat_map_more frontiers [] (filter (λ m. feeds p m view) (numbers_below n)) n
     ∙ ap (flat_map frontiers) (sym (next_feeders p view n ∙ ap (λ b. filter (λ m. feeds p m view) (numbers_below n) ++ cond b (n ∷ []) []) h))))
 
--- the step over a node that does not
+-- the step over a node that does not feed the view: nothing is appended
 pub feeds_same : (T : Type 0) (p : List Node) (frontiers : ℕ → List T) (view n : ℕ) (old : List T) → feeds p n view ≡ false → old ≡ flat_map frontiers (filter (λ m. feeds p m view) (numbers_below n)) → old ≡ flat_map frontiers (filter (λ m. feeds p m view) (numbers_below (n + 1)))
 feeds_same T p frontiers view n old h e =
     e ∙ ap (flat_map frontiers) (sym (next_feeders p view n ∙ (ap (λ b. filter (λ m. feeds p m view) (numbers_below n) ++ cond b (n ∷ []) []) h ∙ append-nil (filter (λ m. feeds p m view) (numbers_below n)))))

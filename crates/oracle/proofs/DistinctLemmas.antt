@@ -1,4 +1,4 @@
--- The rows that count are what distinct answers, key by key.
+-- Distinct: the rows whose count is above 0, each once, are the answer for every key width.
 use Rattle.std.proofs.Common.{◌≡◌, ℕ, Bool, true, false, cond, List, [], ◌∷◌, ℤ, map, take, length, IsTrue, refl, ap, sym, subst, ◌∙◌, w64, FitsSigned, rules, arith}
 use Rattle.std.specs.Prelude.{pos, ◌+ℤ◌, int_lt, nat_le}
 use Rattle.std.specs.Cmp.Lexicographic.{slice_cmp, lists_ties, lists_total}
@@ -21,11 +21,11 @@ use Rattle.plan.proofs.ReductionLemmas.{by_key_at}
 use Rattle.plan.proofs.CountLemmas.{row_same, when_zero, count_of-filter}
 use Rattle.oracle.specs.Keys.{have_keys}
 
--- each row that counts more than 0 times, once
+-- each row whose count is above 0, once
 abbrev pub present_rows : List Entry → List Entry
 present_rows es = map (λ e. single e.row) (filter (λ e. int_lt (pos 0) e.count) es)
 
--- once where the number is more than 0
+-- 1 if the number is above 0, and otherwise 0
 abbrev pub once : ℤ → ℤ
 once n = cond (int_lt (pos 0) n) (pos 1) (pos 0)
 
@@ -51,7 +51,7 @@ added true n rest out h none =
 added false n rest out h none =
     ap (λ m. m +ℤ out) (when_zero (int_lt (pos 0) n)) ∙ (zero_plus out ∙ (h ∙ ap once (sym (zero_plus rest))))
 
--- rows behind another one are other rows
+-- in a bag, the rows after an entry are different rows
 pub others : (e : Entry) (es : List Entry) (row : List ℤ) → same_row e.row row ≡ true → AllByRecursion (λ y. slice_cmp int_cmp e.row y.row ≡ Less) es → AllByRecursion (λ y. same_row y.row row ≡ false) es
 others e [] row h s = tt
 others e (y ∷ es) row h s =
@@ -59,7 +59,7 @@ others e (y ∷ es) row h s =
     let other : same_row y.row e.row ≡ false = lists_ties int_cmp (λ x z. refl) y.row e.row ∙ ap is_eq (total.antisymm y.row e.row ∙ ap ordering_reverse s.0) in
     (ap (λ r. same_row y.row r) (sym (row_same e.row row h)) ∙ other, others e es row h s.1)
 
--- a row that counts more than 0 times stands there once
+-- the count of a row in `present_rows`: 1 if its count in the bag is above 0, and otherwise 0
 pub present_at : (es : List Entry) → IsStrictlySortedBy (λ a b. slice_cmp int_cmp a.row b.row) es → (row : List ℤ) → count_of (present_rows es) row ≡ once (count_of es row)
 unfolding IsStrictlySortedBy
 present_at [] s row = refl
@@ -67,7 +67,7 @@ present_at (e ∷ es) s row =
     first_row e es row
     ∙ added (same_row e.row row) e.count (count_of es row) (count_of (present_rows es) row) (present_at es s.1 row) (λ h. count_absent es row (others e es row h s.0))
 
--- rows of fewer columns than the key has are not there
+-- a row with fewer columns than the key does not occur
 narrow : (k : ℕ) (es : List Entry) (row : List ℤ) → IsTrue (have_keys k es) → nat_le k (length row) ≡ false → AllByRecursion (λ e. same_row e.row row ≡ false) es
 narrow k [] row h n = tt
 narrow k (e ∷ es) row h n =
@@ -78,7 +78,7 @@ narrow k (e ∷ es) row h n =
     step false i wide = i
     step true i wide = absurd (true≢false (sym wide ∙ (ap (λ r. nat_le k (length r)) (row_same e.row row i) ∙ n)))
 
--- these rows are what distinct answers
+-- `present_rows` is the answer of distinct
 pub distinct_is : (k : ℕ) (es : List Entry) → IsBag es → IsTrue (have_keys k es) → Alike (present_rows es) (reduction_output k (reduction_answer Distinct) es)
 distinct_is k es bag keys row =
     present_at es bag.ascending row ∙ (step (nat_le k (length row)) refl ∙ sym (by_key_at k (reduction_answer Distinct) (all_reduce Distinct k) es row))
@@ -92,7 +92,7 @@ distinct_is k es bag keys row =
     step true i = ap once (sym own) ∙ sym (distinct_answered (take k row) (filter (has_key k (take k row)) es) row)
     step false i = ap once (count_absent es row (narrow k es row keys i))
 
--- no row is there more than once
+-- no row occurs more than once, so no count is too large
 pub present_fit : (es : List Entry) → IsBag es → HasLargeCount (present_rows es) → ⊥
 present_fit es bag large = large.1 (subst (FitsSigned w64) (sym (present_at es bag.ascending large.0)) (step (int_lt (pos 0) (count_of es large.0))))
   where

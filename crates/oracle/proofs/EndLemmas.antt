@@ -1,4 +1,5 @@
--- The first and the last row of each key: that they are found by their neighbours, and that min and max answer them.
+-- Min and max: the first and the last row of each key are found by comparing neighbours, and they are the
+-- answers.
 use Rattle.std.proofs.Common.{◌≡◌, ℕ, ◌+◌, ◌<◌, ◌≤◌, Bool, true, false, cond, List, ℤ, take, length, get_or, IsTrue, ⊎_elim, refl, ap, sym, subst, ◌∙◌, ◌↔◌, ◌-◌, eq-or-lt_of_le, arith}
 use Rattle.std.specs.Prelude.{pos, not, ◌&&◌, int_lt, nat_le}
 use Rattle.std.specs.List.{filter, list_any}
@@ -56,7 +57,7 @@ module _ (beats : List ℤ → List ℤ → Bool) (kind : Kind)
       ∙ (by_key_at k (reduction_answer Distinct) (all_reduce Distinct k) es row
       ∙ ap (λ n. cond (nat_le k (length row)) n (pos 0)) (distinct_answered (take k row) (of_key row) row))
 
-  -- what is present among the rows of a key is in the bag
+  -- a row that is present among the rows of a key is in the bag
   in_bag : (row other : List ℤ) → nat_le k (length row) ≡ true → is_present (of_key row) other ≡ true → same_row (take k other) (take k row) ≡ true × (count_of out other ≡ pos 0 → ⊥)
   in_bag row other wide p =
       let counts = count_of-filter (λ r. same_row (take k r) (take k row)) es other in
@@ -66,7 +67,7 @@ module _ (beats : List ℤ → List ℤ → Bool) (kind : Kind)
       let there : is_present (of_key other) other ≡ true = ap (λ key. is_present (filter (has_key k key) es) other) keys ∙ p in
       (same, λ z. one≢zero (sym (out_at other ∙ (ap (λ b. cond b (cond (is_present (of_key other) other) (pos 1) (pos 0)) (pos 0)) (le-leb k (length other) long) ∙ ap (λ b. cond b (pos 1) (pos 0)) there)) ∙ z))
 
-  -- what is in the bag and has the key is present among its rows
+  -- a row of the bag with the key is present among the key's rows
   in_key : (row other : List ℤ) → same_row (take k other) (take k row) ≡ true → (count_of out other ≡ pos 0 → ⊥) → is_present (of_key row) other ≡ true
   in_key row other same n =
       is_true (is_present (of_key row) other)
@@ -140,11 +141,11 @@ module _ (k : ℕ) (es : List Entry) (bag : IsBag es) where
       let parts = and_parts (same_row (take k (get_or es m d).row) (take k row)) (is_before row (get_or es m d).row) both in
       ⊎_elim (λ s. h m s n parts.0) (λ s. not_before m i d s l parts.1) (cases_lt i m))))
 
-  -- the first row of a bag is the first of its key
+  -- the first row of a bag is the least of its key
   pub first_of_all : (i : ℕ) (d : Entry) → i < length es → i ≡ 0 → is_least_row k es (get_or es i d).row ≡ true
   first_of_all i d l e = alone_first i d l (λ m s t. absurd (omega (arith, s, e)))
 
-  -- another row is, unless the row before it has its key
+  -- another row is the least of its key if and only if the row before it has another key
   pub first_by_neighbour : (i : ℕ) (d : Entry) → i < length es → 0 < i → is_least_row k es (get_or es i d).row ≡ not (has_key k (take k (get_or es i d).row) (get_or es (i - 1) d))
   first_by_neighbour i d l s = step (has_key k (take k (get_or es i d).row) (get_or es (i - 1) d)) refl
     where
@@ -155,11 +156,11 @@ module _ (k : ℕ) (es : List Entry) (bag : IsBag es) where
           (and_from (has_key k (take k row) (get_or es (i - 1) d)) (is_before (get_or es (i - 1) d).row row) e (ap is_lt (in_order es bag.ascending (i - 1) i d (omega (arith, s)) l))))
       step false e = alone_first i d l (λ m n t. true≢false (sym (between_up k es bag m (i - 1) i d (omega (arith, n)) (omega (arith, s)) l t) ∙ e))
 
-  -- the last row of a bag is the last of its key
+  -- the last row of a bag is the greatest of its key
   pub last_of_all : (i : ℕ) (d : Entry) → i < length es → i + 1 ≡ length es → is_greatest_row k es (get_or es i d).row ≡ true
   last_of_all i d l e = alone_last i d l (λ m s n t. absurd (omega (arith, s, n, e)))
 
-  -- another row is, unless the row behind it has its key
+  -- another row is the greatest of its key if and only if the row after it has another key
   pub last_by_neighbour : (i : ℕ) (d : Entry) → i + 1 < length es → is_greatest_row k es (get_or es i d).row ≡ not (has_key k (take k (get_or es i d).row) (get_or es (i + 1) d))
   last_by_neighbour i d l = step (has_key k (take k (get_or es i d).row) (get_or es (i + 1) d)) refl
     where
@@ -172,11 +173,11 @@ module _ (k : ℕ) (es : List Entry) (bag : IsBag es) where
 
 -- ---- each kind
 
--- the first rows of all keys are what min answers
+-- the least rows of all keys are the answer of min
 pub least_is : (k : ℕ) (es out : List Entry) → IsBag out → Alike out (reduction_output k (reduction_answer Distinct) es) → Alike (filter (λ e. is_least_row k out e.row) out) (reduction_output k (reduction_answer Min) es)
 least_is k es out bag alike = ends_are is_before Min least_answered k es out bag alike
 
--- the last rows of all keys are what max answers
+-- the greatest rows of all keys are the answer of max
 pub greatest_is : (k : ℕ) (es out : List Entry) → IsBag out → Alike out (reduction_output k (reduction_answer Distinct) es) → Alike (filter (λ e. is_greatest_row k out e.row) out) (reduction_output k (reduction_answer Max) es)
 greatest_is k es out bag alike = ends_are (λ other row. is_before row other) Max greatest_answered k es out bag alike
 

@@ -1,4 +1,4 @@
--- The bags of nodes, one after another: from those before it a node has the bag that the query says.
+-- The bags of the nodes, one after another: if the earlier bags are right, so is the next one.
 use Rattle.std.proofs.Common.{◌≡◌, ℕ, zero, suc, ◌+◌, ◌<◌, ◌≤◌, Bool, true, false, cond, List, [], ◌∷◌, ◌++◌, ℤ, map, take, length, IsTrue, ⊎_elim, inl, inr, refl, ap, sym, subst, ◌∙◌, length-append, Option, Some, None, Result, w64, FitsSigned, eq-or-lt_of_le, arith}
 use Rattle.std.specs.Prelude.{pos, IfOk, IfErr, ◌+ℤ◌, ◌*ℤ◌, eqb, slice_get}
 use Rattle.std.specs.List.{filter, list_all}
@@ -32,7 +32,7 @@ use Rattle.oracle.proofs.ResultLemmas.{ok_more, ok_both, err_more}
 use Rattle.oracle.proofs.RowLemmas.{rows_by_counts}
 use Rattle.oracle.proofs.DistinctLemmas.{zero_plus}
 
--- a linear node multiplies and counts nothing, so only what it gives can be too large
+-- a linear node has no products and no totals, so only its output can be too large
 pub linear_no_step : (k : ℕ) (node : Node) → IsTrue (is_linear node) → (bags : ℕ → List Entry) → HasLargeStep k node bags → ⊥
 linear_no_step k (Join left right) l bags step = true≢false (sym l)
 linear_no_step k (Reduce kind source) l bags step = true≢false (sym l)
@@ -49,18 +49,18 @@ inputs_more p n =
     ∙ (ap length (filter-append (λ m. is_input (node_at p m)) (numbers_below n) (n ∷ []))
     ∙ length-append (filter (λ m. is_input (node_at p m)) (numbers_below n)) (cond (is_input (node_at p n)) (n ∷ []) []))
 
--- an input is one more
+-- after an input, there is one input more before the next node
 pub inputs_with : (p : List Node) (n : ℕ) → is_input (node_at p n) ≡ true → inputs_before p (n + 1) ≡ inputs_before p n + 1
 inputs_with p n h = inputs_more p n ∙ ap (λ b. inputs_before p n + length (cond b (n ∷ []) [])) h
 
--- another node is none
+-- after any other node, there are as many as before
 pub inputs_without : (p : List Node) (n : ℕ) → is_input (node_at p n) ≡ false → inputs_before p (n + 1) ≡ inputs_before p n
 inputs_without p n h = inputs_more p n ∙ (ap (λ b. inputs_before p n + length (cond b (n ∷ []) [])) h ∙ none (inputs_before p n))
   where
     none : (m : ℕ) → m + 0 ≡ m
     none m = omega arith
 
--- there are no more inputs than nodes
+-- there are at most as many inputs before a node as there are nodes before it
 pub inputs_few : (p : List Node) (n : ℕ) → inputs_before p n ≤ n
 inputs_few p zero = omega arith
 inputs_few p (suc n) = step (inputs_few p n) (is_input (node_at p n)) (ap (inputs_before p) (sym (next_number n)) ∙ inputs_more p n)
@@ -69,7 +69,7 @@ inputs_few p (suc n) = step (inputs_few p n) (is_input (node_at p n)) (ap (input
     step h true e = omega (arith, h, e)
     step h false e = omega (arith, h, e)
 
--- ---- what is too large in one bag is so in a bag like it
+-- ---- if a number is too large for one bag, it is so for every bag with the same counts
 
 numbers_weigh : (k : ℕ) (key : List ℤ) (es : List Entry) → weigh (λ row n. cond (same_row (take k row) key) n (pos 0)) es ≡ sum_of_counts (filter (has_key k key) es)
 numbers_weigh k key [] = refl
@@ -131,19 +131,19 @@ module _ (p : List Node) (plan : IsPlan p) (inputs : ℕ → List Entry) (view :
       subst (λ (es : List Entry). IfOk r (λ out. Alike out (output_at p (length bags) es (nth_bag bags)))) own
       (subst (λ (m : ℕ). IfOk r (λ out. Alike out (output_at p m outside (nth_bag bags)))) next h)
 
-  -- the bag that the operator gives is the query
+  -- the output of the operator is the answer of the query
   pub query_ok : IfOk r (λ out. Alike out (output_at p n outside (nth_bag bags))) → IfOk r (λ out. IsTrue (reaches p (length bags) view) → Alike out (query p inputs (length bags)))
   query_ok h =
       ok_more (λ out. Alike out (output_at p (length bags) (inputs (length bags)) (nth_bag bags))) (λ out. IsTrue (reaches p (length bags) view) → Alike out (query p inputs (length bags)))
       (λ out alike above. next_query p plan inputs view bags are above out alike) r (as_given h)
 
-  -- its rows have the width of the node
+  -- the output of the operator has the width of the node
   pub wide_ok : length bags < length p → (is_input (node_at p (length bags)) ≡ true → IsTrue (all_wide (width_of p (length bags)) (inputs (length bags)))) → IfOk r IsBag → IfOk r (λ out. Alike out (output_at p n outside (nth_bag bags))) → IfOk r (λ out. IsTrue (all_wide (width_of p (length bags)) out))
   wide_ok l wide bag h =
       ok_both IsBag (λ out. Alike out (output_at p (length bags) (inputs (length bags)) (nth_bag bags))) (λ out. IsTrue (all_wide (width_of p (length bags)) out))
       (λ out is alike. given_wide p plan (length bags) l (nth_bag bags) are.wide (inputs (length bags)) out wide is alike) r bag (as_given h)
 
-  -- a number too large at the node is one above the view
+  -- a number that is too large at a node above the view is a cause for the view
   pub large_err : IsTrue (reaches p (length bags) view) → IfErr r (IsMemoryOrOverflow (HasLargeAt p n outside (nth_bag bags))) → IfErr r (IsMemoryOrOverflow (HasLargeAbove p inputs view))
   large_err above h =
       err_more (IsMemoryOrOverflow (HasLargeAt p n outside (nth_bag bags))) (IsMemoryOrOverflow (HasLargeAbove p inputs view))
@@ -152,17 +152,17 @@ module _ (p : List Node) (plan : IsPlan p) (inputs : ℕ → List Entry) (view :
       (subst (λ (es : List Entry). HasLargeAt p (length bags) es (nth_bag bags)) own (subst (λ (m : ℕ). HasLargeAt p m outside (nth_bag bags)) next large))) refused)
       r h
 
--- the bag of the view itself
+-- the bag of the view itself is the answer
 pub evaluated : (p : List Node) → IsPlan p → (inputs : ℕ → List Entry) (view n : ℕ) → n ≡ view → (r : Result (List Entry) Refusal) → IfOk r (λ out. IsTrue (reaches p n view) → Alike out (query p inputs n)) → IfOk r (λ out. Alike out (query p inputs view))
 evaluated p plan inputs view n e r h =
     ok_more (λ out. IsTrue (reaches p view view) → Alike out (query p inputs view)) (λ out. Alike out (query p inputs view)) (λ out f. f (above_itself p plan view)) r
     (subst (λ (m : ℕ). IfOk r (λ out. IsTrue (reaches p m view) → Alike out (query p inputs m))) e h)
 
--- the bag of no entries has rows of every width
+-- the empty bag has rows of every width, so it can stand for a node that is not computed
 pub empty_wide : (w : ℕ) (r : Result (List Entry) Refusal) → IfOk r IsBag → IfOk r (λ out. Alike out []) → IfOk r (λ out. IsTrue (all_wide w out))
 empty_wide w r bag alike = ok_both IsBag (λ out. Alike out []) (λ out. IsTrue (all_wide w out)) (λ out is h. rows_by_counts (λ row. eqb (length row) w) out is (λ row n. h row)) r bag alike
 
--- ---- the bags with one more
+-- ---- one more bag
 
 bag_before : (bags : List (List Entry)) (out : List Entry) (m : ℕ) → m < length bags → nth_bag (bags ++ out ∷ []) m ≡ nth_bag bags m
 bag_before [] out m l = absurd (omega (arith, l))
@@ -202,6 +202,6 @@ sum_wide {T} below t w (u ∷ us) h =
     step rest one true = and_from (eqb (length u.row) w) (all_wide w (as_of below t us)) one rest
     step rest one false = rest
 
--- the inputs' sums have the width of their inputs
+-- the sums of the inputs' lists have the inputs' widths
 pub inputs_wide : {T : Type 0} (below : T → T → Bool) (p : List Node) (lists : List (List (Update T))) (t : T) (n : ℕ) → AreWide p lists → n < length p → is_input (node_at p n) ≡ true → IsTrue (all_wide (width_of p n) (sums_at below p lists t n))
 inputs_wide below p lists t n wide l h = sum_wide below t (width_of p n) (list_of p lists n) (wide n l h)

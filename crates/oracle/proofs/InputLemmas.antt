@@ -1,4 +1,5 @@
--- The place of an input among the inputs is how many inputs have smaller numbers.
+-- The index of an input among the inputs is the number of inputs before it. The law `lists_belong_to_inputs`
+-- rests on this.
 use Rattle.std.proofs.Common.{◌≡◌, ℕ, zero, suc, ◌<◌, Bool, true, false, cond, List, [], ◌∷◌, ◌++◌, length, get_or, ⊎_elim, ap, subst, ◌∙◌, length-append, arith}
 use Rattle.std.specs.List.{filter}
 use Rattle.std.proofs.lemmas.Bool.{cases_lt}
@@ -6,7 +7,7 @@ use Rattle.std.proofs.lemmas.List.{append-nil, get_or_push, get_or_append_left}
 use Rattle.std.proofs.lemmas.List.Elements.{filter-append}
 use Rattle.plan.specs.Ancestors.{numbers_below}
 
--- the n-th input has n inputs before it
+-- the i-th input has i inputs before it
 pub place_of : (test : ℕ → Bool) (m i : ℕ) → i < length (filter test (numbers_below m)) → length (filter test (numbers_below (get_or (filter test (numbers_below m)) i 0))) ≡ i
 place_of test zero i l = absurd (omega (arith, l))
 place_of test (suc m) i l =

@@ -1,4 +1,5 @@
--- Grids: that they grow closed under joins, and that each time has a last time of the grid at or before it, if any.
+-- Join closures: they stay closed while times are added, and each time has a last time of the closure at or
+-- before it, if there is any.
 use Rattle.std.proofs.Common.{◌≡◌, ℕ, zero, suc, ◌+◌, ◌<◌, ◌≤◌, Bool, true, false, List, [], ◌∷◌, ◌++◌, map, take, length, get_or, IsTrue, ◌⊎◌, ⊎_elim, inl, inr, refl, ap, sym, subst, ◌∙◌, take_all, Result, Ok, Err, Vec, arith}
 use Rattle.std.specs.Prelude.{IfOk}
 use Rattle.std.specs.List.{All, AllByRecursion, Contains}
@@ -14,7 +15,7 @@ use Rattle.lattice.proofs.BoundLemmas.{join_commutes, join_associates, join_same
 use Rattle.update.specs.declared.change.Update.{Update}
 use Rattle.oracle.specs.JoinClosures.{Covers, IsClosed, IsJoinClosure}
 
--- times that are counted as equal are equal
+-- times that compare as equal are equal
 pub equal_from_eq : {T : Type 0} (eq : T → T → Bool) {cmp : T → T → Ordering} → ((x y : T) → eq x y ≡ is_eq (cmp x y)) → ((x y : T) → cmp x y ≡ Equal → x ≡ y) → (x y : T) → eq x y ≡ true → x ≡ y
 equal_from_eq eq {cmp} ties exact x y e = exact x y (step (cmp x y) (sym (ties x y) ∙ e))
   where
@@ -40,7 +41,7 @@ contains_map_cases {X} {Y} f (x ∷ xs) y c = step c.0 c.1 c.2 (λ k l e. contai
         (r.0, (suc r.1.0, omega (arith, r.1.1), r.1.2), r.2)
 
 module _ {T : Type 0} {below : T → T → Bool} {joined met : T → T → T} (o : PartialOrderLaws below) (b : LatticeLaws below joined met) where
-  -- a closed list with a time and its joins is closed
+  -- the list with a time and its joins
   abbrev pub more : List T → T → List T
   more xs t = (xs ++ map (λ s. joined s t) xs) ++ t ∷ []
 
@@ -51,7 +52,7 @@ module _ {T : Type 0} {below : T → T → Bool} {joined met : T → T → T} (o
       (λ e. inr (inr e))
       (Contains-push_cases (xs ++ map (λ s. joined s t) xs) t s c)
 
-  -- adding a time with its joins keeps the times
+  -- adding a time with its joins keeps the old times
   pub more_old : (xs : List T) (t s : T) → Contains xs s → Contains (more xs t) s
   more_old xs t s c = Contains-append_left (xs ++ map (λ s. joined s t) xs) (t ∷ []) s (Contains-append_left xs (map (λ s. joined s t) xs) s c)
 
@@ -60,11 +61,11 @@ module _ {T : Type 0} {below : T → T → Bool} {joined met : T → T → T} (o
       Contains-append_left (xs ++ map (λ s. joined s t) xs) (t ∷ []) (joined s t)
       (Contains-append_right xs (map (λ s. joined s t) xs) (joined s t) (contains_map (λ s. joined s t) xs s c))
 
-  -- and has the new one
+  -- adding a time with its joins adds the time
   pub more_new : (xs : List T) (t : T) → Contains (more xs t) t
   more_new xs t = Contains-push (xs ++ map (λ s. joined s t) xs) t
 
-  -- the join of r and s, each or both of them with t, is that of r and s, with t
+  -- joining r with t and then with s is the same as joining r with s and then with t
   past_left : (r s t : T) → joined (joined r t) s ≡ joined (joined r s) t
   past_left r s t = join_associates o b r t s ∙ (ap (joined r) (join_commutes o b t s) ∙ sym (join_associates o b r s t))
 
@@ -74,7 +75,7 @@ module _ {T : Type 0} {below : T → T → Bool} {joined met : T → T → T} (o
       ∙ (ap (λ x. joined x t) (sym (join_associates o b r s t))
       ∙ (join_associates o b (joined r s) t t ∙ ap (joined (joined r s)) (join_same o b t)))
 
-  -- and stays closed under joins
+  -- adding a time with its joins keeps the list closed
   pub more_closed : (xs : List T) (t : T) → IsClosed joined xs → IsClosed joined (more xs t)
   more_closed xs t closed s u c d =
       ⊎_elim
@@ -99,15 +100,15 @@ module _ {T : Type 0} {below : T → T → Bool} {joined met : T → T → T} (o
       (more_cases xs t u d)) e)
       (more_cases xs t s c)
 
--- closed, whatever the order and however often each time stands there
+-- being closed depends neither on the order of the times nor on duplicates
 pub closed_same : {T : Type 0} (joined : T → T → T) (xs ys : List T) → ((t : T) → Contains xs t → Contains ys t) → ((t : T) → Contains ys t → Contains xs t) → IsClosed joined xs → IsClosed joined ys
 closed_same joined xs ys to from closed s t c d = to (joined s t) (closed s t (from s c) (from t d))
 
--- no times are closed under joins
+-- the empty list is closed under joins
 pub closed_none : {T : Type 0} (joined : T → T → T) → IsClosed joined []
 closed_none joined s t c d = absurd (omega (arith, c.1))
 
--- ---- what a grid covers
+-- ---- which times a list covers
 
 pub covers_more : {T : Type 0} (xs ys : List T) (lists : List (List (Update T))) → ((t : T) → Contains xs t → Contains ys t) → Covers xs lists → Covers ys lists
 covers_more xs ys lists to covers n l inside k u within = to (get_or (get_or lists n l) k u).time (covers n l inside k u within)
@@ -122,12 +123,12 @@ covers_next old new lists i d us inside e n covers =
     (covers_more old new (take i lists) (λ t c. subst (λ xs. Contains xs t) (sym n) (Contains-append_left old (map (λ u. u.time) us) t c)) covers)
     (subst (λ us. All (λ u. Contains new u.time) us) e (covers_push old new us n))
 
--- ---- the last time of a grid at or before a time
+-- ---- the last time of the closure at or before a time
 
 module _ {T : Type 0} {below : T → T → Bool} {joined met : T → T → T} (o : PartialOrderLaws below) (b : LatticeLaws below joined met) where
-  -- f is the last time of the list at or before t
-  abbrev pub IsLast : List T → T → T → Type 0
-  IsLast times t f = IsTrue (below f t) × ((s : T) → Contains times s → IsTrue (below s t) → IsTrue (below s f))
+  -- f is at or before t, and every time of the list at or before t is at or before f
+  abbrev pub IsLastAtOrBefore : List T → T → T → Type 0
+  IsLastAtOrBefore times t f = IsTrue (below f t) × ((s : T) → Contains times s → IsTrue (below s t) → IsTrue (below s f))
 
   some_last : (join_closure : List T) → IsClosed joined join_closure → (t : T) (xs : List T) → AllByRecursion (Contains join_closure) xs
       → AllByRecursion (λ s. below s t ≡ false) xs ⊎ ((f : T) × Contains join_closure f × IsTrue (below f t) × AllByRecursion (λ s. IsTrue (below s t) → IsTrue (below s f)) xs)
@@ -156,49 +157,49 @@ module _ {T : Type 0} {below : T → T → Bool} {joined met : T → T → T} (o
           (λ r. inr (joined x r.0, closed x r.0 c.0 r.1, b.join_least x r.0 t e r.2, (λ k. b.join_left x r.0, up r.0 (joined x r.0) (b.join_right x r.0) xs r.3)))
           rest
 
-  -- a view is what it is at the last time of the closure at or before
+  -- the closure has no time at or before t, or it has a last one; at t the view is what it is at that last time
   pub last_of : (join_closure : List T) → IsClosed joined join_closure → (t : T)
-      → ((s : T) → Contains join_closure s → below s t ≡ false) ⊎ ((f : T) × Contains join_closure f × IsLast join_closure t f)
+      → ((s : T) → Contains join_closure s → below s t ≡ false) ⊎ ((f : T) × Contains join_closure f × IsLastAtOrBefore join_closure t f)
   last_of join_closure closed t =
       ⊎_elim
       (λ n. inl (λ s c. All-contains (λ s. below s t ≡ false) join_closure s (All-from_recursion (λ s. below s t ≡ false) join_closure n) c))
       (λ r. inr (r.0, r.1, (r.2, λ s c. All-contains (λ s. IsTrue (below s t) → IsTrue (below s r.0)) join_closure s (All-from_recursion (λ s. IsTrue (below s t) → IsTrue (below s r.0)) join_closure r.3) c)))
       (some_last join_closure closed t join_closure (recursion_from_All (Contains join_closure) join_closure (λ k d l. Contains-get_or join_closure k d l)))
 
--- ---- steps of the making of a grid
+-- ---- steps of the code that builds the closure
 
 module _ {T : Type 0} {below : T → T → Bool} {joined met : T → T → T} (o : PartialOrderLaws below) (b : LatticeLaws below joined met)
     (old mid pushed new : List T) (t : T) (joins : mid ≡ old ++ map (λ s. joined s t) old) (push : pushed ≡ mid ++ t ∷ []) (kept : (s : T) → Contains pushed s → Contains new s) where
   whole : pushed ≡ (old ++ map (λ s. joined s t) old) ++ t ∷ []
   whole = push ∙ ap (λ xs. xs ++ t ∷ []) joins
 
-  -- pushing joins keeps the times
+  -- `add_time` keeps the old times
   pub added_old : (s : T) → Contains old s → Contains new s
   added_old s c = kept s (subst (λ xs. Contains xs s) (sym whole) (more_old o b old t s c))
 
-  -- and makes them closed
+  -- `add_time` keeps the list closed
   pub added_closed : ((s : T) → Contains new s → Contains pushed s) → IsClosed joined old → IsClosed joined new
   added_closed among closed = closed_same joined pushed new kept among (subst (IsClosed joined) (sym whole) (more_closed o b old t closed))
 
--- at the end all changes are covered
+-- at the end the times of all changes are covered
 pub covers_all : {T : Type 0} (old new : List T) (lists : List (List (Update T))) (i : ℕ) → length lists ≤ i → ((t : T) → Contains old t → Contains new t) → Covers old (take i lists) → Covers new lists
 covers_all old new lists i long to covers = covers_more old new lists to (subst (Covers old) (take_all i lists long) covers)
 
--- no times are in order
+-- the empty list is sorted
 pub sorted_none : {T : Type 0} (cmp : T → T → Ordering) → IsStrictlySortedBy cmp []
 unfolding IsStrictlySortedBy
 sorted_none cmp = tt
 
--- the step that keeps one time
+-- the step that adds one time
 pub kept_next : {T : Type 0} (old new times : List T) (i : ℕ) (t : T) → i < length times → t ≡ get_or times i t → ((s : T) → Contains old s → Contains new s) → Contains new t → All (Contains old) (take i times) → All (Contains new) (take (i + 1) times)
 kept_next old new times i t inside e to added all =
     All-more (Contains new) times i t inside (All-weaker (Contains old) (Contains new) to (take i times) all) (subst (Contains new) e added)
 
--- at the end all are kept
+-- at the end all times are in the list
 pub kept_all : {T : Type 0} (join_closure times : List T) (i : ℕ) → length times ≤ i → All (Contains join_closure) (take i times) → All (Contains join_closure) times
 kept_all join_closure times i long all = subst (All (Contains join_closure)) (take_all i times long) all
 
--- the times that are left are the join closure
+-- the sorted list without duplicates is the join closure
 pub join_closure_ok : {T : Type 0} {E : Type 0} {A : Type 0} (cmp : T → T → Ordering) (joined : T → T → T) (lists : List (List (Update T))) (times from : List T) → from ≡ times → Covers times lists
     → (r : Result (Vec T A) E) → IfOk r (λ join_closure. IsStrictlySortedBy cmp join_closure.items) → IfOk r (λ join_closure. IsClosed joined join_closure.items) → IfOk r (λ join_closure. All (Contains join_closure.items) from) → IfOk r (λ join_closure. IsJoinClosure cmp joined lists join_closure.items)
 join_closure_ok cmp joined lists times from e covers (Err x) a c k = tt

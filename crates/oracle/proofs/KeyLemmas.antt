@@ -1,4 +1,4 @@
--- In the order of rows keys ascend.
+-- Rows in order have keys in order, so the rows of a key are neighbours.
 use Rattle.std.proofs.Common.{◌≡◌, ℕ, zero, suc, ◌+◌, ◌<◌, ◌≤◌, Bool, true, false, List, [], ◌∷◌, ℤ, take, length, get_or, ◌⊎◌, ⊎_elim, inl, inr, refl, ap, sym, ◌∙◌, eq-or-lt_of_le, arith}
 use Rattle.std.specs.Cmp.{IsTotalOrder}
 use Rattle.std.specs.Cmp.Lexicographic.{slice_cmp, lists_ties, lists_total}
@@ -31,7 +31,7 @@ columns_refl r = step (by_columns r r) (sym (lists_ties int_cmp (λ x y. refl) r
     step Equal h = refl
     step Greater h = absurd (true≢false (sym h))
 
--- the first columns of rows in order are in order, or the same
+-- if two rows are in order, their first columns are in order or equal
 key_order : (k : ℕ) (r s : List ℤ) → by_columns r s ≡ Less → (by_columns (take k r) (take k s) ≡ Less) ⊎ (by_columns (take k r) (take k s) ≡ Equal)
 key_order zero r s h = inr refl
 key_order (suc k) [] [] h = inr refl
@@ -46,7 +46,7 @@ key_order (suc k) (x ∷ r) (y ∷ s) h = step (int_cmp x y) h (key_order k r s)
     step Equal h rest = rest h
     step Greater h rest = inl h
 
--- what is at or before another precedes all that it precedes
+-- if a comes no later than b and b precedes the key, so does a
 precedes_down : (equal : Bool) (a b key : List ℤ) → (by_columns a b ≡ Less) ⊎ (by_columns a b ≡ Equal) → precedes equal (by_columns b key) ≡ true → precedes equal (by_columns a key) ≡ true
 precedes_down equal a b key h p =
     ⊎_elim
@@ -61,7 +61,7 @@ precedes_down equal a b key h p =
         ap (precedes equal) less
     step l Greater e p = absurd (true≢false (sym p))
 
--- in a bag an earlier place has a lesser row
+-- in a bag, an earlier index has a lesser row
 pub in_order : (es : List Entry) → IsStrictlySortedBy (λ a b. by_columns a.row b.row) es → (i j : ℕ) (d : Entry) → i < j → j < length es → by_columns (get_or es i d).row (get_or es j d).row ≡ Less
 unfolding IsStrictlySortedBy
 in_order [] s i j d l m = absurd (omega (arith, m))
@@ -70,7 +70,7 @@ in_order (e ∷ es) s zero (suc j) d l m = All-from_recursion (λ y. by_columns 
 in_order (e ∷ es) s (suc i) (suc j) d l m = in_order es s.1 i j d (omega (arith, l)) (omega (arith, m))
 
 module _ (equal : Bool) (key : List ℤ) (es : List Entry) (bag : IsBag es) where
-  -- before an entry before the key all are
+  -- all entries up to one before the key are before the key
   before_down : (i j : ℕ) (d : Entry) → i ≤ j → j < length es → is_before_key equal key (get_or es j d) ≡ true → is_before_key equal key (get_or es i d) ≡ true
   before_down i j d l m h =
       ⊎_elim
@@ -78,11 +78,11 @@ module _ (equal : Bool) (key : List ℤ) (es : List Entry) (bag : IsBag es) wher
       (λ k. precedes_down equal (take (length key) (get_or es i d).row) (take (length key) (get_or es j d).row) key (key_order (length key) (get_or es i d).row (get_or es j d).row (in_order es bag.ascending i j d k m)) h)
       (eq-or-lt_of_le l)
 
-  -- a test that says yes moves the lower bound, one that says no the upper one
+  -- the test succeeds at `middle`, so all entries up to it are before the key
   pub before_up_to : (middle : ℕ) → middle < length es → ((d : Entry) → is_before_key equal key (get_or es middle d) ≡ true) → AllWithin (λ e. is_before_key equal key e ≡ true) es 0 (middle + 1)
   before_up_to middle m h i d l k = before_down i middle d (omega (arith, k)) m (h d)
 
-  -- behind the bound no row is before the key
+  -- the test fails at `middle`, so no entry from it on is before the key
   pub behind_from : (middle : ℕ) → middle < length es → ((d : Entry) → is_before_key equal key (get_or es middle d) ≡ false) → AllWithin (λ e. is_before_key equal key e ≡ false) es middle (length es)
   behind_from middle m h i d l k = step (is_before_key equal key (get_or es i d)) refl
     where
@@ -90,7 +90,7 @@ module _ (equal : Bool) (key : List ℤ) (es : List Entry) (bag : IsBag es) wher
       step false e = e
       step true e = absurd (true≢false (sym (before_down middle i d l k e) ∙ h d))
 
--- keys of rows in order are in order, or the same
+-- in a bag, keys are in order too
 module _ (k : ℕ) (es : List Entry) (bag : IsBag es) where
   keys_up : (i j : ℕ) (d : Entry) → i ≤ j → j < length es → (by_columns (take k (get_or es i d).row) (take k (get_or es j d).row) ≡ Less) ⊎ (by_columns (take k (get_or es i d).row) (take k (get_or es j d).row) ≡ Equal)
   keys_up i j d l m =
@@ -107,7 +107,7 @@ module _ (k : ℕ) (es : List Entry) (bag : IsBag es) where
       (λ e. true≢false (ap is_eq (sym e ∙ greater)))
       h
 
-  -- between rows of one key all have it
+  -- if entries m and i have the same key, so has every entry j with m ≤ j ≤ i
   pub between_up : (m j i : ℕ) (d : Entry) → m ≤ j → j ≤ i → i < length es → same_row (take k (get_or es m d).row) (take k (get_or es i d).row) ≡ true → same_row (take k (get_or es j d).row) (take k (get_or es i d).row) ≡ true
   between_up m j i d a b l t =
       let one : take k (get_or es m d).row ≡ take k (get_or es i d).row = row_same (take k (get_or es m d).row) (take k (get_or es i d).row) t in
@@ -116,7 +116,7 @@ module _ (k : ℕ) (es : List Entry) (bag : IsBag es) where
       (λ same. ap (λ r. same_row r (take k (get_or es i d).row)) (sym (equal_rows (take k (get_or es m d).row) (take k (get_or es j d).row) same)) ∙ t)
       (keys_up m j d a (omega (arith, b, l)))
 
-  -- between two rows of a key all rows have it
+  -- if entries i and m have the same key, so has every entry j with i ≤ j ≤ m
   pub between_down : (i j m : ℕ) (d : Entry) → i ≤ j → j ≤ m → m < length es → same_row (take k (get_or es m d).row) (take k (get_or es i d).row) ≡ true → same_row (take k (get_or es j d).row) (take k (get_or es i d).row) ≡ true
   between_down i j m d a b l t =
       let one : take k (get_or es m d).row ≡ take k (get_or es i d).row = row_same (take k (get_or es m d).row) (take k (get_or es i d).row) t in

@@ -1,4 +1,4 @@
--- One time of a list of differences: what is taken off, and what is left.
+-- One step of a list of differences: what is subtracted, and what remains.
 use Rattle.std.proofs.Common.{◌≡◌, ℕ, ◌+◌, ◌<◌, Bool, true, false, cond, List, [], ◌∷◌, ◌++◌, ℤ, map, take, length, get_or, ap, sym, subst, ◌∙◌, w64, FitsSigned, arith}
 use Rattle.std.specs.Prelude.{pos, ◌+ℤ◌, neg_ℤ}
 use Rattle.std.specs.List.{filter}
@@ -12,7 +12,7 @@ use Rattle.plan.proofs.CountLemmas.{count_of-append}
 use Rattle.update.specs.Bags.{entry_of}
 use Rattle.oracle.specs.Listing.{HasLargeGap}
 
--- two entries that take a row off n times
+-- the two entries of `put_off` subtract the update's diff from its row
 pub taken_off : (old mid new : List Entry) (row : List ℤ) (m n : ℤ) → mid ≡ old ++ entry_of row m ∷ [] → new ≡ mid ++ entry_of row (pos 1) ∷ [] → (m +ℤ pos 1) +ℤ n ≡ pos 0
     → (r : List ℤ) → count_of new r +ℤ cond (same_row row r) n (pos 0) ≡ count_of old r
 taken_off old mid new row m n e f z r =
@@ -32,7 +32,7 @@ module _ {T : Type 0} (below : T → T → Bool) (t : T) where
       ∙ (ap (λ es. count_of es r) (map-append entry (filter (λ u. below u.time t) (take i us)) (cond (below (get_or us i d).time t) (get_or us i d ∷ []) []))
       ∙ count_of-append (as_of below t (take i us)) (map entry (cond (below (get_or us i d).time t) (get_or us i d ∷ []) [])) r)
 
-  -- an update at or before t, taken off
+  -- the step over an update at or before t: it is subtracted
   pub off_more : (old mid new : List Entry) (us : List (Update T)) (i : ℕ) (d : Update T) → i < length us → below (get_or us i d).time t ≡ true
       → ((r : List ℤ) → count_of mid r +ℤ count_of (as_of below t (take i us)) r ≡ count_of old r)
       → ((r : List ℤ) → count_of new r +ℤ cond (same_row (get_or us i d).row r) (get_or us i d).diff (pos 0) ≡ count_of mid r)
@@ -43,7 +43,7 @@ module _ {T : Type 0} (below : T → T → Bool) (t : T) where
       let other = k r in
       omega (arith, ints, more, one, other)
 
-  -- and one that is not
+  -- the step over any other update: nothing is subtracted
   pub off_same : (old mid : List Entry) (us : List (Update T)) (i : ℕ) (d : Update T) → i < length us → below (get_or us i d).time t ≡ false
       → ((r : List ℤ) → count_of mid r +ℤ count_of (as_of below t (take i us)) r ≡ count_of old r)
       → (r : List ℤ) → count_of mid r +ℤ count_of (as_of below t (take (i + 1) us)) r ≡ count_of old r
@@ -52,14 +52,14 @@ module _ {T : Type 0} (below : T → T → Bool) (t : T) where
       let one = h r in
       omega (arith, ints, more, one)
 
-  -- a count too large in what is listed is a gap that is too large
+  -- if a count in the entries is too large, so is the gap
   pub large_gap : (entries wanted : List Entry) (us : List (Update T)) → ((r : List ℤ) → count_of entries r +ℤ count_of (as_of below t us) r ≡ count_of wanted r) → HasLargeCount entries → HasLargeGap below t wanted us
   large_gap entries wanted us h large = (large.0, λ fits. large.1 (subst (FitsSigned w64) (less (count_of entries large.0) (count_of (as_of below t us) large.0) (count_of wanted large.0) (h large.0)) fits))
     where
       less : (a b c : ℤ) → a +ℤ b ≡ c → c +ℤ neg_ℤ b ≡ a
       less a b c e = omega (arith, ints, e)
 
--- alike bags have the same gaps
+-- bags with the same counts have the same gaps
 pub gap_alike : {T : Type 0} (below : T → T → Bool) (t : T) (bag wanted : List Entry) (us vs : List (Update T)) → Alike bag wanted → us ≡ vs → HasLargeGap below t bag us → HasLargeGap below t wanted vs
 gap_alike below t bag wanted us vs alike e large =
     (large.0, λ fits. large.1 (subst (FitsSigned w64) (λ i. sym (alike large.0) i +ℤ neg_ℤ (count_of (as_of below t (sym e i)) large.0)) fits))

@@ -1,5 +1,5 @@
--- What every plan gives its nodes: that the rows at a node's ports have the columns that its operator names, and that the
--- rows which it gives have its width.
+-- What every plan promises its nodes: the rows at a node's ports have the columns that its operator names, and
+-- the rows of its output have its width.
 use Rattle.std.proofs.Common.{◌≡◌, ℕ, suc, ◌+◌, ◌-◌, ◌<◌, ◌≤◌, Bool, true, false, cond, List, [], ◌∷◌, ◌++◌, ℤ, map, take, drop, length, IsTrue, ◌⊎◌, ⊎_elim, refl, ap, sym, subst, ◌∙◌, length-append, length-drop, Some, None, arith}
 use Rattle.std.specs.Prelude.{pos, neg_ℤ, ◌&&◌, not, int_lt, nat_le, eqb, slice_get}
 use Rattle.std.specs.List.{filter, list_all}
@@ -33,10 +33,10 @@ use Rattle.plan.proofs.WidthLemmas.{faultless, width_bounds}
 use Rattle.oracle.specs.Entries.{all_wide}
 use Rattle.oracle.specs.Keys.{have_keys}
 use Rattle.oracle.specs.Evaluation.{output_at, HasLargeAt, HasLargeStep, HasLargeProductOf}
-use Rattle.oracle.proofs.CountLemmas.{answer, count_answered}
+use Rattle.oracle.proofs.CountLemmas.{answer_multiplicity, count_answered}
 use Rattle.oracle.proofs.RowLemmas.{absent_row, rows_by_counts}
 
--- what holds of a width holds of all rows of it
+-- if all rows have a width, a test of that width holds for all of them
 pub all_by_width : (test : ℕ → Bool) (w : ℕ) (es : List Entry) → IsTrue (all_wide w es) → test w ≡ true → IsTrue (list_all (λ e. test (length e.row)) es)
 all_by_width test w [] h t = refl
 all_by_width test w (e ∷ es) h t =
@@ -46,7 +46,7 @@ all_by_width test w (e ∷ es) h t =
 add_one : (k : ℕ) → k + 1 ≡ suc k
 add_one k = omega arith
 
--- ---- widths of what operators give
+-- ---- widths of the operators' outputs
 
 mapped_wide : (items : List Item) (es : List Entry) → IsTrue (all_wide (length items) (map (mapped_entry items) es))
 mapped_wide items [] = refl
@@ -115,7 +115,7 @@ module _ (k : ℕ) (es : List Entry) (row : List ℤ) where
       by_key_at k (reduction_answer Count) (all_reduce Count k) es row
       ∙ step (nat_le k (length row)) refl
     where
-      number : (n : ℤ) (b : Bool) → nat_le k (length row) ≡ true → same_row (take k row ++ n ∷ []) row ≡ b → answer (take k row) n row ≡ pos 0
+      number : (n : ℤ) (b : Bool) → nat_le k (length row) ≡ true → same_row (take k row ++ n ∷ []) row ≡ b → answer_multiplicity (take k row) n row ≡ pos 0
       number n true wide t =
           let long : length row ≡ suc k = sym (ap length (row_same (take k row ++ n ∷ []) row t)) ∙ length-append (take k row) (n ∷ []) ∙ ap (λ m. m + 1) (length-take-le k row (leb-true k (length row) wide)) ∙ add_one k in
           absurd (true≢false (sym (eq-eqb (length row) (suc k) long) ∙ h))
@@ -147,14 +147,14 @@ module _ (p : List Node) (plan : IsPlan p) (n : ℕ) (l : n < length p) (bags : 
   at_port : (node : Node) → node_at p n ≡ node → (port s : ℕ) → slice_get (sources node) port ≡ Some s → IsTrue (all_wide (width_of p s) (bags s))
   at_port node e port s g = wide s (source_smaller p plan n port s (ap (λ node. slice_get (sources node) port) e ∙ g))
 
-  -- the rows at a map have the columns that it names
+  -- the rows at a map have the columns that its items name
   pub map_within : (source : ℕ) (items : List Item) → node_at p n ≡ Map source items → IsTrue (list_all (λ e. are_within items (length e.row)) (bags source))
   map_within source items e =
       let second = (no_first (not (is_width (length items))) BadWidth ((not (are_within items (width_of p source)), BadColumn) ∷ []) (faults_none (Map source items) e)).1 in
       let within = no_fault (are_within items (width_of p source)) (no_first (not (are_within items (width_of p source))) BadColumn [] second).0 in
       all_by_width (λ w. are_within items w) (width_of p source) (bags source) (at_port (Map source items) e 0 source refl) within
 
-  -- so have the rows at a filter
+  -- the rows at a filter have the columns that its test names
   pub filter_within : (source : ℕ) (test : Test) → node_at p n ≡ Filter source test → IsTrue (list_all (λ e. is_test_within test (length e.row)) (bags source))
   filter_within source test e =
       let within = no_fault (is_test_within test (width_of p source)) (no_first (not (is_test_within test (width_of p source))) BadColumn [] (faults_none (Filter source test) e)).0 in
@@ -170,11 +170,11 @@ module _ (p : List Node) (plan : IsPlan p) (n : ℕ) (l : n < length p) (bags : 
   port_keys node e linear port s g =
       all_by_width (nat_le (key_width p (node_at p n))) (width_of p s) (bags s) (at_port node e port s g) (le-leb (key_width p (node_at p n)) (width_of p s) (source_key node e linear port s g).1)
 
-  -- the rows at the left of a join have a key
+  -- the rows at the left of a join have the key's columns
   pub left_keys : (left right : ℕ) → node_at p n ≡ Join left right → IsTrue (have_keys (key_width p (node_at p n)) (bags left))
   left_keys left right e = port_keys (Join left right) e refl 0 left refl
 
-  -- so have those at the right
+  -- the rows at the right of a join have the key's columns
   pub right_keys : (left right : ℕ) → node_at p n ≡ Join left right → IsTrue (have_keys (key_width p (node_at p n)) (bags right))
   right_keys left right e = port_keys (Join left right) e refl 1 right refl
 
@@ -187,28 +187,28 @@ module _ (p : List Node) (plan : IsPlan p) (n : ℕ) (l : n < length p) (bags : 
       let fits = (source_key (Join left right) e refl 0 left refl).1 in
       omega (arith, own, fits)
 
-  -- a joined row has 8 columns at most
+  -- a joined row has at most 8 columns
   pub join_room : (left right : ℕ) → node_at p n ≡ Join left right → IsTrue (list_all (λ x. list_all (λ y. nat_le (length x.row + (length y.row - key_width p (node_at p n))) 8) (bags right)) (bags left))
   join_room left right e =
       let room : width_of p left + (width_of p right - key_width p (node_at p n)) ≤ 8 = omega (arith, few, join_width left right e) in
       all_by_width (λ a. list_all (λ y. nat_le (a + (length y.row - key_width p (node_at p n))) 8) (bags right)) (width_of p left) (bags left) (at_port (Join left right) e 0 left refl)
       (all_by_width (λ b. nat_le (width_of p left + (b - key_width p (node_at p n))) 8) (width_of p right) (bags right) (at_port (Join left right) e 1 right refl) (le-leb (width_of p left + (width_of p right - key_width p (node_at p n))) 8 room))
 
-  -- a reduction has a key
+  -- the key of a reduction has at least one column
   pub reduce_some : (kind : Kind) (source : ℕ) → node_at p n ≡ Reduce kind source → 1 ≤ key_width p (node_at p n)
   reduce_some kind source e = (source_key (Reduce kind source) e refl 0 source refl).0
 
-  -- the rows at a reduction have a key
+  -- the rows at a reduction have the key's columns
   pub reduce_keys : (kind : Kind) (source : ℕ) → node_at p n ≡ Reduce kind source → IsTrue (have_keys (key_width p (node_at p n)) (bags source))
   reduce_keys kind source e = port_keys (Reduce kind source) e refl 0 source refl
 
-  -- a count has room for its number
+  -- the key of a count leaves room for the number
   pub count_room : (kind : Kind) (source : ℕ) → node_at p n ≡ Reduce kind source → kind ≡ Count → key_width p (node_at p n) ≤ 7
   count_room kind source e c =
       let own : width_of p n ≡ suc (key_width p (node_at p n)) = width_is (Reduce kind source) e ∙ ap (λ node. reduced_width kind (key_width p node) (width_of p source)) (sym e) ∙ ap (λ (kind : Kind). reduced_width kind (key_width p (node_at p n)) (width_of p source)) c in
       omega (arith, own, few)
 
-  -- a row of another width counts 0
+  -- a row of another width does not occur in the output
   absent_at : (outside : List Entry) → (is_input (node_at p n) ≡ true → IsTrue (all_wide (width_of p n) outside)) → (row : List ℤ) → eqb (length row) (width_of p n) ≡ false
       → (node : Node) → node_at p n ≡ node → count_of (operator_output (key_width p node) node (λ port. source_value outside bags (slice_get (sources node) port))) row ≡ pos 0
   absent_at outside own row h (Input width) e = absent_wide (width_of p n) outside row (own (ap is_input e)) h
@@ -237,21 +237,21 @@ module _ (p : List Node) (plan : IsPlan p) (n : ℕ) (l : n < length p) (bags : 
   absent_at outside own row h (Output source) e =
       absent_wide (width_of p source) (bags source) row (at_port (Output source) e 0 source refl) (ap (eqb (length row)) (sym (width_is (Output source) e)) ∙ h)
 
-  -- the rows that a node gives have its width
+  -- the rows of the output have the node's width
   pub given_wide : (outside out : List Entry) → (is_input (node_at p n) ≡ true → IsTrue (all_wide (width_of p n) outside)) → IsBag out → Alike out (output_at p n outside bags) → IsTrue (all_wide (width_of p n) out)
   given_wide outside out own bag alike = rows_by_counts (λ r. eqb (length r) (width_of p n)) out bag (λ row h. alike row ∙ absent_at outside own row h (node_at p n) refl)
 
--- ---- what is too large, by the node
+-- ---- numbers that are too large, by node
 
 module _ (p : List Node) (n : ℕ) (outside : List Entry) (bags : ℕ → List Entry) where
   abbrev pub HasLargeOf : Node → Type 0
   HasLargeOf node = HasLargeCount (operator_output (key_width p node) node (λ port. source_value outside bags (slice_get (sources node) port))) ⊎ HasLargeStep (key_width p node) node (λ port. source_value outside bags (slice_get (sources node) port))
 
-  -- a number too large for the operator is one at the node
+  -- a number that is too large for the operator is too large at the node
   pub large_of : (node : Node) → node_at p n ≡ node → HasLargeOf node → HasLargeAt p n outside bags
   large_of node e large = subst HasLargeOf (sym e) large
 
--- what is too large at a join depends on the width of the key and the bags alone
+-- whether a number is too large at a join depends only on the key's width and on the two bags
 pub join_large : (k m : ℕ) (a b c d : List Entry) → m ≡ k → b ≡ a → d ≡ c → HasLargeCount (join_output m b d) ⊎ HasLargeProductOf m b d → HasLargeCount (join_output k a c) ⊎ HasLargeProductOf k a c
 join_large k m a b c d e f g large =
     subst (λ (n : ℕ). HasLargeCount (join_output n a c) ⊎ HasLargeProductOf n a c) e

@@ -1,4 +1,4 @@
--- The rows of a key stand between two bounds, and are paired there.
+-- The rows of a key lie between two bounds, and a join pairs rows only there.
 use Rattle.std.proofs.Common.{◌≡◌, ℕ, zero, suc, ◌+◌, ◌<◌, ◌≤◌, Bool, true, false, cond, List, [], ◌∷◌, ◌++◌, ℤ, map, take, length, get_or, ⊎_elim, inl, inr, refl, ap, sym, subst, ◌∙◌, append_assoc, arith}
 use Rattle.std.specs.Cmp.Lexicographic.{slice_cmp, lists_ties}
 use Rattle.std.specs.List.{filter, AllWithin}
@@ -59,7 +59,7 @@ module _ {X : Type 0} (p : X → Bool) where
   none_behind [] (suc n) h = refl
   none_behind (x ∷ xs) (suc n) h = ap (λ l. cond (p x) (x ∷ l) l) (none_behind xs n (λ k d a b. h (suc k) d (omega (arith, a)) (omega (arith, b))))
 
-  -- one more element that passes, as something else
+  -- the step over an element that passes: its image is appended
   pub put_kept_as : {Y : Type 0} (f : X → Y) (old mid new : List Y) (xs : List X) (i : ℕ) (d : X) → i < length xs → p (get_or xs i d) ≡ true → mid ≡ old ++ map f (filter p (take i xs)) → new ≡ mid ++ f (get_or xs i d) ∷ [] → new ≡ old ++ map f (filter p (take (i + 1) xs))
   put_kept_as f old mid new xs i d l h m n =
       let more : filter p (take (i + 1) xs) ≡ filter p (take i xs) ++ get_or xs i d ∷ [] = filter_more p xs i d l ∙ ap (λ b. filter p (take i xs) ++ cond b (get_or xs i d ∷ []) []) h in
@@ -67,7 +67,7 @@ module _ {X : Type 0} (p : X → Bool) where
       ∙ (append_assoc old (map f (filter p (take i xs))) (f (get_or xs i d) ∷ [])
       ∙ ap (λ ys. old ++ ys) (sym (ap (map f) more ∙ map-append f (filter p (take i xs)) (get_or xs i d ∷ [])))))
 
-  -- and one that does not
+  -- the step over an element that does not pass: nothing is appended
   pub put_left_as : {Y : Type 0} (f : X → Y) (old mid : List Y) (xs : List X) (i : ℕ) (d : X) → i < length xs → p (get_or xs i d) ≡ false → mid ≡ old ++ map f (filter p (take i xs)) → mid ≡ old ++ map f (filter p (take (i + 1) xs))
   put_left_as f old mid xs i d l h m =
       let same : filter p (take (i + 1) xs) ≡ filter p (take i xs) = filter_more p xs i d l ∙ (ap (λ b. filter p (take i xs) ++ cond b (get_or xs i d ∷ []) []) h ∙ append-nil (filter p (take i xs))) in
@@ -90,15 +90,15 @@ module _ (key : List ℤ) (es : List Entry) (from to : ℕ) where
       (λ m. m)
       (cases_lt to from)
 
-  -- none of the first entries has the key
+  -- no entry before the lower bound has the key
   none_before : from ≤ length es → AllWithin (λ e. is_before_key false key e ≡ true) es 0 from → filter has (take from es) ≡ []
   none_before l before = none_front has es from l (λ i d a b. has_is (get_or es i d) ∙ before_differs (slice_cmp int_cmp (take (length key) (get_or es i d).row) key) (before i d a b))
 
-  -- none of the last ones does
+  -- no entry from the upper bound on has the key
   none_after : AllWithin (λ e. is_before_key true key e ≡ false) es to (length es) → filter has (take to es) ≡ filter has es
   none_after behind = none_behind has es to (λ i d a b. has_is (get_or es i d) ∙ behind_differs (slice_cmp int_cmp (take (length key) (get_or es i d).row) key) (behind i d a b))
 
-  -- and those between them do
+  -- all entries between the bounds have the key
   has_between : (i : ℕ) (d : Entry) → from ≤ i → i < to → to ≤ length es → AllWithin (λ e. is_before_key false key e ≡ false) es from (length es) → AllWithin (λ e. is_before_key true key e ≡ true) es 0 to → has (get_or es i d) ≡ true
   has_between i d l m n behind before =
       has_is (get_or es i d)
@@ -116,7 +116,7 @@ module _ (key : List ℤ) (es : List Entry) (from to : ℕ) where
     behind = none_after d;
   }
 
--- the two bounds found are the range of the key
+-- the two bounds that the searches find are the range of the key
 pub key_range_is : (k : ℕ) (key own : List ℤ) (es : List Entry) (from to : ℕ) → key ≡ own → length own ≡ k → to ≤ length es → from ≤ length es
     → AllWithin (λ e. is_before_key false key e ≡ true) es 0 from → AllWithin (λ e. is_before_key false key e ≡ false) es from (length es)
     → AllWithin (λ e. is_before_key true key e ≡ true) es 0 to → AllWithin (λ e. is_before_key true key e ≡ false) es to (length es)
@@ -125,7 +125,7 @@ key_range_is k key own es from to e long n l a b c d =
     subst (λ (m : ℕ). IsKeyRange m own es from to) long
     (subst (λ (key : List ℤ). IsKeyRange (length key) key es from to) e (range_at key es from to n l a b c d))
 
--- a row on the left with a product that is no 64-bit number
+-- if an entry on the left has a product that is too large, the join has one
 pub large_pair : (k : ℕ) (left right : List Entry) (i : ℕ) (x : Entry) → i < length left → x ≡ get_or left i no_entry → (r : Refusal) → IsMemoryOrOverflow (HasLargeProduct k x right) r → IsMemoryOrOverflow (HasLargePair k left right) r
 large_pair k left right i x l e r refused =
     ⊎_elim

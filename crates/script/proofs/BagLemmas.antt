@@ -1,4 +1,4 @@
--- Entries put one by one into a list in row order make the one bag that counts as they do.
+-- If entries are inserted one by one into a list in row order, the result is the only bag with the same counts.
 use Rattle.std.proofs.Common.{◌≡◌, ◌≢◌, Bool, true, false, cond, List, [], ◌∷◌, ℤ, pos, ◌+ℤ◌, refl, sym, ◌∙◌, ap, arith}
 use Rattle.std.proofs.lemmas.Int.{ints}
 use Rattle.std.proofs.lemmas.Bool.{true≢false}
@@ -22,7 +22,7 @@ rows_total = lists_total int_cmp_total
 abbrev Counts : Entry → Type 0
 Counts e = e.count ≢ pos 0
 
--- what an entry counts for a row
+-- how much an entry adds to the count of a row
 abbrev says : Entry → List ℤ → ℤ
 says e row = cond (same_row e.row row) e.count (pos 0)
 
@@ -65,7 +65,7 @@ front_says e rest row = by_test (int_eq e.count (pos 0)) refl
     by_test true t = nothing (same_row e.row row) e.count (count_of rest row) ((signed_Decides e.count (pos 0)).0 t)
     by_test false t = refl
 
--- ---- one entry more
+-- ---- one more entry
 
 flipped : (e x : Entry) → by_row e x ≡ Greater → by_row x e ≡ Less
 flipped e x g = rows_total.antisymm x.row e.row ∙ ap ordering_reverse g

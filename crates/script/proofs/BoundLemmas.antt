@@ -1,6 +1,6 @@
--- Where a number is too large, the bound of some node is. A plan of linear nodes has at each of them a list of updates that
--- sums to the query at every time, and is no larger than the node's bound. So no count of a row is, at any time, and no
--- total of a view's changes.
+-- If a number is too large, the bound of some node is too large. Each node of a linear plan has a list of
+-- updates that sums to the query at every time, and whose size is at most the node's bound. So at no time is
+-- the count of a row larger than the bound, and neither is a total of a view's changes.
 use Rattle.std.proofs.Common.{◌≡◌, ℕ, ◌+◌, ◌<◌, ◌≤◌, ◌^◌, Bool, true, false, cond, ◌&&◌, List, [], ◌∷◌, ◌++◌, map, length, Option, Some, None, slice_get, IsTrue, ⊎_elim, refl, sym, ◌∙◌, ap, ap₂, subst, arith, w64, FitsSigned}
 use Rattle.std.specs.Prelude.{ℤ, pos, neg_ℤ, ◌+ℤ◌, unsigned_abs}
 use Rattle.std.specs.List.{All, AllByRecursion, filter}
@@ -39,12 +39,12 @@ use Rattle.script.specs.Sessions.{Session}
 
 -- ---- sizes
 
--- what is no 64-bit number is 2^63 or more, on one side or the other
+-- a number that does not fit in 64 bits has an absolute value of 2^63 or more
 not_fits : (x : ℤ) → (FitsSigned w64 x → ⊥) → 2 ^ 63 ≤ unsigned_abs x
 not_fits x h = ⊎_elim (λ l. absurd (h (fits_signed_from_abs w64 x l))) (λ l. l) (cases_lt (unsigned_abs x) (2 ^ 63))
 
 module _ {T : Type 0} where
-  -- a total is no larger than the list
+  -- a total is at most the size of the list
   total_within : (q : List ℤ → T → Bool) (us : List (Update T)) → unsigned_abs (total_where q us) ≤ summed_size us
   total_within q [] = omega arith
   total_within q (u ∷ us) =
@@ -57,7 +57,7 @@ module _ {T : Type 0} where
   large_total : (q : List ℤ → T → Bool) (us : List (Update T)) → (FitsSigned w64 (total_where q us) → ⊥) → 2 ^ 63 ≤ summed_size us
   large_total q us h = let large = not_fits (total_where q us) h in let within = total_within q us in omega (arith, large, within)
 
--- ---- what a node gives, as a list of updates
+-- ---- the output of a node, as a list of updates
 
 module _ {T : Type 0} (below : T → T → Bool) (p : List Node) (plan : IsPlan p) (linear : (n : ℕ) → IsTrue (is_linear (node_at p n))) (changes : ℕ → List (Update T)) where
   abbrev pub none : ℕ → ℕ
@@ -66,7 +66,7 @@ module _ {T : Type 0} (below : T → T → Bool) (p : List Node) (plan : IsPlan 
   abbrev pub limit : ℕ → ℕ
   limit = bound_by p none (λ i. size (changes i))
 
-  -- one list sums to the query at every time, within the node's bound
+  -- some list sums to the query at every time, and its size is at most the node's bound
   abbrev Told : ℕ → Type 0
   Told n = (us : List (Update T)) × ((t : T) → Alike (as_of below t us) (query_at below p changes n t)) × (summed_size us ≤ limit n)
 
@@ -97,7 +97,7 @@ module _ {T : Type 0} (below : T → T → Bool) (p : List Node) (plan : IsPlan 
                 omega (arith, made_le, ports_le, same)),
           )
 
--- a plan of linear nodes has no other node at any number
+-- all nodes of a linear plan are linear, and so is the default at numbers past the end
 pub linear_within : (p : List Node) → ((n : ℕ) → n < length p → IsTrue (is_linear (node_at p n))) → (n : ℕ) → IsTrue (is_linear (node_at p n))
 linear_within p each n = ⊎_elim (λ l. each n l) (λ l. ap is_linear (node_past p n l)) (cases_lt n (length p))
 
@@ -105,13 +105,13 @@ linear_within p each n = ⊎_elim (λ l. each n l) (λ l. ap is_linear (node_pas
 pub linear_at : (p : List Node) → All (λ node. IsTrue (is_linear node)) p → (n : ℕ) → IsTrue (is_linear (node_at p n))
 linear_at p all = linear_within p (λ n l. subst (λ (node : Node). IsTrue (is_linear node)) (sym (unwrap_or-slice_get p n (Input 0))) (all n (Input 0) l))
 
--- ---- what is too large in a session
+-- ---- numbers that are too large in a session
 
 module _ {T : Type 0} {below : T → T → Bool} (o : PartialOrderLaws below) (cmp : T → T → Ordering) (p : List Node) (plan : IsPlan p) (linear : (n : ℕ) → IsTrue (is_linear (node_at p n))) (s : Session T) where
   abbrev pub changes : ℕ → List (Update T)
   changes i = fed_to i s.fed
 
-  -- what is listed of a node is its query's, so where it is large the bound is
+  -- if the list of a node is large, so is its bound
   heavy : (n : ℕ) → n < length p → 2 ^ 63 ≤ summed_size (told below p plan linear changes n).0 → HasLargeBound below cmp p changes
   heavy n l large =
       let within = (told below p plan linear changes n).2 in
@@ -120,14 +120,14 @@ module _ {T : Type 0} {below : T → T → Bool} (o : PartialOrderLaws below) (c
       reduces : (m source : ℕ) (kind : Kind) → node_at p m ≡ Reduce kind source → ⊥
       reduces m source kind e = true≢false (sym (linear m) ∙ ap is_linear e)
 
-  -- a count of the query
+  -- if a count of the query is too large, so is a bound
   pub large_count : (n : ℕ) → n < length p → (t : T) → HasLargeCount (query_at below p changes n t) → HasLargeBound below cmp p changes
   large_count n l t (row, large) =
       let list = told below p plan linear changes n in
       heavy n l (large_total (λ r u. same_row r row && below u t) list.0
       (λ fits. large (subst (FitsSigned w64) (sym (count_as_of below row t list.0) ∙ list.1 t row) fits)))
 
-  -- a total of a list that sums to the query
+  -- if a total of a list that sums to the query is too large, so is a bound
   pub large_listed : (n : ℕ) → n < length p → (among : T → Bool) → ((u t : T) → IsTrue (below u t) → IsTrue (among t) → IsTrue (among u))
       → (us : List (Update T)) → ((t : T) → IsTrue (among t) → Alike (as_of below t us) (query_at below p changes n t))
       → HasLargeTotal below (filter (λ u. among u.time) us) → HasLargeBound below cmp p changes
@@ -154,17 +154,17 @@ module _ {T : Type 0} {below : T → T → Bool} (o : PartialOrderLaws below) (c
                   out true g h = absurd (true≢false (sym (down t u.time (and_parts _ _ (and_parts _ _ g).1).1 f) ∙ e))
                   out false g h = omega (arith, ints, h)
 
-  -- what the query has more at a time than a list that sums to it at all times before
+  -- the difference at a time: the query minus a list that sums to it at all earlier times
   module _ (n : ℕ) (l : n < length p) (t : T) (us : List (Update T)) (before : (u : T) → IsTrue (below u t) → (u ≡ t → ⊥) → Alike (as_of below u us) (query_at below p changes n u)) where
     abbrev pub wanted : List Entry
     wanted = query_at below p changes n t
 
-    -- the list goes on by what is missing at the time
-    abbrev pub missing : List Entry
-    missing = wanted ++ map negated_entry (as_of below t us)
+    -- the wanted entries that are not listed yet
+    abbrev pub unlisted_entries : List Entry
+    unlisted_entries = wanted ++ map negated_entry (as_of below t us)
 
     abbrev pub further : List (Update T)
-    further = us ++ map (at_time t) missing
+    further = us ++ map (at_time t) unlisted_entries
 
     at_once : (u : T) (b : Bool) → below t u ≡ b → (es : List Entry) → as_of below u (map (at_time t) es) ≡ cond b es []
     at_once u true h [] = refl
@@ -172,8 +172,8 @@ module _ {T : Type 0} {below : T → T → Bool} (o : PartialOrderLaws below) (c
     at_once u true h (e ∷ es) = rw h (ap (λ ds. e ∷ ds) (at_once u true h es))
     at_once u false h (e ∷ es) = rw h (at_once u false h es)
 
-    missing_counts : (row : List ℤ) → count_of missing row ≡ count_of wanted row +ℤ neg_ℤ (count_of (as_of below t us) row)
-    missing_counts row = count_of-append wanted (map negated_entry (as_of below t us)) row ∙ ap (λ x. count_of wanted row +ℤ x) (count_of-negated_entry (as_of below t us) row)
+    unlisted_counts : (row : List ℤ) → count_of unlisted_entries row ≡ count_of wanted row +ℤ neg_ℤ (count_of (as_of below t us) row)
+    unlisted_counts row = count_of-append wanted (map negated_entry (as_of below t us)) row ∙ ap (λ x. count_of wanted row +ℤ x) (count_of-negated_entry (as_of below t us) row)
 
     further_sums : (u : T) → IsTrue (below u t) → Alike (as_of below u further) (query_at below p changes n u)
     further_sums u h row = by (below t u) refl
@@ -182,16 +182,16 @@ module _ {T : Type 0} {below : T → T → Bool} (o : PartialOrderLaws below) (c
         by true e =
             let same : u ≡ t = o.antisymmetric u t h e in
             subst (λ (v : T). count_of (as_of below v further) row ≡ count_of (query_at below p changes n v) row) (sym same)
-            (let parts = count_of-append (as_of below t us) missing row in
-            let counts = missing_counts row in
-            ap (λ es. count_of es row) (as_of-append below t us (map (at_time t) missing) ∙ ap (λ es. as_of below t us ++ es) (at_once t true (o.reflexive t) missing))
+            (let parts = count_of-append (as_of below t us) unlisted_entries row in
+            let counts = unlisted_counts row in
+            ap (λ es. count_of es row) (as_of-append below t us (map (at_time t) unlisted_entries) ∙ ap (λ es. as_of below t us ++ es) (at_once t true (o.reflexive t) unlisted_entries))
             ∙ omega (arith, ints, parts, counts))
         by false e =
-            ap (λ es. count_of es row) (as_of-append below u us (map (at_time t) missing) ∙ ap (λ es. as_of below u us ++ es) (at_once u false e missing))
+            ap (λ es. count_of es row) (as_of-append below u us (map (at_time t) unlisted_entries) ∙ ap (λ es. as_of below u us ++ es) (at_once u false e unlisted_entries))
             ∙ (ap (λ es. count_of es row) (append-nil (as_of below u us))
             ∙ before u h (λ same. true≢false (sym (o.reflexive t) ∙ (ap (below t) (sym same) ∙ e))) row)
 
-    -- of the list itself nothing is at the time, so the total there is what is missing
+    -- the list itself has nothing at the time, so its total there is what is not listed yet
     nothing_yet : (row : List ℤ) → AllByRecursion (λ u. u.time ≡ t → ⊥) us → total_at below row t us ≡ pos 0
     nothing_yet row apart = total_by-zero (λ u. cond (same_row u.row row && (below u.time t && below t u.time)) u.diff (pos 0)) us (λ u m. step u (at_each (λ v. v.time ≡ t → ⊥) us u apart m) (same_row u.row row && (below u.time t && below t u.time)) refl)
       where
@@ -208,14 +208,14 @@ module _ {T : Type 0} {below : T → T → Bool} (o : PartialOrderLaws below) (c
         same true = refl
         same false = refl
 
-    -- finds the cause where what is missing is too large
+    -- if the difference is too large, so is a bound
     pub large_gap : AllByRecursion (λ u. u.time ≡ t → ⊥) us → HasLargeGap below t wanted us → HasLargeBound below cmp p changes
     large_gap apart (row, large) =
         let list = told below p plan linear changes n in
         let same = same_totals o (λ u. below u t) further list.0 (λ u v h k. o.transitive u v t h k) (λ u h row. further_sums u h row ∙ sym (list.1 u row)) row t (o.reflexive t) in
-        let parts = total_by-append (λ (u : Update T). cond (same_row u.row row && (below u.time t && below t u.time)) u.diff (pos 0)) us (map (at_time t) missing) in
+        let parts = total_by-append (λ (u : Update T). cond (same_row u.row row && (below u.time t && below t u.time)) u.diff (pos 0)) us (map (at_time t) unlisted_entries) in
         let none_yet = nothing_yet row apart in
-        let there = all_there row missing in
-        let counts = missing_counts row in
+        let there = all_there row unlisted_entries in
+        let counts = unlisted_counts row in
         let is : count_of wanted row +ℤ neg_ℤ (count_of (as_of below t us) row) ≡ total_at below row t list.0 = sym counts ∙ (sym there ∙ (omega (arith, ints, parts, none_yet) ∙ same)) in
         heavy n l (large_total (λ r u. same_row r row && (below u t && below t u)) list.0 (λ fits. large (subst (FitsSigned w64) (sym is) fits)))

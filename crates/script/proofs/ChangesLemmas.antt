@@ -1,5 +1,5 @@
--- The list that is built time by time is consolidated, and sums to the query at each time that has
--- passed; and it is the only one.
+-- The list that is built time by time is consolidated, sums to the query at each time that has passed, and is
+-- the only such list.
 use Rattle.std.proofs.Common.{◌≡◌, ℕ, zero, suc, ◌+◌, ◌<◌, ◌≤◌, Bool, true, false, cond, not, List, [], ◌∷◌, ◌++◌, map, take, drop, length, get_or, IsTrue, ◌⊎◌, inl, inr, ⊎_elim, refl, sym, ◌∙◌, ap, subst, take_all, eqb, arith}
 use Rattle.std.specs.Cmp.{IsTotalOrder}
 use Rattle.std.specs.List.{All, filter, list_all, Contains}
@@ -59,18 +59,18 @@ module _ {T : Type 0} {below : T → T → Bool} {joined met : T → T → T} {c
   from_order ts s c = contains_among s ts (in_order-only cmp ts s (among_contains s (in_order cmp ts) c))
 
   module _ (p : List Node) (fed : List (Fed T)) where
-    abbrev pub times : List T
-    times = map (λ f. f.update.time) fed
+    abbrev pub fed_times : List T
+    fed_times = map (λ f. f.update.time) fed
 
     abbrev pub grid : List T
-    grid = in_order cmp (joins_of joined times)
+    grid = in_order cmp (joins_of joined fed_times)
 
     -- the changes of each input, in the order of the inputs' numbers
     abbrev pub lists : List (List (Update T))
     lists = map (λ i. fed_to i fed) (numbers_where is_input p)
 
-    in_join_closure : (s : T) → Among s times → Contains grid s
-    in_join_closure s h = to_order (joins_of joined times) s (joins_have times s h)
+    in_join_closure : (s : T) → Among s fed_times → Contains grid s
+    in_join_closure s h = to_order (joins_of joined fed_times) s (joins_have fed_times s h)
 
     fed_in : (i : ℕ) (fs : List (Fed T)) (u : Update T) → Among u (fed_to i fs) → Among u.time (map (λ f. f.update.time) fs)
     fed_in i [] u h = absurd h
@@ -80,7 +80,7 @@ module _ {T : Type 0} {below : T → T → Bool} {joined met : T → T → T} {c
         by true h rest = ⊎_elim (λ e. inl (ap (λ (w : Update T). w.time) e)) (λ k. inr (rest k)) h
         by false h rest = inr (rest h)
 
-    -- the list of a number: that of an input, or of none
+    -- list number n has only times of the closure
     covered : (n : ℕ) (d : List (Update T)) → n < length lists → All (λ u. Contains grid u.time) (get_or lists n d)
     covered n d l k u within =
         let i = get_or (numbers_where is_input p) n 0 in
@@ -91,13 +91,13 @@ module _ {T : Type 0} {below : T → T → Bool} {joined met : T → T → T} {c
 
     is_join_closure : IsJoinClosure cmp joined lists grid
     is_join_closure = record {
-      ascending = in_order-sorted cmp total (joins_of joined times);
-      closed = closed_same joined (joins_of joined times) grid (to_order (joins_of joined times)) (from_order (joins_of joined times)) (joins_closed times);
+      ascending = in_order-sorted cmp total (joins_of joined fed_times);
+      closed = closed_same joined (joins_of joined fed_times) grid (to_order (joins_of joined fed_times)) (from_order (joins_of joined fed_times)) (joins_closed fed_times);
       covers = covered;
     }
 
     module _ (plan : IsPlan p) (view : ℕ) (within : view < length p) (frontier : List T) where
-      -- what is wanted, from the accepted changes and from the lists
+      -- the wanted rows by the accepted changes; those by the lists, `listed_wanted`, are the same
       abbrev wanted : T → List Entry
       wanted t = query_at below p (λ i. fed_to i fed) view t
 
@@ -107,7 +107,7 @@ module _ {T : Type 0} {below : T → T → Bool} {joined met : T → T → T} {c
       same_wanted : (t : T) → Alike (listed_wanted t) (wanted t)
       same_wanted t = query_at_inputs p plan (λ i. as_of below t (list_of p lists i)) (λ i. as_of below t (fed_to i fed)) (λ n l i row. ap (λ us. count_of (as_of below t us) row) (list_of_input p (λ i. fed_to i fed) n l i)) view within
 
-      -- what is missing, and what is listed, are what is wanted
+      -- the list plus what is missing at t sums to the wanted rows
       fills : (t : T) (us : List (Update T)) → ContinuesListing below t (listed_wanted t) us (us ++ map (at_time t) (missing below (wanted t) t us))
       fills t us = (
         missing below (wanted t) t us,
@@ -158,20 +158,20 @@ module _ {T : Type 0} {below : T → T → Bool} {joined met : T → T → T} {c
               rest = cc
           here (x ∷ xs) (suc n) e = let k = here xs n e in (omega (arith, k.0), k.1, k.2)
 
-      listed : IsListed below cmp frontier listed_wanted grid (changes_along below cmp joined frontier wanted times)
+      listed : IsListed below cmp frontier listed_wanted grid (changes_along below cmp joined frontier wanted fed_times)
       listed = along 0 grid [] refl (listed_none o b x total p plan lists view frontier grid is_join_closure)
 
       -- answers the clause `differences` of the_changes_of_a_view
-      pub changes_are : AreDifferences below cmp p (λ i. fed_to i fed) frontier view (changes_along below cmp joined frontier wanted times)
+      pub changes_are : AreDifferences below cmp p (λ i. fed_to i fed) frontier view (changes_along below cmp joined frontier wanted fed_times)
       changes_are =
-          let d = listed_all o b x total p plan lists view frontier grid is_join_closure (changes_along below cmp joined frontier wanted times) listed in
+          let d = listed_all o b x total p plan lists view frontier grid is_join_closure (changes_along below cmp joined frontier wanted fed_times) listed in
           record {
             consolidated = d.consolidated;
             passed = d.passed;
             sums = λ t h row. d.sums t h row ∙ same_wanted t row;
           }
 
--- ---- there is no other
+-- ---- there is no other list
 
 module _ {T : Type 0} {below : T → T → Bool} {cmp : T → T → Ordering} (o : PartialOrderLaws below) (total : IsTotalOrder cmp) (p : List Node) (changes : ℕ → List (Update T)) (frontier : List T) (view : ℕ) where
   all_pass : (us : List (Update T)) → IsTrue (list_all (λ u. has_passed below frontier u.time) us) → filter (λ u. has_passed below frontier u.time) us ≡ us

@@ -1,4 +1,4 @@
--- Small diffs stay small at a linear node, so none is too large to be negated.
+-- At a linear node small diffs stay small, so none is too large to be negated.
 use Rattle.std.proofs.Common.{◌≡◌, ℕ, ◌<◌, ◌≤◌, ◌^◌, true, nat_le, List, [], ◌∷◌, IsTrue, ap, subst, arith, w64, FitsSigned}
 use Rattle.std.specs.Prelude.{ℤ, unsigned_abs}
 use Rattle.std.specs.List.{AllByRecursion}
@@ -19,7 +19,7 @@ fits d h = fits_signed_from_abs w64 d (below (unsigned_abs d) h)
     below n h = let l : n ≤ 2147483647 = grind (arith, nat_tests) in omega (arith, l)
 
 module _ {T : Type 0} where
-  -- keeps diffs small over a node
+  -- a linear node keeps diffs small
   pub small_applied : (node : Node) (us : List (Update T)) → IsTrue (are_small us) → IsTrue (are_small (linear_output node us))
   small_applied node us h = diffs_applied node (λ d. nat_le (unsigned_abs d) 2147483647) (λ d. ap (λ n. nat_le n 2147483647) (abs_negated d)) us h
 
@@ -30,6 +30,6 @@ module _ {T : Type 0} where
   none_large : (us : List (Update T)) → IsTrue (are_small us) → HasLargeDiff us → ⊥
   none_large us h large = large.4 (subst (λ (u : Update T). FitsSigned w64 u.diff) large.3 (All-from_recursion (λ u. FitsSigned w64 u.diff) us (all_fit us h) large.0 large.1 large.2))
 
-  -- rules out a number too large at a node of small diffs
+  -- at a node with small diffs, no number is too large
   pub no_overflow : (node : Node) (us : List (Update T)) → IsTrue (are_small us) → Overflows node us → ⊥
   no_overflow node us h large = none_large (linear_output node us) (small_applied node us h) (overflow_large node us large)

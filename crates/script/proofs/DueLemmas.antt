@@ -1,4 +1,5 @@
--- Which bundles are due: what is taken fits its node, and what is sent is due at a later one.
+-- Which bundles are due. A bundle that is taken fits its node, and a bundle that is sent is due at a later
+-- node.
 use Rattle.std.proofs.Common.{◌≡◌, ◌≢◌, ℕ, zero, suc, ◌+◌, ◌<◌, ◌≤◌, Bool, true, false, cond, ◌&&◌, ◌||◌, eqb, nat_lt, nat_le, not, List, [], ◌∷◌, ◌++◌, map, length, take, get_or, Option, Some, None, IsTrue, unsigned_abs, sym, refl, ap, ◌∙◌, subst, arith, inl, inr, ⊎_elim, ◌⊎◌}
 use Rattle.std.specs.List.{list_all, filter, slice_get, remove}
 use Rattle.std.specs.Prelude.{unwrap_or}
@@ -47,7 +48,7 @@ module _ {T : Type 0} where
   any_row width (u ∷ us) = any_row width us
 
   module _ (p : Dataflow) (q : IsDataflow p) (site : Site) (us : List (Update T)) (port : IsTrue (is_port (node_of p site.node) site.port)) (wide : IsTrue (are_wide (width_at p site) us)) where
-    -- the rows of a bundle that fits are rows that its node takes
+    -- the node accepts the rows of a bundle that fits it
     pub fitting : IsTrue (takes_rows (node_of p site.node) us)
     fitting = step (source_of p site.node site.port) refl
       where
@@ -55,7 +56,7 @@ module _ {T : Type 0} where
         step None e = let n = input_at (node_of p site.node) site.port port e in subst (λ node. IsTrue (takes_rows node us)) (sym n.1) (any_row n.0 us)
         step (Some s) e = plan_takes p.nodes q.plan site.node site.port s e us (subst (λ x. IsTrue (are_wide (width_of p.nodes (unwrap_or x site.node)) us)) e wide)
 
-    -- and what it makes of them is as wide as the plan says
+    -- the node's output rows have the width that the plan says
     pub widened : IsTrue (is_linear (node_of p site.node)) → IsTrue (are_wide (width_of p.nodes site.node) (linear_output (node_of p site.node) us))
     widened l = step (source_of p site.node site.port) refl
       where
@@ -65,7 +66,7 @@ module _ {T : Type 0} where
             subst (λ node. IsTrue (are_wide (width_of p.nodes site.node) (linear_output node us))) (sym n.1) (subst (λ x. IsTrue (are_wide (width_of p.nodes (unwrap_or x site.node)) us)) e wide)
         step (Some s) e = plan_gives p.nodes q.plan site.node site.port s e l us (subst (λ x. IsTrue (are_wide (width_of p.nodes (unwrap_or x site.node)) us)) e wide)
 
-  -- the parts of what is due
+  -- the parts of `is_due`
   pub record IsDue (p : Dataflow) (n : ℕ) (b : Bundle T) : Type 0 where
     pub later : n ≤ b.place.node
     pub within : b.place.node < length p.nodes
@@ -91,11 +92,11 @@ module _ {T : Type 0} where
       (and_from (is_port (node_of p b.place.node) b.place.port && eqb b.place.worker 0) (are_wide (width_at p b.place) b.updates && are_small b.updates)
       (and_from (is_port (node_of p b.place.node) b.place.port) (eqb b.place.worker 0) d.port (eq-eqb b.place.worker 0 d.worker)) (and_from (are_wide (width_at p b.place) b.updates) (are_small b.updates) d.wide d.small))
 
-  -- so are those of a list
+  -- all bundles of a list are due
   abbrev pub are_due : Dataflow → ℕ → List (Bundle T) → Bool
   are_due p n bundles = list_all (is_due p n) bundles
 
-  -- a bundle that waits is due
+  -- a bundle that waits on a board where all is due is due
   pub waiting_due : (p : Dataflow) (n : ℕ) (site : Site) (bundle : Bundle T) (stations : List (List (Lot T))) → AreDue p n stations → slice_get (queue_of stations site) 0 ≡ Some bundle → IsDue p n bundle
   waiting_due p n site bundle stations due e = due_parts p n bundle (first_passes (queue_of stations site) (due site) e)
     where
@@ -103,12 +104,12 @@ module _ {T : Type 0} where
       first_passes [] h e = cc
       first_passes (b ∷ bundles) h e = ap (is_due p n) (sym (ap (λ o. unwrap_or o b) e)) ∙ (and_parts (is_due p n b) (are_due p n bundles) h).0
 
-  -- what is left is due
+  -- if a list is due, so is the list without its first bundle
   less_due : (test : Bundle T → Bool) (bundles : List (Bundle T)) → list_all test bundles ≡ true → list_all test (less bundles 0) ≡ true
   less_due test [] h = refl
   less_due test (b ∷ bundles) h = (and_parts (test b) (list_all test bundles) h).1
 
-  -- carries a test of all that waits to one queue
+  -- if all waiting bundles pass a test, so do those of one queue
   pub queue_due : (test : Bundle T → Bool) (site : Site) (bundles : List (Bundle T)) → list_all test bundles ≡ true → list_all test (queue site bundles) ≡ true
   queue_due test site [] h = refl
   queue_due test site (b ∷ bundles) h =
@@ -118,12 +119,12 @@ module _ {T : Type 0} where
         | false ↦ queue_due test site bundles k.1
       ]
 
-  -- what waits at a place names it
+  -- a bundle that waits at a place names that place
   named : (site : Site) (loads : List (Load T)) (b : Bundle T) → Among b (map (bundle_at site) loads) → b.place ≡ site
   named site [] b m = absurd m
   named site (load ∷ loads) b m = ⊎_elim (λ e. ap (λ (x : Bundle T). x.place) (sym e)) (λ n. named site loads b n) m
 
-  -- of the updates at a bundle's place some are its own
+  -- if all updates sent to a bundle's place pass a test, so do its own
   own_part : (test : Update T → Bool) (bundles : List (Bundle T)) (b : Bundle T) → Among b bundles → list_all test (updates_at b.place bundles) ≡ true → list_all test b.updates ≡ true
   own_part test [] b m h = absurd m
   own_part test (c ∷ bundles) b m h =
@@ -133,12 +134,12 @@ module _ {T : Type 0} where
       (λ n. own_part test bundles b n k.1)
       m
 
-  -- some updates
+  -- a list whose length is not 0 is not empty
   some : (us : List (Update T)) → not (eqb (length us) 0) ≡ true → us ≢ []
   some us h e = false≢true (subst (λ z. not (eqb (length z) 0) ≡ true) e h)
 
   module _ (p : Dataflow) (q : IsDataflow p) (alone : p.workers ≡ 1) (g : Emission T) (worker : g.worker < p.workers) (wide : IsTrue (are_wide (width_of p.nodes g.node) g.updates)) (small : IsTrue (are_small g.updates)) where
-    -- what goes to a place that gets something is read there
+    -- if a place gets a share of the output, it reads the node
     read_there : (site : Site) → share p site g ≢ [] → source_of p site.node site.port ≡ Some g.node
     read_there site d = step (source_of p site.node site.port) refl d
       where
@@ -150,7 +151,7 @@ module _ {T : Type 0} where
             one true f d = e ∙ ap Some (sym (eqb-true g.node s f))
             one false f d = absurd (d refl)
 
-    -- of the updates that are given, so a share
+    -- if all given updates pass a test, so do those of a share
     share_all : (test : Update T → Bool) (site : Site) → list_all test g.updates ≡ true → list_all test (share p site g) ≡ true
     share_all test site h = from (source_of p site.node site.port)
       where
@@ -200,17 +201,17 @@ module _ {T : Type 0} where
               either true e = refl
               either false e = e
 
-      -- what is sent is due at a later node
+      -- everything that is sent is due at a later node
       pub sent_due : are_due p (suc g.node) sent ≡ true
       sent_due = all_from (is_due p (suc g.node)) sent (λ b m. due_from p (suc g.node) b (one_sent b m))
 
-  -- what is due from a later node on is due from an earlier one on
+  -- what is due from node n + 1 on is also due from node n on
   pub due_earlier : (p : Dataflow) (n : ℕ) (bundles : List (Bundle T)) → are_due p (suc n) bundles ≡ true → are_due p n bundles ≡ true
   due_earlier p n bundles h =
       all_from (is_due p n) bundles (λ b m. let d = due_parts p (suc n) b (all_at (is_due p (suc n)) bundles b h m) in
       due_from p n b (record { later = let l = d.later in omega arith; within = d.within; port = d.port; worker = d.worker; wide = d.wide; small = d.small }))
 
-  -- and where none waits at the node, the other way round
+  -- the other way round, if no bundle waits at node n
   pub due_later : (p : Dataflow) (n : ℕ) (stations : List (List (Lot T))) → AreDue p n stations → ((port : ℕ) → queue_of stations (place n port 0) ≡ []) → AreDue p (suc n) stations
   due_later p n stations due none site =
       all_from (is_due p (suc n)) (queue_of stations site) (λ b m.
@@ -234,7 +235,7 @@ module _ {T : Type 0} where
           apart : (b.place.node ≡ n → ⊥) → n ≤ b.place.node → suc n ≤ b.place.node
           apart d l = omega arith
 
-  -- past the last node nothing is due
+  -- past the last node no bundle is due, so nothing waits
   pub none_due : (p : Dataflow) (stations : List (List (Lot T))) → AreDue p (length p.nodes) stations → NothingWaits stations
   none_due p stations due site = none (queue_of stations site) (due site)
     where
@@ -242,7 +243,8 @@ module _ {T : Type 0} where
       none [] h = refl
       none (b ∷ bundles) h = let d = due_parts p (length p.nodes) b (and_parts (is_due p (length p.nodes) b) (are_due p (length p.nodes) bundles) h).0 in absurd (let l = d.later in let w = d.within in omega arith)
 
-  -- How many wait at a node: one less where one is taken, and no more where what is sent is due later
+  -- How many bundles wait at a node. A take makes it one less. A give makes it no more, because sent bundles
+  -- are due later.
 
   abbrev count : Lot T → ℕ
   count lot = length lot.left + length lot.right
@@ -260,7 +262,7 @@ module _ {T : Type 0} where
       shorter (load ∷ loads) e = refl
   count_less site (suc (suc port)) stamp lot bundle e = cc
 
-  -- counts the bundles behind a take
+  -- a take leaves one bundle less at the node
   pub one_less : (stations : List (List (Lot T))) (bundle : Bundle T) → bundle.place.node < length stations → bundle.place.worker < length (get_or stations bundle.place.node []) → bundle.place.worker ≡ 0
       → slice_get (queue_of stations bundle.place) 0 ≡ Some bundle → suc (waits_at bundle.place.node (taken_from 0 bundle stations)) ≡ waits_at bundle.place.node stations
   one_less stations bundle within staffed w e =
@@ -283,7 +285,7 @@ module _ {T : Type 0} where
       still [] t = tt
       still (c ∷ more) t = (there_still stations b.place.node b.place.worker (with_load_at b.place.port (load_in b)) c.place t.0, still more t.1)
 
-  -- counts the bundles behind a give: none is sent to the node itself
+  -- a give leaves no more bundles at the node
   pub no_more_wait : (p : Dataflow) (n k : ℕ) (ts : List T) (stations : List (List (Lot T))) (sent : List (Bundle T)) → n < length (put_all sent stations) → k < length (get_or (put_all sent stations) n []) → AreThere stations sent
       → are_due p (suc n) sent ≡ true → waits_at n (held_from n k ts (put_all sent stations)) ≡ waits_at n stations
   no_more_wait p n k ts stations sent within staffed there h =
@@ -298,7 +300,7 @@ module _ {T : Type 0} where
       own true e = ap (λ j. count (lot_of all n j)) (sym (eqb-true 0 k (and_parts (eqb n n) (eqb 0 k) e).1))
       own false e = refl
 
-  -- what is due waits at a place that there is
+  -- a bundle that is due waits at a place that exists
   pub due_are_there : (p : Dataflow) (n : ℕ) (stations : List (List (Lot T))) → length stations ≡ length p.nodes → ((m : ℕ) → m < length p.nodes → length (get_or stations m []) ≡ p.workers) → p.workers ≡ 1
       → (sent : List (Bundle T)) → are_due p n sent ≡ true → AreThere stations sent
   due_are_there p n stations many wide alone sent h =
@@ -310,7 +312,7 @@ module _ {T : Type 0} where
       port b ports true e f = inl (eqb-true b.place.port 0 e)
       port b ports false e f = inr (lt_from b.place.port ports f)
 
-  -- what lies on the board after a piece is due
+  -- all waiting bundles are due after a take and a give
   pub piece_due : (p : Dataflow) (bundle : Bundle T) (ts : List T) (stations : List (List (Lot T))) (sent : List (Bundle T)) → bundle.place.node < length stations → bundle.place.worker < length (get_or stations bundle.place.node [])
       → AreThere (taken_from 0 bundle stations) sent → AreDue p bundle.place.node stations → are_due p (suc bundle.place.node) sent ≡ true
       → AreDue p bundle.place.node (held_from bundle.place.node bundle.place.worker ts (put_all sent (taken_from 0 bundle stations)))

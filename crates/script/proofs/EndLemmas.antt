@@ -1,4 +1,4 @@
--- How a run ends early: each end has its cause, on whatever way it came.
+-- How a run ends early: each end has its cause, by whichever path it was reached.
 use Rattle.std.proofs.Common.{◌≡◌, Bool, true, false, not, ◌||◌, eqb, List, ◌∷◌, [], length, Some, Result, Ok, Err, IsTrue, ◌⊎◌, inl, inr, refl, sym, ◌∙◌, ap, subst, ℕ}
 use Rattle.std.specs.Prelude.{IfErr}
 use Rattle.std.specs.List.{list_all}
@@ -28,18 +28,18 @@ use Rattle.script.specs.Bounds.{IsLarge, IsLargeAlong, EndsByBound}
 use Rattle.script.specs.declared.fault.RunFault.{RunFault}
 use Rattle.script.specs.declared.fault.RunFault.TheVariants as fault
 
--- what ends a run for one cause ends it for a weaker one
+-- weakens the cause of an end
 pub end_weaker : {A B : Refusal → Type 0} → ((refusal : Refusal) → A refusal → B refusal) → (f : RunFault) → IsEnd A f → IsEnd B f
 end_weaker h (fault.Refused code) (inl memory) = inl memory
 end_weaker h (fault.Refused code) (inr end) = inr (end.0, end.1, h end.0 end.2)
 end_weaker h fault.Write u = u
 
--- carries the cause of an end to a weaker one, through a result
+-- weakens the cause of an end, for a result
 pub ends_weaker : {A B : Refusal → Type 0} {X : Type 0} → ((refusal : Refusal) → A refusal → B refusal) → (r : Result X RunFault) → IfErr r (IsEnd A) → IfErr r (IsEnd B)
 ends_weaker h (Ok x) e = tt
 ends_weaker h (Err f) e = end_weaker h f e
 
--- where a number was too large, that was the cause
+-- if the run ended with an overflow, the engine refused with `Overflow`
 pub cause_of_end : {Ends : Refusal → Type 0} → ((refusal : Refusal) → Ends refusal → EndsRun refusal) → (f : RunFault) → IsEnd Ends f → f ≡ fault.Refused 10 → Ends Overflow
 cause_of_end ending (fault.Refused code) (inl memory) is = absurd cc
 cause_of_end {Ends} ending (fault.Refused code) (inr end) is = by (ending end.0 end.2)
@@ -50,9 +50,9 @@ cause_of_end {Ends} ending (fault.Refused code) (inr end) is = by (ending end.0 
     by (inr (inr thread)) = let ten = end.1 ∙ ap code_of thread in absurd cc
 cause_of_end ending fault.Write e is = absurd cc
 
--- ---- a session goes on after what it refuses
+-- ---- a session goes on after its own refusals
 
--- the numbers of the refusals that end a run
+-- whether a refusal ends a run
 abbrev is_ending : Refusal → Bool
 is_ending refusal = eqb (code_of refusal) 1 || (eqb (code_of refusal) 10 || eqb (code_of refusal) 24)
 
@@ -68,7 +68,7 @@ first_goes_on ((true, name) ∷ faults) all refusal e ends =
     true≢false (sym (sym (ap (λ b. not b) (ap is_ending same ∙ shown refusal ends)) ∙ (and_parts _ _ all).0))
 first_goes_on ((false, name) ∷ faults) all refusal e ends = first_goes_on faults (and_parts _ _ all).1 refusal e ends
 
--- rules out that a session refuses what ends a run
+-- a session never refuses a command with a refusal that ends the run
 pub session_goes_on : (p : List Node) (s : BitemporalSession) (command : Command) (refusal : Refusal) → command_refusal p s command ≡ Some refusal → EndsRun refusal → ⊥
 session_goes_on p s (command.Input (Change input time diff row)) refusal e ends =
     first_goes_on (feed_faults bitime_below p (front_at input s.inputs) (length (fed_to input s.fed)) (record { input = input; update = record { time = time; row = row; diff = diff } })) refl refusal e ends
@@ -79,12 +79,12 @@ session_goes_on p s (command.View (Read view time)) refusal e ends =
 session_goes_on p s (command.View (Changes view)) refusal e ends = first_goes_on ((not (is_from_start bitime_below (make_pair 0 0) (s.since view)), GivenUp) ∷ []) refl refusal e ends
 session_goes_on p s (command.View (Frontier view)) refusal e ends = absurd cc
 
--- an answer that ends the run is the engine's own
+-- a refusal that ends the run comes from the engine, not from the session
 pub own_end : {Ends : Type 0} (p : List Node) (s : BitemporalSession) (command : Command) (refusal : Refusal) → (command_refusal p s command ≡ Some refusal) ⊎ Ends → EndsRun refusal → Ends
 own_end p s command refusal (inl own) ends = absurd (session_goes_on p s command refusal own ends)
 own_end p s command refusal (inr end) ends = end
 
--- what was told ends the run for want of memory alone
+-- a command that changes an input ends the run only if memory was refused
 told_end : {S : Type 0} (p : List Node) (s : BitemporalSession) (command : Command) (refusal : Refusal) (f : RunFault) → ((command_refusal p s command ≡ Some refusal) × S) ⊎ (refusal ≡ OutOfMemory)
     → IsEnd (λ met. (met ≡ refusal) × EndsRun refusal) f → IsEnd (λ met. ⊥) f
 told_end p s command refusal (fault.Refused code) answer (inl memory) = inl memory
@@ -116,18 +116,18 @@ large_of : {L : Type 0} → IsMemoryOrOverflow L Overflow → L
 large_of (inl memory) = absurd cc
 large_of (inr large) = large.1
 
--- weakens the cause of a text before a number that was too large
+-- weakens the cause in IsTextBefore
 pub bound_text : (t : ScriptModel) (s : BitemporalSession) (lines : List CommandLine) (part : List ℕ) → IsTextBefore (λ now. EndsByBound t.plan now Overflow) t s lines part → IsTextBefore (IsLarge t.plan) t s lines part
 bound_text t s lines part b = record { before = b.before; line = b.line; behind = b.behind; in_order = b.in_order; asks = b.asks; cause = large_of b.cause; written = b.written }
 
--- where it is told, the text before a number that was too large is whole
+-- after an overflow, the whole text of the earlier lines was written
 pub overflow_texts : {X : Type 0} (t : ScriptModel) (s : BitemporalSession) (lines : List CommandLine) (Took : List ℕ → Type 0) (r : Result X RunFault)
     → IfErr r (λ f. f ≡ fault.Refused 10 → (part : List ℕ) × IsTextBefore (λ now. EndsByBound t.plan now Overflow) t s lines part × Took part)
     → IfErr r (λ f. f ≡ fault.Refused 10 → (part : List ℕ) × IsTextBefore (IsLarge t.plan) t s lines part × Took part)
 overflow_texts t s lines Took (Ok x) e = tt
 overflow_texts t s lines Took (Err f) e = λ ten. let met = e ten in (met.0, bound_text t s lines met.0 met.1, met.2)
 
--- weakens the cause of a refusal that an engine met
+-- weakens the cause of an engine's refusal
 pub refusal_weaker : {A B : Type 0} → (A → B) → (r : Refusal) → IsMemoryOrOverflow A r → IsMemoryOrOverflow B r
 refusal_weaker h r (inl memory) = inl memory
 refusal_weaker h r (inr large) = inr (large.0, h large.1)

@@ -1,5 +1,5 @@
--- Every node of a plan has a bound. The changes of a plan's inputs are brought into one list of accepted changes, and of such
--- a list each node has its differences. A reduction's own bound is their size.
+-- Every node of a plan has a bound. The changes of all inputs are put into one list of accepted changes. From
+-- such a list each node has its differences, and their size is the own bound of a reduction.
 use Rattle.std.proofs.Common.{◌≡◌, ℕ, ◌<◌, Bool, cond, List, [], ◌∷◌, map, length, eqb, ⊎_elim, refl, sym, ◌∙◌, ap}
 use Rattle.std.specs.Cmp.{IsTotalOrder}
 use Rattle.std.specs.List.{flat_map}
@@ -45,7 +45,7 @@ module _ {T : Type 0} where
   fed_to_other i j apart [] = refl
   fed_to_other i j apart (u ∷ us) = rw (ne_eqb j i apart) (fed_to_other i j apart us)
 
-  -- each input finds its own changes there
+  -- each input finds its own changes in that list
   pub fed_to_each : (changes : ℕ → List (Update T)) (n i : ℕ) → i < n
       → fed_to i (fed_below changes n) ≡ changes i
   fed_to_each changes n i l =
@@ -66,7 +66,7 @@ module _ {T : Type 0} {below : T → T → Bool} {joined met : T → T → T} {c
   all_differences n =
       changes_along below cmp joined [] (λ t. query_at below p (λ i. fed_to i fed) n t) (map (λ f. f.update.time) fed)
 
-  -- the query sees the same changes in the one list
+  -- the query sees the same changes in that list
   same_query : (n : ℕ) → n < length p → (t : T)
       → Alike (query_at below p (λ i. fed_to i fed) n t) (query_at below p changes n t)
   same_query n l t =

@@ -1,4 +1,4 @@
--- A change that is fed is due.
+-- A change that was fed is due.
 use Rattle.std.proofs.Common.{◌≡◌, ℕ, Bool, true, false, eqb, nat_lt, nat_le, not, [], ◌∷◌, length, get_or, None, unsigned_abs, refl, ap, ◌∙◌, arith}
 use Rattle.std.specs.List.{slice_get}
 use Rattle.std.specs.Ordering.{int_eq}
@@ -49,7 +49,7 @@ module _ {T : Type 0} (below : T → T → Bool) where
         small = and_from (nat_le (unsigned_abs f.update.diff) 2147483647) true (passed (nat_le (unsigned_abs f.update.diff) 2147483647) small.0) refl;
       }
 
-  -- keeps all that waits due over a feed
+  -- after a feed, all waiting bundles are still due
   pub fed_due : (b : BoardState T) (client : ℕ) (f : Fed T) → feed_refusal below b f ≡ None → IsInput b.dataflow f.input → IsBoard b → b.dataflow.workers ≡ 1
       → AreDue b.dataflow 0 b.stations → AreDue b.dataflow 0 (after_feed client f b).stations
   fed_due b client f e i board single due site =
@@ -60,7 +60,7 @@ module _ {T : Type 0} (below : T → T → Bool) where
       ∙ (list_all-append (is_due b.dataflow 0) (queue_of b.stations site) (queue site (change ∷ []))
       ∙ and_from (are_due b.dataflow 0 (queue_of b.stations site)) (are_due b.dataflow 0 (queue site (change ∷ []))) (due site) (queue_due (is_due b.dataflow 0) site (change ∷ []) one))
 
-  -- and nothing more is held
+  -- after a feed, nothing more is held
   pub fed_held : (b : BoardState T) (client : ℕ) (f : Fed T) → feed_refusal below b f ≡ None → IsInput b.dataflow f.input → IsBoard b → b.dataflow.workers ≡ 1
       → (n k : ℕ) → (lot_of (after_feed client f b).stations n k).held ≡ (lot_of b.stations n k).held
   fed_held b client f e i board single =

@@ -1,4 +1,4 @@
--- What a linear node makes of a bundle may be given, where nothing was held before.
+-- The output of a linear node for a bundle may be given, if nothing was held before.
 use Rattle.std.proofs.Common.{◌≡◌, ℕ, ◌+◌, ◌≤◌, Bool, true, false, cond, ◌&&◌, eqb, List, [], ◌∷◌, ◌++◌, Some, IsTrue, sym, refl, ap, ◌∙◌, arith}
 use Rattle.std.specs.List.{list_all}
 use mathlib.Core.Path.{fun_ext}
@@ -63,7 +63,7 @@ module _ {T : Type 0} (below : T → T → Bool) (o : PartialOrderLaws below) wh
     abbrev v : State T
     v = next_state below p w (Take 0 bundle)
 
-    -- what was received at a port before
+    -- the updates that were received at a port before this bundle
     abbrev before : ℕ → List (Update T)
     before i = received_at w site.node site.worker i
 
@@ -75,7 +75,7 @@ module _ {T : Type 0} (below : T → T → Bool) (o : PartialOrderLaws below) wh
         ap (λ z. held_at site.node site.worker (z ++ held_entries site.node site.worker bundle.stamp)) quiet
         ∙ held_marked site.node site.worker site.node site.worker bundle.stamp marked
 
-    -- what is in flight is beyond its stamp
+    -- the updates in flight are beyond their stamp
     beyond_stamp : IsTrue (list_all (λ u. is_beyond below bundle.stamp u.time) us)
     beyond_stamp =
         sym (list_all-map (λ t. is_beyond below bundle.stamp t) (λ (u : Update T). u.time) us)
@@ -129,7 +129,7 @@ module _ {T : Type 0} (below : T → T → Bool) (o : PartialOrderLaws below) wh
         grown i true = size-append us (before i)
         grown i false = refl
 
-    -- answers what the rules of a history ask of a give
+    -- shows that the give keeps the rules of a history
     pub may_give : (sent : List (Bundle T)) → IsCut below p emission sent → IsGive below p v emission [] sent
     may_give sent cut = record {
       worker = take.worker;

@@ -1,4 +1,4 @@
--- What the plain engine keeps is the session's, and so is what it answers.
+-- The state of the oracle engine is that of its session, and so are its answers.
 use Rattle.std.proofs.Common.{◌≡◌, ℕ, zero, suc, ◌+◌, ◌<◌, ◌≤◌, Bool, true, false, cond, not, ◌||◌, eqb, ltb-true, List, [], ◌∷◌, ◌++◌, ℤ, map, length, get_or, Option, Some, None, Result, Ok, Err, IsTrue, inl, inr, ⊎_elim, refl, sym, ◌∙◌, ap, subst, length-append, nat_le, nat_lt, unsigned_abs, arith}
 use Rattle.std.specs.Int.{w64}
 use Rattle.std.specs.Prelude.{FitsSigned, neg_ℤ, pos, ◌+ℤ◌, set, reverse, IfOk, IfErr, OnOk, OnErr}
@@ -58,7 +58,7 @@ use Rattle.script.proofs.OrderLemmas.{in_order-sorted, in_order-has, in_order-on
 use Rattle.script.proofs.StandingLemmas.{answered, refused_by}
 use Rattle.script.proofs.BoundLemmas.{linear_at, large_count, large_gap}
 
--- ---- the place of an input's list
+-- ---- the index of an input's list
 
 next_number : (n : ℕ) → n + 1 ≡ suc n
 next_number n = omega arith
@@ -70,7 +70,7 @@ places_grow p n = by (is_input (node_at p n)) refl
     by true e = let k = ap (inputs_before p) (sym (next_number n)) ∙ inputs_with p n e in omega (arith, k)
     by false e = let k = ap (inputs_before p) (sym (next_number n)) ∙ inputs_without p n e in omega (arith, k)
 
--- a greater number has an input more before it
+-- a greater number has one input more before it
 pub place_before : (p : List Node) (i n : ℕ) → i < n → is_input (node_at p i) ≡ true → inputs_before p i < inputs_before p n
 place_before p i zero l t = absurd (omega (arith, l))
 place_before p i (suc n) l t =
@@ -95,34 +95,34 @@ places_apart p i j t u e =
     (λ k. ⊎_elim (λ m. let before = place_before p j i m u in absurd (omega (arith, before, e))) (λ m. omega (arith, k, m)) (cases_lt j i))
     (cases_lt i j)
 
--- ---- lists that lie in vectors
+-- ---- lists that are stored in vectors
 
--- an element is another one: one that is seen alike, or one with an element more behind
+-- replacing an element by one that looks the same changes nothing that is seen
 pub put_back : {X Y : Type 0} (f : X → Y) (xs : List X) (i : ℕ) (old new : X) → old ≡ get_or xs i old → f new ≡ f old → map f (set xs i new) ≡ map f xs
 put_back f xs i old new is e = map-set_same f xs i new old (e ∙ ap f is)
 
--- shows where a pushed change lies
+-- shows where a pushed change is stored
 pub put_behind : {X Z : Type 0} (f : X → List Z) (xs : List X) (i : ℕ) (old new : X) (z : Z) → i < length xs → old ≡ get_or xs i old → f new ≡ f old ++ z ∷ []
     → map f (set xs i new) ≡ set (map f xs) i (get_or (map f xs) i [] ++ z ∷ [])
 put_behind f xs i old new z l is e = map-set f xs i new ∙ ap (set (map f xs) i) (e ∙ ap (λ ys. ys ++ z ∷ []) (ap f is ∙ sym (get_or-map f xs i old [] l)))
 
--- the place of an input is within the lists, and its list is as long as the one that lies there
+-- the index of an input is within the lists
 pub in_lists : {X Y : Type 0} (f : X → Y) (xs : List X) (p : List Node) (input place : ℕ) → IsTrue (is_input_of p input) → length (map f xs) ≡ length (numbers_where is_input p) → place ≡ inputs_before p input → place < length xs
 in_lists f xs p input place there lists e = let within = place_within p input there in let long = length-map xs f in omega (arith, within, lists, long, e)
 
--- finds how many changes an input has accepted
+-- how many changes an input has accepted
 pub taken_is : {X Z : Type 0} (f : X → List Z) (xs : List X) (p : List Node) (input place taken : ℕ) (x : X) → place < length xs → place ≡ inputs_before p input → x ≡ get_or xs place x → taken ≡ length (f x) → taken ≡ length (list_of p (map f xs) input)
 taken_is f xs p input place taken x l e is t =
     t ∙ ap length (ap f is ∙ (sym (get_or-map f xs place x [] l) ∙ ap (λ k. get_or (map f xs) k []) e))
 
--- ---- one change more
+-- ---- one more change
 
 -- the rows have the width of the node
 abbrev wide_at : {T : Type 0} → List Node → ℕ → List (Update T) → Bool
 wide_at p n us = list_all (λ u. eqb (length u.row) (width_of p n)) us
 
 module _ {T : Type 0} (r : Register T) (is : IsRegister r) (f : Fed T) (there : IsTrue (is_input_of r.plan f.input)) where
-  -- the list of the change's input has it, and no other list is another
+  -- the list of the change's input has the change at its end, and all other lists stay the same
   own_list : list_of r.plan (with_entry f r).changes f.input ≡ list_of r.plan r.changes f.input ++ f.update ∷ []
   own_list =
       let place = place_within r.plan f.input there in
@@ -167,7 +167,7 @@ module _ {T : Type 0} (r : Register T) (is : IsRegister r) (f : Fed T) (there : 
       by i h false e = other_list i (and_parts _ _ h).1 (eqb-false f.input i e) ∙ a.changes i h
 
 module _ {T : Type 0} (below : T → T → Bool) where
-  -- a change that nothing refuses has the width of its input
+  -- a change that is not refused has the width of its input
   pub entry_wide : (r : Register T) (f : Fed T) → entry_refusal below r f ≡ None → IsTrue (eqb (length f.update.row) (width_of r.plan f.input))
   entry_wide r f e =
       no_fault (eqb (length f.update.row) (width_of r.plan f.input))
@@ -175,11 +175,11 @@ module _ {T : Type 0} (below : T → T → Bool) where
       ∷ (not (nat_le (unsigned_abs f.update.diff) 2147483647), WeightTooLarge) ∷ (not (is_beyond below (front_at f.input r.inputs) f.update.time), TimePassed)
       ∷ (not (nat_lt (length (list_of r.plan r.changes f.input)) 1048576), InputFull) ∷ []) e).0
 
-  -- what is asked of the open_times and of the number of changes is asked of the register
+  -- the tests of a change see the same frontiers and the same number of changes as the register
   pub same_faults : (r : Register T) (f : Fed T) (inputs : List (List T)) (taken : ℕ) → inputs ≡ r.inputs → taken ≡ length (list_of r.plan r.changes f.input) → first_refusal (feed_faults below r.plan (front_at f.input inputs) taken f) ≡ entry_refusal below r f
   same_faults r f inputs taken e t = λ j. first_refusal (feed_faults below r.plan (front_at f.input (e j)) (t j) f)
 
-  -- whatever came of a change, the register is one
+  -- the invariant holds after a change, accepted or not
   pub after_entry : (r : Register T) (lists : List (List (Update T))) (f : Fed T) (place : ℕ) (x : Result (Unit {0}) Refusal) → IsRegister r → IsTrue (is_input_of r.plan f.input) → entry_refusal below r f ≡ None
       → place ≡ inputs_before r.plan f.input → OnOk x (lists ≡ set r.changes place (get_or r.changes place [] ++ f.update ∷ [])) → OnErr x (lists ≡ r.changes) → IsRegister (record { plan = r.plan; changes = lists; inputs = r.inputs })
   after_entry r lists f place (Ok u) is there accepted at pushed stays =
@@ -188,7 +188,7 @@ module _ {T : Type 0} (below : T → T → Bool) where
   after_entry r lists f place (Err e) is there accepted at pushed stays =
       subst (λ (ls : List (List (Update T))). IsRegister (record { plan = r.plan; changes = ls; inputs = r.inputs })) (sym stays) (record { linear = is.linear; lists = is.lists; wide = is.wide; inputs = is.inputs })
 
-  -- what refuses a change or a frontier is what the session refuses
+  -- the register refuses a change or a frontier if and only if the session does
   same_entry_refusal : {minimum : T} (r : Register T) (s : Session T) (f : Fed T) → IsTrue (is_input_of r.plan f.input) → Records minimum r s → entry_refusal below r f ≡ change_refusal below r.plan s f
   same_entry_refusal r s f there a = λ j. first_refusal (feed_faults below r.plan (front_at f.input (a.inputs j)) (taken j) f)
     where
@@ -208,7 +208,7 @@ module _ {T : Type 0} (below : T → T → Bool) where
       (on_ok_weaker x (λ e. subst (λ (d : Register T). Records minimum d (with_change f s)) (sym e) (entry_records r is f there s a)) taken) accepted refused
       (on_err_weaker x (λ e. subst (λ (d : Register T). Records minimum d s) (sym e) a) stays))
 
-  -- what is refused where no fault is, is refused for want of memory
+  -- if nothing refuses a command and it is refused all the same, memory was refused
   pub memory_alone : (o : Option Refusal) (x : Result (Unit {0}) Refusal) → o ≡ None → IfErr x (λ e. e ≡ OutOfMemory) → IfErr x (IsRefusalBy o)
   memory_alone o x e h = subst (λ (q : Option Refusal). IfErr x (IsRefusalBy q)) (sym e) h
 
@@ -225,7 +225,7 @@ module _ {T : Type 0} (below : T → T → Bool) where
       moved : Records minimum (with_input i ts r) (with_frontier i ts s)
       moved = record { changes = a.changes; inputs = ap (λ (fronts : List (List T)). set fronts i ts) a.inputs; since = a.since }
 
--- ---- a list sums to what it sums to backwards
+-- ---- a list and its reverse have the same sums
 
 module _ {T : Type 0} (below : T → T → Bool) (t : T) where
   as_of-append : (us vs : List (Update T)) → as_of below t (us ++ vs) ≡ as_of below t us ++ as_of below t vs
@@ -244,14 +244,14 @@ module _ {T : Type 0} (below : T → T → Bool) (t : T) where
       swapped : (m n k : ℤ) → m ≡ n → (m +ℤ k) ≡ (k +ℤ n)
       swapped m n k e = omega (arith, ints, e)
 
--- ---- what is open for a view
+-- ---- the times that are open for a view
 
--- what the inputs below a number have that feed a view
+-- the frontiers, one after another, of the inputs below a number that feed a view
 abbrev feeding : {T : Type 0} → List Node → ℕ → (ℕ → List T) → ℕ → List T
 feeding p v k m = flat_map k (filter (λ i. feeds p i v) (numbers_below m))
 
 module _ {T : Type 0} (below : T → T → Bool) where
-  -- frontiers that have the same times beyond them, all together
+  -- if the frontiers of each input have the same times beyond them, so do all of them together
   pub same_open : (p : List Node) (f g : ℕ → List T) (v : ℕ) (t : T) → ((i : ℕ) → IsTrue (is_input_of p i) → is_beyond below (f i) t ≡ is_beyond below (g i) t)
       → is_beyond below (open_for below p f v) t ≡ is_beyond below (open_for below p g v) t
   same_open p f g v t h = up_to (length p) (omega arith)
@@ -276,7 +276,7 @@ module _ {T : Type 0} (below : T → T → Bool) where
           ∙ ((λ j. up_to m (omega (arith, l)) j || last m (omega (arith, l)) (feeds p m v) refl j)
           ∙ sym (split g m))
 
-  -- the frontiers of the inputs, one after another
+  -- the frontiers of the inputs below n, in order
   pub record AreSome (p : List Node) (inputs : List (List T)) (n : ℕ) (frontiers : List (List T)) : Type 0 where
     pub count : length frontiers ≡ inputs_before p n
     pub beyond : (i : ℕ) → i < n → is_input (node_at p i) ≡ true → (t : T) → is_beyond below (list_of p frontiers i) t ≡ is_beyond below (front_at i inputs) t
@@ -316,35 +316,35 @@ module _ {T : Type 0} (below : T → T → Bool) where
   pub some_all : (p : List Node) (inputs : List (List T)) (n : ℕ) (all : List (List T)) → length p ≤ n → AreSome p inputs n all → AreFrontiers below p inputs all
   some_all p inputs n all long so i h t = let parts = and_parts _ _ h in let within : i < length p = ltb-true _ _ parts.0 in so.beyond i (omega (arith, within, long)) parts.1 t
 
--- ---- what is asked
+-- ---- questions
 
 module _ {T : Type 0} {below : T → T → Bool} {minimum : T} (o : PartialOrderLaws below) (r : Register T) (s : Session T) (a : Records minimum r s) (v : ℕ) where
   same_found : view_frontier below r.plan s v ≡ least below (open_for below r.plan (λ i. front_at i r.inputs) v)
   same_found = ap (λ (fronts : List (List T)). least below (open_for below r.plan (λ i. front_at i fronts) v)) (sym a.inputs)
 
-  -- what is open for the view at a time is so in the session
+  -- a time is open for the view if and only if it is so in the session
   pub same_passed : (times : List T) (t : T) → times ≡ open_for below r.plan (λ i. front_at i r.inputs) v → is_beyond below (view_frontier below r.plan s v) t ≡ is_beyond below times t
   same_passed times t e =
       ap (λ (ts : List T). is_beyond below ts t) same_found
       ∙ (least_beyond o (open_for below r.plan (λ i. front_at i r.inputs) v) t
       ∙ ap (λ (ts : List T). is_beyond below ts t) (sym e))
 
-  -- each time may be read, since none was given up
+  -- each time may be read, because none was given up
   all_kept : (t : T) → IsTrue (below minimum t) → not (is_beyond below (s.since v) t) ≡ false
   all_kept t low = ap (λ (since : List T). not (is_beyond below since t)) (a.since v) ∙ ap (λ x. not (x || false)) low
 
-  -- a time that is still open refuses a reading, and no other does
+  -- a read is refused if and only if its time is still open
   pub open_refuses : (t : T) → is_beyond below (view_frontier below r.plan s v) t ≡ true → read_refusal below r.plan s v t ≡ Some NotPassed
   open_refuses t e = ap (λ b. first_refusal ((b, NotPassed) ∷ (not (is_beyond below (s.since v) t), GivenUp) ∷ [])) e
 
   passed_reads : (t : T) → IsTrue (below minimum t) → is_beyond below (view_frontier below r.plan s v) t ≡ false → read_refusal below r.plan s v t ≡ None
   passed_reads t low e = rw (e, all_kept t low) refl
 
-  -- rules out that the session refuses changes
+  -- the session never refuses a question for changes
   pub changes_wanted : changes_refusal below r.plan s minimum v ≡ None
   changes_wanted = rw (all_kept minimum (o.reflexive minimum)) refl
 
-  -- the least of what is open, in order
+  -- the least open times, in order, are the printed frontier
   pub frontier_found : {cmp : T → T → Ordering} → IsTotalOrder cmp → ((t u : T) → cmp t u ≡ Equal → t ≡ u) → (times F : List T) → times ≡ open_for below r.plan (λ i. front_at i r.inputs) v
       → IsFrontier below cmp F → SameElements F (least below times) → F ≡ frontier_at below r.plan s cmp v
   frontier_found {cmp} total exact times F e is same =
@@ -356,7 +356,7 @@ module _ {T : Type 0} {below : T → T → Bool} {minimum : T} (o : PartialOrder
       (λ t h. among_contains t F (own.back t (contains_among t found (in_order-only cmp found t h))))
 
   module _ (plan : IsPlan r.plan) (within : v < length r.plan) where
-    -- the query is the session's, at each node
+    -- the query of each node is that of the session
     same_query_of : (n : ℕ) → n < length r.plan → (t : T) → Alike (query_at below r.plan (list_of r.plan r.changes) n t) (query_at below r.plan (λ i. fed_to i s.fed) n t)
     same_query_of n l t =
         query_at_inputs r.plan plan (λ i. as_of below t (list_of r.plan r.changes i)) (λ i. as_of below t (fed_to i s.fed))
@@ -366,9 +366,9 @@ module _ {T : Type 0} {below : T → T → Bool} {minimum : T} (o : PartialOrder
     same_query : (t : T) → Alike (query_at below r.plan (list_of r.plan r.changes) v t) (query_at below r.plan (λ i. fed_to i s.fed) v t)
     same_query t = same_query_of v within t
 
-    -- where the query is too large, so is a bound
+    -- if a number of the query is too large, so is a bound
     module _ (cmp : T → T → Ordering) (linear : All (λ node. IsTrue (is_linear node)) r.plan) where
-      -- finds the cause of a read that met a number too large
+      -- the cause of a read that overflowed
       pub large_query : (t : T) → HasLargeAbove r.plan (sums_at below r.plan r.changes t) v → HasLargeBound below cmp r.plan (λ i. fed_to i s.fed)
       large_query t (m, above, inl (row, large)) =
           let early : m < length r.plan = let up = above_earlier r.plan plan m v above in omega (arith, up, within) in
@@ -378,7 +378,7 @@ module _ {T : Type 0} {below : T → T → Bool} {minimum : T} (o : PartialOrder
           own row = ap (λ es. count_of es row) (sym (query_by_sources r.plan plan (sums_at below r.plan r.changes t) m))
       large_query t (m, above, inr step) = absurd (linear_no_step (key_width r.plan (node_at r.plan m)) (node_at r.plan m) (linear_at r.plan linear m) (ports r.plan m (sums_at below r.plan r.changes t m) (query r.plan (sums_at below r.plan r.changes t))) step)
 
-      -- finds the cause of changes that met a number too large
+      -- the cause of a question for changes that overflowed
       pub large_changes : (F : List T) → HasLargeDifference below r.plan r.changes F v → HasLargeBound below cmp r.plan (λ i. fed_to i s.fed)
       large_changes F (t, passed, inl above) = large_query t above
       large_changes F (t, passed, inr (us, before, apart, (row, large))) =
@@ -392,7 +392,7 @@ module _ {T : Type 0} {below : T → T → Bool} {minimum : T} (o : PartialOrder
     rows_answered cause Large found t (Ok bag) low passed alike is refused = (passed_reads t low passed, consolidated_bag-only _ bag is (λ row. alike row ∙ same_query t row))
     rows_answered cause Large found t (Err e) low passed alike is refused = inr (⊎_elim (λ m. inl m) (λ l. inr (l.0, found l.1)) refused)
 
-    -- what is listed of the inputs' changes and frontiers is the session's list
+    -- the differences of the inputs' lists and frontiers are the session's changes
     pub changes_found : {joined met : T → T → T} {cmp : T → T → Ordering} → LatticeLaws below joined met → ExtendsLaws below cmp → IsTotalOrder cmp → (frontiers : List (List T)) (us : List (Update T)) → AreFrontiers below r.plan r.inputs frontiers
         → AreDifferences below cmp r.plan (list_of r.plan r.changes) (open_for below r.plan (list_of r.plan frontiers) v) v us → us ≡ changes_at below r.plan s cmp joined v
     changes_found {joined} {met} {cmp} l x total frontiers us are d =

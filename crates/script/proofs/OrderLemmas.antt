@@ -1,4 +1,4 @@
--- Lists that are brought in order: they are in order, and have the elements that were there.
+-- Lists that are sorted: they are in order and have the same elements.
 use Rattle.std.proofs.Common.{◌≡◌, List, [], ◌∷◌, ◌⊎◌, inl, inr, ⊎_elim, refl, sym, ◌∙◌, ap, subst}
 use Rattle.std.specs.BTreeSet.{insert_key}
 use Rattle.std.specs.Cmp.{IsTotalOrder}
@@ -34,7 +34,7 @@ module _ {T : Type 0} (cmp : T → T → Ordering) where
       by Equal e rest = s
       by Greater e rest = (insert_all (λ y. cmp x y ≡ Less) t xs (total.antisymm x t ∙ ap ordering_reverse e) s.0, rest)
 
-  -- what is put in is there, and nothing is lost
+  -- the inserted element is there, and no other is lost
   insert_new : (exact : (s t : T) → cmp s t ≡ Equal → s ≡ t) (t : T) (xs : List T) → Among t (insert_key cmp xs t)
   insert_new exact t [] = inl refl
   insert_new exact t (x ∷ xs) = by (cmp t x) refl (insert_new exact t xs)
@@ -62,13 +62,13 @@ module _ {T : Type 0} (cmp : T → T → Ordering) where
       by Equal h rest = inr h
       by Greater h rest = ⊎_elim (λ e. inr (inl e)) (λ k. ⊎_elim (λ e. inl e) (λ m. inr (inr m)) (rest k)) h
 
-  -- shows that times in order ascend
+  -- sorted times are in order
   pub in_order-sorted : (total : IsTotalOrder cmp) (ts : List T) → IsStrictlySortedBy cmp (in_order cmp ts)
   unfolding IsStrictlySortedBy
   in_order-sorted total [] = tt
   in_order-sorted total (t ∷ ts) = insert_sorted total t (in_order cmp ts) (in_order-sorted total ts)
 
-  -- shows that no time is lost
+  -- sorting loses no time
   pub in_order-has : (exact : (s t : T) → cmp s t ≡ Equal → s ≡ t) (ts : List T) (s : T) → Among s ts → Among s (in_order cmp ts)
   in_order-has exact [] s h = h
   in_order-has exact (t ∷ ts) s h =
@@ -80,7 +80,7 @@ module _ {T : Type 0} (cmp : T → T → Ordering) where
       subst_among : {r : T} → t ≡ r → Among t (insert_key cmp (in_order cmp ts) t) → Among r (insert_key cmp (in_order cmp ts) t)
       subst_among e h = subst (λ (x : T). Among x (insert_key cmp (in_order cmp ts) t)) e h
 
-  -- shows that no time is made up
+  -- sorting adds no time
   pub in_order-only : (ts : List T) (s : T) → Among s (in_order cmp ts) → Among s ts
   in_order-only [] s h = h
   in_order-only (t ∷ ts) s h = ⊎_elim (λ e. inl e) (λ k. inr (in_order-only ts s k)) (insert_only t s (in_order cmp ts) h)

@@ -1,4 +1,4 @@
--- What is read of a board where nothing waits is what the session reads.
+-- Reading a board on which nothing waits gives the session's answers.
 use Rattle.std.proofs.Common.{◌≡◌, ℕ, ◌<◌, Bool, not, ◌||◌, List, [], ◌∷◌, ◌++◌, length, Option, Some, None, Result, Ok, Err, IsTrue, refl, sym, ◌∙◌, ap, subst, inl, inr, ◌⊎◌}
 use Rattle.std.specs.Prelude.{FitsSigned, IfOk, IfErr, OnOk}
 use Rattle.std.specs.Cmp.{IsTotalOrder}
@@ -51,14 +51,14 @@ use Rattle.script.proofs.BoundLemmas.{linear_within, large_count, large_listed}
 use Rattle.script.proofs.ChangesLemmas.{changes_are, differences_only}
 use Rattle.script.proofs.OrderLemmas.{in_order-sorted, in_order-has, in_order-only}
 
--- what one refuses is refused by the other, which refuses alike
+-- two tests that are equal refuse alike
 pub refused_alike : (cause Large : Type 0) (own other : Option Refusal) (r : Refusal) → own ≡ other → (cause → own ≡ None → Large) → IsRefusalOr cause own r → (other ≡ Some r) ⊎ IsMemoryOrOverflow Large r
 refused_alike cause Large (Some fault) other r e found f = inl (sym e ∙ ap Some (sym f))
 refused_alike cause Large None other r e found (inl memory) = inr (inl memory)
 refused_alike cause Large None other r e found (inr large) = inr (inr (large.0, found large.1 refl))
 
 module _ {T : Type 0} (below : T → T → Bool) (minimum : T) where
-  -- a worker that carries on changes nothing for the session
+  -- what the worker carries on changes nothing for the session
   pub stands_later : (b c : BoardState T) (s : Session T) → c.dataflow ≡ b.dataflow → IsContinuedBy below minimum b c → StandsAs below minimum b s → StandsAs below minimum c s
   stands_later b c s same goes a =
       let on = goes a.history a.stands in
@@ -71,12 +71,12 @@ module _ {T : Type 0} (below : T → T → Bool) (minimum : T) where
         since = λ v. on.2.since v ∙ a.since v;
       }
 
-  -- a view may be read from where the session says
+  -- a view may be read from the same frontier as in the session
   same_since : (b : BoardState T) (s : Session T) (v : ℕ) → v < length b.dataflow.nodes → StandsAs below minimum b s → since_of b v ≡ s.since v
   same_since b s v within a = a.stands.since v within ∙ a.since v
 
   module _ (o : PartialOrderLaws below) (b : BoardState T) (s : Session T) (v : ℕ) (t : T) (board : IsBoard b) (within : v < length b.dataflow.nodes) (idle : IsIdle b) (none : NothingWaits b.stations) (a : StandsAs below minimum b s) where
-    -- the view's frontier is found to be that of the session
+    -- the frontier of the view on the board is that of the session
     same_front : is_beyond below (front below b v) t ≡ is_beyond below (view_frontier below b.dataflow.nodes s v) t
     same_front =
         let w = state_after below minimum b.dataflow a.history in
@@ -89,7 +89,7 @@ module _ {T : Type 0} (below : T → T → Bool) (minimum : T) where
     same_read_refusal : reads.read_refusal_on below b v t ≡ read_refusal below b.dataflow.nodes s v t
     same_read_refusal = λ j. first_refusal ((same_front j, NotPassed) ∷ (not (is_beyond below (same_since b s v within a j) t), GivenUp) ∷ [])
 
-    -- the rows are those of the session
+    -- the rows read from the board are those of the session
     same_rows : (bag : List Entry) → IsBag bag → Alike bag (query_at below b.dataflow.nodes (changes_in (state_after below minimum b.dataflow a.history)) v t) → bag ≡ rows_at below b.dataflow.nodes s v t
     same_rows bag is alike = consolidated_bag-only _ bag is alike ∙ ap (λ (fs : List (Fed T)). consolidated_bag (query_at below b.dataflow.nodes (λ i. fed_to i fs) v t)) a.fed
 
@@ -101,10 +101,10 @@ module _ {T : Type 0} (below : T → T → Bool) (minimum : T) where
     read_answered cause Large (Ok bag) found accepted refused is alike = (sym same_read_refusal ∙ accepted, same_rows bag is alike)
     read_answered cause Large (Err r) found accepted refused is alike = refused_alike cause Large (reads.read_refusal_on below b v t) _ r same_read_refusal found refused
 
-  -- where what is read is too large, so is a bound
+  -- if a number in a read is too large, so is a bound
   module _ (o : PartialOrderLaws below) (cmp : T → T → Ordering) (b : BoardState T) (s : Session T) (v : ℕ) (board : IsBoard b) (within : v < length b.dataflow.nodes) (view : IsTrue (is_output (node_of b.dataflow v)))
       (idle : IsIdle b) (a : StandsAs below minimum b s) where
-    -- at a passed time that was not given up what was captured sums to the query of the session
+    -- at a passed time that was not given up, the captured updates sum to the session's query
     captured_query : (t : T) → IsTrue (is_from_start below minimum (since_of b v) || is_beyond below (since_of b v) t) → IsTrue (has_passed below (front below b v) t) → Alike (as_of below t (captured_of b v)) (query_at below b.dataflow.nodes (λ i. fed_to i s.fed) v t)
     captured_query t held h row =
         (a.stands.captured v within view).sums t (subst (λ (ts : List T). IsTrue (is_from_start below minimum ts || is_beyond below ts t)) (a.stands.since v within) held) row
@@ -114,7 +114,7 @@ module _ {T : Type 0} (below : T → T → Bool) (minimum : T) where
     linear : (n : ℕ) → IsTrue (is_linear (node_of b.dataflow n))
     linear = linear_within b.dataflow.nodes idle.linear
 
-    -- finds the cause of a read that met a number too large
+    -- the cause of a read that overflowed
     pub large_read : (t : T) → HasLargeCount (as_of below t (captured_of b v)) → reads.read_refusal_on below b v t ≡ None → HasLargeBound below cmp b.dataflow.nodes (λ i. fed_to i s.fed)
     large_read t (row, large) e =
         let passed = no_first (is_beyond below (front below b v) t) NotPassed ((not (is_beyond below (since_of b v) t), GivenUp) ∷ []) e in
@@ -122,7 +122,7 @@ module _ {T : Type 0} (below : T → T → Bool) (minimum : T) where
         let held = or_right (is_from_start below minimum (since_of b v)) (is_beyond below (since_of b v) t) kept in
         large_count o cmp b.dataflow.nodes board.dataflow.plan linear s v within t (row, λ fits. large (subst (FitsSigned w64) (sym (captured_query t held (ap not passed.0) row)) fits))
 
-    -- finds the cause of changes that met a number too large
+    -- the cause of a question for changes that overflowed
     pub large_changes : HasLargeTotal below (filter (λ u. has_passed below (front below b v) u.time) (captured_of b v)) → reads.changes_refusal_on below minimum b v ≡ None
         → HasLargeBound below cmp b.dataflow.nodes (λ i. fed_to i s.fed)
     large_changes large e =
@@ -130,9 +130,9 @@ module _ {T : Type 0} (below : T → T → Bool) (minimum : T) where
         large_listed o cmp b.dataflow.nodes board.dataflow.plan linear s v within (has_passed below (front below b v)) (λ u t l h. is_passed _ (passed_down below o (front below b v) u t l (not_beyond _ h))) (captured_of b v)
         (λ t h. captured_query t (or_left (is_from_start below minimum (since_of b v)) (is_beyond below (since_of b v) t) kept) h) large
 
-  -- what is asked of a view at all times
+  -- answers over all times of a view
   module _ (o : PartialOrderLaws below) (b : BoardState T) (s : Session T) (v : ℕ) (board : IsBoard b) (within : v < length b.dataflow.nodes) (idle : IsIdle b) (none : NothingWaits b.stations) (a : StandsAs below minimum b s) where
-    -- the frontier of the history is that of the session
+    -- the frontier by the history is that of the session
     same_frontier : SameElements (frontier below b.dataflow (state_after below minimum b.dataflow a.history) v) (view_frontier below b.dataflow.nodes s v)
     same_frontier =
         let w = state_after below minimum b.dataflow a.history in
@@ -140,7 +140,7 @@ module _ {T : Type 0} (below : T → T → Bool) (minimum : T) where
         let caught = caught_up_lem below o b.dataflow board.dataflow w v (λ x m. (in_place_lem b.dataflow board.dataflow below minimum a.history a.stands.legal).inputs x (contains_among x w.open_times m)) quiet in
         subst (λ (fronts : ℕ → List T). SameElements (frontier below b.dataflow w v) (least below (open_for below b.dataflow.nodes fronts v))) (λ j i. a.inputs i j) caught
 
-    -- turns the frontier of a board into the one that the text prints
+    -- the frontier that the board returns is the one that the text prints
     pub frontier_found : {cmp : T → T → Ordering} → IsTotalOrder cmp → ((s t : T) → cmp s t ≡ Equal → s ≡ t) → (F : List T) → IsFrontier below cmp F → SameElements F (front below b v)
         → F ≡ frontier_at below b.dataflow.nodes s cmp v
     frontier_found {cmp} total exact F is same =
@@ -151,7 +151,7 @@ module _ {T : Type 0} (below : T → T → Bool) (minimum : T) where
         (λ t h. in_order-has cmp exact found t (among_contains t found (same_frontier.into t (stood.into t (contains_among t F h)))))
         (λ t h. among_contains t F (stood.back t (same_frontier.back t (contains_among t found (in_order-only cmp found t h)))))
 
-    -- turns the changes of a board into those that the text prints
+    -- the changes that the board returns are those that the text prints
     pub changes_found : {joined met : T → T → T} {cmp : T → T → Ordering} → LatticeLaws below joined met → ExtendsLaws below cmp → IsTotalOrder cmp → (us : List (Update T))
         → AreDifferences below cmp b.dataflow.nodes (changes_in (state_after below minimum b.dataflow a.history)) (frontier below b.dataflow (state_after below minimum b.dataflow a.history) v) v us
         → us ≡ changes_at below b.dataflow.nodes s cmp joined v
@@ -168,6 +168,6 @@ module _ {T : Type 0} (below : T → T → Bool) (minimum : T) where
         differences_only o total b.dataflow.nodes (λ i. fed_to i s.fed) G v us (changes_at below b.dataflow.nodes s cmp joined v) own
         (changes_are o l x total b.dataflow.nodes s.fed board.dataflow.plan v within G)
 
-    -- shows that a board refuses changes just where the session does
+    -- the board refuses a question for changes if and only if the session does
     pub same_changes_refusal : reads.changes_refusal_on below minimum b v ≡ changes_refusal below b.dataflow.nodes s minimum v
     same_changes_refusal = ap (λ (since : List T). first_refusal ((not (is_from_start below minimum since), GivenUp) ∷ [])) (same_since b s v within a)

@@ -1,4 +1,4 @@
--- One piece of a relay after another: the events that lie between, and what is then on the board.
+-- The steps of a relay: the events between two bundles, and the board afterwards.
 use Rattle.std.proofs.Common.{◌≡◌, ℕ, suc, ◌<◌, Bool, true, false, cond, ◌&&◌, eqb, List, [], ◌∷◌, ◌++◌, length, get_or, set, Option, Some, None, IsTrue, sym, refl, ap, ◌∙◌, subst, arith}
 use Rattle.std.specs.List.{list_all, slice_get}
 use Rattle.std.specs.Result.{IsOk, IsErr, IfOk, OnOk, OnErr}
@@ -33,12 +33,12 @@ use Rattle.machine.proofs.BoardLemmas.BoardLemmas.{waits_within, waits_staffed}
 use Rattle.script.proofs.GiveLemmas.{may_give}
 use Rattle.script.proofs.DiffLemmas.{small_applied, no_overflow}
 
--- what is not some is none
+-- a result that is not Some is None
 pub none_from : {A : Type 0} (r : Option A) → ((x : A) → r ≡ Some x → ⊥) → r ≡ None
 none_from (Some x) d = absurd (d x refl)
 none_from None d = refl
 
--- what is no error is a value
+-- a result that is not an error is Ok
 pub value_from : {A E : Type 0} (r : Result A E) → (IsErr r → ⊥) → IsOk r
 value_from (Ok x) d = refl
 value_from (Err e) d = absurd (d refl)
@@ -51,11 +51,11 @@ module _ {T : Type 0} where
   same_trans u v w a b = record { fed = b.fed ∙ a.fed; open_times = b.open_times ∙ a.open_times; since = λ x. b.since x ∙ a.since x }
 
 module _ {T : Type 0} (below : T → T → Bool) (minimum : T) where
-  -- begins the invariants of the relay: a board continues itself
+  -- a board continues itself; begins the invariants of the relay
   pub goes_refl : (b : BoardState T) → IsContinuedBy below minimum b b
   goes_refl b h s = ([], s, same_refl (state_after below minimum b.dataflow h))
 
-  -- later events on top of later ones
+  -- adds later events to events that are already later ones
   goes_further : (h : List (Event T)) (a b c : BoardState T) (x : IsContinuedFrom below minimum h a b) → IsContinuedFrom below minimum (x.0 ++ h) b c → IsContinuedFrom below minimum h a c
   goes_further h a b c x y =
       let e = sym (append_assoc y.0 x.0 h) in (
@@ -65,11 +65,11 @@ module _ {T : Type 0} (below : T → T → Bool) (minimum : T) where
             (subst (λ k. IsSameOfClients (state_after below minimum b.dataflow (x.0 ++ h)) (state_after below minimum c.dataflow k)) e y.2),
       )
 
-  -- joins two pieces of a relay
+  -- joins two steps of a relay
   pub goes_trans : (a b c : BoardState T) → IsContinuedBy below minimum a b → IsContinuedBy below minimum b c → IsContinuedBy below minimum a c
   goes_trans a b c f g h s = let x = f h s in goes_further h a b c x (g (x.0 ++ h) x.1)
 
-  -- a look
+  -- a look continues a board
   goes_looked : (b c : BoardState T) (actor : ℕ) → c ≡ after_look actor b → IsContinuedBy below minimum b c
   goes_looked b c actor e h s = (
     c.last ∷ [],
@@ -77,17 +77,17 @@ module _ {T : Type 0} (below : T → T → Bool) (minimum : T) where
     subst (λ (z : BoardState T). IsSameOfClients (state_after below minimum b.dataflow h) (state_after below minimum z.dataflow (z.last ∷ h))) (sym e) (same_refl (state_after below minimum b.dataflow h)),
   )
 
-  -- a take
+  -- a take is not an event of a client
   same_taken : (b c : BoardState T) (bundle : Bundle T) → c ≡ after_take 0 bundle b → (h : List (Event T)) → IsSameOfClients (state_after below minimum b.dataflow h) (state_after below minimum c.dataflow (c.last ∷ h))
   same_taken b c bundle e h = subst (λ (z : BoardState T). IsSameOfClients (state_after below minimum b.dataflow h) (state_after below minimum z.dataflow (z.last ∷ h))) (sym e) (record { fed = refl; open_times = refl; since = λ v. refl })
 
-  -- continues a board by a take, or by the look of a failed one
+  -- a take continues a board, and so does the look of a failed take
   pub goes_after_take : (r : Result (Bundle T) Refusal) (b c : BoardState T) (site : Site) → IfOk r (λ bundle. c ≡ after_take 0 bundle b) → OnErr r (c ≡ after_look site.worker b)
       → ((h : List (Event T)) → Stands below minimum b h → Stands below minimum c (c.last ∷ h)) → IsContinuedBy below minimum b c
   goes_after_take (Ok bundle) b c site e l stands = λ h s. (c.last ∷ [], stands h s, same_taken b c bundle e h)
   goes_after_take (Err r) b c site e l stands = goes_looked b c site.worker l
 
-  -- a give
+  -- a give continues a board
   pub goes_given : {A E : Type 0} (r : Result A E) (b c : BoardState T) (g : Emission T) (ts : List T) (sent : List (Bundle T)) → OnOk r (c ≡ after_give g ts sent b) → OnErr r (c ≡ after_look g.worker b)
       → (h : List (Event T)) → Stands below minimum c (c.last ∷ h) → IsContinuedFrom below minimum h b c
   goes_given (Ok x) b c g ts sent e l h s = (
@@ -101,12 +101,12 @@ module _ {T : Type 0} (below : T → T → Bool) (minimum : T) where
     subst (λ (z : BoardState T). IsSameOfClients (state_after below minimum b.dataflow h) (state_after below minimum z.dataflow (z.last ∷ h))) (sym l) (same_refl (state_after below minimum b.dataflow h)),
   )
 
-  -- carries the dataflow over an event, or over the look of a failed one
+  -- an event keeps the dataflow, and so does the look of a failed one
   pub same_dataflow : {A E : Type 0} (r : Result A E) (b c : BoardState T) (P : A → BoardState T) → ((x : A) → (P x).dataflow ≡ b.dataflow) → (actor : ℕ) → IfOk r (λ x. c ≡ P x) → OnErr r (c ≡ after_look actor b) → c.dataflow ≡ b.dataflow
   same_dataflow (Ok x) b c P h actor e l = ap (λ (z : BoardState T). z.dataflow) e ∙ h x
   same_dataflow (Err x) b c P h actor e l = ap (λ (z : BoardState T). z.dataflow) l
 
--- an empty hand
+-- after a give the worker's hand is empty
 emptied : (hand : List (Option ℕ)) (k : ℕ) (x : Option ℕ) → k ≡ 0 → get_or (set (set hand k x) k None) 0 None ≡ None
 emptied hand k x e = subst (λ j. get_or (set (set hand j x) j None) 0 None ≡ None) (sym e) (first hand)
   where
@@ -114,7 +114,7 @@ emptied hand k x e = subst (λ j. get_or (set (set hand j x) j None) 0 None ≡ 
     first [] = refl
     first (y ∷ hand) = refl
 
--- where a worker is idle and nothing is in flight, all is quiet
+-- if the worker is idle and nothing is in flight, the board is quiet
 pub quiet : {T : Type 0} (below : T → T → Bool) (minimum : T) (b : BoardState T) → IsIdle b → NothingWaits b.stations → (h : List (Event T)) → Stands below minimum b h → IsQuiet below b.dataflow (state_after below minimum b.dataflow h)
 quiet below minimum b idle none h s = record {
   in_flight = none_queued (state_after below minimum b.dataflow h).in_flight (λ site. sym (s.queues site) ∙ none site);
@@ -125,7 +125,7 @@ quiet below minimum b idle none h s = record {
     first : (k : ℕ) → k < b.dataflow.workers → b.dataflow.workers ≡ 1 → 0 ≡ k
     first k l a = omega (arith, l, a)
 
--- After a piece
+-- The board after a take and a give.
 
 module _ {T : Type 0} (below : T → T → Bool) (o : PartialOrderLaws below) (minimum : T) (b : BoardState T) (board : IsBoard b) (idle : IsIdle b) (bundle : Bundle T)
     (worker : bundle.place.worker ≡ 0) (due : AreDue b.dataflow bundle.place.node b.stations) (waits : slice_get (queue_of b.stations bundle.place) 0 ≡ Some bundle) where
@@ -216,7 +216,7 @@ module _ {T : Type 0} (below : T → T → Bool) (o : PartialOrderLaws below) (m
     pub done_fewer : suc (waits_at site.node done.stations) ≡ waits_at site.node b.stations
     done_fewer = ap suc (no_more_wait p site.node site.worker [] left sent all_long all_wide there later_due) ∙ one_less b.stations bundle at_node staffed worker waits
 
--- What `relay_one` needs of the bundle: it knows the place by the site, not by the bundle
+-- What `relay_one` needs of the bundle. It knows the place as the site it was called with, not from the bundle.
 module _ {T : Type 0} (below : T → T → Bool) (o : PartialOrderLaws below) (minimum : T) (b : BoardState T) (board : IsBoard b) (idle : IsIdle b) (site : Site)
     (worker : site.worker ≡ 0) (due : AreDue b.dataflow site.node b.stations) (bundle : Bundle T) (there : bundle.place ≡ site) (waits : slice_get (queue_of b.stations site) 0 ≡ Some bundle) where
   worker_there : bundle.place.worker ≡ 0
@@ -240,20 +240,20 @@ module _ {T : Type 0} (below : T → T → Bool) (o : PartialOrderLaws below) (m
   pub takes_there : IsTrue (takes_rows (node_of b.dataflow bundle.place.node) bundle.updates)
   takes_there = takes below o minimum b board idle bundle worker_there due_there waits_there
 
-  -- rules out that the node meets a number too large
+  -- at this node no number is too large
   pub fits_there : Overflows (node_of b.dataflow bundle.place.node) bundle.updates → ⊥
   fits_there = fits below o minimum b board idle bundle worker_there due_there waits_there
 
--- Where a worker took a bundle and applied the node to it, and where it then gave what came out
+-- The worker took a bundle and applied the node to it, and then it gave the output.
 
 module _ {T : Type 0} (below : T → T → Bool) (o : PartialOrderLaws below) (minimum : T) (b : BoardState T) (board : IsBoard b) (idle : IsIdle b) (site : Site)
     (worker : site.worker ≡ 0) (due : AreDue b.dataflow site.node b.stations) where
-  -- what it computed
+  -- the worker took a bundle and computed this emission
   abbrev IsComputed : BoardState T → Emission T → Type 0
   IsComputed c e = (bundle : Bundle T) × (slice_get (queue_of b.stations site) 0 ≡ Some bundle) × (bundle.place ≡ site) × (c ≡ after_take 0 bundle b)
       × (e ≡ record { node = bundle.place.node; worker = bundle.place.worker; updates = linear_output (node_of b.dataflow bundle.place.node) bundle.updates })
 
-  -- what is known of the place, of the bundle's own
+  -- facts about the place, in terms of the bundle's own
   own_worker : (c : BoardState T) (e : Emission T) → (x : IsComputed c e) → x.0.place.worker ≡ 0
   own_worker c e x = ap (λ (z : Site). z.worker) x.2 ∙ worker
 
@@ -263,7 +263,7 @@ module _ {T : Type 0} (below : T → T → Bool) (o : PartialOrderLaws below) (m
   own_waits : (c : BoardState T) (e : Emission T) → (x : IsComputed c e) → slice_get (queue_of b.stations x.0.place) 0 ≡ Some x.0
   own_waits c e x = ap (λ (z : Site). slice_get (queue_of b.stations z) 0) x.2 ∙ x.1
 
-  -- and what it gave
+  -- the worker then gave the emission
   abbrev IsHandedOn : BoardState T → Emission T → BoardState T → Type 0
   IsHandedOn c e d = (sent : List (Bundle T)) × IsCut below c.dataflow e sent × (d ≡ after_give e [] sent c)
 
@@ -273,7 +273,7 @@ module _ {T : Type 0} (below : T → T → Bool) (o : PartialOrderLaws below) (m
       subst (λ (z : BoardState T). e.node < length z.dataflow.nodes) (sym x.3)
       (subst (λ (z : Emission T). z.node < length b.dataflow.nodes) (sym x.4) (within below o minimum b board idle x.0 (own_worker c e x) (own_due c e x) (own_waits c e x)))
 
-  -- continues a board by a take and a give
+  -- a take followed by a give continues a board
   pub computed_goes : (c d : BoardState T) (e : Emission T) → IsComputed c e → IsContinuedBy below minimum b c → ((h : List (Event T)) → Stands below minimum b h → Stands below minimum c (c.last ∷ h))
       → ((h : List (Event T)) → Stands below minimum c h → ((sent : List (Bundle T)) → IsCut below c.dataflow e sent → IsGive below c.dataflow (state_after below minimum c.dataflow h) e [] sent) → IsContinuedFrom below minimum h c d)
       → IsContinuedBy below minimum b d
@@ -287,7 +287,7 @@ module _ {T : Type 0} (below : T → T → Bool) (o : PartialOrderLaws below) (m
           (subst (λ (y : Emission T). Stands below minimum (after_take 0 x.0 b) (Take 0 x.0 ∷ h) → (sent : List (Bundle T)) → IsCut below b.dataflow y sent → IsGive below b.dataflow (state_after below minimum b.dataflow (Take 0 x.0 ∷ h)) y [] sent) (sym x.4)
           (gives below o minimum b board idle x.0 (own_worker c e x) (own_due c e x) (own_waits c e x) h s)) after
 
-  -- the board after it
+  -- facts about the board after both
   after_both : (c d : BoardState T) (e : Emission T) → (x : IsComputed c e) → (y : IsHandedOn c e d) → (P : BoardState T → Type 0)
       → ((sent : List (Bundle T)) → IsCut below b.dataflow (emission below o minimum b board idle x.0 (own_worker c e x) (own_due c e x) (own_waits c e x)) sent → P (after_give (emission below o minimum b board idle x.0 (own_worker c e x) (own_due c e x) (own_waits c e x)) [] sent (after_take 0 x.0 b))) → P d
   after_both c d e x y P f =
@@ -295,14 +295,14 @@ module _ {T : Type 0} (below : T → T → Bool) (o : PartialOrderLaws below) (m
       (subst (λ (z : BoardState T). IsCut below z.dataflow e y.0 → P (after_give e [] y.0 z)) (sym x.3)
       (subst (λ (g : Emission T). IsCut below b.dataflow g y.0 → P (after_give g [] y.0 (after_take 0 x.0 b))) (sym x.4) (f y.0)) y.1)
 
-  -- keeps the worker idle over a take and a give
+  -- after a take and a give the worker is idle
   pub both_idle : (c d : BoardState T) (e : Emission T) → IsComputed c e → IsHandedOn c e d → IsIdle d
   both_idle c d e x y = after_both c d e x y IsIdle (piece_idle below o minimum b board idle x.0 (own_worker c e x) (own_due c e x) (own_waits c e x))
 
-  -- keeps all that waits due over a take and a give
+  -- after a take and a give all waiting bundles are due
   pub both_due : (c d : BoardState T) (e : Emission T) → IsComputed c e → IsHandedOn c e d → AreDue d.dataflow site.node d.stations
   both_due c d e x y = subst (λ (z : Site). AreDue d.dataflow z.node d.stations) x.2 (after_both c d e x y (λ z. AreDue z.dataflow x.0.place.node z.stations) (done_due below o minimum b board idle x.0 (own_worker c e x) (own_due c e x) (own_waits c e x)))
 
-  -- gives the measure of the loop: one bundle less waits
+  -- after a take and a give one bundle less waits, so the loop ends
   pub both_fewer : (c d : BoardState T) (e : Emission T) → IsComputed c e → IsHandedOn c e d → suc (waits_at site.node d.stations) ≡ waits_at site.node b.stations
   both_fewer c d e x y = subst (λ (z : Site). suc (waits_at z.node d.stations) ≡ waits_at z.node b.stations) x.2 (after_both c d e x y (λ z. suc (waits_at x.0.place.node z.stations) ≡ waits_at x.0.place.node b.stations) (done_fewer below o minimum b board idle x.0 (own_worker c e x) (own_due c e x) (own_waits c e x)))

@@ -4,7 +4,7 @@ use Rattle.std.specs.List.Sorted.{IsStrictlySortedBy}
 use Rattle.oracle.specs.JoinClosures.{IsClosed}
 use Rattle.oracle.proofs.join_closure.with_joins.Given as goal
 
--- the times so far and their joins
+-- the closure has the times so far and their joins
 abbrev pub invariant-loop-t : goal.invariant-loop-t
 invariant-loop-t g l = record {
   ascending : IsStrictlySortedBy g.T.Ord.cmp l.join_closure.items;

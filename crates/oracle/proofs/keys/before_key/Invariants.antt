@@ -3,7 +3,7 @@ use Rattle.std.specs.List.{AllWithin}
 use Rattle.oracle.specs.Keys.{is_before_key}
 use Rattle.oracle.proofs.keys.before_key.Given as goal
 
--- what is below the one bound comes before the key, and what is from the other one on does not
+-- the entries below `low` are before the key, and those from `high` on are not
 abbrev pub invariant-loop-low : goal.invariant-loop-low
 invariant-loop-low l = record {
   order : l.low ≤ l.high;

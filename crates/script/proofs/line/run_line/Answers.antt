@@ -13,7 +13,7 @@ returns-in_err-run_update-in-Input-clause-broke g c s h =
     let p = err_from_is_err_and c.from_residual.result c.from_residual.ensures.1 in
     rw (p.1, p.2) (broke_before g.W.Out.took c.args.out.now c.run_update.new.out c.args.buffer.now [] (piece c.args.script.now s line.line line.command) _ c.in_err-run_update-in-Input.ensures.broke)
 
--- what the line wrote was all that was to come
+-- the text of the line was the only text still to be written
 pub returns-in_err-pass_on-in-Input-clause-broke : goal.returns-in_err-pass_on-in-Input-clause-broke
 returns-in_err-pass_on-in-Input-clause-broke g c s h =
     let t = c.args.script.now in

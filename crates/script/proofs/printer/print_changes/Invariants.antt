@@ -4,6 +4,6 @@ use Rattle.script.specs.Outs.{Wrote}
 use Rattle.script.specs.Printing.{count_text, update_text}
 use Rattle.script.proofs.printer.print_changes.Given as goal
 
--- the lines so far are written behind their header
+-- the header and the lines so far are written
 abbrev pub invariant-loop-update : goal.invariant-loop-update
 invariant-loop-update g l = Wrote g.W.Out.took l.fn.out l.fn.buffer (count_text (codes "changes") l.view (length l.changes) ++ flat_map update_text (take l.update-index l.changes)) l.out l.buffer

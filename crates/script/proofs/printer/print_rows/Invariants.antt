@@ -4,6 +4,6 @@ use Rattle.script.specs.Outs.{Wrote}
 use Rattle.script.specs.Printing.{read_text}
 use Rattle.script.proofs.printer.print_rows.Given as goal
 
--- the rows so far are written behind their header
+-- the header and the rows so far are written
 abbrev pub invariant-loop-i : goal.invariant-loop-i
 invariant-loop-i g l = Wrote g.W.Out.took l.fn.out l.fn.buffer (read_text l.view l.fn.time (length l.rows) ++ bag_text (take l.i l.rows)) l.out l.buffer

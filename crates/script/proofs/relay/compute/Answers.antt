@@ -30,7 +30,7 @@ pub returns-clause-goes_on : goal.returns-clause-goes_on
 returns-clause-goes_on g c =
     goes_after_take g.T.PartialOrder.below g.T.Minimum.least c.take.result c.args.board.now c.take.new.self c.args.place c.take.ensures.taken c.take.ensures.unchanged c.take.ensures.stands
 
--- the diffs are small, so none is too large
+-- the diffs are small, so none is too large to be negated
 pub unwrap-updates-requires : goal.unwrap-updates-requires
 unwrap-updates-requires g c =
     let node = c.node.ensures ∙ ap (λ nodes. node_at nodes c.in_ok-bundle.bundle.place.node) (c.plan.ensures ∙ ap (λ (z : BoardState _). z.dataflow.nodes) c.in_ok-bundle.ensures.taken) in

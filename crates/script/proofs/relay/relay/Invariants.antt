@@ -2,7 +2,7 @@ use Rattle.std.proofs.Common.{◌≡◌}
 use Rattle.script.specs.Relays.{AreDue, IsIdle, IsContinuedBy}
 use Rattle.script.proofs.relay.relay.Given as goal
 
--- what waits is due at a node that is not done
+-- all waiting bundles are due at nodes that are not visited yet
 abbrev pub invariant-loop-n : goal.invariant-loop-n
 invariant-loop-n g l = record {
   idle : IsIdle l.board;

@@ -2,7 +2,7 @@ use Rattle.std.proofs.Common.{◌≡◌}
 use Rattle.script.specs.Relays.{AreDue, waits_at, IsIdle, IsContinuedBy}
 use Rattle.script.proofs.relay.relay_node.Given as goal
 
--- what waits is due, and the worker is between two pieces
+-- all waiting bundles are due, and the worker is idle
 abbrev pub invariant-loop-place : goal.invariant-loop-place
 invariant-loop-place g l = record {
   idle : IsIdle l.board;

@@ -3,7 +3,7 @@ use Rattle.script.specs.Outs.{Wrote}
 use Rattle.script.specs.Text.{BitemporalSession, after_lines, lines_text}
 use Rattle.script.proofs.run.run_lines.Given as goal
 
--- the engine stands for the session after the lines so far, and what they write is written
+-- the engine stands for the session after the lines so far, and the text of these lines is written
 abbrev pub invariant-loop-line : goal.invariant-loop-line
 invariant-loop-line g l = record {
   plan : l.script.plan ≡ g.E.Engine.plan l.engine;
