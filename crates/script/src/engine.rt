@@ -25,7 +25,7 @@ pub(crate) trait Engine {
     /// The engine's plan.
     ghost plan: { Self → List Node };
 
-    /// The engine stands for the session: it holds exactly what the session says.
+    /// The engine stands for this session, so it answers commands as the session does.
     ghost stands: { Self → BitemporalSession → Type 0 };
 
     /// No accepted change is still in flight, so questions can be answered.

@@ -11,16 +11,14 @@
 //! (`specs/Ends`). Both rest on three parts, each independent of the others:
 //!
 //! - The loop over the lines (`run`, `line`) talks to an `Engine`, which carries out commands and stands for a
-//!   session. A command
-//! either changes an input or asks about a view. Before a question, the loop lets the engine catch up.
+//!   session. A command either changes an input or asks about a view. Before a question, the loop lets the
+//!   engine catch up.
 //! - There are two engines. `board_engine` has a board of crate `machine`: commands that change inputs are
-//!   events there, and one
-//! worker (`relay`) carries on what is in flight. The theorems about histories then say that its views are
-//! right. `oracle_engine` keeps the changes and computes each answer from scratch, by crate `oracle`. So the
-//! text of the first engine can be compared with that of the second.
+//!   events there, and one worker (`relay`) carries on what is in flight. The theorems about histories then say
+//!   that its views are right. `oracle_engine` keeps the changes and computes each answer from scratch, by crate
+//!   `oracle`. So the text of the first engine can be compared with that of the second.
 //! - Printed text (`printer`) is collected in an `output_buffer` and goes in large pieces to an [`Out`], whose
-//!   contract says which
-//! bytes it took.
+//!   contract says which bytes it took.
 #![tactic(auto)]
 
 mod board_engine;

@@ -4,8 +4,8 @@ use linear::{apply, takes_rows};
 use row::Item;
 use std::test::Fail;
 
-// Columns are moved and made up. Rows with the same image stay separate, even if they would cancel, and each
-// keeps its time.
+// Columns are moved and made up. Rows with the same image stay separate, even if they would cancel,
+// and each keeps its time.
 #[test]
 fn maps_make_images(rt: HostRuntime) -> Result<(), Fail> {
     let node = map(rt.alloc(), 0, &[Item::Constant(-5), Item::Column(0)])?;
