@@ -7,7 +7,8 @@ use Rattle.update.specs.declared.change.Update.{Update}
 
 -- with any two times, the list has their join
 abbrev pub IsClosed : {T : Type 0} → (T → T → T) → List T → Type 0
-IsClosed {T} joined times = (s t : T) → Contains times s → Contains times t → Contains times (joined s t)
+IsClosed {T} joined times = (s t : T) → Contains times s → Contains times t
+    → Contains times (joined s t)
 
 -- the list has the time of each update
 abbrev pub Covers : {T : Type 0} → List T → List (List (Update T)) → Type 0

@@ -28,5 +28,6 @@ pub record IsKeyRange (k : ℕ) (key : List ℤ) (es : List Entry) (from to : �
   pub order : from ≤ to
   pub inside : to ≤ length es
   pub before : filter (has_key k key) (take from es) ≡ []
-  pub within : (i : ℕ) (d : Entry) → from ≤ i → i < to → has_key k key (slice_index_or es i d) ≡ true
+  pub within : (i : ℕ) (d : Entry) → from ≤ i → i < to
+      → has_key k key (slice_index_or es i d) ≡ true
   pub behind : filter (has_key k key) (take to es) ≡ filter (has_key k key) es

@@ -17,18 +17,22 @@ at_time t e = record { time = t; row = e.row; diff = e.count }
 module _ {T : Type 0} (below : T → T → Bool) where
   -- for some row, the wanted count minus the sum listed at or before t does not fit in 64 bits
   abbrev pub HasLargeGap : T → List Entry → List (Update T) → Type 0
-  HasLargeGap t wanted us = (row : List ℤ) × (FitsSigned w64 (count_of wanted row +ℤ neg_ℤ (count_of (as_of below t us) row)) → ⊥)
+  HasLargeGap t wanted us = (row : List ℤ)
+      × (FitsSigned w64 (count_of wanted row +ℤ neg_ℤ (count_of (as_of below t us) row)) → ⊥)
 
   -- the list is finished for these times of the closure: at each of them that has passed it sums to what is
   -- wanted, and it has no other times
   pub record IsListed (cmp : T → T → Ordering) (frontier : List T) (wanted : T → List Entry) (times : List T) (us : List (Update T)) : Type 0 where
-    pub sums : (t : T) → Contains times t → IsTrue (has_passed below frontier t) → Alike (as_of below t us) (wanted t)
+    pub sums : (t : T) → Contains times t → IsTrue (has_passed below frontier t)
+        → Alike (as_of below t us) (wanted t)
     pub among : AllByRecursion (λ u. IsTrue (has_passed below frontier u.time) × Contains times u.time) us
     pub consolidated : IsConsolidated cmp us
 
   -- the list continues at t with what is wanted there, minus what is listed at or before t
   abbrev pub ContinuesListing : T → List Entry → List (Update T) → List (Update T) → Type 0
-  ContinuesListing t wanted us vs = (gap : List Entry) × IsBag gap × (vs ≡ us ++ map (at_time t) gap) × ((row : List ℤ) → count_of gap row +ℤ count_of (as_of below t us) row ≡ count_of wanted row)
+  ContinuesListing t wanted us vs = (gap : List Entry) × IsBag gap
+      × (vs ≡ us ++ map (at_time t) gap)
+      × ((row : List ℤ) → count_of gap row +ℤ count_of (as_of below t us) row ≡ count_of wanted row)
 
   -- at some passed time t the query has a number that is too large, or the difference at t is too large: the
   -- query's answer there minus a list that has no update at t and sums to the query at all earlier times

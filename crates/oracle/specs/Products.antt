@@ -7,7 +7,8 @@ use Rattle.plan.specs.Reductions.{has_key}
 
 -- of an entry and some entry on the right with the same key
 abbrev pub HasLargeProduct : ℕ → Entry → List Entry → Type 0
-HasLargeProduct k x right = Any (λ y. (has_key k (take k x.row) y ≡ true) × (FitsSigned w64 (x.count *ℤ y.count) → ⊥)) right
+HasLargeProduct k x right =
+    Any (λ y. (has_key k (take k x.row) y ≡ true) × (FitsSigned w64 (x.count *ℤ y.count) → ⊥)) right
 
 -- of some entry on the left and some entry on the right with the same key
 abbrev pub HasLargePair : ℕ → List Entry → List Entry → Type 0

@@ -24,4 +24,5 @@ is_greatest_row k es row = not (list_any (λ e. has_key k (take k row) e && is_b
 
 -- the total count of some key's rows does not fit in 64 bits
 abbrev pub HasLargeNumber : ℕ → List Entry → Type 0
-HasLargeNumber k es = (key : List ℤ) × (FitsSigned w64 (sum_of_counts (filter (has_key k key) es)) → ⊥)
+HasLargeNumber k es = (key : List ℤ)
+    × (FitsSigned w64 (sum_of_counts (filter (has_key k key) es)) → ⊥)
