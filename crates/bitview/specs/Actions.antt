@@ -14,7 +14,8 @@ IsInRange (Check file) = Unit {0}
 
 -- ok NODES COMMANDS
 abbrev pub check_text : ScriptModel → List ℕ
-check_text t = codes "ok " ++ (decimal (length t.plan) ++ (codes " " ++ (decimal (length t.commands) ++ 10 ∷ [])))
+check_text t = codes "ok "
+    ++ (decimal (length t.plan) ++ (codes " " ++ (decimal (length t.commands) ++ 10 ∷ [])))
 
 -- the text that an action asks for: the script's text, or its size
 abbrev pub asked_text : Action → ScriptModel → List ℕ

@@ -8,7 +8,7 @@ use Rattle.std.proofs.lemmas.List.Elements.{All-nil, All-push, All-weaker}
 use Rattle.update.specs.declared.refusal.Refusal.TheVariants.{BadOrder}
 use Rattle.plan.specs.Nodes.{node_at, is_input, is_linear, is_output}
 use Rattle.plan.specs.declared.node.Node.{Node}
-use Rattle.plan.specs.declared.node.Node.TheVariants.{Input, Join, Reduce}
+use Rattle.plan.specs.declared.node.Node.TheVariants.{Join, Reduce}
 use Rattle.plan.proofs.PlanLemmas.{node_before_more}
 use Rattle.grammar.specs.declared.command.Command.{Command}
 use Rattle.grammar.specs.declared.command.Command.TheVariants as command

@@ -15,7 +15,8 @@ use Rattle.grammar.specs.Items.{items, filter_test}
 
 -- the node is added under the name, unless the plan refuses it
 unfoldable pub with_node : ParseState → List ℕ → Node → Result ParseState Refusal
-with_node k name node = plan_with k.plan node >>= λ plan. Ok (record k { names = k.names ++ name ∷ []; plan = plan })
+with_node k name node = plan_with k.plan node
+    >>= λ plan. Ok (record k { names = k.names ++ name ∷ []; plan = plan })
 
 -- input NAME W
 unfoldable pub input_line : ParseState → List (List ℕ) → Result ParseState Refusal

@@ -15,8 +15,10 @@ use Rattle.grammar.specs.Words.{each, number}
 
 -- `c` followed by the number of a column, or `=` followed by a constant
 abbrev pub item_of : List ℕ → Option Item
-item_of word = if slice_index word 0 == 0x63 then option_map (λ n. Column n) (whole_of (drop 1 word))
-    else if slice_index word 0 == 0x3d then option_map (λ z. Constant z) (signed_of (drop 1 word)) else None
+item_of word =
+    if slice_index word 0 == 0x63 then option_map (λ n. Column n) (whole_of (drop 1 word))
+    else if slice_index word 0 == 0x3d then option_map (λ z. Constant z) (signed_of (drop 1 word))
+    else None
 
 -- the comparison that a word names
 abbrev pub comparison_of : List ℕ → Option Cmp

@@ -24,7 +24,8 @@ start_line k _ = Err WrongWordCount
 
 -- change INPUT V S DIFF C .., with 1 to 8 columns
 unfoldable pub change_line : ParseState → List (List ℕ) → Result Command Refusal
-change_line k (name ∷ v ∷ s ∷ diff ∷ row) = if nat_lt 0 (length row) && nat_lt (length row) 9 then (do
+change_line k (name ∷ v ∷ s ∷ diff ∷ row) =
+    if nat_lt 0 (length row) && nat_lt (length row) 9 then (do
   name ← input k name
   v ← whole v
   s ← whole s
@@ -100,11 +101,13 @@ is_declaring keyword.Frontier = false
 -- the keyword of a line with this first word, if such a line may stand here
 unfoldable pub opening : ParseState → List ℕ → Result Keyword Refusal
 opening k word = or_refused UnknownCommand (keyword_of word)
-    >>= λ keyword. if (if is_declaring keyword then k.started else not k.started) then Err BadOrder else Ok keyword
+    >>= λ keyword. if (if is_declaring keyword then k.started else not k.started) then Err BadOrder
+    else Ok keyword
 
 -- the command is added, with the number of its line
 abbrev pub with_command : ℕ → ParseState → Result Command Refusal → Result ParseState Refusal
-with_command n k outcome = outcome >>= λ command. Ok (record k { commands = k.commands ++ record { line = n; command = command } ∷ [] })
+with_command n k outcome = outcome
+    >>= λ command. Ok (record k { commands = k.commands ++ record { line = n; command = command } ∷ [] })
 
 -- the parse state after line n; these words come after its keyword
 abbrev pub keyword_line : ℕ → ParseState → Keyword → List (List ℕ) → Result ParseState Refusal
@@ -128,7 +131,8 @@ words_line n k (first ∷ words) = if opens_comment first then Ok k else (do
 
 -- the bytes of the line, if it is UTF-8 text and not too long
 unfoldable pub text_of : List ℕ → Result (List ℕ) Refusal
-text_of line = if nat_lt 4096 (length line) then Err LineTooLong else if is_utf8 line then Ok line else Err NotUtf8
+text_of line = if nat_lt 4096 (length line) then Err LineTooLong else if is_utf8 line then Ok line
+    else Err NotUtf8
 
 -- the parse state after line n
 unfoldable pub line_of : ℕ → ParseState → List ℕ → Result ParseState Refusal

@@ -9,4 +9,5 @@ is_name_byte b = is_ascii_alphanumeric b || b == 0x5f
 
 -- 1 to 32 of these bytes, of which the first is a letter
 abbrev pub is_name : List ℕ → Bool
-is_name word = nat_lt (length word) 33 && is_ascii_alphabetic (slice_index word 0) && list_all is_name_byte word
+is_name word =
+    nat_lt (length word) 33 && is_ascii_alphabetic (slice_index word 0) && list_all is_name_byte word

@@ -21,7 +21,8 @@ pub record ParseState : Type 0 where
 
 -- the parse state that a draft holds
 abbrev pub parse_state : Draft → ParseState
-parse_state d = record { names = map string_bytes d.names.keys; plan = d.plan; started = d.started; commands = d.commands.items }
+parse_state d =
+    record { names = map string_bytes d.names.keys; plan = d.plan; started = d.started; commands = d.commands.items }
 
 -- the number of the node with this name
 abbrev pub number_of_name : ParseState → List ℕ → Option ℕ
@@ -50,7 +51,9 @@ view k word = used_name (is_view_of k.plan) k word
 
 -- a new name has the form of a name and is not taken
 unfoldable pub new_name : ParseState → List ℕ → Result (List ℕ) Refusal
-new_name k word = if is_name word then (if is_some (number_of_name k word) then Err DuplicateName else Ok word) else Err BadName
+new_name k word =
+    if is_name word then (if is_some (number_of_name k word) then Err DuplicateName else Ok word)
+    else Err BadName
 
 -- the plan with one more node, unless its rules refuse that node
 abbrev pub plan_with : List Node → Node → Result (List Node) Refusal

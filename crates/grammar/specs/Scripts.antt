@@ -19,7 +19,8 @@ abbrev pub first_parse_state : ParseState
 first_parse_state = record { names = []; plan = []; started = false; commands = [] }
 
 -- a refusal on line n ends the parse, with this line as its fault
-abbrev pub on_line : {A : Type 0} → ℕ → Result ParseState Refusal → (ParseState → Result A (ℕ × Refusal)) → Result A (ℕ × Refusal)
+abbrev pub on_line : {A : Type 0} → ℕ → Result ParseState Refusal
+    → (ParseState → Result A (ℕ × Refusal)) → Result A (ℕ × Refusal)
 on_line n (Ok k) more = more k
 on_line n (Err refusal) more = Err (n, refusal)
 
@@ -39,11 +40,14 @@ parse_lines n k (line ∷ lines) = line_of n k line >>= λ k. parse_lines (n + 1
 
 -- all lines are in order, and `start` is among them
 abbrev pub IsScript : List (List ℕ) → ScriptModel → Type 0
-IsScript lines t = (k : ParseState) × (parse_lines 1 first_parse_state lines ≡ Ok k) × (k.started ≡ true) × (model_of k ≡ t)
+IsScript lines t = (k : ParseState) × (parse_lines 1 first_parse_state lines ≡ Ok k)
+    × (k.started ≡ true) × (model_of k ≡ t)
 
 -- the lines before number n are in order
 abbrev pub IsReached : List (List ℕ) → ℕ → Type 0
-IsReached lines n = (before : List (List ℕ)) × (rest : List (List ℕ)) × (k : ParseState) × (lines ≡ before ++ rest) × (n ≡ length before + 1) × (parse_lines 1 first_parse_state before ≡ Ok k)
+IsReached lines n = (before : List (List ℕ)) × (rest : List (List ℕ)) × (k : ParseState)
+    × (lines ≡ before ++ rest) × (n ≡ length before + 1)
+    × (parse_lines 1 first_parse_state before ≡ Ok k)
 
 -- the lines before number n are in order, and line n is not; or all lines are in order, none of them is
 -- `start`, and n is one past the last line
@@ -54,7 +58,8 @@ IsFirstFault lines n refusal =
 
 -- the outcome is this fault, given by line and code; code 1 means that memory ran out
 abbrev pub IsFault : {Y : Type 0} → ℕ → ℕ → Result Y (ℕ × Refusal) → Type 0
-IsFault line code outcome = (code ≡ 1) ⊎ ((refusal : Refusal) × (code ≡ code_of refusal) × (outcome ≡ Err (line, refusal)))
+IsFault line code outcome = (code ≡ 1)
+    ⊎ ((refusal : Refusal) × (code ≡ code_of refusal) × (outcome ≡ Err (line, refusal)))
 
 -- the function's result, seen through `view`, is this outcome, unless memory ran out
 abbrev pub Answers : {X Y : Type 0} → (X → Y) → Result X Fault → Result Y (ℕ × Refusal) → Type 0

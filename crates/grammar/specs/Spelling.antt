@@ -37,18 +37,25 @@ test_words test = item_text test.left ∷ cmp_text test.op ∷ item_text test.ri
 abbrev pub node_words : List (List ℕ) → List ℕ → Node → List (List ℕ)
 node_words names name (Input width) = codes "input" ∷ name ∷ decimal width ∷ []
 node_words names name (Output source) = codes "view" ∷ name ∷ name_at names source ∷ []
-node_words names name (Map source items) = codes "node" ∷ name ∷ codes "map" ∷ name_at names source ∷ map item_text items
-node_words names name (Filter source test) = codes "node" ∷ name ∷ codes "filter" ∷ name_at names source ∷ test_words test
-node_words names name (Concat left right) = codes "node" ∷ name ∷ codes "concat" ∷ name_at names left ∷ name_at names right ∷ []
-node_words names name (Negate source) = codes "node" ∷ name ∷ codes "negate" ∷ name_at names source ∷ []
+node_words names name (Map source items) =
+    codes "node" ∷ name ∷ codes "map" ∷ name_at names source ∷ map item_text items
+node_words names name (Filter source test) =
+    codes "node" ∷ name ∷ codes "filter" ∷ name_at names source ∷ test_words test
+node_words names name (Concat left right) =
+    codes "node" ∷ name ∷ codes "concat" ∷ name_at names left ∷ name_at names right ∷ []
+node_words names name (Negate source) =
+    codes "node" ∷ name ∷ codes "negate" ∷ name_at names source ∷ []
 node_words names name (Arrange source key) = []
 node_words names name (Join left right) = []
 node_words names name (Reduce kind source) = []
 
 -- the words of the line of a command that changes an input
 abbrev pub input_command_words : List (List ℕ) → InputCommand → List (List ℕ)
-input_command_words names (Change input time diff row) = codes "change" ∷ name_at names input ∷ time_words time ++ signed_decimal diff ∷ map signed_decimal row
-input_command_words names (Advance input times) = codes "advance" ∷ name_at names input ∷ flat_map time_words times
+input_command_words names (Change input time diff row) =
+    codes "change" ∷ name_at names input ∷ time_words time
+    ++ signed_decimal diff ∷ map signed_decimal row
+input_command_words names (Advance input times) =
+    codes "advance" ∷ name_at names input ∷ flat_map time_words times
 input_command_words names (Close input) = codes "close" ∷ name_at names input ∷ []
 
 -- the words of the line of a command that asks about a view
@@ -91,21 +98,25 @@ pub record Asks (n : ℕ) (k : ParseState) (words : List (List ℕ)) (next : Par
   pub words_are : words ≡ command_words k.names command
   pub is_late : k.started ≡ true
   pub is_about : IsAbout k.plan command
-  pub next_is : next ≡ record k { commands = k.commands ++ record { line = n; command = command } ∷ [] }
+  pub next_is : next
+      ≡ record k { commands = k.commands ++ record { line = n; command = command } ∷ [] }
 
 -- what line n with these words says, given the parse states before and after it
 abbrev pub Says : ℕ → ParseState → List (List ℕ) → ParseState → Type 0
-Says n k words next = Skips k words next ⊎ (Declares k words next ⊎ (Starts k words next ⊎ Asks n k words next))
+Says n k words next = Skips k words next
+    ⊎ (Declares k words next ⊎ (Starts k words next ⊎ Asks n k words next))
 
 -- the words of the nodes' lines; each uses the names of the nodes before it
 abbrev pub plan_words : List (List ℕ) → List (List ℕ) → List Node → List (List (List ℕ))
 plan_words before [] nodes = []
 plan_words before (name ∷ names) [] = []
-plan_words before (name ∷ names) (node ∷ nodes) = node_words before name node ∷ plan_words (before ++ name ∷ []) names nodes
+plan_words before (name ∷ names) (node ∷ nodes) =
+    node_words before name node ∷ plan_words (before ++ name ∷ []) names nodes
 
 -- the words of all lines of a script that are not skipped: its nodes, `start`, its commands
 abbrev pub script_words : ScriptModel → List (List (List ℕ))
-script_words t = plan_words [] t.names t.plan ++ (codes "start" ∷ []) ∷ map (λ line. command_words t.names line.command) t.commands
+script_words t = plan_words [] t.names t.plan
+    ++ (codes "start" ∷ []) ∷ map (λ line. command_words t.names line.command) t.commands
 
 -- the words of the lines that are not skipped
 abbrev pub kept_words : List (List ℕ) → List (List (List ℕ))
@@ -124,4 +135,5 @@ read_lines k (line ∷ lines) = words_line line.0 k line.1 >>= λ k. read_lines 
 
 -- if the printed lines of a script are read, the same script comes out
 abbrev pub IsReadAgain : ℕ → ScriptModel → Type 0
-IsReadAgain any t = (k : ParseState) × (read_lines first_parse_state (script_lines any t) ≡ Ok k) × (k.started ≡ true) × (model_of k ≡ t)
+IsReadAgain any t = (k : ParseState) × (read_lines first_parse_state (script_lines any t) ≡ Ok k)
+    × (k.started ≡ true) × (model_of k ≡ t)

@@ -11,7 +11,8 @@ use Rattle.grammar.specs.Numbers.{whole_of, signed_of}
 -- the value of each word, if every word has one
 abbrev pub each : {A : Type 0} → (List ℕ → Option A) → List (List ℕ) → Option (List A)
 each read [] = Some []
-each read (word ∷ words) = option_and_then (λ x. option_map (λ xs. x ∷ xs) (each read words)) (read word)
+each read (word ∷ words) =
+    option_and_then (λ x. option_map (λ xs. x ∷ xs) (each read words)) (read word)
 
 -- the value that was read, or `BadNumber` if there is none
 abbrev pub number : {A : Type 0} → Option A → Result A Refusal

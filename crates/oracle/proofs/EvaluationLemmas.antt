@@ -14,9 +14,9 @@ use Rattle.plan.specs.Queries.{query, source_value}
 use Rattle.plan.specs.Reductions.{has_key, sum_of_counts}
 use Rattle.plan.specs.Rules.{IsPlan}
 use Rattle.plan.specs.Widths.{width_of}
-use Rattle.plan.specs.declared.node.Kind.TheVariants.{Count, Distinct, Min, Max}
+use Rattle.plan.specs.declared.node.Kind.TheVariants.{Count}
 use Rattle.plan.specs.declared.node.Node.{Node}
-use Rattle.plan.specs.declared.node.Node.TheVariants.{Input, Map, Filter, Concat, Negate, Arrange, Join, Reduce, Output}
+use Rattle.plan.specs.declared.node.Node.TheVariants.{Join, Reduce}
 use Rattle.plan.proofs.OperatorLemmas.{given_alike}
 use Rattle.plan.proofs.PlanLemmas.{source_smaller}
 use Rattle.plan.proofs.StandLemmas.{above_itself, above_from_source, above_transitive}

@@ -2,7 +2,7 @@
 //! has passed are visited in order. At each of them we list the view's rows there minus the updates listed at
 //! or before it. So the list sums to the query at each of these times. It also does so at every other passed
 //! time, because neither the query nor the sum changes between two times of the closure.
-ghost use Rattle.std.specs.Prelude.{◌≡◌, ◌++◌, ◌<◌, ◌⊎◌, map, length, IfOk, IfErr, IsTrue, OnOk};
+ghost use Rattle.std.specs.Prelude.{◌≡◌, ◌<◌, ◌⊎◌, map, length, IfOk, IfErr, OnOk};
 ghost use Rattle.plan.specs.Ancestors.{feeds};
 ghost use Rattle.plan.specs.Changes.{AreDifferences, open_for, query_at};
 ghost use Rattle.update.specs.Refusals.{IsMemoryOrOverflow};

@@ -1,7 +1,6 @@
 //! The join of two bags. For each row of the left bag, a binary search finds the rows with its key in the right
 //! bag. So rows with different keys are never paired.
-ghost use Rattle.std.specs.Prelude.{◌≡◌, ◌≤◌, ◌+◌, ◌-◌, ◌++◌, ◌*ℤ◌, map, take, length, nat_le, IfErr, OnOk, IsTrue, FitsSigned};
-ghost use Rattle.std.specs.Int.{w64};
+ghost use Rattle.std.specs.Prelude.{◌≡◌, ◌≤◌, ◌+◌, ◌-◌, ◌++◌, map, take, length, nat_le, IfErr, OnOk, IsTrue};
 ghost use Rattle.std.specs.List.{filter, list_all};
 ghost use Rattle.plan.specs.Operators.{joined_entry, join_output};
 ghost use Rattle.plan.specs.Reductions.{has_key};

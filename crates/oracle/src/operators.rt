@@ -1,5 +1,5 @@
 //! The operators except the reductions. Each writes its entries, which are then added up to a bag.
-ghost use Rattle.std.specs.Prelude.{◌≡◌, ◌≤◌, ◌+◌, ◌-◌, ◌++◌, ◌⊎◌, map, length, nat_le, IfOk, IfErr, IsTrue};
+ghost use Rattle.std.specs.Prelude.{◌≤◌, ◌+◌, ◌-◌, ◌++◌, ◌⊎◌, map, length, nat_le, IfOk, IfErr, IsTrue};
 ghost use Rattle.std.specs.List.{filter, list_all};
 ghost use Rattle.row.specs.Projection.{are_within};
 ghost use Rattle.row.specs.Testing.{passes, is_test_within};

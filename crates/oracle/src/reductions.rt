@@ -1,7 +1,7 @@
 //! The reductions, as passes over the entries of bags. Distinct keeps the rows whose count is above 0. Of
 //! these, min and max keep the first and the last row of each key. Rows with the same key are neighbours, so
 //! comparing an entry with its neighbour is enough. Count adds up the keys instead of the rows.
-ghost use Rattle.std.specs.Prelude.{◌≡◌, ◌≤◌, ◌<◌, ◌++◌, ℕ, map, not, pos, take, int_lt, length, nat_le, slice_index_or, IfOk, IfErr, OnOk, IsTrue};
+ghost use Rattle.std.specs.Prelude.{◌≡◌, ◌≤◌, ◌<◌, ◌++◌, ℕ, map, pos, take, int_lt, length, nat_le, slice_index_or, IfOk, IfErr, OnOk, IsTrue};
 ghost use Rattle.std.specs.List.{filter, list_all};
 ghost use Rattle.update.specs.Bags.{Entry, Alike, IsBag, HasLargeCount};
 ghost use Rattle.plan.specs.Operators.{reduction_output};

@@ -15,22 +15,28 @@ use Rattle.lattice.specs.Bitimes.{bitime_join, bitime_cmp, bitime_below}
 -- ---- commands that change an input; Stands says for which session the engine stands afterwards
 module _ (p : List Node) (s : BitemporalSession) where
   -- the engine's answer to a change
-  abbrev pub TakesChange : Fed (Pair ℕ ℕ) → (BitemporalSession → Type 0) → Result (Unit {0}) Refusal → Type 0
-  TakesChange f Stands r = IsTold (change_refusal bitime_below p s f) (Stands (with_change f s)) (Stands s) r
+  abbrev pub TakesChange : Fed (Pair ℕ ℕ) → (BitemporalSession → Type 0) → Result (Unit {0}) Refusal
+      → Type 0
+  TakesChange f Stands r =
+      IsTold (change_refusal bitime_below p s f) (Stands (with_change f s)) (Stands s) r
 
   -- the engine's answer to a new frontier of an input
-  abbrev pub TakesFrontier : ℕ → List (Pair ℕ ℕ) → (BitemporalSession → Type 0) → Result (Unit {0}) Refusal → Type 0
-  TakesFrontier i ts Stands r = IsTold (frontier_refusal bitime_below p s i ts) (Stands (with_frontier i ts s)) (Stands s) r
+  abbrev pub TakesFrontier : ℕ → List (Pair ℕ ℕ) → (BitemporalSession → Type 0)
+      → Result (Unit {0}) Refusal → Type 0
+  TakesFrontier i ts Stands r =
+      IsTold (frontier_refusal bitime_below p s i ts) (Stands (with_frontier i ts s)) (Stands s) r
 
 -- ---- commands that ask about a view; Ends says which refusals end the run
 module _ (Ends : Refusal → Type 0) (p : List Node) (s : BitemporalSession) where
   -- the engine's answer to a read
   abbrev pub FindsRows : ℕ → Pair ℕ ℕ → Result (List Entry) Refusal → Type 0
-  FindsRows view time r = IsFound Ends (read_refusal bitime_below p s view time) (rows_at bitime_below p s view time) r
+  FindsRows view time r =
+      IsFound Ends (read_refusal bitime_below p s view time) (rows_at bitime_below p s view time) r
 
   -- the engine's answer when asked for a view's changes
   abbrev pub FindsChanges : ℕ → Result (List (Update (Pair ℕ ℕ))) Refusal → Type 0
-  FindsChanges view r = IsFound Ends (changes_refusal bitime_below p s (make_pair 0 0) view) (changes_at bitime_below p s bitime_cmp bitime_join view) r
+  FindsChanges view r =
+      IsFound Ends (changes_refusal bitime_below p s (make_pair 0 0) view) (changes_at bitime_below p s bitime_cmp bitime_join view) r
 
   -- the engine's answer when asked for a view's frontier
   abbrev pub FindsFrontier : ℕ → Result (List (Pair ℕ ℕ)) Refusal → Type 0

@@ -23,7 +23,8 @@ abbrev pub EndsByBound : List Node → BitemporalSession → Refusal → Type 0
 EndsByBound p s refusal = IsMemoryOrOverflow (IsLarge p s) refusal
 
 -- both engines keep the law `ending` by this
-pub ends_by_bound : (p : List Node) (s : BitemporalSession) (refusal : Refusal) → EndsByBound p s refusal → EndsRun refusal
+pub ends_by_bound : (p : List Node) (s : BitemporalSession) (refusal : Refusal)
+    → EndsByBound p s refusal → EndsRun refusal
 ends_by_bound p s refusal (inl memory) = inl memory
 ends_by_bound p s refusal (inr large) = inr (inl large.0)
 

@@ -26,8 +26,11 @@ module _ {T : Type 0} where
     -- there
     abbrev pub listed_along : List T → (T → List Entry) → List T → List (Update T) → List (Update T)
     listed_along frontier wanted [] listed = listed
-    listed_along frontier wanted (t ∷ ts) listed = listed_along frontier wanted ts (if has_passed below frontier t then listed ++ map (at_time t) (missing (wanted t) t listed) else listed)
+    listed_along frontier wanted (t ∷ ts) listed =
+        listed_along frontier wanted ts (if has_passed below frontier t then listed ++ map (at_time t) (missing (wanted t) t listed) else listed)
 
     -- the list that sums to the wanted rows, if these change only at joins of these times
-    abbrev pub changes_along : (T → T → Ordering) → (T → T → T) → List T → (T → List Entry) → List T → List (Update T)
-    changes_along cmp joined frontier wanted times = listed_along frontier wanted (in_order cmp (joins_of joined times)) []
+    abbrev pub changes_along : (T → T → Ordering) → (T → T → T) → List T → (T → List Entry) → List T
+        → List (Update T)
+    changes_along cmp joined frontier wanted times =
+        listed_along frontier wanted (in_order cmp (joins_of joined times)) []

@@ -19,4 +19,5 @@ pub record IsTextBefore (Holds : BitemporalSession → Type 0) (t : ScriptModel)
 -- the text of a script before a question that overflowed; the changes before the question give some node a
 -- large bound
 abbrev pub IsTextBeforeOverflow : ScriptModel → List ℕ → Type 0
-IsTextBeforeOverflow t part = IsTextBefore (IsLarge t.plan) t (opening_session t.plan) t.commands part
+IsTextBeforeOverflow t part =
+    IsTextBefore (IsLarge t.plan) t (opening_session t.plan) t.commands part

@@ -19,14 +19,16 @@ IsTold refusal Accepted Stays (Err r) = ((refusal ≡ Some r) × Stays) ⊎ (r �
 
 -- an answer to a question. Ok: nothing refuses the question, and this is the wanted answer. Err: it is the question's
 -- refusal, or one that ends the run
-abbrev pub IsFound : {X : Type 0} → (Refusal → Type 0) → Option Refusal → X → Result X Refusal → Type 0
+abbrev pub IsFound : {X : Type 0} → (Refusal → Type 0) → Option Refusal → X → Result X Refusal
+    → Type 0
 IsFound Ends refusal wanted (Ok found) = (refusal ≡ None) × (found ≡ wanted)
 IsFound Ends refusal wanted (Err r) = (refusal ≡ Some r) ⊎ Ends r
 
 -- why a run may end early: the output failed, memory was refused, or the engine gave a refusal that ends the
 -- run
 abbrev pub IsEnd : (Refusal → Type 0) → RunFault → Type 0
-IsEnd Ends (fault.Refused code) = (code ≡ 1) ⊎ ((refusal : Refusal) × (code ≡ code_of refusal) × Ends refusal)
+IsEnd Ends (fault.Refused code) = (code ≡ 1)
+    ⊎ ((refusal : Refusal) × (code ≡ code_of refusal) × Ends refusal)
 IsEnd Ends fault.Write = Unit {0}
 
 -- why a run by one worker may end early: the output failed, memory was refused, or a number is too large for

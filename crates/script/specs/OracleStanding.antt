@@ -33,7 +33,8 @@ module _ {T : Type 0} where
 
   -- the change is appended to its input's list
   abbrev pub with_entry : Fed T → Register T → Register T
-  with_entry f r = record r { changes = set r.changes (inputs_before r.plan f.input) (list_of r.plan r.changes f.input ++ f.update ∷ []) }
+  with_entry f r =
+      record r { changes = set r.changes (inputs_before r.plan f.input) (list_of r.plan r.changes f.input ++ f.update ∷ []) }
 
   -- the input has a new frontier
   abbrev pub with_input : ℕ → List T → Register T → Register T
@@ -42,14 +43,16 @@ module _ {T : Type 0} where
 -- the changes and the frontiers of the inputs are those of the session; each view may be read from the least
 -- time on
 pub record Records {T : Type 0} (minimum : T) (r : Register T) (s : Session T) : Type 0 where
-  pub changes : (input : ℕ) → IsTrue (is_input_of r.plan input) → list_of r.plan r.changes input ≡ reverse (fed_to input s.fed)
+  pub changes : (input : ℕ) → IsTrue (is_input_of r.plan input)
+      → list_of r.plan r.changes input ≡ reverse (fed_to input s.fed)
   pub inputs : r.inputs ≡ s.inputs
   pub since : (view : ℕ) → s.since view ≡ minimum ∷ []
 
 module _ {T : Type 0} (below : T → T → Bool) where
   -- the refusal of a change
   abbrev pub entry_refusal : Register T → Fed T → Option Refusal
-  entry_refusal r f = first_refusal (feed_faults below r.plan (front_at f.input r.inputs) (length (list_of r.plan r.changes f.input)) f)
+  entry_refusal r f =
+      first_refusal (feed_faults below r.plan (front_at f.input r.inputs) (length (list_of r.plan r.changes f.input)) f)
 
   -- the refusal of a new frontier
   abbrev pub input_refusal : Register T → ℕ → List T → Option Refusal
@@ -58,4 +61,5 @@ module _ {T : Type 0} (below : T → T → Bool) where
   -- each of these frontiers, listed by input, has the same times beyond it as the input's own frontier
   abbrev pub AreFrontiers : List Node → List (List T) → List (List T) → Type 0
   AreFrontiers p inputs frontiers = (input : ℕ) → IsTrue (is_input_of p input)
-      → (t : T) → is_beyond below (list_of p frontiers input) t ≡ is_beyond below (front_at input inputs) t
+      → (t : T)
+      → is_beyond below (list_of p frontiers input) t ≡ is_beyond below (front_at input inputs) t

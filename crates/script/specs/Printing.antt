@@ -11,11 +11,13 @@ use Rattle.update.specs.declared.refusal.Refusal.{Refusal}
 
 -- refused LINE CODE
 abbrev pub refused_text : ℕ → Refusal → List ℕ
-refused_text line refusal = codes "refused " ++ (decimal line ++ (codes " " ++ (decimal (code_of refusal) ++ 10 ∷ [])))
+refused_text line refusal = codes "refused "
+    ++ (decimal line ++ (codes " " ++ (decimal (code_of refusal) ++ 10 ∷ [])))
 
 -- read VIEW V S N
 abbrev pub read_text : List ℕ → Pair ℕ ℕ → ℕ → List ℕ
-read_text view t rows = codes "read " ++ (view ++ (codes " " ++ (decimal t.first ++ (codes " " ++ (decimal t.second ++ (codes " " ++ (decimal rows ++ 10 ∷ [])))))))
+read_text view t rows = codes "read "
+    ++ (view ++ (codes " " ++ (decimal t.first ++ (codes " " ++ (decimal t.second ++ (codes " " ++ (decimal rows ++ 10 ∷ [])))))))
 
 -- the header, and a line for each row
 abbrev pub rows_text : List ℕ → Pair ℕ ℕ → List Entry → List ℕ
@@ -27,7 +29,8 @@ time_text t = decimal t.first ++ (codes " " ++ decimal t.second)
 
 -- WORD VIEW N
 abbrev pub count_text : List ℕ → List ℕ → ℕ → List ℕ
-count_text word view lines = word ++ (codes " " ++ (view ++ (codes " " ++ (decimal lines ++ 10 ∷ []))))
+count_text word view lines = word
+    ++ (codes " " ++ (view ++ (codes " " ++ (decimal lines ++ 10 ∷ []))))
 
 -- V S DIFF C ..
 abbrev pub update_text : Update (Pair ℕ ℕ) → List ℕ

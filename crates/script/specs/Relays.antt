@@ -69,7 +69,8 @@ module _ {T : Type 0} (below : T → T → Bool) where
 module _ {T : Type 0} (below : T → T → Bool) (minimum : T) where
   -- the board c stands for a history that extends h by later events, none of them by a client
   abbrev pub IsContinuedFrom : List (Event T) → BoardState T → BoardState T → Type 0
-  IsContinuedFrom h b c = (later : List (Event T)) × Stands below minimum c (later ++ h) × IsSameOfClients (state_after below minimum b.dataflow h) (state_after below minimum c.dataflow (later ++ h))
+  IsContinuedFrom h b c = (later : List (Event T)) × Stands below minimum c (later ++ h)
+      × IsSameOfClients (state_after below minimum b.dataflow h) (state_after below minimum c.dataflow (later ++ h))
 
   -- each history for which b stands goes on to one for which c stands, without events of a client
   abbrev pub IsContinuedBy : BoardState T → BoardState T → Type 0

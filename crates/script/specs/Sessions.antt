@@ -32,7 +32,8 @@ module _ {T : Type 0} where
   -- before the first command nothing has been accepted, each input's frontier is the least time, and each view
   -- may be read from there on
   abbrev pub first_session : T → List Node → Session T
-  first_session minimum p = record { fed = []; inputs = first_inputs minimum p; since = λ _. minimum ∷ [] }
+  first_session minimum p =
+      record { fed = []; inputs = first_inputs minimum p; since = λ _. minimum ∷ [] }
 
   -- the session after an accepted change
   abbrev pub with_change : Fed T → Session T → Session T
@@ -45,7 +46,8 @@ module _ {T : Type 0} where
 module _ {T : Type 0} (below : T → T → Bool) (p : List Node) (s : Session T) where
   -- the refusal of a change
   abbrev pub change_refusal : Fed T → Option Refusal
-  change_refusal f = first_refusal (feed_faults below p (front_at f.input s.inputs) (length (fed_to f.input s.fed)) f)
+  change_refusal f =
+      first_refusal (feed_faults below p (front_at f.input s.inputs) (length (fed_to f.input s.fed)) f)
 
   -- the refusal of a new frontier of an input: each of its times must be beyond the old frontier
   abbrev pub frontier_refusal : ℕ → List T → Option Refusal
@@ -57,11 +59,13 @@ module _ {T : Type 0} (below : T → T → Bool) (p : List Node) (s : Session T)
 
   -- the refusal of a read: the view may still change at the time, or readers gave up the time
   abbrev pub read_refusal : ℕ → T → Option Refusal
-  read_refusal v t = first_refusal ((is_beyond below (view_frontier v) t, NotPassed) ∷ (not (is_beyond below (s.since v) t), GivenUp) ∷ [])
+  read_refusal v t =
+      first_refusal ((is_beyond below (view_frontier v) t, NotPassed) ∷ (not (is_beyond below (s.since v) t), GivenUp) ∷ [])
 
   -- the refusal when asked for a view's changes: readers gave up some time
   abbrev pub changes_refusal : T → ℕ → Option Refusal
-  changes_refusal minimum v = first_refusal ((not (is_from_start below minimum (s.since v)), GivenUp) ∷ [])
+  changes_refusal minimum v =
+      first_refusal ((not (is_from_start below minimum (s.since v)), GivenUp) ∷ [])
 
   -- the rows of a view at a time: the query, from scratch, on the accepted changes at or before it
   abbrev pub rows_at : ℕ → T → List Entry
@@ -74,4 +78,5 @@ module _ {T : Type 0} (below : T → T → Bool) (p : List Node) (s : Session T)
   -- the changes of a view at the times that its frontier has passed: the one list of updates that sums, at each
   -- of these times, to the query, from scratch, on the accepted changes
   abbrev pub changes_at : (T → T → Ordering) → (T → T → T) → ℕ → List (Update T)
-  changes_at cmp joined v = changes_along below cmp joined (view_frontier v) (λ t. query_at below p (λ i. fed_to i s.fed) v t) (map (λ f. f.update.time) s.fed)
+  changes_at cmp joined v =
+      changes_along below cmp joined (view_frontier v) (λ t. query_at below p (λ i. fed_to i s.fed) v t) (map (λ f. f.update.time) s.fed)

@@ -23,6 +23,8 @@ module _ {T : Type 0} (below : T → T → Bool) (minimum : T) where
     pub history : List (Event T)
     pub stands : Stands below minimum b history
     pub fed : (state_after below minimum b.dataflow history).fed ≡ s.fed
-    pub inputs : (i : ℕ) → open_at i (state_after below minimum b.dataflow history).open_times ≡ front_at i s.inputs
+    pub inputs : (i : ℕ)
+        → open_at i (state_after below minimum b.dataflow history).open_times ≡ front_at i s.inputs
     pub nodes : length s.inputs ≡ length b.dataflow.nodes
-    pub since : (view : ℕ) → (state_after below minimum b.dataflow history).since view ≡ s.since view
+    pub since : (view : ℕ)
+        → (state_after below minimum b.dataflow history).since view ≡ s.since view

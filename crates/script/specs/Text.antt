@@ -23,7 +23,8 @@ BitemporalSession = Session (Pair ℕ ℕ)
 module _ (p : List Node) (s : BitemporalSession) where
   -- the refusal of a command that changes an input
   abbrev pub input_command_refusal : InputCommand → Option Refusal
-  input_command_refusal (Change input time diff row) = change_refusal bitime_below p s (record { input = input; update = record { time = time; row = row; diff = diff } })
+  input_command_refusal (Change input time diff row) =
+      change_refusal bitime_below p s (record { input = input; update = record { time = time; row = row; diff = diff } })
   input_command_refusal (Advance input times) = frontier_refusal bitime_below p s input times
   input_command_refusal (Close input) = None
 
@@ -40,7 +41,8 @@ module _ (p : List Node) (s : BitemporalSession) where
 
   -- the session after an accepted command that changes an input
   abbrev pub carry_out : InputCommand → BitemporalSession
-  carry_out (Change input time diff row) = with_change (record { input = input; update = record { time = time; row = row; diff = diff } }) s
+  carry_out (Change input time diff row) =
+      with_change (record { input = input; update = record { time = time; row = row; diff = diff } }) s
   carry_out (Advance input times) = with_frontier input times s
   carry_out (Close input) = with_frontier input [] s
 
@@ -57,9 +59,12 @@ module _ (p : List Node) (s : BitemporalSession) where
 module _ (t : ScriptModel) (s : BitemporalSession) where
   -- the answer to an accepted question
   abbrev pub answer : ViewCommand → List ℕ
-  answer (Read view time) = rows_text (name_at t.names view) time (rows_at bitime_below t.plan s view time)
-  answer (Changes view) = changes_text (name_at t.names view) (changes_at bitime_below t.plan s bitime_cmp bitime_join view)
-  answer (Frontier view) = frontier_text (name_at t.names view) (frontier_at bitime_below t.plan s bitime_cmp view)
+  answer (Read view time) =
+      rows_text (name_at t.names view) time (rows_at bitime_below t.plan s view time)
+  answer (Changes view) =
+      changes_text (name_at t.names view) (changes_at bitime_below t.plan s bitime_cmp bitime_join view)
+  answer (Frontier view) =
+      frontier_text (name_at t.names view) (frontier_at bitime_below t.plan s bitime_cmp view)
 
   -- what an accepted command prints
   abbrev pub command_text : Command → List ℕ
@@ -81,13 +86,16 @@ after_lines p s [] = s
 after_lines p s (line ∷ lines) = after_lines p (after_command p s line.command) lines
 
 -- the property holds of the session after some of the lines, counted from the first
-abbrev pub HoldsAlong : (BitemporalSession → Type 0) → List Node → BitemporalSession → List CommandLine → Type 0
-HoldsAlong Holds p s lines = (done : List CommandLine) × (rest : List CommandLine) × (done ++ rest ≡ lines) × Holds (after_lines p s done)
+abbrev pub HoldsAlong : (BitemporalSession → Type 0) → List Node → BitemporalSession
+    → List CommandLine → Type 0
+HoldsAlong Holds p s lines = (done : List CommandLine) × (rest : List CommandLine)
+    × (done ++ rest ≡ lines) × Holds (after_lines p s done)
 
 -- what the lines write
 abbrev pub lines_text : ScriptModel → BitemporalSession → List CommandLine → List ℕ
 lines_text t s [] = []
-lines_text t s (line ∷ lines) = piece t s line.line line.command ++ lines_text t (after_command t.plan s line.command) lines
+lines_text t s (line ∷ lines) = piece t s line.line line.command
+    ++ lines_text t (after_command t.plan s line.command) lines
 
 -- the session before the first line; it begins at the least pair
 abbrev pub opening_session : List Node → BitemporalSession
