@@ -24,8 +24,7 @@ start_line k _ = Err WrongWordCount
 
 -- change INPUT V S DIFF C .., with 1 to 8 columns
 unfoldable pub change_line : ParseState → List (List ℕ) → Result Command Refusal
-change_line k (name ∷ v ∷ s ∷ diff ∷ row) =
-    if nat_lt 0 (length row) && nat_lt (length row) 9 then (do
+change_line k (name ∷ v ∷ s ∷ diff ∷ row) = if nat_lt 0 (length row) && nat_lt (length row) 9 then (do
   name ← input k name
   v ← whole v
   s ← whole s
