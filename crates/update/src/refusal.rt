@@ -12,36 +12,67 @@ use std::fmt;
 /// Why a call was refused. [`Refusal::code`] is its number.
 #[derive(Clone, Copy, Debug, PartialEq, Eq)]
 pub enum Refusal {
+    /// Memory was refused. The same call may succeed later.
     OutOfMemory = 1,
+    /// A row does not have the columns that are asked for: those of its input, or 1 to 8.
     WrongWidth = 2,
+    /// The difference of a change is 0.
     ZeroWeight = 3,
+    /// The difference of a change is above 2147483647 or below -2147483647.
     WeightTooLarge = 4,
+    /// The input's frontier has passed the time of a change.
     TimePassed = 5,
+    /// A frontier would go back: one of the new times is not beyond the old frontier.
     NotForward = 6,
+    /// The input has accepted 1048576 changes.
     InputFull = 7,
+    /// The view's frontier has not passed the time, so its rows there may still change.
     NotPassed = 8,
+    /// The time is not beyond the view's since, so its rows there are no longer kept.
     GivenUp = 9,
+    /// A count, a total or a product does not fit in 64 bits.
     Overflow = 10,
+    /// Another thread has the board.
     Busy = 11,
+    /// The worker failed in an earlier step, and takes no more.
     Failed = 12,
+    /// The plan has 256 nodes already.
     TooManyNodes = 13,
+    /// No node has the name or number, or the node is of another sort.
     UnknownName = 14,
+    /// Another node has the name.
     DuplicateName = 15,
+    /// An item names a column that the source does not have.
     BadColumn = 16,
+    /// The sources of a `concat` have different widths.
     WidthMismatch = 17,
+    /// A source of a join or a reduction is not arranged.
     NotArranged = 18,
+    /// The sources of a join are arranged by keys of different widths.
     KeyMismatch = 19,
+    /// A width is not 1 to 8.
     BadWidth = 20,
+    /// A key has no columns, or more than the source has.
     BadKey = 21,
+    /// An update lies outside the interval of its batch, or a batch does not begin where the one before it ends.
     Stray = 22,
+    /// The number of workers or clients is not allowed.
     BadWorkers = 23,
+    /// A thread could not be started.
     NoThread = 24,
+    /// A command, a kind of node or a comparison is unknown.
     UnknownCommand = 31,
+    /// A line has too few or too many words.
     WrongWordCount = 32,
+    /// A word is no number, or no item.
     BadNumber = 33,
+    /// A line is on the wrong side of `start`, or `start` is missing.
     BadOrder = 34,
+    /// A line has more than 4096 bytes.
     LineTooLong = 35,
+    /// A line is not UTF-8.
     NotUtf8 = 36,
+    /// A new name does not have the form of one: 1 to 32 letters, digits and `_`, a letter first.
     BadName = 37,
 }
 
