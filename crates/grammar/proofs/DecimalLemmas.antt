@@ -42,6 +42,7 @@ lead_decimal n lt h =
 pub whole_again : (n : ℕ) → n < 2 ^ 64 → whole_of (decimal n) ≡ Some n
 whole_again n lt = whole_is (decimal n) n (is_one (decimal n) (digits_decimal own n lt) (decimal_nonempty n lt) (lead_decimal n lt)) (digits_value-decimal own n lt) lt
 
+-- a numeral is the printed text of its value
 pub numeral_text : (w : List ℕ) → is_numeral w ≡ true → digits_value 10 w < 2 ^ 64 → decimal (digits_value 10 w) ≡ w
 numeral_text w e small = let d = numeral_digits w e in decimal-digits_value own w d.all d.some (lead w e) small
 

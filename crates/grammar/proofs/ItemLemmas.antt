@@ -38,6 +38,7 @@ item_of_text word found e = by (eqb (get_or word 0 0) 0x63) (eqb (get_or word 0 
         opened word 0x3d (omega arith) (eqb-true _ _ d) ∙ ap (λ (ds : List ℕ). 0x3d ∷ ds) (signed_text (drop 1 word) m.0 m.1) ∙ ap item_text m.2
     by false false c d h = absurd cc
 
+-- spells one item of a line
 pub item_ok : (word : List ℕ) (found : Item) → item word ≡ Ok found → word ≡ item_text found
 unfolding item
 item_ok word found e = item_of_text word found (or_refused_ok BadNumber (item_of word) found e)
@@ -47,6 +48,7 @@ pub items_ok : (words : List (List ℕ)) (found : List Item) → items words ≡
 unfolding items
 items_ok words found e = each_text item_of item_text item_of_text words found (or_refused_ok BadNumber (each item_of words) found e)
 
+-- spells the comparison of a filter line
 pub comparison_ok : (word : List ℕ) (found : Cmp) → comparison word ≡ Ok found → word ≡ cmp_text found
 unfolding comparison
 comparison_ok word found e =

@@ -159,6 +159,7 @@ words_say n k next (first ∷ words) e = by (opens_comment first) refl e
         let o = opening_ok k first a.0 a.1 in
         subst (λ (w : List ℕ). Says n k (w ∷ words) next) (sym o.0) (keyword_says n k next a.0 words o.1 a.2)
 
+-- the text of an accepted line is the line itself, short enough and UTF-8
 pub text_ok : (line text : List ℕ) → text_of line ≡ Ok text → (ltb 4096 (length line) ≡ false) × (is_utf8 line ≡ true) × (text ≡ line)
 unfolding text_of
 text_ok line text e =

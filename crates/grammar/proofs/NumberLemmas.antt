@@ -48,6 +48,7 @@ whole_parsed word r e h =
     ok_when r _ small _ (parse_digits own 64 word r h d.all) (λ t. (d.some, ltb-true _ _ t)) (λ p. lt-ltb _ _ p.1) in
     one ∙ ap (λ b. cond (b && small) (Some (digits_value 10 word)) None) (sym e)
 
+-- answers whole_number for a word that is not a numeral
 pub not_whole : (word : List ℕ) → is_numeral word ≡ false → whole_of word ≡ None
 not_whole word e = ap (λ b. cond (b && ltb (digits_value 10 word) (2 ^ 64)) (Some (digits_value 10 word)) None) e
 
@@ -77,5 +78,6 @@ parsed_by word r false m e h =
 pub signed_parsed : {E : Type 0} (word : List ℕ) (r : Result ℤ E) → is_signed_numeral word ≡ true → ParsesSigned w64 10 word r → result_ok r ≡ signed_of word
 signed_parsed word r e h = parsed_by word r (has_minus word) refl e h
 
+-- answers signed_number for a word that is not a signed numeral
 pub not_signed : (word : List ℕ) → is_signed_numeral word ≡ false → signed_of word ≡ None
 not_signed word e = ap (λ b. cond (b && is_in_range word) (Some (signed_value word)) None) e

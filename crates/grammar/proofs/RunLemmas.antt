@@ -28,6 +28,7 @@ line_wrong error.Memory n k line all lines total parts h so_far = inl refl
 line_wrong (error.Refused refusal) n k line all lines total parts h so_far =
     inr (refusal, refl, sym so_far ∙ ap (lines_from n k) parts ∙ step n k line lines ∙ ap (λ r. on_line n r (λ k. lines_from (n + 1) k lines)) h)
 
+-- an empty file has no lines
 pub no_line : (bytes : List ℕ) → length bytes ≡ 0 → lines_of bytes ≡ []
 no_line bytes e = ap lines_of (nil_from_length bytes e)
 

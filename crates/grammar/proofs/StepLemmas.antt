@@ -139,6 +139,7 @@ one_of text_of word text first found more e t rest = by (bytes_eq word text) ref
     by true same h = let is : first ≡ found = cc in (bytes_eq-Decides word text).0 same ∙ sym t ∙ ap text_of is
     by false other h = rest h
 
+-- a word that is a keyword is the word that spells it
 pub keyword_ok : (word : List ℕ) (found : Keyword) → keyword_of word ≡ Some found → word ≡ keyword_text found
 keyword_ok word found e =
     one_of keyword_text word (codes "input") keyword.Input found _ e refl (λ e.

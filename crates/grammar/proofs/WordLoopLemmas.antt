@@ -18,10 +18,12 @@ with_front front o = option_map (λ xs. front ++ xs) o
 abbrev pub texts : List (Bor (List ℕ)) → List (List ℕ)
 texts words = map (λ (w : Bor (List ℕ)). w.now) words
 
+-- the value of a word that was accepted
 pub is_read : {A : Type 0} (o : Option A) (x : A) → number o ≡ Ok x → o ≡ Some x
 is_read (Some y) x e = cc
 is_read None x e = absurd cc
 
+-- a word is refused only because it has no value, with `BadNumber`
 pub not_read : {A : Type 0} (o : Option A) (w : Refusal) → number o ≡ Err w → (o ≡ None) × (w ≡ BadNumber)
 not_read (Some y) w e = absurd cc
 not_read None w e = (refl, cc)

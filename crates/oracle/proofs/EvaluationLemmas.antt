@@ -104,12 +104,14 @@ module _ (p : List Node) (plan : IsPlan p) (inputs : ℕ → List Entry) (view :
           let up = above_from_source p plan s (length bags) port s e (above_itself p plan s) in
           are.found s (source_smaller p plan (length bags) port s e) (above_transitive p plan s (length bags) view up above)
 
+  -- the operator's output from the earlier bags is the answer of the query
   pub next_query : (out : List Entry) → Alike out (output_at p (length bags) (inputs (length bags)) (nth_bag bags)) → Alike out (query p inputs (length bags))
   next_query out alike row =
       alike row
       ∙ (given_alike (key_width p (node_at p (length bags))) (node_at p (length bags)) (ports p (length bags) (inputs (length bags)) (nth_bag bags)) (ports p (length bags) (inputs (length bags)) (query p inputs)) (λ port s. ports_alike port) row
       ∙ ap (λ es. count_of es row) (sym (query_by_sources p plan inputs (length bags))))
 
+  -- a number that is too large for the earlier bags is so for the query above the view
   pub next_large : HasLargeAt p (length bags) (inputs (length bags)) (nth_bag bags) → HasLargeAbove p inputs view
   next_large large =
       let a = ports p (length bags) (inputs (length bags)) (nth_bag bags) in
@@ -169,6 +171,7 @@ bag_before [] out m l = absurd (omega (arith, l))
 bag_before (bag ∷ bags) out zero l = refl
 bag_before (bag ∷ bags) out (suc m) l = bag_before bags out m (omega (arith, l))
 
+-- extends the bags by the next one
 pub are_more : (p : List Node) (inputs : ℕ → List Entry) (view : ℕ) (bags : List (List Entry)) (out : List Entry) → AreBags p inputs view bags → IsTrue (all_wide (width_of p (length bags)) out)
     → (IsTrue (reaches p (length bags) view) → Alike out (query p inputs (length bags))) → AreBags p inputs view (bags ++ out ∷ [])
 are_more p inputs view bags out are wide found = record {
@@ -184,6 +187,7 @@ are_more p inputs view bags out are wide found = record {
         (λ k. subst (P m) (sym (bag_before bags out m k)) (before m k))
         (eq-or-lt_of_le (omega (arith, l, long)))
 
+-- begins the loop over the nodes
 pub no_bags : (p : List Node) (inputs : ℕ → List Entry) (view : ℕ) → AreBags p inputs view []
 no_bags p inputs view = record {
   wide = λ m l. absurd (omega (arith, l));

@@ -26,9 +26,11 @@ equal_from_eq eq {cmp} ties exact x y e = exact x y (step (cmp x y) (sym (ties x
 
 -- ---- membership
 
+-- a mapped list has the image of each element
 pub contains_map : {X Y : Type 0} (f : X → Y) (xs : List X) (x : X) → Contains xs x → Contains (map f xs) (f x)
 contains_map f xs x c = (c.0, subst (λ n. c.0 < n) (sym (length-map xs f)) c.1, get_or-map f xs c.0 x (f x) c.1 ∙ ap f c.2)
 
+-- each element of a mapped list is the image of one
 pub contains_map_cases : {X Y : Type 0} (f : X → Y) (xs : List X) (y : Y) → Contains (map f xs) y → (x : X) × Contains xs x × (f x ≡ y)
 contains_map_cases {X} {Y} f [] y c = absurd (omega (arith, c.1))
 contains_map_cases {X} {Y} f (x ∷ xs) y c = step c.0 c.1 c.2 (λ k l e. contains_map_cases f xs y (k, l, e))
@@ -110,9 +112,11 @@ closed_none joined s t c d = absurd (omega (arith, c.1))
 
 -- ---- which times a list covers
 
+-- a list with more times covers the same changes
 pub covers_more : {T : Type 0} (xs ys : List T) (lists : List (List (Update T))) → ((t : T) → Contains xs t → Contains ys t) → Covers xs lists → Covers ys lists
 covers_more xs ys lists to covers n l inside k u within = to (get_or (get_or lists n l) k u).time (covers n l inside k u within)
 
+-- appending the times of updates covers these updates
 pub covers_push : {T : Type 0} (old new : List T) (us : List (Update T)) → new ≡ old ++ map (λ u. u.time) us → All (λ u. Contains new u.time) us
 covers_push old new us e k u within = subst (λ xs. Contains xs (get_or us k u).time) (sym e) (Contains-append_right old (map (λ u. u.time) us) (get_or us k u).time (contains_map (λ u. u.time) us (get_or us k u) (Contains-get_or us k u within)))
 

@@ -121,11 +121,13 @@ put_says e (x ∷ xs) row = by_order (by_row e x) refl (put_says e xs row)
 
 -- ---- all entries
 
+-- the inserted entries are in row order
 pub consolidated_bag-sorted : (entries : List Entry) → IsStrictlySortedBy by_row (consolidated_bag entries)
 unfolding IsStrictlySortedBy
 consolidated_bag-sorted [] = tt
 consolidated_bag-sorted (e ∷ entries) = put_sorted e (consolidated_bag entries) (consolidated_bag-sorted entries)
 
+-- no inserted entry has count 0
 pub consolidated_bag-counts : (entries : List Entry) → AllByRecursion Counts (consolidated_bag entries)
 consolidated_bag-counts [] = tt
 consolidated_bag-counts (e ∷ entries) = put_counts e (consolidated_bag entries) (consolidated_bag-counts entries)

@@ -75,6 +75,7 @@ module _ {T : Type 0} where
     pub wide : IsTrue (are_wide (width_at p b.place) b.updates)
     pub small : IsTrue (are_small b.updates)
 
+  -- takes a due bundle apart
   pub due_parts : (p : Dataflow) (n : ℕ) (b : Bundle T) → is_due p n b ≡ true → IsDue p n b
   due_parts p n b h =
       let x = and_parts (nat_le n b.place.node && nat_lt b.place.node (length p.nodes)) ((is_port (node_of p b.place.node) b.place.port && eqb b.place.worker 0) && (are_wide (width_at p b.place) b.updates && are_small b.updates)) h in

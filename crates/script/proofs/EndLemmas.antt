@@ -100,6 +100,7 @@ told_ends p s command refusal (Err f) answer e = told_end p s command refusal f 
 
 -- ---- the ends of a run without threads
 
+-- a run by one worker ends early only for the reasons in IsRunEnd
 pub bound_end : (p : List Node) (s : BitemporalSession) (lines : List CommandLine) (f : RunFault) → IsEnd (λ refusal. HoldsAlong (λ now. EndsByBound p now refusal) p s lines) f → IsRunEnd (IsLargeAlong p s lines) f
 bound_end p s lines (fault.Refused code) (inl memory) = inl memory
 bound_end p s lines (fault.Refused code) (inr (refusal, is, (done, rest, split, inl memory))) = inl (is ∙ ap code_of memory)

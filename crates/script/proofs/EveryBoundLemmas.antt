@@ -74,6 +74,7 @@ module _ {T : Type 0} {below : T → T → Bool} {joined met : T → T → T} {c
       (λ i k is row. ap (λ us. count_of (as_of below t us) row) (fed_to_each changes (length p) i k))
       n l
 
+  -- each node of the plan has these differences
   pub are_differences : (n : ℕ) → n < length p → AreDifferences below cmp p changes [] n (all_differences n)
   are_differences n l =
       let d = changes_are o b x total p fed plan n l [] in

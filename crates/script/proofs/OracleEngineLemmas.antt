@@ -85,6 +85,7 @@ place_before p i (suc n) l t =
         let own = ap (inputs_before p) same in
         omega (arith, one, own)
 
+-- the index of an input is below the number of inputs
 pub place_within : (p : List Node) (i : ℕ) → IsTrue (is_input_of p i) → inputs_before p i < length (numbers_where is_input p)
 place_within p i h = let parts = and_parts _ _ h in place_before p i (length p) (ltb-true _ _ parts.0) parts.1
 
@@ -134,6 +135,7 @@ module _ {T : Type 0} (r : Register T) (is : IsRegister r) (f : Fed T) (there : 
       get_or-set_other r.changes (inputs_before r.plan f.input) (inputs_before r.plan i) (list_of r.plan r.changes f.input ++ f.update ∷ []) []
       (λ e. apart (places_apart r.plan f.input i (and_parts _ _ there).1 t (sym e)))
 
+  -- the invariant holds after an accepted change
   pub entry_register : IsTrue (eqb (length f.update.row) (width_of r.plan f.input)) → IsRegister (with_entry f r)
   entry_register wide = record {
     linear = is.linear;
@@ -153,6 +155,7 @@ module _ {T : Type 0} (r : Register T) (is : IsRegister r) (f : Fed T) (there : 
       by n l t true e = subst (λ (m : ℕ). IsTrue (wide_at r.plan m (list_of r.plan (with_entry f r).changes m))) (eqb-true f.input n e) own
       by n l t false e = ap (wide_at r.plan n) (other_list n t (eqb-false f.input n e)) ∙ is.wide n l t
 
+  -- after an accepted change, the register stands for the session with the change
   pub entry_records : {minimum : T} (s : Session T) → Records minimum r s → Records minimum (with_entry f r) (with_change f s)
   entry_records s a = record { changes = λ i h. by i h (eqb f.input i) refl; inputs = a.inputs; since = a.since }
     where
@@ -313,6 +316,7 @@ module _ {T : Type 0} (below : T → T → Bool) where
           (λ k. let same : n ≡ i = omega (arith, k, l) in absurd (true≢false (sym there ∙ (ap (λ j. is_input (node_at p j)) (sym same) ∙ none))))
           (cases_lt i n)
 
+  -- past the last node all inputs have their frontiers
   pub some_all : (p : List Node) (inputs : List (List T)) (n : ℕ) (all : List (List T)) → length p ≤ n → AreSome p inputs n all → AreFrontiers below p inputs all
   some_all p inputs n all long so i h t = let parts = and_parts _ _ h in let within : i < length p = ltb-true _ _ parts.0 in so.beyond i (omega (arith, within, long)) parts.1 t
 

@@ -144,18 +144,23 @@ module _ {T : Type 0} (below : T → T → Bool) (o : PartialOrderLaws below) (m
   piece : IsDue p site.node bundle
   piece = waiting_due p site.node site bundle b.stations due waits
 
+  -- the node of the site exists
   pub within : site.node < length p.nodes
   within = piece.within
 
+  -- the node accepts the bundle's rows
   pub takes : IsTrue (takes_rows (node_of p site.node) us)
   takes = fitting p board.dataflow site us piece.port piece.wide
 
+  -- the node meets no number that is too large
   pub fits : Overflows (node_of p site.node) us → ⊥
   fits = no_overflow (node_of p site.node) us piece.small
 
+  -- the node is linear
   pub linear : IsTrue (is_linear (node_of p site.node))
   linear = idle.linear site.node piece.within
 
+  -- the node's output may be given after the take
   pub gives : (h : List (Event T)) → Stands below minimum b h → Stands below minimum (after_take 0 bundle b) (Take 0 bundle ∷ h) → (sent : List (Bundle T)) → IsCut below p emission sent
       → IsGive below p (state_after below minimum p (Take 0 bundle ∷ h)) emission [] sent
   gives h s after sent cut = may_give below o minimum p board.dataflow h s.legal (none_held (state_after below minimum p h).held (λ n k. sym (s.held n k) ∙ idle.held n k)) bundle after.legal.0 linear piece.port sent cut
@@ -202,6 +207,7 @@ module _ {T : Type 0} (below : T → T → Bool) (o : PartialOrderLaws below) (m
         each true e = refl
         each false e = held_put_all sent left there n k ∙ before e
 
+    -- after the take and the give the worker is idle
     pub piece_idle : IsIdle done
     piece_idle = record {
       alone = idle.alone;
@@ -210,9 +216,11 @@ module _ {T : Type 0} (below : T → T → Bool) (o : PartialOrderLaws below) (m
       hand = emptied b.hand site.worker (Some site.node) worker;
     }
 
+    -- after the take and the give all waiting bundles are due
     pub done_due : AreDue p site.node done.stations
     done_due = piece_due p bundle [] b.stations sent at_node staffed there due later_due
 
+    -- after the take and the give one bundle less waits at the node
     pub done_fewer : suc (waits_at site.node done.stations) ≡ waits_at site.node b.stations
     done_fewer = ap suc (no_more_wait p site.node site.worker [] left sent all_long all_wide there later_due) ∙ one_less b.stations bundle at_node staffed worker waits
 
