@@ -11,7 +11,7 @@ use Rattle.antichain.proofs.Lists.{all_at}
 use Rattle.update.specs.Bags.{Alike, count_of}
 use Rattle.update.specs.Updates.{as_of}
 use Rattle.update.specs.declared.change.Update.{Update}
-use Rattle.update.proofs.ConsolidatedLemmas.{summed_size, summed_size_is}
+use Rattle.update.proofs.ConsolidatedLemmas.{summed_size, summed_size_is, summed_size-append}
 use Rattle.plan.specs.Changes.{has_passed}
 use Rattle.plan.specs.Nodes.{key_width, is_linear}
 use Rattle.plan.specs.Bounds.{output_bound}
@@ -33,10 +33,9 @@ use Rattle.machine.specs.Histories.Dataflows.{Dataflow, IsDataflow, node_of}
 use Rattle.machine.specs.Histories.States.{State, place, same_place, times, emitted_by, held_at}
 use Rattle.machine.specs.Histories.NodeLaws.{received_at, NodeLaw}
 use Rattle.machine.specs.Histories.{held_entries, give_state, next_state, IsTake, IsGive, state_after, IsLegal}
-use Rattle.machine.proofs.HistoryLemmas.KeptLemmas.{held_marked, is_stamped, kept_world}
+use Rattle.machine.proofs.HistoryLemmas.KeptLemmas.{held_marked, is_stamped, kept_state}
 use Rattle.script.specs.Relays.{IsCut}
-use Rattle.machine.proofs.HistoryLemmas.LoadRuleLemmas.{to_size, from_size, loaded_world}
-use Rattle.machine.proofs.HistoryLemmas.SizeLemmas.{size-append}
+use Rattle.machine.proofs.HistoryLemmas.LoadRuleLemmas.{to_size, from_size, loaded_state}
 
 module _ {T : Type 0} (below : T → T → Bool) (o : PartialOrderLaws below) where
   module _ (minimum : T) (p : Dataflow) (q : IsDataflow p) (h : List (Event T)) (legal : IsLegal below minimum p h) (quiet : (state_after below minimum p h).held ≡ [])
@@ -79,7 +78,7 @@ module _ {T : Type 0} (below : T → T → Bool) (o : PartialOrderLaws below) wh
     beyond_stamp : IsTrue (list_all (λ u. is_beyond below bundle.stamp u.time) us)
     beyond_stamp =
         sym (list_all-map (λ t. is_beyond below bundle.stamp t) (λ (u : Update T). u.time) us)
-        ∙ all_at (is_stamped below) w.in_flight bundle (kept_world below o p minimum h legal).stamped (queued site w.in_flight 0 bundle take.waits).0
+        ∙ all_at (is_stamped below) w.in_flight bundle (kept_state below o p minimum h legal).stamped (queued site w.in_flight 0 bundle take.waits).0
 
     out_onward : IsTrue (all_beyond below (held_at site.node site.worker v.held) (times out))
     out_onward =
@@ -110,15 +109,15 @@ module _ {T : Type 0} (below : T → T → Bool) (o : PartialOrderLaws below) wh
     law : (sent : List (Bundle T)) → NodeLaw below p (give_state below p v emission [] sent) site.node site.worker
     law sent t passed row =
         let old : Alike (as_of below t (emitted_by site.node site.worker w.emitted)) (Rattle.plan.specs.Operators.operator_output (key_width p.nodes node) node (λ i. as_of below t (before i))) =
-        (kept_world below o p minimum h legal).law site.node site.worker t (ap (λ ms. has_passed below (held_at site.node site.worker ms) t) quiet) in
+        (kept_state below o p minimum h legal).law site.node site.worker t (ap (λ ms. has_passed below (held_at site.node site.worker ms) t) quiet) in
         ap (λ es. count_of (as_of below t es) row) emitted_is
         ∙ (applied_goes_on below t (key_width p.nodes node) node linear site.port port before (emitted_by site.node site.worker w.emitted) us old row
         ∙ ap (λ (f : ℕ → List (Update T)). count_of (Rattle.plan.specs.Operators.operator_output (key_width p.nodes node) node (λ i. as_of below t (f i))) row) (sym (fun_ext received_is)))
 
     within : (sent : List (Bundle T)) → summed_size (emitted_by site.node site.worker (emission ∷ w.emitted)) ≤ output_bound node 0 (λ i. summed_size (received_at (give_state below p v emission [] sent) site.node site.worker i))
     within sent =
-        let old = to_size below p w site.node site.worker (((loaded_world below o p q minimum h legal).rule site.node site.worker).within (linear_not_reduction node linear)) in
-        let e = ap summed_size emitted_is ∙ size-append out (emitted_by site.node site.worker w.emitted) in
+        let old = to_size below p w site.node site.worker (((loaded_state below o p q minimum h legal).rule site.node site.worker).within (linear_not_reduction node linear)) in
+        let e = ap summed_size emitted_is ∙ summed_size-append out (emitted_by site.node site.worker w.emitted) in
         let small = size_applied node us in
         let a = summed_size_is out in
         let b = summed_size_is us in
@@ -126,7 +125,7 @@ module _ {T : Type 0} (below : T → T → Bool) (o : PartialOrderLaws below) wh
         omega (arith, old, e, small, a, b, more)
       where
         grown : (i : ℕ) (b : Bool) → summed_size (cond b (us ++ before i) (before i)) ≡ cond b (summed_size us + summed_size (before i)) (summed_size (before i))
-        grown i true = size-append us (before i)
+        grown i true = summed_size-append us (before i)
         grown i false = refl
 
     -- shows that the give keeps the rules of a history

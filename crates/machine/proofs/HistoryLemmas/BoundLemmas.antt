@@ -41,9 +41,9 @@ use Rattle.machine.proofs.HistoryLemmas.WorkerLemmas.{sum_at-filter}
 use Rattle.plan.proofs.CountLemmas.{count_of-filter}
 use Rattle.machine.specs.declared.histories.event.Fed.{Fed}
 use Rattle.machine.specs.declared.histories.event.Emission.{Emission}
-use Rattle.machine.proofs.HistoryLemmas.KeptLemmas.{IsKept, AreInputs, coming, kept_world}
+use Rattle.machine.proofs.HistoryLemmas.KeptLemmas.{IsKept, AreInputs, coming, kept_state}
 use Rattle.machine.proofs.HistoryLemmas.SizeLemmas.{absolute, size_is, all, all-le, all-sum, all-product, all-emitted, all-routed, all-shared, all-fed}
-use Rattle.machine.proofs.HistoryLemmas.LoadRuleLemmas.{IsLoaded, loaded_world, to_size}
+use Rattle.machine.proofs.HistoryLemmas.LoadRuleLemmas.{IsLoaded, loaded_state, to_size}
 use Rattle.machine.proofs.HistoryLemmas.FewestLemmas.{fewest, fewest_below, AgreeBelow}
 use Rattle.machine.proofs.HistoryLemmas.PassedLemmas.{AllPassed, AllWere, each_passed, each_was, passed_down}
 use Rattle.machine.proofs.HistoryLemmas.HeadlineLemmas.{part_lem, due_lem}
@@ -271,8 +271,8 @@ module _ {T : Type 0} (leq : T → T → Bool) (minimum : T) (o : PartialOrderLa
   -- what a node gave is within its bound, so a number is too large only if a bound is
   pub bound_lem : KeepsBound leq p w n cmp
   bound_lem limit is =
-      let kept = kept_world leq o p minimum h l-h in
-      let loaded = loaded_world leq o p q minimum h l-h in
+      let kept = kept_state leq o p minimum h l-h in
+      let loaded = loaded_state leq o p q minimum h l-h in
       let x = bound leq o p q w kept loaded cmp is.0 is.1 (reduced_at kept loaded is.0 is.1) n in
       let e = summed_size_is (emitted_at n w.emitted) in
       let f = is.2 in
@@ -281,8 +281,8 @@ module _ {T : Type 0} (leq : T → T → Bool) (minimum : T) (o : PartialOrderLa
   -- what a reduction is about to give is within its bound
   pub owed_lem : OwesWithinBound leq p w n cmp
   owed_lem source kind e test k us a limit is =
-      let kept = kept_world leq o p minimum h l-h in
-      let loaded = loaded_world leq o p q minimum h l-h in
+      let kept = kept_state leq o p minimum h l-h in
+      let loaded = loaded_state leq o p q minimum h l-h in
       let lin = ap is_linear e in
       let x = partly leq o p q w kept loaded cmp is.0 is.1 n kind source e k (λ t f r. due_lem leq minimum o p q h l-h n lin k t f r) test us a in
       let y = bound_by_sources p.nodes q.plan is.0 (λ i. size (changes_in w i)) n in
@@ -294,8 +294,8 @@ module _ {T : Type 0} (leq : T → T → Bool) (minimum : T) (o : PartialOrderLa
   -- what a worker received is within the bound of the source
   pub takes_lem : TakesWithinBound leq p w n cmp
   takes_lem port source e k l limit is =
-      let kept = kept_world leq o p minimum h l-h in
-      let loaded = loaded_world leq o p q minimum h l-h in
+      let kept = kept_state leq o p minimum h l-h in
+      let loaded = loaded_state leq o p q minimum h l-h in
       let x = from_source leq o p q w kept loaded cmp is.0 is.1 (reduced_at kept loaded is.0 is.1) n port source k l e in
       let v = summed_size_is (received_at w n k port) in
       let f = is.2 in
@@ -304,8 +304,8 @@ module _ {T : Type 0} (leq : T → T → Bool) (minimum : T) (o : PartialOrderLa
   -- what a node that is no reduction may give is within its bound
   pub loads_lem : LoadsWithinBound leq p w n cmp
   loads_lem e k l limit is =
-      let kept = kept_world leq o p minimum h l-h in
-      let loaded = loaded_world leq o p q minimum h l-h in
+      let kept = kept_state leq o p minimum h l-h in
+      let loaded = loaded_state leq o p q minimum h l-h in
       let x = loads leq o p q w kept loaded cmp is.0 is.1 (reduced_at kept loaded is.0 is.1) n k l e in
       let c = output_bound-le (node_of p n) 0 (λ port. size (received_at w n k port)) (λ port. summed_size (received_at w n k port)) (λ port m. let v = summed_size_is (received_at w n k port) in omega (arith, v)) in
       let f = is.2 in

@@ -24,7 +24,7 @@ use Rattle.machine.specs.Histories.Promises.{changes_in, MeetsQuery, MeetsDiffer
 use Rattle.machine.proofs.HistoryLemmas.ClaimLemmas.{claim, part_claim, due_claim}
 use Rattle.machine.proofs.HistoryLemmas.ClearLemmas.{IsClear, IsArrived, arrived_passed, clear_passed, lurks_lem}
 use Rattle.machine.proofs.HistoryLemmas.FlowLemmas.{passed-least, is_passed, not_beyond}
-use Rattle.machine.proofs.HistoryLemmas.KeptLemmas.{is_stamped, kept_world}
+use Rattle.machine.proofs.HistoryLemmas.KeptLemmas.{is_stamped, kept_state}
 use Rattle.machine.proofs.HistoryLemmas.OnwardLemmas.{frontier_onward, input_onward, port_onward}
 use Rattle.machine.proofs.HistoryLemmas.PassedLemmas.{passed_down}
 
@@ -35,12 +35,12 @@ module _ {T : Type 0} (leq : T → T → Bool) (minimum : T) (o : PartialOrderLa
 
     -- each update in flight is beyond its bundle's stamp
     stamped : list_all (is_stamped leq) w.in_flight ≡ true
-    stamped = (kept_world leq o p minimum h l).stamped
+    stamped = (kept_state leq o p minimum h l).stamped
 
     -- the headline: a view is right at each time that its frontier has passed; all promises to readers follow from it
     pub headline_lem : MeetsQuery leq p w n
     headline_lem t e r =
-        (claim leq p q w (kept_world leq o p minimum h l) t n (λ m a. clear_passed leq o t (upstream p n) (upstream p n) w stamped (passed-least leq o (outstanding p w n) t (not_beyond _ e)) m a a)).all r
+        (claim leq p q w (kept_state leq o p minimum h l) t n (λ m a. clear_passed leq o t (upstream p n) (upstream p n) w stamped (passed-least leq o (outstanding p w n) t (not_beyond _ e)) m a a)).all r
 
     -- consolidated, what a node gave at passed times is the one list of differences
     pub differences_lem : (cmp : T → T → Ordering) → MeetsDifferences leq p w n cmp
@@ -62,13 +62,13 @@ module _ {T : Type 0} (leq : T → T → Bool) (minimum : T) (o : PartialOrderLa
     -- at a join or reduction, each worker gave exactly its part of the query
     pub part_lem : (k : ℕ) → MeetsPart leq p w n k
     part_lem k e t f g r =
-        part_claim leq p q w (kept_world leq o p minimum h l) t n (arrived t (not_beyond _ f)) (others t (not_beyond _ f)) e k (not_beyond _ g) r
+        part_claim leq p q w (kept_state leq o p minimum h l) t n (arrived t (not_beyond _ f)) (others t (not_beyond _ f)) e k (not_beyond _ g) r
         ∙ sym (count_of-filter (λ x. eqb (route p (take (key_width p.nodes (node_of p n)) x)) k) (query_at leq p.nodes (changes_in w) n t) r)
 
     -- what a worker owes at a join or reduction, in terms of the query; bounds start from it
     pub due_lem : is_linear (node_of p n) ≡ false → (k : ℕ) (t : T) → is_beyond leq (input_frontier leq p w n) t ≡ false → (r : List ℤ)
         → count_of (node_output p n (λ port. as_of leq t (received_at w n k port))) r ≡ cond (eqb (route p (take (key_width p.nodes (node_of p n)) r)) k) (count_of (query_at leq p.nodes (changes_in w) n t) r) (pos 0)
-    due_lem e k t f r = due_claim leq p q w (kept_world leq o p minimum h l) t n (arrived t f) (others t f) e k r
+    due_lem e k t f r = due_claim leq p q w (kept_state leq o p minimum h l) t n (arrived t f) (others t f) e k r
 
   module _ (h later : List (Event T)) where
     -- a time that a node's frontier has passed stays passed
@@ -90,7 +90,7 @@ module _ {T : Type 0} (leq : T → T → Bool) (minimum : T) (o : PartialOrderLa
     -- if an input frontier has passed a time, then in every later state nothing that could reach the node is
     -- outstanding at or before it
     pub lurks_later : IsLegal leq minimum p (later ++ h) → (n : ℕ) (t : T) → IsTrue (has_passed leq (input_frontier leq p (state_after leq minimum p h) n) t) → IsClearAt leq p (state_after leq minimum p (later ++ h)) n (strictly_upstream p n) t
-    lurks_later l n t k = lurks_lem leq o p (state_after leq minimum p (later ++ h)) n (strictly_upstream p n) t (kept_world leq o p minimum (later ++ h) l).stamped (not_beyond _ (inputs_lem l n t k))
+    lurks_later l n t k = lurks_lem leq o p (state_after leq minimum p (later ++ h)) n (strictly_upstream p n) t (kept_state leq o p minimum (later ++ h) l).stamped (not_beyond _ (inputs_lem l n t k))
 
     -- a time that a port's frontier has passed stays passed
     pub ports_lem : IsLegal leq minimum p (later ++ h) → (n port : ℕ) → NeverGoesBack leq (port_frontier leq p (state_after leq minimum p h) n port) (port_frontier leq p (state_after leq minimum p (later ++ h)) n port)

@@ -232,6 +232,6 @@ module _ {T : Type 0} (leq : T → T → Bool) (o : PartialOrderLaws leq) (p : D
   kept_first minimum = record { conserved = λ site v. refl; law = λ n k t h r. sym (given_nothing (key_width p.nodes (node_of p n)) (node_of p n) r); workers = tt; inputs = tt; stamped = refl }
 
   -- the invariant holds in every legal history; all promises start from it
-  pub kept_world : (minimum : T) (h : List (Event T)) → IsLegal leq minimum p h → IsKept leq p (state_after leq minimum p h)
-  kept_world minimum [] l = kept_first minimum
-  kept_world minimum (e ∷ h) l = kept_after (state_after leq minimum p h) e l.0 (kept_world minimum h l.1)
+  pub kept_state : (minimum : T) (h : List (Event T)) → IsLegal leq minimum p h → IsKept leq p (state_after leq minimum p h)
+  kept_state minimum [] l = kept_first minimum
+  kept_state minimum (e ∷ h) l = kept_after (state_after leq minimum p h) e l.0 (kept_state minimum h l.1)

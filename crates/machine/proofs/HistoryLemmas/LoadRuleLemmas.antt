@@ -157,6 +157,6 @@ module _ {T : Type 0} (leq : T → T → Bool) (o : PartialOrderLaws leq) (p : D
   loaded_after w (Give g held sent) a l = record { rule = given_still w g held sent a l; observed = λ n k t h. input_onward leq o t p q n w (Give g held sent) a (l.observed n k t h) }
 
   -- the load rule holds in every legal history
-  pub loaded_world : (minimum : T) (h : List (Event T)) → IsLegal leq minimum p h → IsLoaded (state_after leq minimum p h)
-  loaded_world minimum [] l = loaded_first minimum
-  loaded_world minimum (e ∷ h) l = loaded_after (state_after leq minimum p h) e l.0 (loaded_world minimum h l.1)
+  pub loaded_state : (minimum : T) (h : List (Event T)) → IsLegal leq minimum p h → IsLoaded (state_after leq minimum p h)
+  loaded_state minimum [] l = loaded_first minimum
+  loaded_state minimum (e ∷ h) l = loaded_after (state_after leq minimum p h) e l.0 (loaded_state minimum h l.1)

@@ -212,15 +212,15 @@ module _ {T : Type 0} (p : Dataflow) (q : IsDataflow p) where
       hand = λ k n e. cc;
     }
 
-    sited_world : (minimum : T) (h : List (Event T)) → IsLegal leq minimum p h → IsSited (state_after leq minimum p h)
-    sited_world minimum [] l = sited_first minimum
-    sited_world minimum (e ∷ h) l = sited_after (state_after leq minimum p h) e l.0 (sited_world minimum h l.1)
+    sited_state : (minimum : T) (h : List (Event T)) → IsLegal leq minimum p h → IsSited (state_after leq minimum p h)
+    sited_state minimum [] l = sited_first minimum
+    sited_state minimum (e ∷ h) l = sited_after (state_after leq minimum p h) e l.0 (sited_state minimum h l.1)
 
     -- in every legal history, everything that waits is at a place that exists
     pub in_place_lem : (minimum : T) (h : List (Event T)) → IsLegal leq minimum p h → IsInPlace p (state_after leq minimum p h)
     in_place_lem minimum h l =
         let w = state_after leq minimum p h in
-        let s = sited_world minimum h l in
+        let s = sited_state minimum h l in
         record {
           bundles = λ b c. s.bundles b (among_contains b w.in_flight c);
           held = λ m c. s.held m (among_contains m w.held c);

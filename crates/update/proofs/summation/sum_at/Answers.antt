@@ -7,8 +7,8 @@ use Rattle.update.specs.Updates.{as_of, size, HasLargeTotal}
 use Rattle.update.proofs.UnitTimeLemmas.{sum_moved, large_moved, large_count, size_moved}
 use Rattle.update.proofs.summation.sum_at.Goals as goal
 
-moment : UnitTime
-moment = record {}
+the_unit : UnitTime
+the_unit = record {}
 
 pub returns-in_err-entries-clause-refused : goal.returns-in_err-entries-clause-refused
 returns-in_err-entries-clause-refused g c =
@@ -20,8 +20,8 @@ returns-in_err-entries-clause-refused g c =
 
 pub returns-clause-sum : goal.returns-clause-sum
 returns-clause-sum g c =
-    let same = rw c.in_ok-gone.ensures.gone at (c.in_ok-entries.ensures.sums moment) in
-    let sum = sum_moved g.T.PartialOrder.below c.args.t c.args.updates.now moment c.in_ok-entries.entries.items same in
+    let same = rw c.in_ok-gone.ensures.gone at (c.in_ok-entries.ensures.sums the_unit) in
+    let sum = sum_moved g.T.PartialOrder.below c.args.t c.args.updates.now the_unit c.in_ok-entries.entries.items same in
     subst (λ bag. Alike bag (as_of g.T.PartialOrder.below c.args.t c.args.updates.now)) (sym c.from_consolidated.ensures) sum
 
 pub returns-clause-size : goal.returns-clause-size
@@ -32,6 +32,6 @@ returns-clause-size g c =
 
 pub returns-clause-fits : goal.returns-clause-fits
 returns-clause-fits g c large =
-    let total = large_count g.T.PartialOrder.below c.args.t c.args.updates.now moment large in
+    let total = large_count g.T.PartialOrder.below c.args.t c.args.updates.now the_unit large in
     let here = subst (HasLargeTotal (λ _ _. true)) (sym c.in_ok-gone.ensures.gone) total in
     absurd (search rules)

@@ -6,19 +6,19 @@ use Rattle.update.specs.Updates.{entry}
 use Rattle.update.proofs.UnitTimeLemmas.{sum_both, large_both, large_there, both_entries}
 use Rattle.update.proofs.bag.Bag.with.Goals as goal
 
-moment : UnitTime
-moment = record {}
+the_unit : UnitTime
+the_unit = record {}
 
 pub returns-clause-sum : goal.returns-clause-sum
 returns-clause-sum g c =
     let parts = both_entries _ _ c.args.updates.now _ c.in_ok-entries.ensures.copied c.in_ok-push_counts.ensures.more in
-    let sum = sum_both _ c.args.updates.now c.args.self.now parts moment _ (c.in_ok-entries-2.ensures.sums moment) in
+    let sum = sum_both _ c.args.updates.now c.args.self.now parts the_unit _ (c.in_ok-entries-2.ensures.sums the_unit) in
     subst (λ bag. Alike bag (c.args.self.now ++ map entry c.args.updates.now)) (sym c.from_consolidated.ensures) sum
 
 pub returns-clause-fits : goal.returns-clause-fits
 returns-clause-fits g c large =
     let parts = both_entries _ _ c.args.updates.now _ c.in_ok-entries.ensures.copied c.in_ok-push_counts.ensures.more in
-    absurd (c.in_ok-entries-2.ensures.fits (large_there _ c.args.updates.now _ parts moment large))
+    absurd (c.in_ok-entries-2.ensures.fits (large_there _ c.args.updates.now _ parts the_unit large))
 
 pub returns-in_err-entries-2-clause-refused : goal.returns-in_err-entries-2-clause-refused
 returns-in_err-entries-2-clause-refused g c =

@@ -7,8 +7,8 @@ use Rattle.update.specs.Updates.{entry}
 use Rattle.update.proofs.UnitTimeLemmas.{sum_entries, large_entries}
 use Rattle.update.proofs.entries.Entries.into_bag.Goals as goal
 
-moment : UnitTime
-moment = record {}
+the_unit : UnitTime
+the_unit = record {}
 
 pub returns-in_err-entries-clause-refused : goal.returns-in_err-entries-clause-refused
 returns-in_err-entries-clause-refused c =
@@ -19,5 +19,5 @@ returns-in_err-entries-clause-refused c =
 
 pub returns-clause-sum : goal.returns-clause-sum
 returns-clause-sum c =
-    let sum = sum_entries _ moment _ (c.in_ok-entries.ensures.sums moment) in
+    let sum = sum_entries _ the_unit _ (c.in_ok-entries.ensures.sums the_unit) in
     subst (λ bag. Alike bag c.args.self) (sym c.from_consolidated.ensures) (subst (λ (es : List Entry). Alike (map entry c.in_ok-entries.entries.items) es) c.self.view_is sum)
