@@ -10,7 +10,6 @@ ghost use Rattle.antichain.specs.Antichains.{IsFrontier};
 ghost use Rattle.batch.specs.Descriptions.{IsInterval, Follows};
 ghost use Rattle.update.specs.declared.refusal.Refusal.{Refusal};
 
-use antichain::Antichain;
 use lattice::Lattice;
 use std::alloc::Global;
 use std::marker::Model;
@@ -79,8 +78,9 @@ impl<T: Lattice> Description<T> {
         &self,
         alloc: Global,
         next: &Description<T>,
-        since: &Antichain<T>,
+        since: &[T],
     ) -> Result<Description<T>, Refusal>
+        requires { IsFrontier T.below T.cmp since.now }
         ensures made { IfOk result (λ made. made ≡ record {
           worker = self.now.worker;
           node = self.now.node;
@@ -106,12 +106,14 @@ impl<T: Lattice> Description<T> {
             node,
             self.lower(),
             next.upper(),
-            since.elements(),
+            since,
         )
     }
 
-    // Whether the next interval begins where this one ends, and the worker and node are the same.
-    fn is_followed_by(&self, next: &Description<T>) -> bool
+    /// Whether the next interval begins where this one ends, and the worker and node are the same. Takes no memory.
+    ///
+    /// Cost: one comparison for each pair of elements at the same place of the two frontiers.
+    pub fn is_followed_by(&self, next: &Description<T>) -> bool
         ensures { IsTrue result ↔ Follows self.now next.now }
     {
         self.names() == next.names() && are_same(self.upper(), next.lower())

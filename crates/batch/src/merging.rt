@@ -1,6 +1,7 @@
 //! The public side of merging: which two batches can be merged, and what the merged batch is.
 ghost use Rattle.std.specs.Prelude.{◌≡◌, ◌≤◌, ◌+◌, ◌↔◌, ◌⊎◌, ◌++◌, List, ℤ, Bool, Err, IfOk, IfErr, OnOk, IsTrue};
 ghost use Rattle.std.specs.List.{list_all};
+ghost use Rattle.antichain.specs.Antichains.{IsFrontier};
 ghost use Rattle.update.specs.Bags.{Alike};
 ghost use Rattle.update.specs.Updates.{as_of, total_where, HasLargeTotal, size};
 ghost use Rattle.update.specs.declared.refusal.Refusal.{Refusal};
@@ -10,7 +11,6 @@ ghost use Rattle.batch.specs.Intervals.{all_between};
 
 use crate::merge_cursors::merged_list;
 use crate::{Batch, BatchReader};
-use antichain::Antichain;
 use lattice::Lattice;
 use update::Refusal;
 
@@ -30,8 +30,9 @@ use update::Refusal;
 pub fn merge<T: Lattice>(
     a: &Batch<T>,
     b: &Batch<T>,
-    since: &Antichain<T>,
+    since: &[T],
 ) -> Result<Batch<T>, Refusal>
+    requires { IsFrontier T.below T.cmp since.now }
     ensures described { IfOk result (λ both. both.description ≡ record {
       worker = a.now.description.worker;
       node = a.now.description.node;

@@ -65,7 +65,8 @@ fn merged(alloc: Global) -> Result<Batch<Bitime>, Refusal> {
     let second = list(alloc, &[((4, 4), &[6], 1), ((4, 9), &[7], -3)])?;
     let first = sealed(alloc, (0, 0), (4, 4), &first)?;
     let second = sealed(alloc, (4, 4), (8, 8), &second)?;
-    merge(&first, &second, &Antichain::from_elem(alloc, at((2, 0))))
+    let since = Antichain::from_elem(alloc, at((2, 0)));
+    merge(&first, &second, since.elements())
 }
 
 #[test]
@@ -114,6 +115,6 @@ fn batches_with_a_gap_are_not_merged(rt: HostRuntime) -> Result<(), Fail> {
     let first = sealed(rt.alloc(), (0, 0), (4, 4), &[])?;
     let second = sealed(rt.alloc(), (4, 5), (9, 9), &[])?;
     let since = Antichain::from_elem(rt.alloc(), at((0, 0)));
-    assert!(rt; matches!(merge(&first, &second, &since), Err(Refusal::Stray)));
+    assert!(rt; matches!(merge(&first, &second, since.elements()), Err(Refusal::Stray)));
     Ok(())
 }

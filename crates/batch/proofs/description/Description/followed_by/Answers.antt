@@ -8,5 +8,5 @@ new-requires g c =
     let a = c.args.self.now in
     let b = c.args.next.now in
     let follows : Follows a b = search rules in
-    rw (c.lower.ensures.value, c.upper.ensures.value, c.elements.ensures.value)
-    (whole_interval g.met.T.PartialOrder.order a.lower a.upper b.lower b.upper c.args.since.now c.lower.ensures.frontier c.upper.ensures.frontier c.elements.ensures.frontier c.lower.ensures.forward c.upper.ensures.forward follows.2)
+    rw (c.lower.ensures.value, c.upper.ensures.value)
+    (whole_interval g.met.T.PartialOrder.order a.lower a.upper b.lower b.upper c.args.since.now c.lower.ensures.frontier c.upper.ensures.frontier c.requires c.lower.ensures.forward c.upper.ensures.forward follows.2)
