@@ -9,7 +9,7 @@ use Rattle.antichain.specs.Antichains.{IsFrontier}
 use Rattle.antichain.proofs.AntichainLemmas.{not_true, not_from}
 use Rattle.update.specs.declared.change.Update.{Update}
 use Rattle.batch.specs.Descriptions.{IsInterval}
-use Rattle.batch.specs.Intervals.{is_between, all_between}
+use Rattle.batch.specs.Intervals.{is_between, all_between, all_times_beyond}
 
 module _ {T : Type 0} {below : T → T → Bool} (o : PartialOrderLaws below) where
   -- a merged batch covers the interval of both batches
@@ -40,3 +40,8 @@ module _ {T : Type 0} {below : T → T → Bool} (o : PartialOrderLaws below) wh
     all_wider A B A D (beyond_itself o A) (subst (λ E. IsTrue (all_beyond below E D)) (sym e) g) us h,
     all_wider A D C D (subst (λ E. IsTrue (all_beyond below A E)) e f) (beyond_itself o D) vs k,
   )
+
+  -- times beyond the lower frontier of the second of two neighbouring intervals are beyond that of the first
+  pub joined_beyond : (A B C : List T) → IsTrue (all_beyond below A B) → B ≡ C → (vs : List (Update T)) → IsTrue (all_times_beyond below C vs) → IsTrue (all_times_beyond below A vs)
+  joined_beyond A B C f e vs k =
+      all_more (λ (v : Update T). is_beyond below C v.time) (λ v. is_beyond below A v.time) (λ v h. beyond_later o A C v.time (subst (λ E. IsTrue (all_beyond below A E)) e f) h) vs k

@@ -13,6 +13,10 @@ module _ {T : Type 0} (below : T → T → Bool) where
   abbrev pub all_between : List T → List T → List (Update T) → Bool
   all_between lower upper us = list_all (λ u. is_between lower upper u.time) us
 
+  -- each update's time is beyond the frontier
+  abbrev pub all_times_beyond : List T → List (Update T) → Bool
+  all_times_beyond lower us = list_all (λ u. is_beyond below lower u.time) us
+
   -- the upper frontier is beyond the lower one, and each update's time is between them
   abbrev pub is_interval_of : List T → List T → List (Update T) → Bool
   is_interval_of lower upper us = all_beyond below lower upper && all_between lower upper us

@@ -1,6 +1,7 @@
 //! How a batch is built. Updates are pushed as they come, in any order, and sealed once their interval is over. Nothing
 //! is sorted or added up before that, so a push costs next to nothing.
 ghost use Rattle.std.specs.Prelude.{◌≡◌, ◌≤◌, ◌↔◌, ◌⊎◌, ◌∷◌, ◌++◌, [], List, ℤ, Bool, Err, IfOk, IfErr, OnOk, OnErr, IsTrue, ◌&&◌};
+ghost use Rattle.std.specs.List.{list_all};
 ghost use Rattle.lattice.specs.Frontiers.{all_beyond};
 ghost use Rattle.update.specs.Bags.{Alike};
 ghost use Rattle.update.specs.Updates.{as_of, total_where, HasLargeTotal, size};
@@ -45,6 +46,17 @@ impl<T: Lattice> Builder<T> {
         }
     }
 
+    /// A builder with these updates, which may be in any order. Takes no memory.
+    pub fn of(worker: usize, node: usize, updates: Vec<Update<T>>) -> Builder<T>
+        ensures { result ≡ record { worker = worker; node = node; updates = updates.items } }
+    {
+        Builder {
+            worker,
+            node,
+            updates,
+        }
+    }
+
     /// Adds an update with any row, time and difference. [`Refusal::OutOfMemory`] only if memory for one more was
     /// refused; the update is then dropped, and the builder stays as it was.
     pub fn push(&mut self, update: Update<T>) -> Result<(), Refusal>
@@ -60,7 +72,7 @@ impl<T: Lattice> Builder<T> {
 
 impl<T: Minimum> Builder<T> {
     /// Seals what was pushed. The batch has the only list that is sealed (consolidated, in order of row, then time) and
-    /// has the same total of each row at each time. All its times are between the frontiers: beyond `lower` and passed
+    /// has the same total of each row at each time. It has rows and times of the pushed updates only. All its times are between the frontiers: beyond `lower` and passed
     /// by `upper`. No time has been moved, so its since is the least time. On a refusal the updates are dropped.
     ///
     /// - [`Refusal::Stray`] if and only if `upper` is not beyond `lower`, or the time of a pushed update is not between
@@ -85,6 +97,9 @@ impl<T: Minimum> Builder<T> {
             → total_where p batch.updates ≡ total_where p self.updates) }
         ensures sums { IfOk result (λ batch. (t : T)
             → Alike (as_of T.below t batch.updates) (as_of T.below t self.updates)) }
+        ensures among { IfOk result (λ batch. (p : List ℤ → T → Bool)
+            → IsTrue (list_all (λ u. p u.row u.time) self.updates)
+            → IsTrue (list_all (λ u. p u.row u.time) batch.updates)) }
         ensures size { IfOk result (λ batch. size batch.updates ≤ size self.updates) }
         ensures stray { (result ≡ Err Refusal.Stray)
             ↔ (IsTrue (is_interval_of T.below lower.now upper.now self.updates) → ⊥) }

@@ -100,14 +100,7 @@ impl<T: Lattice> Description<T> {
             return Err(Refusal::Stray);
         }
         let (worker, node) = self.names();
-        Description::new(
-            alloc,
-            worker,
-            node,
-            self.lower(),
-            next.upper(),
-            since,
-        )
+        Description::new(alloc, worker, node, self.lower(), next.upper(), since)
     }
 
     /// Whether the next interval begins where this one ends, and the worker and node are the same. Takes no memory.

@@ -1,9 +1,9 @@
 use Rattle.std.proofs.lemmas.Grind.{common_steps}
 use Rattle.std.proofs.Common.{IsTrue, arith}
-use Rattle.lattice.specs.Frontiers.{all_beyond}
+use Rattle.lattice.specs.Frontiers.{is_beyond, all_beyond}
 use Rattle.batch.specs.Descriptions.{Follows}
 use Rattle.batch.specs.Intervals.{is_between}
-use Rattle.batch.proofs.IntervalLemmas.{joined_between}
+use Rattle.batch.proofs.IntervalLemmas.{joined_between, joined_beyond}
 use Rattle.batch.proofs.SumsLemmas.{sums_from_totals}
 use Rattle.batch.proofs.merging.merge.Given.{Over}
 use Rattle.batch.proofs.merging.merge.Goals as goal
@@ -31,6 +31,18 @@ returns-clause-between g c h k =
     let next_forward : IsTrue (all_beyond below b.description.lower b.description.upper) = rw (← c.description-2.ensures) c.in_ok-description.ensures.next_forward in
     let parts = joined_between g.met.T.PartialOrder.order a.description.lower a.description.upper b.description.lower b.description.upper forward next_forward (follows g c).2 a.updates b.updates h k in
     returns-clause-among g c (λ _ t. is_between below a.description.lower b.description.upper t) parts.0 parts.1
+
+pub returns-clause-rows : goal.returns-clause-rows
+returns-clause-rows g c p = returns-clause-among g c (λ row _. p row)
+
+pub returns-clause-beyond : goal.returns-clause-beyond
+returns-clause-beyond g c h k =
+    let a = c.args.a.now in
+    let b = c.args.b.now in
+    let below = g.T.PartialOrder.below in
+    let forward : IsTrue (all_beyond below a.description.lower a.description.upper) = rw (← c.description.ensures) c.in_ok-description.ensures.forward in
+    let later = joined_beyond g.met.T.PartialOrder.order a.description.lower a.description.upper b.description.lower forward (follows g c).2 b.updates k in
+    returns-clause-among g c (λ _ t. is_beyond below a.description.lower t) h later
 
 pub returns-clause-fits : goal.returns-clause-fits
 returns-clause-fits g c = rw (← c.updates.ensures.value, ← c.updates-2.ensures.value) c.in_ok-updates.ensures.fits

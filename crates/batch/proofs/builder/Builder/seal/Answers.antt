@@ -32,6 +32,9 @@ returns-clause-between g c =
 pub returns-clause-totals : goal.returns-clause-totals
 returns-clause-totals g c p = rw (c.of.ensures, ← c.self.view_is) (c.in_ok-sealed.ensures.totals p)
 
+pub returns-clause-among : goal.returns-clause-among
+returns-clause-among g c p = rw (c.of.ensures, ← c.self.view_is) (c.in_ok-sealed.ensures.among p)
+
 pub returns-clause-sums : goal.returns-clause-sums
 returns-clause-sums g c = sums_from_totals _ _ _ (returns-clause-totals g c)
 
