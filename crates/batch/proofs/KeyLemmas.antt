@@ -1,7 +1,7 @@
 -- In a list sorted by row, the rows that begin with a key are neighbours.
-use Rattle.std.proofs.Common.{◌≡◌, ℕ, zero, suc, ◌+◌, ◌-◌, ◌<◌, ◌≤◌, Bool, true, false, cond, List, [], ◌∷◌, length, get_or, take, drop, ℤ, refl, sym, ap, ◌∙◌, arith}
+use Rattle.std.proofs.Common.{◌≡◌, ℕ, zero, suc, ◌+◌, ◌-◌, ◌<◌, ◌≤◌, Bool, true, false, cond, List, [], ◌∷◌, length, get_or, take, drop, ℤ, refl, sym, ap, ◌∙◌, subst, length-take, length-drop, arith}
 use Rattle.std.specs.Prelude.{slice_range}
-use Rattle.std.specs.List.{filter}
+use Rattle.std.specs.List.{All, AllWithin, filter}
 use Rattle.std.specs.List.Sorted.{IsStrictlySortedBy, IsPartitionedBy, IsPartitionPoint}
 use Rattle.std.specs.Cmp.{IsTotalOrder}
 use Rattle.std.specs.Cmp.Lexicographic.{slice_cmp, lists_total, lists_ties}
@@ -11,9 +11,10 @@ use Rattle.std.specs.declared.cmp.Ordering.TheVariants.{Less, Equal, Greater}
 use Rattle.std.proofs.lemmas.Cmp.{int_cmp_total, upto}
 use Rattle.std.proofs.lemmas.Bool.{true≢false}
 use Rattle.std.proofs.lemmas.List.Elements.{All-from_recursion}
+use Rattle.std.proofs.lemmas.List.{get_or-take, get_or-drop}
 use Rattle.std.proofs.lemmas.Map.Keys.{sorted_head, sorted_tail}
 use Rattle.update.specs.declared.change.Update.{Update}
-use Rattle.batch.specs.Batches.{by_row_then_time, begins_with, at_key}
+use Rattle.batch.specs.Batches.{by_row_then_time, begins_with, at_key, AllBefore, AllAfter}
 
 module _ {X : Type 0} where
   -- if a test that passes at an element also passes at all earlier elements, then it splits a sorted list in two
@@ -53,6 +54,29 @@ module _ {X : Type 0} where
       (λ k d g l m. absurd (omega (arith, l)))
       (λ k d g m. high (suc k) d (omega arith) (omega (arith, m))) in
       rest ∙ ap (λ b. cond b (x ∷ filter p xs) (filter p xs)) (sym first)
+
+-- what holds from an index to the end holds of the rest of the list from there on
+all_dropped : {X : Type 0} (P : X → Type 0) (xs : List X) (i : ℕ) → AllWithin P xs i (length xs) → All P (drop i xs)
+all_dropped P xs i a k d h =
+    let long = length-drop i xs in
+    subst P (sym (get_or-drop i xs k d)) (a (i + k) d (omega arith) (omega (arith, h, long)))
+
+-- what holds between two indexes holds of the part of the list between them
+all_between_places : {X : Type 0} (P : X → Type 0) (xs : List X) (i j : ℕ) → AllWithin P xs i j → All P (slice_range xs i j)
+all_between_places P xs i j a k d h =
+    let long = length-take (j - i) (drop i xs) in
+    let within : k < j - i = omega (arith, h, long) in
+    subst P (sym (get_or-take (j - i) (drop i xs) k d within ∙ get_or-drop i xs k d)) (a (i + k) d (omega arith) (omega (arith, within)))
+
+less_from_test : (o : Ordering) → is_lt o ≡ true → o ≡ Less
+less_from_test Less e = refl
+less_from_test Equal e = absurd (true≢false (sym e))
+less_from_test Greater e = absurd (true≢false (sym e))
+
+greater_from_test : (o : Ordering) → is_le o ≡ false → o ≡ Greater
+greater_from_test Less e = absurd (true≢false e)
+greater_from_test Equal e = absurd (true≢false e)
+greater_from_test Greater e = refl
 
 less_not_equal : (o : Ordering) → is_lt o ≡ true → is_eq o ≡ false
 less_not_equal Less e = refl
@@ -152,3 +176,13 @@ module _ {T : Type 0} (cmp : T → T → Ordering) (key : List ℤ) where
       (λ k d m n. at_key_is (get_or us k d) ∙ less_not_equal (at_key key (get_or us k d)) (p.0 k d (omega arith) m))
       (λ k d g m n. at_key_is (get_or us k d) ∙ between_is_equal (at_key key (get_or us k d)) (p.1 k d g n) (q.0 k d (omega arith) (omega (arith, m, l))))
       (λ k d g n. at_key_is (get_or us k d) ∙ above_not_equal (at_key key (get_or us k d)) (q.1 k d (omega (arith, g, l)) n))
+
+  -- the updates in front of a key's range come before the key
+  pub front_before : (us : List (Update T)) (i : ℕ) → IsPartitionPoint (λ u. is_lt (at_key key u) ≡ true) (λ u. is_lt (at_key key u) ≡ false) us i → AllBefore key (take i us)
+  front_before us i p =
+      let front : slice_range us 0 i ≡ take i us = ap (λ n. take n us) (omega arith) in
+      subst (AllBefore key) front (all_between_places (λ u. at_key key u ≡ Less) us 0 i (λ k d g h. less_from_test (at_key key (get_or us k d)) (p.0 k d g h)))
+
+  -- the updates behind a key's range come after the key
+  pub end_after : (us : List (Update T)) (j : ℕ) → IsPartitionPoint (λ u. is_le (at_key key u) ≡ true) (λ u. is_le (at_key key u) ≡ false) us j → AllAfter key (drop j us)
+  end_after us j q = all_dropped (λ u. at_key key u ≡ Greater) us j (λ k d g h. greater_from_test (at_key key (get_or us k d)) (q.1 k d g h))

@@ -1,11 +1,12 @@
 -- Batches: updates in an order that brings the rows of a key together (McSherry et al., Shared Arrangements, VLDB
 -- 2020).
-use Rattle.std.specs.Prelude.{◌≢◌, Bool, List, ℤ, pos, length, take}
-use Rattle.std.specs.List.{AllByRecursion}
+use Rattle.std.specs.Prelude.{◌≡◌, ◌≢◌, Bool, List, ℤ, pos, length, take}
+use Rattle.std.specs.List.{All, AllByRecursion}
 use Rattle.std.specs.List.Sorted.{IsStrictlySortedBy}
 use Rattle.std.specs.Cmp.Lexicographic.{slice_cmp}
 use Rattle.std.specs.Ordering.{int_cmp, ordering_then}
 use Rattle.std.specs.declared.cmp.Ordering.{Ordering}
+use Rattle.std.specs.declared.cmp.Ordering.TheVariants.{Less, Greater}
 use Rattle.update.specs.declared.change.Update.{Update}
 use Rattle.update.specs.Bags.{same_row}
 
@@ -25,3 +26,19 @@ begins_with key u = same_row (take (length key) u.row) key
 -- compares the beginning of the update's row, cut to the length of the key, with the key
 abbrev pub at_key : {T : Type 0} → List ℤ → Update T → Ordering
 at_key key u = slice_cmp int_cmp (take (length key) u.row) key
+
+-- each update comes before the rows of the key
+abbrev pub AllBefore : {T : Type 0} → List ℤ → List (Update T) → Type 0
+AllBefore key us = All (λ u. at_key key u ≡ Less) us
+
+-- no update comes before the rows of the key
+abbrev pub NoneBefore : {T : Type 0} → List ℤ → List (Update T) → Type 0
+NoneBefore key us = All (λ u. at_key key u ≢ Less) us
+
+-- each update comes after the rows of the key
+abbrev pub AllAfter : {T : Type 0} → List ℤ → List (Update T) → Type 0
+AllAfter key us = All (λ u. at_key key u ≡ Greater) us
+
+-- no update comes after the rows of the key
+abbrev pub NoneAfter : {T : Type 0} → List ℤ → List (Update T) → Type 0
+NoneAfter key us = All (λ u. at_key key u ≢ Greater) us

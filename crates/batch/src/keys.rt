@@ -1,11 +1,11 @@
 //! Finding the rows of a key. In a list sorted by row, the rows that begin with the columns of a key are neighbours:
 //! the rows before them begin with less, and the rows after them with more. So two binary searches find both ends.
-ghost use Rattle.std.specs.Prelude.{◌≡◌, ◌≤◌, true, false, length, take, slice_range};
+ghost use Rattle.std.specs.Prelude.{◌≡◌, ◌≤◌, true, false, length, take, drop, slice_range};
 ghost use Rattle.std.specs.List.{filter};
 ghost use Rattle.std.specs.List.Sorted.{IsStrictlySortedBy, IsPartitionPoint};
 ghost use Rattle.std.specs.Cmp.Lexicographic.{slice_cmp};
 ghost use Rattle.std.specs.Ordering.{int_cmp, is_lt, is_le};
-ghost use Rattle.batch.specs.Batches.{by_row_then_time, begins_with, at_key};
+ghost use Rattle.batch.specs.Batches.{by_row_then_time, begins_with, at_key, AllBefore, AllAfter};
 
 use lattice::Lattice;
 use row::Row;
@@ -48,6 +48,8 @@ pub(crate) fn range_of<T: Lattice>(updates: &[Update<T>], key: &[i64]) -> Range<
     ensures within { result.end ≤ length updates.now }
     ensures exact { slice_range updates.now result.start result.end
         ≡ filter (begins_with key.now) updates.now }
+    ensures before { AllBefore key.now (take result.start updates.now) }
+    ensures behind { AllAfter key.now (drop result.end updates.now) }
 {
     first_not_before(updates, key)..first_after(updates, key)
 }

@@ -1,8 +1,8 @@
 //! How a batch is read. Operators are to be written against this trait and not against [`Batch`](crate::Batch), so that
 //! the layout of updates can change without them.
-ghost use Rattle.std.specs.Prelude.{◌≡◌, ◌<◌, ◌≤◌, List, length, slice_get, slice_range, IsSomeAnd};
+ghost use Rattle.std.specs.Prelude.{◌≡◌, ◌<◌, ◌≤◌, List, length, take, drop, slice_get, slice_range, IsSomeAnd};
 ghost use Rattle.std.specs.List.{filter};
-ghost use Rattle.batch.specs.Batches.{IsSealed, begins_with};
+ghost use Rattle.batch.specs.Batches.{IsSealed, begins_with, AllBefore, AllAfter};
 
 use crate::Description;
 use lattice::Lattice;
@@ -45,10 +45,15 @@ pub trait BatchReader {
         requires { i < length (content self.now) }
         ensures { IsSomeAnd (slice_get (content self.now) i) (λ u. result ≡ u.diff) };
 
-    /// The range of exactly those updates whose rows begin with the columns of the key. Takes no memory.
+    /// The range of exactly those updates whose rows begin with the columns of the key. If there are none, the range is
+    /// empty and lies between the rows before the key and those after it. Takes no memory.
+    ///
+    /// Cost: two binary searches over the whole batch.
     fn key_range(&self, key: &[i64]) -> Range<usize>
         ensures ordered { result.start ≤ result.end }
         ensures within { result.end ≤ length (content self.now) }
         ensures exact { slice_range (content self.now) result.start result.end
-            ≡ filter (begins_with key.now) (content self.now) };
+            ≡ filter (begins_with key.now) (content self.now) }
+        ensures before { AllBefore key.now (take result.start (content self.now)) }
+        ensures behind { AllAfter key.now (drop result.end (content self.now)) };
 }
