@@ -1,6 +1,6 @@
 -- The interval of times between two frontiers (Murray et al., Naiad, SOSP 2013).
 use Rattle.std.specs.Prelude.{Bool, not, ◌&&◌, List}
-use Rattle.std.specs.List.{list_all}
+use Rattle.std.specs.List.{filter, list_all}
 use Rattle.lattice.specs.Frontiers.{is_beyond, all_beyond}
 use Rattle.update.specs.declared.change.Update.{Update}
 
@@ -20,3 +20,11 @@ module _ {T : Type 0} (below : T → T → Bool) where
   -- the upper frontier is beyond the lower one, and each update's time is between them
   abbrev pub is_interval_of : List T → List T → List (Update T) → Bool
   is_interval_of lower upper us = all_beyond below lower upper && all_between lower upper us
+
+  -- the updates whose times the frontier has passed, in their order
+  abbrev pub passed_by : List T → List (Update T) → List (Update T)
+  passed_by upper us = filter (λ u. not (is_beyond below upper u.time)) us
+
+  -- the updates whose times are beyond the frontier, in their order
+  abbrev pub open_at : List T → List (Update T) → List (Update T)
+  open_at upper us = filter (λ u. is_beyond below upper u.time) us

@@ -27,6 +27,7 @@ mod keys;
 mod laws;
 mod merge_cursors;
 mod merging;
+mod passed;
 mod reader;
 mod seal;
 
