@@ -7,8 +7,9 @@ ghost use Rattle.update.specs.Bags.{Alike};
 ghost use Rattle.update.specs.Updates.{as_of, total_where, HasLargeTotal, size};
 ghost use Rattle.update.specs.declared.refusal.Refusal.{Refusal};
 ghost use Rattle.batch.specs.Batches.{IsSealed};
-ghost use Rattle.batch.specs.Intervals.{all_between, is_interval_of};
+ghost use Rattle.batch.specs.Intervals.{all_between, is_interval_of, passed_by, open_at};
 
+use crate::passed::{drop_passed, is_interval_of_passed, passed_copies};
 use crate::seal::sealed_list;
 use crate::{Batch, Description};
 use antichain::{Antichain, is_beyond};
@@ -121,6 +122,68 @@ impl<T: Minimum> Builder<T> {
         let sealed = sealed_list(updates)?;
         let description = unmoved(alloc, worker, node, lower, upper)?;
         Ok(Batch::of(description, sealed))
+    }
+
+    /// Seals the updates whose times `upper` has passed, and keeps the others in their order. So a worker seals again
+    /// and again as its frontier moves on. The batch is as after [`Builder::seal`], for the passed updates alone. After
+    /// any refusal the builder is as it was, and the same call may succeed later.
+    ///
+    /// - [`Refusal::Stray`] if and only if `upper` is not beyond `lower`, or the time of a passed update is not beyond
+    ///   `lower`, even if another update cancels it.
+    /// - Otherwise [`Refusal::Overflow`] only if the total of some row at some time over the passed updates is no 64-bit
+    ///   number, and no batch is given in that case.
+    /// - Otherwise [`Refusal::OutOfMemory`] only if memory for copies of the passed updates or for the frontiers was
+    ///   refused.
+    ///
+    /// Cost: n log n comparisons in the number of passed updates, for two sorts of their copies, and a constant number
+    /// of comparisons of each update of the builder with each element of the frontiers.
+    pub fn seal_passed(
+        &mut self,
+        lower: &Antichain<T>,
+        upper: &Antichain<T>,
+    ) -> Result<Batch<T>, Refusal>
+        ensures described { IfOk result (λ batch. batch.description ≡ record {
+          worker = self.old.worker;
+          node = self.old.node;
+          lower = lower.now;
+          upper = upper.now;
+          since = T.least ∷ [];
+        }) }
+        ensures sealed { IfOk result (λ batch. IsSealed T.cmp batch.updates) }
+        ensures between { IfOk result
+            (λ batch. IsTrue (all_between T.below lower.now upper.now batch.updates)) }
+        ensures totals { IfOk result (λ batch. (p : List ℤ → T → Bool)
+            → total_where p batch.updates
+            ≡ total_where p (passed_by T.below upper.now self.old.updates)) }
+        ensures sums { IfOk result (λ batch. (t : T) → Alike (as_of T.below t batch.updates)
+            (as_of T.below t (passed_by T.below upper.now self.old.updates))) }
+        ensures among { IfOk result (λ batch. (p : List ℤ → T → Bool)
+            → IsTrue (list_all (λ u. p u.row u.time)
+            (passed_by T.below upper.now self.old.updates))
+            → IsTrue (list_all (λ u. p u.row u.time) batch.updates)) }
+        ensures size { IfOk result (λ batch.
+            size batch.updates ≤ size (passed_by T.below upper.now self.old.updates)) }
+        ensures rest { OnOk result (self.new
+            ≡ record self.old { updates = open_at T.below upper.now self.old.updates }) }
+        ensures unchanged { OnErr result (self.new ≡ self.old) }
+        ensures fits { OnOk result
+            (HasLargeTotal T.below (passed_by T.below upper.now self.old.updates) → ⊥) }
+        ensures stray { (result ≡ Err Refusal.Stray)
+            ↔ (IsTrue (is_interval_of T.below lower.now upper.now
+            (passed_by T.below upper.now self.old.updates)) → ⊥) }
+        ensures overflow { result ≡ Err Refusal.Overflow
+            → HasLargeTotal T.below (passed_by T.below upper.now self.old.updates) }
+        ensures only { IfErr result (λ refused. (refused ≡ Refusal.OutOfMemory)
+            ⊎ ((refused ≡ Refusal.Stray) ⊎ (refused ≡ Refusal.Overflow))) }
+    {
+        if !is_interval_of_passed(self.updates.as_slice(), lower, upper) {
+            return Err(Refusal::Stray);
+        }
+        let alloc = *self.updates.allocator();
+        let passed = passed_copies(alloc, self.updates.as_slice(), upper.elements())?;
+        let batch = Builder::of(self.worker, self.node, passed).seal(lower, upper)?;
+        drop_passed(&mut self.updates, upper.elements());
+        Ok(batch)
     }
 }
 
