@@ -56,24 +56,26 @@ module _ {X : Type 0} where
       rest ∙ ap (λ b. cond b (x ∷ filter p xs) (filter p xs)) (sym first)
 
 -- what holds from an index to the end holds of the rest of the list from there on
-all_dropped : {X : Type 0} (P : X → Type 0) (xs : List X) (i : ℕ) → AllWithin P xs i (length xs) → All P (drop i xs)
+pub all_dropped : {X : Type 0} (P : X → Type 0) (xs : List X) (i : ℕ) → AllWithin P xs i (length xs) → All P (drop i xs)
 all_dropped P xs i a k d h =
     let long = length-drop i xs in
     subst P (sym (get_or-drop i xs k d)) (a (i + k) d (omega arith) (omega (arith, h, long)))
 
 -- what holds between two indexes holds of the part of the list between them
-all_between_places : {X : Type 0} (P : X → Type 0) (xs : List X) (i j : ℕ) → AllWithin P xs i j → All P (slice_range xs i j)
+pub all_between_places : {X : Type 0} (P : X → Type 0) (xs : List X) (i j : ℕ) → AllWithin P xs i j → All P (slice_range xs i j)
 all_between_places P xs i j a k d h =
     let long = length-take (j - i) (drop i xs) in
     let within : k < j - i = omega (arith, h, long) in
     subst P (sym (get_or-take (j - i) (drop i xs) k d within ∙ get_or-drop i xs k d)) (a (i + k) d (omega arith) (omega (arith, within)))
 
-less_from_test : (o : Ordering) → is_lt o ≡ true → o ≡ Less
+-- a comparison that tests as less has the answer Less
+pub less_from_test : (o : Ordering) → is_lt o ≡ true → o ≡ Less
 less_from_test Less e = refl
 less_from_test Equal e = absurd (true≢false (sym e))
 less_from_test Greater e = absurd (true≢false (sym e))
 
-greater_from_test : (o : Ordering) → is_le o ≡ false → o ≡ Greater
+-- a comparison that tests as neither less nor equal has the answer Greater
+pub greater_from_test : (o : Ordering) → is_le o ≡ false → o ≡ Greater
 greater_from_test Less e = absurd (true≢false e)
 greater_from_test Equal e = absurd (true≢false e)
 greater_from_test Greater e = refl

@@ -1,5 +1,6 @@
 -- Lemmas about keys, seals and merges.
 pub mod KeyLemmas
+pub mod SeekLemmas
 pub mod SealLemmas
 pub mod SumsLemmas
 pub mod MergeLemmas

@@ -5,3 +5,4 @@ pub mod Batches
 pub mod Descriptions
 pub mod Intervals
 pub mod Merging
+pub mod Seeking

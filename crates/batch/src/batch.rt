@@ -3,11 +3,13 @@
 ghost use Rattle.std.specs.Prelude.{◌≡◌};
 ghost use Rattle.batch.specs.Batches.{IsSealed};
 
-use crate::keys::range_of;
+use crate::keys::{compare_key, range_of};
+use crate::seeking::{first_from, first_past};
 use crate::{BatchReader, Description};
 use lattice::Lattice;
 use row::Row;
 use std::alloc::Global;
+use std::cmp::Ordering;
 use std::marker::Model;
 use std::ops::Range;
 use update::Update;
@@ -87,5 +89,17 @@ impl<T: Lattice> BatchReader for Batch<T> {
 
     fn key_range(&self, key: &[i64]) -> Range<usize> {
         range_of(self.updates.as_slice(), key)
+    }
+
+    fn seek(&self, from: usize, key: &[i64]) -> usize {
+        first_from(self.updates.as_slice(), from, key)
+    }
+
+    fn seek_past(&self, from: usize, key: &[i64]) -> usize {
+        first_past(self.updates.as_slice(), from, key)
+    }
+
+    fn compare_key(&self, i: usize, key: &[i64]) -> Ordering {
+        compare_key(&self.updates[i].row, key)
     }
 }

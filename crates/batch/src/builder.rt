@@ -1,5 +1,8 @@
 //! How a batch is built. Updates are pushed as they come, in any order, and sealed once their interval is over. Nothing
 //! is sorted or added up before that, so a push costs next to nothing.
+//!
+//! A builder may be sealed as a whole, which takes it, or again and again, each time as far as the frontier has come.
+//! The second way copies the updates that it seals, so that a refusal leaves the builder as it was.
 ghost use Rattle.std.specs.Prelude.{◌≡◌, ◌≤◌, ◌↔◌, ◌⊎◌, ◌∷◌, ◌++◌, [], List, ℤ, Bool, Err, IfOk, IfErr, OnOk, OnErr, IsTrue, ◌&&◌};
 ghost use Rattle.std.specs.List.{list_all};
 ghost use Rattle.lattice.specs.Frontiers.{all_beyond};
@@ -73,8 +76,9 @@ impl<T: Lattice> Builder<T> {
 
 impl<T: Minimum> Builder<T> {
     /// Seals what was pushed. The batch has the only list that is sealed (consolidated, in order of row, then time) and
-    /// has the same total of each row at each time. It has rows and times of the pushed updates only. All its times are between the frontiers: beyond `lower` and passed
-    /// by `upper`. No time has been moved, so its since is the least time. On a refusal the updates are dropped.
+    /// has the same total of each row at each time. It has rows and times of the pushed updates only. All its times are
+    /// between the frontiers: beyond `lower` and passed by `upper`. No time has been moved, so its since is the least
+    /// time. On a refusal the updates are dropped; [`Builder::seal_passed`] loses none.
     ///
     /// - [`Refusal::Stray`] if and only if `upper` is not beyond `lower`, or the time of a pushed update is not between
     ///   them, even if another update cancels it.

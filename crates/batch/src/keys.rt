@@ -14,7 +14,7 @@ use std::ops::Range;
 use update::Update;
 
 // Compares the beginning of the row, as many columns as the key has, with the key. A shorter row is compared whole.
-fn compare_key(row: &Row, key: &[i64]) -> Ordering
+pub(crate) fn compare_key(row: &Row, key: &[i64]) -> Ordering
     ensures { result ≡ slice_cmp int_cmp (take (length key.now) row.now) key.now }
 {
     let columns = row.columns();

@@ -7,11 +7,13 @@
 //!
 //! The one invariant is the order: by row, then by time, with one update for each row and time, and none with
 //! difference 0. Rows come first, so that the updates of a key are neighbours, whatever the width of the key.
-//! [`BatchReader::key_range`] finds them by two binary searches, and a join will be able to go through two batches side
-//! by side. A list of updates that travels is sorted by time first. A batch is not, since its readers do not ask what
+//! [`BatchReader::key_range`] finds them by two binary searches. [`BatchReader::seek`] and [`BatchReader::seek_past`]
+//! gallop from one key to the next, so that a join can go through two batches side by side and skip what the other does
+//! not have. A list of updates that travels is sorted by time first. A batch is not, since its readers do not ask what
 //! happened at a time, but what happened to a key.
 //!
-//! - A [`Builder`] gathers updates in any order and seals them between two frontiers.
+//! - A [`Builder`] gathers updates in any order. It seals all of them between two frontiers, or those that a frontier
+//!   has passed, and then it keeps the others.
 //! - A [`Batch`] has a [`Description`], which names its worker, its node and the interval that it covers. It is read by
 //!   index through [`BatchReader`], which is all that operators will know of it.
 //! - [`merge`] makes one batch of two neighbouring ones, in one pass.
@@ -30,6 +32,7 @@ mod merging;
 mod passed;
 mod reader;
 mod seal;
+mod seeking;
 
 pub use batch::Batch;
 pub use builder::Builder;

@@ -2,11 +2,12 @@
 //! the layout of updates can change without them.
 ghost use Rattle.std.specs.Prelude.{◌≡◌, ◌<◌, ◌≤◌, List, length, take, drop, slice_get, slice_range, IsSomeAnd};
 ghost use Rattle.std.specs.List.{filter};
-ghost use Rattle.batch.specs.Batches.{IsSealed, begins_with, AllBefore, AllAfter};
+ghost use Rattle.batch.specs.Batches.{IsSealed, begins_with, at_key, AllBefore, NoneBefore, AllAfter, NoneAfter};
 
 use crate::Description;
 use lattice::Lattice;
 use row::Row;
+use std::cmp::Ordering;
 use std::ops::Range;
 
 /// A list of updates that is read by index. It is in order of row, then time, with at most one update for each row and
@@ -56,4 +57,32 @@ pub trait BatchReader {
             ≡ filter (begins_with key.now) (content self.now) }
         ensures before { AllBefore key.now (take result.start (content self.now)) }
         ensures behind { AllAfter key.now (drop result.end (content self.now)) };
+
+    /// The first update from `from` on whose row is not before the key; the length if there is none. Takes no memory.
+    ///
+    /// Cost: a number of comparisons that is logarithmic in the distance from `from` to the result. So a reader that
+    /// seeks sorted keys, each from where the last one was found, pays for the distances and not for the batch.
+    fn seek(&self, from: usize, key: &[i64]) -> usize
+        requires { from ≤ length (content self.now) }
+        ensures ordered { from ≤ result }
+        ensures within { result ≤ length (content self.now) }
+        ensures before { AllBefore key.now (slice_range (content self.now) from result) }
+        ensures rest { NoneBefore key.now (drop result (content self.now)) };
+
+    /// The first update from `from` on whose row comes after all rows of the key; the length if there is none. Takes no
+    /// memory.
+    ///
+    /// Cost: as for `seek`.
+    fn seek_past(&self, from: usize, key: &[i64]) -> usize
+        requires { from ≤ length (content self.now) }
+        ensures ordered { from ≤ result }
+        ensures within { result ≤ length (content self.now) }
+        ensures before { NoneAfter key.now (slice_range (content self.now) from result) }
+        ensures rest { AllAfter key.now (drop result (content self.now)) };
+
+    /// How the row of update `i` compares with the rows of the key: it comes before them, is one of them, or comes after
+    /// them. Takes no memory, and copies no row.
+    fn compare_key(&self, i: usize, key: &[i64]) -> Ordering
+        requires { i < length (content self.now) }
+        ensures { IsSomeAnd (slice_get (content self.now) i) (λ u. result ≡ at_key key.now u) };
 }
