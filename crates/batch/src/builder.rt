@@ -50,14 +50,14 @@ impl<T: Lattice> Builder<T> {
         }
     }
 
-    /// A builder with these updates, which may be in any order. Takes no memory.
-    pub fn of(worker: usize, node: usize, updates: Vec<Update<T>>) -> Builder<T>
-        ensures { result ≡ record { worker = worker; node = node; updates = updates.items } }
+    /// A builder with these updates, as if they had been pushed in this order. Takes no memory.
+    pub fn of(worker: usize, node: usize, pushed: Vec<Update<T>>) -> Builder<T>
+        ensures { result ≡ record { worker = worker; node = node; updates = pushed.items } }
     {
         Builder {
             worker,
             node,
-            updates,
+            updates: pushed,
         }
     }
 
@@ -134,10 +134,10 @@ impl<T: Minimum> Builder<T> {
     ///
     /// - [`Refusal::Stray`] if and only if `upper` is not beyond `lower`, or the time of a passed update is not beyond
     ///   `lower`, even if another update cancels it.
-    /// - Otherwise [`Refusal::Overflow`] only if the total of some row at some time over the passed updates is no 64-bit
-    ///   number, and no batch is given in that case.
+    /// - Otherwise [`Refusal::Overflow`] only if the total of some row at some time over the passed updates is no
+    ///   64-bit number, and no batch is given in that case.
     /// - Otherwise [`Refusal::OutOfMemory`] only if memory for copies of the passed updates or for the frontiers was
-    ///   refused.
+    ///   refused. The copies are made before totals are computed, so this may come in place of an overflow.
     ///
     /// Cost: n log n comparisons in the number of passed updates, for two sorts of their copies, and a constant number
     /// of comparisons of each update of the builder with each element of the frontiers.

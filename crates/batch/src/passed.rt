@@ -1,5 +1,5 @@
 //! The updates of a builder whose times a frontier has passed. A worker seals these as its frontier moves on, and keeps
-//! the others for a later batch. They are copied before they are dropped, so that a seal which is refused loses nothing.
+//! the others for a later batch. They are copied before they are dropped, so that a refused seal loses nothing.
 ghost use Rattle.std.specs.Prelude.{◌≡◌, IfOk, IfErr};
 ghost use Rattle.batch.specs.Intervals.{all_between, is_interval_of, passed_by, open_at};
 ghost use Rattle.update.specs.declared.refusal.Refusal.{Refusal};

@@ -80,8 +80,8 @@ pub trait BatchReader {
         ensures before { NoneAfter key.now (slice_range (content self.now) from result) }
         ensures rest { AllAfter key.now (drop result (content self.now)) };
 
-    /// How the row of update `i` compares with the rows of the key: it comes before them, is one of them, or comes after
-    /// them. Takes no memory, and copies no row.
+    /// How the row of update `i` compares with the rows of the key: it comes before them, is one of them, or comes
+    /// after them. Takes no memory, and copies no row.
     fn compare_key(&self, i: usize, key: &[i64]) -> Ordering
         requires { i < length (content self.now) }
         ensures { IsSomeAnd (slice_get (content self.now) i) (λ u. result ≡ at_key key.now u) };
