@@ -1,4 +1,5 @@
-//! Batches: sealing and merging succeed if there is memory, and the updates are in the right order.
+//! Batches: sealing and merging succeed if there is memory, a refused seal loses nothing, and the updates are in the
+//! right order.
 use crate::sketches::{at, list};
 use antichain::Antichain;
 use batch::{Batch, BatchReader, Builder, merge};
@@ -116,5 +117,63 @@ fn batches_with_a_gap_are_not_merged(rt: HostRuntime) -> Result<(), Fail> {
     let second = sealed(rt.alloc(), (4, 5), (9, 9), &[])?;
     let since = Antichain::from_elem(rt.alloc(), at((0, 0)));
     assert!(rt; matches!(merge(&first, &second, since.elements()), Err(Refusal::Stray)));
+    Ok(())
+}
+
+// A builder with two updates, of which the frontier {(4, 4)} has passed the first.
+fn two_pushed(alloc: Global) -> Result<Builder<Bitime>, Refusal> {
+    let pushed = list(alloc, &[((0, 3), &[7], 1), ((5, 5), &[8], 2)])?;
+    Ok(Builder::of(0, 0, pushed))
+}
+
+// Seals what the frontier has passed, and once more if memory was refused: the first call has lost nothing.
+fn sealed_passed(
+    builder: &mut Builder<Bitime>,
+    lower: &Antichain<Bitime>,
+    upper: &Antichain<Bitime>,
+) -> Result<Batch<Bitime>, Refusal> {
+    match builder.seal_passed(lower, upper) {
+        Err(Refusal::OutOfMemory) => builder.seal_passed(lower, upper),
+        done => done,
+    }
+}
+
+// The second update waits until everything is passed.
+#[test]
+fn sealing_what_is_passed_takes_memory(rt: HostRuntime) -> Result<(), Fail> {
+    let mut builder = match two_pushed(rt.alloc()) {
+        Err(Refusal::OutOfMemory) => two_pushed(rt.alloc())?,
+        done => done?,
+    };
+    let lower = Antichain::from_elem(rt.alloc(), at((0, 0)));
+    let upper = Antichain::from_elem(rt.alloc(), at((4, 4)));
+    let first = sealed_passed(&mut builder, &lower, &upper)?;
+    assert_eq!(rt; first.len(), 1);
+    assert!(rt; first.diff(0) == 1);
+    let rest = sealed_passed(&mut builder, &upper, &Antichain::new(rt.alloc()))?;
+    assert_eq!(rt; rest.len(), 1);
+    assert!(rt; rest.diff(0) == 2);
+    Ok(())
+}
+
+// Of four rows two begin with the key 7, and none begins with the key 8.
+#[test]
+fn readers_go_on_from_where_they_stand(rt: HostRuntime) -> Result<(), Fail> {
+    let pushed = list(
+        rt.alloc(),
+        &[
+            ((0, 0), &[6], 1),
+            ((0, 0), &[7], 1),
+            ((0, 0), &[7, 0], 1),
+            ((0, 0), &[9], 1),
+        ],
+    )?;
+    let batch = sealed(rt.alloc(), (0, 0), (1, 1), &pushed)?;
+    assert_eq!(rt; batch.len(), 4);
+    let start = batch.seek(0, &[7]);
+    let end = batch.seek_past(start, &[7]);
+    assert!(rt; start == 1 && end == 3);
+    assert_eq!(rt; batch.seek(end, &[8]), 3);
+    assert!(rt; batch.compare_key(3, &[8]).is_gt());
     Ok(())
 }
