@@ -22,9 +22,9 @@ module _ {T : Type 0} (below : T → T → Bool) where
   is_interval_of lower upper us = all_beyond below lower upper && all_between lower upper us
 
   -- the updates whose times the frontier has passed, in their order
-  abbrev pub passed_by : List T → List (Update T) → List (Update T)
-  passed_by upper us = filter (λ u. not (is_beyond below upper u.time)) us
+  abbrev pub passed_updates : List T → List (Update T) → List (Update T)
+  passed_updates upper us = filter (λ u. not (is_beyond below upper u.time)) us
 
   -- the updates whose times are beyond the frontier, in their order
-  abbrev pub open_at : List T → List (Update T) → List (Update T)
-  open_at upper us = filter (λ u. is_beyond below upper u.time) us
+  abbrev pub open_updates : List T → List (Update T) → List (Update T)
+  open_updates upper us = filter (λ u. is_beyond below upper u.time) us

@@ -10,7 +10,7 @@ ghost use Rattle.update.specs.Bags.{Alike};
 ghost use Rattle.update.specs.Updates.{as_of, total_where, HasLargeTotal, size};
 ghost use Rattle.update.specs.declared.refusal.Refusal.{Refusal};
 ghost use Rattle.batch.specs.Batches.{IsSealed};
-ghost use Rattle.batch.specs.Intervals.{all_between, is_interval_of, passed_by, open_at};
+ghost use Rattle.batch.specs.Intervals.{all_between, is_interval_of, passed_updates, open_updates};
 
 use crate::passed::{drop_passed, is_interval_of_passed, passed_copies};
 use crate::seal::sealed_list;
@@ -158,25 +158,25 @@ impl<T: Minimum> Builder<T> {
             (λ batch. IsTrue (all_between T.below lower.now upper.now batch.updates)) }
         ensures totals { IfOk result (λ batch. (p : List ℤ → T → Bool)
             → total_where p batch.updates
-            ≡ total_where p (passed_by T.below upper.now self.old.updates)) }
+            ≡ total_where p (passed_updates T.below upper.now self.old.updates)) }
         ensures sums { IfOk result (λ batch. (t : T) → Alike (as_of T.below t batch.updates)
-            (as_of T.below t (passed_by T.below upper.now self.old.updates))) }
+            (as_of T.below t (passed_updates T.below upper.now self.old.updates))) }
         ensures among { IfOk result (λ batch. (p : List ℤ → T → Bool)
             → IsTrue (list_all (λ u. p u.row u.time)
-            (passed_by T.below upper.now self.old.updates))
+            (passed_updates T.below upper.now self.old.updates))
             → IsTrue (list_all (λ u. p u.row u.time) batch.updates)) }
         ensures size { IfOk result (λ batch.
-            size batch.updates ≤ size (passed_by T.below upper.now self.old.updates)) }
+            size batch.updates ≤ size (passed_updates T.below upper.now self.old.updates)) }
         ensures rest { OnOk result (self.new
-            ≡ record self.old { updates = open_at T.below upper.now self.old.updates }) }
+            ≡ record self.old { updates = open_updates T.below upper.now self.old.updates }) }
         ensures unchanged { OnErr result (self.new ≡ self.old) }
         ensures fits { OnOk result
-            (HasLargeTotal T.below (passed_by T.below upper.now self.old.updates) → ⊥) }
+            (HasLargeTotal T.below (passed_updates T.below upper.now self.old.updates) → ⊥) }
         ensures stray { (result ≡ Err Refusal.Stray)
             ↔ (IsTrue (is_interval_of T.below lower.now upper.now
-            (passed_by T.below upper.now self.old.updates)) → ⊥) }
+            (passed_updates T.below upper.now self.old.updates)) → ⊥) }
         ensures overflow { result ≡ Err Refusal.Overflow
-            → HasLargeTotal T.below (passed_by T.below upper.now self.old.updates) }
+            → HasLargeTotal T.below (passed_updates T.below upper.now self.old.updates) }
         ensures only { IfErr result (λ refused. (refused ≡ Refusal.OutOfMemory)
             ⊎ ((refused ≡ Refusal.Stray) ⊎ (refused ≡ Refusal.Overflow))) }
     {

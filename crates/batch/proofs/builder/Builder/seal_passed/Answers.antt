@@ -4,13 +4,13 @@ use Rattle.std.proofs.lemmas.Result.{err_from_is_err_and}
 use Rattle.update.specs.declared.refusal.Refusal.TheVariants.{Overflow}
 use Rattle.update.specs.declared.change.Update.{Update}
 use Rattle.update.specs.Updates.{total_where, HasLargeTotal}
-use Rattle.batch.specs.Intervals.{is_interval_of, passed_by}
+use Rattle.batch.specs.Intervals.{is_interval_of, passed_updates}
 use Rattle.batch.proofs.SumsLemmas.{sums_from_totals}
 use Rattle.batch.proofs.builder.Builder.seal_passed.Given.{Over}
 use Rattle.batch.proofs.builder.Builder.seal_passed.Goals as goal
 
 -- the builder that was sealed had exactly the passed updates
-same : (g : Over) (c : goal.After-drop_passed g) → c.of.result.updates ≡ passed_by g.T.PartialOrder.below c.args.upper.now c.args.self.now.updates
+same : (g : Over) (c : goal.After-drop_passed g) → c.of.result.updates ≡ passed_updates g.T.PartialOrder.below c.args.upper.now c.args.self.now.updates
 same g c =
     let copied = rw (c.elements.ensures.value, c.as_slice-2.ensures.value) at c.in_ok-passed.ensures.copied in
     rw (← c.self.view_is) (ap (λ b. b.updates) c.of.ensures ∙ copied)
@@ -37,7 +37,7 @@ pub returns-clause-fits : goal.returns-clause-fits
 returns-clause-fits g c large =
     let below = g.T.PartialOrder.below in
     let test = λ (us : List (Update g.row.T.Denot)). IsTrue (is_interval_of below c.args.lower.now c.args.upper.now us) in
-    let inside : test (passed_by below c.args.upper.now c.self.inside.updates.items) = search rules in
+    let inside : test (passed_updates below c.args.upper.now c.self.inside.updates.items) = search rules in
     let interval : test c.of.result.updates = subst test (sym (same g c)) (rw (← c.self.view_is) inside) in
     let overflows = c.in_ok-batch.ensures.overflow.1 (interval, subst (HasLargeTotal below) (sym (same g c)) large) in
     cc
