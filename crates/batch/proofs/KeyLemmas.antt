@@ -28,7 +28,7 @@ module _ {X : Type 0} where
       parted c p keeps xs (sorted_tail c x xs s) i j d (omega (arith, le)) (omega (arith, lt)) h
 
   -- if exactly the n elements from i on pass a test, then a filter keeps exactly these
-  run_is_filter : (p : X → Bool) (xs : List X) (i n : ℕ) → ((k : ℕ) (d : X) → k < i → k < length xs → p (get_or xs k d) ≡ false) → ((k : ℕ) (d : X) → i ≤ k → k < i + n → k < length xs → p (get_or xs k d) ≡ true) → ((k : ℕ) (d : X) → i + n ≤ k → k < length xs → p (get_or xs k d) ≡ false) → take n (drop i xs) ≡ filter p xs
+  pub run_is_filter : (p : X → Bool) (xs : List X) (i n : ℕ) → ((k : ℕ) (d : X) → k < i → k < length xs → p (get_or xs k d) ≡ false) → ((k : ℕ) (d : X) → i ≤ k → k < i + n → k < length xs → p (get_or xs k d) ≡ true) → ((k : ℕ) (d : X) → i + n ≤ k → k < length xs → p (get_or xs k d) ≡ false) → take n (drop i xs) ≡ filter p xs
   run_is_filter p [] zero zero low mid high = refl
   run_is_filter p [] zero (suc n) low mid high = refl
   run_is_filter p [] (suc i) zero low mid high = refl

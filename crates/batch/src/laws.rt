@@ -1,10 +1,11 @@
-//! Why a sealed list can stand for all lists with its totals. The function does nothing: it is called, or its clauses
-//! cited, for what it promises in every lattice.
-ghost use Rattle.std.specs.Prelude.{◌≡◌, List, ℤ};
+//! Why a sealed list can stand for all lists with its totals, and what a walk from key to key finds. The functions do
+//! nothing: they are called, or their clauses cited, for what they promise in every lattice.
+ghost use Rattle.std.specs.Prelude.{◌≡◌, ◌≤◌, ℕ, List, ℤ, length, take, drop, slice_range};
+ghost use Rattle.std.specs.List.{filter};
 ghost use Rattle.update.specs.Bags.{Alike};
 ghost use Rattle.update.specs.Updates.{as_of, total_at};
 ghost use Rattle.update.specs.declared.change.Update.{Update};
-ghost use Rattle.batch.specs.Batches.{IsSealed};
+ghost use Rattle.batch.specs.Batches.{IsSealed, begins_with, AllBefore, NoneBefore, AllAfter, NoneAfter};
 
 use lattice::Lattice;
 
@@ -16,4 +17,17 @@ pub fn sealed_lists_are_determined<T: Lattice>()
         → us ≡ vs }
     ensures sums { (us vs : List (Update T)) → IsSealed T.cmp us → IsSealed T.cmp vs
         → ((t : T) → Alike (as_of T.below t us) (as_of T.below t vs)) → us ≡ vs }
+{}
+
+/// What `seek` and then `seek_past` find from a place on are exactly the rows of the key that are there. If all rows in
+/// front of that place come before the key, they are all rows of the key that the list has.
+pub fn seeks_find_the_rows_of_a_key<T: Lattice>()
+    ensures found { (us : List (Update T)) (key : List ℤ) (from start end : ℕ)
+        → from ≤ start → start ≤ end → end ≤ length us
+        → AllBefore key (slice_range us from start) → NoneBefore key (drop start us)
+        → NoneAfter key (slice_range us start end) → AllAfter key (drop end us)
+        → slice_range us start end ≡ filter (begins_with key) (drop from us) }
+    ensures all { (us : List (Update T)) (key : List ℤ) (from : ℕ)
+        → AllBefore key (take from us)
+        → filter (begins_with key) (drop from us) ≡ filter (begins_with key) us }
 {}

@@ -37,6 +37,6 @@ mod seeking;
 pub use batch::Batch;
 pub use builder::Builder;
 pub use description::Description;
-pub use laws::sealed_lists_are_determined;
+pub use laws::{sealed_lists_are_determined, seeks_find_the_rows_of_a_key};
 pub use merging::merge;
 pub use reader::BatchReader;
