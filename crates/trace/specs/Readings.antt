@@ -1,0 +1,66 @@
+-- What was inserted into a trace, and which updates may be read in its place (McSherry et al., Shared Arrangements, VLDB
+-- 2020).
+use Rattle.std.specs.Prelude.{◌≡◌, ◌≢◌, ◌≤◌, Bool, List, [], ◌∷◌, ◌++◌, map, ℤ, IsTrue}
+use Rattle.std.specs.List.{list_all, AllByRecursion, flat_map}
+use Rattle.lattice.specs.Frontiers.{is_beyond}
+use Rattle.lattice.specs.Representatives.{representative_of}
+use Rattle.update.specs.Bags.{Alike}
+use Rattle.update.specs.Updates.{as_of, size}
+use Rattle.update.specs.declared.change.Update.{Update}
+
+-- updates that were inserted into a trace, and the frontier that the trace had reached with them
+pub record Insertion (T : Type 0) : Type 0 where
+  pub upper : List T
+  pub updates : List (Update T)
+
+module _ {T : Type 0} where
+  -- the updates of all insertions
+  abbrev pub all_updates : List (Insertion T) → List (Update T)
+  all_updates h = flat_map (λ i. i.updates) h
+
+  -- the frontier that a trace has reached with some insertions, newest first, if it begins at `start`
+  abbrev pub reached : List T → List (Insertion T) → List T
+  reached start [] = start
+  reached start (i ∷ h) = i.upper
+
+  -- `seen` are the insertions up to the frontier `upto`: of all insertions, newest first, the newest that reached it,
+  -- and all before that one
+  pub record IsUpTo (upto : List T) (h seen : List (Insertion T)) : Type 0 where
+    pub last : Insertion T
+    pub before : List (Insertion T)
+    pub later : List (Insertion T)
+    pub is : seen ≡ last ∷ before
+    pub split : h ≡ later ++ seen
+    pub ends : last.upper ≡ upto
+    pub newest : AllByRecursion (λ i. i.upper ≢ upto) later
+
+  -- the updates of all batches, if `content` gives those of one
+  abbrev pub all_content : {B : Type 0} → (B → List (Update T)) → List B → List (Update T)
+  all_content content bs = flat_map content bs
+
+  -- the rows of us are among those of vs: a test that each row of vs passes is passed by each row of us
+  abbrev pub RowsAmong : List (Update T) → List (Update T) → Type 0
+  RowsAmong us vs =
+      (p : List ℤ → Bool) → IsTrue (list_all (λ u. p u.row) vs) → IsTrue (list_all (λ u. p u.row) us)
+
+module _ {T : Type 0} (below : T → T → Bool) where
+  -- us and vs sum to the same bag at each time beyond the frontier
+  abbrev pub SameBeyond : List T → List (Update T) → List (Update T) → Type 0
+  SameBeyond since us vs =
+      (t : T) → IsTrue (is_beyond below since t) → Alike (as_of below t us) (as_of below t vs)
+
+  -- at times beyond the frontier us may be read in the place of vs: the sums are the same, no row is new, and us is no
+  -- larger
+  pub record IsReadable (since : List T) (us vs : List (Update T)) : Type 0 where
+    pub sums : SameBeyond since us vs
+    pub rows : RowsAmong us vs
+    pub smaller : size us ≤ size vs
+
+module _ {T : Type 0} (joined met : T → T → T) (since : List T) where
+  -- the update with its time moved to the representative as of the frontier
+  abbrev pub at_representative : Update T → Update T
+  at_representative u = record u { time = representative_of joined met since u.time }
+
+  -- the updates, each with its time moved so
+  abbrev pub compacted : List (Update T) → List (Update T)
+  compacted us = map at_representative us

@@ -1,0 +1,8 @@
+//! Traces: what a reader may ask of a history of batches.
+#![tactic(auto)]
+
+mod laws;
+mod trace;
+
+pub use laws::{compaction_keeps_readings, insertions_are_found, readings_compose};
+pub use trace::Trace;
