@@ -1,4 +1,6 @@
--- Lemmas about readings, insertions and compaction.
+-- Lemmas about readings, insertions, compaction and histories.
 pub mod ReadingLemmas
 pub mod InsertionLemmas
 pub mod CompactionLemmas
+pub mod BoundaryLemmas
+pub mod HistoryLemmas

@@ -82,5 +82,11 @@ pub trait Trace {
         ensures rest { IfSome result (λ batches. stored_to self.now from.now
             ++ all_content Self.Batch.content batches.now ≡ content self.now) }
         ensures first { IfSome result (λ batches. (b : Self.Batch) (bs : List Self.Batch)
-            → batches.now ≡ b ∷ bs → (Self.Batch.described b).lower ≡ from.now) };
+            → batches.now ≡ b ∷ bs → (Self.Batch.described b).lower ≡ from.now) }
+        ensures next { IfSome result (λ batches. (b : Self.Batch) (bs : List Self.Batch)
+            → batches.now ≡ b ∷ bs → stored_to self.now (Self.Batch.described b).upper
+            ≡ stored_to self.now from.now ++ Self.Batch.content b) }
+        ensures ends { IfSome result (λ batches. (b : Self.Batch) (bs : List Self.Batch)
+            → batches.now ≡ b ∷ bs
+            → Contains (ends self.now) (Self.Batch.described b).upper) };
 }

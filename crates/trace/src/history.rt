@@ -1,0 +1,230 @@
+//! The plainest trace: a list of batches that only grows at its end. It merges nothing and moves no time, so it stands
+//! for exactly the batches that were inserted. It shows that the promises of [`Trace`] can be kept, and it is what a
+//! trace that merges and compacts has to agree with.
+//!
+//! The invariant: each batch begins at the frontier at which the one before it ends, and a batch whose interval is empty
+//! has no updates. Since frontiers only move forward, batches that end at one boundary differ only by batches without
+//! updates. So a boundary determines what is stored up to it.
+ghost use Rattle.std.specs.Prelude.{◌≡◌, ◌↔◌, ◌⊎◌, ◌≤◌, ◌∷◌, ◌++◌, List, [], Some, None, IfErr, IfOk, IfSome, IsErrAnd, OnErr, OnOk, IsTrue, length, take, drop};
+ghost use Rattle.std.specs.Bool.{OnTrue};
+ghost use Rattle.std.specs.List.{Contains};
+ghost use Rattle.antichain.specs.Antichains.{IsFrontier};
+ghost use Rattle.lattice.specs.Frontiers.{all_beyond};
+ghost use Rattle.update.specs.declared.refusal.Refusal.{Refusal};
+ghost use Rattle.trace.specs.Histories.{HistoryState, Continues, IsEmptyIfStill, IsLink, IsHistory, end_of, ends_of, insertion_of, insertions_of};
+
+use crate::Trace;
+use crate::boundaries::{are_same, end_in, number_in};
+use batch::{Batch, BatchReader};
+use lattice::{Lattice, Minimum};
+use std::alloc::Global;
+use std::marker::Model;
+use update::Refusal;
+
+/// A trace that keeps each batch as it was inserted. A contract sees the worker, the node, the frontier at which the
+/// history begins, and the batches.
+///
+/// Cost: a boundary is found by comparing it with the end of each batch.
+#[derive(Drop)]
+pub struct History<T: Lattice> {
+    worker: usize,
+    node: usize,
+    start: Vec<T>,
+    batches: Vec<Batch<T>>,
+}
+
+impl<T: Lattice> Model for History<T> {
+    ghost use Rattle.trace.specs.Histories.{HistoryState, IsHistory};
+
+    ghost Value = { HistoryState T };
+
+    ghost view = { λ s. record {
+      worker = s.worker;
+      node = s.node;
+      start = s.start.items;
+      batches = s.batches.items;
+    } };
+
+    ghost invariant = { λ s. IsHistory T.below T.cmp (record {
+      worker = s.worker;
+      node = s.node;
+      start = s.start.items;
+      batches = s.batches.items;
+    }) };
+}
+
+/// A batch that was not inserted, and why.
+#[derive(Drop)]
+pub struct Unplaced<T: Lattice> {
+    /// The batch, as it was handed in.
+    pub batch: Batch<T>,
+    /// Why it was not inserted.
+    pub refusal: Refusal,
+}
+
+impl<T: Minimum> History<T> {
+    /// A history with no batch, which begins at the least time. [`Refusal::OutOfMemory`] only if memory for one time
+    /// was refused.
+    pub fn new(alloc: Global, worker: usize, node: usize) -> Result<History<T>, Refusal>
+        ensures made { IfOk result (λ made. made
+            ≡ record { worker = worker; node = node; start = T.least ∷ []; batches = [] }) }
+        ensures stands { IfOk result (λ made. insertions_of made.batches ≡ []) }
+        ensures only { IfErr result (λ refused. refused ≡ Refusal.OutOfMemory) }
+    {
+        let mut start = Vec::new(alloc);
+        start.push(T::minimum())?;
+        Ok(History {
+            worker,
+            node,
+            start,
+            batches: Vec::new(alloc),
+        })
+    }
+}
+
+impl<T: Lattice> History<T> {
+    /// Inserts a batch at the end. The batch comes back if it is refused, and the history stays as it was.
+    ///
+    /// - [`Refusal::Stray`] if and only if the batch does not begin at the frontier that the history has reached, its
+    ///   worker or node is another, or it has updates although it ends where it begins.
+    /// - Otherwise [`Refusal::OutOfMemory`] only if memory for one more batch was refused.
+    ///
+    /// Cost: three comparisons of frontiers; the batch is moved, and no update is copied.
+    pub fn insert(&mut self, batch: Batch<T>) -> Result<(), Unplaced<T>>
+        ensures ok { OnOk result
+            (self.new ≡ record self.old { batches = self.old.batches ++ batch ∷ [] }) }
+        ensures stands { OnOk result (insertions_of self.new.batches
+            ≡ insertion_of batch ∷ insertions_of self.old.batches) }
+        ensures same { OnErr result (self.new ≡ self.old) }
+        ensures returned { IfErr result (λ unplaced. unplaced.batch ≡ batch) }
+        ensures stray { IsErrAnd result (λ unplaced. unplaced.refusal ≡ Refusal.Stray)
+            ↔ (Continues self.old.worker self.old.node (end_of self.old.start self.old.batches)
+            batch → ⊥) }
+        ensures only { IfErr result (λ unplaced. (unplaced.refusal ≡ Refusal.OutOfMemory)
+            ⊎ (unplaced.refusal ≡ Refusal.Stray)) }
+    {
+        if !continues(self.worker, self.node, self.reached(), &batch) {
+            return Err(Unplaced {
+                batch,
+                refusal: Refusal::Stray,
+            });
+        }
+        if let Err(failed) = self.batches.push(batch) {
+            return Err(Unplaced {
+                batch: failed.value,
+                refusal: Refusal::OutOfMemory,
+            });
+        }
+        Ok(())
+    }
+
+    // The frontier at which the last batch ends.
+    fn reached(&self) -> &[T]
+        ensures value { result.now ≡ end_of self.now.start self.now.batches }
+        ensures frontier { IsFrontier T.below T.cmp result.now }
+    {
+        end_in(self.start.as_slice(), self.batches.as_slice())
+    }
+
+    // The number of batches up to a boundary.
+    fn number_to(&self, upto: &[T]) -> Option<usize>
+        ensures known { IsHistory T.below T.cmp self.now }
+        ensures start { upto.now ≡ self.now.start → result ≡ Some 0 }
+        ensures within { IfSome result (λ n. n ≤ length self.now.batches) }
+        ensures place { IfSome result
+            (λ n. end_of self.now.start (take n self.now.batches) ≡ upto.now) }
+        ensures none { result ≡ None → Contains (ends_of self.now) upto.now → ⊥ }
+    {
+        if are_same(upto, self.start.as_slice()) {
+            return Some(0);
+        }
+        number_in(self.batches.as_slice(), upto)
+    }
+
+    // So many batches from the first on.
+    fn first(&self, number: usize) -> &[Batch<T>]
+        requires { number ≤ length self.now.batches }
+        ensures { result.now ≡ take number self.now.batches }
+    {
+        &self.batches[..number]
+    }
+
+    // The batches behind these.
+    fn rest(&self, number: usize) -> &[Batch<T>]
+        requires { number ≤ length self.now.batches }
+        ensures { result.now ≡ drop number self.now.batches }
+    {
+        &self.batches[number..]
+    }
+}
+
+// Whether the batch continues a history of this worker and node that has reached a frontier.
+fn continues<T: Lattice>(worker: usize, node: usize, reached: &[T], batch: &Batch<T>) -> bool
+    ensures value { IsTrue result ↔ Continues worker node reached.now batch.now }
+    ensures link { OnTrue result (IsLink T.below T.cmp worker node reached.now batch.now) }
+{
+    let description = batch.description();
+    description.worker() == worker
+        && description.node() == node
+        && are_same(description.lower(), reached)
+        && is_empty_if_still(batch)
+}
+
+// Whether the batch has no updates, or a time can be in its interval.
+fn is_empty_if_still<T: Lattice>(batch: &Batch<T>) -> bool
+    ensures value { IsTrue result ↔ IsEmptyIfStill batch.now }
+    ensures frontier { IsFrontier T.below T.cmp batch.now.description.upper }
+    ensures forward { IsTrue
+        (all_beyond T.below batch.now.description.lower batch.now.description.upper) }
+{
+    let description = batch.description();
+    !are_same(description.lower(), description.upper()) || batch.len() == 0
+}
+
+impl<T: Lattice> Trace for History<T> {
+    ghost use Rattle.std.specs.Prelude.{◌≡◌};
+    ghost use Rattle.std.specs.Cmp.Lexicographic.{pointwise};
+    ghost use Rattle.trace.specs.Readings.{all_content};
+    ghost use Rattle.trace.specs.Histories.{end_of, ends_of, updates_of, insertions_of, batches_to};
+
+    type Time = T;
+
+    type Batch = Batch<T>;
+
+    ghost stands = { λ s h. h ≡ insertions_of s.batches };
+
+    ghost start = { λ s. s.start };
+
+    ghost last = { λ s. end_of s.start s.batches };
+
+    ghost ends = { λ s. ends_of s };
+
+    ghost held = { λ s. s.start };
+
+    ghost content = { λ s. all_content updates_of s.batches };
+
+    ghost stored_to = { λ s u.
+        all_content updates_of (batches_to (λ v. pointwise T.eq v u) s.start s.batches) };
+
+    fn upper(&self) -> &[T] {
+        self.reached()
+    }
+
+    fn since(&self) -> &[T] {
+        self.start.as_slice()
+    }
+
+    fn through(&self, upto: &[T]) -> Option<&[Batch<T>]> {
+        match self.number_to(upto) {
+            Some(number) => Some(self.first(number)),
+            None => None,
+        }
+    }
+
+    fn after(&self, from: &[T]) -> Option<&[Batch<T>]> {
+        match self.number_to(from) {
+            Some(number) => Some(self.rest(number)),
+            None => None,
+        }
+    }
+}
