@@ -27,6 +27,9 @@ use Rattle.trace.specs.Histories.{updates_of, end_of, batches_to, IsLink, AreLin
 pub some_same : {X : Type 0} {x y : X} → Some x ≡ Some y → x ≡ y
 some_same e = cc
 
+first_same : {X : Type 0} (x y : X) (xs ys : List X) → x ∷ xs ≡ y ∷ ys → x ≡ y
+first_same x y xs ys e = cc
+
 none_some : {X : Type 0} {y : X} → None ≡ Some y → ⊥
 none_some e = cc
 
@@ -122,10 +125,7 @@ module _ {T : Type 0} {below : T → T → Bool} {cmp : T → T → Ordering} (o
     pub first_begins : (from : List T) (bs : List (BatchState T)) (n : ℕ) (b : BatchState T) (rest : List (BatchState T)) → AreLinked below cmp worker node from bs → drop n bs ≡ b ∷ rest → b.description.lower ≡ end_of from (take n bs)
     first_begins from [] zero b rest l e = cc
     first_begins from [] (suc n) b rest l e = cc
-    first_begins from (c ∷ bs) zero b rest l e = ap (λ (d : BatchState T). d.description.lower) (sym (heads c b bs rest e)) ∙ l.0.continues.2
-      where
-        heads : (x y : BatchState T) (xs ys : List (BatchState T)) → x ∷ xs ≡ y ∷ ys → x ≡ y
-        heads x y xs ys h = cc
+    first_begins from (c ∷ bs) zero b rest l e = ap (λ (d : BatchState T). d.description.lower) (sym (first_same c b bs rest e)) ∙ l.0.continues.2
     first_begins from (c ∷ bs) (suc n) b rest l e = first_begins c.description.upper bs n b rest l.1 e
 
     -- a boundary determines what is stored up to it: batches that end at one boundary differ only by empty ones
@@ -160,10 +160,7 @@ module _ {T : Type 0} where
   pub take_next : (bs : List (BatchState T)) (n : ℕ) (b : BatchState T) (rest : List (BatchState T)) → drop n bs ≡ b ∷ rest → take (suc n) bs ≡ take n bs ++ b ∷ []
   take_next [] zero b rest e = cc
   take_next [] (suc n) b rest e = cc
-  take_next (c ∷ bs) zero b rest e = ap (λ (d : BatchState T). d ∷ []) (heads c b bs rest e)
-    where
-      heads : (x y : BatchState T) (xs ys : List (BatchState T)) → x ∷ xs ≡ y ∷ ys → x ≡ y
-      heads x y xs ys h = cc
+  take_next (c ∷ bs) zero b rest e = ap (λ (d : BatchState T). d ∷ []) (first_same c b bs rest e)
   take_next (c ∷ bs) (suc n) b rest e = ap (λ (cs : List (BatchState T)). c ∷ cs) (take_next bs n b rest e)
 
   -- the batches end where the one behind them ends

@@ -1,5 +1,5 @@
--- What was inserted into a trace, and which updates may be read in its place (McSherry et al., Shared Arrangements, VLDB
--- 2020).
+-- What was inserted into a trace, and which updates may be read in its place (McSherry et al., Shared Arrangements,
+-- VLDB 2020).
 use Rattle.std.specs.Prelude.{◌≡◌, ◌≢◌, ◌≤◌, Bool, List, [], ◌∷◌, ◌++◌, map, ℤ, IsTrue}
 use Rattle.std.specs.List.{list_all, AllByRecursion, flat_map}
 use Rattle.lattice.specs.Frontiers.{is_beyond}
@@ -41,7 +41,9 @@ module _ {T : Type 0} where
   -- the rows of us are among those of vs: a test that each row of vs passes is passed by each row of us
   abbrev pub RowsAmong : List (Update T) → List (Update T) → Type 0
   RowsAmong us vs =
-      (p : List ℤ → Bool) → IsTrue (list_all (λ u. p u.row) vs) → IsTrue (list_all (λ u. p u.row) us)
+      (p : List ℤ → Bool)
+      → IsTrue (list_all (λ u. p u.row) vs)
+      → IsTrue (list_all (λ u. p u.row) us)
 
 module _ {T : Type 0} (below : T → T → Bool) where
   -- us and vs sum to the same bag at each time beyond the frontier

@@ -2,9 +2,9 @@
 //! for exactly the batches that were inserted. It shows that the promises of [`Trace`] can be kept, and it is what a
 //! trace that merges and compacts has to agree with.
 //!
-//! The invariant: each batch begins at the frontier at which the one before it ends, and a batch whose interval is empty
-//! has no updates. Since frontiers only move forward, batches that end at one boundary differ only by batches without
-//! updates. So a boundary determines what is stored up to it.
+//! The invariant: each batch begins at the frontier at which the one before it ends, and a batch whose interval is
+//! empty has no updates. Frontiers only move forward, so two batches that end at one boundary have only empty intervals
+//! between them, and no updates there. So a boundary determines what is stored up to it.
 ghost use Rattle.std.specs.Prelude.{◌≡◌, ◌↔◌, ◌⊎◌, ◌≤◌, ◌∷◌, ◌++◌, List, [], Some, None, IfErr, IfOk, IfSome, IsErrAnd, OnErr, OnOk, IsTrue, length, take, drop};
 ghost use Rattle.std.specs.Bool.{OnTrue};
 ghost use Rattle.std.specs.List.{Contains};
@@ -24,7 +24,7 @@ use update::Refusal;
 /// A trace that keeps each batch as it was inserted. A contract sees the worker, the node, the frontier at which the
 /// history begins, and the batches.
 ///
-/// Cost: a boundary is found by comparing it with the end of each batch.
+/// Cost: a boundary is found by comparing it with the end of each batch, until one ends there.
 #[derive(Drop)]
 pub struct History<T: Lattice> {
     worker: usize,
@@ -126,7 +126,7 @@ impl<T: Lattice> History<T> {
         end_in(self.start.as_slice(), self.batches.as_slice())
     }
 
-    // The number of batches up to a boundary.
+    // The number of batches up to a boundary; none are up to the frontier at which the history begins.
     fn number_to(&self, upto: &[T]) -> Option<usize>
         ensures known { IsHistory T.below T.cmp self.now }
         ensures start { upto.now ≡ self.now.start → result ≡ Some 0 }
@@ -141,7 +141,7 @@ impl<T: Lattice> History<T> {
         number_in(self.batches.as_slice(), upto)
     }
 
-    // So many batches from the first on.
+    // The first batches, as many as the number says.
     fn first(&self, number: usize) -> &[Batch<T>]
         requires { number ≤ length self.now.batches }
         ensures { result.now ≡ take number self.now.batches }
@@ -149,7 +149,7 @@ impl<T: Lattice> History<T> {
         &self.batches[..number]
     }
 
-    // The batches behind these.
+    // The batches after the first ones, of which there are as many as the number says.
     fn rest(&self, number: usize) -> &[Batch<T>]
         requires { number ≤ length self.now.batches }
         ensures { result.now ≡ drop number self.now.batches }

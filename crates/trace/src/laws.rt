@@ -43,8 +43,8 @@ pub fn readings_compose<T: Lattice>()
         → IsReadable T.below F (us ++ vs) (vs ++ us) }
 {}
 
-/// What was inserted up to a boundary is determined, and a later insertion that ends elsewhere does not change it. Up to
-/// the upper frontier of the newest insertion, it is everything.
+/// What was inserted up to a boundary is determined, and a later insertion that ends elsewhere does not change it. Up
+/// to the upper frontier of the newest insertion, it is everything.
 pub fn insertions_are_found<T: Lattice>()
     ensures one { (u : List T) (h a b : List (Insertion T)) → IsUpTo u h a → IsUpTo u h b → a ≡ b }
     ensures kept { (i : Insertion T) (h seen : List (Insertion T)) (u : List T) → i.upper ≢ u

@@ -1,14 +1,15 @@
 //! What a reader may ask of a trace. Operators are to be written against this trait and not against a type that keeps
 //! batches, so that merging and compaction can change without them.
 //!
-//! A trace is described by what was inserted, not by what it stores. `stands` says for which lists of insertions a value
-//! stands. It is a relation and not a function of the value, because compaction moves times: afterwards the inserted
-//! times are in no field. Every promise about what is read is therefore a promise about each list of insertions for
-//! which the trace stands.
+//! A trace is described by what was inserted, not by what it stores. `stands` says for which lists of insertions a
+//! value stands. It is a relation and not a function of the value, because compaction moves times: afterwards the
+//! inserted times are in no field. So every promise about a reading is a promise about each list of insertions for
+//! which the trace stands. What a caller must see to, on the other hand, can only be said of what is stored.
 //!
-//! A boundary is a frontier at which a batch ends, given as the slice of its elements in `Ord` order. Equal frontiers
-//! are equal slices, so "a batch ends there" is equality. Boundaries are slices and no antichains, because callers take
-//! them from descriptions of batches, and an antichain cannot be built from a slice without memory.
+//! A boundary is a frontier at which a batch ends, or at which the trace begins. It is given as the slice of its
+//! elements in `Ord` order. Equal frontiers are equal slices, so whether a batch ends at a boundary is a matter of
+//! equality. Boundaries are slices and no antichains, because callers take them from descriptions of batches, and it
+//! would take memory to make an antichain of a slice.
 ghost use Rattle.std.specs.Prelude.{◌≡◌, ◌↔◌, ◌++◌, ◌∷◌, ℤ, Bool, List, [], IsSome, IfSome, IsTrue};
 ghost use Rattle.std.specs.List.{Contains, list_all};
 ghost use Rattle.antichain.specs.Antichains.{IsFrontier};
@@ -20,9 +21,9 @@ use lattice::Lattice;
 /// Batches in the order of their intervals. The batches up to a boundary can be read in the place of all that was
 /// inserted up to there, at all times beyond the since.
 ///
-/// `stands` relates the trace to the insertions for which it stands, newest first. `start` is the frontier at which it
-/// begins, `last` the one that it has reached, and `ends` has each boundary that can be asked for. `held` is the since,
-/// `content` is all that is stored, and `stored_to` is what is stored up to a boundary.
+/// The ghost members name what contracts speak of. `stands` relates the trace to the insertions for which it stands,
+/// newest first. `start` is the frontier at which it begins, `last` the one that it has reached, and `ends` has each
+/// boundary. `held` is the since, `content` all that is stored, and `stored_to` what is stored up to a boundary.
 pub trait Trace {
     ghost use Rattle.std.specs.Prelude.{List};
     ghost use Rattle.update.specs.declared.change.Update.{Update};
@@ -59,7 +60,8 @@ pub trait Trace {
         ensures value { result.now ≡ held self.now }
         ensures frontier { IsFrontier Self.Time.below Self.Time.cmp result.now };
 
-    /// The batches up to a boundary, or `None` if no batch ends there. Takes no memory.
+    /// The batches up to a boundary, or `None` if the slice is no boundary of the trace. Up to the frontier at which
+    /// the trace begins, there are none. A boundary may cease to be one when batches are merged. Takes no memory.
     fn through(&self, upto: &[Self::Time]) -> Option<&[Self::Batch]>
         ensures some { IsSome result ↔ Contains (ends self.now) upto.now }
         ensures reads { (h seen : List (Insertion Self.Time)) → stands self.now h
@@ -76,7 +78,9 @@ pub trait Trace {
             (λ batches. all_content Self.Batch.content batches.now ≡ content self.now) }
         ensures start { upto.now ≡ start self.now → IfSome result (λ batches. batches.now ≡ []) };
 
-    /// The batches from a boundary on, or `None` if no batch ends there. Takes no memory.
+    /// The batches from a boundary on, or `None` if the slice is no boundary of the trace. The first of them begins at
+    /// the boundary, and a reader that has read up to the boundary has read up to the end of that batch once it has
+    /// read the batch too. Takes no memory.
     fn after(&self, from: &[Self::Time]) -> Option<&[Self::Batch]>
         ensures some { IsSome result ↔ Contains (ends self.now) from.now }
         ensures rest { IfSome result (λ batches. stored_to self.now from.now
