@@ -10,7 +10,7 @@ use std::test::Fail;
 use update::{Refusal, Update};
 
 // The batch of these updates, between two frontiers of one time each.
-fn sealed(
+pub(crate) fn sealed(
     alloc: Global,
     lower: (u64, u64),
     upper: (u64, u64),

@@ -40,6 +40,8 @@ mod script_tests;
 mod sketches;
 mod times;
 #[cfg(test)]
+mod trace_tests;
+#[cfg(test)]
 mod update_tests;
 
 pub use times::at;
