@@ -12,9 +12,9 @@ ghost use Rattle.trace.specs.Readings.{Insertion, IsUpTo, SameBeyond, RowsAmong,
 use lattice::Lattice;
 
 /// Readings can be put together. To sum to the same bags beyond a frontier is reflexive, symmetric and transitive. It
-/// holds of a later frontier if it holds of an earlier one, of two lists together if it holds of both, and of the
-/// updates of a key if it holds of all. What may be read in the place of two lists may together be read in the place of
-/// both.
+/// holds of a later frontier if it holds of an earlier one, of two lists together if it holds of both, of the second
+/// parts if it holds of the whole lists and of the first parts, and of the updates of a key if it holds of all. The
+/// order of two parts does not matter. A list that can be read in the place of another goes the same way.
 pub fn readings_compose<T: Lattice>()
     ensures itself { (F : List T) (us : List (Update T)) → SameBeyond T.below F us us }
     ensures back { (F : List T) (us vs : List (Update T)) → SameBeyond T.below F us vs
@@ -25,6 +25,9 @@ pub fn readings_compose<T: Lattice>()
         → SameBeyond T.below F us vs → SameBeyond T.below G us vs }
     ensures together { (F : List T) (us vs xs ys : List (Update T)) → SameBeyond T.below F us vs
         → SameBeyond T.below F xs ys → SameBeyond T.below F (us ++ xs) (vs ++ ys) }
+    ensures apart { (F : List T) (us vs xs ys : List (Update T))
+        → SameBeyond T.below F (us ++ xs) (vs ++ ys) → SameBeyond T.below F us vs
+        → SameBeyond T.below F xs ys }
     ensures swapped { (F : List T) (us vs : List (Update T))
         → SameBeyond T.below F (us ++ vs) (vs ++ us) }
     ensures key { (F : List T) (us vs : List (Update T)) (key : List ℤ)
