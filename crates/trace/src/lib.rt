@@ -17,8 +17,10 @@
 mod boundaries;
 mod history;
 mod laws;
+mod reading;
 mod trace;
 
 pub use history::{History, Unplaced};
 pub use laws::{compaction_keeps_readings, insertions_are_found, readings_compose};
+pub use reading::all_batches;
 pub use trace::Trace;
