@@ -1,5 +1,5 @@
 -- What a history stands for.
-use Rattle.std.proofs.Common.{◌≡◌, ◌↔◌, ℕ, suc, Bool, List, [], ◌∷◌, ◌++◌, map, reverse, take, drop, length, IsTrue, refl, sym, ◌∙◌, ap, subst}
+use Rattle.std.proofs.Common.{◌≡◌, ◌↔◌, ℕ, suc, Bool, List, [], ◌∷◌, ◌++◌, map, reverse, take, drop, length, IsTrue, inl, ⊎_elim, refl, sym, ◌∙◌, ap, subst}
 use Rattle.std.specs.List.{Contains}
 use Rattle.std.specs.Cmp.{IsTotalOrder}
 use Rattle.std.specs.declared.cmp.Ordering.{Ordering}
@@ -10,9 +10,9 @@ use Rattle.lattice.specs.Order.{PartialOrderLaws}
 use Rattle.antichain.proofs.Lists.{contains_among}
 use Rattle.update.specs.declared.change.Update.{Update}
 use Rattle.batch.specs.Descriptions.{BatchState}
-use Rattle.trace.specs.Readings.{Insertion, IsUpTo, all_updates, all_content, reached, IsReadable}
+use Rattle.trace.specs.Readings.{Insertion, IsUpTo, AreUpTo, all_updates, all_content, reached, SameBeyond, IsReadable}
 use Rattle.trace.specs.Histories.{HistoryState, IsHistory, updates_of, end_of, ends_of, batches_to, insertion_of, insertions_of}
-use Rattle.trace.proofs.ReadingLemmas.{readable_itself, readable_in_turn, readable_together, readable_swapped}
+use Rattle.trace.proofs.ReadingLemmas.{readable_itself, readable_in_turn, readable_together, readable_swapped, same_apart, same_swapped}
 use Rattle.trace.proofs.BoundaryLemmas.{end_among, end-append, first_begins, stored_is, content_parts, take_next}
 
 module _ {T : Type 0} where
@@ -106,13 +106,23 @@ module _ {T : Type 0} {below : T → T → Bool} {cmp : T → T → Ordering} (o
       ∙ ap (all_content updates_of) whole
 
   -- batches that end at a boundary may be read for the insertions up to it
-  pub stored_readable : (F : List T) (n : ℕ) (u : List T) (h seen : List (Insertion T)) → end_of s.start (take n s.batches) ≡ u → h ≡ insertions_of s.batches → IsUpTo u h seen → IsReadable below F (all_content updates_of (take n s.batches)) (all_updates seen)
-  stored_readable F n u h seen e stands up =
-      let are = seen_are s.start s.batches u seen (subst (λ i. IsUpTo u i seen) stands up) in
-      let content = stored_first_are are.number u are.end ∙ sym (stored_first_are n u e) in
-      subst (λ us. IsReadable below F us (all_updates seen)) content
-      (subst (λ i. IsReadable below F (all_content updates_of (take are.number s.batches)) (all_updates i)) (sym are.are)
-      (readable_insertions below F (take are.number s.batches)))
+  pub stored_readable : (F : List T) (n : ℕ) (u : List T) (h seen : List (Insertion T)) → end_of s.start (take n s.batches) ≡ u → h ≡ insertions_of s.batches → AreUpTo s.start u h seen → IsReadable below F (all_content updates_of (take n s.batches)) (all_updates seen)
+  stored_readable F n u h seen e stands up = ⊎_elim some none up
+    where
+      same_content : (m : ℕ) → end_of s.start (take m s.batches) ≡ u → all_content updates_of (take m s.batches) ≡ all_content updates_of (take n s.batches)
+      same_content m f = stored_first_are m u f ∙ sym (stored_first_are n u e)
+
+      some : IsUpTo u h seen → IsReadable below F (all_content updates_of (take n s.batches)) (all_updates seen)
+      some to =
+          let are = seen_are s.start s.batches u seen (subst (λ i. IsUpTo u i seen) stands to) in
+          subst (λ us. IsReadable below F us (all_updates seen)) (same_content are.number are.end)
+          (subst (λ i. IsReadable below F (all_content updates_of (take are.number s.batches)) (all_updates i)) (sym are.are)
+          (readable_insertions below F (take are.number s.batches)))
+
+      none : (u ≡ s.start) × (seen ≡ []) → IsReadable below F (all_content updates_of (take n s.batches)) (all_updates seen)
+      none p =
+          subst (λ us. IsReadable below F us (all_updates seen)) (same_content 0 (sym p.0))
+          (subst (λ i. IsReadable below F [] (all_updates i)) (sym p.1) (readable_itself below F []))
 
   -- what is stored up to a boundary, and behind it, is all that is stored
   pub stored_rest : (n : ℕ) (u : List T) → end_of s.start (take n s.batches) ≡ u → stored u ++ all_content updates_of (drop n s.batches) ≡ all_content updates_of s.batches
@@ -121,13 +131,15 @@ module _ {T : Type 0} {below : T → T → Bool} {cmp : T → T → Ordering} (o
   next_end : (n : ℕ) (b : BatchState T) (rest : List (BatchState T)) → drop n s.batches ≡ b ∷ rest → end_of s.start (take (suc n) s.batches) ≡ b.description.upper
   next_end n b rest e = ap (end_of s.start) (take_next s.batches n b rest e) ∙ end-append s.start (take n s.batches) b
 
+  content_next : (n : ℕ) (b : BatchState T) → all_content updates_of (take n s.batches ++ b ∷ []) ≡ all_content updates_of (take n s.batches) ++ b.updates
+  content_next n b = flat_map-append updates_of (take n s.batches) (b ∷ []) ∙ ap (λ us. all_content updates_of (take n s.batches) ++ us) (append-nil b.updates)
+
   -- up to the end of the next batch that batch is stored too
   pub stored_next : (n : ℕ) (u : List T) (b : BatchState T) (rest : List (BatchState T)) → end_of s.start (take n s.batches) ≡ u → drop n s.batches ≡ b ∷ rest → stored b.description.upper ≡ stored u ++ b.updates
   stored_next n u b rest e f =
       sym (stored_first_are (suc n) b.description.upper (next_end n b rest f))
       ∙ ap (all_content updates_of) (take_next s.batches n b rest f)
-      ∙ flat_map-append updates_of (take n s.batches) (b ∷ [])
-      ∙ ap (λ us. all_content updates_of (take n s.batches) ++ us) (append-nil b.updates)
+      ∙ content_next n b
       ∙ ap (λ us. us ++ b.updates) (stored_first_are n u e)
 
   -- the next batch begins at the boundary
@@ -137,3 +149,18 @@ module _ {T : Type 0} {below : T → T → Bool} {cmp : T → T → Ordering} (o
   -- and ends at one
   pub next_ends : (n : ℕ) (b : BatchState T) (rest : List (BatchState T)) → drop n s.batches ≡ b ∷ rest → Contains (ends_of s) b.description.upper
   next_ends n b rest f = is_boundary s (suc n) b.description.upper (next_end n b rest f)
+
+  -- and has what was inserted from the one to the other
+  pub next_reads : (F : List T) (n : ℕ) (u : List T) (h later seen : List (Insertion T)) (b : BatchState T) (rest : List (BatchState T)) → end_of s.start (take n s.batches) ≡ u → h ≡ insertions_of s.batches → AreUpTo s.start u h seen → drop n s.batches ≡ b ∷ rest → IsUpTo b.description.upper h (later ++ seen) → SameBeyond below F b.updates (all_updates later)
+  next_reads F n u h later seen b rest e stands up f to =
+      let before = all_content updates_of (take n s.batches) in
+      let first = stored_readable F n u h seen e stands up in
+      let whole = stored_readable F (suc n) b.description.upper h (later ++ seen) (next_end n b rest f) stands (inl to) in
+      let one_more : all_content updates_of (take (suc n) s.batches) ≡ before ++ b.updates =
+      ap (all_content updates_of) (take_next s.batches n b rest f) ∙ content_next n b in
+      let inserted : all_updates (later ++ seen) ≡ all_updates later ++ all_updates seen = flat_map-append (λ (i : Insertion T). i.updates) later seen in
+      let both : SameBeyond below F (before ++ b.updates) (all_updates later ++ all_updates seen) =
+      subst (SameBeyond below F (before ++ b.updates)) inserted (subst (λ us. SameBeyond below F us (all_updates (later ++ seen))) one_more whole.sums) in
+      same_apart below F before (all_updates seen) b.updates (all_updates later)
+      (λ t k row. both t k row ∙ same_swapped below F (all_updates later) (all_updates seen) t k row)
+      first.sums

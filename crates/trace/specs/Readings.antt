@@ -1,6 +1,6 @@
 -- What was inserted into a trace, and which updates may be read in its place (McSherry et al., Shared Arrangements,
 -- VLDB 2020).
-use Rattle.std.specs.Prelude.{◌≡◌, ◌≢◌, ◌≤◌, Bool, List, [], ◌∷◌, ◌++◌, map, ℤ, IsTrue}
+use Rattle.std.specs.Prelude.{◌≡◌, ◌≢◌, ◌≤◌, Bool, List, [], ◌∷◌, ◌++◌, map, ℤ, IsTrue, ◌⊎◌}
 use Rattle.std.specs.List.{list_all, AllByRecursion, flat_map}
 use Rattle.lattice.specs.Frontiers.{is_beyond}
 use Rattle.lattice.specs.Representatives.{representative_of}
@@ -33,6 +33,10 @@ module _ {T : Type 0} where
     pub split : h ≡ later ++ seen
     pub ends : last.upper ≡ upto
     pub newest : AllByRecursion (λ i. i.upper ≢ upto) later
+
+  -- the insertions up to a boundary; up to the frontier at which a trace begins, there need be none
+  abbrev pub AreUpTo : List T → List T → List (Insertion T) → List (Insertion T) → Type 0
+  AreUpTo start upto h seen = IsUpTo upto h seen ⊎ ((upto ≡ start) × (seen ≡ []))
 
   -- the updates of all batches, if `content` gives those of one
   abbrev pub all_content : {B : Type 0} → (B → List (Update T)) → List B → List (Update T)

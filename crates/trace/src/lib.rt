@@ -10,6 +10,7 @@
 //! - [`Trace`] is that promise, and all that operators will know of a trace.
 //! - [`History`] is the plainest trace: a list of batches that are never merged. A spine will keep the same promise at
 //!   less cost.
+//! - [`all_batches`] reads a whole trace of any type.
 //! - [`readings_compose`], [`insertions_are_found`] and [`compaction_keeps_readings`] are the laws by which operators
 //!   reason about what they read, and by which a spine may merge and compact.
 #![tactic(auto)]
