@@ -1,6 +1,6 @@
 //! The plainest trace: a list of batches that only grows at its end. It merges nothing and moves no time, so it stands
-//! for exactly the batches that were inserted. It shows that the promises of [`Trace`] can be kept, and it is what a
-//! trace that merges and compacts has to agree with.
+//! for exactly the batches that were inserted, and its since is the frontier at which it begins. It shows that the
+//! promises of [`Trace`] can be kept, and it is what a trace that merges and compacts has to agree with.
 //!
 //! The invariant: each batch begins at the frontier at which the one before it ends, and a batch whose interval is
 //! empty has no updates. Frontiers only move forward, so two batches that end at one boundary have only empty intervals
@@ -89,7 +89,7 @@ impl<T: Lattice> History<T> {
     ///   worker or node is another, or it has updates although it ends where it begins.
     /// - Otherwise [`Refusal::OutOfMemory`] only if memory for one more batch was refused.
     ///
-    /// Cost: three comparisons of frontiers; the batch is moved, and no update is copied.
+    /// Cost: two comparisons of frontiers; the batch is moved, and no update is copied.
     pub fn insert(&mut self, batch: Batch<T>) -> Result<(), Unplaced<T>>
         ensures ok { OnOk result
             (self.new ≡ record self.old { batches = self.old.batches ++ batch ∷ [] }) }
