@@ -21,7 +21,7 @@ use Rattle.antichain.proofs.AntichainLemmas.{frontier_by_beyond, pointwise_exact
 use Rattle.update.specs.declared.change.Update.{Update}
 use Rattle.batch.specs.Descriptions.{BatchState}
 use Rattle.trace.specs.Readings.{all_content}
-use Rattle.trace.specs.Histories.{updates_of, end_of, batches_to, IsLink, AreLinked}
+use Rattle.trace.specs.BatchLists.{updates_of, end_of, batches_to, IsLink, AreLinked}
 
 -- equal answers have equal contents
 pub some_same : {X : Type 0} {x y : X} → Some x ≡ Some y → x ≡ y

@@ -1,6 +1,6 @@
--- Lemmas about readings, insertions, compaction and histories.
+-- Lemmas about readings, insertions, compaction and batch lists.
 pub mod ReadingLemmas
 pub mod InsertionLemmas
 pub mod CompactionLemmas
 pub mod BoundaryLemmas
-pub mod HistoryLemmas
+pub mod BatchListLemmas

@@ -2,4 +2,4 @@
 pub use Rattle.lattice.specs.Order
 pub use Rattle.lattice.specs.Frontiers
 pub mod Readings
-pub mod Histories
+pub mod BatchLists

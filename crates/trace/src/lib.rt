@@ -1,4 +1,4 @@
-//! Traces: what a reader may ask of a history of batches.
+//! Traces: what a reader may ask of a list of batches.
 //!
 //! An arrangement gathers the updates of one node, seals them in batches, and shares the batches with every operator
 //! that reads them. What it shares is a trace (McSherry et al., Shared Arrangements, VLDB 2020). A reader asks a trace
@@ -8,20 +8,20 @@
 //! there, at all times beyond its since.
 //!
 //! - [`Trace`] is that promise, and all that operators will know of a trace.
-//! - [`History`] is the plainest trace: a list of batches that are never merged. A spine will keep the same promise at
+//! - [`BatchList`] is the plainest trace: a list of batches that are never merged. A spine will keep the same promise at
 //!   less cost.
 //! - [`all_batches`] reads a whole trace of any type.
 //! - [`readings_compose`], [`insertions_are_found`] and [`compaction_keeps_readings`] are the laws by which operators
 //!   reason about what they read, and by which a spine may merge and compact.
 #![tactic(auto)]
 
+mod batch_list;
 mod boundaries;
-mod history;
 mod laws;
 mod reading;
 mod trace;
 
-pub use history::{History, Unplaced};
+pub use batch_list::{BatchList, Unplaced};
 pub use laws::{compaction_keeps_readings, insertions_are_found, readings_compose};
 pub use reading::all_batches;
 pub use trace::Trace;

@@ -1,4 +1,4 @@
--- A history: the plainest trace, a list of batches that never changes but at its end.
+-- A batch list: the plainest trace. It only ever changes at its end.
 use Rattle.std.specs.Prelude.{◌≡◌, ℕ, Bool, cond, List, [], ◌∷◌, map, reverse, ⊤, IsTrue}
 use Rattle.std.specs.declared.cmp.Ordering.{Ordering}
 use Rattle.lattice.specs.Frontiers.{all_beyond}
@@ -7,8 +7,8 @@ use Rattle.update.specs.declared.change.Update.{Update}
 use Rattle.batch.specs.Descriptions.{BatchState}
 use Rattle.trace.specs.Readings.{Insertion}
 
--- whose updates these are, the frontier at which the history begins, and its batches in order
-pub record HistoryState (T : Type 0) : Type 0 where
+-- whose updates these are, the frontier at which the list begins, and its batches in order
+pub record BatchListState (T : Type 0) : Type 0 where
   pub worker : ℕ
   pub node : ℕ
   pub start : List T
@@ -24,15 +24,15 @@ module _ {T : Type 0} where
   end_of from [] = from
   end_of from (b ∷ bs) = end_of b.description.upper bs
 
-  -- each boundary of a history: where it begins, and where a batch ends
-  abbrev pub ends_of : HistoryState T → List (List T)
+  -- each boundary of a batch list: where it begins, and where a batch ends
+  abbrev pub ends_of : BatchListState T → List (List T)
   ends_of s = s.start ∷ map (λ b. b.description.upper) s.batches
 
   -- the insertion of a batch
   abbrev pub insertion_of : BatchState T → Insertion T
   insertion_of b = record { upper = b.description.upper; updates = b.updates }
 
-  -- the insertions that a history stands for: its batches, newest first
+  -- the insertions that a batch list stands for: its batches, newest first
   abbrev pub insertions_of : List (BatchState T) → List (Insertion T)
   insertions_of bs = reverse (map insertion_of bs)
 
@@ -55,7 +55,7 @@ module _ {T : Type 0} where
       × IsEmptyIfStill b
 
 module _ {T : Type 0} (below : T → T → Bool) (cmp : T → T → Ordering) where
-  -- the batch continues a history, and ends at a frontier beyond the one at which it begins
+  -- the batch continues a batch list, and ends at a frontier beyond the one at which it begins
   pub record IsLink (worker node : ℕ) (from : List T) (b : BatchState T) : Type 0 where
     pub continues : Continues worker node from b
     pub frontier : IsFrontier below cmp b.description.upper
@@ -67,7 +67,7 @@ module _ {T : Type 0} (below : T → T → Bool) (cmp : T → T → Ordering) wh
   AreLinked worker node from (b ∷ bs) =
       IsLink worker node from b × AreLinked worker node b.description.upper bs
 
-  -- a history begins at a frontier, and its batches continue one another
-  pub record IsHistory (s : HistoryState T) : Type 0 where
+  -- a batch list begins at a frontier, and its batches continue one another
+  pub record IsBatchList (s : BatchListState T) : Type 0 where
     pub start : IsFrontier below cmp s.start
     pub linked : AreLinked s.worker s.node s.start s.batches

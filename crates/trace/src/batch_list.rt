@@ -11,7 +11,7 @@ ghost use Rattle.std.specs.List.{Contains};
 ghost use Rattle.antichain.specs.Antichains.{IsFrontier};
 ghost use Rattle.lattice.specs.Frontiers.{all_beyond};
 ghost use Rattle.update.specs.declared.refusal.Refusal.{Refusal};
-ghost use Rattle.trace.specs.Histories.{HistoryState, Continues, IsEmptyIfStill, IsLink, IsHistory, end_of, ends_of, insertion_of, insertions_of};
+ghost use Rattle.trace.specs.BatchLists.{BatchListState, Continues, IsEmptyIfStill, IsLink, IsBatchList, end_of, ends_of, insertion_of, insertions_of};
 
 use crate::Trace;
 use crate::boundaries::{are_same, end_in, number_in};
@@ -22,21 +22,21 @@ use std::marker::Model;
 use update::Refusal;
 
 /// A trace that keeps each batch as it was inserted. A contract sees the worker, the node, the frontier at which the
-/// history begins, and the batches.
+/// list begins, and the batches.
 ///
 /// Cost: a boundary is found by comparing it with the end of each batch, until one ends there.
 #[derive(Drop)]
-pub struct History<T: Lattice> {
+pub struct BatchList<T: Lattice> {
     worker: usize,
     node: usize,
     start: Vec<T>,
     batches: Vec<Batch<T>>,
 }
 
-impl<T: Lattice> Model for History<T> {
-    ghost use Rattle.trace.specs.Histories.{HistoryState, IsHistory};
+impl<T: Lattice> Model for BatchList<T> {
+    ghost use Rattle.trace.specs.BatchLists.{BatchListState, IsBatchList};
 
-    ghost Value = { HistoryState T };
+    ghost Value = { BatchListState T };
 
     ghost view = { λ s. record {
       worker = s.worker;
@@ -45,7 +45,7 @@ impl<T: Lattice> Model for History<T> {
       batches = s.batches.items;
     } };
 
-    ghost invariant = { λ s. IsHistory T.below T.cmp (record {
+    ghost invariant = { λ s. IsBatchList T.below T.cmp (record {
       worker = s.worker;
       node = s.node;
       start = s.start.items;
@@ -62,10 +62,10 @@ pub struct Unplaced<T: Lattice> {
     pub refusal: Refusal,
 }
 
-impl<T: Minimum> History<T> {
-    /// A history with no batch, which begins at the least time. [`Refusal::OutOfMemory`] only if memory for one time
+impl<T: Minimum> BatchList<T> {
+    /// An empty batch list, which begins at the least time. [`Refusal::OutOfMemory`] only if memory for one time
     /// was refused.
-    pub fn new(alloc: Global, worker: usize, node: usize) -> Result<History<T>, Refusal>
+    pub fn new(alloc: Global, worker: usize, node: usize) -> Result<BatchList<T>, Refusal>
         ensures made { IfOk result (λ made. made
             ≡ record { worker = worker; node = node; start = T.least ∷ []; batches = [] }) }
         ensures stands { IfOk result (λ made. insertions_of made.batches ≡ []) }
@@ -73,7 +73,7 @@ impl<T: Minimum> History<T> {
     {
         let mut start = Vec::new(alloc);
         start.push(T::minimum())?;
-        Ok(History {
+        Ok(BatchList {
             worker,
             node,
             start,
@@ -82,10 +82,10 @@ impl<T: Minimum> History<T> {
     }
 }
 
-impl<T: Lattice> History<T> {
-    /// Inserts a batch at the end. The batch comes back if it is refused, and the history stays as it was.
+impl<T: Lattice> BatchList<T> {
+    /// Inserts a batch at the end. The batch comes back if it is refused, and the list stays as it was.
     ///
-    /// - [`Refusal::Stray`] if and only if the batch does not begin at the frontier that the history has reached, its
+    /// - [`Refusal::Stray`] if and only if the batch does not begin at the frontier that the list has reached, its
     ///   worker or node is another, or it has updates although it ends where it begins.
     /// - Otherwise [`Refusal::OutOfMemory`] only if memory for one more batch was refused.
     ///
@@ -126,9 +126,9 @@ impl<T: Lattice> History<T> {
         end_in(self.start.as_slice(), self.batches.as_slice())
     }
 
-    // The number of batches up to a boundary; none are up to the frontier at which the history begins.
+    // The number of batches up to a boundary; none are up to the frontier at which the list begins.
     fn number_to(&self, upto: &[T]) -> Option<usize>
-        ensures known { IsHistory T.below T.cmp self.now }
+        ensures known { IsBatchList T.below T.cmp self.now }
         ensures start { upto.now ≡ self.now.start → result ≡ Some 0 }
         ensures within { IfSome result (λ n. n ≤ length self.now.batches) }
         ensures place { IfSome result
@@ -158,7 +158,7 @@ impl<T: Lattice> History<T> {
     }
 }
 
-// Whether the batch continues a history of this worker and node that has reached a frontier.
+// Whether the batch continues a batch list of this worker and node that has reached a frontier.
 fn continues<T: Lattice>(worker: usize, node: usize, reached: &[T], batch: &Batch<T>) -> bool
     ensures value { IsTrue result ↔ Continues worker node reached.now batch.now }
     ensures link { OnTrue result (IsLink T.below T.cmp worker node reached.now batch.now) }
@@ -181,11 +181,11 @@ fn is_empty_if_still<T: Lattice>(batch: &Batch<T>) -> bool
     !are_same(description.lower(), description.upper()) || batch.len() == 0
 }
 
-impl<T: Lattice> Trace for History<T> {
+impl<T: Lattice> Trace for BatchList<T> {
     ghost use Rattle.std.specs.Prelude.{◌≡◌};
     ghost use Rattle.std.specs.Cmp.Lexicographic.{pointwise};
     ghost use Rattle.trace.specs.Readings.{all_content};
-    ghost use Rattle.trace.specs.Histories.{end_of, ends_of, updates_of, insertions_of, batches_to};
+    ghost use Rattle.trace.specs.BatchLists.{end_of, ends_of, updates_of, insertions_of, batches_to};
 
     type Time = T;
 
