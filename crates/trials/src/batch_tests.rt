@@ -116,7 +116,12 @@ fn batches_with_a_gap_are_not_merged(rt: HostRuntime) -> Result<(), Fail> {
     let first = sealed(rt.alloc(), (0, 0), (4, 4), &[])?;
     let second = sealed(rt.alloc(), (4, 5), (9, 9), &[])?;
     let since = Antichain::from_elem(rt.alloc(), at((0, 0)));
-    assert!(rt; matches!(merge(&first, &second, since.elements()), Err(Refusal::Stray)));
+    assert!(rt;
+        matches!(
+            merge(&first, &second, since.elements()),
+            Err(Refusal::Stray)
+        )
+    );
     Ok(())
 }
 
