@@ -30,7 +30,7 @@ some_same e = cc
 first_same : {X : Type 0} (x y : X) (xs ys : List X) → x ∷ xs ≡ y ∷ ys → x ≡ y
 first_same x y xs ys e = cc
 
-none_some : {X : Type 0} {y : X} → None ≡ Some y → ⊥
+pub none_some : {X : Type 0} {y : X} → None ≡ Some y → ⊥
 none_some e = cc
 
 -- a test of times that goes with the order of sorting decides whether two frontiers are equal
@@ -101,7 +101,7 @@ module _ {T : Type 0} {below : T → T → Bool} {cmp : T → T → Ordering} (o
         all_beyond_later o from b.description.upper (end_of b.description.upper bs) l.0.forward (forward b.description.upper bs l.1)
 
     -- batches that end where they begin have no updates
-    stays : (from : List T) (bs : List (BatchState T)) → IsFrontier below cmp from → AreLinked below cmp worker node from bs → end_of from bs ≡ from → all_content updates_of bs ≡ []
+    pub stays : (from : List T) (bs : List (BatchState T)) → IsFrontier below cmp from → AreLinked below cmp worker node from bs → end_of from bs ≡ from → all_content updates_of bs ≡ []
     stays from [] f l e = refl
     stays from (b ∷ bs) f l e =
         let upper = b.description.upper in

@@ -1,18 +1,22 @@
--- A batch list: the plainest trace. It only ever changes at its end.
-use Rattle.std.specs.Prelude.{◌≡◌, ℕ, Bool, cond, List, [], ◌∷◌, map, reverse, ⊤, IsTrue}
+-- A batch list: the plainest trace. It grows at its end, and two neighbouring batches may become one.
+use Rattle.std.specs.Prelude.{◌≡◌, ℕ, zero, suc, ℤ, Bool, cond, List, [], ◌∷◌, ◌++◌, map, reverse, slice_get, Some, ⊤, IsTrue}
+use Rattle.std.specs.List.{list_all}
 use Rattle.std.specs.declared.cmp.Ordering.{Ordering}
 use Rattle.lattice.specs.Frontiers.{all_beyond}
 use Rattle.antichain.specs.Antichains.{IsFrontier}
+use Rattle.update.specs.Updates.{HasLargeTotal}
 use Rattle.update.specs.declared.change.Update.{Update}
 use Rattle.batch.specs.Descriptions.{BatchState}
-use Rattle.trace.specs.Readings.{Insertion}
+use Rattle.trace.specs.Readings.{Insertion, IsReadable}
 
--- whose updates these are, the frontier at which the list begins, and its batches in order
+-- whose updates these are, the frontier at which the list begins, its batches in order, and whether there is memory for
+-- one more
 pub record BatchListState (T : Type 0) : Type 0 where
   pub worker : ℕ
   pub node : ℕ
   pub start : List T
   pub batches : List (BatchState T)
+  pub reserved : Bool
 
 module _ {T : Type 0} where
   -- the updates of a batch
@@ -42,6 +46,13 @@ module _ {T : Type 0} where
   batches_to is_boundary from (b ∷ bs) =
       cond (is_boundary from) [] (b ∷ batches_to is_boundary b.description.upper bs)
 
+  -- the batches, with one of them in the place of two: of the batch with this number, and of the next one
+  abbrev pub merged_at : ℕ → BatchState T → List (BatchState T) → List (BatchState T)
+  merged_at i m [] = []
+  merged_at zero m (a ∷ []) = a ∷ []
+  merged_at zero m (a ∷ b ∷ bs) = m ∷ bs
+  merged_at (suc i) m (a ∷ bs) = a ∷ merged_at i m bs
+
   -- if the interval of the batch is empty, then the batch has no updates
   abbrev pub IsEmptyIfStill : BatchState T → Type 0
   IsEmptyIfStill b = b.description.lower ≡ b.description.upper → b.updates ≡ []
@@ -53,6 +64,40 @@ module _ {T : Type 0} where
       × (b.description.node ≡ node)
       × (b.description.lower ≡ from)
       × IsEmptyIfStill b
+
+module _ {T : Type 0} (below : T → T → Bool) where
+  -- one batch for two neighbours: it reaches over both intervals, may be read in the place of both beyond the frontier,
+  -- and has only rows and times of theirs
+  pub record IsMergeOf (since : List T) (m a b : BatchState T) : Type 0 where
+    pub described : m.description ≡ record {
+      worker = a.description.worker;
+      node = a.description.node;
+      lower = a.description.lower;
+      upper = b.description.upper;
+      since = since;
+    }
+    pub reads : IsReadable below since m.updates (a.updates ++ b.updates)
+    pub among : (p : List ℤ → T → Bool)
+        → IsTrue (list_all (λ u. p u.row u.time) (a.updates ++ b.updates))
+        → IsTrue (list_all (λ u. p u.row u.time) m.updates)
+
+  -- one batch for the one with this number and the next one
+  abbrev pub IsMergeAt : List T → BatchState T → ℕ → List (BatchState T) → Type 0
+  IsMergeAt since m i bs =
+      (a b : BatchState T)
+      → slice_get bs i ≡ Some a
+      → slice_get bs (suc i) ≡ Some b
+      → IsMergeOf since m a b
+
+  -- the total of some row at some time over two neighbours is no 64-bit number
+  abbrev pub HasLargePair : List (BatchState T) → Type 0
+  HasLargePair bs =
+      (i : ℕ)
+      × (a : BatchState T)
+      × (b : BatchState T)
+      × (slice_get bs i ≡ Some a)
+      × (slice_get bs (suc i) ≡ Some b)
+      × HasLargeTotal below (a.updates ++ b.updates)
 
 module _ {T : Type 0} (below : T → T → Bool) (cmp : T → T → Ordering) where
   -- the batch continues a batch list, and ends at a frontier beyond the one at which it begins

@@ -1,28 +1,32 @@
-//! The plainest trace: a list of batches that only grows at its end. It merges nothing and moves no time, so it stands
-//! for exactly the batches that were inserted, and its since is the frontier at which it begins. It shows that the
-//! promises of [`Trace`] can be kept, and it is what a trace that merges and compacts has to agree with.
+//! The plainest trace: a list of batches that grows at its end. By itself it merges nothing and moves no time, so it
+//! stands for exactly the batches that were inserted, and its since is the frontier at which it begins. It shows that the
+//! promises of [`Trace`] can be kept, and it is what a trace that merges and compacts has to agree with. Such a trace
+//! keeps its batches in a batch list, and decides when [`BatchList::merge_at`] makes one batch of two neighbours.
 //!
 //! The invariant: each batch begins at the frontier at which the one before it ends, and a batch whose interval is
 //! empty has no updates. Frontiers only move forward, so two batches that end at one boundary have only empty intervals
 //! between them, and no updates there. So a boundary determines what is stored up to it.
-ghost use Rattle.std.specs.Prelude.{◌≡◌, ◌↔◌, ◌⊎◌, ◌≤◌, ◌∷◌, ◌++◌, List, [], Some, None, IfErr, IfOk, IfSome, IsErrAnd, OnErr, OnOk, IsTrue, length, take, drop};
+ghost use Rattle.std.specs.Prelude.{◌≡◌, ◌↔◌, ◌⊎◌, ◌≤◌, ◌<◌, ◌∷◌, ◌++◌, suc, List, [], Some, None, IfErr, IfOk, IfSome, IsErrAnd, OnErr, OnOk, IsTrue, true, length, take, drop};
 ghost use Rattle.std.specs.Bool.{OnTrue};
 ghost use Rattle.std.specs.List.{Contains};
 ghost use Rattle.antichain.specs.Antichains.{IsFrontier};
 ghost use Rattle.lattice.specs.Frontiers.{all_beyond};
+ghost use Rattle.update.specs.Refusals.{IsMemoryOrOverflow};
 ghost use Rattle.update.specs.declared.refusal.Refusal.{Refusal};
-ghost use Rattle.trace.specs.BatchLists.{BatchListState, Continues, IsEmptyIfStill, IsLink, IsBatchList, end_of, ends_of, insertion_of, insertions_of};
+ghost use Rattle.batch.specs.Descriptions.{BatchState};
+ghost use Rattle.trace.specs.BatchLists.{BatchListState, Continues, IsEmptyIfStill, IsLink, IsBatchList, IsMergeAt, HasLargePair, end_of, ends_of, insertion_of, insertions_of, merged_at};
 
 use crate::Trace;
 use crate::boundaries::{are_same, end_in, number_in};
+use crate::neighbours::{merged_pair, put_merged};
 use batch::{Batch, BatchReader};
 use lattice::{Lattice, Minimum};
 use std::alloc::Global;
 use std::marker::Model;
 use update::Refusal;
 
-/// A trace that keeps each batch as it was inserted. A contract sees the worker, the node, the frontier at which the
-/// list begins, and the batches.
+/// A trace that keeps each batch as it was inserted, until it is told to merge two. A contract sees the worker, the node,
+/// the frontier at which the list begins, the batches, and whether there is memory for one more.
 ///
 /// Cost: a boundary is found by comparing it with the end of each batch, until one ends there.
 #[derive(Drop)]
@@ -34,6 +38,7 @@ pub struct BatchList<T: Lattice> {
 }
 
 impl<T: Lattice> Model for BatchList<T> {
+    ghost use Rattle.std.specs.Prelude.{nat_lt, vec_len, vec_capacity};
     ghost use Rattle.trace.specs.BatchLists.{BatchListState, IsBatchList};
 
     ghost Value = { BatchListState T };
@@ -43,6 +48,7 @@ impl<T: Lattice> Model for BatchList<T> {
       node = s.node;
       start = s.start.items;
       batches = s.batches.items;
+      reserved = nat_lt (vec_len s.batches) (vec_capacity s.batches);
     } };
 
     ghost invariant = { λ s. IsBatchList T.below T.cmp (record {
@@ -50,6 +56,7 @@ impl<T: Lattice> Model for BatchList<T> {
       node = s.node;
       start = s.start.items;
       batches = s.batches.items;
+      reserved = nat_lt (vec_len s.batches) (vec_capacity s.batches);
     }) };
 }
 
@@ -66,8 +73,13 @@ impl<T: Minimum> BatchList<T> {
     /// An empty batch list, which begins at the least time. [`Refusal::OutOfMemory`] only if memory for one time
     /// was refused.
     pub fn new(alloc: Global, worker: usize, node: usize) -> Result<BatchList<T>, Refusal>
-        ensures made { IfOk result (λ made. made
-            ≡ record { worker = worker; node = node; start = T.least ∷ []; batches = [] }) }
+        ensures made { IfOk result (λ made. made ≡ record {
+          worker = worker;
+          node = node;
+          start = T.least ∷ [];
+          batches = [];
+          reserved = made.reserved;
+        }) }
         ensures stands { IfOk result (λ made. insertions_of made.batches ≡ []) }
         ensures only { IfErr result (λ refused. refused ≡ Refusal.OutOfMemory) }
     {
@@ -83,23 +95,42 @@ impl<T: Minimum> BatchList<T> {
 }
 
 impl<T: Lattice> BatchList<T> {
+    /// Makes room for one more batch, so that the next [`insert`](BatchList::insert) takes no memory. If memory was
+    /// refused, then nothing has changed.
+    pub fn reserve(&mut self) -> Result<(), Refusal>
+        ensures room { OnOk result (self.new ≡ record self.old { reserved = true }) }
+        ensures same { OnErr result (self.new ≡ self.old) }
+        ensures only { IfErr result (λ refused. refused ≡ Refusal.OutOfMemory) }
+    {
+        self.batches.reserve(1)?;
+        Ok(())
+    }
+
     /// Inserts a batch at the end. The batch comes back if it is refused, and the list stays as it was.
     ///
     /// - [`Refusal::Stray`] if and only if the batch does not begin at the frontier that the list has reached, its
     ///   worker or node is another, or it has updates although it ends where it begins.
-    /// - Otherwise [`Refusal::OutOfMemory`] only if memory for one more batch was refused.
+    /// - Otherwise [`Refusal::OutOfMemory`] only if memory for one more batch was refused, which cannot be after
+    ///   [`reserve`](BatchList::reserve).
     ///
     /// Cost: two comparisons of frontiers; the batch is moved, and no update is copied.
     pub fn insert(&mut self, batch: Batch<T>) -> Result<(), Unplaced<T>>
-        ensures ok { OnOk result
-            (self.new ≡ record self.old { batches = self.old.batches ++ batch ∷ [] }) }
+        ensures ok { OnOk result (self.new ≡ record self.old {
+          batches = self.old.batches ++ batch ∷ [];
+          reserved = self.new.reserved;
+        }) }
         ensures stands { OnOk result (insertions_of self.new.batches
             ≡ insertion_of batch ∷ insertions_of self.old.batches) }
-        ensures same { OnErr result (self.new ≡ self.old) }
+        ensures link { OnOk result (IsLink T.below T.cmp self.old.worker self.old.node
+            (end_of self.old.start self.old.batches) batch) }
+        ensures same { OnErr result
+            (self.new ≡ record self.old { reserved = self.new.reserved }) }
         ensures returned { IfErr result (λ unplaced. unplaced.batch ≡ batch) }
         ensures stray { IsErrAnd result (λ unplaced. unplaced.refusal ≡ Refusal.Stray)
             ↔ (Continues self.old.worker self.old.node (end_of self.old.start self.old.batches)
             batch → ⊥) }
+        ensures room { IsTrue self.old.reserved
+            → IfErr result (λ unplaced. unplaced.refusal ≡ Refusal.Stray) }
         ensures only { IfErr result (λ unplaced. (unplaced.refusal ≡ Refusal.OutOfMemory)
             ⊎ (unplaced.refusal ≡ Refusal.Stray)) }
     {
@@ -116,6 +147,37 @@ impl<T: Lattice> BatchList<T> {
             });
         }
         Ok(())
+    }
+
+    /// Makes one batch of the one with this number and the next one, as of a frontier. If it is refused, then the list
+    /// stays as it was.
+    ///
+    /// - [`Refusal::Overflow`] only if the total of some row at some time over both is no 64-bit number.
+    /// - [`Refusal::OutOfMemory`] only if memory for the new batch was refused.
+    ///
+    /// Cost: that of merging both, and one step for each batch behind them.
+    pub fn merge_at(&mut self, i: usize, since: &[T]) -> Result<(), Refusal>
+        requires within { suc i < length self.old.batches }
+        requires frontier { IsFrontier T.below T.cmp since.now }
+        ensures merged { OnOk result ((m : BatchState T)
+            × (self.new ≡ record self.old {
+              batches = merged_at i m self.old.batches;
+              reserved = true;
+            }) × IsMergeAt T.below since.now m i self.old.batches) }
+        ensures same { OnErr result (self.new ≡ self.old) }
+        ensures refused { IfErr result (IsMemoryOrOverflow (HasLargePair T.below self.old.batches)) }
+    {
+        let merged = merged_pair(self.batches.as_slice(), i, since)?;
+        put_merged(&mut self.batches, i, merged);
+        Ok(())
+    }
+
+    /// The batches in order, each of which continues those before it. Takes no memory.
+    pub fn batches(&self) -> &[Batch<T>]
+        ensures value { result.now ≡ self.now.batches }
+        ensures known { IsBatchList T.below T.cmp self.now }
+    {
+        self.batches.as_slice()
     }
 
     // The frontier at which the last batch ends.

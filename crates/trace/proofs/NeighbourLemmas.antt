@@ -1,0 +1,120 @@
+-- What is left of a list of linked batches when two neighbours become one.
+use Rattle.std.proofs.Common.{◌≡◌, ℕ, zero, suc, ◌<◌, ◌≤◌, ◌+◌, Bool, true, false, List, [], ◌∷◌, ◌++◌, set, length, slice_get, Some, None, IsTrue, refl, sym, ◌∙◌, ap, subst, arith}
+use Rattle.std.specs.Prelude.{ℤ}
+use Rattle.std.specs.List.{list_all, remove}
+use Rattle.std.specs.Cmp.{IsTotalOrder}
+use Rattle.std.specs.declared.cmp.Ordering.{Ordering}
+use Rattle.std.proofs.lemmas.Bool.{and_parts}
+use Rattle.std.proofs.lemmas.List.{append-nil}
+use Rattle.std.proofs.lemmas.List.Folds.{list_all-append}
+use Rattle.lattice.specs.Order.{PartialOrderLaws}
+use Rattle.lattice.specs.Frontiers.{all_beyond}
+use Rattle.lattice.proofs.FrontierLemmas.{all_beyond_later}
+use Rattle.antichain.specs.Antichains.{IsFrontier}
+use Rattle.update.specs.Bags.{Alike}
+use Rattle.update.specs.Updates.{as_of, size}
+use Rattle.update.specs.declared.change.Update.{Update}
+use Rattle.batch.specs.Descriptions.{BatchState, DescriptionState, Follows}
+use Rattle.trace.specs.Readings.{all_content}
+use Rattle.trace.specs.BatchLists.{BatchListState, updates_of, end_of, merged_at, IsMergeOf, IsMergeAt, IsLink, AreLinked, IsBatchList}
+use Rattle.trace.proofs.ReadingLemmas.{size-append}
+use Rattle.trace.proofs.BoundaryLemmas.{some_same, none_some, stays}
+
+module _ {T : Type 0} where
+  -- there is a batch with each number below the length
+  pub found_at : (bs : List (BatchState T)) (i : ℕ) → i < length bs → (a : BatchState T) × (slice_get bs i ≡ Some a)
+  found_at [] i l = absurd (omega (arith, l))
+  found_at (b ∷ bs) zero l = (b, refl)
+  found_at (b ∷ bs) (suc i) l = found_at bs i (omega (arith, l))
+
+  -- to put a batch in the first one's place, and to remove the second one, is to put it in the place of both
+  pub put_for_two : (i : ℕ) (m : BatchState T) (bs : List (BatchState T)) → suc i < length bs → remove (set bs i m) (suc i) ≡ merged_at i m bs
+  put_for_two i m [] l = absurd (omega (arith, l))
+  put_for_two zero m (a ∷ []) l = absurd (omega (arith, l))
+  put_for_two zero m (a ∷ b ∷ bs) l = refl
+  put_for_two (suc i) m (a ∷ bs) l = ap (λ cs. a ∷ cs) (put_for_two i m bs (omega (arith, l)))
+
+  -- linked batches follow one another
+  pub linked_follow : (below : T → T → Bool) (cmp : T → T → Ordering) (worker node : ℕ) (from : List T) (bs : List (BatchState T)) (i : ℕ) (a b : BatchState T) → AreLinked below cmp worker node from bs → slice_get bs i ≡ Some a → slice_get bs (suc i) ≡ Some b → Follows a.description b.description
+  linked_follow below cmp worker node from [] i a b l e f = absurd (none_some e)
+  linked_follow below cmp worker node from (x ∷ []) zero a b l e f = absurd (none_some f)
+  linked_follow below cmp worker node from (x ∷ y ∷ bs) zero a b l e f =
+      subst (λ (z : BatchState T). Follows z.description b.description) (some_same e)
+      (subst (λ (z : BatchState T). Follows x.description z.description) (some_same f)
+      (l.0.continues.0 ∙ sym l.1.0.continues.0, l.0.continues.1 ∙ sym l.1.0.continues.1, sym l.1.0.continues.2))
+  linked_follow below cmp worker node from (x ∷ bs) (suc i) a b l e f = linked_follow below cmp worker node x.description.upper bs i a b l.1 e f
+
+  -- what a merge promises makes one batch for two
+  pub merge_of : (below : T → T → Bool) (since : List T) (m a b : BatchState T)
+      → m.description ≡ record { worker = a.description.worker; node = a.description.node; lower = a.description.lower; upper = b.description.upper; since = since }
+      → ((t : T) → Alike (as_of below t m.updates) (as_of below t (a.updates ++ b.updates)))
+      → ((p : List ℤ → T → Bool) → IsTrue (list_all (λ u. p u.row u.time) a.updates) → IsTrue (list_all (λ u. p u.row u.time) b.updates) → IsTrue (list_all (λ u. p u.row u.time) m.updates))
+      → size m.updates ≤ size a.updates + size b.updates
+      → IsMergeOf below since m a b
+  merge_of below since m a b described sums among smaller = record {
+    described = described;
+    reads = record {
+      sums = λ t h. sums t;
+      rows = λ p h. both (λ r t. p r) h;
+      smaller =
+          let e = size-append a.updates b.updates in
+          omega (arith, e, smaller);
+    };
+    among = both;
+  }
+    where
+      both : (p : List ℤ → T → Bool) → IsTrue (list_all (λ u. p u.row u.time) (a.updates ++ b.updates)) → IsTrue (list_all (λ u. p u.row u.time) m.updates)
+      both p h =
+          let q = λ (u : Update T). p u.row u.time in
+          let parts = and_parts (list_all q a.updates) (list_all q b.updates) (sym (list_all-append q a.updates b.updates) ∙ h) in
+          among p parts.0 parts.1
+
+  none_left : (us : List (Update T)) → IsTrue (list_all (λ u. false) us) → us ≡ []
+  none_left [] h = refl
+  none_left (u ∷ us) h = cc
+
+module _ {T : Type 0} {below : T → T → Bool} {cmp : T → T → Ordering} (o : PartialOrderLaws below) (total : IsTotalOrder cmp) (worker node : ℕ) (since : List T) where
+  -- one batch for two goes on where the first begins
+  link_for_two : (from : List T) (m a b : BatchState T) → IsFrontier below cmp from → IsMergeOf below since m a b → AreLinked below cmp worker node from (a ∷ b ∷ []) → IsLink below cmp worker node from m
+  link_for_two from m a b f is l = record {
+    continues = (
+      ap (λ (d : DescriptionState T). d.worker) is.described ∙ l.0.continues.0,
+      ap (λ (d : DescriptionState T). d.node) is.described ∙ l.0.continues.1,
+      lower ∙ l.0.continues.2,
+      still,
+    );
+    frontier = subst (IsFrontier below cmp) (sym upper) l.1.0.frontier;
+    forward = subst (λ F. IsTrue (all_beyond below from F)) (sym upper) (all_beyond_later o from a.description.upper b.description.upper l.0.forward l.1.0.forward);
+  }
+    where
+      upper : m.description.upper ≡ b.description.upper
+      upper = ap (λ (d : DescriptionState T). d.upper) is.described
+
+      lower : m.description.lower ≡ a.description.lower
+      lower = ap (λ (d : DescriptionState T). d.lower) is.described
+
+      still : m.description.lower ≡ m.description.upper → m.updates ≡ []
+      still e =
+          let none : a.updates ++ (b.updates ++ []) ≡ [] = stays o total worker node from (a ∷ b ∷ []) f l (sym upper ∙ sym e ∙ lower ∙ l.0.continues.2) in
+          let empty : a.updates ++ b.updates ≡ [] = ap (λ us. a.updates ++ us) (sym (append-nil b.updates)) ∙ none in
+          none_left m.updates (is.among (λ r t. false) (subst (λ us. IsTrue (list_all (λ (u : Update T). false) us)) (sym empty) refl))
+
+  -- linked batches stay linked
+  pub linked_merged : (i : ℕ) (m : BatchState T) (from : List T) (bs : List (BatchState T)) → IsFrontier below cmp from → IsMergeAt below since m i bs → AreLinked below cmp worker node from bs → AreLinked below cmp worker node from (merged_at i m bs)
+  linked_merged i m from [] f is l = tt
+  linked_merged zero m from (a ∷ []) f is l = l
+  linked_merged zero m from (a ∷ b ∷ bs) f is l =
+      let one = is a b refl refl in
+      let upper = ap (λ (d : DescriptionState T). d.upper) one.described in
+      (link_for_two from m a b f one (l.0, (l.1.0, tt)), subst (λ F. AreLinked below cmp worker node F bs) (sym upper) l.1.1)
+  linked_merged (suc i) m from (a ∷ bs) f is l = (l.0, linked_merged i m a.description.upper bs l.0.frontier is l.1)
+
+module _ {T : Type 0} {below : T → T → Bool} {cmp : T → T → Ordering} (o : PartialOrderLaws below) (total : IsTotalOrder cmp) (since : List T) where
+  -- a batch list stays one
+  pub list_merged : (worker node : ℕ) (start : List T) (bs : List (BatchState T)) (i : ℕ) (m : BatchState T) (old new : Bool) → IsBatchList below cmp (record { worker = worker; node = node; start = start; batches = bs; reserved = old }) → IsMergeAt below since m i bs → IsBatchList below cmp (record { worker = worker; node = node; start = start; batches = merged_at i m bs; reserved = new })
+  list_merged worker node start bs i m old new is one = record { start = is.start; linked = linked_merged o total worker node since i m start bs is.start one is.linked }
+
+module _ {T : Type 0} where
+  -- two parts of a batch list that changed
+  pub same_merged : (s t : BatchListState T) (i : ℕ) (m : BatchState T) (bs : List (BatchState T)) (reserved : Bool) → s ≡ t → bs ≡ merged_at i m s.batches → reserved ≡ true → record s { batches = bs; reserved = reserved } ≡ record t { batches = merged_at i m t.batches; reserved = true }
+  same_merged s t i m bs reserved e f r = (λ k. record s { batches = f k; reserved = r k }) ∙ ap (λ (x : BatchListState T). record x { batches = merged_at i m x.batches; reserved = true }) e
