@@ -1,0 +1,214 @@
+-- For which insertions a spine stands, while batches are inserted, holds move, and neighbours become one.
+use Rattle.std.proofs.Common.{◌≡◌, ◌≢◌, ◌↔◌, ℕ, zero, suc, ◌<◌, ◌≤◌, ◌+◌, Bool, List, [], ◌∷◌, ◌++◌, take, length, slice_get, Some, IsTrue, ◌⊎◌, inl, inr, ⊎_elim, refl, sym, ◌∙◌, ap, subst, arith}
+use Rattle.std.specs.Cmp.{IsTotalOrder}
+use Rattle.std.specs.List.{AllByRecursion}
+use Rattle.std.specs.declared.cmp.Ordering.{Ordering}
+use Rattle.std.proofs.lemmas.Bool.{cases_lt}
+use Rattle.std.proofs.lemmas.List.{append-nil, take-append-le, append_assoc}
+use Rattle.std.proofs.lemmas.Grind.{flat_map-append}
+use Rattle.std.proofs.Math.Seq.{take-length}
+use Rattle.lattice.specs.Order.{PartialOrderLaws}
+use Rattle.lattice.specs.Frontiers.{all_beyond}
+use Rattle.update.specs.declared.change.Update.{Update}
+use Rattle.batch.specs.Descriptions.{BatchState, DescriptionState}
+use Rattle.trace.specs.Readings.{Insertion, IsUpTo, AreUpTo, IsReadable, all_content, all_updates, reached}
+use Rattle.trace.specs.BatchLists.{BatchListState, IsBatchList, IsMergeAt, end_of, insertion_of, merged_at, updates_of}
+use Rattle.trace.specs.Holds.{HoldState}
+use Rattle.trace.proofs.ReadingLemmas.{readable_itself, readable_in_turn, readable_later, readable_together, readable_swapped}
+use Rattle.trace.proofs.InsertionLemmas.{up_to_cases, up_to_newest}
+use Rattle.trace.proofs.BoundaryLemmas.{end-append, linked_take, stays, stored_is}
+use Rattle.spine.specs.Spines.{SpineState, Stands, stored}
+
+module _ {T : Type 0} (below : T → T → Bool) where
+  -- all that is stored may be read in the place of all that was inserted
+  pub stands_whole : (s : SpineState T) (h : List (Insertion T)) → Stands below s h → IsReadable below s.since (stored s) (all_updates h)
+  stands_whole s h stands = by h stands.upper (λ seen up. all seen (stands.reads (length s.list.batches) (end_of s.list.start s.list.batches) seen (ap (end_of s.list.start) (take-length s.list.batches)) up))
+    where
+      all : (seen : List (Insertion T)) → IsReadable below s.since (all_content updates_of (take (length s.list.batches) s.list.batches)) (all_updates seen) → IsReadable below s.since (stored s) (all_updates seen)
+      all seen r = subst (λ (bs : List (BatchState T)). IsReadable below s.since (all_content updates_of bs) (all_updates seen)) (take-length s.list.batches) r
+
+      by : (h : List (Insertion T)) → end_of s.list.start s.list.batches ≡ reached s.list.start h → ((seen : List (Insertion T)) → AreUpTo s.list.start (end_of s.list.start s.list.batches) h seen → IsReadable below s.since (stored s) (all_updates seen)) → IsReadable below s.since (stored s) (all_updates h)
+      by [] e f = f [] (inr (e, refl))
+      by (i ∷ h) e f = f (i ∷ h) (inl (subst (λ u. IsUpTo u (i ∷ h) (i ∷ h)) (sym e) (up_to_newest i h)))
+
+  -- an empty spine stands for nothing
+  pub stands_for_nothing : (s : SpineState T) → s.list.batches ≡ [] → Stands below s []
+  stands_for_nothing s none = record {
+    upper = ap (end_of s.list.start) none;
+    reads = λ n u seen e up. subst (λ (bs : List (BatchState T)). IsReadable below s.since (all_content updates_of (take n bs)) (all_updates seen)) (sym none) (by n seen up);
+  }
+    where
+      no_batch : List (BatchState T)
+      no_batch = []
+
+      nothing : (n : ℕ) → take n no_batch ≡ no_batch
+      nothing zero = refl
+      nothing (suc n) = refl
+
+      empty : (n : ℕ) → IsReadable below s.since (all_content updates_of (take n no_batch)) []
+      empty n = subst (λ (bs : List (BatchState T)). IsReadable below s.since (all_content updates_of bs) []) (sym (nothing n)) (readable_itself below s.since [])
+
+      never : (later seen : List (Insertion T)) (last : Insertion T) (before : List (Insertion T)) → [] ≡ later ++ seen → seen ≡ last ∷ before → ⊥
+      never [] seen last before e f = cc
+      never (x ∷ later) seen last before e f = cc
+
+      by : (n : ℕ) (seen : List (Insertion T)) → {u : List T} → AreUpTo s.list.start u [] seen → IsReadable below s.since (all_content updates_of (take n no_batch)) (all_updates seen)
+      by n seen up =
+          ⊎_elim
+          (λ to. absurd (never to.later seen to.last to.before to.split to.is))
+          (λ p. subst (λ i. IsReadable below s.since (all_content updates_of (take n no_batch)) (all_updates i)) (sym p.1) (empty n))
+          up
+
+  -- a spine stands for the same as of a later since, whoever holds it
+  pub stands_later : PartialOrderLaws below → (s t : SpineState T) → t.list ≡ s.list → IsTrue (all_beyond below s.since t.since) → (h : List (Insertion T)) → Stands below s h → Stands below t h
+  stands_later o s t e later h stands = by t.list e
+    where
+      by : (list : BatchListState T) → list ≡ s.list → Stands below (record t { list = list }) h
+      by list e = subst (λ (l : BatchListState T). Stands below (record t { list = l }) h) (sym e) (record {
+        upper = stands.upper;
+        reads = λ n u seen f up. readable_later below o s.since t.since _ _ later (stands.reads n u seen f up);
+      })
+
+-- ---- an insertion
+
+module _ {T : Type 0} {below : T → T → Bool} {cmp : T → T → Ordering} (o : PartialOrderLaws below) (total : IsTotalOrder cmp) (same : List T → List T → Bool) (decides : (v u : List T) → IsTrue (same v u) ↔ (v ≡ u)) where
+  -- a batch more, and its insertion
+  pub stands_inserted : (s t : SpineState T) (b : BatchState T) → IsBatchList below cmp t.list → t.list.start ≡ s.list.start → t.list.batches ≡ s.list.batches ++ b ∷ [] → t.since ≡ s.since → (h : List (Insertion T)) → Stands below s h → Stands below t (insertion_of b ∷ h)
+  stands_inserted s t b list start e since h stands = record {
+    upper = ap (end_of t.list.start) e ∙ end-append t.list.start s.list.batches b;
+    reads = reads;
+  }
+    where
+      F : List T
+      F = t.since
+
+      before : List (BatchState T)
+      before = s.list.batches
+
+      content : all_content updates_of t.list.batches ≡ stored s ++ b.updates
+      content =
+          ap (all_content updates_of) e
+          ∙ flat_map-append updates_of before (b ∷ [])
+          ∙ ap (λ us. stored s ++ us) (append-nil b.updates)
+
+      -- all batches may be read for all insertions
+      whole : IsReadable below F (all_content updates_of t.list.batches) (all_updates (insertion_of b ∷ h))
+      whole =
+          subst (λ us. IsReadable below F us (b.updates ++ all_updates h)) (sym content)
+          (readable_in_turn below F (stored s ++ b.updates) (all_updates h ++ b.updates) (b.updates ++ all_updates h)
+          (readable_together below F (stored s) (all_updates h) b.updates b.updates (subst (λ G. IsReadable below G (stored s) (all_updates h)) (sym since) (stands_whole below s h stands)) (readable_itself below F b.updates))
+          (readable_swapped below F (all_updates h) b.updates))
+
+      end : end_of t.list.start (take (length t.list.batches) t.list.batches) ≡ b.description.upper
+      end = ap (end_of t.list.start) (take-length t.list.batches ∙ e) ∙ end-append t.list.start before b
+
+      -- where the new batch ends, all batches are up to there
+      all_there : (n : ℕ) (u : List T) → end_of t.list.start (take n t.list.batches) ≡ u → b.description.upper ≡ u → all_content updates_of t.list.batches ≡ all_content updates_of (take n t.list.batches)
+      all_there n u f there =
+          let stored_at = λ (m : ℕ) (g : end_of t.list.start (take m t.list.batches) ≡ u). stored_is o total t.list.worker t.list.node u (λ v. same v u) (λ v. decides v u) t.list.start t.list.batches m list.start list.linked g in
+          ap (all_content updates_of) (sym (take-length t.list.batches)) ∙ stored_at (length t.list.batches) (end ∙ there) ∙ sym (stored_at n f)
+
+      reads : (n : ℕ) (u : List T) (seen : List (Insertion T)) → end_of t.list.start (take n t.list.batches) ≡ u → AreUpTo t.list.start u (insertion_of b ∷ h) seen → IsReadable below F (all_content updates_of (take n t.list.batches)) (all_updates seen)
+      reads n u seen f up = ⊎_elim some none up
+        where
+          newest : (seen ≡ insertion_of b ∷ h) × (b.description.upper ≡ u) → IsReadable below F (all_content updates_of (take n t.list.batches)) (all_updates seen)
+          newest p =
+              subst (λ i. IsReadable below F (all_content updates_of (take n t.list.batches)) (all_updates i)) (sym p.0)
+              (subst (λ us. IsReadable below F us (all_updates (insertion_of b ∷ h))) (all_there n u f p.1) whole)
+
+          earlier : IsUpTo u h seen × (b.description.upper ≢ u) → IsReadable below F (all_content updates_of (take n t.list.batches)) (all_updates seen)
+          earlier p = ⊎_elim within beyond (cases_lt (length before) n)
+            where
+              within : (length before < n) → IsReadable below F (all_content updates_of (take n t.list.batches)) (all_updates seen)
+              within l = absurd (p.1 (sym end ∙ ap (λ (bs : List (BatchState T)). end_of t.list.start bs) (sym (all_of n l)) ∙ f))
+                where
+                  longer : (bs : List (BatchState T)) (n : ℕ) → length bs < n → take n (bs ++ b ∷ []) ≡ bs ++ b ∷ []
+                  longer [] (suc zero) l = refl
+                  longer [] (suc (suc n)) l = refl
+                  longer [] zero l = absurd (omega (arith, l))
+                  longer (x ∷ bs) zero l = absurd (omega (arith, l))
+                  longer (x ∷ bs) (suc n) l = ap (λ cs. x ∷ cs) (longer bs n (omega (arith, l)))
+
+                  all_of : (n : ℕ) → length before < n → take n t.list.batches ≡ take (length t.list.batches) t.list.batches
+                  all_of n l = ap (take n) e ∙ longer before n l ∙ sym e ∙ sym (take-length t.list.batches)
+
+              beyond : (n ≤ length before) → IsReadable below F (all_content updates_of (take n t.list.batches)) (all_updates seen)
+              beyond l =
+                  let first : take n t.list.batches ≡ take n before = ap (take n) e ∙ take-append-le n before (b ∷ []) l in
+                  let g : end_of s.list.start (take n before) ≡ u = ap (λ F. end_of F (take n before)) (sym start) ∙ ap (end_of t.list.start) (sym first) ∙ f in
+                  subst (λ (bs : List (BatchState T)). IsReadable below F (all_content updates_of bs) (all_updates seen)) (sym first)
+                  (subst (λ G. IsReadable below G (all_content updates_of (take n before)) (all_updates seen)) (sym since)
+                  (stands.reads n u seen g (inl p.0)))
+
+          some : IsUpTo u (insertion_of b ∷ h) seen → IsReadable below F (all_content updates_of (take n t.list.batches)) (all_updates seen)
+          some to = ⊎_elim newest earlier (up_to_cases (insertion_of b) h seen u to)
+
+          none : (u ≡ t.list.start) × (seen ≡ []) → IsReadable below F (all_content updates_of (take n t.list.batches)) (all_updates seen)
+          none p =
+              let empty = stays o total t.list.worker t.list.node t.list.start (take n t.list.batches) list.start (linked_take o total t.list.worker t.list.node t.list.start t.list.batches n list.linked) (f ∙ p.0) in
+              subst (λ us. IsReadable below F us (all_updates seen)) (sym empty)
+              (subst (λ i. IsReadable below F [] (all_updates i)) (sym p.1) (readable_itself below F []))
+
+-- ---- a merge
+
+module _ {T : Type 0} (below : T → T → Bool) (since : List T) where
+  -- where some of the batches end when two have become one, some ended before, and the ones may be read for the others
+  pub record Was (from : List T) (firsts bs : List (BatchState T)) : Type 0 where
+    pub number : ℕ
+    pub end : end_of from firsts ≡ end_of from (take number bs)
+    pub reads : IsReadable below since (all_content updates_of firsts) (all_content updates_of (take number bs))
+
+  two : (m a b rest : List (Update T)) → IsReadable below since m (a ++ b) → IsReadable below since (m ++ rest) (a ++ (b ++ rest))
+  two m a b rest r = subst (λ us. IsReadable below since (m ++ rest) us) (append_assoc a b rest) (readable_together below since m (a ++ b) rest rest r (readable_itself below since rest))
+
+  pub was : (i n : ℕ) (m : BatchState T) (from : List T) (bs : List (BatchState T)) → IsMergeAt below since m i bs → Was from (take n (merged_at i m bs)) bs
+  was i zero m from bs is = record { number = 0; end = refl; reads = readable_itself below since [] }
+  was i (suc n) m from [] is = record { number = 0; end = refl; reads = readable_itself below since [] }
+  was zero (suc n) m from (a ∷ []) is = record { number = suc n; end = refl; reads = readable_itself below since (all_content updates_of (a ∷ take n [])) }
+  was zero (suc n) m from (a ∷ b ∷ bs) is =
+      let one = is a b refl refl in
+      record {
+        number = suc (suc n);
+        end = ap (λ (d : DescriptionState T). end_of d.upper (take n bs)) one.described;
+        reads = two m.updates a.updates b.updates (all_content updates_of (take n bs)) one.reads;
+      }
+  was (suc i) (suc n) m from (a ∷ bs) is =
+      let w = was i n m a.description.upper bs is in
+      record {
+        number = suc w.number;
+        end = w.end;
+        reads = readable_together below since a.updates a.updates _ _ (readable_itself below since a.updates) w.reads;
+      }
+
+  -- all batches end where they did
+  pub end_merged : (i : ℕ) (m : BatchState T) (from : List T) (bs : List (BatchState T)) → IsMergeAt below since m i bs → end_of from (merged_at i m bs) ≡ end_of from bs
+  end_merged i m from [] is = refl
+  end_merged zero m from (a ∷ []) is = refl
+  end_merged zero m from (a ∷ b ∷ bs) is = ap (λ (d : DescriptionState T). end_of d.upper bs) (is a b refl refl).described
+  end_merged (suc i) m from (a ∷ bs) is = end_merged i m a.description.upper bs is
+
+  -- and may be read in the place of those that they were
+  pub whole_merged : (i : ℕ) (m : BatchState T) (bs : List (BatchState T)) → IsMergeAt below since m i bs → IsReadable below since (all_content updates_of (merged_at i m bs)) (all_content updates_of bs)
+  whole_merged i m [] is = readable_itself below since []
+  whole_merged zero m (a ∷ []) is = readable_itself below since (all_content updates_of (a ∷ []))
+  whole_merged zero m (a ∷ b ∷ bs) is = two m.updates a.updates b.updates (all_content updates_of bs) (is a b refl refl).reads
+  whole_merged (suc i) m (a ∷ bs) is =
+      readable_together below since a.updates a.updates (all_content updates_of (merged_at i m bs)) (all_content updates_of bs) (readable_itself below since a.updates) (whole_merged i m bs is)
+
+-- a spine stands for the same when two neighbours have become one
+pub stands_merged : {T : Type 0} (below : T → T → Bool) (s t : SpineState T) (i : ℕ) (m : BatchState T) → t.list.start ≡ s.list.start → t.list.batches ≡ merged_at i m s.list.batches → t.since ≡ s.since → IsMergeAt below s.since m i s.list.batches → (h : List (Insertion T)) → Stands below s h → Stands below t h
+stands_merged {T = T} below s t i m start e since is h stands = record {
+  upper =
+      ap (end_of t.list.start) e
+      ∙ end_merged below s.since i m t.list.start s.list.batches is
+      ∙ ap (λ F. end_of F s.list.batches) start
+      ∙ stands.upper
+      ∙ ap (λ F. reached F h) (sym start);
+  reads = λ n u seen f up.
+      let w = was below s.since i n m s.list.start s.list.batches is in
+      let g = sym w.end ∙ ap (λ (bs : List (BatchState T)). end_of s.list.start (take n bs)) (sym e) ∙ ap (λ F. end_of F (take n t.list.batches)) (sym start) ∙ f in
+      let old = stands.reads w.number u seen g (subst (λ F. AreUpTo F u h seen) start up) in
+      subst (λ (bs : List (BatchState T)). IsReadable below t.since (all_content updates_of (take n bs)) (all_updates seen)) (sym e)
+      (subst (λ F. IsReadable below F (all_content updates_of (take n (merged_at i m s.list.batches))) (all_updates seen)) (sym since)
+      (readable_in_turn below s.since _ _ _ w.reads old));
+}

@@ -1,0 +1,6 @@
+//! A trace that merges its batches.
+#![tactic(auto)]
+
+mod entry;
+mod holds;
+mod since;
