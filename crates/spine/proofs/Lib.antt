@@ -2,3 +2,4 @@
 pub mod HoldingLemmas
 pub mod StandingLemmas
 pub mod WorkingLemmas
+pub mod LargeTotalLemmas

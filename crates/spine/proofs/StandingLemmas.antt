@@ -1,20 +1,22 @@
 -- For which insertions a spine stands, while batches are inserted, holds move, and neighbours become one.
-use Rattle.std.proofs.Common.{◌≡◌, ◌≢◌, ◌↔◌, ℕ, zero, suc, ◌<◌, ◌≤◌, ◌+◌, Bool, List, [], ◌∷◌, ◌++◌, take, length, slice_get, Some, IsTrue, ◌⊎◌, inl, inr, ⊎_elim, refl, sym, ◌∙◌, ap, subst, arith}
+use Rattle.std.proofs.Common.{◌≡◌, ◌≢◌, ◌↔◌, ℕ, zero, suc, ◌<◌, ◌≤◌, ◌+◌, Bool, true, false, cond, List, [], ◌∷◌, ◌++◌, map, take, length, slice_get, Option, None, Some, IsTrue, ◌⊎◌, inl, inr, ⊎_elim, refl, sym, ◌∙◌, ap, subst, arith}
 use Rattle.std.specs.Cmp.{IsTotalOrder}
-use Rattle.std.specs.List.{AllByRecursion}
+use Rattle.std.specs.Option.{IfSome, IsSome}
+use Rattle.std.specs.List.{AllByRecursion, Contains}
 use Rattle.std.specs.declared.cmp.Ordering.{Ordering}
-use Rattle.std.proofs.lemmas.Bool.{cases_lt}
+use Rattle.std.proofs.lemmas.Bool.{cases_lt, true≢false}
 use Rattle.std.proofs.lemmas.List.{append-nil, take-append-le, append_assoc}
 use Rattle.std.proofs.lemmas.Grind.{flat_map-append}
 use Rattle.std.proofs.Math.Seq.{take-length}
 use Rattle.lattice.specs.Order.{PartialOrderLaws}
 use Rattle.lattice.specs.Frontiers.{all_beyond}
+use Rattle.antichain.proofs.Lists.{Among, among_contains}
 use Rattle.update.specs.declared.change.Update.{Update}
 use Rattle.batch.specs.Descriptions.{BatchState, DescriptionState}
-use Rattle.trace.specs.Readings.{Insertion, IsUpTo, AreUpTo, IsReadable, all_content, all_updates, reached}
-use Rattle.trace.specs.BatchLists.{BatchListState, IsBatchList, IsMergeAt, end_of, insertion_of, merged_at, updates_of}
+use Rattle.trace.specs.Readings.{Insertion, IsUpTo, AreUpTo, IsReadable, SameBeyond, all_content, all_updates, reached}
+use Rattle.trace.specs.BatchLists.{BatchListState, IsBatchList, IsMergeAt, batches_to, end_of, ends_of, insertion_of, merged_at, updates_of}
 use Rattle.trace.specs.Holds.{HoldState}
-use Rattle.trace.proofs.ReadingLemmas.{readable_itself, readable_in_turn, readable_later, readable_together, readable_swapped}
+use Rattle.trace.proofs.ReadingLemmas.{readable_itself, readable_in_turn, readable_later, readable_together, readable_swapped, same_apart, same_swapped}
 use Rattle.trace.proofs.InsertionLemmas.{up_to_cases, up_to_newest}
 use Rattle.trace.proofs.BoundaryLemmas.{end-append, linked_take, stays, stored_is}
 use Rattle.spine.specs.Spines.{SpineState, Stands, stored}
@@ -68,6 +70,65 @@ module _ {T : Type 0} (below : T → T → Bool) where
         upper = stands.upper;
         reads = λ n u seen f up. readable_later below o s.since t.since _ _ later (stands.reads n u seen f up);
       })
+
+-- what follows from two clauses about the value in a `Some`, and from that there is one
+pub some_then : {X : Type 0} (r : Option X) {P Q R : X → Type 0} → IfSome r P → IfSome r Q → ((x : X) → IsSome r → P x → Q x → R x) → IfSome r R
+some_then None p q f = tt
+some_then (Some x) p q f = f x refl p q
+
+-- ---- reading up to a boundary
+
+module _ {T : Type 0} (same : List T → List T → Bool) (decides : (v u : List T) → IsTrue (same v u) ↔ (v ≡ u)) where
+  -- as many of the batches as end at a boundary
+  record AreTo (u from : List T) (bs : List (BatchState T)) : Type 0 where
+    number : ℕ
+    are : batches_to (λ v. same v u) from bs ≡ take number bs
+    end : end_of from (take number bs) ≡ u
+
+  are_to : (u from : List T) (bs : List (BatchState T)) → Among u (from ∷ map (λ (b : BatchState T). b.description.upper) bs) → AreTo u from bs
+  are_to u from [] m = ⊎_elim (λ e. record { number = 0; are = refl; end = e }) (λ k. absurd k) m
+  are_to u from (b ∷ bs) m =
+      elim (same from u) as (λ c. same from u ≡ c → AreTo u from (b ∷ bs)) [
+        | true ↦ λ h. record {
+          number = 0;
+          are = ap (λ c. cond c [] (b ∷ batches_to (λ v. same v u) b.description.upper bs)) h;
+          end = (decides from u).0 h;
+        }
+        | false ↦ λ h. ⊎_elim
+            (λ e. absurd (true≢false (sym ((decides from u).1 e) ∙ h)))
+            (λ k.
+            let r = are_to u b.description.upper bs k in
+            record {
+              number = suc r.number;
+              are = ap (λ c. cond c [] (b ∷ batches_to (λ v. same v u) b.description.upper bs)) h ∙ ap (λ cs. b ∷ cs) r.are;
+              end = r.end;
+            })
+            m
+      ] refl
+
+  -- what is stored up to a boundary
+  abbrev pub stored_at : BatchListState T → List T → List (Update T)
+  stored_at l u = all_content updates_of (batches_to (λ v. same v u) l.start l.batches)
+
+  module _ (below : T → T → Bool) where
+    -- what is stored up to a boundary may be read for what was inserted up to there
+    pub stands_to : (s : SpineState T) (h : List (Insertion T)) → Stands below s h → (u : List T) (seen : List (Insertion T)) → Contains (ends_of s.list) u → AreUpTo s.list.start u h seen → IsReadable below s.since (stored_at s.list u) (all_updates seen)
+    stands_to s h stands u seen there up =
+        let r = are_to u s.list.start s.list.batches (among_contains u (ends_of s.list) there) in
+        subst (λ (bs : List (BatchState T)). IsReadable below s.since (all_content updates_of bs) (all_updates seen)) (sym r.are) (stands.reads r.number u seen r.end up)
+
+    -- what is stored from one boundary to another sums to what was inserted between both
+    pub stands_between : (s : SpineState T) (h : List (Insertion T)) → Stands below s h → (u w : List T) (later seen : List (Insertion T)) (us : List (Update T)) → Contains (ends_of s.list) u → Contains (ends_of s.list) w → AreUpTo s.list.start u h seen → IsUpTo w h (later ++ seen) → stored_at s.list w ≡ stored_at s.list u ++ us → SameBeyond below s.since us (all_updates later)
+    stands_between s h stands u w later seen us at_u at_w up to e =
+        let before = stored_at s.list u in
+        let first = stands_to s h stands u seen at_u up in
+        let whole = stands_to s h stands w (later ++ seen) at_w (inl to) in
+        let inserted : all_updates (later ++ seen) ≡ all_updates later ++ all_updates seen = flat_map-append (λ (i : Insertion T). i.updates) later seen in
+        let both : SameBeyond below s.since (before ++ us) (all_updates later ++ all_updates seen) =
+        subst (SameBeyond below s.since (before ++ us)) inserted (subst (λ vs. SameBeyond below s.since vs (all_updates (later ++ seen))) e whole.sums) in
+        same_apart below s.since before (all_updates seen) us (all_updates later)
+        (λ t k row. both t k row ∙ same_swapped below s.since (all_updates later) (all_updates seen) t k row)
+        first.sums
 
 -- ---- an insertion
 

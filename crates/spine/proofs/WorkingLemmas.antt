@@ -1,5 +1,5 @@
 -- What merges leave of a spine: which boundaries, what they cost, and that it was worked on.
-use Rattle.std.proofs.Common.{◌≡◌, ℕ, zero, suc, ◌+◌, ◌-◌, ◌^◌, min, ◌<◌, ◌≤◌, Bool, List, [], ◌∷◌, ◌++◌, map, length, slice_get, Some, IsTrue, inl, inr, ⊎_elim, refl, sym, ◌∙◌, ap, subst, append_assoc, arith}
+use Rattle.std.proofs.Common.{◌≡◌, ℕ, zero, suc, ◌+◌, ◌-◌, ◌^◌, min, ◌<◌, ◌≤◌, Bool, true, List, [], ◌∷◌, ◌++◌, map, length, slice_get, Some, IsTrue, inl, inr, ⊎_elim, refl, sym, ◌∙◌, ap, subst, append_assoc, arith}
 use Rattle.std.specs.Prelude.{ℤ}
 use Rattle.std.specs.List.{list_all}
 use Rattle.std.proofs.lemmas.Bool.{and_parts, and_from, true≢false}
@@ -11,8 +11,9 @@ use Rattle.trace.specs.Readings.{all_content}
 use Rattle.trace.specs.BatchLists.{BatchListState, IsMergeAt, ends_of, merged_at, updates_of}
 use Rattle.trace.specs.Holds.{HoldState}
 use Rattle.trace.proofs.BoundaryLemmas.{some_same, none_some}
+use Rattle.trace.proofs.NeighbourLemmas.{found_at}
 use Rattle.spine.specs.Holding.{forbids}
-use Rattle.spine.specs.Spines.{SpineState, Merge, MayMerge, AreMerges, IsWorked, IsCountOf, after, copies_at, copies_of, cost_of, stored}
+use Rattle.spine.specs.Spines.{SpineState, Merge, MayMerge, AreMerges, IsWorked, IsCountAfter, after, copies_at, copies_of, cost_of, stored}
 use Rattle.spine.proofs.StandingLemmas.{stands_merged, whole_merged}
 
 module _ {T : Type 0} where
@@ -33,6 +34,13 @@ module _ {T : Type 0} where
   copies_are (x ∷ y ∷ bs) zero a b e f =
       ap (λ (z : BatchState T). length z.updates + length y.updates) (some_same e) ∙ ap (λ (z : BatchState T). length a.updates + length z.updates) (some_same f)
   copies_are (x ∷ y ∷ bs) (suc i) a b e f = copies_are (y ∷ bs) i a b e f
+
+  -- and they have those of the first
+  pub copies_from : (bs : List (BatchState T)) (i : ℕ) (a : BatchState T) → slice_get bs i ≡ Some a → suc i < length bs → length a.updates ≤ copies_at i bs
+  copies_from bs i a e l =
+      let b = found_at bs (suc i) l in
+      let copies = copies_are bs i a b.0 e b.1 in
+      omega (arith, copies)
 
 module _ {T : Type 0} (below : T → T → Bool) (since : List T) where
   -- no boundary is new
@@ -72,13 +80,13 @@ module _ {T : Type 0} (below : T → T → Bool) (since : List T) where
 
 module _ {T : Type 0} (below : T → T → Bool) where
   -- nothing was merged
-  pub nothing_worked : (s : SpineState T) → s.copied < 2 ^ 64 → IsWorked below 0 s s
-  nothing_worked s l = record {
+  pub nothing_worked : (s : SpineState T) → IsWorked below 0 s s
+  nothing_worked s = record {
     merges = [];
     allowed = tt;
     batches = refl;
     cost = refl;
-    copied = omega (arith, l);
+    copied = λ l. omega (arith, l);
     kept = refl;
     stands = λ h st. st;
     fewer = λ u h. h;
@@ -88,14 +96,16 @@ module _ {T : Type 0} (below : T → T → Bool) where
   }
 
   -- two neighbours have become one
-  pub one_worked : (s : SpineState T) (i : ℕ) (m : BatchState T) (reserved : Bool) (copied : ℕ) → MayMerge below s.holds i s.list.batches → IsMergeAt below s.since m i s.list.batches → IsCountOf (s.copied + copies_at i s.list.batches) copied
+  pub one_worked : (s : SpineState T) (i : ℕ) (m : BatchState T) (reserved : Bool) (copied : ℕ) → MayMerge below s.holds i s.list.batches → IsMergeAt below s.since m i s.list.batches → IsCountAfter s.copied (copies_at i s.list.batches) copied
       → IsWorked below (suc (copies_at i s.list.batches)) s (record s { list = record s.list { batches = merged_at i m s.list.batches; reserved = reserved }; copied = copied })
   one_worked s i m reserved copied may is count = record {
     merges = record { number = i; batch = m } ∷ [];
     allowed = (may, is, tt);
     batches = refl;
     cost = omega arith;
-    copied = omega (arith, count);
+    copied = λ l.
+        let e = count l in
+        omega (arith, e);
     kept = refl;
     stands = λ h st. stands_merged below s _ i m refl refl refl is h st;
     fewer = λ u h. contains_among u (ends_of s.list) (⊎_elim (λ e. inl e) (λ k. inr (fewer_ends below s.since i m s.list.batches is u k)) (among_contains u (ends_of (record s.list { batches = merged_at i m s.list.batches; reserved = reserved })) h));
@@ -107,6 +117,14 @@ module _ {T : Type 0} (below : T → T → Bool) where
     among = among_merged below s.since i m s.list.batches is;
     smaller = (whole_merged below s.since i m s.list.batches is).smaller;
   }
+
+  -- the same of a spine that is given by what it has
+  pub merge_worked : (s t : SpineState T) (i : ℕ) (m : BatchState T) → MayMerge below s.holds i s.list.batches → IsMergeAt below s.since m i s.list.batches → t.list ≡ record s.list { batches = merged_at i m s.list.batches; reserved = true } → t.since ≡ s.since → t.holds ≡ s.holds → IsCountAfter s.copied (copies_at i s.list.batches) t.copied
+      → IsWorked below (suc (copies_at i s.list.batches)) s t
+  merge_worked s t i m may is list since holds count =
+      subst (λ (x : SpineState T). IsWorked below (suc (copies_at i s.list.batches)) s x)
+      (λ k. record { list = (sym list) k; since = (sym since) k; holds = (sym holds) k; copied = t.copied })
+      (one_worked s i m true t.copied may is count)
 
   -- ---- merges after merges
 
@@ -154,8 +172,9 @@ module _ {T : Type 0} (below : T → T → Bool) where
     copied =
         let a = copies-append w.merges v.merges r.list.batches in
         let b = ap (copies_of w.merges) v.batches in
-        let c = v.copied in
-        let d = w.copied in
+        λ l.
+        let c = v.copied l in
+        let d = w.copied (omega (arith, c)) in
         omega (arith, a, b, c, d);
     kept = w.kept ∙ ap (λ (x : SpineState T). record x { list = record x.list { batches = t.list.batches; reserved = t.list.reserved }; copied = t.copied }) v.kept;
     stands = λ h st. w.stands h (v.stands h st);

@@ -51,9 +51,9 @@ module _ {T : Type 0} where
   abbrev pub cost_of : List (Merge T) → List (BatchState T) → ℕ
   cost_of ms bs = copies_of ms bs + length ms
 
--- the count of so many things in 64 bits, where a count that would be greater stays at the greatest value
-abbrev pub IsCountOf : ℕ → ℕ → Type 0
-IsCountOf things count = count ≡ min things (2 ^ 64 - 1)
+-- a 64-bit count after so many more things: it stays at its greatest value
+abbrev pub IsCountAfter : ℕ → ℕ → ℕ → Type 0
+IsCountAfter old more new = old < 2 ^ 64 → new ≡ min (old + more) (2 ^ 64 - 1)
 
 module _ {T : Type 0} (below : T → T → Bool) where
   -- the spine stands for these insertions: it has reached as far as they did, and the batches up to a boundary may be
@@ -85,7 +85,7 @@ module _ {T : Type 0} (below : T → T → Bool) where
     pub allowed : AreMerges old.since old.holds merges old.list.batches
     pub batches : new.list.batches ≡ after merges old.list.batches
     pub cost : cost_of merges old.list.batches ≡ spent
-    pub copied : IsCountOf (old.copied + copies_of merges old.list.batches) new.copied
+    pub copied : IsCountAfter old.copied (copies_of merges old.list.batches) new.copied
     pub kept : new ≡ record old {
       list = record old.list { batches = new.list.batches; reserved = new.list.reserved };
       copied = new.copied;

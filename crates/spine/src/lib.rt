@@ -4,3 +4,7 @@
 mod entry;
 mod holds;
 mod since;
+mod spine;
+mod working;
+
+pub use spine::Spine;

@@ -121,8 +121,7 @@ impl<T: Lattice> BatchList<T> {
         }) }
         ensures stands { OnOk result (insertions_of self.new.batches
             ≡ insertion_of batch ∷ insertions_of self.old.batches) }
-        ensures link { OnOk result (IsLink T.below T.cmp self.old.worker self.old.node
-            (end_of self.old.start self.old.batches) batch) }
+        ensures known { OnOk result (IsBatchList T.below T.cmp self.new) }
         ensures same { OnErr result
             (self.new ≡ record self.old { reserved = self.new.reserved }) }
         ensures returned { IfErr result (λ unplaced. unplaced.batch ≡ batch) }

@@ -1,0 +1,326 @@
+//! The spine: a batch list, and the holds of its readers. What is inserted goes into the list as it is. What readers may
+//! still ask is known by their holds, and only across a boundary that nobody may ask for do two batches become one.
+//!
+//! The invariant: `since` is the least of all logical frontiers that are held, with memory for all their elements. So a
+//! hold can be released, and the since found anew, where no memory is left.
+ghost use Rattle.std.specs.Prelude.{◌≡◌, ◌↔◌, ◌⊎◌, ◌++◌, ◌∷◌, min, ◌-◌, ◌^◌, List, [], Err, IfErr, IfOk, IsErrAnd, OnErr, OnOk, IsTrue, true, length};
+ghost use Rattle.std.specs.List.{Contains};
+ghost use Rattle.lattice.specs.Frontiers.{all_beyond};
+ghost use Rattle.antichain.specs.Antichains.{IsFrontier};
+ghost use Rattle.update.specs.declared.refusal.Refusal.{Refusal};
+ghost use Rattle.trace.specs.Readings.{Insertion, all_content};
+ghost use Rattle.trace.specs.BatchLists.{Continues, end_of, insertion_of, updates_of};
+ghost use Rattle.spine.specs.Holding.{IsSinceOf, IsMoved, IsWithout};
+ghost use Rattle.spine.specs.Spines.{SpineState, Stands, stored};
+
+use crate::entry::Entry;
+use crate::holds::{is_onward, move_entry, number_of, one_hold, remove_entry, since_of};
+use crate::since::make_room;
+use antichain::Antichain;
+use batch::{Batch, BatchReader};
+use lattice::{Lattice, Minimum};
+use std::alloc::Global;
+use std::marker::Model;
+use trace::{BatchList, Hold, Trace, Unplaced};
+use update::Refusal;
+
+/// A trace that merges its batches under its readers' holds. A contract sees the batch list, the since, the holds, and how
+/// many updates were copied in merges.
+///
+/// One worker owns a spine and all its readers. Each reader has a [`Hold`], and gives it back by
+/// [`release`](Spine::release).
+#[derive(Drop)]
+pub struct Spine<T: Lattice> {
+    pub(crate) list: BatchList<T>,
+    pub(crate) since: Vec<T>,
+    pub(crate) holds: Vec<Entry<T>>,
+    pub(crate) copied: u64,
+}
+
+impl<T: Lattice> Model for Spine<T> {
+    ghost use Rattle.std.specs.Prelude.{vec_capacity, ◌≤◌};
+    ghost use Rattle.spine.specs.Holding.{IsSinceOf, logical_count};
+    ghost use Rattle.spine.specs.Spines.{SpineState};
+
+    ghost Value = { SpineState T };
+
+    ghost view = { λ s. record {
+      list = s.list;
+      since = s.since.items;
+      holds = s.holds.items;
+      copied = s.copied;
+    } };
+
+    ghost invariant = { λ s. IsSinceOf T.below T.cmp s.holds.items s.since.items
+        × (logical_count s.holds.items ≤ vec_capacity s.since) };
+}
+
+// The frontier that has the least time alone.
+fn least_time<T: Minimum>(alloc: Global) -> Result<Vec<T>, Refusal>
+    ensures is { IfOk result (λ times. times.items ≡ T.least ∷ []) }
+    ensures only { IfErr result (λ refused. refused ≡ Refusal.OutOfMemory) }
+{
+    let mut times = Vec::new(alloc);
+    times.push(T::minimum())?;
+    Ok(times)
+}
+
+impl<T: Minimum> Spine<T> {
+    /// A spine without batches, which begins at the least time, and a hold from there on. [`Refusal::OutOfMemory`] only if
+    /// memory for a few times was refused.
+    pub fn new(alloc: Global, worker: usize, node: usize) -> Result<(Spine<T>, Hold<T>), Refusal>
+        ensures first { IfOk result (λ made. made.0 ≡ record {
+          list = record {
+            worker = worker;
+            node = node;
+            start = T.least ∷ [];
+            batches = [];
+            reserved = made.0.list.reserved;
+          };
+          since = T.least ∷ [];
+          holds = record { logical = T.least ∷ []; physical = T.least ∷ [] } ∷ [];
+          copied = 0;
+        }) }
+        ensures hold { IfOk result
+            (λ made. made.1 ≡ record { logical = T.least ∷ []; physical = T.least ∷ [] }) }
+        ensures stands { IfOk result (λ made. Stands T.below made.0 []) }
+        ensures only { IfErr result (λ refused. refused ≡ Refusal.OutOfMemory) }
+    {
+        let list = BatchList::new(alloc, worker, node)?;
+        let logical = least_time(alloc)?;
+        let physical = least_time(alloc)?;
+        let holds = one_hold(alloc, logical.as_slice())?;
+        let since = since_of(alloc, holds.as_slice())?;
+        let spine = Spine {
+            list,
+            since,
+            holds,
+            copied: 0,
+        };
+        Ok((spine, Hold::of(logical, physical)))
+    }
+}
+
+impl<T: Lattice> Spine<T> {
+    /// Makes room for one more batch, so that the next [`insert`](Spine::insert) takes no memory. If memory was refused,
+    /// then nothing has changed.
+    pub fn reserve(&mut self) -> Result<(), Refusal>
+        ensures room { OnOk result
+            (self.new ≡ record self.old { list = record self.old.list { reserved = true } }) }
+        ensures same { OnErr result (self.new ≡ self.old) }
+        ensures only { IfErr result (λ refused. refused ≡ Refusal.OutOfMemory) }
+    {
+        self.list.reserve()
+    }
+
+    /// Inserts a batch at the end. From then on the spine stands for one more insertion: that of the batch's updates at
+    /// its upper frontier. The batch comes back if it is refused, and the spine stays as it was.
+    ///
+    /// - [`Refusal::Stray`] if and only if the batch does not begin at the frontier that the spine has reached, its
+    ///   worker or node is another, or it has updates although it ends where it begins: such updates would give a
+    ///   boundary that readers may know another meaning.
+    /// - Otherwise [`Refusal::OutOfMemory`] only if memory for one more batch was refused, which cannot be after
+    ///   [`reserve`](Spine::reserve).
+    ///
+    /// Cost: two comparisons of frontiers; the batch is moved, and no update is copied.
+    pub fn insert(&mut self, batch: Batch<T>) -> Result<(), Unplaced<T>>
+        ensures inserted { OnOk result (self.new ≡ record self.old {
+          list = record self.old.list {
+            batches = self.old.list.batches ++ batch ∷ [];
+            reserved = self.new.list.reserved;
+          };
+        }) }
+        ensures stands { OnOk result ((h : List (Insertion T)) → Stands T.below self.old h
+            → Stands T.below self.new (insertion_of batch ∷ h)) }
+        ensures same { OnErr result (self.new ≡ record self.old {
+          list = record self.old.list { reserved = self.new.list.reserved };
+        }) }
+        ensures returned { IfErr result (λ unplaced. unplaced.batch ≡ batch) }
+        ensures stray { IsErrAnd result (λ unplaced. unplaced.refusal ≡ Refusal.Stray)
+            ↔ (Continues self.old.list.worker self.old.list.node
+            (end_of self.old.list.start self.old.list.batches) batch → ⊥) }
+        ensures room { IsTrue self.old.list.reserved
+            → IfErr result (λ unplaced. unplaced.refusal ≡ Refusal.Stray) }
+        ensures only { IfErr result (λ unplaced. (unplaced.refusal ≡ Refusal.OutOfMemory)
+            ⊎ (unplaced.refusal ≡ Refusal.Stray)) }
+    {
+        self.list.insert(batch)?;
+        Ok(())
+    }
+
+    /// A new hold. It reads at all times that are beyond the since now, and asks for boundaries from the upper frontier
+    /// on. If it is refused, then nothing has changed.
+    ///
+    /// [`Refusal::OutOfMemory`] only if memory for two copies of both frontiers was refused.
+    pub fn hold(&mut self, alloc: Global) -> Result<Hold<T>, Refusal>
+        ensures begins { IfOk result (λ hold. hold ≡ record {
+          logical = self.old.since;
+          physical = end_of self.old.list.start self.old.list.batches;
+        }) }
+        ensures held { OnOk result (self.new ≡ record self.old {
+          holds = self.old.holds ++ record {
+            logical = self.old.since;
+            physical = end_of self.old.list.start self.old.list.batches;
+          } ∷ [];
+        }) }
+        ensures stands { OnOk result ((h : List (Insertion T)) → Stands T.below self.old h
+            → Stands T.below self.new h) }
+        ensures same { OnErr result (self.new ≡ self.old) }
+        ensures only { IfErr result (λ refused. refused ≡ Refusal.OutOfMemory) }
+    {
+        let own = self.entry_here(alloc)?;
+        let kept = self.entry_here(alloc)?;
+        make_room(&mut self.since, self.holds.as_slice(), own.logical().len())?;
+        self.holds.push(kept)?;
+        let (logical, physical) = own.into_frontiers();
+        Ok(Hold::of(logical, physical))
+    }
+
+    // The frontiers of a hold that begins now.
+    fn entry_here(&self, alloc: Global) -> Result<Entry<T>, Refusal>
+        ensures made { IfOk result (λ made. made ≡ record {
+          logical = self.now.since;
+          physical = end_of self.now.list.start self.now.list.batches;
+        }) }
+        ensures logical { IfOk result (λ made. IsFrontier T.below T.cmp made.logical) }
+        ensures physical { IfOk result (λ made. IsFrontier T.below T.cmp made.physical) }
+        ensures only { IfErr result (λ refused. refused ≡ Refusal.OutOfMemory) }
+    {
+        Entry::new(alloc, self.since.as_slice(), self.list.upper())
+    }
+
+    /// Moves both frontiers of a hold on. The hold must be one of this spine. If it is refused, then the spine and both
+    /// frontiers of the hold stay as they were.
+    ///
+    /// - [`Refusal::NotForward`] if and only if one of the new frontiers is not beyond the old one.
+    /// - Otherwise [`Refusal::OutOfMemory`] only if memory for two copies of both frontiers was refused.
+    ///
+    /// Cost: linear in the number of holds, and as many comparisons of times as all logical frontiers have elements,
+    /// times those of the since.
+    pub fn advance_hold(
+        &mut self,
+        alloc: Global,
+        hold: &mut Hold<T>,
+        logical: &Antichain<T>,
+        physical: &Antichain<T>,
+    ) -> Result<(), Refusal>
+        requires { Contains self.old.holds hold.old }
+        ensures moved { OnOk result
+            (hold.new ≡ record { logical = logical.now; physical = physical.now }) }
+        ensures entry { OnOk result (IsMoved hold.old hold.new self.old.holds self.new.holds) }
+        ensures kept { OnOk result
+            (self.new ≡ record self.old { since = self.new.since; holds = self.new.holds }) }
+        ensures since { OnOk result (IsSinceOf T.below T.cmp self.new.holds self.new.since) }
+        ensures onward { OnOk result
+            (IsTrue (all_beyond T.below self.old.since self.new.since)) }
+        ensures stands { OnOk result ((h : List (Insertion T)) → Stands T.below self.old h
+            → Stands T.below self.new h) }
+        ensures forward { (result ≡ Err Refusal.NotForward)
+            ↔ ((IsTrue (all_beyond T.below hold.old.logical logical.now)
+            × IsTrue (all_beyond T.below hold.old.physical physical.now)) → ⊥) }
+        ensures same { OnErr result ((self.new ≡ self.old) × (hold.new ≡ hold.old)) }
+        ensures only { IfErr result (λ refused. (refused ≡ Refusal.OutOfMemory)
+            ⊎ (refused ≡ Refusal.NotForward)) }
+    {
+        if !is_onward(hold, logical, physical) {
+            return Err(Refusal::NotForward);
+        }
+        let own = Entry::new(alloc, logical.elements(), physical.elements())?;
+        let kept = Entry::new(alloc, logical.elements(), physical.elements())?;
+        make_room(&mut self.since, self.holds.as_slice(), logical.len())?;
+        let number = number_of(self.holds.as_slice(), hold);
+        move_entry(&mut self.since, &mut self.holds, number, kept);
+        let (own_logical, own_physical) = own.into_frontiers();
+        hold.move_to(own_logical, own_physical);
+        Ok(())
+    }
+
+    /// Ends a hold, which must be one of this spine. If it was the last one, then the since is empty: no time may be read
+    /// any more. Takes no memory.
+    ///
+    /// Cost: as that of [`advance_hold`](Spine::advance_hold).
+    pub fn release(&mut self, hold: Hold<T>)
+        requires { Contains self.old.holds hold }
+        ensures gone { IsWithout hold self.old.holds self.new.holds }
+        ensures kept { self.new
+            ≡ record self.old { since = self.new.since; holds = self.new.holds } }
+        ensures since { IsSinceOf T.below T.cmp self.new.holds self.new.since }
+        ensures onward { IsTrue (all_beyond T.below self.old.since self.new.since) }
+        ensures stands { (h : List (Insertion T)) → Stands T.below self.old h
+            → Stands T.below self.new h }
+    {
+        let number = number_of(self.holds.as_slice(), &hold);
+        remove_entry(&mut self.since, &mut self.holds, number);
+        hold.end();
+    }
+
+    /// How many updates were copied in merges, since the spine was made. The count stays at its greatest value. Takes no
+    /// memory.
+    pub fn copied(&self) -> u64
+        ensures { result ≡ self.now.copied }
+    {
+        self.copied
+    }
+
+    /// How many updates are stored. The count stays at its greatest value. Takes no memory.
+    ///
+    /// Cost: one step for each batch.
+    pub fn kept(&self) -> u64
+        ensures { result ≡ min (length (stored self.now)) (2 ^ 64 - 1) }
+    {
+        updates_in(self.list.batches())
+    }
+}
+
+// How many updates the batches have, or the greatest count.
+fn updates_in<T: Lattice>(batches: &[Batch<T>]) -> u64
+    ensures { result ≡ min (length (all_content updates_of batches.now)) (2 ^ 64 - 1) }
+{
+    let mut count = 0u64;
+    for batch in batches {
+        count = count.saturating_add(batch.len() as u64);
+    }
+    count
+}
+
+impl<T: Lattice> Trace for Spine<T> {
+    ghost use Rattle.std.specs.Cmp.Lexicographic.{pointwise};
+    ghost use Rattle.trace.specs.Readings.{all_content};
+    ghost use Rattle.trace.specs.BatchLists.{batches_to, end_of, ends_of, updates_of};
+    ghost use Rattle.spine.specs.Spines.{Stands, stored};
+
+    type Time = T;
+
+    type Batch = Batch<T>;
+
+    ghost stands = { λ s h. Stands T.below s h };
+
+    ghost start = { λ s. s.list.start };
+
+    ghost last = { λ s. end_of s.list.start s.list.batches };
+
+    ghost ends = { λ s. ends_of s.list };
+
+    ghost held = { λ s. s.since };
+
+    ghost content = { λ s. stored s };
+
+    ghost stored_to = { λ s u.
+        all_content updates_of (batches_to (λ v. pointwise T.eq v u) s.list.start s.list.batches) };
+
+    fn upper(&self) -> &[T] {
+        self.list.upper()
+    }
+
+    fn since(&self) -> &[T] {
+        self.since.as_slice()
+    }
+
+    fn through(&self, upto: &[T]) -> Option<&[Batch<T>]> {
+        self.list.through(upto)
+    }
+
+    fn after(&self, from: &[T]) -> Option<&[Batch<T>]> {
+        self.list.after(from)
+    }
+}
