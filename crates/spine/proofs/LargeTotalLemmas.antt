@@ -1,5 +1,5 @@
 -- A total that is no 64-bit number asks for many updates or large ones.
-use Rattle.std.proofs.Common.{◌≡◌, ℕ, zero, suc, ◌+◌, ◌≤◌, ◌^◌, true, false, cond, ◌&&◌, Bool, List, [], ◌∷◌, ◌++◌, slice_get, Some, Result, Err, ⊎_elim, sym, ap, arith, w64, FitsSigned}
+use Rattle.std.proofs.Common.{◌≡◌, ℕ, zero, suc, ◌+◌, ◌≤◌, ◌^◌, true, false, cond, ◌&&◌, Bool, List, [], ◌∷◌, ◌++◌, slice_get, Some, Result, Err, ⊎_elim, ap, arith, w64, FitsSigned}
 use Rattle.std.specs.Prelude.{ℤ, pos, ◌+ℤ◌, unsigned_abs}
 use Rattle.std.proofs.lemmas.Bool.{cases_lt}
 use Rattle.std.proofs.lemmas.Int.{ints, fits_signed_from_abs}
@@ -14,7 +14,7 @@ use Rattle.trace.specs.Readings.{Insertion, all_content, all_updates}
 use Rattle.trace.specs.BatchLists.{HasLargePair, updates_of}
 use Rattle.trace.proofs.ReadingLemmas.{size-append}
 use Rattle.trace.proofs.BoundaryLemmas.{some_same, none_some}
-use Rattle.spine.specs.Spines.{SpineState, Stands, stored}
+use Rattle.spine.specs.Spines.{SpineState, Stands}
 use Rattle.spine.proofs.StandingLemmas.{stands_whole}
 
 -- a refusal has one reason

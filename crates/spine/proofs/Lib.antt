@@ -3,3 +3,4 @@ pub mod HoldingLemmas
 pub mod StandingLemmas
 pub mod WorkingLemmas
 pub mod LargeTotalLemmas
+pub mod WitnessLemmas

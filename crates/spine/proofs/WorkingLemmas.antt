@@ -1,5 +1,5 @@
 -- What merges leave of a spine: which boundaries, what they cost, and that it was worked on.
-use Rattle.std.proofs.Common.{◌≡◌, ℕ, zero, suc, ◌+◌, ◌-◌, ◌^◌, min, ◌<◌, ◌≤◌, Bool, true, List, [], ◌∷◌, ◌++◌, map, length, slice_get, Some, IsTrue, inl, inr, ⊎_elim, refl, sym, ◌∙◌, ap, subst, append_assoc, arith}
+use Rattle.std.proofs.Common.{◌≡◌, ℕ, zero, suc, ◌+◌, ◌<◌, ◌≤◌, Bool, true, List, [], ◌∷◌, ◌++◌, map, length, slice_get, Some, IsTrue, inl, inr, ⊎_elim, refl, sym, ◌∙◌, ap, subst, append_assoc, arith}
 use Rattle.std.specs.Prelude.{ℤ}
 use Rattle.std.specs.List.{list_all}
 use Rattle.std.proofs.lemmas.Bool.{and_parts, and_from, true≢false}
@@ -8,12 +8,12 @@ use Rattle.antichain.proofs.Lists.{Among, among_contains, contains_among}
 use Rattle.update.specs.declared.change.Update.{Update}
 use Rattle.batch.specs.Descriptions.{BatchState, DescriptionState}
 use Rattle.trace.specs.Readings.{all_content}
-use Rattle.trace.specs.BatchLists.{BatchListState, IsMergeAt, ends_of, merged_at, updates_of}
+use Rattle.trace.specs.BatchLists.{IsMergeAt, ends_of, merged_at, updates_of}
 use Rattle.trace.specs.Holds.{HoldState}
 use Rattle.trace.proofs.BoundaryLemmas.{some_same, none_some}
 use Rattle.trace.proofs.NeighbourLemmas.{found_at}
 use Rattle.spine.specs.Holding.{forbids}
-use Rattle.spine.specs.Spines.{SpineState, Merge, MayMerge, AreMerges, IsWorked, IsCountAfter, after, copies_at, copies_of, cost_of, stored}
+use Rattle.spine.specs.Spines.{SpineState, Merge, MayMerge, AreMerges, IsWorked, IsCountAfter, after, copies_at, copies_of}
 use Rattle.spine.proofs.StandingLemmas.{stands_merged, whole_merged}
 
 module _ {T : Type 0} where

@@ -1,5 +1,5 @@
 -- What is left of a list of linked batches when two neighbours become one.
-use Rattle.std.proofs.Common.{◌≡◌, ℕ, zero, suc, ◌<◌, ◌≤◌, ◌+◌, Bool, true, false, List, [], ◌∷◌, ◌++◌, set, length, slice_get, Some, None, IsTrue, refl, sym, ◌∙◌, ap, subst, arith}
+use Rattle.std.proofs.Common.{◌≡◌, ℕ, zero, suc, ◌<◌, ◌≤◌, ◌+◌, Bool, true, false, List, [], ◌∷◌, ◌++◌, set, length, slice_get, Some, IsTrue, refl, sym, ◌∙◌, ap, subst, arith}
 use Rattle.std.specs.Prelude.{ℤ}
 use Rattle.std.specs.List.{list_all, remove}
 use Rattle.std.specs.Cmp.{IsTotalOrder}
@@ -15,8 +15,7 @@ use Rattle.update.specs.Bags.{Alike}
 use Rattle.update.specs.Updates.{as_of, size}
 use Rattle.update.specs.declared.change.Update.{Update}
 use Rattle.batch.specs.Descriptions.{BatchState, DescriptionState, Follows}
-use Rattle.trace.specs.Readings.{all_content}
-use Rattle.trace.specs.BatchLists.{BatchListState, updates_of, end_of, merged_at, IsMergeOf, IsMergeAt, IsLink, AreLinked, IsBatchList}
+use Rattle.trace.specs.BatchLists.{BatchListState, merged_at, IsMergeOf, IsMergeAt, IsLink, AreLinked, IsBatchList}
 use Rattle.trace.proofs.ReadingLemmas.{size-append}
 use Rattle.trace.proofs.BoundaryLemmas.{some_same, none_some, stays}
 

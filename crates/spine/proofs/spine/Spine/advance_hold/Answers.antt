@@ -3,7 +3,7 @@ use Rattle.lattice.specs.Frontiers.{all_beyond}
 use Rattle.lattice.proofs.FrontierLemmas.{all_beyond_from}
 use Rattle.trace.specs.Holds.{HoldState}
 use Rattle.spine.specs.Holding.{IsSinceOf}
-use Rattle.spine.specs.Spines.{SpineState, Stands}
+use Rattle.spine.specs.Spines.{SpineState}
 use Rattle.spine.proofs.HoldingLemmas.{later_moved}
 use Rattle.spine.proofs.StandingLemmas.{stands_later}
 use Rattle.spine.proofs.spine.Spine.advance_hold.Goals as goal

@@ -1,4 +1,4 @@
-use Rattle.std.proofs.Common.{◌≡◌, ◌+◌, Err, ⊎_elim, refl, ◌∙◌, ap, arith}
+use Rattle.std.proofs.Common.{◌+◌, Err, ⊎_elim, refl, ◌∙◌, ap, arith}
 use Rattle.std.proofs.lemmas.Result.{err_from_is_err_and}
 use Rattle.spine.proofs.LargeTotalLemmas.{no_memory_and_overflow, large_inserted}
 use Rattle.spine.proofs.WorkingLemmas.{nothing_worked, more_worked}
