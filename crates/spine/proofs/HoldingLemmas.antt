@@ -1,6 +1,6 @@
 -- What the since does while holds come, move and go.
-use Rattle.std.proofs.Common.{◌≡◌, ℕ, zero, suc, ◌+◌, ◌≤◌, Bool, true, false, ◌||◌, List, [], ◌∷◌, ◌++◌, set, length, slice_get, Some, IsTrue, refl, sym, ◌∙◌, ap, ⊎_elim, arith}
-use Rattle.std.specs.List.{list_any, remove}
+use Rattle.std.proofs.Common.{◌≡◌, ℕ, zero, suc, ◌+◌, ◌≤◌, Bool, true, false, ◌||◌, List, [], ◌∷◌, ◌++◌, set, length, slice_get, Some, IsTrue, refl, sym, ◌∙◌, ap, ⊎_elim, arith, inl, inr}
+use Rattle.std.specs.List.{list_any, remove, Contains}
 use Rattle.std.specs.Cmp.{IsTotalOrder}
 use Rattle.std.specs.declared.cmp.Ordering.{Ordering}
 use Rattle.std.proofs.lemmas.Bool.{or_cases, or_left, or_right}
@@ -10,6 +10,7 @@ use Rattle.lattice.specs.Frontiers.{is_beyond, all_beyond}
 use Rattle.lattice.proofs.FrontierLemmas.{beyond_later}
 use Rattle.antichain.specs.Antichains.{IsFrontier}
 use Rattle.antichain.proofs.AntichainLemmas.{frontier_by_beyond}
+use Rattle.antichain.proofs.Lists.{Among, contains_among}
 use Rattle.trace.specs.Holds.{HoldState}
 use Rattle.trace.proofs.BoundaryLemmas.{some_same, none_some}
 use Rattle.spine.specs.Holding.{IsSinceOf, logical_count}
@@ -34,6 +35,22 @@ module _ {T : Type 0} where
   count_remove [] (suc i) = omega arith
   count_remove (x ∷ hs) zero = omega arith
   count_remove (x ∷ hs) (suc i) = let e = count_remove hs i in omega (arith, e)
+
+  -- the hold that moved, and a new one, are among the holds
+  pub set_contains : (hs : List (HoldState T)) (i : ℕ) (from to : HoldState T) → slice_get hs i ≡ Some from → Contains (set hs i to) to
+  set_contains hs i from to e = contains_among to (set hs i to) (by hs i e)
+    where
+      by : (hs : List (HoldState T)) (i : ℕ) → slice_get hs i ≡ Some from → Among to (set hs i to)
+      by [] i e = absurd (none_some e)
+      by (x ∷ hs) zero e = inl refl
+      by (x ∷ hs) (suc i) e = inr (by hs i e)
+
+  pub end_contains : (hs : List (HoldState T)) (h : HoldState T) → Contains (hs ++ h ∷ []) h
+  end_contains hs h = contains_among h (hs ++ h ∷ []) (by hs)
+    where
+      by : (hs : List (HoldState T)) → Among h (hs ++ h ∷ [])
+      by [] = inl refl
+      by (x ∷ hs) = inr (by hs)
 
   -- if a hold moves from what passes a test to what does, then some hold passed it before
   pub any_set : (p : HoldState T → Bool) (hs : List (HoldState T)) (i : ℕ) (from to : HoldState T) → slice_get hs i ≡ Some from → (IsTrue (p to) → IsTrue (p from)) → IsTrue (list_any p (set hs i to)) → IsTrue (list_any p hs)

@@ -1,4 +1,5 @@
--- What a spine keeps of its readers' holds, and what follows from them (McSherry et al., Shared Arrangements, VLDB 2020).
+-- What a spine keeps of its readers' holds, and what follows from them (McSherry et al., Shared Arrangements, VLDB
+-- 2020).
 use Rattle.std.specs.Prelude.{◌≡◌, ℕ, ◌+◌, Bool, List, [], ◌∷◌, set, length, slice_get, Some}
 use Rattle.std.specs.List.{list_any, remove}
 use Rattle.std.specs.declared.cmp.Ordering.{Ordering}

@@ -9,7 +9,8 @@ use Rattle.trace.specs.BatchLists.{BatchListState, IsMergeAt, end_of, ends_of, m
 use Rattle.trace.specs.Holds.{HoldState}
 use Rattle.spine.specs.Holding.{forbids}
 
--- the batches, the frontier beyond which they may be read, the readers' holds, and how many updates were copied in merges
+-- the batches, the frontier beyond which they may be read, the readers' holds, and how many updates were copied in
+-- merges
 pub record SpineState (T : Type 0) : Type 0 where
   pub list : BatchListState T
   pub since : List T
@@ -63,7 +64,8 @@ module _ {T : Type 0} (below : T → T → Bool) where
     pub reads : (n : ℕ) (u : List T) (seen : List (Insertion T))
         → end_of s.list.start (take n s.list.batches) ≡ u
         → AreUpTo s.list.start u h seen
-        → IsReadable below s.since (all_content updates_of (take n s.list.batches)) (all_updates seen)
+        → IsReadable below s.since
+        (all_content updates_of (take n s.list.batches)) (all_updates seen)
 
   -- the batch with this number and the next one may become one: no reader may ask for the boundary between them
   pub record MayMerge (holds : List (HoldState T)) (i : ℕ) (bs : List (BatchState T)) : Type 0 where

@@ -10,8 +10,8 @@ ghost use Rattle.spine.specs.Spines.{SpineState, Stands, stored};
 
 use lattice::Minimum;
 
-/// Spines stand for something: for each update there are a spine with two batches and a hold, which keeps the invariants
-/// of a spine and stores the update, and two insertions for which it stands.
+/// Spines stand for something: for each update there are a spine with two batches and a hold, which keeps the
+/// invariants of a spine and stores the update, and two insertions for which it stands.
 pub fn a_spine_stands<T: Minimum>()
     ensures { (u : Update T) → (s : SpineState T) × (h : List (Insertion T))
         × IsBatchList T.below T.cmp s.list × IsSinceOf T.below T.cmp s.holds s.since

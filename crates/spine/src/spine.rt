@@ -1,5 +1,6 @@
-//! The spine: a batch list, and the holds of its readers. What is inserted goes into the list as it is. What readers may
-//! still ask is known by their holds, and only across a boundary that nobody may ask for do two batches become one.
+//! The spine: a batch list, and the holds of its readers. What is inserted goes into the list as it is. What readers
+//! may still ask is known by their holds, and only across a boundary that nobody may ask for do two batches become
+//! one.
 //!
 //! The invariant: `since` is the least of all logical frontiers that are held, with memory for all their elements. So a
 //! hold can be released, and the since found anew, where no memory is left.
@@ -24,8 +25,8 @@ use std::marker::Model;
 use trace::{BatchList, Hold, Trace, Unplaced};
 use update::Refusal;
 
-/// A trace that merges its batches under its readers' holds. A contract sees the batch list, the since, the holds, and how
-/// many updates were copied in merges.
+/// A trace that merges its batches under its readers' holds. A contract sees the batch list, the since, the holds, and
+/// how many updates were copied in merges.
 ///
 /// One worker owns a spine and all its readers. Each reader has a [`Hold`], and gives it back by
 /// [`release`](Spine::release).
@@ -66,8 +67,8 @@ fn least_time<T: Minimum>(alloc: Global) -> Result<Vec<T>, Refusal>
 }
 
 impl<T: Minimum> Spine<T> {
-    /// A spine without batches, which begins at the least time, and a hold from there on. [`Refusal::OutOfMemory`] only if
-    /// memory for a few times was refused.
+    /// A spine without batches, which begins at the least time, and a hold from there on. [`Refusal::OutOfMemory`]
+    /// only if memory for a few times was refused.
     pub fn new(alloc: Global, worker: usize, node: usize) -> Result<(Spine<T>, Hold<T>), Refusal>
         ensures first { IfOk result (λ made. made.0 ≡ record {
           list = record {
@@ -102,8 +103,8 @@ impl<T: Minimum> Spine<T> {
 }
 
 impl<T: Lattice> Spine<T> {
-    /// Makes room for one more batch, so that the next [`insert`](Spine::insert) takes no memory. If memory was refused,
-    /// then nothing has changed.
+    /// Makes room for one more batch, so that the next [`insert`](Spine::insert) takes no memory. If memory was
+    /// refused, then nothing has changed.
     pub fn reserve(&mut self) -> Result<(), Refusal>
         ensures room { OnOk result
             (self.new ≡ record self.old { list = record self.old.list { reserved = true } }) }
@@ -163,6 +164,7 @@ impl<T: Lattice> Spine<T> {
             physical = end_of self.old.list.start self.old.list.batches;
           } ∷ [];
         }) }
+        ensures is_held { IfOk result (λ hold. Contains self.new.holds hold) }
         ensures stands { OnOk result ((h : List (Insertion T)) → Stands T.below self.old h
             → Stands T.below self.new h) }
         ensures same { OnErr result (self.new ≡ self.old) }
@@ -208,6 +210,7 @@ impl<T: Lattice> Spine<T> {
         ensures moved { OnOk result
             (hold.new ≡ record { logical = logical.now; physical = physical.now }) }
         ensures entry { OnOk result (IsMoved hold.old hold.new self.old.holds self.new.holds) }
+        ensures is_held { Contains self.new.holds hold.new }
         ensures kept { OnOk result
             (self.new ≡ record self.old { since = self.new.since; holds = self.new.holds }) }
         ensures since { OnOk result (IsSinceOf T.below T.cmp self.new.holds self.new.since) }
@@ -235,8 +238,8 @@ impl<T: Lattice> Spine<T> {
         Ok(())
     }
 
-    /// Ends a hold, which must be one of this spine. If it was the last one, then the since is empty: no time may be read
-    /// any more. Takes no memory.
+    /// Ends a hold, which must be one of this spine. If it was the last one, then the since is empty: no time may be
+    /// read any more. Takes no memory.
     ///
     /// Cost: as that of [`advance_hold`](Spine::advance_hold).
     pub fn release(&mut self, hold: Hold<T>)
@@ -254,8 +257,8 @@ impl<T: Lattice> Spine<T> {
         hold.end();
     }
 
-    /// How many updates were copied in merges, since the spine was made. The count stays at its greatest value. Takes no
-    /// memory.
+    /// How many updates were copied in merges, since the spine was made. The count stays at its greatest value. Takes
+    /// no memory.
     pub fn copied(&self) -> u64
         ensures { result ≡ self.now.copied }
     {

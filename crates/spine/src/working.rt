@@ -1,13 +1,13 @@
 //! How batches become fewer: two neighbours become one where no hold forbids it, as far as the fuel goes.
 //!
-//! A merge costs one unit of fuel for each update of both batches, and one more. No merge stays unfinished: one is begun
-//! only if what is left of the fuel covers it. So a caller who gives little fuel at a time saves what was not spent, until
-//! it is enough for the large batches too.
+//! A merge costs one unit of fuel for each update of both batches, and one more. No merge stays unfinished: one is
+//! begun only if what is left of the fuel covers it. So a caller who gives little fuel at a time saves what was not
+//! spent, until it is enough for the large batches too.
 //!
-//! Which merge comes next is the policy of [`next_pair`]. First come neighbours whose lengths lie within a factor of two,
-//! the newest first, and small ones whatever their lengths. So an update is copied about once each time its batch doubles,
-//! and the number of batches grows with the logarithm of what is stored. Only if there are no such neighbours, the two
-//! that cost least are merged. The contract of [`work`](Spine::work) leaves the policy open.
+//! Which merge comes next is the policy of [`next_pair`]. First come neighbours whose lengths lie within a factor of
+//! two, the newest first, and small ones whatever their lengths. So an update is copied about once each time its batch
+//! doubles, and the number of batches grows with the logarithm of what is stored. Only if there are no such
+//! neighbours, the two that cost least are merged. The contract of [`work`](Spine::work) leaves the policy open.
 ghost use Rattle.std.specs.Prelude.{◌≡◌, ◌↔◌, ◌⊎◌, ◌<◌, ◌≤◌, ◌+◌, ◌^◌, ℕ, suc, List, Some, None, Err, true, false, IfErr, IfOk, IfSome, OnErr, OnOk, IsTrue, length, slice_get};
 ghost use Rattle.update.specs.Refusals.{IsMemoryOrOverflow};
 ghost use Rattle.update.specs.Updates.{size};
@@ -172,22 +172,32 @@ impl<T: Lattice> Spine<T> {
         next_pair(self.list.batches(), self.holds.as_slice(), fuel)
     }
 
-    /// Merges neighbours across boundaries that no hold forbids, as far as the fuel goes. True if and only if nothing is
-    /// left to merge: some reader may ask for each boundary between two batches. Readers notice nothing: whatever the
-    /// spine stood for, it stands for still, and each boundary that a reader may ask for is one still.
+    /// Merges neighbours across boundaries that no hold forbids, as far as the fuel goes. True if and only if nothing
+    /// is left to merge: some reader may ask for each boundary between two batches. Readers notice nothing: whatever
+    /// the spine stood for, it stands for still, and each boundary that a reader may ask for is one still.
     ///
-    /// A merge costs one unit of fuel for each update of both batches, and one more. Work stops where the fuel that is left
-    /// covers no merge that is allowed. Nothing is carried over to the next call: the caller saves what was not spent.
+    /// A merge costs one unit of fuel for each update of both batches, and one more. Work stops where the fuel that is
+    /// left covers no merge that is allowed. Nothing is carried over to the next call: the caller saves what was not
+    /// spent.
     ///
     /// If work is refused, then some merges may have been done, and the spine still stands for the same.
     ///
-    /// - [`Refusal::Overflow`] only if the total of some row at some time over two neighbours is no 64-bit number. Then the
-    ///   absolute diffs of all that was inserted sum to 2^63 or more.
+    /// - [`Refusal::Overflow`] only if the total of some row at some time over two neighbours is no 64-bit number.
+    ///   Then the absolute diffs of all that was inserted sum to 2^63 or more.
     /// - [`Refusal::OutOfMemory`] only if memory for a merged batch was refused.
     ///
     /// Cost: at most the fuel, and for each merge one step for each batch and hold.
     pub fn work(&mut self, fuel: u64) -> Result<bool, Refusal>
         ensures worked { (spent : ℕ) × (spent ≤ fuel) × IsWorked T.below spent self.old self.new }
+        ensures stands { (h : List (Insertion T)) → Stands T.below self.old h
+            → Stands T.below self.new h }
+        ensures kept { self.new ≡ record self.old {
+          list = record self.old.list {
+            batches = self.new.list.batches;
+            reserved = self.new.list.reserved;
+          };
+          copied = self.new.copied;
+        } }
         ensures stuck { OnOk result ((spent : ℕ) × (left : ℕ) × (left + spent ≡ fuel)
             × IsWorked T.below spent self.old self.new
             × IsStuck T.below left self.new.holds self.new.list.batches) }

@@ -1,7 +1,8 @@
 //! The plainest trace: a list of batches that grows at its end. By itself it merges nothing and moves no time, so it
-//! stands for exactly the batches that were inserted, and its since is the frontier at which it begins. It shows that the
-//! promises of [`Trace`] can be kept, and it is what a trace that merges and compacts has to agree with. Such a trace
-//! keeps its batches in a batch list, and decides when [`BatchList::merge_at`] makes one batch of two neighbours.
+//! stands for exactly the batches that were inserted, and its since is the frontier at which it begins. It shows that
+//! the promises of [`Trace`] can be kept, and it is what a trace that merges and compacts has to agree with. Such a
+//! trace keeps its batches in a batch list, and decides when [`BatchList::merge_at`] makes one batch of two
+//! neighbours.
 //!
 //! The invariant: each batch begins at the frontier at which the one before it ends, and a batch whose interval is
 //! empty has no updates. Frontiers only move forward, so two batches that end at one boundary have only empty intervals
@@ -25,8 +26,8 @@ use std::alloc::Global;
 use std::marker::Model;
 use update::Refusal;
 
-/// A trace that keeps each batch as it was inserted, until it is told to merge two. A contract sees the worker, the node,
-/// the frontier at which the list begins, the batches, and whether there is memory for one more.
+/// A trace that keeps each batch as it was inserted, until it is told to merge two. A contract sees the worker, the
+/// node, the frontier at which the list begins, the batches, and whether there is memory for one more.
 ///
 /// Cost: a boundary is found by comparing it with the end of each batch, until one ends there.
 #[derive(Drop)]
@@ -164,7 +165,8 @@ impl<T: Lattice> BatchList<T> {
               reserved = true;
             }) × IsMergeAt T.below since.now m i self.old.batches) }
         ensures same { OnErr result (self.new ≡ self.old) }
-        ensures refused { IfErr result (IsMemoryOrOverflow (HasLargePair T.below self.old.batches)) }
+        ensures refused { IfErr result
+            (IsMemoryOrOverflow (HasLargePair T.below self.old.batches)) }
     {
         let merged = merged_pair(self.batches.as_slice(), i, since)?;
         put_merged(&mut self.batches, i, merged);

@@ -1,10 +1,11 @@
-use Rattle.std.proofs.Common.{◌≡◌, List, IsTrue, Some, slice_get, refl, sym, ◌∙◌, ap, subst}
+use Rattle.std.proofs.Common.{◌≡◌, List, IsTrue, Some, set, slice_get, refl, sym, ◌∙◌, ap, subst, rules}
+use Rattle.std.specs.List.{Contains}
 use Rattle.lattice.specs.Frontiers.{all_beyond}
 use Rattle.lattice.proofs.FrontierLemmas.{all_beyond_from}
 use Rattle.trace.specs.Holds.{HoldState}
 use Rattle.spine.specs.Holding.{IsSinceOf}
 use Rattle.spine.specs.Spines.{SpineState}
-use Rattle.spine.proofs.HoldingLemmas.{later_moved}
+use Rattle.spine.proofs.HoldingLemmas.{later_moved, set_contains}
 use Rattle.spine.proofs.StandingLemmas.{stands_later}
 use Rattle.spine.proofs.spine.Spine.advance_hold.Goals as goal
 
@@ -23,3 +24,11 @@ pub returns-clause-stands : goal.returns-clause-stands
 returns-clause-stands g c h stands =
     let below = g.T.PartialOrder.below in
     stands_later below g.met.T.PartialOrder.order c.args.self.now _ (ap (λ (s : SpineState g.row.T.Denot). s.list) c.self.view_is) (returns-clause-onward g c) h stands
+
+pub returns-clause-is_held : goal.returns-clause-is_held
+returns-clause-is_held g c =
+    let at = subst (λ (hs : List (HoldState g.row.T.Denot)). slice_get hs c.number_of-number.result ≡ Some c.args.hold.now) c.as_slice-2.ensures.value c.number_of-number.ensures.is in
+    let same : c.in_ok-kept.kept ≡ c.move_to.new.self = search rules in
+    subst (λ (hs : List (HoldState g.row.T.Denot)). Contains hs c.move_to.new.self) (sym c.move_entry.ensures.moved)
+    (subst (λ (k : HoldState g.row.T.Denot). Contains (set c.self.inside.holds.items c.number_of-number.result k) c.move_to.new.self) (sym same)
+    (set_contains c.self.inside.holds.items c.number_of-number.result c.args.hold.now c.move_to.new.self at))
