@@ -38,6 +38,8 @@ mod row_tests;
 mod script_tests;
 #[cfg(test)]
 mod sketches;
+#[cfg(test)]
+mod spine_tests;
 mod times;
 #[cfg(test)]
 mod trace_tests;
