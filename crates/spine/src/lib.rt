@@ -11,7 +11,8 @@
 //!   these.
 //! - [`Spine::work`] merges as far as the fuel goes that the caller gives. Which neighbours are next is one function,
 //!   which its contract leaves open.
-//! - [`a_spine_stands`] is a law: there are spines that stand for insertions.
+//! - [`a_spine_stands`] is a law: there are spines that stand for insertions. By [`holds_are_kept_apart`] somebody with
+//!   many readers knows each reader's hold after a call with one of them.
 //!
 //! Times stay as they were inserted. To move them to their representatives as of the since comes later, and changes no
 //! contract: all promises of readings speak of times beyond the since alone.
@@ -24,5 +25,5 @@ mod since;
 mod spine;
 mod working;
 
-pub use laws::a_spine_stands;
+pub use laws::{a_spine_stands, holds_are_kept_apart};
 pub use spine::Spine;

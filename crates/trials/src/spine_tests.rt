@@ -1,14 +1,15 @@
 //! Spines: merges happen if there is memory, and not across a boundary that a reader may ask for; and a spine that is
 //! given fuel for each insertion keeps few batches. Which neighbours are merged is promised by no clause.
-ghost use Rattle.std.specs.Prelude.{◌≡◌};
+ghost use Rattle.std.specs.Prelude.{◌≡◌, ◌∷◌, ◌++◌, List, [], IfOk, OnErr};
 ghost use Rattle.std.specs.List.{Contains};
+ghost use Rattle.spine.specs.Holding.{AreSameHolds};
 
 use crate::batch_tests::sealed;
 use crate::sketches::{at, list};
 use antichain::Antichain;
 use batch::{Batch, BatchReader};
 use lattice::Bitime;
-use spine::Spine;
+use spine::{Spine, holds_are_kept_apart};
 use std::alloc::Global;
 use std::process::Abort;
 use std::test::Fail;
@@ -25,6 +26,16 @@ fn insert(spine: &mut Spine<Bitime>, batch: Batch<Bitime>) -> Result<(), Refusal
             Ok(()) => Ok(()),
             Err(second) => Err(second.refusal),
         },
+    }
+}
+
+// Makes room for one more batch, and once more if memory was refused.
+fn reserve(spine: &mut Spine<Bitime>) -> Result<(), Refusal>
+    ensures { spine.new.holds ≡ spine.old.holds }
+{
+    match spine.reserve() {
+        Err(Refusal::OutOfMemory) => spine.reserve(),
+        done => done,
     }
 }
 
@@ -62,6 +73,7 @@ fn insert_three(alloc: Global, spine: &mut Spine<Bitime>) -> Result<(), Refusal>
 {
     insert(spine, seven(alloc, (0, 0), (1, 1), (0, 3), 1)?)?;
     insert(spine, seven(alloc, (1, 1), (2, 2), (1, 3), -1)?)?;
+    reserve(spine)?;
     insert(spine, seven(alloc, (2, 2), (3, 3), (2, 2), 5)?)
 }
 
@@ -162,16 +174,94 @@ fn many_insertions_leave_few_batches(rt: HostRuntime) -> Result<(), Fail> {
     Ok(())
 }
 
-// The since of two holds is the least of both logical frontiers; that of none is empty.
+// Moves the logical frontier of a hold on, and once more if memory was refused. The other holds stay.
+fn read_from(
+    alloc: Global,
+    spine: &mut Spine<Bitime>,
+    hold: &mut Hold<Bitime>,
+    logical: (u64, u64),
+) -> Result<(), Refusal>
+    requires { Contains spine.old.holds hold.old }
+    ensures { (others : List _)
+        → AreSameHolds (hold.old ∷ others) spine.old.holds
+        → AreSameHolds (hold.new ∷ others) spine.new.holds }
+{
+    holds_are_kept_apart::<Bitime>();
+    let logical = Antichain::from_elem(alloc, at(logical));
+    let physical = Antichain::from_elem(alloc, at((0, 0)));
+    match spine.advance_hold(alloc, hold, &logical, &physical) {
+        Err(Refusal::OutOfMemory) => spine.advance_hold(alloc, hold, &logical, &physical),
+        done => done,
+    }
+}
+
+// Lets one reader read from (0, 3) on and another one from (3, 0) on.
+fn read_apart(
+    alloc: Global,
+    spine: &mut Spine<Bitime>,
+    first: &mut Hold<Bitime>,
+    second: &mut Hold<Bitime>,
+) -> Result<(), Refusal>
+    requires { AreSameHolds (second.old ∷ first.old ∷ []) spine.old.holds }
+    ensures { AreSameHolds (second.new ∷ first.new ∷ []) spine.new.holds }
+{
+    holds_are_kept_apart::<Bitime>();
+    read_from(alloc, spine, first, (0, 3))?;
+    read_from(alloc, spine, second, (3, 0))
+}
+
+// One more hold, and once more if memory was refused.
+fn one_more(alloc: Global, spine: &mut Spine<Bitime>) -> Result<Hold<Bitime>, Refusal>
+    ensures held { IfOk result (λ hold. spine.new.holds ≡ spine.old.holds ++ hold ∷ []) }
+    ensures same { OnErr result (spine.new.holds ≡ spine.old.holds) }
+{
+    match spine.hold(alloc) {
+        Err(Refusal::OutOfMemory) => spine.hold(alloc),
+        done => done,
+    }
+}
+
+// Ends a hold. The other holds stay.
+fn end(spine: &mut Spine<Bitime>, hold: Hold<Bitime>)
+    requires { Contains spine.old.holds hold }
+    ensures { (others : List _)
+        → AreSameHolds (hold ∷ others) spine.old.holds → AreSameHolds others spine.new.holds }
+{
+    holds_are_kept_apart::<Bitime>();
+    spine.release(hold);
+}
+
+// The since of two holds is the least of both logical frontiers; that of one is its own.
+fn read_with_another(
+    rt: &impl Abort,
+    alloc: Global,
+    spine: &mut Spine<Bitime>,
+    first: &mut Hold<Bitime>,
+) -> Result<(), Refusal>
+    requires { AreSameHolds (first.old ∷ []) spine.old.holds }
+    ensures { AreSameHolds (first.new ∷ []) spine.new.holds }
+{
+    holds_are_kept_apart::<Bitime>();
+    let mut second = one_more(alloc, spine)?;
+    let outcome = read_apart(alloc, spine, first, &mut second);
+    let least = spine.since() == [at((0, 3)), at((3, 0))].as_slice();
+    end(spine, second);
+    outcome?;
+    assert!(rt; least && spine.since() == [at((0, 3))].as_slice());
+    Ok(())
+}
+
+// The since of no hold is empty. Each call is made once more where memory was refused.
 #[test]
-fn a_since_is_the_least_of_all_holds(rt: HostRuntime) -> Result<(), Fail> {
-    let (mut spine, mut first) = Spine::new(rt.alloc(), 0, 0)?;
-    let start = Antichain::from_elem(rt.alloc(), at((0, 0)));
-    let early = Antichain::from_elem(rt.alloc(), at((0, 3)));
-    let moved = spine.advance_hold(rt.alloc(), &mut first, &early, &start);
-    let least = spine.since() == [at((0, 3))].as_slice();
+fn a_since_of_many_holds_takes_memory(rt: HostRuntime) -> Result<(), Fail> {
+    let (mut spine, mut first) = match Spine::new(rt.alloc(), 0, 0) {
+        Err(Refusal::OutOfMemory) => Spine::new(rt.alloc(), 0, 0)?,
+        done => done?,
+    };
+    holds_are_kept_apart::<Bitime>();
+    let outcome = read_with_another(&rt, rt.alloc(), &mut spine, &mut first);
     spine.release(first);
-    moved?;
-    assert!(rt; least && spine.since().is_empty());
+    outcome?;
+    assert!(rt; spine.since().is_empty());
     Ok(())
 }
