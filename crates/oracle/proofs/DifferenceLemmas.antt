@@ -1,7 +1,7 @@
 -- Lists of differences: how the list grows along the join closure, and why the finished list is the differences
 -- of the view.
-use Rattle.std.proofs.Common.{◌≡◌, ◌≢◌, ℕ, zero, suc, ◌+◌, ◌<◌, Bool, true, false, cond, List, [], ◌∷◌, ◌++◌, ℤ, map, take, drop, length, get_or, IsTrue, ◌⊎◌, ⊎_elim, inl, inr, refl, ap, sym, subst, ◌∙◌, eq-or-lt_of_le, length-take-le, Option, Some, None, Result, Ok, Err, Vec, arith}
-use Rattle.std.specs.Prelude.{pos, ◌+ℤ◌, not, slice_get, IfOk}
+use Rattle.std.proofs.Common.{◌≡◌, ◌≢◌, ℕ, zero, suc, ◌+◌, ◌<◌, ◌≤◌, take_all, Bool, true, false, cond, List, [], ◌∷◌, ◌++◌, ℤ, map, take, drop, length, get_or, IsTrue, ◌⊎◌, ⊎_elim, inl, inr, refl, ap, sym, subst, ◌∙◌, eq-or-lt_of_le, length-take-le, Option, Some, None, arith}
+use Rattle.std.specs.Prelude.{pos, ◌+ℤ◌, not, slice_get}
 use Rattle.std.specs.List.{filter, flat_map, list_all, AllByRecursion, Contains}
 use Rattle.std.specs.List.Sorted.{IsStrictlySortedBy}
 use Rattle.std.specs.Cmp.{IsTotalOrder}
@@ -11,9 +11,9 @@ use Rattle.std.specs.declared.cmp.Ordering.{Ordering}
 use Rattle.std.specs.declared.cmp.Ordering.TheVariants.{Less, Equal, Greater}
 use Rattle.std.proofs.lemmas.Bool.{and_from, true≢false, cases_lt}
 use Rattle.std.proofs.lemmas.Int.{ints}
-use Rattle.std.proofs.lemmas.List.{map-append, take_more, get_or_past, get_or_default, get_or-take, take-append-drop, append-nil, flat_map_more}
+use Rattle.std.proofs.lemmas.List.{map-append, take_more, get_or_default, get_or-take, take-append-drop, append-nil, flat_map_more}
 use Rattle.std.proofs.lemmas.List.Elements.{All-from_recursion, recursion_from_All, filter-append, Contains-push, Contains-push_cases, Contains-append_left}
-use Rattle.antichain.proofs.AntichainLemmas.{not_true, not_from}
+use Rattle.antichain.proofs.AntichainLemmas.{not_true}
 use Rattle.lattice.specs.Frontiers.{is_beyond}
 use Rattle.lattice.specs.Order.{PartialOrderLaws, LatticeLaws, ExtendsLaws}
 use Rattle.lattice.proofs.FrontierLemmas.{beyond_up}
@@ -23,19 +23,20 @@ use Rattle.update.specs.declared.change.Update.{Update}
 use Rattle.plan.specs.Ancestors.{feeds, numbers_below}
 use Rattle.plan.specs.Changes.{AreDifferences, has_passed, query_at}
 use Rattle.plan.specs.Nodes.{node_at, sources, key_width}
+use Rattle.plan.specs.Operators.{operator_output}
 use Rattle.plan.specs.Queries.{query, source_value}
 use Rattle.plan.specs.Rules.{IsPlan}
 use Rattle.plan.specs.declared.node.Node.{Node}
+use Rattle.plan.proofs.FedLemmas.{alike_where_fed}
 use Rattle.plan.proofs.OperatorLemmas.{given_alike, given_nothing}
 use Rattle.plan.proofs.PlanLemmas.{source_smaller}
-use Rattle.plan.proofs.QueryLemmas.{query_alike}
 use Rattle.plan.proofs.StepLemmas.{query_by_sources}
 use Rattle.plan.proofs.UpwardLemmas.{by_smaller}
 use Rattle.plan.proofs.CountLemmas.{count_of-append}
-use Rattle.oracle.specs.Evaluation.{HasLargeAbove, inputs_before, list_of, sums_at}
-use Rattle.oracle.specs.JoinClosures.{Covers, IsJoinClosure}
+use Rattle.oracle.specs.Evaluation.{HasLargeAbove, list_of, sums_at}
+use Rattle.oracle.specs.JoinClosures.{HavePassed, IsJoinClosure}
 use Rattle.oracle.specs.Listing.{at_time, ContinuesListing, HasLargeDifference, HasLargeGap, IsListed}
-use Rattle.oracle.proofs.JoinClosureLemmas.{last_of}
+use Rattle.oracle.proofs.JoinClosureLemmas.{last_of, passed_before}
 
 -- ---- lists
 
@@ -97,22 +98,13 @@ query_nothing p plan = by_smaller (λ n. Alike (query p (λ input. []) n) []) (�
     at_port n rest port None e = λ row. refl
     at_port n rest port (Some s) e = rest s (source_smaller p plan n port s e)
 
-list_covered : {T : Type 0} (p : List Node) (lists : List (List (Update T))) (join_closure : List T) → Covers join_closure lists → (n : ℕ) → AllByRecursion (λ u. Contains join_closure u.time) (list_of p lists n)
-list_covered p lists join_closure covers n =
-    ⊎_elim
-    (λ inside. recursion_from_All (λ u. Contains join_closure u.time) (get_or lists (inputs_before p n) []) (covers (inputs_before p n) [] inside))
-    (λ past. subst (AllByRecursion (λ u. Contains join_closure u.time)) (sym (get_or_past lists (inputs_before p n) [] past)) tt)
-    (cases_lt (inputs_before p n) (length lists))
-
 -- ---- along the join closure
 
 module _ {T : Type 0} {below : T → T → Bool} {joined met : T → T → T} {cmp : T → T → Ordering} (o : PartialOrderLaws below) (b : LatticeLaws below joined met) (x : ExtendsLaws below cmp) (total : IsTotalOrder cmp)
-    (p : List Node) (plan : IsPlan p) (lists : List (List (Update T))) (view : ℕ) (frontier join_closure : List T) (is : IsJoinClosure cmp joined lists join_closure) where
+    (p : List Node) (plan : IsPlan p) (lists : List (List (Update T))) (view : ℕ) (within : view < length p) (frontier join_closure : List T)
+    (is : IsJoinClosure below cmp joined p (list_of p lists) frontier view join_closure) where
   abbrev wanted : T → List Entry
   wanted = query_at below p (list_of p lists) view
-
-  passed_down : (s t : T) → IsTrue (below s t) → IsTrue (has_passed below frontier t) → IsTrue (has_passed below frontier s)
-  passed_down s t h k = not_from (is_beyond below frontier s) (λ c. not_true (is_beyond below frontier t) k (beyond_up o frontier s t c h))
 
   -- a time that sorts before another is not at or after it
   not_behind : (s t : T) → cmp s t ≡ Less → below t s ≡ true → ⊥
@@ -135,17 +127,43 @@ module _ {T : Type 0} {below : T → T → Bool} {joined met : T → T → T} {c
       step false false e g = refl
       step false true e g = sym e ∙ o.transitive s f t g h
 
-  wanted_same : (t f : T) → IsTrue (below f t) → ((s : T) → Contains join_closure s → IsTrue (below s t) → IsTrue (below s f)) → Alike (wanted t) (wanted f)
-  wanted_same t f h last =
-      query_alike p (sums_at below p lists t) (sums_at below p lists f)
-      (λ input row. ap (λ es. count_of es row) (sum_same below t f (list_of p lists input) (all_weaker (λ u. Contains join_closure u.time) (λ u. below u.time t ≡ below u.time f) (λ u c. same_below t f h last u.time c) (list_of p lists input) (list_covered p lists join_closure is.covers input))))
-      view
+  -- an open time is not at or before a passed one
+  not_below : (s t : T) → is_beyond below frontier s ≡ true → IsTrue (has_passed below frontier t) → below s t ≡ false
+  not_below s t later h = step (below s t) refl
+    where
+      step : (v : Bool) → below s t ≡ v → v ≡ false
+      step true e = absurd (not_true (is_beyond below frontier t) h (beyond_up o frontier s t later e))
+      step false e = refl
 
-  wanted_none : (t : T) → ((s : T) → Contains join_closure s → below s t ≡ false) → Alike (wanted t) []
-  wanted_none t none row =
-      query_alike p (sums_at below p lists t) (λ input. [])
-      (λ input row. ap (λ es. count_of es row) (sum_none below t (list_of p lists input) (all_weaker (λ u. Contains join_closure u.time) (λ u. below u.time t ≡ false) (λ u c. none u.time c) (list_of p lists input) (list_covered p lists join_closure is.covers input))))
-      view row
+  -- each change of an input that feeds the view has a time of the closure, or one that is still open
+  closed_or_open : (input : ℕ) → IsTrue (feeds p input view) → AllByRecursion (λ u. Contains join_closure u.time ⊎ (is_beyond below frontier u.time ≡ true)) (list_of p lists input)
+  closed_or_open input fed =
+      all_weaker (λ u. IsTrue (has_passed below frontier u.time) → Contains join_closure u.time) (λ u. Contains join_closure u.time ⊎ (is_beyond below frontier u.time ≡ true)) (λ u h. step u.time h (is_beyond below frontier u.time) refl)
+      (list_of p lists input) (recursion_from_All (λ u. IsTrue (has_passed below frontier u.time) → Contains join_closure u.time) (list_of p lists input) (is.covers input fed))
+    where
+      step : (s : T) → (IsTrue (has_passed below frontier s) → Contains join_closure s) → (v : Bool) → is_beyond below frontier s ≡ v → Contains join_closure s ⊎ (is_beyond below frontier s ≡ true)
+      step s h true e = inr e
+      step s h false e = inl (h (ap not e))
+
+  -- an operator depends only on the bags at its ports
+  operators_alike : (k : ℕ) (node : Node) (c d : ℕ → List Entry) → ((port : ℕ) → Alike (c port) (d port)) → Alike (operator_output k node c) (operator_output k node d)
+  operators_alike k node c d h = given_alike k node c d (λ port s. h port)
+
+  -- at a passed time, the query is the same as at the last time of the closure at or before it
+  wanted_same : (t f : T) → IsTrue (has_passed below frontier t) → IsTrue (below f t) → ((s : T) → Contains join_closure s → IsTrue (below s t) → IsTrue (below s f)) → Alike (wanted t) (wanted f)
+  wanted_same t f passed h last =
+      alike_where_fed operators_alike p plan (sums_at below p lists t) (sums_at below p lists f) view within
+      (λ input fed row. ap (λ es. count_of es row) (sum_same below t f (list_of p lists input) (all_weaker (λ u. Contains join_closure u.time ⊎ (is_beyond below frontier u.time ≡ true)) (λ u. below u.time t ≡ below u.time f) (λ u k. either u.time k) (list_of p lists input) (closed_or_open input fed))))
+    where
+      either : (s : T) → Contains join_closure s ⊎ (is_beyond below frontier s ≡ true) → below s t ≡ below s f
+      either s k = ⊎_elim (λ c. same_below t f h last s c) (λ later. not_below s t later passed ∙ sym (not_below s f later (passed_before o frontier f t h passed))) k
+
+  -- at a passed time that has no time of the closure at or before it, the query has no rows
+  wanted_none : (t : T) → IsTrue (has_passed below frontier t) → ((s : T) → Contains join_closure s → below s t ≡ false) → Alike (wanted t) []
+  wanted_none t passed none row =
+      alike_where_fed operators_alike p plan (sums_at below p lists t) (λ input. []) view within
+      (λ input fed row. ap (λ es. count_of es row) (sum_none below t (list_of p lists input) (all_weaker (λ u. Contains join_closure u.time ⊎ (is_beyond below frontier u.time ≡ true)) (λ u. below u.time t ≡ false) (λ u k. ⊎_elim (λ c. none u.time c) (λ later. not_below u.time t later passed) k) (list_of p lists input) (closed_or_open input fed))))
+      row
       ∙ query_nothing p plan view row
 
   -- one step: f is time number i of the closure
@@ -171,6 +189,14 @@ module _ {T : Type 0} {below : T → T → Bool} {joined met : T → T → T} {c
 
     next_new : Contains (take (i + 1) join_closure) f
     next_new = subst (λ xs. Contains xs f) (sym next_times) (Contains-push (take i join_closure) f)
+
+    -- if all times of the closure have passed, f has passed
+    pub passed_here : HavePassed below frontier join_closure → is_beyond below frontier f ≡ false
+    passed_here all = step (is_beyond below frontier f) refl
+      where
+        step : (v : Bool) → is_beyond below frontier f ≡ v → v ≡ false
+        step true e = absurd (not_true (is_beyond below frontier f) (all f (i, inside, sym here)) e)
+        step false e = refl
 
     -- if f has not passed, the list stays as it is
     pub listed_skip : (us : List (Update T)) → is_beyond below frontier f ≡ true → IsListed below cmp frontier wanted (take i join_closure) us → IsListed below cmp frontier wanted (take (i + 1) join_closure) us
@@ -236,18 +262,19 @@ module _ {T : Type 0} {below : T → T → Bool} {joined met : T → T → T} {c
     -- before f, the list sums to the wanted rows at each time
     sums_before : (us : List (Update T)) → IsTrue (has_passed below frontier f) → IsListed below cmp frontier wanted (take i join_closure) us → (s : T) → IsTrue (below s f) → (s ≡ f → ⊥) → Alike (as_of below s us) (wanted s)
     sums_before us passed so s h n =
+        let early = passed_before o frontier s f h passed in
         ⊎_elim
         (λ none row.
         ap (λ es. count_of es row) (sum_none below s us (all_weaker (λ u. IsTrue (has_passed below frontier u.time) × Contains (take i join_closure) u.time) (λ u. below u.time s ≡ false) (λ u c. none u.time (from_grid u.time c.1)) us so.among))
-        ∙ sym (wanted_none s none row))
+        ∙ sym (wanted_none s early none row))
         (λ r.
         let g = r.0 in
         let same = sum_same below s r.0 us (all_weaker (λ u. IsTrue (has_passed below frontier u.time) × Contains (take i join_closure) u.time) (λ u. below u.time s ≡ below u.time r.0) (λ u c. same_below s r.0 r.2.0 r.2.1 u.time (from_grid u.time c.1)) us so.among) in
         λ row.
         ap (λ es. count_of es row) same
-        ∙ (so.sums r.0 (before r.0 r.1 (o.transitive r.0 s f r.2.0 h) (λ e. n (o.antisymmetric s f h (subst (λ g. IsTrue (below g s)) e r.2.0)))) (passed_down r.0 f (o.transitive r.0 s f r.2.0 h) passed) row
-        ∙ sym (wanted_same s r.0 r.2.0 r.2.1 row)))
-        (last_of o b join_closure is.closed s)
+        ∙ (so.sums r.0 (before r.0 r.1 (o.transitive r.0 s f r.2.0 h) (λ e. n (o.antisymmetric s f h (subst (λ g. IsTrue (below g s)) e r.2.0)))) (passed_before o frontier r.0 f (o.transitive r.0 s f r.2.0 h) passed) row
+        ∙ sym (wanted_same s r.0 early r.2.0 r.2.1 row)))
+        (last_of o b frontier join_closure is.closed s early)
       where
         less_from : (g : T) → IsTrue (below g f) → (g ≡ f → ⊥) → cmp g f ≡ Less
         less_from g l m = step (cmp g f) refl (x.extends g f l)
@@ -312,16 +339,15 @@ module _ {T : Type 0} {below : T → T → Bool} {joined met : T → T → T} {c
           ⊎_elim
           (λ none row.
           ap (λ es. count_of es row) (sum_none below t us (all_weaker (λ u. IsTrue (has_passed below frontier u.time) × Contains join_closure u.time) (λ u. below u.time t ≡ false) (λ u c. none u.time c.1) us so.among))
-          ∙ sym (wanted_none t none row))
+          ∙ sym (wanted_none t h none row))
           (λ r row.
           ap (λ es. count_of es row) (sum_same below t r.0 us (all_weaker (λ u. IsTrue (has_passed below frontier u.time) × Contains join_closure u.time) (λ u. below u.time t ≡ below u.time r.0) (λ u c. same_below t r.0 r.2.0 r.2.1 u.time c.1) us so.among))
-          ∙ (so.sums r.0 r.1 (passed_down r.0 t r.2.0 h) row ∙ sym (wanted_same t r.0 r.2.0 r.2.1 row)))
-          (last_of o b join_closure is.closed t)
+          ∙ (so.sums r.0 r.1 (passed_before o frontier r.0 t r.2.0 h) row ∙ sym (wanted_same t r.0 h r.2.0 r.2.1 row)))
+          (last_of o b frontier join_closure is.closed t h)
 
-  -- answers the clause `differences` of differences
-  pub differences_ok : {A E : Type 0} (times : List T) → frontier ≡ times → (r : Result (Vec (Update T) A) E) → IfOk r (λ us. IsListed below cmp frontier wanted join_closure us.items) → IfOk r (λ us. AreDifferences below cmp p (list_of p lists) times view us.items)
-  differences_ok times e (Ok us) h = subst (λ fs. AreDifferences below cmp p (list_of p lists) fs view us.items) e (listed_all us.items h)
-  differences_ok times e (Err r) h = tt
+  -- once the loop over the closure has ended, the list is the differences of the view
+  pub listed_end : (i : ℕ) → length join_closure ≤ i → (us : List (Update T)) → IsListed below cmp frontier wanted (take i join_closure) us → AreDifferences below cmp p (list_of p lists) frontier view us
+  listed_end i long us so = listed_all us (subst (λ times. IsListed below cmp frontier wanted times us) (take_all i join_closure long) so)
 
 -- ---- the open times
 

@@ -1,19 +1,29 @@
--- Join closures: they stay closed while times are added, and each time has a last time of the closure at or
--- before it, if there is any.
-use Rattle.std.proofs.Common.{◌≡◌, ℕ, zero, suc, ◌+◌, ◌<◌, ◌≤◌, Bool, true, false, List, [], ◌∷◌, ◌++◌, map, take, length, get_or, IsTrue, ◌⊎◌, ⊎_elim, inl, inr, refl, ap, sym, subst, ◌∙◌, take_all, Result, Ok, Err, Vec, arith}
+-- Join closures: they stay closed under passed joins while times are added, and each passed time has a last time
+-- of the closure at or before it, if there is any.
+use Rattle.std.proofs.Common.{◌≡◌, ℕ, zero, suc, ◌+◌, ◌<◌, ◌≤◌, Bool, true, false, List, [], ◌∷◌, ◌++◌, map, take, length, get_or, IsTrue, ◌⊎◌, ⊎_elim, inl, inr, refl, ap, sym, subst, ◌∙◌, take_all, eq-or-lt_of_le, Result, Ok, Err, Vec, arith}
 use Rattle.std.specs.Prelude.{IfOk}
-use Rattle.std.specs.List.{All, AllByRecursion, Contains}
+use Rattle.std.specs.List.{All, AllByRecursion, Contains, filter}
 use Rattle.std.specs.List.Sorted.{IsStrictlySortedBy}
 use Rattle.std.specs.Ordering.{is_eq}
 use Rattle.std.specs.declared.cmp.Ordering.{Ordering}
 use Rattle.std.specs.declared.cmp.Ordering.TheVariants.{Less, Equal, Greater}
 use Rattle.std.proofs.lemmas.List.{get_or-map, length-map}
 use Rattle.std.proofs.lemmas.List.Elements.{All-from_recursion, recursion_from_All, All-contains, All-more, All-weaker, Contains-get_or, Contains-append_left, Contains-append_right, Contains-append_cases, Contains-push, Contains-push_cases}
-use Rattle.std.proofs.lemmas.Bool.{true≢false}
+use Rattle.std.proofs.lemmas.Bool.{true≢false, and_parts}
+use Rattle.antichain.proofs.AntichainLemmas.{not_true, not_from}
+use Rattle.antichain.proofs.Lists.{among_contains, contains_among, filter_has, filter_takes}
+use Rattle.lattice.specs.Frontiers.{is_beyond}
 use Rattle.lattice.specs.Order.{PartialOrderLaws, LatticeLaws}
 use Rattle.lattice.proofs.BoundLemmas.{join_commutes, join_associates, join_same}
+use Rattle.lattice.proofs.FrontierLemmas.{beyond_up}
 use Rattle.update.specs.declared.change.Update.{Update}
-use Rattle.oracle.specs.JoinClosures.{Covers, IsClosed, IsJoinClosure}
+use Rattle.plan.specs.Ancestors.{feeds, reaches}
+use Rattle.plan.specs.Changes.{has_passed}
+use Rattle.plan.specs.Nodes.{node_at, is_input}
+use Rattle.plan.specs.Rules.{IsPlan}
+use Rattle.plan.specs.declared.node.Node.{Node}
+use Rattle.plan.proofs.StandLemmas.{above_earlier}
+use Rattle.oracle.specs.JoinClosures.{Covers, HasPassedTimes, HavePassed, IsClosed, IsJoinClosure}
 
 -- times that compare as equal are equal
 pub equal_from_eq : {T : Type 0} (eq : T → T → Bool) {cmp : T → T → Ordering} → ((x y : T) → eq x y ≡ is_eq (cmp x y)) → ((x y : T) → cmp x y ≡ Equal → x ≡ y) → (x y : T) → eq x y ≡ true → x ≡ y
@@ -42,30 +52,57 @@ contains_map_cases {X} {Y} f (x ∷ xs) y c = step c.0 c.1 c.2 (λ k l e. contai
         let r = rest k (omega (arith, l)) e in
         (r.0, (suc r.1.0, omega (arith, r.1.1), r.1.2), r.2)
 
-module _ {T : Type 0} {below : T → T → Bool} {joined met : T → T → T} (o : PartialOrderLaws below) (b : LatticeLaws below joined met) where
-  -- the list with a time and its joins
+-- a filtered list has each element that passes the test
+pub contains_filter : {X : Type 0} (p : X → Bool) (xs : List X) (x : X) → Contains xs x → IsTrue (p x) → Contains (filter p xs) x
+contains_filter p xs x c h = contains_among x (filter p xs) (filter_takes p xs x (among_contains x xs c) h)
+
+-- each element of a filtered list is one of the list and passes the test
+pub contains_filter_parts : {X : Type 0} (p : X → Bool) (xs : List X) (x : X) → Contains (filter p xs) x → Contains xs x × IsTrue (p x)
+contains_filter_parts p xs x c =
+    let parts = filter_has p xs x (among_contains x (filter p xs) c) in
+    (contains_among x xs parts.0, parts.1)
+
+-- ---- closed under passed joins
+
+-- a time at or before a passed time has passed
+pub passed_before : {T : Type 0} {below : T → T → Bool} (o : PartialOrderLaws below) (frontier : List T) (s t : T) → IsTrue (below s t) → IsTrue (has_passed below frontier t) → IsTrue (has_passed below frontier s)
+passed_before {T} {below} o frontier s t h k = not_from (is_beyond below frontier s) (λ c. not_true (is_beyond below frontier t) k (beyond_up o frontier s t c h))
+
+module _ {T : Type 0} {below : T → T → Bool} {joined met : T → T → T} (o : PartialOrderLaws below) (b : LatticeLaws below joined met) (frontier : List T) where
+  abbrev pub has : T → Bool
+  has = has_passed below frontier
+
+  -- the list with a time and its passed joins
   abbrev pub more : List T → T → List T
-  more xs t = (xs ++ map (λ s. joined s t) xs) ++ t ∷ []
+  more xs t = (xs ++ filter has (map (λ s. joined s t) xs)) ++ t ∷ []
 
   more_cases : (xs : List T) (t s : T) → Contains (more xs t) s → Contains xs s ⊎ (((r : T) × Contains xs r × (joined r t ≡ s)) ⊎ (t ≡ s))
   more_cases xs t s c =
       ⊎_elim
-      (λ d. ⊎_elim (λ e. inl e) (λ e. inr (inl (contains_map_cases (λ s. joined s t) xs s e))) (Contains-append_cases xs (map (λ s. joined s t) xs) s d))
+      (λ d. ⊎_elim (λ e. inl e) (λ e. inr (inl (contains_map_cases (λ s. joined s t) xs s (contains_filter_parts has (map (λ s. joined s t) xs) s e).0))) (Contains-append_cases xs (filter has (map (λ s. joined s t) xs)) s d))
       (λ e. inr (inr e))
-      (Contains-push_cases (xs ++ map (λ s. joined s t) xs) t s c)
+      (Contains-push_cases (xs ++ filter has (map (λ s. joined s t) xs)) t s c)
 
   -- adding a time with its joins keeps the old times
   pub more_old : (xs : List T) (t s : T) → Contains xs s → Contains (more xs t) s
-  more_old xs t s c = Contains-append_left (xs ++ map (λ s. joined s t) xs) (t ∷ []) s (Contains-append_left xs (map (λ s. joined s t) xs) s c)
+  more_old xs t s c = Contains-append_left (xs ++ filter has (map (λ s. joined s t) xs)) (t ∷ []) s (Contains-append_left xs (filter has (map (λ s. joined s t) xs)) s c)
 
-  more_join : (xs : List T) (t s : T) → Contains xs s → Contains (more xs t) (joined s t)
-  more_join xs t s c =
-      Contains-append_left (xs ++ map (λ s. joined s t) xs) (t ∷ []) (joined s t)
-      (Contains-append_right xs (map (λ s. joined s t) xs) (joined s t) (contains_map (λ s. joined s t) xs s c))
+  more_join : (xs : List T) (t s : T) → Contains xs s → IsTrue (has (joined s t)) → Contains (more xs t) (joined s t)
+  more_join xs t s c h =
+      Contains-append_left (xs ++ filter has (map (λ s. joined s t) xs)) (t ∷ []) (joined s t)
+      (Contains-append_right xs (filter has (map (λ s. joined s t) xs)) (joined s t) (contains_filter has (map (λ s. joined s t) xs) (joined s t) (contains_map (λ s. joined s t) xs s c) h))
 
   -- adding a time with its joins adds the time
   pub more_new : (xs : List T) (t : T) → Contains (more xs t) t
-  more_new xs t = Contains-push (xs ++ map (λ s. joined s t) xs) t
+  more_new xs t = Contains-push (xs ++ filter has (map (λ s. joined s t) xs)) t
+
+  -- adding a passed time with its joins adds only passed times
+  pub more_passed : (xs : List T) (t : T) → HavePassed below frontier xs → IsTrue (has t) → HavePassed below frontier (more xs t)
+  more_passed xs t old h s c =
+      ⊎_elim
+      (λ d. ⊎_elim (λ e. old s e) (λ e. (contains_filter_parts has (map (λ s. joined s t) xs) s e).1) (Contains-append_cases xs (filter has (map (λ s. joined s t) xs)) s d))
+      (λ e. subst (λ r. IsTrue (has r)) e h)
+      (Contains-push_cases (xs ++ filter has (map (λ s. joined s t) xs)) t s c)
 
   -- joining r with t and then with s is the same as joining r with s and then with t
   past_left : (r s t : T) → joined (joined r t) s ≡ joined (joined r s) t
@@ -77,67 +114,110 @@ module _ {T : Type 0} {below : T → T → Bool} {joined met : T → T → T} (o
       ∙ (ap (λ x. joined x t) (sym (join_associates o b r s t))
       ∙ (join_associates o b (joined r s) t t ∙ ap (joined (joined r s)) (join_same o b t)))
 
-  -- adding a time with its joins keeps the list closed
-  pub more_closed : (xs : List T) (t : T) → IsClosed joined xs → IsClosed joined (more xs t)
-  more_closed xs t closed s u c d =
+  -- adding a time with its passed joins keeps the list closed: if a join of three times has passed, so has the
+  -- join of the first two
+  pub more_closed : (xs : List T) (t : T) → IsClosed below joined frontier xs → IsClosed below joined frontier (more xs t)
+  more_closed xs t closed s u c d h =
       ⊎_elim
       (λ e. ⊎_elim
-      (λ f. more_old xs t (joined s u) (closed s u e f))
+      (λ f. more_old xs t (joined s u) (closed s u e f h))
       (λ f. ⊎_elim
-      (λ g. subst (Contains (more xs t)) (join_associates o b s g.0 t ∙ ap (joined s) g.2) (more_join xs t (joined s g.0) (closed s g.0 e g.1)))
-      (λ g. subst (Contains (more xs t)) (ap (joined s) g) (more_join xs t s e)) f)
+      (λ g. of_two s g.0 e g.1 (join_associates o b s g.0 t ∙ ap (joined s) g.2))
+      (λ g. of_one s e (ap (joined s) g)) f)
       (more_cases xs t u d))
       (λ e. ⊎_elim
       (λ f. ⊎_elim
-      (λ g. subst (Contains (more xs t)) (sym (past_left f.0 u t) ∙ ap (λ x. joined x u) f.2) (more_join xs t (joined f.0 u) (closed f.0 u f.1 g)))
+      (λ g. of_two f.0 u f.1 g (sym (past_left f.0 u t) ∙ ap (λ x. joined x u) f.2))
       (λ g. ⊎_elim
-      (λ h. subst (Contains (more xs t)) (sym (past_both f.0 h.0 t) ∙ (λ i. joined (f.2 i) (h.2 i))) (more_join xs t (joined f.0 h.0) (closed f.0 h.0 f.1 h.1)))
-      (λ h. subst (Contains (more xs t)) (sym (join_associates o b f.0 t t ∙ ap (joined f.0) (join_same o b t)) ∙ (λ i. joined (f.2 i) (h i))) (more_join xs t f.0 f.1)) g)
+      (λ k. of_two f.0 k.0 f.1 k.1 (sym (past_both f.0 k.0 t) ∙ (λ i. joined (f.2 i) (k.2 i))))
+      (λ k. of_one f.0 f.1 (sym (join_associates o b f.0 t t ∙ ap (joined f.0) (join_same o b t)) ∙ (λ i. joined (f.2 i) (k i)))) g)
       (more_cases xs t u d))
       (λ f. ⊎_elim
-      (λ g. subst (Contains (more xs t)) (join_commutes o b u t ∙ ap (λ x. joined x u) f) (more_join xs t u g))
+      (λ g. of_one u g (join_commutes o b u t ∙ ap (λ x. joined x u) f))
       (λ g. ⊎_elim
-      (λ h. subst (Contains (more xs t)) (sym (join_associates o b h.0 t t ∙ ap (joined h.0) (join_same o b t)) ∙ (join_commutes o b (joined h.0 t) t ∙ (λ i. joined (f i) (h.2 i)))) (more_join xs t h.0 h.1))
-      (λ h. subst (Contains (more xs t)) (sym (join_same o b t) ∙ (λ i. joined (f i) (h i))) (more_new xs t)) g)
+      (λ k. of_one k.0 k.1 (sym (join_associates o b k.0 t t ∙ ap (joined k.0) (join_same o b t)) ∙ (join_commutes o b (joined k.0 t) t ∙ (λ i. joined (f i) (k.2 i)))))
+      (λ k. subst (Contains (more xs t)) (sym (join_same o b t) ∙ (λ i. joined (f i) (k i))) (more_new xs t)) g)
       (more_cases xs t u d)) e)
       (more_cases xs t s c)
+    where
+      of_one : (r : T) → Contains xs r → joined r t ≡ joined s u → Contains (more xs t) (joined s u)
+      of_one r k e = subst (Contains (more xs t)) e (more_join xs t r k (subst (λ x. IsTrue (has x)) (sym e) h))
+
+      of_two : (q r : T) → Contains xs q → Contains xs r → joined (joined q r) t ≡ joined s u → Contains (more xs t) (joined s u)
+      of_two q r k l e = of_one (joined q r) (closed q r k l (passed_before o frontier (joined q r) (joined s u) (subst (λ x. IsTrue (below (joined q r) x)) e (b.join_left (joined q r) t)) h)) e
 
 -- being closed depends neither on the order of the times nor on duplicates
-pub closed_same : {T : Type 0} (joined : T → T → T) (xs ys : List T) → ((t : T) → Contains xs t → Contains ys t) → ((t : T) → Contains ys t → Contains xs t) → IsClosed joined xs → IsClosed joined ys
-closed_same joined xs ys to from closed s t c d = to (joined s t) (closed s t (from s c) (from t d))
+pub closed_same : {T : Type 0} (below : T → T → Bool) (joined : T → T → T) (frontier xs ys : List T) → ((t : T) → Contains xs t → Contains ys t) → ((t : T) → Contains ys t → Contains xs t) → IsClosed below joined frontier xs → IsClosed below joined frontier ys
+closed_same below joined frontier xs ys to from closed s t c d h = to (joined s t) (closed s t (from s c) (from t d) h)
 
 -- the empty list is closed under joins
-pub closed_none : {T : Type 0} (joined : T → T → T) → IsClosed joined []
-closed_none joined s t c d = absurd (omega (arith, c.1))
+pub closed_none : {T : Type 0} (below : T → T → Bool) (joined : T → T → T) (frontier : List T) → IsClosed below joined frontier []
+closed_none below joined frontier s t c d h = absurd (omega (arith, c.1))
 
--- ---- which times a list covers
+-- ---- which times a list has
 
--- a list with more times covers the same changes
-pub covers_more : {T : Type 0} (xs ys : List T) (lists : List (List (Update T))) → ((t : T) → Contains xs t → Contains ys t) → Covers xs lists → Covers ys lists
-covers_more xs ys lists to covers n l inside k u within = to (get_or (get_or lists n l) k u).time (covers n l inside k u within)
+module _ {T : Type 0} (below : T → T → Bool) (frontier : List T) where
+  -- the empty list has no time that is still open
+  pub passed_none : HavePassed below frontier []
+  passed_none t c = absurd (omega (arith, c.1))
 
--- appending the times of updates covers these updates
-pub covers_push : {T : Type 0} (old new : List T) (us : List (Update T)) → new ≡ old ++ map (λ u. u.time) us → All (λ u. Contains new u.time) us
-covers_push old new us e k u within = subst (λ xs. Contains xs (get_or us k u).time) (sym e) (Contains-append_right old (map (λ u. u.time) us) (get_or us k u).time (contains_map (λ u. u.time) us (get_or us k u) (Contains-get_or us k u within)))
+  -- appending passed times keeps all times passed
+  pub passed_push : (old new ts : List T) → new ≡ old ++ filter (has_passed below frontier) ts → HavePassed below frontier old → HavePassed below frontier new
+  passed_push old new ts e passed t c =
+      ⊎_elim
+      (λ d. passed t d)
+      (λ d. (contains_filter_parts (has_passed below frontier) ts t d).1)
+      (Contains-append_cases old (filter (has_passed below frontier) ts) t (subst (λ xs. Contains xs t) e c))
 
--- the step over one list of changes
-pub covers_next : {T : Type 0} (old new : List T) (lists : List (List (Update T))) (i : ℕ) (d us : List (Update T)) → i < length lists → us ≡ get_or lists i d → new ≡ old ++ map (λ u. u.time) us → Covers old (take i lists) → Covers new (take (i + 1) lists)
-covers_next old new lists i d us inside e n covers =
-    All-more (λ us. All (λ u. Contains new u.time) us) lists i d inside
-    (covers_more old new (take i lists) (λ t c. subst (λ xs. Contains xs t) (sym n) (Contains-append_left old (map (λ u. u.time) us) t c)) covers)
-    (subst (λ us. All (λ u. Contains new u.time) us) e (covers_push old new us n))
+  -- a list with more times has the passed times of the same updates
+  pub has_more : (xs ys : List T) (us : List (Update T)) → ((t : T) → Contains xs t → Contains ys t) → HasPassedTimes below frontier xs us → HasPassedTimes below frontier ys us
+  has_more xs ys us to all k u within h = to (get_or us k u).time (all k u within h)
+
+  -- appending the passed times of updates adds these times
+  pub has_push : (old new : List T) (us : List (Update T)) → new ≡ old ++ filter (has_passed below frontier) (map (λ u. u.time) us) → HasPassedTimes below frontier new us
+  has_push old new us e k u within h =
+      subst (λ xs. Contains xs (get_or us k u).time) (sym e)
+      (Contains-append_right old (filter (has_passed below frontier) (map (λ u. u.time) us)) (get_or us k u).time
+      (contains_filter (has_passed below frontier) (map (λ u. u.time) us) (get_or us k u).time (contains_map (λ u. u.time) us (get_or us k u) (Contains-get_or us k u within)) h))
+
+  module _ (p : List Node) (changes : ℕ → List (Update T)) (view : ℕ) where
+    -- the list has the passed times of the inputs with numbers below n that feed the view
+    abbrev pub CoversBelow : ℕ → List T → Type 0
+    CoversBelow n times = (input : ℕ) → input < n → IsTrue (feeds p input view) → HasPassedTimes below frontier times (changes input)
+
+    -- the step over a node that feeds the view
+    pub covers_next : (old new : List T) (n : ℕ) (us : List (Update T)) → us ≡ changes n → new ≡ old ++ filter (has_passed below frontier) (map (λ u. u.time) us) → CoversBelow n old → CoversBelow (n + 1) new
+    covers_next old new n us same e covers input l h =
+        ⊎_elim
+        (λ k. subst (λ m. HasPassedTimes below frontier new (changes m)) (sym k) (subst (HasPassedTimes below frontier new) same (has_push old new us e)))
+        (λ k. has_more old new (changes input) (λ t c. subst (λ xs. Contains xs t) (sym e) (Contains-append_left old (filter (has_passed below frontier) (map (λ u. u.time) us)) t c)) (covers input k h))
+        (eq-or-lt_of_le (omega (arith, l)))
+
+    -- the step over a node that does not feed the view
+    pub covers_skip : (times : List T) (n : ℕ) → feeds p n view ≡ false → CoversBelow n times → CoversBelow (n + 1) times
+    covers_skip times n none covers input l h =
+        ⊎_elim
+        (λ k. absurd (true≢false (sym h ∙ (ap (λ m. feeds p m view) k ∙ none))))
+        (λ k. covers input k h)
+        (eq-or-lt_of_le (omega (arith, l)))
+
+    -- at the end all inputs that feed the view are covered, because none comes after it
+    pub covers_all : IsPlan p → view < length p → (old new : List T) (n : ℕ) → length p ≤ n → ((t : T) → Contains old t → Contains new t) → CoversBelow n old → Covers below p changes frontier view new
+    covers_all plan within old new n long to covers input h =
+        let before = above_earlier p plan input view (and_parts (is_input (node_at p input)) (reaches p input view) h).1 in
+        has_more old new (changes input) to (covers input (omega (arith, before, within, long)) h)
 
 -- ---- the last time of the closure at or before a time
 
-module _ {T : Type 0} {below : T → T → Bool} {joined met : T → T → T} (o : PartialOrderLaws below) (b : LatticeLaws below joined met) where
+module _ {T : Type 0} {below : T → T → Bool} {joined met : T → T → T} (o : PartialOrderLaws below) (b : LatticeLaws below joined met) (frontier : List T) where
   -- f is at or before t, and every time of the list at or before t is at or before f
   abbrev pub IsLastAtOrBefore : List T → T → T → Type 0
   IsLastAtOrBefore times t f = IsTrue (below f t) × ((s : T) → Contains times s → IsTrue (below s t) → IsTrue (below s f))
 
-  some_last : (join_closure : List T) → IsClosed joined join_closure → (t : T) (xs : List T) → AllByRecursion (Contains join_closure) xs
+  some_last : (join_closure : List T) → IsClosed below joined frontier join_closure → (t : T) → IsTrue (has_passed below frontier t) → (xs : List T) → AllByRecursion (Contains join_closure) xs
       → AllByRecursion (λ s. below s t ≡ false) xs ⊎ ((f : T) × Contains join_closure f × IsTrue (below f t) × AllByRecursion (λ s. IsTrue (below s t) → IsTrue (below s f)) xs)
-  some_last join_closure closed t [] c = inl tt
-  some_last join_closure closed t (x ∷ xs) c = step (below x t) refl (some_last join_closure closed t xs c.1)
+  some_last join_closure closed t passed [] c = inl tt
+  some_last join_closure closed t passed (x ∷ xs) c = step (below x t) refl (some_last join_closure closed t passed xs c.1)
     where
       up : (f g : T) → IsTrue (below f g) → (ys : List T) → AllByRecursion (λ s. IsTrue (below s t) → IsTrue (below s f)) ys → AllByRecursion (λ s. IsTrue (below s t) → IsTrue (below s g)) ys
       up f g h [] a = tt
@@ -158,36 +238,37 @@ module _ {T : Type 0} {below : T → T → Bool} {joined met : T → T → T} (o
       step true e rest =
           ⊎_elim
           (λ n. inr (x, c.0, e, (λ k. o.reflexive x, none_up x xs n)))
-          (λ r. inr (joined x r.0, closed x r.0 c.0 r.1, b.join_least x r.0 t e r.2, (λ k. b.join_left x r.0, up r.0 (joined x r.0) (b.join_right x r.0) xs r.3)))
+          (λ r. inr (joined x r.0, closed x r.0 c.0 r.1 (passed_before o frontier (joined x r.0) t (b.join_least x r.0 t e r.2) passed), b.join_least x r.0 t e r.2, (λ k. b.join_left x r.0, up r.0 (joined x r.0) (b.join_right x r.0) xs r.3)))
           rest
 
-  -- the closure has no time at or before t, or it has a last one; at t the view is what it is at that last time
-  pub last_of : (join_closure : List T) → IsClosed joined join_closure → (t : T)
+  -- the closure has no time at or before a passed time t, or it has a last one; at t the view is what it is at
+  -- that last time
+  pub last_of : (join_closure : List T) → IsClosed below joined frontier join_closure → (t : T) → IsTrue (has_passed below frontier t)
       → ((s : T) → Contains join_closure s → below s t ≡ false) ⊎ ((f : T) × Contains join_closure f × IsLastAtOrBefore join_closure t f)
-  last_of join_closure closed t =
+  last_of join_closure closed t passed =
       ⊎_elim
       (λ n. inl (λ s c. All-contains (λ s. below s t ≡ false) join_closure s (All-from_recursion (λ s. below s t ≡ false) join_closure n) c))
       (λ r. inr (r.0, r.1, (r.2, λ s c. All-contains (λ s. IsTrue (below s t) → IsTrue (below s r.0)) join_closure s (All-from_recursion (λ s. IsTrue (below s t) → IsTrue (below s r.0)) join_closure r.3) c)))
-      (some_last join_closure closed t join_closure (recursion_from_All (Contains join_closure) join_closure (λ k d l. Contains-get_or join_closure k d l)))
+      (some_last join_closure closed t passed join_closure (recursion_from_All (Contains join_closure) join_closure (λ k d l. Contains-get_or join_closure k d l)))
 
 -- ---- steps of the code that builds the closure
 
-module _ {T : Type 0} {below : T → T → Bool} {joined met : T → T → T} (o : PartialOrderLaws below) (b : LatticeLaws below joined met)
-    (old mid pushed new : List T) (t : T) (joins : mid ≡ old ++ map (λ s. joined s t) old) (push : pushed ≡ mid ++ t ∷ []) (kept : (s : T) → Contains pushed s → Contains new s) where
-  whole : pushed ≡ (old ++ map (λ s. joined s t) old) ++ t ∷ []
+module _ {T : Type 0} {below : T → T → Bool} {joined met : T → T → T} (o : PartialOrderLaws below) (b : LatticeLaws below joined met) (frontier old mid pushed new : List T) (t : T)
+    (joins : mid ≡ old ++ filter (has_passed below frontier) (map (λ s. joined s t) old)) (push : pushed ≡ mid ++ t ∷ []) (kept : (s : T) → Contains pushed s → Contains new s) where
+  whole : pushed ≡ (old ++ filter (has_passed below frontier) (map (λ s. joined s t) old)) ++ t ∷ []
   whole = push ∙ ap (λ xs. xs ++ t ∷ []) joins
 
   -- `add_time` keeps the old times
   pub added_old : (s : T) → Contains old s → Contains new s
-  added_old s c = kept s (subst (λ xs. Contains xs s) (sym whole) (more_old o b old t s c))
+  added_old s c = kept s (subst (λ xs. Contains xs s) (sym whole) (more_old o b frontier old t s c))
 
   -- `add_time` keeps the list closed
-  pub added_closed : ((s : T) → Contains new s → Contains pushed s) → IsClosed joined old → IsClosed joined new
-  added_closed among closed = closed_same joined pushed new kept among (subst (IsClosed joined) (sym whole) (more_closed o b old t closed))
+  pub added_closed : ((s : T) → Contains new s → Contains pushed s) → IsClosed below joined frontier old → IsClosed below joined frontier new
+  added_closed among closed = closed_same below joined frontier pushed new kept among (subst (IsClosed below joined frontier) (sym whole) (more_closed o b frontier old t closed))
 
--- at the end the times of all changes are covered
-pub covers_all : {T : Type 0} (old new : List T) (lists : List (List (Update T))) (i : ℕ) → length lists ≤ i → ((t : T) → Contains old t → Contains new t) → Covers old (take i lists) → Covers new lists
-covers_all old new lists i long to covers = covers_more old new lists to (subst (Covers old) (take_all i lists long) covers)
+  -- `add_time` adds only passed times
+  pub added_passed : ((s : T) → Contains new s → Contains pushed s) → HavePassed below frontier old → IsTrue (has_passed below frontier t) → HavePassed below frontier new
+  added_passed among passed h s c = more_passed o b frontier old t passed h s (subst (λ xs. Contains xs s) whole (among s c))
 
 -- the empty list is sorted
 pub sorted_none : {T : Type 0} (cmp : T → T → Ordering) → IsStrictlySortedBy cmp []
@@ -204,12 +285,13 @@ pub kept_all : {T : Type 0} (join_closure times : List T) (i : ℕ) → length t
 kept_all join_closure times i long all = subst (All (Contains join_closure)) (take_all i times long) all
 
 -- the sorted list without duplicates is the join closure
-pub join_closure_ok : {T : Type 0} {E : Type 0} {A : Type 0} (cmp : T → T → Ordering) (joined : T → T → T) (lists : List (List (Update T))) (times from : List T) → from ≡ times → Covers times lists
-    → (r : Result (Vec T A) E) → IfOk r (λ join_closure. IsStrictlySortedBy cmp join_closure.items) → IfOk r (λ join_closure. IsClosed joined join_closure.items) → IfOk r (λ join_closure. All (Contains join_closure.items) from) → IfOk r (λ join_closure. IsJoinClosure cmp joined lists join_closure.items)
-join_closure_ok cmp joined lists times from e covers (Err x) a c k = tt
-join_closure_ok cmp joined lists times from e covers (Ok join_closure) a c k =
+pub join_closure_ok : {T : Type 0} {E : Type 0} {A : Type 0} (below : T → T → Bool) (cmp : T → T → Ordering) (joined : T → T → T) (p : List Node) (changes : ℕ → List (Update T)) (frontier : List T) (view : ℕ) (times from : List T) → from ≡ times → Covers below p changes frontier view times
+    → (r : Result (Vec T A) E) → IfOk r (λ join_closure. IsStrictlySortedBy cmp join_closure.items) → IfOk r (λ join_closure. IsClosed below joined frontier join_closure.items) → IfOk r (λ join_closure. All (Contains join_closure.items) from)
+    → IfOk r (λ join_closure. IsJoinClosure below cmp joined p changes frontier view join_closure.items)
+join_closure_ok below cmp joined p changes frontier view times from e covers (Err x) a c k = tt
+join_closure_ok below cmp joined p changes frontier view times from e covers (Ok join_closure) a c k =
     record {
       ascending = a;
       closed = c;
-      covers = covers_more times join_closure.items lists (λ t h. All-contains (Contains join_closure.items) from t k (subst (λ xs. Contains xs t) (sym e) h)) covers;
+      covers = λ input h. has_more below frontier times join_closure.items (changes input) (λ t m. All-contains (Contains join_closure.items) from t k (subst (λ xs. Contains xs t) (sym e) m)) (covers input h);
     }

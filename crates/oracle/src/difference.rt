@@ -1,19 +1,17 @@
-//! The differences of a view, computed from the query alone. The times of the join closure that the frontier
-//! has passed are visited in order. At each of them we list the view's rows there minus the updates listed at
-//! or before it. So the list sums to the query at each of these times. It also does so at every other passed
-//! time, because neither the query nor the sum changes between two times of the closure.
+//! The differences of a view, computed from the query alone. The times of the join closure, all of which the
+//! frontier has passed, are visited in order. At each of them we list the view's rows there minus the updates
+//! listed at or before it. So the list sums to the query at each of these times. It also does so at every other
+//! passed time, because neither the query nor the sum changes between two times of the closure.
 ghost use Rattle.std.specs.Prelude.{◌≡◌, ◌<◌, ◌⊎◌, map, length, IfOk, IfErr, OnOk};
-ghost use Rattle.plan.specs.Ancestors.{feeds};
 ghost use Rattle.plan.specs.Changes.{AreDifferences, open_for, query_at};
 ghost use Rattle.update.specs.Refusals.{IsMemoryOrOverflow};
 ghost use Rattle.oracle.specs.Evaluation.{AreWide, HasLargeAbove, list_of, sums_at};
-ghost use Rattle.oracle.specs.JoinClosures.{IsJoinClosure};
-ghost use Rattle.oracle.specs.Listing.{ContinuesListing, HasLargeDifference, HasLargeGap, IsListed};
+ghost use Rattle.oracle.specs.Listing.{ContinuesListing, HasLargeDifference, HasLargeGap};
 
-use crate::evaluation::{evaluate, inputs_before};
+use crate::evaluation::{evaluate, feeds, inputs_before};
 use crate::join_closure::join_closure;
 use crate::listing::{gap, push_at};
-use antichain::{Antichain, is_beyond};
+use antichain::Antichain;
 use lattice::Lattice;
 use plan::{NodeId, Plan};
 use std::alloc::Global;
@@ -28,15 +26,6 @@ fn frontier_of<'a, T: Lattice>(plan: &Plan, frontiers: &'a [Antichain<T>], id: N
         Some(frontier) => frontier.elements(),
         None => &[],
     }
-}
-
-// Whether the node is an input that feeds the view.
-fn feeds(plan: &Plan, id: NodeId, view: NodeId) -> bool
-    requires inside { id < length plan.now }
-    requires view { view < length plan.now }
-    ensures { result ≡ feeds plan.now id view }
-{
-    plan.node(id).is_input() && plan.reaches(id, view)
 }
 
 // The times that are still open for the view: the elements of the frontiers of all inputs that feed it.
@@ -88,33 +77,28 @@ fn list_at<T: Lattice>(
     push_at(listed, &gap, t)
 }
 
-// Lists the view's changes at each time of the join closure that the frontier has passed.
+// The differences of the view as of a frontier: its changes at each time of the join closure.
 fn along<T: Lattice>(
     alloc: Global,
     plan: &Plan,
     view: NodeId,
     changes: &[Vec<Update<T>>],
     frontier: &[T],
-    join_closure: &[T],
 ) -> Result<Vec<Update<T>>, Refusal>
     requires view { view < length plan.now }
     requires lists { AreWide plan.now (map (λ v. v.items) changes.now) }
-    requires join_closure { IsJoinClosure T.cmp T.joined
-        (map (λ v. v.items) changes.now) join_closure.now }
-    ensures listed { IfOk result
-        (λ listed. IsListed T.below T.cmp frontier.now
-        (query_at T.below plan.now
-        (list_of plan.now (map (λ v. v.items) changes.now)) view) join_closure.now listed.items) }
+    ensures differences { IfOk result
+        (λ listed. AreDifferences T.below T.cmp plan.now
+        (list_of plan.now (map (λ v. v.items) changes.now)) frontier.now view listed.items) }
     ensures refused { IfErr result
         (IsMemoryOrOverflow (HasLargeDifference T.below plan.now
         (map (λ v. v.items) changes.now) frontier.now view)) }
 {
     plan.known();
+    let join_closure = join_closure(alloc, plan, view, changes, frontier)?;
     let mut listed = Vec::new(alloc);
-    for t in join_closure {
-        if !is_beyond(frontier, t) {
-            list_at(alloc, plan, view, changes, *t, &mut listed)?;
-        }
+    for t in &join_closure {
+        list_at(alloc, plan, view, changes, *t, &mut listed)?;
     }
     Ok(listed)
 }
@@ -131,8 +115,9 @@ fn along<T: Lattice>(
 /// | `Overflow` | at a passed time the query overflows, or the difference of some row does not fit in 64 bits |
 /// | `OutOfMemory` | an allocation was refused |
 ///
-/// Cost: one query for each time of the join closure (the times of all changes and all joins of them), and for
-/// each such time a sort of the updates listed before it.
+/// Cost: one query for each time of the join closure, and for each such time a sort of the updates listed before
+/// it. The closure has the passed times of the changes of the inputs that feed the node, and all passed joins of
+/// them. A change that is still open costs one test.
 pub fn differences<T: Lattice>(
     alloc: Global,
     plan: &Plan,
@@ -150,8 +135,6 @@ pub fn differences<T: Lattice>(
         (IsMemoryOrOverflow (HasLargeDifference T.below plan.now (map (λ v. v.items) changes.now)
         (open_for T.below plan.now (list_of plan.now frontiers.now) view) view)) }
 {
-    plan.known();
     let frontier = open_for(alloc, plan, view, frontiers)?;
-    let join_closure = join_closure(alloc, changes)?;
-    along(alloc, plan, view, changes, &frontier, &join_closure)
+    along(alloc, plan, view, changes, &frontier)
 }

@@ -4,7 +4,7 @@
 ghost use Rattle.std.specs.Prelude.{◌≡◌, ◌≤◌, ◌<◌, ◌↔◌, eqb, map, length, IfOk, IfErr, IsTrue};
 ghost use Rattle.std.specs.List.{list_all};
 ghost use Rattle.update.specs.Bags.{Alike, IsBag};
-ghost use Rattle.plan.specs.Ancestors.{reaches};
+ghost use Rattle.plan.specs.Ancestors.{feeds, reaches};
 ghost use Rattle.plan.specs.Changes.{query_at};
 ghost use Rattle.plan.specs.Queries.{query};
 ghost use Rattle.plan.specs.Widths.{width_of};
@@ -35,8 +35,17 @@ pub fn inputs_before(plan: &Plan, id: NodeId) -> usize
     count
 }
 
+// Whether the node is an input that feeds the view.
+pub(crate) fn feeds(plan: &Plan, id: NodeId, view: NodeId) -> bool
+    requires inside { id < length plan.now }
+    requires view { view < length plan.now }
+    ensures { result ≡ feeds plan.now id view }
+{
+    plan.node(id).is_input() && plan.reaches(id, view)
+}
+
 // The changes of an input. A missing list is read as an empty one.
-fn list_of<'a, T: Lattice>(
+pub(crate) fn list_of<'a, T: Lattice>(
     plan: &Plan,
     changes: &'a [Vec<Update<T>>],
     id: NodeId,

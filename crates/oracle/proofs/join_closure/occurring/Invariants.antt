@@ -1,7 +1,12 @@
-use Rattle.std.proofs.Common.{map, take}
-use Rattle.oracle.specs.JoinClosures.{Covers}
+use Rattle.std.proofs.Common.{map}
+use Rattle.oracle.specs.Evaluation.{list_of}
+use Rattle.oracle.specs.JoinClosures.{HavePassed}
+use Rattle.oracle.proofs.JoinClosureLemmas.{CoversBelow}
 use Rattle.oracle.proofs.join_closure.occurring.Given as goal
 
--- the times of the lists so far
-abbrev pub invariant-loop-updates : goal.invariant-loop-updates
-invariant-loop-updates g l = Covers l.times.items (take l.updates-index (map (λ v. v.items) l.changes))
+-- the passed times of the inputs so far that feed the view
+abbrev pub invariant-loop-n : goal.invariant-loop-n
+invariant-loop-n g l = record {
+  covers : CoversBelow g.T.PartialOrder.below l.frontier l.plan (list_of l.plan (map (λ v. v.items) l.changes)) l.view l.n l.times.items;
+  passed : HavePassed g.T.PartialOrder.below l.frontier l.times.items;
+}
