@@ -31,7 +31,8 @@ module _ {T : Type 0} (below : T → T → Bool) where
 
   -- a sorted list without duplicates that is closed under passed joins and has the time of each passed change
   -- of each input that feeds the view; it may also have times that are still open
-  pub record IsJoinClosure (cmp : T → T → Ordering) (joined : T → T → T) (p : List Node) (changes : ℕ → List (Update T)) (frontier : List T) (view : ℕ) (times : List T) : Type 0 where
+  pub record IsJoinClosure (cmp : T → T → Ordering) (joined : T → T → T) (p : List Node)
+      (changes : ℕ → List (Update T)) (frontier : List T) (view : ℕ) (times : List T) : Type 0 where
     pub ascending : IsStrictlySortedBy cmp times
     pub closed : IsClosed joined frontier times
     pub covers : Covers p changes frontier view times

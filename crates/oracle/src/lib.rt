@@ -8,7 +8,7 @@
 //! [`Refusal::Overflow`] comes for no other reason.
 //!
 //! [`differences`] lists the changes of a view, so that the engine's lists of changes can be compared with it.
-//! At each time at which the view may change, it lists the query's answer there minus the updates already
+//! At each passed time at which the view may change, it lists the query's answer there minus the updates already
 //! listed at or before that time. This is slow, but it is easy to see why it is right. The lists of changes and
 //! of frontiers are matched to inputs by position ([`lists_belong_to_inputs`]).
 //!
