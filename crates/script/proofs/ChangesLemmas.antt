@@ -2,11 +2,10 @@
 -- the only such list.
 use Rattle.std.proofs.Common.{◌≡◌, ℕ, zero, suc, ◌+◌, ◌<◌, ◌≤◌, Bool, true, false, cond, not, List, [], ◌∷◌, ◌++◌, map, take, drop, length, get_or, IsTrue, ◌⊎◌, inl, inr, ⊎_elim, refl, sym, ◌∙◌, ap, subst, take_all, eqb, arith}
 use Rattle.std.specs.Cmp.{IsTotalOrder}
-use Rattle.std.specs.List.{All, filter, list_all, Contains}
+use Rattle.std.specs.List.{filter, list_all, Contains}
 use Rattle.std.specs.declared.cmp.Ordering.{Ordering}
 use Rattle.std.proofs.lemmas.Bool.{and_parts}
 use Rattle.std.proofs.lemmas.Int.{ints}
-use Rattle.std.proofs.lemmas.List.{get_or-map, length-map}
 use Rattle.std.proofs.lemmas.List.Elements.{Contains-get_or}
 use Rattle.lattice.specs.Frontiers.{is_beyond}
 use Rattle.lattice.proofs.FrontierLemmas.{beyond_up}
@@ -17,20 +16,22 @@ use Rattle.update.specs.Bags.{Entry, Alike, count_of}
 use Rattle.update.specs.Updates.{as_of}
 use Rattle.update.specs.declared.change.Update.{Update}
 use Rattle.update.proofs.UniqueLemmas.{same_totals, same_updates}
-use Rattle.plan.specs.Nodes.{is_input}
+use Rattle.plan.specs.Ancestors.{reaches}
+use Rattle.plan.specs.Nodes.{node_at, is_input}
 use Rattle.plan.specs.Changes.{AreDifferences, has_passed, query_at}
 use Rattle.plan.specs.Edges.{numbers_where}
 use Rattle.plan.specs.Operators.{negated_entry}
 use Rattle.plan.specs.Rules.{IsPlan}
 use Rattle.plan.specs.declared.node.Node.{Node}
 use Rattle.plan.proofs.CountLemmas.{count_of-append, count_of-negated_entry}
+use Rattle.plan.proofs.StandLemmas.{above_earlier}
 use Rattle.machine.specs.declared.histories.event.Fed.{Fed}
 use Rattle.machine.specs.Histories.States.{fed_to}
 use Rattle.oracle.specs.Evaluation.{list_of}
-use Rattle.oracle.specs.JoinClosures.{IsClosed, IsJoinClosure}
+use Rattle.oracle.specs.JoinClosures.{Covers, HasPassedTimes, IsClosed, IsJoinClosure}
 use Rattle.oracle.specs.Listing.{at_time, ContinuesListing, IsListed}
 use Rattle.oracle.proofs.DifferenceLemmas.{listed_none, listed_skip, listed_next, listed_all}
-use Rattle.oracle.proofs.JoinClosureLemmas.{more_closed, more_new, more_old, closed_same, closed_none}
+use Rattle.oracle.proofs.JoinClosureLemmas.{more, more_closed, more_new, more_old, closed_same, closed_none}
 use Rattle.script.specs.Changes.{joins_of, missing, listed_along, changes_along}
 use Rattle.script.specs.Orders.{in_order}
 use Rattle.script.proofs.BagLemmas.{consolidated_bag-is_bag, consolidated_bag-alike}
@@ -40,16 +41,25 @@ use Rattle.script.proofs.OrderLemmas.{in_order-sorted, in_order-has, in_order-on
 -- ---- the times at which the list may change
 
 module _ {T : Type 0} {below : T → T → Bool} {joined met : T → T → T} {cmp : T → T → Ordering} (o : PartialOrderLaws below) (b : LatticeLaws below joined met) (x : ExtendsLaws below cmp) (total : IsTotalOrder cmp) where
-  joins_closed : (ts : List T) → IsClosed joined (joins_of joined ts)
-  joins_closed [] = closed_none joined
-  joins_closed (t ∷ ts) = more_closed o b (joins_of joined ts) t (joins_closed ts)
+  -- the empty frontier has passed every time
+  no_frontier : (ts : List T) → filter (has_passed below []) ts ≡ ts
+  no_frontier [] = refl
+  no_frontier (t ∷ ts) = ap (λ (us : List T). t ∷ us) (no_frontier ts)
+
+  -- so the joins of one more time are what a join closure gains by it if the frontier is empty
+  joins_more : (t : T) (ts : List T) → more o b [] (joins_of joined ts) t ≡ joins_of joined (t ∷ ts)
+  joins_more t ts = ap (λ (js : List T). (joins_of joined ts ++ js) ++ t ∷ []) (no_frontier (map (λ s. joined s t) (joins_of joined ts)))
+
+  joins_closed : (ts : List T) → IsClosed below joined [] (joins_of joined ts)
+  joins_closed [] = closed_none below joined []
+  joins_closed (t ∷ ts) = subst (IsClosed below joined []) (joins_more t ts) (more_closed o b [] (joins_of joined ts) t (joins_closed ts))
 
   joins_have : (ts : List T) (s : T) → Among s ts → Contains (joins_of joined ts) s
   joins_have [] s h = absurd h
   joins_have (t ∷ ts) s h =
       ⊎_elim
-      (λ e. subst (Contains (joins_of joined (t ∷ ts))) e (more_new o b (joins_of joined ts) t))
-      (λ k. more_old o b (joins_of joined ts) t s (joins_have ts s k))
+      (λ e. subst (Contains (joins_of joined (t ∷ ts))) e (subst (λ (us : List T). Contains us t) (joins_more t ts) (more_new o b [] (joins_of joined ts) t)))
+      (λ k. subst (λ (us : List T). Contains us s) (joins_more t ts) (more_old o b [] (joins_of joined ts) t s (joins_have ts s k)))
       h
 
   to_order : (ts : List T) (s : T) → Contains ts s → Contains (in_order cmp ts) s
@@ -80,22 +90,6 @@ module _ {T : Type 0} {below : T → T → Bool} {joined met : T → T → T} {c
         by true h rest = ⊎_elim (λ e. inl (ap (λ (w : Update T). w.time) e)) (λ k. inr (rest k)) h
         by false h rest = inr (rest h)
 
-    -- list number n has only times of the closure
-    covered : (n : ℕ) (d : List (Update T)) → n < length lists → All (λ u. Contains grid u.time) (get_or lists n d)
-    covered n d l k u within =
-        let i = get_or (numbers_where is_input p) n 0 in
-        let there : n < length (numbers_where is_input p) = subst (λ (m : ℕ). n < m) (length-map (numbers_where is_input p) (λ i. fed_to i fed)) l in
-        let is : get_or lists n d ≡ fed_to i fed = get_or-map (λ (i : ℕ). fed_to i fed) (numbers_where is_input p) n 0 d there in
-        let here = Contains-get_or (get_or lists n d) k u within in
-        in_join_closure (get_or (get_or lists n d) k u).time (fed_in i fed (get_or (get_or lists n d) k u) (subst (λ (us : List (Update T)). Among (get_or (get_or lists n d) k u) us) is (among_contains (get_or (get_or lists n d) k u) (get_or lists n d) here)))
-
-    is_join_closure : IsJoinClosure cmp joined lists grid
-    is_join_closure = record {
-      ascending = in_order-sorted cmp total (joins_of joined fed_times);
-      closed = closed_same joined (joins_of joined fed_times) grid (to_order (joins_of joined fed_times)) (from_order (joins_of joined fed_times)) (joins_closed fed_times);
-      covers = covered;
-    }
-
     module _ (plan : IsPlan p) (view : ℕ) (within : view < length p) (frontier : List T) where
       -- the wanted rows by the accepted changes; those by the lists, `listed_wanted`, are the same
       abbrev wanted : T → List Entry
@@ -106,6 +100,24 @@ module _ {T : Type 0} {below : T → T → Bool} {joined met : T → T → T} {c
 
       same_wanted : (t : T) → Alike (listed_wanted t) (wanted t)
       same_wanted t = query_at_inputs p plan (λ i. as_of below t (list_of p lists i)) (λ i. as_of below t (fed_to i fed)) (λ n l i row. ap (λ us. count_of (as_of below t us) row) (list_of_input p (λ i. fed_to i fed) n l i)) view within
+
+      -- the list of an input that feeds the view has only times of the closure
+      covered : Covers below p (list_of p lists) frontier view grid
+      covered input feeds =
+          let parts = and_parts (is_input (node_at p input)) (reaches p input view) feeds in
+          let before = above_earlier p plan input view parts.1 in
+          let is = list_of_input p (λ i. fed_to i fed) input (omega (arith, before, within)) parts.0 in
+          subst (HasPassedTimes below frontier grid) (sym is)
+          (λ k u inside passed.
+          let here = get_or (fed_to input fed) k u in
+          in_join_closure here.time (fed_in input fed here (among_contains here (fed_to input fed) (Contains-get_or (fed_to input fed) k u inside))))
+
+      is_join_closure : IsJoinClosure below cmp joined p (list_of p lists) frontier view grid
+      is_join_closure = record {
+        ascending = in_order-sorted cmp total (joins_of joined fed_times);
+        closed = λ s t c d h. closed_same below joined [] (joins_of joined fed_times) grid (to_order (joins_of joined fed_times)) (from_order (joins_of joined fed_times)) (joins_closed fed_times) s t c d refl;
+        covers = covered;
+      }
 
       -- the list plus what is missing at t sums to the wanted rows
       fills : (t : T) (us : List (Update T)) → ContinuesListing below t (listed_wanted t) us (us ++ map (at_time t) (missing below (wanted t) t us))
@@ -130,8 +142,8 @@ module _ {T : Type 0} {below : T → T → Bool} {joined met : T → T → T} {c
       step n t us l e so = by (is_beyond below frontier t) refl
         where
           by : (v : Bool) → is_beyond below frontier t ≡ v → IsListedUpTo (n + 1) (cond (not v) (us ++ map (at_time t) (missing below (wanted t) t us)) us)
-          by true late = listed_skip o b x total p plan lists view frontier grid is_join_closure n t l e us late so
-          by false passed = listed_next o b x total p plan lists view frontier grid is_join_closure n t l e us (us ++ map (at_time t) (missing below (wanted t) t us)) passed (fills t us) so
+          by true late = listed_skip o b x total p plan lists view within frontier grid is_join_closure n t l e us late so
+          by false passed = listed_next o b x total p plan lists view within frontier grid is_join_closure n t l e us (us ++ map (at_time t) (missing below (wanted t) t us)) passed (fills t us) so
 
       along : (n : ℕ) (ts : List T) (us : List (Update T)) → drop n grid ≡ ts → IsListedUpTo n us → IsListed below cmp frontier listed_wanted grid (listed_along below frontier wanted ts us)
       along n [] us e so = subst (λ (g : List T). IsListed below cmp frontier listed_wanted g us) (take_all n grid (past grid n e)) so
@@ -159,12 +171,12 @@ module _ {T : Type 0} {below : T → T → Bool} {joined met : T → T → T} {c
           here (x ∷ xs) (suc n) e = let k = here xs n e in (omega (arith, k.0), k.1, k.2)
 
       listed : IsListed below cmp frontier listed_wanted grid (changes_along below cmp joined frontier wanted fed_times)
-      listed = along 0 grid [] refl (listed_none o b x total p plan lists view frontier grid is_join_closure)
+      listed = along 0 grid [] refl (listed_none o b x total p plan lists view within frontier grid is_join_closure)
 
       -- answers the clause `differences` of the_changes_of_a_view
       pub changes_are : AreDifferences below cmp p (λ i. fed_to i fed) frontier view (changes_along below cmp joined frontier wanted fed_times)
       changes_are =
-          let d = listed_all o b x total p plan lists view frontier grid is_join_closure (changes_along below cmp joined frontier wanted fed_times) listed in
+          let d = listed_all o b x total p plan lists view within frontier grid is_join_closure (changes_along below cmp joined frontier wanted fed_times) listed in
           record {
             consolidated = d.consolidated;
             passed = d.passed;

@@ -280,8 +280,9 @@ impl CatchUp for OracleEngine {
 /// Cost: a change is linear in the nodes of the plan and in the elements of the inputs' frontiers. A read goes
 /// over all earlier changes, and sorts what each node above the view reads and writes. So a script of reads and
 /// changes takes time quadratic in its length. The changes of a view take one such query for each time of the
-/// join closure, that is, for the times of all changes and all their joins. The closure has at most as many
-/// times as the number of distinct valid times multiplied by the number of distinct system times.
+/// join closure, that is, for the passed times of the changes of the inputs that feed it and all passed joins of
+/// these times. The closure has at most as many times as the number of distinct valid times multiplied by the
+/// number of distinct system times.
 pub fn plain_script<W: Out>(alloc: Global, script: &Script, out: &mut W) -> Result<(), RunFault>
     ensures written { OnOk result (W.took out.old (text script.now) 0 out.new) }
     ensures beginning { IfErr result (λ fault. (part : List ℕ) × IsBeginning part (text script.now)
