@@ -1,71 +1,68 @@
--- The result of sorting a list and gathering its groups, compared with the list itself.
-use Rattle.std.proofs.Common.{◌≡◌, ℕ, suc, ◌+◌, ◌≤◌, ◌<◌, Bool, true, false, cond, ◌&&◌, List, [], ◌∷◌, ◌++◌, IsTrue, length, get_or, ℤ, pos, ◌+ℤ◌, refl, sym, ◌∙◌, subst, arith, w64}
+-- What gathering the groups of a list makes of it, and what a sort leaves as it was.
+use Rattle.std.proofs.Common.{◌≡◌, ℕ, ◌+◌, ◌≤◌, Bool, true, false, cond, ◌&&◌, ◌↔◌, List, [], ◌∷◌, ◌++◌, IsTrue, get_or, ℤ, pos, ◌+ℤ◌, refl, sym, ◌∙◌, ap, subst, arith, w64, inr}
 use Rattle.std.specs.Prelude.{FitsSigned, unsigned_abs}
 use Rattle.std.specs.List.{AllByRecursion, list_all}
-use Rattle.std.specs.List.Sorted.{IsStrictlySortedBy, IsPermutation, IsSortedBy}
+use Rattle.std.specs.List.Sorted.{IsPermutation, IsSortedBy}
 use Rattle.std.specs.Cmp.{IsTotalOrder}
-use Rattle.std.specs.Cmp.Lexicographic.{slice_cmp, lists_total}
-use Rattle.std.specs.Ordering.{int_cmp, int_eq, is_gt, is_lt, ordering_then, ordering_reverse}
+use Rattle.std.specs.Cmp.Lexicographic.{slice_cmp, lists_total, lists_ties}
+use Rattle.std.specs.Ordering.{int_cmp, int_eq, is_eq, is_lt, ordering_then}
 use Rattle.std.proofs.lemmas.Cmp.{then_total, on_total, int_cmp_total}
 use Rattle.std.proofs.lemmas.Bool.{true≢false}
 use Rattle.std.proofs.lemmas.Int.{ints}
 use Rattle.std.proofs.lemmas.List.Elements.{recursion_from_All, All-from_recursion}
-use Rattle.std.proofs.lemmas.List.Sorted.{sorted_far, ranks_by, sum_by-IsPermutation, All-permutation}
+use Rattle.std.proofs.lemmas.List.Sorted.{sum_by-IsPermutation, All-permutation}
 use Rattle.std.proofs.lemmas.List.Sums.{AllPass-from_list_all, list_all-from_AllPass}
 use Rattle.std.proofs.lemmas.List.Recursion.{is_sum_by}
 use Rattle.std.specs.declared.cmp.Ordering.{Ordering}
+use Rattle.std.specs.Result.{IfOk, IfErr, IsErr, OnOk}
+use Rattle.std.specs.declared.result.Result.{Result}
+use Rattle.std.specs.declared.result.Result.TheVariants.{Ok, Err}
 use Rattle.std.specs.declared.cmp.Ordering.TheVariants.{Less, Equal, Greater}
 use Rattle.lattice.specs.Order.{PartialOrderLaws}
 use Rattle.update.specs.declared.change.Update.{Update}
 use Rattle.update.specs.Bags.{same_row, Alike}
-use Rattle.update.specs.Updates.{total_where, total_at, as_of, by_time_then_row, HasLargeTotal, IsConsolidated, size}
-use Rattle.update.specs.Groups.{is_same, group_sum, group_sums, groups_of, groups_from, AllFit}
+use Rattle.update.specs.Refusals.{IsMemoryOrOverflow}
+use Rattle.update.specs.declared.refusal.Refusal.{Refusal}
+use Rattle.update.specs.declared.refusal.Refusal.TheVariants.{Overflow}
+use Rattle.update.specs.Updates.{total_where, total_at, as_of, by_time_then_row, AreApart, HasLargeTotal, size}
+use Rattle.update.specs.Groups.{is_same, group_sum, group_sums, groups_of, groups_from, AllFit, IsGrouped, OrdersGroups}
 use Rattle.update.proofs.SumLemmas.{total_by-permutation}
 use Rattle.update.proofs.UniqueLemmas.{count_as_of}
-use Rattle.update.proofs.GroupLemmas.{Ascends, left_all, left_sorted, left_nonzero, left_total}
+use Rattle.update.proofs.GroupLemmas.{AreNeighbours, grouped_neighbours, left_all, left_apart, left_total}
 use Rattle.update.proofs.TotalLemmas.{totals_fit, some_large, fits_zero}
 
 -- the order by which lists are sorted: by time, then by row, then by difference
 abbrev by_all : {T : Type 0} → (T → T → Ordering) → Update T → Update T → Ordering
 by_all cmp u v = ordering_then (cmp u.time v.time) (ordering_then (slice_cmp int_cmp u.row v.row) (int_cmp u.diff v.diff))
 
-first_two : (a b c : Ordering) → ordering_then a b ≡ Less → is_lt (ordering_then a (ordering_then b c)) ≡ true
-first_two Less b c e = refl
-first_two Equal Less c e = refl
-first_two Equal Equal c e = cc
-first_two Equal Greater c e = cc
-first_two Greater b c e = cc
+not_before : (a b c : Ordering) → is_lt (ordering_then a (ordering_then b c)) ≡ false → is_lt (ordering_then a b) ≡ false
+not_before Less b c e = e
+not_before Equal Less c e = e
+not_before Equal Equal c e = refl
+not_before Equal Greater c e = refl
+not_before Greater b c e = refl
 
-not_gt : (a b : Ordering) → a ≡ ordering_reverse b → (a ≡ Less → ⊥) → is_gt b ≡ false
-not_gt a Less e h = refl
-not_gt a Equal e h = refl
-not_gt a Greater e h = absurd (h e)
+both_equal : (a b : Ordering) → is_eq (ordering_then a b) ≡ (is_eq a && is_eq b)
+both_equal Less b = refl
+both_equal Equal b = refl
+both_equal Greater b = refl
 
 module _ {T : Type 0} {cmp : T → T → Ordering} (total : IsTotalOrder cmp) where
-  by_all_total : IsTotalOrder (by_all cmp)
-  by_all_total = then_total (on_total (λ u. u.time) total) (then_total (on_total (λ u. u.row) (lists_total int_cmp_total)) (on_total (λ u. u.diff) int_cmp_total))
+  -- the order of consolidated lists tells rows and times apart
+  pub by_time_orders : OrdersGroups cmp (by_time_then_row cmp)
+  by_time_orders = record {
+    total = then_total (on_total (λ u. u.time) total) (on_total (λ u. u.row) (lists_total int_cmp_total));
+    ties = λ u v.
+        both_equal (cmp u.time v.time) (slice_cmp int_cmp u.row v.row)
+        ∙ ap (λ b. is_eq (cmp u.time v.time) && b) (sym (lists_ties int_cmp (λ x y. refl) u.row v.row));
+  }
 
-  by_two_total : IsTotalOrder (by_time_then_row cmp)
-  by_two_total = then_total (on_total (λ u. u.time) total) (on_total (λ u. u.row) (lists_total int_cmp_total))
-
-  -- two updates that are sorted are in order of time, then row
-  in_order : (u v : Update T) → is_lt (by_all cmp v u) ≡ false → is_gt (by_time_then_row cmp u v) ≡ false
-  in_order u v h =
-      not_gt (by_time_then_row cmp v u) (by_time_then_row cmp u v) (by_two_total.antisymm v u)
-      (λ e. true≢false (sym (first_two (cmp v.time u.time) (slice_cmp int_cmp v.row u.row) (int_cmp v.diff u.diff) e) ∙ h))
-
-  ascends_by : (xs : List (Update T)) → ((i j : ℕ) (d : Update T) → i < j → j < length xs → is_gt (by_time_then_row cmp (get_or xs i d) (get_or xs j d)) ≡ false) → Ascends total xs
-  ascends_by [] h = tt
-  ascends_by (u ∷ us) h = (
-    recursion_from_All (λ v. is_gt (by_time_then_row cmp u v) ≡ false) us (λ k d l. h 0 (suc k) d (omega arith) (omega (arith, l))),
-    ascends_by us (λ i j d l m. h (suc i) (suc j) d (omega (arith, l)) (omega (arith, m))),
-  )
-
-  -- a sorted list ascends by time and row
-  pub ascends_sorted : (xs : List (Update T)) → IsSortedBy (λ x y. is_lt (by_all cmp x y)) xs → Ascends total xs
-  ascends_sorted xs s =
-      ascends_by xs (λ i j d l m. in_order (get_or xs i d) (get_or xs j d)
-      (sorted_far (λ x y. is_lt (by_all cmp x y)) (ranks_by by_all_total (λ u. u)) xs s i j d (omega (arith, l)) m))
+  -- a list in the order of updates is in that order too
+  pub sorted_by_time : (xs : List (Update T)) → IsSortedBy (λ x y. is_lt (by_all cmp x y)) xs → IsSortedBy (λ x y. is_lt (by_time_then_row cmp x y)) xs
+  sorted_by_time xs s k d a b =
+      let x = get_or xs k d in
+      let y = get_or xs (k + 1) d in
+      not_before (cmp y.time x.time) (slice_cmp int_cmp y.row x.row) (int_cmp y.diff x.diff) (s k d a b)
 
 -- the size, by recursion
 abbrev pub summed_size : {T : Type 0} → List (Update T) → ℕ
@@ -103,79 +100,108 @@ summed_size_left cmp u n (v ∷ vs) =
     no_larger : (x y : ℤ) → unsigned_abs (x +ℤ y) ≤ unsigned_abs x + unsigned_abs y
     no_larger x y = omega (arith, ints)
 
-module _ {T : Type 0} {cmp : T → T → Ordering} (total : IsTotalOrder cmp) (exact : (s t : T) → cmp s t ≡ Equal → s ≡ t) where
-  from_consolidated : (xs : List (Update T)) → Ascends total xs → IsStrictlySortedBy (by_time_then_row cmp) (group_sums (groups_from cmp xs))
-  unfolding IsStrictlySortedBy
-  from_consolidated [] a = tt
-  from_consolidated (u ∷ us) a = left_sorted total u u.diff us a
+module _ {T : Type 0} {cmp : T → T → Ordering} (exact : (s t : T) → cmp s t ≡ Equal → s ≡ t) where
+  -- the group sums have the totals of the list
+  pub gathered_total : (p : List ℤ → T → Bool) (xs : List (Update T)) → total_where p (group_sums (groups_from cmp xs)) ≡ total_where p xs
+  gathered_total p [] = refl
+  gathered_total p (u ∷ us) = left_total exact p u u.diff us
 
-  -- the result is consolidated
-  pub gathered_consolidated : (xs : List (Update T)) → IsSortedBy (λ x y. is_lt (by_all cmp x y)) xs → IsConsolidated cmp (group_sums (groups_from cmp xs))
-  gathered_consolidated xs s = record {
-    ascending = from_consolidated xs (ascends_sorted total xs s);
-    nonzero = left_nonzero (groups_from cmp xs);
-  }
-
-  from_total : (p : List ℤ → T → Bool) (xs : List (Update T)) → total_where p (group_sums (groups_from cmp xs)) ≡ total_where p xs
-  from_total p [] = refl
-  from_total p (u ∷ us) = left_total exact p u u.diff us
-
-  -- the result has the same totals
-  pub gathered_total : (p : List ℤ → T → Bool) (us xs : List (Update T)) → IsPermutation us xs → total_where p (group_sums (groups_from cmp xs)) ≡ total_where p us
-  gathered_total p us xs q = from_total p xs ∙ sym (total_by-permutation (λ u. cond (p u.row u.time) u.diff (pos 0)) us xs q)
-
+module _ {T : Type 0} (cmp : T → T → Ordering) where
   from_all : (P : Update T → Type 0) → ((u : Update T) (n : ℤ) → P u → P (record u { diff = n })) → (xs : List (Update T)) → AllByRecursion P xs → AllByRecursion P (group_sums (groups_from cmp xs))
   from_all P keeps [] a = tt
-  from_all P keeps (u ∷ us) a = left_all total P keeps u u.diff us a.0 a.1
+  from_all P keeps (u ∷ us) a = left_all cmp P keeps u u.diff us a.0 a.1
 
-  -- a test of row and time that all updates pass is passed by the result
-  pub gathered_among : (p : List ℤ → T → Bool) (us xs : List (Update T)) → IsPermutation us xs → IsTrue (list_all (λ u. p u.row u.time) us) → IsTrue (list_all (λ u. p u.row u.time) (group_sums (groups_from cmp xs)))
-  gathered_among p us xs q a =
+  -- a test of row and time that all updates pass is passed by the group sums
+  pub gathered_among : (p : List ℤ → T → Bool) (xs : List (Update T)) → IsTrue (list_all (λ u. p u.row u.time) xs) → IsTrue (list_all (λ u. p u.row u.time) (group_sums (groups_from cmp xs)))
+  gathered_among p xs a =
       let test = λ (u : Update T). p u.row u.time in
       let pass = λ (u : Update T). p u.row u.time ≡ true in
-      let here = recursion_from_All pass xs (All-permutation pass us xs q (AllPass-from_list_all test us a)) in
-      let left = from_all pass (λ u n h. h) xs here in
+      let left = from_all pass (λ u n h. h) xs (recursion_from_All pass xs (AllPass-from_list_all test xs a)) in
       list_all-from_AllPass test (group_sums (groups_from cmp xs)) (All-from_recursion pass (group_sums (groups_from cmp xs)) left)
 
   from_size : (xs : List (Update T)) → summed_size (group_sums (groups_from cmp xs)) ≤ summed_size xs
   from_size [] = omega arith
   from_size (u ∷ us) = summed_size_left cmp u u.diff us
 
-  -- the result is no larger than the list
-  pub gathered_size : (us xs : List (Update T)) → IsPermutation us xs → size (group_sums (groups_from cmp xs)) ≤ size us
-  gathered_size us xs q =
+  -- the group sums are no larger than the list
+  pub gathered_size : (xs : List (Update T)) → size (group_sums (groups_from cmp xs)) ≤ size xs
+  gathered_size xs =
       let less = from_size xs in
       let left = summed_size_is (group_sums (groups_from cmp xs)) in
       let here = summed_size_is xs in
-      let same = sum_by-IsPermutation (λ u. unsigned_abs u.diff) us xs q in
-      omega (arith, less, left, here, same)
+      omega (arith, less, left, here)
 
 module _ {T : Type 0} {below : T → T → Bool} {cmp : T → T → Ordering} (o : PartialOrderLaws below) (total : IsTotalOrder cmp) (exact : (s t : T) → cmp s t ≡ Equal → s ≡ t) where
-  -- the result has the same sum at every time
-  pub gathered_sum : (t : T) (us xs : List (Update T)) → IsPermutation us xs → Alike (as_of below t (group_sums (groups_from cmp xs))) (as_of below t us)
-  gathered_sum t us xs q row =
+  -- the group sums have the sum of the list at every time
+  pub gathered_sum : (t : T) (xs : List (Update T)) → Alike (as_of below t (group_sums (groups_from cmp xs))) (as_of below t xs)
+  gathered_sum t xs row =
       count_as_of below row t (group_sums (groups_from cmp xs))
-      ∙ gathered_total total exact (λ r s. same_row r row && below s t) us xs q
-      ∙ sym (count_as_of below row t us)
+      ∙ gathered_total exact (λ r s. same_row r row && below s t) xs
+      ∙ sym (count_as_of below row t xs)
 
-  same_total_at : (row : List ℤ) (t : T) (us xs : List (Update T)) → IsPermutation us xs → total_at below row t us ≡ total_at below row t xs
-  same_total_at row t us xs q = total_by-permutation (λ u. cond (same_row u.row row && (below u.time t && below t u.time)) u.diff (pos 0)) us xs q
-
-  from_fit : (xs : List (Update T)) → Ascends total xs → AllFit (groups_from cmp xs) → (row : List ℤ) (t : T) → FitsSigned w64 (total_at below row t xs)
+  from_fit : (xs : List (Update T)) → AreNeighbours cmp xs → AllFit (groups_from cmp xs) → (row : List ℤ) (t : T) → FitsSigned w64 (total_at below row t xs)
   from_fit [] a f row t = fits_zero
   from_fit (u ∷ us) a f row t = totals_fit o total exact u u.diff us a f row t
 
-  from_large : (xs : List (Update T)) → Ascends total xs → (AllFit (groups_from cmp xs) → ⊥) → HasLargeTotal below xs
+  from_large : (xs : List (Update T)) → AreNeighbours cmp xs → (AllFit (groups_from cmp xs) → ⊥) → HasLargeTotal below xs
   from_large [] a f = absurd (f tt)
   from_large (u ∷ us) a f = some_large o total exact u u.diff us a f
 
-  -- if each group's total fits in 64 bits, then so does every total
-  pub gathered_fit : (us xs : List (Update T)) → IsPermutation us xs → IsSortedBy (λ x y. is_lt (by_all cmp x y)) xs → AllFit (groups_from cmp xs) → HasLargeTotal below us → ⊥
-  gathered_fit us xs q s f large =
-      large.2 (subst (FitsSigned w64) (sym (same_total_at large.0 large.1 us xs q)) (from_fit xs (ascends_sorted total xs s) f large.0 large.1))
+  -- in a grouped list every total fits in 64 bits if each group's total does
+  pub gathered_fit : (xs : List (Update T)) → IsGrouped cmp xs → AllFit (groups_from cmp xs) → HasLargeTotal below xs → ⊥
+  gathered_fit xs g f large = large.2 (from_fit xs (grouped_neighbours cmp xs g) f large.0 large.1)
 
-  -- if a group's total does not fit in 64 bits, then some total does not
-  pub gathered_large : (us xs : List (Update T)) → IsPermutation us xs → IsSortedBy (λ x y. is_lt (by_all cmp x y)) xs → (AllFit (groups_from cmp xs) → ⊥) → HasLargeTotal below us
-  gathered_large us xs q s f =
-      let r = from_large xs (ascends_sorted total xs s) f in
-      (r.0, r.1, λ g. r.2 (subst (FitsSigned w64) (same_total_at r.0 r.1 us xs q) g))
+  -- and some total does not if a group's total does not
+  pub gathered_large : (xs : List (Update T)) → IsGrouped cmp xs → (AllFit (groups_from cmp xs) → ⊥) → HasLargeTotal below xs
+  gathered_large xs g f = from_large xs (grouped_neighbours cmp xs g) f
+
+  -- no two group sums of a grouped list have the same row and time
+  pub gathered_apart : (xs : List (Update T)) → IsGrouped cmp xs → AreApart below (group_sums (groups_from cmp xs))
+  gathered_apart [] g = tt
+  gathered_apart (u ∷ us) g = left_apart exact o total u u.diff us (grouped_neighbours cmp (u ∷ us) g)
+
+-- what a sort leaves as it was
+module _ {T : Type 0} (us vs : List (Update T)) (q : IsPermutation us vs) where
+  -- the totals
+  pub moved_total : (p : List ℤ → T → Bool) → total_where p vs ≡ total_where p us
+  moved_total p = sym (total_by-permutation (λ u. cond (p u.row u.time) u.diff (pos 0)) us vs q)
+
+  -- the size
+  pub moved_size : size vs ≡ size us
+  moved_size = sum_by-IsPermutation (λ u. unsigned_abs u.diff) us vs q
+
+  -- a test of row and time that all updates pass
+  pub moved_among : (p : List ℤ → T → Bool) → IsTrue (list_all (λ u. p u.row u.time) us) → IsTrue (list_all (λ u. p u.row u.time) vs)
+  moved_among p a =
+      let test = λ (u : Update T). p u.row u.time in
+      list_all-from_AllPass test vs (All-permutation (λ u. test u ≡ true) us vs q (AllPass-from_list_all test us a))
+
+  module _ (below : T → T → Bool) where
+    -- the sums at each time
+    pub moved_sum : (t : T) → Alike (as_of below t vs) (as_of below t us)
+    moved_sum t row =
+        count_as_of below row t vs ∙ moved_total (λ r s. same_row r row && below s t) ∙ sym (count_as_of below row t us)
+
+    same_total_at : (row : List ℤ) (t : T) → total_at below row t vs ≡ total_at below row t us
+    same_total_at row t = moved_total (λ r s. same_row r row && (below s t && below t s))
+
+    -- whether a total is too large
+    pub moved_large : HasLargeTotal below us ↔ HasLargeTotal below vs
+    moved_large = (
+      λ l. (l.0, l.1, λ f. l.2 (subst (FitsSigned w64) (same_total_at l.0 l.1) f)),
+      λ l. (l.0, l.1, λ f. l.2 (subst (FitsSigned w64) (sym (same_total_at l.0 l.1)) f)),
+    )
+
+-- what follows from two clauses about the value in an `Ok`
+pub ok_both : {A E : Type 0} (r : Result A E) (P Q R : A → Type 0) → ((x : A) → P x → Q x → R x) → IfOk r P → IfOk r Q → IfOk r R
+ok_both (Ok x) P Q R f p q = f x p q
+ok_both (Err e) P Q R f p q = tt
+
+-- what an Overflow whose cause is known says of a list: in an `Ok` nothing is too large, and an `Err` has its cause
+pub ok_fits : {A E : Type 0} (r : Result A E) (large : Type 0) → (large → IsErr r) → OnOk r (large → ⊥)
+ok_fits (Ok x) large f = λ l. absurd (true≢false (sym (f l)))
+ok_fits (Err e) large f = tt
+
+pub err_large : {A : Type 0} (r : Result A Refusal) (large : Type 0) → (IsErr r → large) → IfErr r (λ refused. refused ≡ Overflow) → IfErr r (IsMemoryOrOverflow large)
+err_large (Ok x) large f only = tt
+err_large (Err e) large f only = inr (only, f refl)

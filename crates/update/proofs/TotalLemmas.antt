@@ -1,4 +1,4 @@
--- In a sorted list the total of a group is the total of its row and time. So some group's total is too large if and
+-- In a list whose groups are neighbours the total of a group is the total of its row and time. So some group's total is too large if and
 -- only if the total of some row at some time is.
 use Rattle.std.proofs.Common.{◌≡◌, ◌^◌, Bool, true, false, cond, ◌&&◌, List, [], ◌∷◌, ℤ, pos, ◌+ℤ◌, refl, sym, ◌∙◌, ap, subst, ◌⊎◌, inl, inr, ⊎_elim, w64}
 use Rattle.std.specs.Prelude.{FitsSigned}
@@ -11,14 +11,15 @@ use Rattle.std.proofs.Math.Facts.{sfits_lit}
 use Rattle.std.proofs.lemmas.Bool.Decides.{Decides-ltb}
 use lib.Signed.{mag}
 use Rattle.std.specs.declared.cmp.Ordering.{Ordering}
-use Rattle.std.specs.declared.cmp.Ordering.TheVariants.{Less, Equal}
+use Rattle.std.specs.declared.cmp.Ordering.TheVariants.{Equal}
+use Rattle.std.specs.Ordering.{is_eq}
+use Rattle.std.proofs.lemmas.Cmp.{tied_itself}
 use Rattle.lattice.specs.Order.{PartialOrderLaws}
 use Rattle.update.specs.declared.change.Update.{Update}
 use Rattle.update.specs.Bags.{same_row}
-use Rattle.update.specs.Updates.{total_at, by_time_then_row}
+use Rattle.update.specs.Updates.{total_at}
 use Rattle.update.specs.Groups.{is_same, groups_of, AllFit}
-use Rattle.update.proofs.GroupLemmas.{Ascends, AllAfter, rest_after, skip_second, same_passes, more_of}
-use Rattle.update.proofs.UniqueLemmas.{meets_row, meets_time, not_in_order}
+use Rattle.update.proofs.GroupLemmas.{AreOther, AreNeighbours, skip_second, same_passes, more_of}
 
 fits_or_not : (n : ℤ) → FitsSigned w64 n ⊎ (FitsSigned w64 n → ⊥)
 fits_or_not n =
@@ -40,17 +41,23 @@ module _ {T : Type 0} {below : T → T → Bool} {cmp : T → T → Ordering} (o
   abbrev with_hand : List ℤ → T → Update T → ℤ → List (Update T) → ℤ
   with_hand row t u n vs = cond (is_at row t u) n (pos 0) +ℤ total_at below row t vs
 
-  apart : (u w : Update T) → by_time_then_row cmp u w ≡ Less → (b : Bool) → is_at u.row u.time w ≡ b → b ≡ false
-  apart u w l true e = absurd (not_in_order o total u w (meets_row o u w e) (meets_time o u w e) l)
+  apart : (u w : Update T) → is_same cmp u w ≡ false → (b : Bool) → is_at u.row u.time w ≡ b → b ≡ false
+  apart u w l true e =
+      let parts = and_parts (same_row w.row u.row) (below w.time u.time && below u.time w.time) e in
+      let ties = and_parts (below w.time u.time) (below u.time w.time) parts.1 in
+      let time : u.time ≡ w.time = o.antisymmetric u.time w.time ties.1 ties.0 in
+      let row : w.row ≡ u.row = (signed_items w.row u.row).0 parts.0 in
+      let same = and_from (is_eq (cmp u.time w.time)) (same_row u.row w.row) (ap (λ t. is_eq (cmp t w.time)) time ∙ ap is_eq (tied_itself total w.time)) ((signed_items u.row w.row).1 (sym row)) in
+      absurd (true≢false (sym same ∙ l))
   apart u w l false e = refl
 
-  -- updates after u have another row or time, so they add nothing to u's total
-  none_after : (u : Update T) (ws : List (Update T)) → AllAfter total u ws → total_at below u.row u.time ws ≡ pos 0
+  -- updates of another row or time add nothing to u's total
+  none_after : (u : Update T) (ws : List (Update T)) → AreOther cmp u ws → total_at below u.row u.time ws ≡ pos 0
   none_after u [] a = refl
   none_after u (w ∷ ws) a =
       rw (apart u w a.0 (is_at u.row u.time w) refl, none_after u ws a.1) refl
 
-  at_its_own : (row : List ℤ) (t : T) (u : Update T) (ws : List (Update T)) → is_at row t u ≡ true → AllAfter total u ws → total_at below row t ws ≡ pos 0
+  at_its_own : (row : List ℤ) (t : T) (u : Update T) (ws : List (Update T)) → is_at row t u ≡ true → AreOther cmp u ws → total_at below row t ws ≡ pos 0
   at_its_own row t u ws h a =
       let there = and_parts (same_row u.row row) (below u.time t && below t u.time) h in
       let ties = and_parts (below u.time t) (below t u.time) there.1 in
@@ -68,7 +75,7 @@ module _ {T : Type 0} {below : T → T → Bool} {cmp : T → T → Ordering} (o
       (and_from (below u.time u.time) (below u.time u.time) (o.reflexive u.time) (o.reflexive u.time))
 
   -- a total that fits still fits without a group that has ended
-  later : (row : List ℤ) (t : T) (u : Update T) (n : ℤ) (ws : List (Update T)) → AllAfter total u ws → FitsSigned w64 (with_hand row t u n ws) → FitsSigned w64 (total_at below row t ws)
+  later : (row : List ℤ) (t : T) (u : Update T) (n : ℤ) (ws : List (Update T)) → AreOther cmp u ws → FitsSigned w64 (with_hand row t u n ws) → FitsSigned w64 (total_at below row t ws)
   later row t u n ws a f =
       elim (is_at row t u) as (λ b. is_at row t u ≡ b → FitsSigned w64 (cond b n (pos 0) +ℤ total_at below row t ws) → FitsSigned w64 (total_at below row t ws)) [
         | true ↦ λ h g. rw (at_its_own row t u ws h a) fits_zero
@@ -76,7 +83,7 @@ module _ {T : Type 0} {below : T → T → Bool} {cmp : T → T → Ordering} (o
       ] refl f
 
   -- if each group's total fits, then the total of each row at each time does
-  pub totals_fit : (u : Update T) (n : ℤ) (vs : List (Update T)) → Ascends total (u ∷ vs) → AllFit (groups_of cmp u n vs) → (row : List ℤ) (t : T) → FitsSigned w64 (with_hand row t u n vs)
+  pub totals_fit : (u : Update T) (n : ℤ) (vs : List (Update T)) → AreNeighbours cmp (u ∷ vs) → AllFit (groups_of cmp u n vs) → (row : List ℤ) (t : T) → FitsSigned w64 (with_hand row t u n vs)
   totals_fit u n [] a f row t =
       elim (is_at row t u) as (λ b. FitsSigned w64 (cond b n (pos 0) +ℤ pos 0)) [
         | true ↦ subst (FitsSigned w64) (sym (+ℤ_idr n)) f.0
@@ -84,26 +91,26 @@ module _ {T : Type 0} {below : T → T → Bool} {cmp : T → T → Ordering} (o
       ]
   totals_fit u n (v ∷ vs) a f row t =
       elim (is_same cmp u v) as (λ b. is_same cmp u v ≡ b → AllFit (cond b (groups_of cmp u (n +ℤ v.diff) vs) (record { first = u; total = n } ∷ groups_of cmp v v.diff vs)) → FitsSigned w64 (with_hand row t u n (v ∷ vs))) [
-        | true ↦ λ e g. subst (FitsSigned w64) (grown row t u v n vs e) (totals_fit u (n +ℤ v.diff) vs (skip_second total u v vs a) g row t)
+        | true ↦ λ e g. subst (FitsSigned w64) (grown row t u v n vs e) (totals_fit u (n +ℤ v.diff) vs (skip_second exact u v vs e a) g row t)
         | false ↦ λ e g.
             let later = totals_fit v v.diff vs a.1 g.1 row t in
             elim (is_at row t u) as (λ b. is_at row t u ≡ b → FitsSigned w64 (cond b n (pos 0) +ℤ total_at below row t (v ∷ vs))) [
-              | true ↦ λ h. rw (at_its_own row t u (v ∷ vs) h (rest_after total u v vs a e)) (subst (FitsSigned w64) (sym (+ℤ_idr n)) g.0)
+              | true ↦ λ h. rw (at_its_own row t u (v ∷ vs) h (e, a.0 e)) (subst (FitsSigned w64) (sym (+ℤ_idr n)) g.0)
               | false ↦ λ h. subst (FitsSigned w64) (sym (+ℤ_idl (total_at below row t (v ∷ vs)))) later
             ] refl
       ] refl f
 
   -- if some group's total does not fit, then the total of some row at some time does not
-  pub some_large : (u : Update T) (n : ℤ) (vs : List (Update T)) → Ascends total (u ∷ vs) → (AllFit (groups_of cmp u n vs) → ⊥) → (row : List ℤ) × (t : T) × (FitsSigned w64 (with_hand row t u n vs) → ⊥)
+  pub some_large : (u : Update T) (n : ℤ) (vs : List (Update T)) → AreNeighbours cmp (u ∷ vs) → (AllFit (groups_of cmp u n vs) → ⊥) → (row : List ℤ) × (t : T) × (FitsSigned w64 (with_hand row t u n vs) → ⊥)
   some_large u n [] a f =
       (u.row, u.time, λ g. f (subst (FitsSigned w64) (ap (λ b. cond b n (pos 0) +ℤ pos 0) (at_itself u) ∙ +ℤ_idr n) g, tt))
   some_large u n (v ∷ vs) a f =
       elim (is_same cmp u v) as (λ b. is_same cmp u v ≡ b → (AllFit (cond b (groups_of cmp u (n +ℤ v.diff) vs) (record { first = u; total = n } ∷ groups_of cmp v v.diff vs)) → ⊥) → (row : List ℤ) × (t : T) × (FitsSigned w64 (with_hand row t u n (v ∷ vs)) → ⊥)) [
         | true ↦ λ e g.
-            let r = some_large u (n +ℤ v.diff) vs (skip_second total u v vs a) g in
+            let r = some_large u (n +ℤ v.diff) vs (skip_second exact u v vs e a) g in
             (r.0, r.1, λ h. r.2 (subst (FitsSigned w64) (sym (grown r.0 r.1 u v n vs e)) h))
         | false ↦ λ e g.
-            let after = rest_after total u v vs a e in
+            let after : AreOther cmp u (v ∷ vs) = (e, a.0 e) in
             ⊎_elim
             (λ fits.
             let r = some_large v v.diff vs a.1 (λ k. g (fits, k)) in

@@ -1,8 +1,9 @@
--- How consolidation reads a sorted list: the updates of one row and time are neighbours, a group, and become one
--- update.
+-- How consolidation reads a list in which the updates of one row and time are neighbours, a group. Each group becomes
+-- one update. Any order by row and time, whichever comes first, makes such a list.
 use Rattle.std.specs.Int.{w64}
+use Rattle.std.specs.Cmp.{IsTotalOrder}
 use Rattle.std.specs.List.{AllByRecursion}
-use Rattle.std.specs.Prelude.{Bool, FitsSigned, cond, ◌&&◌, List, [], ◌∷◌, ℤ, pos, ◌+ℤ◌, flat_map}
+use Rattle.std.specs.Prelude.{◌≡◌, ℕ, ◌<◌, Bool, FitsSigned, IsTrue, cond, ◌&&◌, List, [], ◌∷◌, length, slice_index_or, ℤ, pos, ◌+ℤ◌, flat_map}
 use Rattle.std.specs.Ordering.{int_eq, is_eq}
 use Rattle.std.specs.declared.cmp.Ordering.{Ordering}
 use Rattle.update.specs.declared.change.Update.{Update}
@@ -11,6 +12,17 @@ use Rattle.update.specs.Bags.{same_row}
 -- the updates have the same row and time
 abbrev pub is_same : {T : Type 0} → (T → T → Ordering) → Update T → Update T → Bool
 is_same cmp u v = is_eq (cmp u.time v.time) && same_row u.row v.row
+
+-- what lies between two updates of one row and time is of that row and time too
+abbrev pub IsGrouped : {T : Type 0} → (T → T → Ordering) → List (Update T) → Type 0
+IsGrouped {T} cmp us = (i j k : ℕ) (d : Update T) → i < j → j < k → k < length us
+    → IsTrue (is_same cmp (slice_index_or us i d) (slice_index_or us k d))
+    → IsTrue (is_same cmp (slice_index_or us i d) (slice_index_or us j d))
+
+-- an order of updates in which exactly those of one row and time tie
+pub record OrdersGroups {T : Type 0} (cmp : T → T → Ordering) (order : Update T → Update T → Ordering) : Type 0 where
+  pub total : IsTotalOrder order
+  pub ties : (u v : Update T) → is_eq (order u v) ≡ is_same cmp u v
 
 -- a group: its first update, and the total of its diffs
 pub record Group (T : Type 0) : Type 0 where

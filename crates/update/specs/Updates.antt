@@ -1,7 +1,7 @@
 -- Lists of updates, and what they sum to at a time (McSherry et al., Differential Dataflow, CIDR 2013).
-use Rattle.std.specs.Prelude.{◌≢◌, ℕ, Bool, ◌&&◌, if◌then◌else◌, List, map, filter, ℤ, pos, FitsSigned, unsigned_abs, sum_by}
+use Rattle.std.specs.Prelude.{◌≡◌, ◌≢◌, ℕ, Bool, false, ◌&&◌, if◌then◌else◌, List, [], ◌∷◌, map, filter, ℤ, pos, FitsSigned, unsigned_abs, sum_by, ⊤}
 use Rattle.std.specs.Int.{w64}
-use Rattle.std.specs.List.{AllByRecursion}
+use Rattle.std.specs.List.{AllByRecursion, list_any}
 use Rattle.std.specs.List.Sorted.{IsStrictlySortedBy}
 use Rattle.std.specs.Cmp.Lexicographic.{slice_cmp}
 use Rattle.std.specs.Ordering.{int_cmp, ordering_then}
@@ -28,6 +28,16 @@ total_at below row t us = total_where (λ r s. same_row r row && (below s t && b
 -- the total of some row at some time is no 64-bit number
 abbrev pub HasLargeTotal : {T : Type 0} → (T → T → Bool) → List (Update T) → Type 0
 HasLargeTotal {T} below us = (row : List ℤ) × (t : T) × (FitsSigned w64 (total_at below row t us) → ⊥)
+
+module _ {T : Type 0} (below : T → T → Bool) where
+  -- the two updates have the same row and the same time
+  abbrev pub is_doubled : Update T → Update T → Bool
+  is_doubled u v = (below u.time v.time && below v.time u.time) && same_row u.row v.row
+
+  -- no two of the updates have the same row and the same time
+  abbrev pub AreApart : List (Update T) → Type 0
+  AreApart [] = ⊤
+  AreApart (u ∷ us) = (list_any (is_doubled u) us ≡ false) × AreApart us
 
 -- the order of consolidated lists: by time, then by row
 abbrev pub by_time_then_row : {T : Type 0} → (T → T → Ordering) → Update T → Update T → Ordering

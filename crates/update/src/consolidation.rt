@@ -1,19 +1,23 @@
 //! Consolidation leaves one update for each row and time, and none with difference 0. Every layer above calls it, so it
-//! is one sort and one pass within the list that it is given.
+//! is one sort and one pass within the list that it is given. The pass stands alone too, for those who sort a list in an
+//! order of their own.
 //!
-//! After the sort the updates of one row and time are neighbours, a group. The pass keeps this invariant: at the front
+//! After a sort by row and time the updates of one row and time are neighbours, a group. The pass keeps this invariant: at the front
 //! are the finished groups, one update each. Behind them is the first update of the current group, whose total is kept
 //! beside the list. From `next` on are the updates still to come, unchanged. A finished update is written to a place
 //! that has already been read, so no second list is needed.
 //!
 //! Totals are kept in 128 bits and converted to 64 bits only when a group ends. So whether a list is refused depends on
 //! its totals alone, and not on the order in which they are added up.
-ghost use Rattle.std.specs.Prelude.{◌≡◌, ◌≤◌, ◌<◌, ◌+◌, ◌++◌, ◌⊎◌, length, take, drop, List, ◌∷◌, ◌*◌, ◌^◌, unsigned_abs, FitsSigned, IfOk, IfErr, IsErr, OnOk, IsTrue, Bool, ℤ, ◌↔◌, slice_index_or};
-ghost use Rattle.std.specs.List.{list_all};
+ghost use Rattle.std.specs.Prelude.{◌≡◌, ◌≢◌, pos, ◌≤◌, ◌<◌, ◌+◌, ◌++◌, ◌⊎◌, length, take, drop, List, ◌∷◌, ◌*◌, ◌^◌, unsigned_abs, FitsSigned, IfOk, IfErr, IsErr, OnOk, IsTrue, Bool, ℤ, ◌↔◌, slice_index_or};
+ghost use Rattle.std.specs.List.{AllByRecursion, list_all};
+ghost use Rattle.std.specs.List.Sorted.{IsSortedBy, IsStrictlySortedBy};
 ghost use Rattle.std.specs.Int.{w64};
-ghost use Rattle.update.specs.Groups.{is_same, group_sum, group_sums, groups_of, groups_from, AllFit};
+ghost use Rattle.std.specs.Ordering.{is_lt};
+ghost use Rattle.std.specs.declared.cmp.Ordering.{Ordering};
+ghost use Rattle.update.specs.Groups.{is_same, group_sum, group_sums, groups_of, groups_from, AllFit, IsGrouped, OrdersGroups};
 ghost use Rattle.update.specs.Bags.{Alike};
-ghost use Rattle.update.specs.Updates.{as_of, total_where, HasLargeTotal, IsConsolidated, size};
+ghost use Rattle.update.specs.Updates.{as_of, total_where, AreApart, HasLargeTotal, IsConsolidated, size};
 ghost use Rattle.update.specs.declared.change.Update.{Update};
 ghost use Rattle.update.specs.Refusals.{IsMemoryOrOverflow};
 
@@ -166,13 +170,44 @@ fn keep_totals<T: Lattice>(updates: &mut Vec<Update<T>>) -> Result<(), Refusal>
     Ok(())
 }
 
+/// Adds up the updates of each row and time in a list in which these are neighbours: one update is left for each row and
+/// time, and none with difference 0. Totals and sums stay the same. A list that is sorted by row and time is such a list,
+/// whichever of the two comes first and whether or not differences are looked at; the updates that are left are in the
+/// same order. [`Refusal::Overflow`] if and only if the total of some row at some time is no 64-bit number; they are added
+/// up in 128 bits. Takes no memory. On a refusal the list is dropped.
+///
+/// Cost: each update is read once and moved at most once.
+pub fn consolidate_grouped<T: Lattice>(
+    mut updates: Vec<Update<T>>,
+) -> Result<Vec<Update<T>>, Refusal>
+    requires { IsGrouped T.cmp updates.items }
+    ensures apart { IfOk result (λ out. AreApart T.below out.items) }
+    ensures nonzero { IfOk result (λ out. AllByRecursion (λ u. u.diff ≢ pos 0) out.items) }
+    ensures ascending { IfOk result (λ out. (order : Update T → Update T → Ordering)
+        → OrdersGroups T.cmp order → IsSortedBy (λ u v. is_lt (order u v)) updates.items
+        → IsStrictlySortedBy order out.items) }
+    ensures totals { IfOk result (λ out. (p : List ℤ → T → Bool)
+        → total_where p out.items ≡ total_where p updates.items) }
+    ensures sums { IfOk result (λ out. (t : T)
+        → Alike (as_of T.below t out.items) (as_of T.below t updates.items)) }
+    ensures among { IfOk result (λ out. (p : List ℤ → T → Bool)
+        → IsTrue (list_all (λ u. p u.row u.time) updates.items)
+        → IsTrue (list_all (λ u. p u.row u.time) out.items)) }
+    ensures size { IfOk result (λ out. size out.items ≤ size updates.items) }
+    ensures overflow { IsErr result ↔ HasLargeTotal T.below updates.items }
+    ensures only { IfErr result (λ refused. refused ≡ Refusal.Overflow) }
+{
+    keep_totals(&mut updates)?;
+    Ok(updates)
+}
+
 /// Consolidates a list: one update for each row and time, in order of time, then row, and none with difference 0.
 /// Totals and sums stay the same. [`Refusal::Overflow`] if and only if the total of some row at some time is no 64-bit
 /// number; the order of the updates does not matter, because they are added up in 128 bits. Takes no memory. On a
 /// refusal the list is dropped.
 ///
-/// Cost: n log n comparisons in the number of updates, for one sort in place; then each update is read once and moved
-/// at most once.
+/// Cost: n log n comparisons in the number of updates, for one sort in place, and then as
+/// [`consolidate_grouped`].
 pub fn consolidate<T: Lattice>(mut updates: Vec<Update<T>>) -> Result<Vec<Update<T>>, Refusal>
     ensures consolidated { IfOk result (λ out. IsConsolidated T.cmp out.items) }
     ensures totals { IfOk result (λ out. (p : List ℤ → T → Bool)
@@ -187,8 +222,7 @@ pub fn consolidate<T: Lattice>(mut updates: Vec<Update<T>>) -> Result<Vec<Update
     ensures only { IfErr result (λ refused. refused ≡ Refusal.Overflow) }
 {
     updates.sort_unstable();
-    keep_totals(&mut updates)?;
-    Ok(updates)
+    consolidate_grouped(updates)
 }
 
 /// Consolidates a list that begins with a long sorted part, such as a bag with a few updates behind it. The sort finds
@@ -206,6 +240,5 @@ pub(crate) fn consolidate_behind<T: Lattice>(
     ensures refused { IfErr result (IsMemoryOrOverflow (HasLargeTotal T.below updates.items)) }
 {
     updates.sort()?;
-    keep_totals(&mut updates)?;
-    Ok(updates)
+    consolidate_grouped(updates)
 }

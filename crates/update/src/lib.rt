@@ -24,7 +24,7 @@ mod weight;
 
 pub use bag::Bag;
 pub use change::Update;
-pub use consolidation::consolidate;
+pub use consolidation::{consolidate, consolidate_grouped};
 pub use entries::Entries;
 pub use laws::{bags_are_determined, consolidated_lists_are_least, sums_determine_a_list};
 pub use lists::{Times, Updates};

@@ -1,36 +1,52 @@
-use Rattle.std.proofs.Common.{sym, subst, refl, rules}
-use Rattle.update.specs.Updates.{IsConsolidated}
-use Rattle.update.proofs.ConsolidatedLemmas.{gathered_consolidated, gathered_total, gathered_among, gathered_size, gathered_sum, gathered_fit, gathered_large}
+use Rattle.std.proofs.Common.{◌≡◌, ◌≢◌, ◌≤◌, ◌∙◌, ◌++◌, IsTrue, ℤ, pos, List, Bool, arith}
+use Rattle.std.specs.List.{AllByRecursion, list_all}
+use Rattle.std.specs.List.Sorted.{IsStrictlySortedBy}
+use Rattle.std.proofs.lemmas.Result.{IfOk-weaker}
+use Rattle.update.specs.Bags.{Alike}
+use Rattle.update.specs.Updates.{IsConsolidated, total_where, as_of, by_time_then_row, size}
+use Rattle.update.proofs.GroupLemmas.{sorted_grouped}
+use Rattle.update.proofs.ConsolidatedLemmas.{by_time_orders, sorted_by_time, moved_total, moved_sum, moved_among, moved_size, moved_large, ok_both}
 use Rattle.update.proofs.consolidation.consolidate.Goals as goal
 
-pub returns-in_err-keep_totals-clause-overflow : goal.returns-in_err-keep_totals-clause-overflow
-returns-in_err-keep_totals-clause-overflow g c = (
-  λ _. gathered_large g.met.T.PartialOrder.order g.met.T.Ord.total g.met.T.Lattice.extends.exact _ _ c.sort_unstable.ensures.permutation c.sort_unstable.ensures.sorted (c.in_err-keep_totals.ensures.large refl),
-  λ _. search rules,
-)
+pub consolidate_grouped-requires : goal.consolidate_grouped-requires
+consolidate_grouped-requires g c =
+    sorted_grouped g.met.T.Ord.total (by_time_orders g.met.T.Ord.total) _ (sorted_by_time g.met.T.Ord.total _ c.sort_unstable.ensures.sorted)
 
 pub returns-clause-consolidated : goal.returns-clause-consolidated
 returns-clause-consolidated g c =
-    subst (IsConsolidated g.T.Ord.cmp) (sym c.in_ok-keep_totals.ensures.kept) (gathered_consolidated g.met.T.Ord.total g.met.T.Lattice.extends.exact _ c.sort_unstable.ensures.sorted)
+    let order = by_time_then_row g.T.Ord.cmp in
+    let sorted = sorted_by_time g.met.T.Ord.total _ c.sort_unstable.ensures.sorted in
+    ok_both c.consolidate_grouped.result _ _ (λ out. IsConsolidated g.T.Ord.cmp out.items)
+    (λ out ascending nonzero. record { ascending = ascending order (by_time_orders g.met.T.Ord.total) sorted; nonzero = nonzero })
+    c.consolidate_grouped.ensures.ascending c.consolidate_grouped.ensures.nonzero
 
 pub returns-clause-totals : goal.returns-clause-totals
-returns-clause-totals g c p =
-    rw c.in_ok-keep_totals.ensures.kept (gathered_total g.met.T.Ord.total g.met.T.Lattice.extends.exact p _ _ c.sort_unstable.ensures.permutation)
+returns-clause-totals g c =
+    IfOk-weaker c.consolidate_grouped.result _ _
+    (λ out same p. same p ∙ moved_total _ _ c.sort_unstable.ensures.permutation p)
+    c.consolidate_grouped.ensures.totals
 
 pub returns-clause-sums : goal.returns-clause-sums
-returns-clause-sums g c t =
-    rw c.in_ok-keep_totals.ensures.kept (gathered_sum g.met.T.PartialOrder.order g.met.T.Ord.total g.met.T.Lattice.extends.exact t _ _ c.sort_unstable.ensures.permutation)
+returns-clause-sums g c =
+    IfOk-weaker c.consolidate_grouped.result _ _
+    (λ out same t row. same t row ∙ moved_sum _ _ c.sort_unstable.ensures.permutation g.T.PartialOrder.below t row)
+    c.consolidate_grouped.ensures.sums
 
 pub returns-clause-among : goal.returns-clause-among
-returns-clause-among g c p all =
-    rw c.in_ok-keep_totals.ensures.kept (gathered_among g.met.T.Ord.total g.met.T.Lattice.extends.exact p _ _ c.sort_unstable.ensures.permutation all)
+returns-clause-among g c =
+    IfOk-weaker c.consolidate_grouped.result _ _
+    (λ out among p all. among p (moved_among _ _ c.sort_unstable.ensures.permutation p all))
+    c.consolidate_grouped.ensures.among
 
 pub returns-clause-size : goal.returns-clause-size
 returns-clause-size g c =
-    rw c.in_ok-keep_totals.ensures.kept (gathered_size g.met.T.Ord.total g.met.T.Lattice.extends.exact _ _ c.sort_unstable.ensures.permutation)
+    IfOk-weaker c.consolidate_grouped.result _ _
+    (λ out smaller. omega (arith, smaller, moved_size _ _ c.sort_unstable.ensures.permutation))
+    c.consolidate_grouped.ensures.size
 
 pub returns-clause-overflow : goal.returns-clause-overflow
-returns-clause-overflow g c = (
-  λ e. search rules,
-  λ large. absurd (gathered_fit g.met.T.PartialOrder.order g.met.T.Ord.total g.met.T.Lattice.extends.exact _ _ c.sort_unstable.ensures.permutation c.sort_unstable.ensures.sorted c.in_ok-keep_totals.ensures.fits large),
-)
+returns-clause-overflow g c =
+    let moved = moved_large _ _ c.sort_unstable.ensures.permutation g.T.PartialOrder.below in (
+      λ e. moved.1 (c.consolidate_grouped.ensures.overflow.0 e),
+      λ l. c.consolidate_grouped.ensures.overflow.1 (moved.0 l),
+    )

@@ -1,25 +1,34 @@
-use Rattle.std.proofs.Common.{◌≡◌, sym, subst, refl, rules, inr}
-use Rattle.std.proofs.lemmas.Result.{err_from_is_err_and}
-use Rattle.update.specs.Updates.{IsConsolidated}
-use Rattle.update.specs.declared.refusal.Refusal.TheVariants.{Overflow}
-use Rattle.update.proofs.ConsolidatedLemmas.{gathered_consolidated, gathered_sum, gathered_fit, gathered_large}
+use Rattle.std.proofs.Common.{◌≡◌, ◌≢◌, ◌∙◌, ℤ, pos, List, Bool}
+use Rattle.std.proofs.lemmas.Result.{IfOk-weaker}
+use Rattle.update.specs.Updates.{IsConsolidated, as_of, by_time_then_row}
+use Rattle.update.proofs.GroupLemmas.{sorted_grouped}
+use Rattle.update.proofs.ConsolidatedLemmas.{by_time_orders, sorted_by_time, moved_sum, moved_large, ok_both, ok_fits, err_large}
 use Rattle.update.proofs.consolidation.consolidate_behind.Goals as goal
 
-pub returns-in_err-keep_totals-clause-refused : goal.returns-in_err-keep_totals-clause-refused
-returns-in_err-keep_totals-clause-refused g c =
-    let large = gathered_large g.met.T.PartialOrder.order g.met.T.Ord.total g.met.T.Lattice.extends.exact _ _ c.in_ok-sort.ensures.permutation c.in_ok-sort.ensures.sorted (c.in_err-keep_totals.ensures.large refl) in
-    let got = err_from_is_err_and c.from_residual-in_err-keep_totals.result c.from_residual-in_err-keep_totals.ensures.1 in
-    let only : got.0 ≡ Overflow = search rules in
-    rw got.1 (inr (only, large))
+pub consolidate_grouped-requires : goal.consolidate_grouped-requires
+consolidate_grouped-requires g c =
+    sorted_grouped g.met.T.Ord.total (by_time_orders g.met.T.Ord.total) _ (sorted_by_time g.met.T.Ord.total _ c.in_ok-sort.ensures.sorted)
 
 pub returns-clause-consolidated : goal.returns-clause-consolidated
 returns-clause-consolidated g c =
-    subst (IsConsolidated g.T.Ord.cmp) (sym c.in_ok-keep_totals.ensures.kept) (gathered_consolidated g.met.T.Ord.total g.met.T.Lattice.extends.exact _ c.in_ok-sort.ensures.sorted)
+    let order = by_time_then_row g.T.Ord.cmp in
+    let sorted = sorted_by_time g.met.T.Ord.total _ c.in_ok-sort.ensures.sorted in
+    ok_both c.consolidate_grouped.result _ _ (λ out. IsConsolidated g.T.Ord.cmp out.items)
+    (λ out ascending nonzero. record { ascending = ascending order (by_time_orders g.met.T.Ord.total) sorted; nonzero = nonzero })
+    c.consolidate_grouped.ensures.ascending c.consolidate_grouped.ensures.nonzero
 
 pub returns-clause-sums : goal.returns-clause-sums
-returns-clause-sums g c t =
-    rw c.in_ok-keep_totals.ensures.kept (gathered_sum g.met.T.PartialOrder.order g.met.T.Ord.total g.met.T.Lattice.extends.exact t _ _ c.in_ok-sort.ensures.permutation)
+returns-clause-sums g c =
+    IfOk-weaker c.consolidate_grouped.result _ _
+    (λ out same t row. same t row ∙ moved_sum _ _ c.in_ok-sort.ensures.permutation g.T.PartialOrder.below t row)
+    c.consolidate_grouped.ensures.sums
 
 pub returns-clause-fits : goal.returns-clause-fits
-returns-clause-fits g c large =
-    absurd (gathered_fit g.met.T.PartialOrder.order g.met.T.Ord.total g.met.T.Lattice.extends.exact _ _ c.in_ok-sort.ensures.permutation c.in_ok-sort.ensures.sorted c.in_ok-keep_totals.ensures.fits large)
+returns-clause-fits g c =
+    let moved = moved_large _ _ c.in_ok-sort.ensures.permutation g.T.PartialOrder.below in
+    ok_fits c.consolidate_grouped.result _ (λ l. c.consolidate_grouped.ensures.overflow.1 (moved.0 l))
+
+pub returns-clause-refused : goal.returns-clause-refused
+returns-clause-refused g c =
+    let moved = moved_large _ _ c.in_ok-sort.ensures.permutation g.T.PartialOrder.below in
+    err_large c.consolidate_grouped.result _ (λ e. moved.1 (c.consolidate_grouped.ensures.overflow.0 e)) c.consolidate_grouped.ensures.only
