@@ -1,13 +1,11 @@
 -- The order inside a batch: it is total, and exactly updates of one row and time tie.
-use Rattle.std.proofs.Common.{◌≡◌, ◌&&◌, Bool, true, false, refl, sym, ap, ◌∙◌}
+use Rattle.std.proofs.Common.{◌≡◌, ◌&&◌, refl, sym, ap, ◌∙◌}
 use Rattle.std.specs.Cmp.{IsTotalOrder}
 use Rattle.std.specs.Cmp.Lexicographic.{slice_cmp, lists_total, lists_ties}
 use Rattle.std.specs.Ordering.{int_cmp, is_eq, ordering_then}
 use Rattle.std.specs.declared.cmp.Ordering.{Ordering}
 use Rattle.std.specs.declared.cmp.Ordering.TheVariants.{Less, Equal, Greater}
 use Rattle.std.proofs.lemmas.Cmp.{then_total, on_total, int_cmp_total}
-use Rattle.update.specs.declared.change.Update.{Update}
-use Rattle.update.specs.Bags.{same_row}
 use Rattle.update.specs.Groups.{OrdersGroups}
 use Rattle.batch.specs.Batches.{by_row_then_time}
 

@@ -13,6 +13,7 @@ use Rattle.antichain.proofs.AntichainLemmas.{not_true, not_from}
 use Rattle.lattice.specs.Order.{PartialOrderLaws, LatticeLaws, ExtendsLaws}
 use Rattle.antichain.proofs.Lists.{Among, among_contains, contains_among}
 use Rattle.update.specs.Bags.{Entry, Alike, count_of}
+use Rattle.update.specs.Joins.{joins_of}
 use Rattle.update.specs.Updates.{as_of}
 use Rattle.update.specs.declared.change.Update.{Update}
 use Rattle.update.proofs.UniqueLemmas.{same_totals, same_updates}
@@ -32,7 +33,7 @@ use Rattle.oracle.specs.JoinClosures.{Covers, HasPassedTimes, IsClosed, IsJoinCl
 use Rattle.oracle.specs.Listing.{at_time, ContinuesListing, IsListed}
 use Rattle.oracle.proofs.DifferenceLemmas.{listed_none, listed_skip, listed_next, listed_all}
 use Rattle.oracle.proofs.JoinClosureLemmas.{more, more_closed, more_new, more_old, closed_same, closed_none}
-use Rattle.script.specs.Changes.{joins_of, missing, listed_along, changes_along}
+use Rattle.script.specs.Changes.{missing, listed_along, changes_along}
 use Rattle.script.specs.Orders.{in_order}
 use Rattle.script.proofs.BagLemmas.{consolidated_bag-is_bag, consolidated_bag-alike}
 use Rattle.script.proofs.InputLemmas.{query_at_inputs, list_of_input}

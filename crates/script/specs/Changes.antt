@@ -3,6 +3,7 @@
 use Rattle.std.specs.Prelude.{Bool, List, [], ◌∷◌, ◌++◌, map, if◌then◌else◌}
 use Rattle.std.specs.declared.cmp.Ordering.{Ordering}
 use Rattle.update.specs.Bags.{Entry}
+use Rattle.update.specs.Joins.{joins_of}
 use Rattle.update.specs.Updates.{as_of}
 use Rattle.update.specs.declared.change.Update.{Update}
 use Rattle.plan.specs.Changes.{has_passed}
@@ -11,26 +12,20 @@ use Rattle.oracle.specs.Listing.{at_time}
 use Rattle.script.specs.Bags.{consolidated_bag}
 use Rattle.script.specs.Orders.{in_order}
 
-module _ {T : Type 0} where
-  -- the joins of all non-empty subsets of these times
-  abbrev pub joins_of : (T → T → T) → List T → List T
-  joins_of joined [] = []
-  joins_of joined (t ∷ ts) = (joins_of joined ts ++ map (λ s. joined s t) (joins_of joined ts)) ++ t ∷ []
+module _ {T : Type 0} (below : T → T → Bool) where
+  -- the wanted rows at t, minus the updates listed at or before t
+  abbrev pub missing : List Entry → T → List (Update T) → List Entry
+  missing wanted t listed = consolidated_bag (wanted ++ map negated_entry (as_of below t listed))
 
-  module _ (below : T → T → Bool) where
-    -- the wanted rows at t, minus the updates listed at or before t
-    abbrev pub missing : List Entry → T → List (Update T) → List Entry
-    missing wanted t listed = consolidated_bag (wanted ++ map negated_entry (as_of below t listed))
+  -- at each of these times that has passed, the missing rows are listed after the updates that are already
+  -- there
+  abbrev pub listed_along : List T → (T → List Entry) → List T → List (Update T) → List (Update T)
+  listed_along frontier wanted [] listed = listed
+  listed_along frontier wanted (t ∷ ts) listed =
+      listed_along frontier wanted ts (if has_passed below frontier t then listed ++ map (at_time t) (missing (wanted t) t listed) else listed)
 
-    -- at each of these times that has passed, the missing rows are listed after the updates that are already
-    -- there
-    abbrev pub listed_along : List T → (T → List Entry) → List T → List (Update T) → List (Update T)
-    listed_along frontier wanted [] listed = listed
-    listed_along frontier wanted (t ∷ ts) listed =
-        listed_along frontier wanted ts (if has_passed below frontier t then listed ++ map (at_time t) (missing (wanted t) t listed) else listed)
-
-    -- the list that sums to the wanted rows, if these change only at joins of these times
-    abbrev pub changes_along : (T → T → Ordering) → (T → T → T) → List T → (T → List Entry) → List T
-        → List (Update T)
-    changes_along cmp joined frontier wanted times =
-        listed_along frontier wanted (in_order cmp (joins_of joined times)) []
+  -- the list that sums to the wanted rows, if these change only at joins of these times
+  abbrev pub changes_along : (T → T → Ordering) → (T → T → T) → List T → (T → List Entry) → List T
+      → List (Update T)
+  changes_along cmp joined frontier wanted times =
+      listed_along frontier wanted (in_order cmp (joins_of joined times)) []

@@ -5,6 +5,7 @@ pub mod Bags
 pub mod Updates
 pub mod Refusals
 pub mod Groups
+pub mod Joins
 pub mod UnitTimes
 pub mod Equality
 pub mod Text

@@ -9,9 +9,8 @@ use Rattle.std.proofs.Math.IntN.{ℤ, pos, ◌+ℤ◌, +ℤ_idl, +ℤ_idr}
 use Rattle.lattice.specs.Order.{PartialOrderLaws}
 use Rattle.lattice.specs.Frontiers.{is_beyond}
 use Rattle.update.specs.Bags.{count_of, same_row}
-use Rattle.update.specs.Updates.{as_of, total_at}
+use Rattle.update.specs.Updates.{as_of, total_at, AreApart}
 use Rattle.update.specs.declared.change.Update.{Update}
-use Rattle.machine.specs.Histories.NodeLaws.{AreApart}
 use Rattle.plan.specs.Changes.{has_passed}
 use Rattle.plan.proofs.CountLemmas.{row_same, row_itself}
 use Rattle.machine.proofs.HistoryLemmas.FlowLemmas.{is_passed, not_beyond}

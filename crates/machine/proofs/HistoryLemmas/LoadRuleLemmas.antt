@@ -11,7 +11,7 @@ use Rattle.lattice.specs.Frontiers.{is_beyond}
 use Rattle.update.specs.declared.change.Update.{Update}
 use Rattle.plan.specs.Bounds.{output_bound}
 use Rattle.plan.proofs.BoundLemmas.{output_bound-le}
-use Rattle.update.specs.Updates.{size}
+use Rattle.update.specs.Updates.{size, AreApart}
 use mathlib.Core.Path.{fun_ext}
 use Rattle.machine.specs.declared.histories.event.Bundle.{Bundle}
 use Rattle.machine.specs.declared.histories.event.Emission.{Emission}
@@ -21,7 +21,7 @@ use Rattle.machine.specs.declared.histories.event.Event.TheVariants.{Feed, Advan
 use Rattle.machine.specs.Histories.Dataflows.{Dataflow, IsDataflow, node_of}
 use Rattle.machine.specs.Histories.States.{State, ObservedFrontier, place, same_place, updates_at, queue, emitted_by, held_at}
 use Rattle.machine.specs.Histories.Outstanding.{input_frontier}
-use Rattle.machine.specs.Histories.NodeLaws.{received_at, AreApart, was_passed, IsFinal, IsWithinLoad, LoadRule}
+use Rattle.machine.specs.Histories.NodeLaws.{received_at, was_passed, IsFinal, IsWithinLoad, LoadRule}
 use Rattle.machine.specs.Histories.{with_at, held_entries, initial_state, turn_state, take_state, give_state, next_state, IsGive, IsAllowed, state_after, IsLegal}
 use Rattle.machine.proofs.HistoryLemmas.KeptLemmas.{held_marked, held_unmarked, held_kept}
 use Rattle.machine.proofs.HistoryLemmas.OnwardLemmas.{input_onward, taken_later}

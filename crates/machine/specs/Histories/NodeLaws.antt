@@ -2,10 +2,10 @@
 -- what it gave is what the node makes of what it received. This makes views right. The load rule: it gives no more
 -- than the node can make of what it received, and a reduction gives only what is final. This keeps every number
 -- within its node's bound.
-use Rattle.std.specs.Prelude.{◌≡◌, ℕ, ◌≤◌, Bool, true, false, ◌&&◌, eqb, List, [], ◌∷◌, IsTrue, ⊤}
+use Rattle.std.specs.Prelude.{◌≡◌, ℕ, ◌≤◌, Bool, true, false, ◌&&◌, eqb, List, IsTrue}
 use Rattle.std.specs.List.{list_any, list_all}
-use Rattle.update.specs.Bags.{Alike, same_row}
-use Rattle.update.specs.Updates.{as_of, size}
+use Rattle.update.specs.Bags.{Alike}
+use Rattle.update.specs.Updates.{as_of, size, AreApart}
 use Rattle.update.specs.declared.change.Update.{Update}
 use Rattle.plan.specs.Changes.{has_passed}
 use Rattle.plan.specs.Bounds.{output_bound}
@@ -24,15 +24,6 @@ module _ {T : Type 0} (below : T → T → Bool) where
       → Alike (as_of below t (emitted_by n k w.emitted))
       (node_output p n (λ port. as_of below t (received_at w n k port)))
 
-  -- the two updates have the same row and the same time
-  abbrev pub is_doubled : Update T → Update T → Bool
-  is_doubled u v = (below u.time v.time && below v.time u.time) && same_row u.row v.row
-
-  -- no two of the updates have the same row and the same time
-  abbrev pub AreApart : List (Update T) → Type 0
-  AreApart [] = ⊤
-  AreApart (u ∷ us) = (list_any (is_doubled u) us ≡ false) × AreApart us
-
   -- at some take of the worker at the node, the input frontier had passed the time
   abbrev pub was_passed : ℕ → ℕ → List (ObservedFrontier T) → T → Bool
   was_passed n k observed t =
@@ -41,7 +32,7 @@ module _ {T : Type 0} (below : T → T → Bool) where
   -- what a worker gave at a reduction is final: each row at most once at each time, at times that the worker no
   -- longer holds, and that the input frontier had passed at some take
   pub record IsFinal (w : State T) (n k : ℕ) : Type 0 where
-    pub apart : AreApart (emitted_by n k w.emitted)
+    pub apart : AreApart below (emitted_by n k w.emitted)
     pub held : IsTrue (list_all (λ u. has_passed below (held_at n k w.held) u.time) (emitted_by n k w.emitted))
     pub observed : IsTrue (list_all (λ u. was_passed n k w.observed u.time) (emitted_by n k w.emitted))
 

@@ -4,7 +4,7 @@ use Rattle.std.specs.Prelude.{◌≡◌, ℕ, ◌<◌, ◌≤◌, Bool, false, n
 use Rattle.std.specs.List.{filter, list_all}
 use Rattle.std.specs.declared.cmp.Ordering.{Ordering}
 use Rattle.update.specs.Bags.{Alike}
-use Rattle.update.specs.Updates.{as_of, size, total_at, IsConsolidated}
+use Rattle.update.specs.Updates.{as_of, size, total_at, AreApart, IsConsolidated}
 use Rattle.update.specs.declared.change.Update.{Update}
 use Rattle.plan.specs.Ancestors.{numbers_below}
 use Rattle.plan.specs.Changes.{has_passed, query_at, AreDifferences}
@@ -18,7 +18,7 @@ use Rattle.machine.specs.declared.histories.event.OpenTime.{OpenTime}
 use Rattle.machine.specs.Histories.Dataflows.{Dataflow, node_of, source_of, node_output, upstream, route}
 use Rattle.machine.specs.Histories.States.{State, times, emitted_at, emitted_by, fed_to, held_at}
 use Rattle.machine.specs.Histories.Outstanding.{frontier, input_frontier, port_frontier}
-use Rattle.machine.specs.Histories.NodeLaws.{received_at, AreApart}
+use Rattle.machine.specs.Histories.NodeLaws.{received_at}
 use Rattle.machine.specs.Histories.{IsInput, state_after}
 use Rattle.machine.specs.declared.histories.event.Site.{Site}
 use Rattle.machine.specs.declared.histories.event.Event.{Event}

@@ -1,4 +1,4 @@
-use Rattle.std.proofs.Common.{◌∙◌, ◌↔◌, arith}
+use Rattle.std.proofs.Common.{◌∙◌, arith}
 use Rattle.std.proofs.lemmas.Result.{IfOk-weaker}
 use Rattle.update.proofs.GroupLemmas.{sorted_grouped}
 use Rattle.update.proofs.ConsolidatedLemmas.{moved_total, moved_among, moved_size, moved_large, ok_both}

@@ -1,9 +1,6 @@
-use Rattle.std.proofs.Common.{◌≡◌, ◌≢◌, ◌≤◌, ◌∙◌, ◌++◌, IsTrue, ℤ, pos, List, Bool, arith}
-use Rattle.std.specs.List.{AllByRecursion, list_all}
-use Rattle.std.specs.List.Sorted.{IsStrictlySortedBy}
+use Rattle.std.proofs.Common.{◌∙◌, arith}
 use Rattle.std.proofs.lemmas.Result.{IfOk-weaker}
-use Rattle.update.specs.Bags.{Alike}
-use Rattle.update.specs.Updates.{IsConsolidated, total_where, as_of, by_time_then_row, size}
+use Rattle.update.specs.Updates.{IsConsolidated, by_time_then_row}
 use Rattle.update.proofs.GroupLemmas.{sorted_grouped}
 use Rattle.update.proofs.ConsolidatedLemmas.{by_time_orders, sorted_by_time, moved_total, moved_sum, moved_among, moved_size, moved_large, ok_both}
 use Rattle.update.proofs.consolidation.consolidate.Goals as goal

@@ -1,6 +1,6 @@
-use Rattle.std.proofs.Common.{◌≡◌, ◌≢◌, ◌∙◌, ℤ, pos, List, Bool}
+use Rattle.std.proofs.Common.{◌∙◌}
 use Rattle.std.proofs.lemmas.Result.{IfOk-weaker}
-use Rattle.update.specs.Updates.{IsConsolidated, as_of, by_time_then_row}
+use Rattle.update.specs.Updates.{IsConsolidated, by_time_then_row}
 use Rattle.update.proofs.GroupLemmas.{sorted_grouped}
 use Rattle.update.proofs.ConsolidatedLemmas.{by_time_orders, sorted_by_time, moved_sum, moved_large, ok_both, ok_fits, err_large}
 use Rattle.update.proofs.consolidation.consolidate_behind.Goals as goal

@@ -1,5 +1,4 @@
-use Rattle.std.proofs.Common.{refl, sym, subst, rules}
-use Rattle.update.specs.Updates.{AreApart}
+use Rattle.std.proofs.Common.{refl, rules}
 use Rattle.update.specs.Groups.{groups_from}
 use Rattle.update.proofs.GroupLemmas.{left_nonzero, sums_sorted}
 use Rattle.update.proofs.ConsolidatedLemmas.{gathered_apart, gathered_total, gathered_among, gathered_size, gathered_sum, gathered_fit, gathered_large}
