@@ -1,5 +1,5 @@
 -- A spine: a batch list that merges under its readers' holds, and for which insertions it stands.
-use Rattle.std.specs.Prelude.{◌≡◌, ℕ, zero, suc, ◌+◌, ◌-◌, ◌^◌, min, ◌≤◌, ◌<◌, Bool, false, ℤ, List, [], ◌∷◌, ◌⊎◌, ⊤, length, take, slice_get, Some, IsTrue}
+use Rattle.std.specs.Prelude.{◌≡◌, ℕ, zero, suc, ◌+◌, ◌-◌, ◌*◌, ◌^◌, min, ◌≤◌, ◌<◌, Bool, false, ℤ, List, [], ◌∷◌, ◌⊎◌, ⊤, length, take, slice_get, Some, IsTrue}
 use Rattle.std.specs.List.{list_all, Contains}
 use Rattle.update.specs.Updates.{size}
 use Rattle.update.specs.declared.change.Update.{Update}
@@ -51,6 +51,10 @@ module _ {T : Type 0} where
   -- what some merges cost: one unit for each, and one for each update of both batches
   abbrev pub cost_of : List (Merge T) → List (BatchState T) → ℕ
   cost_of ms bs = copies_of ms bs + length ms
+
+  -- the older of two neighbours has more than twice as many updates as the newer one
+  abbrev pub AreSteep : BatchState T → BatchState T → Type 0
+  AreSteep a b = 2 * length b.updates < length a.updates
 
 -- a 64-bit count after so many more things: it stays at its greatest value
 abbrev pub IsCountAfter : ℕ → ℕ → ℕ → Type 0
@@ -109,11 +113,13 @@ module _ {T : Type 0} (below : T → T → Bool) where
       → slice_get bs i ≡ Some a
       → IsTrue (forbids below holds a.description.upper)
 
-  -- the fuel that is left is enough for no merge: some reader may ask for the boundary between two neighbours, or they
-  -- have as many updates as there is fuel, or more
+  -- what is left of the fuel goes no further: some reader may ask for the boundary between two neighbours, or they have
+  -- as many updates as there is fuel, or more, or they are steep and all that is stored is
   abbrev pub IsStuck : ℕ → List (HoldState T) → List (BatchState T) → Type 0
   IsStuck left holds bs =
-      (i : ℕ) (a : BatchState T)
-      → suc i < length bs
+      (i : ℕ) (a b : BatchState T)
       → slice_get bs i ≡ Some a
-      → IsTrue (forbids below holds a.description.upper) ⊎ (left ≤ copies_at i bs)
+      → slice_get bs (suc i) ≡ Some b
+      → IsTrue (forbids below holds a.description.upper)
+      ⊎ (left ≤ length a.updates + length b.updates)
+      ⊎ (AreSteep a b × (left ≤ length (all_content updates_of bs)))

@@ -276,7 +276,7 @@ impl<T: Lattice> Spine<T> {
 }
 
 // How many updates the batches have, or the greatest count.
-fn updates_in<T: Lattice>(batches: &[Batch<T>]) -> u64
+pub(crate) fn updates_in<T: Lattice>(batches: &[Batch<T>]) -> u64
     ensures { result ≡ min (length (all_content updates_of batches.now)) (2 ^ 64 - 1) }
 {
     let mut count = 0u64;

@@ -4,29 +4,29 @@
 //! begun only if what is left of the fuel covers it. So a caller who gives little fuel at a time saves what was not
 //! spent, until it is enough for the large batches too.
 //!
-//! Which merge comes next is the policy of [`next_pair`]. First come neighbours whose lengths lie within a factor of
-//! two, the newest first, and small ones whatever their lengths. So an update is copied about once each time its batch
-//! doubles, and the number of batches grows with the logarithm of what is stored. Only if there are no such
-//! neighbours, the two that cost least are merged. The contract of [`work`](Spine::work) leaves the policy open.
+//! Which merge comes next is the policy of [`next_pair`]. First come neighbours of which the older one has at most twice
+//! as many updates as the newer one, the newest first. Where there are none, each batch has more than twice as many
+//! updates as the next one, so their number is at most the logarithm of what is stored. The others, which are steep, are
+//! merged only with fuel for all that is stored: to push a small batch into a large one again and again would spend what
+//! is saved for the large ones. So an update is copied about once each time its batch grows by half, and once for each
+//! smaller batch before it.
 ghost use Rattle.std.specs.Prelude.{◌≡◌, ◌↔◌, ◌⊎◌, ◌<◌, ◌≤◌, ◌+◌, ◌^◌, ℕ, suc, List, Some, None, Err, true, false, IfErr, IfOk, IfSome, OnErr, OnOk, IsTrue, length, slice_get};
 ghost use Rattle.update.specs.Refusals.{IsMemoryOrOverflow};
 ghost use Rattle.update.specs.Updates.{size};
 ghost use Rattle.update.specs.declared.refusal.Refusal.{Refusal};
 ghost use Rattle.batch.specs.Descriptions.{BatchState};
-ghost use Rattle.trace.specs.Readings.{Insertion, all_updates};
-ghost use Rattle.trace.specs.BatchLists.{HasLargePair};
+ghost use Rattle.trace.specs.Readings.{Insertion, all_content, all_updates};
+ghost use Rattle.trace.specs.BatchLists.{HasLargePair, updates_of};
 ghost use Rattle.spine.specs.Holding.{forbids};
-ghost use Rattle.spine.specs.Spines.{SpineState, MayMerge, IsWorked, IsDone, IsStuck, Stands, copies_at};
+ghost use Rattle.spine.specs.Spines.{SpineState, MayMerge, IsWorked, IsDone, IsStuck, AreSteep, Stands, copies_at};
 
 use crate::Spine;
 use crate::entry::Entry;
 use crate::holds::is_forbidden;
+use crate::spine::updates_in;
 use batch::{Batch, BatchReader};
 use lattice::Lattice;
 use update::Refusal;
-
-// Batches with fewer updates are gathered whatever their lengths.
-const SMALL: usize = 64;
 
 // Whether the fuel covers the merge of two batches.
 fn is_covered<T: Lattice>(a: &Batch<T>, b: &Batch<T>, fuel: u64) -> bool
@@ -35,9 +35,18 @@ fn is_covered<T: Lattice>(a: &Batch<T>, b: &Batch<T>, fuel: u64) -> bool
     (a.len() as u64) < fuel && (b.len() as u64) < fuel - a.len() as u64
 }
 
-// Whether the lengths of two batches lie within a factor of two, or both batches are small.
-fn is_balanced<T: Lattice>(a: &Batch<T>, b: &Batch<T>) -> bool {
-    (a.len() / 2 <= b.len() && b.len() / 2 <= a.len()) || (a.len() < SMALL && b.len() < SMALL)
+// Whether the older of two neighbours has at most about twice as many updates as the newer one.
+fn is_even<T: Lattice>(older: &Batch<T>, newer: &Batch<T>) -> bool
+    ensures { result ≡ false → AreSteep older.now newer.now }
+{
+    older.len() / 2 <= newer.len()
+}
+
+// Whether the fuel would do for a copy of all that is stored.
+fn is_ample<T: Lattice>(batches: &[Batch<T>], fuel: u64) -> bool
+    ensures { result ≡ false → fuel ≤ length (all_content updates_of batches.now) }
+{
+    updates_in(batches) < fuel
 }
 
 // Whether no hold forbids the boundary behind the batch with this number.
@@ -55,21 +64,44 @@ fn can_merge<T: Lattice>(batches: &[Batch<T>], holds: &[Entry<T>], i: usize, fue
     requires { suc i < length batches.now }
     ensures yes { result ≡ true → MayMerge T.below holds.now i batches.now
         × (copies_at i batches.now < fuel) }
-    ensures no { result ≡ false → (a : BatchState T) → slice_get batches.now i ≡ Some a
+    ensures no { result ≡ false → (a b : BatchState T) → slice_get batches.now i ≡ Some a
+        → slice_get batches.now (suc i) ≡ Some b
         → IsTrue (forbids T.below holds.now a.description.upper)
-        ⊎ (fuel ≤ copies_at i batches.now) }
+        ⊎ (fuel ≤ length a.updates + length b.updates) }
 {
     is_open(batches, holds, i) && is_covered(&batches[i], &batches[i + 1], fuel)
 }
 
-// The newest of the neighbours that are balanced and may become one.
-fn balanced_pair<T: Lattice>(batches: &[Batch<T>], holds: &[Entry<T>], fuel: u64) -> Option<usize>
-    ensures { IfSome result (λ i. MayMerge T.below holds.now i batches.now
+// Whether that is so and they are not steep.
+fn can_merge_evenly<T: Lattice>(
+    batches: &[Batch<T>],
+    holds: &[Entry<T>],
+    i: usize,
+    fuel: u64,
+) -> bool
+    requires { suc i < length batches.now }
+    ensures yes { result ≡ true → MayMerge T.below holds.now i batches.now
+        × (copies_at i batches.now < fuel) }
+    ensures no { result ≡ false → (a b : BatchState T) → slice_get batches.now i ≡ Some a
+        → slice_get batches.now (suc i) ≡ Some b
+        → IsTrue (forbids T.below holds.now a.description.upper)
+        ⊎ (fuel ≤ length a.updates + length b.updates) ⊎ AreSteep a b }
+{
+    is_even(&batches[i], &batches[i + 1]) && can_merge(batches, holds, i, fuel)
+}
+
+// The newest of the neighbours that may become one and are not steep.
+fn even_pair<T: Lattice>(batches: &[Batch<T>], holds: &[Entry<T>], fuel: u64) -> Option<usize>
+    ensures some { IfSome result (λ i. MayMerge T.below holds.now i batches.now
         × (copies_at i batches.now < fuel)) }
+    ensures none { result ≡ None → (i : ℕ) (a b : BatchState T) → slice_get batches.now i ≡ Some a
+        → slice_get batches.now (suc i) ≡ Some b
+        → IsTrue (forbids T.below holds.now a.description.upper)
+        ⊎ (fuel ≤ length a.updates + length b.updates) ⊎ AreSteep a b }
 {
     for newer in 1..batches.len() {
         let i = batches.len() - 1 - newer;
-        if is_balanced(&batches[i], &batches[i + 1]) && can_merge(batches, holds, i, fuel) {
+        if can_merge_evenly(batches, holds, i, fuel) {
             return Some(i);
         }
     }
@@ -99,7 +131,10 @@ fn updates_at<T: Lattice>(batches: &[Batch<T>], i: usize) -> usize
 fn cheapest_pair<T: Lattice>(batches: &[Batch<T>], holds: &[Entry<T>], fuel: u64) -> Option<usize>
     ensures some { IfSome result (λ i. MayMerge T.below holds.now i batches.now
         × (copies_at i batches.now < fuel)) }
-    ensures none { result ≡ None → IsStuck T.below fuel holds.now batches.now }
+    ensures none { result ≡ None → (i : ℕ) (a b : BatchState T) → slice_get batches.now i ≡ Some a
+        → slice_get batches.now (suc i) ≡ Some b
+        → IsTrue (forbids T.below holds.now a.description.upper)
+        ⊎ (fuel ≤ length a.updates + length b.updates) }
 {
     let mut best = None;
     for next in 1..batches.len() {
@@ -116,9 +151,10 @@ fn next_pair<T: Lattice>(batches: &[Batch<T>], holds: &[Entry<T>], fuel: u64) ->
         × (copies_at i batches.now < fuel)) }
     ensures none { result ≡ None → IsStuck T.below fuel holds.now batches.now }
 {
-    match balanced_pair(batches, holds, fuel) {
+    match even_pair(batches, holds, fuel) {
         Some(i) => Some(i),
-        None => cheapest_pair(batches, holds, fuel),
+        None if is_ample(batches, fuel) => cheapest_pair(batches, holds, fuel),
+        None => None,
     }
 }
 
@@ -177,8 +213,9 @@ impl<T: Lattice> Spine<T> {
     /// the spine stood for, it stands for still, and each boundary that a reader may ask for is one still.
     ///
     /// A merge costs one unit of fuel for each update of both batches, and one more. Work stops where the fuel that is
-    /// left covers no merge that is allowed. Nothing is carried over to the next call: the caller saves what was not
-    /// spent.
+    /// left covers no merge that is allowed; and, with no more fuel than there are updates in the spine, where each
+    /// batch has more than twice as many updates as the next one. Nothing is carried over to the next call: the caller
+    /// saves what was not spent.
     ///
     /// If work is refused, then some merges may have been done, and the spine still stands for the same.
     ///
