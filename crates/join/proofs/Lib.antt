@@ -1,0 +1,4 @@
+-- Lemmas about pairs.
+pub mod PairLemmas
+pub mod TotalLemmas
+pub mod VisibleLemmas

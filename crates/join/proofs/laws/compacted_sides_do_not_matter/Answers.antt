@@ -1,0 +1,14 @@
+use Rattle.lattice.proofs.BoundLemmas.{join_below}
+use Rattle.join.proofs.VisibleLemmas.{right_compacted, left_compacted}
+use Rattle.join.proofs.laws.compacted_sides_do_not_matter.Goals as goal
+
+pub returns : goal.returns
+returns g c =
+    let below = g.T.PartialOrder.below in
+    let order = g.met.T.PartialOrder.order in
+    let joined = g.T.Lattice.joined in
+    let tested = join_below order g.met.T.Lattice.bounds in
+    record {
+      right = right_compacted below joined tested order;
+      left = left_compacted below joined tested order;
+    }

@@ -1,0 +1,21 @@
+use Rattle.std.proofs.Common.{sym, ◌∙◌}
+use Rattle.update.specs.Bags.{count_of}
+use Rattle.update.specs.Updates.{as_of}
+use Rattle.plan.specs.Operators.{join_output}
+use Rattle.lattice.proofs.BoundLemmas.{join_below}
+use Rattle.join.proofs.VisibleLemmas.{left_goes_on, right_goes_on}
+use Rattle.join.proofs.laws.goes_on.Goals as goal
+
+pub returns : goal.returns
+returns g c =
+    let below = g.T.PartialOrder.below in
+    let joined = g.T.Lattice.joined in
+    let tested = join_below g.met.T.PartialOrder.order g.met.T.Lattice.bounds in
+    record {
+      left = λ k l r received after us emitted first second t before row.
+          left_goes_on below joined tested k us (received 0) (received 1) emitted t before row
+          ∙ sym (λ i. count_of (join_output k (as_of below t (first i)) (as_of below t (second i))) row);
+      right = λ k l r received after vs emitted first second t before row.
+          right_goes_on below joined tested k (received 0) vs (received 1) emitted t before row
+          ∙ sym (λ i. count_of (join_output k (as_of below t (first i)) (as_of below t (second i))) row);
+    }

@@ -1,0 +1,11 @@
+use Rattle.join.proofs.TotalLemmas.{total_pairs-both, total_pairs-left_order, total_pairs-right_order}
+use Rattle.join.proofs.laws.pieces_pair_up.Goals as goal
+
+pub returns : goal.returns
+returns g c =
+    let joined = g.T.Lattice.joined in
+    record {
+      pieces = λ p k. total_pairs-both joined k p;
+      left_order = λ p k. total_pairs-left_order joined k p;
+      right_order = λ p k. total_pairs-right_order joined k p;
+    }
