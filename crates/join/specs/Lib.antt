@@ -1,3 +1,6 @@
--- The definitions of joins, with those of updates that their contracts name.
-pub use Rattle.update.specs.Updates
+-- The definitions of a join, with those of orders and frontiers that its contracts name.
+pub use Rattle.lattice.specs.Order
+pub use Rattle.lattice.specs.Frontiers
 pub mod Pairs
+pub mod Forming
+pub mod Sides

@@ -14,6 +14,7 @@
 //! So far these are the definitions and the laws. The operator that reads batches and traces builds on them.
 #![tactic(auto)]
 
+mod forming;
 mod laws;
 
 pub use laws::{

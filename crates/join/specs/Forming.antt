@@ -1,0 +1,36 @@
+-- What a join forms of a new batch: the pairs of each of its updates with the updates of its key on the other side. The
+-- same definitions serve a batch on either side.
+use Rattle.std.specs.Prelude.{◌≡◌, ◌≤◌, ℕ, Bool, List, map, take, ℤ, IsTrue}
+use Rattle.std.specs.List.{filter, flat_map, list_all}
+use Rattle.update.specs.Updates.{total_where, size}
+use Rattle.update.specs.declared.change.Update.{Update}
+use Rattle.join.specs.declared.forming.Side.{Side}
+use Rattle.join.specs.declared.forming.Side.TheVariants.{Left, Right}
+use Rattle.join.specs.Pairs.{is_keyed, pair_of, fits}
+
+module _ {T : Type 0} where
+  -- the pair of an update u of the batch with an update v of the other side
+  abbrev pub met : Side → (T → T → T) → ℕ → Update T → Update T → Update T
+  met Left joined k u v = pair_of joined k u v
+  met Right joined k u v = pair_of joined k v u
+
+  -- the row of their pair has at most 8 columns
+  abbrev pub met_fits : Side → ℕ → Update T → Update T → Bool
+  met_fits Left k u v = fits k u v
+  met_fits Right k u v = fits k v u
+
+  -- the pairs of one update of the batch with the updates of its key
+  abbrev pub met_with : Side → (T → T → T) → ℕ → Update T → List (Update T) → List (Update T)
+  met_with side joined k u vs = map (met side joined k u) (filter (is_keyed k (take k u.row)) vs)
+
+  -- the pairs of all updates of the batch with the updates of their keys
+  abbrev pub met_all : Side → (T → T → T) → ℕ → List (Update T) → List (Update T) → List (Update T)
+  met_all side joined k us vs = flat_map (λ u. met_with side joined k u vs) us
+
+  -- us stands in for vs: it has the same totals, no other rows or times, and is no larger
+  pub record StandsIn (us vs : List (Update T)) : Type 0 where
+    pub totals : (p : List ℤ → T → Bool) → total_where p us ≡ total_where p vs
+    pub among : (p : List ℤ → T → Bool)
+        → IsTrue (list_all (λ u. p u.row u.time) vs)
+        → IsTrue (list_all (λ u. p u.row u.time) us)
+    pub smaller : size us ≤ size vs
