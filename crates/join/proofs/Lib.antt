@@ -2,3 +2,7 @@
 pub mod PairLemmas
 pub mod TotalLemmas
 pub mod VisibleLemmas
+pub mod FormingLemmas
+pub mod LargeLemmas
+pub mod OrderLemmas
+pub mod StandingLemmas

@@ -15,7 +15,8 @@ use Rattle.plan.specs.declared.node.Node.TheVariants.{Join}
 use Rattle.plan.proofs.CountLemmas.{count_of-append}
 use Rattle.plan.proofs.OperatorLemmas.{given_alike}
 use Rattle.trace.specs.Readings.{SameBeyond}
-use Rattle.join.specs.Pairs.{pairs, all_times_beyond}
+use Rattle.batch.specs.Intervals.{all_times_beyond}
+use Rattle.join.specs.Pairs.{pairs}
 use Rattle.join.proofs.PairLemmas.{as_of-append, pairs_at}
 use Rattle.join.proofs.TotalLemmas.{total_pairs-left, total_pairs-right}
 

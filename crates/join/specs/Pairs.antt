@@ -1,8 +1,7 @@
 -- What a join makes of updates: each left update is paired with each right update of its key. A pair is visible only
 -- from the join of both times (McSherry et al., Differential Dataflow, CIDR 2013).
 use Rattle.std.specs.Prelude.{ℕ, ◌+◌, nat_le, Bool, List, ◌++◌, map, take, drop, length, ℤ, ◌*ℤ◌}
-use Rattle.std.specs.List.{filter, flat_map, list_all}
-use Rattle.lattice.specs.Frontiers.{is_beyond}
+use Rattle.std.specs.List.{filter, flat_map}
 use Rattle.update.specs.Bags.{same_row}
 use Rattle.update.specs.declared.change.Update.{Update}
 
@@ -29,10 +28,6 @@ module _ {T : Type 0} where
   -- the pair's row has at most 8 columns
   abbrev pub fits : ℕ → Update T → Update T → Bool
   fits k u v = nat_le (length u.row + length (drop k v.row)) 8
-
-  -- each update's time is beyond the frontier (Murray et al., Naiad, SOSP 2013)
-  abbrev pub all_times_beyond : (T → T → Bool) → List T → List (Update T) → Bool
-  all_times_beyond below F us = list_all (λ u. is_beyond below F u.time) us
 
 -- the row has a key of k columns
 abbrev pub is_wide : ℕ → List ℤ → Bool

@@ -82,3 +82,228 @@ fn met<T: Lattice>(
         Side::Right => pair(k, v, u),
     }
 }
+
+// A copy of update `i` of a batch.
+fn update_at<B: BatchReader>(batch: &B, i: usize) -> Update<B::Time>
+    requires { i < length (B.content batch.now) }
+    ensures { IsSomeAnd (slice_get (B.content batch.now) i) (λ u. result ≡ u) }
+{
+    Update {
+        time: batch.time(i),
+        row: batch.row(i),
+        diff: batch.diff(i),
+    }
+}
+
+// Pushes the pair of an update of the batch with update `i` of a batch of the other side, which has its key.
+fn push_pair<B: BatchReader>(
+    formed: &mut Vec<Update<B::Time>>,
+    side: Side,
+    k: usize,
+    u: &Update<B::Time>,
+    other: &B,
+    i: usize,
+) -> Result<(), Refusal>
+    requires own { k ≤ length u.now.row }
+    requires within { i < length (B.content other.now) }
+    requires keyed { IsSomeAnd (slice_get (B.content other.now) i)
+        (λ v. IsTrue (is_keyed k (take k u.now.row) v)) }
+    requires fits { IsTrue (list_all (met_fits side k u.now) (B.content other.now)) }
+    ensures pushed { OnOk result (IsSomeAnd (slice_get (B.content other.now) i)
+        (λ v. formed.new.items ≡ formed.old.items ++ met side B.Time.joined k u.now v ∷ [])) }
+    ensures refused { IfErr result (IsMemoryOrOverflow
+        (IsSomeAnd (slice_get (B.content other.now) i)
+        (λ v. 2 ^ 63 ≤ unsigned_abs (met side B.Time.joined k u.now v).diff))) }
+{
+    let v = update_at(other, i);
+    let pair = met(side, k, u, &v)?;
+    formed.push(pair)?;
+    Ok(())
+}
+
+// Pushes the pairs of an update of the batch with the updates of its key in a batch of the other side, which are the
+// ones of this range.
+fn push_pairs<B: BatchReader>(
+    formed: &mut Vec<Update<B::Time>>,
+    side: Side,
+    k: usize,
+    u: &Update<B::Time>,
+    other: &B,
+    found: Range<usize>,
+) -> Result<(), Refusal>
+    requires own { k ≤ length u.now.row }
+    requires ordered { found.start ≤ found.end }
+    requires within { found.end ≤ length (B.content other.now) }
+    requires found { slice_range (B.content other.now) found.start found.end
+        ≡ filter (is_keyed k (take k u.now.row)) (B.content other.now) }
+    requires fits { IsTrue (list_all (met_fits side k u.now) (B.content other.now)) }
+    ensures pushed { OnOk result (formed.new.items
+        ≡ formed.old.items ++ met_with side B.Time.joined k u.now (B.content other.now)) }
+    ensures refused { IfErr result (IsMemoryOrOverflow
+        (2 ^ 63 ≤ size (met_with side B.Time.joined k u.now (B.content other.now)))) }
+{
+    for i in found.start..found.end {
+        push_pair(formed, side, k, u, other, i)?;
+    }
+    Ok(())
+}
+
+impl<T: Lattice> Formed<T> {
+    // No pairs yet.
+    fn none(alloc: Global, looked: u64) -> Formed<T>
+        ensures updates { result.updates.items ≡ [] }
+        ensures looked { result.looked ≡ looked }
+    {
+        Formed {
+            updates: Vec::new(alloc),
+            settled: 0,
+            looked,
+        }
+    }
+
+    // Consolidates the list. On a refusal it is lost.
+    fn consolidate(&mut self) -> Result<(), Refusal>
+        ensures consolidated { OnOk result (IsConsolidated T.cmp self.new.updates.items) }
+        ensures stands { OnOk result (StandsIn self.new.updates.items self.old.updates.items) }
+        ensures fits { OnOk result (HasLargeTotal T.below self.old.updates.items → ⊥) }
+        ensures looked { OnOk result (self.new.looked ≡ self.old.looked) }
+        ensures large { IsErr result → 2 ^ 63 ≤ size self.old.updates.items }
+        ensures only { IfErr result (λ refused. refused ≡ Refusal.Overflow) }
+    {
+        let none = Vec::new(*self.updates.allocator());
+        let updates = mem::replace(&mut self.updates, none);
+        self.updates = consolidate(updates)?;
+        self.settled = self.updates.len();
+        Ok(())
+    }
+
+    // Consolidates the list if an update has met many, and the list has doubled since it was last consolidated.
+    fn settle(&mut self, met: usize) -> Result<(), Refusal>
+        ensures stands { OnOk result (StandsIn self.new.updates.items self.old.updates.items) }
+        ensures looked { OnOk result (self.new.looked ≡ self.old.looked) }
+        ensures large { IsErr result → 2 ^ 63 ≤ size self.old.updates.items }
+        ensures only { IfErr result (λ refused. refused ≡ Refusal.Overflow) }
+    {
+        if met >= MANY && self.updates.len() / 2 >= self.settled {
+            self.consolidate()?;
+        }
+        Ok(())
+    }
+
+    // Forms the pairs of one update of the batch with a batch of the other side. `start` is the place of its key there.
+    fn meet_update<B: BatchReader<Time = T>>(
+        &mut self,
+        side: Side,
+        k: usize,
+        u: &Update<T>,
+        other: &B,
+        start: usize,
+    ) -> Result<(), Refusal>
+        requires own { k ≤ length u.now.row }
+        requires within { start ≤ length (B.content other.now) }
+        requires front { AllBefore (take k u.now.row) (take start (B.content other.now)) }
+        requires rest { NoneBefore (take k u.now.row) (drop start (B.content other.now)) }
+        requires fits { IsTrue (list_all (met_fits side k u.now) (B.content other.now)) }
+        ensures formed { OnOk result (StandsIn self.new.updates.items
+            (self.old.updates.items ++ met_with side T.joined k u.now (B.content other.now))) }
+        ensures looked { OnOk result (self.new.looked ≡ min (self.old.looked
+            + length (met_with side T.joined k u.now (B.content other.now))) (2 ^ 64 - 1)) }
+        ensures refused { IfErr result (IsMemoryOrOverflow (2 ^ 63 ≤ size
+            (self.old.updates.items ++ met_with side T.joined k u.now (B.content other.now)))) }
+    {
+        let end = other.seek_past(start, u.row.key(k));
+        push_pairs(&mut self.updates, side, k, u, other, start..end)?;
+        let met = end - start;
+        self.looked = self.looked.saturating_add(met as u64);
+        self.settle(met)
+    }
+
+    // Forms the pairs of a batch with a batch of the other side, from key to key through both.
+    fn meet_batch<B: BatchReader<Time = T>, C: BatchReader<Time = T>>(
+        &mut self,
+        side: Side,
+        k: usize,
+        batch: &B,
+        other: &C,
+    ) -> Result<(), Refusal>
+        requires wide { IsTrue (list_all (λ u. is_wide k u.row) (B.content batch.now)) }
+        requires fits { IsTrue (list_all (λ u. list_all (met_fits side k u) (C.content other.now))
+            (B.content batch.now)) }
+        ensures formed { OnOk result (StandsIn self.new.updates.items
+            (self.old.updates.items
+            ++ met_all side T.joined k (B.content batch.now) (C.content other.now))) }
+        ensures looked { OnOk result (self.new.looked ≡ min (self.old.looked
+            + length (met_all side T.joined k (B.content batch.now) (C.content other.now)))
+            (2 ^ 64 - 1)) }
+        ensures refused { IfErr result (IsMemoryOrOverflow (2 ^ 63 ≤ size (self.old.updates.items
+            ++ met_all side T.joined k (B.content batch.now) (C.content other.now)))) }
+    {
+        let mut place = 0;
+        for i in 0..batch.len() {
+            let u = update_at(batch, i);
+            place = other.seek(place, u.row.key(k));
+            self.meet_update(side, k, &u, other, place)?;
+        }
+        Ok(())
+    }
+
+    // Forms the pairs of a batch with all batches of the other side.
+    fn meet_all<B: BatchReader<Time = T>, C: BatchReader<Time = T>>(
+        &mut self,
+        side: Side,
+        k: usize,
+        batch: &B,
+        others: &[C],
+    ) -> Result<(), Refusal>
+        requires wide { IsTrue (list_all (λ u. is_wide k u.row) (B.content batch.now)) }
+        requires fits { IsTrue (list_all (λ u. list_all (met_fits side k u)
+            (all_content C.content others.now)) (B.content batch.now)) }
+        ensures formed { OnOk result (StandsIn self.new.updates.items
+            (self.old.updates.items ++ met_all side T.joined k (B.content batch.now)
+            (all_content C.content others.now))) }
+        ensures looked { OnOk result (self.new.looked ≡ min (self.old.looked
+            + length (met_all side T.joined k (B.content batch.now)
+            (all_content C.content others.now))) (2 ^ 64 - 1)) }
+        ensures refused { IfErr result (IsMemoryOrOverflow (2 ^ 63 ≤ size (self.old.updates.items
+            ++ met_all side T.joined k (B.content batch.now)
+            (all_content C.content others.now)))) }
+    {
+        for other in others {
+            self.meet_batch(side, k, batch, other)?;
+        }
+        Ok(())
+    }
+}
+
+/// Forms the pairs of a batch with all batches of the other side, consolidated. `looked` is how many updates of the
+/// other side had been read before.
+///
+/// Cost: see the joins' own calls.
+pub(crate) fn form_pairs<B: BatchReader, C: BatchReader<Time = B::Time>>(
+    alloc: Global,
+    side: Side,
+    k: usize,
+    batch: &B,
+    others: &[C],
+    looked: u64,
+) -> Result<Formed<B::Time>, Refusal>
+    requires wide { IsTrue (list_all (λ u. is_wide k u.row) (B.content batch.now)) }
+    requires fits { IsTrue (list_all (λ u. list_all (met_fits side k u)
+        (all_content C.content others.now)) (B.content batch.now)) }
+    ensures consolidated { IfOk result (λ made. IsConsolidated B.Time.cmp made.updates.items) }
+    ensures stands { IfOk result (λ made. StandsIn made.updates.items
+        (met_all side B.Time.joined k (B.content batch.now) (all_content C.content others.now))) }
+    ensures exact { OnOk result (HasLargeTotal B.Time.below
+        (met_all side B.Time.joined k (B.content batch.now) (all_content C.content others.now)) → ⊥) }
+    ensures looked { IfOk result (λ made. made.looked ≡ min (looked
+        + length (met_all side B.Time.joined k (B.content batch.now)
+        (all_content C.content others.now))) (2 ^ 64 - 1)) }
+    ensures refused { IfErr result (IsMemoryOrOverflow (2 ^ 63 ≤ size
+        (met_all side B.Time.joined k (B.content batch.now)
+        (all_content C.content others.now)))) }
+{
+    let mut formed = Formed::none(alloc, looked);
+    formed.meet_all(side, k, batch, others)?;
+    formed.consolidate()?;
+    Ok(formed)
+}

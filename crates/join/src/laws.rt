@@ -8,7 +8,8 @@ ghost use Rattle.update.specs.declared.change.Update.{Update};
 ghost use Rattle.plan.specs.Operators.{join_output, operator_output};
 ghost use Rattle.plan.specs.declared.node.Node.TheVariants.{Join};
 ghost use Rattle.trace.specs.Readings.{SameBeyond};
-ghost use Rattle.join.specs.Pairs.{pairs, all_times_beyond};
+ghost use Rattle.batch.specs.Intervals.{all_times_beyond};
+ghost use Rattle.join.specs.Pairs.{pairs};
 
 use lattice::Lattice;
 
