@@ -6,3 +6,6 @@ pub mod FormingLemmas
 pub mod LargeLemmas
 pub mod OrderLemmas
 pub mod StandingLemmas
+pub mod TurnedLemmas
+pub mod DeterminedLemmas
+pub mod AnswerLemmas

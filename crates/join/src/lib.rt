@@ -16,7 +16,9 @@
 
 mod forming;
 mod laws;
+mod state;
 
 pub use laws::{
     both_sides_once, compacted_sides_do_not_matter, goes_on, pairs_are_the_join, pieces_pair_up,
 };
+pub use state::JoinState;

@@ -1,0 +1,195 @@
+//! The state of a join: its key, and for each of its sides the boundary up to which that side was acknowledged. A side is
+//! acknowledged batch by batch. Each new batch is paired with what the other side has acknowledged by then, and with
+//! nothing besides. So of two batches, one on each side, the second one that is taken meets the first one, and the first
+//! one does not meet the second. Each pair is formed once, whichever side moves first.
+//!
+//! The sides have a boundary each also where both read one trace, as in the join of a table with itself. With one
+//! boundary for both, a batch would meet itself twice, or not at all.
+ghost use Rattle.std.specs.Prelude.{◌≡◌, ◌≤◌, ◌*◌, ◌+◌, ◌-◌, ◌^◌, ◌⊎◌, ℕ, ℤ, Bool, List, length, min, IfOk, IfErr, OnOk, OnErr, IsTrue};
+ghost use Rattle.std.specs.List.{Contains, list_all};
+ghost use Rattle.antichain.specs.Antichains.{IsFrontier};
+ghost use Rattle.update.specs.Bags.{Alike};
+ghost use Rattle.update.specs.Updates.{as_of, size, total_where, HasLargeTotal, IsConsolidated};
+ghost use Rattle.update.specs.Refusals.{IsMemoryOrOverflow};
+ghost use Rattle.update.specs.declared.change.Update.{Update};
+ghost use Rattle.batch.specs.Intervals.{all_times_beyond};
+ghost use Rattle.join.specs.Pairs.{pairs, is_wide, fits};
+ghost use Rattle.join.specs.Sides.{Acknowledged, WereInserted, all_rows_have, keys_among};
+
+use crate::forming::{Side, form_pairs};
+use batch::BatchReader;
+use std::alloc::Global;
+use std::marker::{Model, PhantomData};
+use trace::Trace;
+use update::{Refusal, Update};
+
+/// A join of a trace on the left with a trace on the right by the first columns of their rows. A contract sees the
+/// number of these columns, the boundary up to which each side was acknowledged, and how many updates were read.
+#[derive(Drop)]
+pub struct JoinState<L: Trace, R: Trace<Time = L::Time>> {
+    key: usize,
+    left: Vec<L::Time>,
+    right: Vec<L::Time>,
+    looked: u64,
+    of: PhantomData<(L, R)>,
+}
+
+impl<L: Trace, R: Trace<Time = L::Time>> Model for JoinState<L, R> {
+    ghost use Rattle.std.specs.Prelude.{◌≤◌};
+    ghost use Rattle.antichain.specs.Antichains.{IsFrontier};
+    ghost use Rattle.join.specs.Sides.{Acknowledged};
+
+    ghost Value = { Acknowledged L.Time };
+
+    ghost view = { λ s. record {
+      key = s.key;
+      left = s.left.items;
+      right = s.right.items;
+      looked = s.looked;
+    } };
+
+    ghost invariant = { λ s. (1 ≤ s.key) × (s.key ≤ 8)
+        × IsFrontier L.Time.below L.Time.cmp s.left.items
+        × IsFrontier L.Time.below L.Time.cmp s.right.items };
+}
+
+impl<L: Trace, R: Trace<Time = L::Time>> JoinState<L, R> {
+    /// A join by the first `key` columns, 1 to 8, whose sides were acknowledged up to these boundaries: frontiers, each
+    /// as its elements in `Ord` order. A join that is to read all of two traces begins where these begin. Takes no
+    /// memory.
+    pub fn new(key: usize, left: Vec<L::Time>, right: Vec<L::Time>) -> JoinState<L, R>
+        requires some { 1 ≤ key }
+        requires few { key ≤ 8 }
+        requires left { IsFrontier L.Time.below L.Time.cmp left.items }
+        requires right { IsFrontier L.Time.below L.Time.cmp right.items }
+        ensures { result ≡ record {
+          key = key;
+          left = left.items;
+          right = right.items;
+          looked = 0;
+        } }
+    {
+        JoinState {
+            key,
+            left,
+            right,
+            looked: 0,
+            of: PhantomData,
+        }
+    }
+
+    /// The number of columns of the key. Takes no memory.
+    pub fn key(&self) -> usize
+        ensures value { result ≡ self.now.key }
+        ensures some { 1 ≤ self.now.key }
+        ensures few { self.now.key ≤ 8 }
+    {
+        self.key
+    }
+
+    /// The boundary up to which the left side was acknowledged. The reader's hold on the left trace has to keep it.
+    /// Takes no memory.
+    pub fn left(&self) -> &[L::Time]
+        ensures value { result.now ≡ self.now.left }
+        ensures frontier { IsFrontier L.Time.below L.Time.cmp self.now.left }
+    {
+        self.left.as_slice()
+    }
+
+    /// The boundary up to which the right side was acknowledged. The reader's hold on the right trace has to keep it.
+    /// Takes no memory.
+    pub fn right(&self) -> &[L::Time]
+        ensures value { result.now ≡ self.now.right }
+        ensures frontier { IsFrontier L.Time.below L.Time.cmp self.now.right }
+    {
+        self.right.as_slice()
+    }
+
+    /// How many updates of the other side were read in all answered calls, each one as often as it was paired. It stays
+    /// at its greatest value. Takes no memory.
+    pub fn looked(&self) -> u64
+        ensures { result ≡ self.now.looked }
+    {
+        self.looked
+    }
+
+    /// Acknowledges a new batch of the left side, and returns its pairs with all updates that the right side has
+    /// acknowledged, consolidated: the left row and the rest of the right row, at the join of both times, with the
+    /// product of both diffs. The right trace may have moved times together, as of its since: the pairs are those of
+    /// the times that were inserted.
+    ///
+    /// The batch begins at the left boundary, and its times are beyond the since of the right trace. The right boundary
+    /// is one of the right trace. Rows of the batch have at least as many columns as the key, and rows of pairs at most
+    /// 8. If the call is refused, then nothing has changed.
+    ///
+    /// - [`Refusal::Overflow`] only if both sizes multiplied are at least 2^63. It always comes if the total of some
+    ///   row at some time is no 64-bit number.
+    /// - [`Refusal::OutOfMemory`] only if memory was refused, for the boundary or for pairs.
+    ///
+    /// Cost: each key of the batch is sought in each batch of the right side, from where the last one was found, in the
+    /// logarithm of the distance. Then n log n in the number of pairs. No other update is read. Memory: where an update
+    /// meets fewer than 64, its pairs; otherwise twice the answer, and the pairs of one update.
+    pub fn take_left(
+        &mut self,
+        alloc: Global,
+        batch: &L::Batch,
+        right: &R,
+    ) -> Result<Vec<Update<L::Time>>, Refusal>
+        requires own { (L.Batch.described batch.now).lower ≡ self.old.left }
+        requires readable { Contains (R.ends right.now) self.old.right }
+        requires later { IsTrue (all_times_beyond L.Time.below (R.held right.now)
+            (L.Batch.content batch.now)) }
+        requires wide { IsTrue (list_all (λ u. is_wide self.old.key u.row)
+            (L.Batch.content batch.now)) }
+        requires narrow { IsTrue (list_all
+            (λ u. list_all (λ v. fits self.old.key u v) (R.content right.now))
+            (L.Batch.content batch.now)) }
+        ensures consolidated { IfOk result (λ out. IsConsolidated L.Time.cmp out.items) }
+        ensures sums { (got : List (Update L.Time))
+            → WereInserted (R.stands right.now) (R.start right.now) self.old.right got
+            → IfOk result (λ out. (t : L.Time)
+            → Alike (as_of L.Time.below t out.items)
+            (as_of L.Time.below t
+            (pairs L.Time.joined self.old.key (L.Batch.content batch.now) got))) }
+        ensures totals { (got : List (Update L.Time))
+            → WereInserted (R.stands right.now) (R.start right.now) self.old.right got
+            → IfOk result (λ out. (p : List ℤ → L.Time → Bool)
+            → total_where p out.items
+            ≡ total_where p (pairs L.Time.joined self.old.key (L.Batch.content batch.now) got)) }
+        ensures load { (got : List (Update L.Time))
+            → WereInserted (R.stands right.now) (R.start right.now) self.old.right got
+            → IfOk result (λ out. size out.items
+            ≤ size (L.Batch.content batch.now) * size got) }
+        ensures exact { (got : List (Update L.Time))
+            → WereInserted (R.stands right.now) (R.start right.now) self.old.right got
+            → OnOk result (HasLargeTotal L.Time.below
+            (pairs L.Time.joined self.old.key (L.Batch.content batch.now) got) → ⊥) }
+        ensures beyond { IfOk result (λ out. (G : List L.Time)
+            → IsTrue (all_times_beyond L.Time.below G (L.Batch.content batch.now))
+            → IsTrue (all_times_beyond L.Time.below G out.items)) }
+        ensures width { IfOk result (λ out. (w v : ℕ)
+            → IsTrue (all_rows_have w (L.Batch.content batch.now))
+            → IsTrue (all_rows_have v (R.content right.now))
+            → IsTrue (all_rows_have (w + (v - self.old.key)) out.items)) }
+        ensures rows { IfOk result (λ out. IsTrue
+            (keys_among self.old.key (L.Batch.content batch.now) out.items)) }
+        ensures boundary { OnOk result (self.new ≡ record self.old {
+          left = (L.Batch.described batch.now).upper;
+          looked = self.new.looked;
+        }) }
+        ensures looked { OnOk result (self.new.looked ≡ min (self.old.looked
+            + length (pairs L.Time.joined self.old.key (L.Batch.content batch.now)
+            (R.stored_to right.now self.old.right))) (2 ^ 64 - 1)) }
+        ensures same { OnErr result (self.new ≡ self.old) }
+        ensures refused { IfErr result (IsMemoryOrOverflow ((got : List (Update L.Time))
+            → WereInserted (R.stands right.now) (R.start right.now) self.old.right got
+            → 2 ^ 63 ≤ size (L.Batch.content batch.now) * size got)) }
+    {
+        let boundary = Vec::from_slice(alloc, batch.description().upper())?;
+        let others = right.through(self.right.as_slice()).unwrap();
+        let formed = form_pairs(alloc, Side::Left, self.key, batch, others, self.looked)?;
+        self.left = boundary;
+        self.looked = formed.looked;
+        Ok(formed.updates)
+    }
+}
