@@ -2,7 +2,7 @@
 use Rattle.std.proofs.Common.{◌≡◌, ℕ, ◌+◌, ◌*◌, ◌-◌, ◌≤◌, ◌^◌, Bool, true, false, cond, ◌&&◌, List, [], ◌∷◌, ◌++◌, map, take, drop, length, min, eqb, IsTrue, Some, IfSome, Option, ℤ, refl, sym, ap, subst, ◌∙◌, arith, FitsSigned, w64}
 use Rattle.std.specs.List.{filter, flat_map, list_all, list_any}
 use Rattle.std.specs.Prelude.{nat_le}
-use Rattle.std.proofs.Math.Nat.{mul-le-mul_left}
+use Rattle.std.proofs.Math.Nat.{mul-le-mul_left, mul-le-mul_right}
 use Rattle.std.proofs.lemmas.Bool.{and_parts, and_from, leb-true, eqb-true, eq-eqb}
 use Rattle.std.proofs.lemmas.List.{length-append, length-take, length-drop, take-append-le}
 use Rattle.std.proofs.lemmas.List.Folds.{list_all-append}
@@ -52,6 +52,10 @@ found_readable below F stands start upto vs reads got w =
 -- a product of sizes grows with its second factor
 pub larger_product : (n m k l : ℕ) → n ≤ m * k → k ≤ l → n ≤ m * l
 larger_product n m k l h g = let more = mul-le-mul_left m g in omega (arith, h, more)
+
+-- and with its first one
+pub larger_product_left : (n m k l : ℕ) → n ≤ k * m → k ≤ l → n ≤ l * m
+larger_product_left n m k l h g = let more = mul-le-mul_right m g in omega (arith, h, more)
 
 -- ---- what holds of all pairs
 

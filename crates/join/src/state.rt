@@ -192,4 +192,71 @@ impl<L: Trace, R: Trace<Time = L::Time>> JoinState<L, R> {
         self.looked = formed.looked;
         Ok(formed.updates)
     }
+
+    /// Acknowledges a new batch of the right side, and returns its pairs with all updates that the left side has
+    /// acknowledged. It is [`take_left`](JoinState::take_left) with both sides exchanged: the pairs are the same ones, the
+    /// left row first, and so are conditions, refusals and cost.
+    pub fn take_right(
+        &mut self,
+        alloc: Global,
+        batch: &R::Batch,
+        left: &L,
+    ) -> Result<Vec<Update<L::Time>>, Refusal>
+        requires own { (R.Batch.described batch.now).lower ≡ self.old.right }
+        requires readable { Contains (L.ends left.now) self.old.left }
+        requires later { IsTrue (all_times_beyond L.Time.below (L.held left.now)
+            (R.Batch.content batch.now)) }
+        requires wide { IsTrue (list_all (λ u. is_wide self.old.key u.row)
+            (R.Batch.content batch.now)) }
+        requires narrow { IsTrue (list_all
+            (λ v. list_all (λ u. fits self.old.key u v) (L.content left.now))
+            (R.Batch.content batch.now)) }
+        ensures consolidated { IfOk result (λ out. IsConsolidated L.Time.cmp out.items) }
+        ensures sums { (got : List (Update L.Time))
+            → WereInserted (L.stands left.now) (L.start left.now) self.old.left got
+            → IfOk result (λ out. (t : L.Time)
+            → Alike (as_of L.Time.below t out.items)
+            (as_of L.Time.below t
+            (pairs L.Time.joined self.old.key got (R.Batch.content batch.now)))) }
+        ensures totals { (got : List (Update L.Time))
+            → WereInserted (L.stands left.now) (L.start left.now) self.old.left got
+            → IfOk result (λ out. (p : List ℤ → L.Time → Bool)
+            → total_where p out.items
+            ≡ total_where p (pairs L.Time.joined self.old.key got (R.Batch.content batch.now))) }
+        ensures load { (got : List (Update L.Time))
+            → WereInserted (L.stands left.now) (L.start left.now) self.old.left got
+            → IfOk result (λ out. size out.items
+            ≤ size got * size (R.Batch.content batch.now)) }
+        ensures exact { (got : List (Update L.Time))
+            → WereInserted (L.stands left.now) (L.start left.now) self.old.left got
+            → OnOk result (HasLargeTotal L.Time.below
+            (pairs L.Time.joined self.old.key got (R.Batch.content batch.now)) → ⊥) }
+        ensures beyond { IfOk result (λ out. (G : List L.Time)
+            → IsTrue (all_times_beyond L.Time.below G (R.Batch.content batch.now))
+            → IsTrue (all_times_beyond L.Time.below G out.items)) }
+        ensures width { IfOk result (λ out. (w v : ℕ)
+            → IsTrue (all_rows_have w (L.content left.now))
+            → IsTrue (all_rows_have v (R.Batch.content batch.now))
+            → IsTrue (all_rows_have (w + (v - self.old.key)) out.items)) }
+        ensures rows { IfOk result (λ out. IsTrue
+            (keys_among self.old.key (R.Batch.content batch.now) out.items)) }
+        ensures boundary { OnOk result (self.new ≡ record self.old {
+          right = (R.Batch.described batch.now).upper;
+          looked = self.new.looked;
+        }) }
+        ensures looked { OnOk result (self.new.looked ≡ min (self.old.looked
+            + length (pairs L.Time.joined self.old.key (L.stored_to left.now self.old.left)
+            (R.Batch.content batch.now))) (2 ^ 64 - 1)) }
+        ensures same { OnErr result (self.new ≡ self.old) }
+        ensures refused { IfErr result (IsMemoryOrOverflow ((got : List (Update L.Time))
+            → WereInserted (L.stands left.now) (L.start left.now) self.old.left got
+            → 2 ^ 63 ≤ size got * size (R.Batch.content batch.now))) }
+    {
+        let boundary = Vec::from_slice(alloc, batch.description().upper())?;
+        let others = left.through(self.left.as_slice()).unwrap();
+        let formed = form_pairs(alloc, Side::Right, self.key, batch, others, self.looked)?;
+        self.right = boundary;
+        self.looked = formed.looked;
+        Ok(formed.updates)
+    }
 }
