@@ -1,11 +1,12 @@
 //! Forming pairs: a new batch goes through each batch of the other side, from key to key. Both are sorted by row, so the
-//! place of a key is sought from where the last key was found, and no place is looked at twice. What is read are the
-//! updates of keys that the batch has, and nothing besides.
+//! place of a key is sought from the place of the key before it. What is read are the updates of keys that the batch
+//! has, and nothing besides.
 //!
-//! Many pairs may have one row and one time: all pairs of early times with one late time meet there. So where an update
-//! meets many, the list is consolidated each time that it has doubled. Totals, rows and times stay those of the pairs,
-//! which is the invariant of every step, and the list stays within twice what comes out. Where updates meet few, the
-//! list is as long as the batch, and one consolidation at the end is enough.
+//! Many pairs may have one row and one time: the join of a late time with any of many early ones is the late time. So
+//! where an update meets many others, the list is consolidated each time that it has doubled, and it stays within twice
+//! what comes out. Where updates meet few, the pairs are in proportion to the batch, and one consolidation at the end is
+//! enough. The invariant of every step: what is listed stands in for the pairs formed so far. It has their totals, no
+//! other rows and times, and is no larger.
 ghost use Rattle.std.specs.Prelude.{◌≡◌, ◌≤◌, ◌<◌, ◌+◌, ◌-◌, ◌*◌, ◌^◌, ◌++◌, ◌∷◌, [], List, IfOk, IfErr, IsErr, OnOk, IsTrue, IsSomeAnd, length, take, drop, slice_get, slice_range, unsigned_abs, min};
 ghost use Rattle.std.specs.List.{filter, list_all};
 ghost use Rattle.update.specs.Updates.{HasLargeTotal, IsConsolidated, size};
@@ -24,7 +25,7 @@ use std::mem;
 use std::ops::Range;
 use update::{Refusal, Update, Weight, consolidate};
 
-// If an update meets fewer than these, then the list is not consolidated before the end.
+// If each update meets fewer others than these, then the list is consolidated at the end alone.
 const MANY: usize = 64;
 
 /// The side of a join on which a new batch is.
@@ -278,7 +279,7 @@ impl<T: Lattice> Formed<T> {
 /// Forms the pairs of a batch with all batches of the other side, consolidated. `looked` is how many updates of the
 /// other side had been read before.
 ///
-/// Cost: see the joins' own calls.
+/// Cost: as for [`JoinState::take_left`](crate::JoinState::take_left).
 pub(crate) fn form_pairs<B: BatchReader, C: BatchReader<Time = B::Time>>(
     alloc: Global,
     side: Side,
