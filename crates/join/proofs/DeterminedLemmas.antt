@@ -60,7 +60,7 @@ module _ {T : Type 0} {below : T → T → Bool} (o : PartialOrderLaws below) wh
           → total_where p us ≡ pos 0
       some y m h ih =
           let itself : IsTrue (meets below y y) =
-              and_from (same_row y.row y.row) (ties below y.time y.time) (row_itself y.row) (and_from (below y.time y.time) (below y.time y.time) (o.reflexive y.time) (o.reflexive y.time)) in
+          and_from (same_row y.row y.row) (ties below y.time y.time) (row_itself y.row) (and_from (below y.time y.time) (below y.time y.time) (o.reflexive y.time) (o.reflexive y.time)) in
           let own : others y y.row y.time ≡ false = and_right (p y.row y.time) (not (meets below y y)) (not_from_true (meets below y y) itself) in
           let fewer = filter_fewer (λ u. others y u.row u.time) (λ u. p u.row u.time) (λ u k. (and_parts (p u.row u.time) (not (meets below y u)) k).0) us y m own h in
           let rest = ih (omega arith) in

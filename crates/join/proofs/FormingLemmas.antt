@@ -1,9 +1,8 @@
 -- How pairs are formed, one after the other: what one update of the batch adds, and what stands in for what.
-use Rattle.std.proofs.Common.{◌≡◌, ℕ, zero, suc, ◌+◌, ◌-◌, ◌≤◌, ◌<◌, ◌^◌, ⊎_elim, Bool, true, false, cond, List, [], ◌∷◌, ◌++◌, map, take, drop, length, get_or, slice_get, IsTrue, IsSomeAnd, refl, sym, ◌∙◌, ap, subst, arith, length-take, length-drop, append_assoc, ◌&&◌}
+use Rattle.std.proofs.Common.{◌≡◌, ℕ, zero, suc, ◌+◌, ◌-◌, ◌≤◌, ◌<◌, ◌^◌, Bool, true, false, cond, List, [], ◌∷◌, ◌++◌, map, take, drop, length, get_or, slice_get, IsTrue, IsSomeAnd, refl, sym, ◌∙◌, ap, subst, arith, length-take, length-drop, append_assoc}
 use Rattle.std.specs.Prelude.{slice_range, unsigned_abs}
 use Rattle.std.specs.List.{filter, list_all}
 use Rattle.std.proofs.lemmas.Bool.{and_parts}
-use Rattle.std.proofs.lemmas.Grind.{common_steps}
 use Rattle.std.proofs.lemmas.List.{get_or-take, get_or-drop, take_more, map-append, length-map}
 use Rattle.batch.proofs.SeekLemmas.{range_long}
 use Rattle.update.specs.Updates.{size}

@@ -1,5 +1,5 @@
 -- A total that is no 64-bit number asks for many updates or large ones.
-use Rattle.std.proofs.Common.{◌≡◌, ◌+◌, ◌≤◌, ◌^◌, true, false, cond, ◌&&◌, List, [], ◌∷◌, inl, inr, ⊎_elim, arith, w64, FitsSigned, Bool}
+use Rattle.std.proofs.Common.{◌+◌, ◌≤◌, ◌^◌, true, false, cond, ◌&&◌, List, [], ◌∷◌, inl, inr, ⊎_elim, arith, w64, FitsSigned, Bool}
 use Rattle.std.specs.Prelude.{ℤ, pos, ◌+ℤ◌, unsigned_abs}
 use Rattle.std.proofs.lemmas.Bool.{cases_lt}
 use Rattle.std.proofs.lemmas.Int.{ints, fits_signed_from_abs}

@@ -13,7 +13,7 @@ use Rattle.std.proofs.lemmas.Bool.{true≢false, cases_lt, leb-true}
 use Rattle.std.proofs.lemmas.Cmp.{int_cmp_total, tied_itself}
 use Rattle.std.proofs.lemmas.List.{get_or-take, get_or-drop}
 use Rattle.update.specs.declared.change.Update.{Update}
-use Rattle.batch.specs.Batches.{by_row_then_time, begins_with, at_key, AllBefore, NoneBefore, NoneAfter, AllAfter}
+use Rattle.batch.specs.Batches.{by_row_then_time, at_key, AllBefore, NoneBefore, NoneAfter, AllAfter}
 use Rattle.batch.proofs.KeyLemmas.{parted, keeps_upto}
 use Rattle.batch.proofs.SeekLemmas.{found_is_filter, front_left_out}
 use Rattle.join.specs.Pairs.{is_keyed, is_wide}
@@ -43,7 +43,7 @@ module _ {T : Type 0} (cmp : T → T → Ordering) (k : ℕ) where
       let key = take k (get_or us j d).row in
       let long : length key ≡ k = length-take k (get_or us j d).row ∙ omega (arith, wide) in
       let own : is_le (at_key key (get_or us j d)) ≡ true =
-          ap (λ n. is_le (slice_cmp int_cmp (take n (get_or us j d).row) key)) long ∙ ap is_le (tied_itself rows_total key) in
+      ap (λ n. is_le (slice_cmp int_cmp (take n (get_or us j d).row) key)) long ∙ ap is_le (tied_itself rows_total key) in
       sym (ap (λ n. is_le (slice_cmp int_cmp (take n (get_or us i d).row) key)) long)
       ∙ parted (by_row_then_time cmp) (λ u. is_le (at_key key u)) (keeps_upto cmp key) us sorted i j d g h own
 

@@ -1,6 +1,6 @@
 -- What stands in for what: lists that grow by pairs, one update and one batch after the other.
-use Rattle.std.proofs.Common.{◌≡◌, ℕ, zero, suc, ◌+◌, ◌-◌, ◌≤◌, ◌<◌, ◌^◌, Bool, true, List, [], ◌∷◌, ◌++◌, map, take, drop, length, get_or, slice_get, IsTrue, IsSomeAnd, min, refl, sym, ◌∙◌, ap, ap₂, subst, arith, append_assoc, ◌&&◌}
-use Rattle.std.specs.Prelude.{ℤ, pos, ◌+ℤ◌}
+use Rattle.std.proofs.Common.{◌≡◌, ℕ, zero, suc, ◌+◌, ◌-◌, ◌≤◌, ◌^◌, Bool, List, [], ◌∷◌, ◌++◌, map, take, length, slice_get, IsTrue, IsSomeAnd, min, refl, sym, ◌∙◌, ap, subst, arith, append_assoc}
+use Rattle.std.specs.Prelude.{ℤ, ◌+ℤ◌}
 use Rattle.std.specs.List.{filter, flat_map, list_all}
 use Rattle.std.proofs.lemmas.Bool.{and_parts, and_from}
 use Rattle.std.proofs.lemmas.Int.{ints}
@@ -16,7 +16,7 @@ use Rattle.trace.specs.Readings.{all_content}
 use Rattle.trace.proofs.ReadingLemmas.{size-append}
 use Rattle.join.specs.declared.forming.Side.{Side}
 use Rattle.join.specs.Pairs.{is_keyed}
-use Rattle.join.specs.Forming.{met, met_with, met_all, StandsIn}
+use Rattle.join.specs.Forming.{formed_pair, formed_with, formed_all, StandsIn}
 
 module _ {T : Type 0} where
   abbrev passes : (List ℤ → T → Bool) → Update T → Bool
@@ -103,10 +103,10 @@ module _ {X T : Type 0} (f : X → List (Update T)) where
 
 module _ {T : Type 0} (side : Side) (joined : T → T → T) (k : ℕ) where
   abbrev with : Update T → List (Update T) → List (Update T)
-  with u vs = met_with side joined k u vs
+  with u vs = formed_with side joined k u vs
 
   abbrev all : List (Update T) → List (Update T) → List (Update T)
-  all us vs = met_all side joined k us vs
+  all us vs = formed_all side joined k us vs
 
   -- what stands in for the pairs so far, with the pairs of one more update, stands in for the pairs with that update
   pub one_more : (us vs old before new : List (Update T)) (i : ℕ) (u : Update T) → IsSomeAnd (slice_get us i) (λ w. u ≡ w) → StandsIn before (old ++ all (take i us) vs) → StandsIn new (before ++ with u vs) → StandsIn new (old ++ all (take (i + 1) us) vs)
@@ -138,15 +138,15 @@ module _ {T : Type 0} (side : Side) (joined : T → T → T) (k : ℕ) where
 
 module _ {T : Type 0} (side : Side) (joined : T → T → T) (k : ℕ) where
   abbrev one : Update T → List (Update T) → List (Update T)
-  one u vs = met_with side joined k u vs
+  one u vs = formed_with side joined k u vs
 
   abbrev every : List (Update T) → List (Update T) → List (Update T)
-  every us vs = met_all side joined k us vs
+  every us vs = formed_all side joined k us vs
 
   one-append : (u : Update T) (xs ys : List (Update T)) → one u (xs ++ ys) ≡ one u xs ++ one u ys
   one-append u xs ys =
-      ap (map (met side joined k u)) (filter-append (is_keyed k (take k u.row)) xs ys)
-      ∙ map-append (met side joined k u) (filter (is_keyed k (take k u.row)) xs) (filter (is_keyed k (take k u.row)) ys)
+      ap (map (formed_pair side joined k u)) (filter-append (is_keyed k (take k u.row)) xs ys)
+      ∙ map-append (formed_pair side joined k u) (filter (is_keyed k (take k u.row)) xs) (filter (is_keyed k (take k u.row)) ys)
 
   -- what adds up over two lists adds up over the pairs with two lists
   adds_up : (m : List (Update T) → ℕ) → m [] ≡ 0 → ((a b : List (Update T)) → m (a ++ b) ≡ m a + m b) → (us xs ys : List (Update T)) → m (every us (xs ++ ys)) ≡ m (every us xs) + m (every us ys)
@@ -185,8 +185,7 @@ module _ {T : Type 0} (side : Side) (joined : T → T → T) (k : ℕ) where
   among_pieces q (u ∷ us) xs ys h =
       let parts = and_parts _ _ (sym (list_all-append q (one u (xs ++ ys)) (every us (xs ++ ys))) ∙ h) in
       let here = and_parts _ _ (sym (list_all-append q (one u xs) (one u ys)) ∙ ap (list_all q) (sym (one-append u xs ys)) ∙ parts.0) in
-      let rest = among_pieces q us xs ys parts.1 in
-      (
+      let rest = among_pieces q us xs ys parts.1 in (
         list_all-append q (one u xs) (every us xs) ∙ and_from _ _ here.0 rest.0,
         list_all-append q (one u ys) (every us ys) ∙ and_from _ _ here.1 rest.1,
       )
@@ -223,12 +222,12 @@ module _ {T : Type 0} (side : Side) (joined : T → T → T) (k : ℕ) where
         let whole = size_pieces us (content d) (all_content content cs) in
         let same = ap (λ b. size (every us (content b))) e in
         let none = summed_size_is (every us []) in
-        let nothing = nothing_met us in
+        let nothing = nothing_formed us in
         omega (arith, whole, same, none, nothing)
       where
-        nothing_met : (us : List (Update T)) → summed_size (every us []) ≡ 0
-        nothing_met [] = refl
-        nothing_met (u ∷ us) = nothing_met us
+        nothing_formed : (us : List (Update T)) → summed_size (every us []) ≡ 0
+        nothing_formed [] = refl
+        nothing_formed (u ∷ us) = nothing_formed us
     pieces_large us (d ∷ cs) (suc i) c e =
         let rest = pieces_large us cs i c e in
         let left = size_pieces us (content d) (all_content content (take i cs)) in
@@ -251,6 +250,6 @@ module _ {T : Type 0} (side : Side) (joined : T → T → T) (k : ℕ) where
         omega (arith, more, a, b)
 
   -- with nothing on the other side there are no pairs
-  pub none_met : (us : List (Update T)) → every us [] ≡ []
-  none_met [] = refl
-  none_met (u ∷ us) = none_met us
+  pub none_formed : (us : List (Update T)) → every us [] ≡ []
+  none_formed [] = refl
+  none_formed (u ∷ us) = none_formed us

@@ -13,7 +13,7 @@ use Rattle.plan.proofs.CountLemmas.{row_same, row_itself}
 use Rattle.plan.proofs.ReductionLemmas.{row_differs}
 use Rattle.join.specs.declared.forming.Side.TheVariants.{Right}
 use Rattle.join.specs.Pairs.{is_keyed, pair_of, pairs}
-use Rattle.join.specs.Forming.{StandsIn, met_all}
+use Rattle.join.specs.Forming.{StandsIn, formed_all}
 use Rattle.join.proofs.PairLemmas.{size_pairs}
 
 -- ---- a table, row by row and column by column
@@ -74,7 +74,7 @@ row_turned row other = step (same_row row other) refl
 
 module _ {T : Type 0} (joined : T → T → T) (k : ℕ) (us vs : List (Update T)) where
   -- a batch on the right forms the pairs of the definition in another order
-  pub turned_moves : IsPermutation (pairs joined k vs us) (met_all Right joined k us vs)
+  pub turned_moves : IsPermutation (pairs joined k vs us) (formed_all Right joined k us vs)
   turned_moves =
       by_columns
       (λ v u. is_keyed k (take k v.row) u)
@@ -84,16 +84,16 @@ module _ {T : Type 0} (joined : T → T → T) (k : ℕ) (us vs : List (Update T
       vs us
 
   -- what a batch on the right forms stands in for the pairs of the definition
-  pub turned : StandsIn (met_all Right joined k us vs) (pairs joined k vs us)
+  pub turned : StandsIn (formed_all Right joined k us vs) (pairs joined k vs us)
   turned = record {
-    totals = moved_total (pairs joined k vs us) (met_all Right joined k us vs) turned_moves;
-    among = moved_among (pairs joined k vs us) (met_all Right joined k us vs) turned_moves;
-    smaller = let same = moved_size (pairs joined k vs us) (met_all Right joined k us vs) turned_moves in omega (arith, same);
+    totals = moved_total (pairs joined k vs us) (formed_all Right joined k us vs) turned_moves;
+    among = moved_among (pairs joined k vs us) (formed_all Right joined k us vs) turned_moves;
+    smaller = let same = moved_size (pairs joined k vs us) (formed_all Right joined k us vs) turned_moves in omega (arith, same);
   }
 
   -- the size of what a batch on the right forms is at most the product of both sizes
-  pub size_turned : size (met_all Right joined k us vs) ≤ size us * size vs
+  pub size_turned : size (formed_all Right joined k us vs) ≤ size us * size vs
   size_turned =
-      let same = moved_size (pairs joined k vs us) (met_all Right joined k us vs) turned_moves in
+      let same = moved_size (pairs joined k vs us) (formed_all Right joined k us vs) turned_moves in
       let within = size_pairs joined k vs us in
       omega (arith, same, within)

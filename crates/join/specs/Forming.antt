@@ -10,22 +10,22 @@ use Rattle.join.specs.Pairs.{is_keyed, pair_of, fits}
 
 module _ {T : Type 0} where
   -- the pair of an update u of the batch with an update v of the other side
-  abbrev pub met : Side → (T → T → T) → ℕ → Update T → Update T → Update T
-  met Left joined k u v = pair_of joined k u v
-  met Right joined k u v = pair_of joined k v u
+  abbrev pub formed_pair : Side → (T → T → T) → ℕ → Update T → Update T → Update T
+  formed_pair Left joined k u v = pair_of joined k u v
+  formed_pair Right joined k u v = pair_of joined k v u
 
   -- the row of their pair has at most 8 columns
-  abbrev pub met_fits : Side → ℕ → Update T → Update T → Bool
-  met_fits Left k u v = fits k u v
-  met_fits Right k u v = fits k v u
+  abbrev pub formed_fits : Side → ℕ → Update T → Update T → Bool
+  formed_fits Left k u v = fits k u v
+  formed_fits Right k u v = fits k v u
 
   -- the pairs of one update of the batch with the updates of its key
-  abbrev pub met_with : Side → (T → T → T) → ℕ → Update T → List (Update T) → List (Update T)
-  met_with side joined k u vs = map (met side joined k u) (filter (is_keyed k (take k u.row)) vs)
+  abbrev pub formed_with : Side → (T → T → T) → ℕ → Update T → List (Update T) → List (Update T)
+  formed_with side joined k u vs = map (formed_pair side joined k u) (filter (is_keyed k (take k u.row)) vs)
 
   -- the pairs of all updates of the batch with the updates of their keys
-  abbrev pub met_all : Side → (T → T → T) → ℕ → List (Update T) → List (Update T) → List (Update T)
-  met_all side joined k us vs = flat_map (λ u. met_with side joined k u vs) us
+  abbrev pub formed_all : Side → (T → T → T) → ℕ → List (Update T) → List (Update T) → List (Update T)
+  formed_all side joined k us vs = flat_map (λ u. formed_with side joined k u vs) us
 
   -- us stands in for vs: it has the same totals, no other rows or times, and is no larger
   pub record StandsIn (us vs : List (Update T)) : Type 0 where

@@ -1,5 +1,5 @@
 -- What a contract sees of a join: its key, how far each of its sides was acknowledged, and how much it has read.
-use Rattle.std.specs.Prelude.{◌≡◌, ℕ, Bool, List, take, length, eqb, IsTrue}
+use Rattle.std.specs.Prelude.{◌≡◌, ℕ, Bool, List, take, length, eqb}
 use Rattle.std.specs.List.{list_all, list_any}
 use Rattle.update.specs.declared.change.Update.{Update}
 use Rattle.trace.specs.Readings.{Insertion, AreUpTo, all_updates}

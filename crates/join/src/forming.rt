@@ -3,10 +3,12 @@
 //! has, and nothing besides.
 //!
 //! Many pairs may have one row and one time: the join of a late time with any of many early ones is the late time. So
-//! where an update meets many others, the list is consolidated each time that it has doubled, and it stays within twice
-//! what comes out. Where updates meet few, the pairs are in proportion to the batch, and one consolidation at the end is
-//! enough. The invariant of every step: what is listed stands in for the pairs formed so far. It has their totals, no
-//! other rows and times, and is no larger.
+//! where an update is paired with many others, the list is consolidated each time that it has doubled, and it stays
+//! within twice what comes out. Where updates are paired with few, the pairs are in proportion to the batch, and one
+//! consolidation at the end is enough.
+//!
+//! The invariant of every step: what is listed stands in for the pairs formed so far. It has their totals and no other
+//! rows and times, and is no larger.
 ghost use Rattle.std.specs.Prelude.{◌≡◌, ◌≤◌, ◌<◌, ◌+◌, ◌-◌, ◌*◌, ◌^◌, ◌++◌, ◌∷◌, [], List, IfOk, IfErr, IsErr, OnOk, IsTrue, IsSomeAnd, length, take, drop, slice_get, slice_range, unsigned_abs, min};
 ghost use Rattle.std.specs.List.{filter, list_all};
 ghost use Rattle.update.specs.Updates.{HasLargeTotal, IsConsolidated, size};
@@ -16,7 +18,7 @@ ghost use Rattle.update.specs.declared.refusal.Refusal.{Refusal};
 ghost use Rattle.batch.specs.Batches.{AllBefore, NoneBefore};
 ghost use Rattle.trace.specs.Readings.{all_content};
 ghost use Rattle.join.specs.Pairs.{is_keyed, is_wide, pair_of, fits};
-ghost use Rattle.join.specs.Forming.{met, met_fits, met_with, met_all, StandsIn};
+ghost use Rattle.join.specs.Forming.{formed_pair, formed_fits, formed_with, formed_all, StandsIn};
 
 use batch::BatchReader;
 use lattice::Lattice;
@@ -25,7 +27,7 @@ use std::mem;
 use std::ops::Range;
 use update::{Refusal, Update, Weight, consolidate};
 
-// If each update meets fewer others than these, then the list is consolidated at the end alone.
+// If each update is paired with fewer others than these, then the list is consolidated at the end alone.
 const MANY: usize = 64;
 
 /// The side of a join on which a new batch is.
@@ -65,7 +67,7 @@ fn pair<T: Lattice>(k: usize, u: &Update<T>, v: &Update<T>) -> Result<Update<T>,
 }
 
 // The pair of an update of the batch with one of the other side.
-fn met<T: Lattice>(
+fn formed_pair<T: Lattice>(
     side: Side,
     k: usize,
     u: &Update<T>,
@@ -73,10 +75,10 @@ fn met<T: Lattice>(
 ) -> Result<Update<T>, Refusal>
     requires own { k ≤ length u.now.row }
     requires wide { k ≤ length v.now.row }
-    requires fits { IsTrue (met_fits side k u.now v.now) }
-    ensures made { IfOk result (λ made. made ≡ met side T.joined k u.now v.now) }
+    requires fits { IsTrue (formed_fits side k u.now v.now) }
+    ensures made { IfOk result (λ made. made ≡ formed_pair side T.joined k u.now v.now) }
     ensures refused { IfErr result (λ refused. (refused ≡ Refusal.Overflow)
-        × (2 ^ 63 ≤ unsigned_abs (met side T.joined k u.now v.now).diff)) }
+        × (2 ^ 63 ≤ unsigned_abs (formed_pair side T.joined k u.now v.now).diff)) }
 {
     match side {
         Side::Left => pair(k, u, v),
@@ -109,15 +111,15 @@ fn push_pair<B: BatchReader>(
     requires within { i < length (B.content other.now) }
     requires keyed { IsSomeAnd (slice_get (B.content other.now) i)
         (λ v. IsTrue (is_keyed k (take k u.now.row) v)) }
-    requires fits { IsTrue (list_all (met_fits side k u.now) (B.content other.now)) }
+    requires fits { IsTrue (list_all (formed_fits side k u.now) (B.content other.now)) }
     ensures pushed { OnOk result (IsSomeAnd (slice_get (B.content other.now) i)
-        (λ v. formed.new.items ≡ formed.old.items ++ met side B.Time.joined k u.now v ∷ [])) }
+        (λ v. formed.new.items ≡ formed.old.items ++ formed_pair side B.Time.joined k u.now v ∷ [])) }
     ensures refused { IfErr result (IsMemoryOrOverflow
         (IsSomeAnd (slice_get (B.content other.now) i)
-        (λ v. 2 ^ 63 ≤ unsigned_abs (met side B.Time.joined k u.now v).diff))) }
+        (λ v. 2 ^ 63 ≤ unsigned_abs (formed_pair side B.Time.joined k u.now v).diff))) }
 {
     let v = update_at(other, i);
-    let pair = met(side, k, u, &v)?;
+    let pair = formed_pair(side, k, u, &v)?;
     formed.push(pair)?;
     Ok(())
 }
@@ -137,11 +139,11 @@ fn push_pairs<B: BatchReader>(
     requires within { found.end ≤ length (B.content other.now) }
     requires found { slice_range (B.content other.now) found.start found.end
         ≡ filter (is_keyed k (take k u.now.row)) (B.content other.now) }
-    requires fits { IsTrue (list_all (met_fits side k u.now) (B.content other.now)) }
+    requires fits { IsTrue (list_all (formed_fits side k u.now) (B.content other.now)) }
     ensures pushed { OnOk result (formed.new.items
-        ≡ formed.old.items ++ met_with side B.Time.joined k u.now (B.content other.now)) }
+        ≡ formed.old.items ++ formed_with side B.Time.joined k u.now (B.content other.now)) }
     ensures refused { IfErr result (IsMemoryOrOverflow
-        (2 ^ 63 ≤ size (met_with side B.Time.joined k u.now (B.content other.now)))) }
+        (2 ^ 63 ≤ size (formed_with side B.Time.joined k u.now (B.content other.now)))) }
 {
     for i in found.start..found.end {
         push_pair(formed, side, k, u, other, i)?;
@@ -178,21 +180,21 @@ impl<T: Lattice> Formed<T> {
         Ok(())
     }
 
-    // Consolidates the list if an update has met many, and the list has doubled since it was last consolidated.
-    fn settle(&mut self, met: usize) -> Result<(), Refusal>
+    // Consolidates the list if an update was paired with many, and the list has doubled since it was last consolidated.
+    fn settle(&mut self, paired: usize) -> Result<(), Refusal>
         ensures stands { OnOk result (StandsIn self.new.updates.items self.old.updates.items) }
         ensures looked { OnOk result (self.new.looked ≡ self.old.looked) }
         ensures large { IsErr result → 2 ^ 63 ≤ size self.old.updates.items }
         ensures only { IfErr result (λ refused. refused ≡ Refusal.Overflow) }
     {
-        if met >= MANY && self.updates.len() / 2 >= self.settled {
+        if paired >= MANY && self.updates.len() / 2 >= self.settled {
             self.consolidate()?;
         }
         Ok(())
     }
 
     // Forms the pairs of one update of the batch with a batch of the other side. `start` is the place of its key there.
-    fn meet_update<B: BatchReader<Time = T>>(
+    fn pair_update<B: BatchReader<Time = T>>(
         &mut self,
         side: Side,
         k: usize,
@@ -204,23 +206,23 @@ impl<T: Lattice> Formed<T> {
         requires within { start ≤ length (B.content other.now) }
         requires front { AllBefore (take k u.now.row) (take start (B.content other.now)) }
         requires rest { NoneBefore (take k u.now.row) (drop start (B.content other.now)) }
-        requires fits { IsTrue (list_all (met_fits side k u.now) (B.content other.now)) }
+        requires fits { IsTrue (list_all (formed_fits side k u.now) (B.content other.now)) }
         ensures formed { OnOk result (StandsIn self.new.updates.items
-            (self.old.updates.items ++ met_with side T.joined k u.now (B.content other.now))) }
+            (self.old.updates.items ++ formed_with side T.joined k u.now (B.content other.now))) }
         ensures looked { OnOk result (self.new.looked ≡ min (self.old.looked
-            + length (met_with side T.joined k u.now (B.content other.now))) (2 ^ 64 - 1)) }
+            + length (formed_with side T.joined k u.now (B.content other.now))) (2 ^ 64 - 1)) }
         ensures refused { IfErr result (IsMemoryOrOverflow (2 ^ 63 ≤ size
-            (self.old.updates.items ++ met_with side T.joined k u.now (B.content other.now)))) }
+            (self.old.updates.items ++ formed_with side T.joined k u.now (B.content other.now)))) }
     {
         let end = other.seek_past(start, u.row.key(k));
         push_pairs(&mut self.updates, side, k, u, other, start..end)?;
-        let met = end - start;
-        self.looked = self.looked.saturating_add(met as u64);
-        self.settle(met)
+        let paired = end - start;
+        self.looked = self.looked.saturating_add(paired as u64);
+        self.settle(paired)
     }
 
     // Forms the pairs of a batch with a batch of the other side, from key to key through both.
-    fn meet_batch<B: BatchReader<Time = T>, C: BatchReader<Time = T>>(
+    fn pair_batch<B: BatchReader<Time = T>, C: BatchReader<Time = T>>(
         &mut self,
         side: Side,
         k: usize,
@@ -228,28 +230,28 @@ impl<T: Lattice> Formed<T> {
         other: &C,
     ) -> Result<(), Refusal>
         requires wide { IsTrue (list_all (λ u. is_wide k u.row) (B.content batch.now)) }
-        requires fits { IsTrue (list_all (λ u. list_all (met_fits side k u) (C.content other.now))
+        requires fits { IsTrue (list_all (λ u. list_all (formed_fits side k u) (C.content other.now))
             (B.content batch.now)) }
         ensures formed { OnOk result (StandsIn self.new.updates.items
             (self.old.updates.items
-            ++ met_all side T.joined k (B.content batch.now) (C.content other.now))) }
+            ++ formed_all side T.joined k (B.content batch.now) (C.content other.now))) }
         ensures looked { OnOk result (self.new.looked ≡ min (self.old.looked
-            + length (met_all side T.joined k (B.content batch.now) (C.content other.now)))
+            + length (formed_all side T.joined k (B.content batch.now) (C.content other.now)))
             (2 ^ 64 - 1)) }
         ensures refused { IfErr result (IsMemoryOrOverflow (2 ^ 63 ≤ size (self.old.updates.items
-            ++ met_all side T.joined k (B.content batch.now) (C.content other.now)))) }
+            ++ formed_all side T.joined k (B.content batch.now) (C.content other.now)))) }
     {
         let mut place = 0;
         for i in 0..batch.len() {
             let u = update_at(batch, i);
             place = other.seek(place, u.row.key(k));
-            self.meet_update(side, k, &u, other, place)?;
+            self.pair_update(side, k, &u, other, place)?;
         }
         Ok(())
     }
 
     // Forms the pairs of a batch with all batches of the other side.
-    fn meet_all<B: BatchReader<Time = T>, C: BatchReader<Time = T>>(
+    fn pair_all<B: BatchReader<Time = T>, C: BatchReader<Time = T>>(
         &mut self,
         side: Side,
         k: usize,
@@ -257,20 +259,20 @@ impl<T: Lattice> Formed<T> {
         others: &[C],
     ) -> Result<(), Refusal>
         requires wide { IsTrue (list_all (λ u. is_wide k u.row) (B.content batch.now)) }
-        requires fits { IsTrue (list_all (λ u. list_all (met_fits side k u)
+        requires fits { IsTrue (list_all (λ u. list_all (formed_fits side k u)
             (all_content C.content others.now)) (B.content batch.now)) }
         ensures formed { OnOk result (StandsIn self.new.updates.items
-            (self.old.updates.items ++ met_all side T.joined k (B.content batch.now)
+            (self.old.updates.items ++ formed_all side T.joined k (B.content batch.now)
             (all_content C.content others.now))) }
         ensures looked { OnOk result (self.new.looked ≡ min (self.old.looked
-            + length (met_all side T.joined k (B.content batch.now)
+            + length (formed_all side T.joined k (B.content batch.now)
             (all_content C.content others.now))) (2 ^ 64 - 1)) }
         ensures refused { IfErr result (IsMemoryOrOverflow (2 ^ 63 ≤ size (self.old.updates.items
-            ++ met_all side T.joined k (B.content batch.now)
+            ++ formed_all side T.joined k (B.content batch.now)
             (all_content C.content others.now)))) }
     {
         for other in others {
-            self.meet_batch(side, k, batch, other)?;
+            self.pair_batch(side, k, batch, other)?;
         }
         Ok(())
     }
@@ -289,22 +291,22 @@ pub(crate) fn form_pairs<B: BatchReader, C: BatchReader<Time = B::Time>>(
     looked: u64,
 ) -> Result<Formed<B::Time>, Refusal>
     requires wide { IsTrue (list_all (λ u. is_wide k u.row) (B.content batch.now)) }
-    requires fits { IsTrue (list_all (λ u. list_all (met_fits side k u)
+    requires fits { IsTrue (list_all (λ u. list_all (formed_fits side k u)
         (all_content C.content others.now)) (B.content batch.now)) }
     ensures consolidated { IfOk result (λ made. IsConsolidated B.Time.cmp made.updates.items) }
     ensures stands { IfOk result (λ made. StandsIn made.updates.items
-        (met_all side B.Time.joined k (B.content batch.now) (all_content C.content others.now))) }
+        (formed_all side B.Time.joined k (B.content batch.now) (all_content C.content others.now))) }
     ensures exact { OnOk result (HasLargeTotal B.Time.below
-        (met_all side B.Time.joined k (B.content batch.now) (all_content C.content others.now)) → ⊥) }
+        (formed_all side B.Time.joined k (B.content batch.now) (all_content C.content others.now)) → ⊥) }
     ensures looked { IfOk result (λ made. made.looked ≡ min (looked
-        + length (met_all side B.Time.joined k (B.content batch.now)
+        + length (formed_all side B.Time.joined k (B.content batch.now)
         (all_content C.content others.now))) (2 ^ 64 - 1)) }
     ensures refused { IfErr result (IsMemoryOrOverflow (2 ^ 63 ≤ size
-        (met_all side B.Time.joined k (B.content batch.now)
+        (formed_all side B.Time.joined k (B.content batch.now)
         (all_content C.content others.now)))) }
 {
     let mut formed = Formed::none(alloc, looked);
-    formed.meet_all(side, k, batch, others)?;
+    formed.pair_all(side, k, batch, others)?;
     formed.consolidate()?;
     Ok(formed)
 }

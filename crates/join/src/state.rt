@@ -1,10 +1,10 @@
 //! The state of a join: its key, and for each of its sides the boundary up to which that side was acknowledged. A side is
 //! acknowledged batch by batch. Each new batch is paired with what the other side has acknowledged by then, and with
-//! nothing besides. So of two batches, one on each side, the second one that is taken meets the first one, and the first
-//! one does not meet the second. Each pair is formed once, whichever side moves first.
+//! nothing besides. So of two batches, one on each side, the second one that is taken is paired with the first one, and
+//! the first one is not paired with the second. Each pair is formed once, whichever side moves first.
 //!
 //! The sides have a boundary each also where both read one trace, as in the join of a table with itself. With one
-//! boundary for both, a batch would meet itself twice, or not at all.
+//! boundary for both, a batch would be paired with itself twice, or not at all.
 ghost use Rattle.std.specs.Prelude.{◌≡◌, ◌≤◌, ◌*◌, ◌+◌, ◌-◌, ◌^◌, ◌⊎◌, ℕ, ℤ, Bool, List, length, min, IfOk, IfErr, OnOk, OnErr, IsTrue};
 ghost use Rattle.std.specs.List.{Contains, list_all};
 ghost use Rattle.antichain.specs.Antichains.{IsFrontier};
@@ -127,8 +127,8 @@ impl<L: Trace, R: Trace<Time = L::Time>> JoinState<L, R> {
     /// - [`Refusal::OutOfMemory`] only if memory was refused, for the boundary or for pairs.
     ///
     /// Cost: each key of the batch is sought in each batch of the right side, from where the last one was found, in the
-    /// logarithm of the distance. Then n log n in the number of pairs. No other update is read. Memory: where an update
-    /// meets fewer than 64, its pairs; otherwise twice the answer, and the pairs of one update.
+    /// logarithm of the distance. Then n log n in the number of pairs. No other update is read. Memory: twice the
+    /// answer, the pairs of one update, and up to 63 pairs for each update of the batch and batch of the right side.
     pub fn take_left(
         &mut self,
         alloc: Global,

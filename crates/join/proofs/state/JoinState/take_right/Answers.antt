@@ -1,4 +1,4 @@
-use Rattle.std.proofs.Common.{◌≡◌, ◌+◌, ◌*◌, ◌-◌, ◌≤◌, ◌^◌, List, length, take, eqb, min, ap, sym, ◌∙◌, arith}
+use Rattle.std.proofs.Common.{◌+◌, ◌-◌, ◌^◌, List, length, take, eqb, ap, arith}
 use Rattle.std.specs.List.{list_any}
 use Rattle.std.proofs.lemmas.List.Sorted.{length_permutation}
 use Rattle.std.proofs.lemmas.Result.{err_from_is_err_and}
@@ -10,7 +10,7 @@ use Rattle.update.specs.declared.change.Update.{Update}
 use Rattle.trace.specs.Readings.{IsReadable, all_content}
 use Rattle.join.specs.Pairs.{pairs}
 use Rattle.join.specs.declared.forming.Side.TheVariants.{Right}
-use Rattle.join.specs.Forming.{StandsIn, met_all}
+use Rattle.join.specs.Forming.{StandsIn, formed_all}
 use Rattle.join.specs.Sides.{WereInserted}
 use Rattle.join.proofs.AnswerLemmas.{answer_sums, answer_totals, answer_exact, large_moved, found_readable, larger_product_left, right_beyond, pairs_width, right_keys, right_fits}
 use Rattle.join.proofs.LargeLemmas.{refused_more}
@@ -44,7 +44,7 @@ module _ (g : Over) (c : goal.After-self-1 g) where
   Got got = WereInserted (g.L.Trace.stands c.args.left.now) (g.L.Trace.start c.args.left.now) c.args.self.now.left got
 
   abbrev formed : List (Update g.row.L-Time.Denot)
-  formed = met_all Right g.L.Time.Lattice.joined c.args.self.now.key us vs
+  formed = formed_all Right g.L.Time.Lattice.joined c.args.self.now.key us vs
 
   standing : StandsIn out (of vs)
   standing =

@@ -1,15 +1,15 @@
 use Rattle.std.proofs.Common.{rules, sym, ap, subst, min, ◌≡◌, ◌++◌, ◌∙◌, ◌+◌, ◌-◌, ◌^◌, length}
 use Rattle.std.proofs.lemmas.List.{append-nil}
 use Rattle.std.proofs.lemmas.Result.{err_from_is_err_and}
-use Rattle.join.specs.Forming.{met_fits, StandsIn}
+use Rattle.join.specs.Forming.{formed_fits, StandsIn}
 use Rattle.join.proofs.FormingLemmas.{item_at}
-use Rattle.join.proofs.StandingLemmas.{stands_itself, none_met, piece_passes_all, one_more_batch, one_more_batch_large, one_more_batch_looked}
+use Rattle.join.proofs.StandingLemmas.{stands_itself, none_formed, piece_passes_all, one_more_batch, one_more_batch_large, one_more_batch_looked}
 use Rattle.join.proofs.LargeLemmas.{refused_more}
-use Rattle.join.proofs.forming.Formed.meet_all.Goals as goal
+use Rattle.join.proofs.forming.Formed.pair_all.Goals as goal
 
 pub loop-other-init : goal.loop-other-init
 loop-other-init g c =
-    let none = none_met c.args.side g.T.Lattice.joined c.args.k (g.B.BatchReader.content c.args.batch.now) in
+    let none = none_formed c.args.side g.T.Lattice.joined c.args.k (g.B.BatchReader.content c.args.batch.now) in
     let items = c.args.self.now.updates.items in
     let looked = c.args.self.now.looked in
     record {
@@ -17,23 +17,23 @@ loop-other-init g c =
       looked = subst (λ ys. looked ≡ min (looked + length ys) (2 ^ 64 - 1)) (sym none) (search rules);
     }
 
-pub meet_batch-requires-clause-fits : goal.meet_batch-requires-clause-fits
-meet_batch-requires-clause-fits g c =
+pub pair_batch-requires-clause-fits : goal.pair_batch-requires-clause-fits
+pair_batch-requires-clause-fits g c =
     let here = item_at c.args.others.now c.loop-other.other-index c.other-item.result c.loop-other-test.true c.other-item.is in
-    piece_passes_all g.C.BatchReader.content (met_fits c.args.side c.args.k) c.args.others.now c.loop-other.other-index c.other-item.result (g.B.BatchReader.content c.args.batch.now) here c.requires.fits
+    piece_passes_all g.C.BatchReader.content (formed_fits c.args.side c.args.k) c.args.others.now c.loop-other.other-index c.other-item.result (g.B.BatchReader.content c.args.batch.now) here c.requires.fits
 
-pub returns-in_err-meet_batch-clause-refused : goal.returns-in_err-meet_batch-clause-refused
-returns-in_err-meet_batch-clause-refused g c =
+pub returns-in_err-pair_batch-clause-refused : goal.returns-in_err-pair_batch-clause-refused
+returns-in_err-pair_batch-clause-refused g c =
     let p = err_from_is_err_and c.from_residual.result c.from_residual.ensures.1 in
     let here = item_at c.args.others.now c.loop-other.other-index c.other-item.result c.loop-other-test.true c.other-item.is in
     let large = one_more_batch_large c.args.side g.T.Lattice.joined c.args.k g.C.BatchReader.content (g.B.BatchReader.content c.args.batch.now) c.args.self.now.updates.items c.loop-other.self.updates.items c.args.others.now c.loop-other.other-index c.other-item.result here c.loop-other.invariant.formed in
-    rw (p.1, p.2) (refused_more _ _ c.in_err-meet_batch.field-0.0 large c.in_err-meet_batch.ensures.refused)
+    rw (p.1, p.2) (refused_more _ _ c.in_err-pair_batch.field-0.0 large c.in_err-pair_batch.ensures.refused)
 
 pub loop-other-preserved : goal.loop-other-preserved
 loop-other-preserved g c =
     let us = g.B.BatchReader.content c.args.batch.now in
     let here = item_at c.args.others.now c.loop-other.other-index c.other-item.result c.loop-other-test.true c.other-item.is in
     record {
-      formed = one_more_batch c.args.side g.T.Lattice.joined c.args.k g.C.BatchReader.content us c.args.self.now.updates.items c.loop-other.self.updates.items c.meet_batch.new.self.updates.items c.args.others.now c.loop-other.other-index c.other-item.result here c.loop-other.invariant.formed c.in_ok-meet_batch.ensures.formed;
-      looked = one_more_batch_looked c.args.side g.T.Lattice.joined c.args.k g.C.BatchReader.content us c.args.others.now c.loop-other.other-index c.args.self.now.looked c.loop-other.self.looked c.meet_batch.new.self.looked c.other-item.result here c.loop-other.invariant.looked c.in_ok-meet_batch.ensures.looked;
+      formed = one_more_batch c.args.side g.T.Lattice.joined c.args.k g.C.BatchReader.content us c.args.self.now.updates.items c.loop-other.self.updates.items c.pair_batch.new.self.updates.items c.args.others.now c.loop-other.other-index c.other-item.result here c.loop-other.invariant.formed c.in_ok-pair_batch.ensures.formed;
+      looked = one_more_batch_looked c.args.side g.T.Lattice.joined c.args.k g.C.BatchReader.content us c.args.others.now c.loop-other.other-index c.args.self.now.looked c.loop-other.self.looked c.pair_batch.new.self.looked c.other-item.result here c.loop-other.invariant.looked c.in_ok-pair_batch.ensures.looked;
     }
