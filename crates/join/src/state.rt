@@ -18,28 +18,30 @@ ghost use Rattle.join.specs.Sides.{Acknowledged, WereInserted, all_rows_have, ke
 
 use crate::forming::{Side, form_pairs};
 use batch::BatchReader;
+use lattice::Lattice;
 use std::alloc::Global;
 use std::marker::{Model, PhantomData};
 use trace::Trace;
 use update::{Refusal, Update};
 
-/// A join of a trace on the left with a trace on the right by the first columns of their rows. A contract sees the
-/// number of these columns, the boundary up to which each side was acknowledged, and how many updates were read.
+/// A join of a trace `L` on the left with a trace `R` on the right by the first columns of their rows, at times `T`. A
+/// contract sees the number of these columns, the boundary up to which each side was acknowledged, and how many updates
+/// were read.
 #[derive(Drop)]
-pub struct JoinState<L: Trace, R: Trace<Time = L::Time>> {
+pub struct JoinState<T: Lattice, L, R> {
     key: usize,
-    left: Vec<L::Time>,
-    right: Vec<L::Time>,
+    left: Vec<T>,
+    right: Vec<T>,
     looked: u64,
     of: PhantomData<(L, R)>,
 }
 
-impl<L: Trace, R: Trace<Time = L::Time>> Model for JoinState<L, R> {
+impl<T: Lattice, L, R> Model for JoinState<T, L, R> {
     ghost use Rattle.std.specs.Prelude.{◌≤◌};
     ghost use Rattle.antichain.specs.Antichains.{IsFrontier};
     ghost use Rattle.join.specs.Sides.{Acknowledged};
 
-    ghost Value = { Acknowledged L.Time };
+    ghost Value = { Acknowledged T };
 
     ghost view = { λ s. record {
       key = s.key;
@@ -49,19 +51,19 @@ impl<L: Trace, R: Trace<Time = L::Time>> Model for JoinState<L, R> {
     } };
 
     ghost invariant = { λ s. (1 ≤ s.key) × (s.key ≤ 8)
-        × IsFrontier L.Time.below L.Time.cmp s.left.items
-        × IsFrontier L.Time.below L.Time.cmp s.right.items };
+        × IsFrontier T.below T.cmp s.left.items
+        × IsFrontier T.below T.cmp s.right.items };
 }
 
-impl<L: Trace, R: Trace<Time = L::Time>> JoinState<L, R> {
+impl<T: Lattice, L: Trace<Time = T>, R: Trace<Time = T>> JoinState<T, L, R> {
     /// A join by the first `key` columns, 1 to 8, whose sides were acknowledged up to these boundaries: frontiers, each
     /// as its elements in `Ord` order. A join that is to read all of two traces begins where these begin. Takes no
     /// memory.
-    pub fn new(key: usize, left: Vec<L::Time>, right: Vec<L::Time>) -> JoinState<L, R>
+    pub fn new(key: usize, left: Vec<T>, right: Vec<T>) -> JoinState<T, L, R>
         requires some { 1 ≤ key }
         requires few { key ≤ 8 }
-        requires left { IsFrontier L.Time.below L.Time.cmp left.items }
-        requires right { IsFrontier L.Time.below L.Time.cmp right.items }
+        requires left { IsFrontier T.below T.cmp left.items }
+        requires right { IsFrontier T.below T.cmp right.items }
         ensures { result ≡ record {
           key = key;
           left = left.items;
@@ -89,18 +91,18 @@ impl<L: Trace, R: Trace<Time = L::Time>> JoinState<L, R> {
 
     /// The boundary up to which the left side was acknowledged. The reader's hold on the left trace has to keep it.
     /// Takes no memory.
-    pub fn left(&self) -> &[L::Time]
+    pub fn left(&self) -> &[T]
         ensures value { result.now ≡ self.now.left }
-        ensures frontier { IsFrontier L.Time.below L.Time.cmp self.now.left }
+        ensures frontier { IsFrontier T.below T.cmp self.now.left }
     {
         self.left.as_slice()
     }
 
     /// The boundary up to which the right side was acknowledged. The reader's hold on the right trace has to keep it.
     /// Takes no memory.
-    pub fn right(&self) -> &[L::Time]
+    pub fn right(&self) -> &[T]
         ensures value { result.now ≡ self.now.right }
-        ensures frontier { IsFrontier L.Time.below L.Time.cmp self.now.right }
+        ensures frontier { IsFrontier T.below T.cmp self.now.right }
     {
         self.right.as_slice()
     }
@@ -134,39 +136,39 @@ impl<L: Trace, R: Trace<Time = L::Time>> JoinState<L, R> {
         alloc: Global,
         batch: &L::Batch,
         right: &R,
-    ) -> Result<Vec<Update<L::Time>>, Refusal>
+    ) -> Result<Vec<Update<T>>, Refusal>
         requires own { (L.Batch.described batch.now).lower ≡ self.old.left }
         requires readable { Contains (R.ends right.now) self.old.right }
-        requires later { IsTrue (all_times_beyond L.Time.below (R.held right.now)
+        requires later { IsTrue (all_times_beyond T.below (R.held right.now)
             (L.Batch.content batch.now)) }
         requires wide { IsTrue (list_all (λ u. is_wide self.old.key u.row)
             (L.Batch.content batch.now)) }
         requires narrow { IsTrue (list_all
             (λ u. list_all (λ v. fits self.old.key u v) (R.content right.now))
             (L.Batch.content batch.now)) }
-        ensures consolidated { IfOk result (λ out. IsConsolidated L.Time.cmp out.items) }
-        ensures sums { (got : List (Update L.Time))
+        ensures consolidated { IfOk result (λ out. IsConsolidated T.cmp out.items) }
+        ensures sums { (got : List (Update T))
             → WereInserted (R.stands right.now) (R.start right.now) self.old.right got
-            → IfOk result (λ out. (t : L.Time)
-            → Alike (as_of L.Time.below t out.items)
-            (as_of L.Time.below t
-            (pairs L.Time.joined self.old.key (L.Batch.content batch.now) got))) }
-        ensures totals { (got : List (Update L.Time))
+            → IfOk result (λ out. (t : T)
+            → Alike (as_of T.below t out.items)
+            (as_of T.below t
+            (pairs T.joined self.old.key (L.Batch.content batch.now) got))) }
+        ensures totals { (got : List (Update T))
             → WereInserted (R.stands right.now) (R.start right.now) self.old.right got
-            → IfOk result (λ out. (p : List ℤ → L.Time → Bool)
+            → IfOk result (λ out. (p : List ℤ → T → Bool)
             → total_where p out.items
-            ≡ total_where p (pairs L.Time.joined self.old.key (L.Batch.content batch.now) got)) }
-        ensures load { (got : List (Update L.Time))
+            ≡ total_where p (pairs T.joined self.old.key (L.Batch.content batch.now) got)) }
+        ensures load { (got : List (Update T))
             → WereInserted (R.stands right.now) (R.start right.now) self.old.right got
             → IfOk result (λ out. size out.items
             ≤ size (L.Batch.content batch.now) * size got) }
-        ensures exact { (got : List (Update L.Time))
+        ensures exact { (got : List (Update T))
             → WereInserted (R.stands right.now) (R.start right.now) self.old.right got
-            → OnOk result (HasLargeTotal L.Time.below
-            (pairs L.Time.joined self.old.key (L.Batch.content batch.now) got) → ⊥) }
-        ensures beyond { IfOk result (λ out. (G : List L.Time)
-            → IsTrue (all_times_beyond L.Time.below G (L.Batch.content batch.now))
-            → IsTrue (all_times_beyond L.Time.below G out.items)) }
+            → OnOk result (HasLargeTotal T.below
+            (pairs T.joined self.old.key (L.Batch.content batch.now) got) → ⊥) }
+        ensures beyond { IfOk result (λ out. (G : List T)
+            → IsTrue (all_times_beyond T.below G (L.Batch.content batch.now))
+            → IsTrue (all_times_beyond T.below G out.items)) }
         ensures width { IfOk result (λ out. (w v : ℕ)
             → IsTrue (all_rows_have w (L.Batch.content batch.now))
             → IsTrue (all_rows_have v (R.content right.now))
@@ -178,10 +180,10 @@ impl<L: Trace, R: Trace<Time = L::Time>> JoinState<L, R> {
           looked = self.new.looked;
         }) }
         ensures looked { OnOk result (self.new.looked ≡ min (self.old.looked
-            + length (pairs L.Time.joined self.old.key (L.Batch.content batch.now)
+            + length (pairs T.joined self.old.key (L.Batch.content batch.now)
             (R.stored_to right.now self.old.right))) (2 ^ 64 - 1)) }
         ensures same { OnErr result (self.new ≡ self.old) }
-        ensures refused { IfErr result (IsMemoryOrOverflow ((got : List (Update L.Time))
+        ensures refused { IfErr result (IsMemoryOrOverflow ((got : List (Update T))
             → WereInserted (R.stands right.now) (R.start right.now) self.old.right got
             → 2 ^ 63 ≤ size (L.Batch.content batch.now) * size got)) }
     {
@@ -201,39 +203,39 @@ impl<L: Trace, R: Trace<Time = L::Time>> JoinState<L, R> {
         alloc: Global,
         batch: &R::Batch,
         left: &L,
-    ) -> Result<Vec<Update<L::Time>>, Refusal>
+    ) -> Result<Vec<Update<T>>, Refusal>
         requires own { (R.Batch.described batch.now).lower ≡ self.old.right }
         requires readable { Contains (L.ends left.now) self.old.left }
-        requires later { IsTrue (all_times_beyond L.Time.below (L.held left.now)
+        requires later { IsTrue (all_times_beyond T.below (L.held left.now)
             (R.Batch.content batch.now)) }
         requires wide { IsTrue (list_all (λ u. is_wide self.old.key u.row)
             (R.Batch.content batch.now)) }
         requires narrow { IsTrue (list_all
             (λ v. list_all (λ u. fits self.old.key u v) (L.content left.now))
             (R.Batch.content batch.now)) }
-        ensures consolidated { IfOk result (λ out. IsConsolidated L.Time.cmp out.items) }
-        ensures sums { (got : List (Update L.Time))
+        ensures consolidated { IfOk result (λ out. IsConsolidated T.cmp out.items) }
+        ensures sums { (got : List (Update T))
             → WereInserted (L.stands left.now) (L.start left.now) self.old.left got
-            → IfOk result (λ out. (t : L.Time)
-            → Alike (as_of L.Time.below t out.items)
-            (as_of L.Time.below t
-            (pairs L.Time.joined self.old.key got (R.Batch.content batch.now)))) }
-        ensures totals { (got : List (Update L.Time))
+            → IfOk result (λ out. (t : T)
+            → Alike (as_of T.below t out.items)
+            (as_of T.below t
+            (pairs T.joined self.old.key got (R.Batch.content batch.now)))) }
+        ensures totals { (got : List (Update T))
             → WereInserted (L.stands left.now) (L.start left.now) self.old.left got
-            → IfOk result (λ out. (p : List ℤ → L.Time → Bool)
+            → IfOk result (λ out. (p : List ℤ → T → Bool)
             → total_where p out.items
-            ≡ total_where p (pairs L.Time.joined self.old.key got (R.Batch.content batch.now))) }
-        ensures load { (got : List (Update L.Time))
+            ≡ total_where p (pairs T.joined self.old.key got (R.Batch.content batch.now))) }
+        ensures load { (got : List (Update T))
             → WereInserted (L.stands left.now) (L.start left.now) self.old.left got
             → IfOk result (λ out. size out.items
             ≤ size got * size (R.Batch.content batch.now)) }
-        ensures exact { (got : List (Update L.Time))
+        ensures exact { (got : List (Update T))
             → WereInserted (L.stands left.now) (L.start left.now) self.old.left got
-            → OnOk result (HasLargeTotal L.Time.below
-            (pairs L.Time.joined self.old.key got (R.Batch.content batch.now)) → ⊥) }
-        ensures beyond { IfOk result (λ out. (G : List L.Time)
-            → IsTrue (all_times_beyond L.Time.below G (R.Batch.content batch.now))
-            → IsTrue (all_times_beyond L.Time.below G out.items)) }
+            → OnOk result (HasLargeTotal T.below
+            (pairs T.joined self.old.key got (R.Batch.content batch.now)) → ⊥) }
+        ensures beyond { IfOk result (λ out. (G : List T)
+            → IsTrue (all_times_beyond T.below G (R.Batch.content batch.now))
+            → IsTrue (all_times_beyond T.below G out.items)) }
         ensures width { IfOk result (λ out. (w v : ℕ)
             → IsTrue (all_rows_have w (L.content left.now))
             → IsTrue (all_rows_have v (R.Batch.content batch.now))
@@ -245,10 +247,10 @@ impl<L: Trace, R: Trace<Time = L::Time>> JoinState<L, R> {
           looked = self.new.looked;
         }) }
         ensures looked { OnOk result (self.new.looked ≡ min (self.old.looked
-            + length (pairs L.Time.joined self.old.key (L.stored_to left.now self.old.left)
+            + length (pairs T.joined self.old.key (L.stored_to left.now self.old.left)
             (R.Batch.content batch.now))) (2 ^ 64 - 1)) }
         ensures same { OnErr result (self.new ≡ self.old) }
-        ensures refused { IfErr result (IsMemoryOrOverflow ((got : List (Update L.Time))
+        ensures refused { IfErr result (IsMemoryOrOverflow ((got : List (Update T))
             → WereInserted (L.stands left.now) (L.start left.now) self.old.left got
             → 2 ^ 63 ≤ size got * size (R.Batch.content batch.now))) }
     {
