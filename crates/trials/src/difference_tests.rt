@@ -14,7 +14,7 @@ use update::{Bag, Refusal, Update};
 type Change = ((u64, u64), &'static [i64], i64);
 
 // The differences of the plan's last node, once all inputs are closed.
-fn listed(
+pub(crate) fn listed(
     rt: &impl Abort,
     alloc: Global,
     plan: &Plan,

@@ -23,6 +23,8 @@ mod difference_tests;
 #[cfg(test)]
 mod grammar_tests;
 #[cfg(test)]
+mod join_tests;
+#[cfg(test)]
 mod lattice_tests;
 #[cfg(test)]
 mod linear_tests;

@@ -90,6 +90,21 @@ pub(crate) fn reduction(alloc: Global, width: usize, kind: Kind) -> Result<Plan,
     )
 }
 
+/// The join of two inputs of two columns by the first one.
+pub(crate) fn join_of_two(alloc: Global) -> Result<Plan, Refusal> {
+    built(
+        alloc,
+        &[
+            input(2),
+            input(2),
+            arrange(0, 1),
+            arrange(1, 1),
+            join(2, 3),
+            view(4),
+        ],
+    )
+}
+
 /// A list of updates, each from its time, row and diff.
 pub(crate) fn list(
     alloc: Global,

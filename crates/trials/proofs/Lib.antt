@@ -1,0 +1,2 @@
+-- Lemmas of tests.
+pub mod ReadyLemmas
