@@ -178,7 +178,12 @@ fn from_left(
 ) -> Result<Vec<Update<Bitime>>, Refusal> {
     let right = trace_of(alloc, right)?;
     let batch = batch_of(alloc, (0, 0), (8, 8), left)?;
-    take_left(&mut join_from(alloc, 1, (0, 0), (8, 8))?, alloc, &batch, &right)
+    take_left(
+        &mut join_from(alloc, 1, (0, 0), (8, 8))?,
+        alloc,
+        &batch,
+        &right,
+    )
 }
 
 // What the right changes make as a new batch, if the left ones were acknowledged.
@@ -189,7 +194,12 @@ fn from_right(
 ) -> Result<Vec<Update<Bitime>>, Refusal> {
     let left = trace_of(alloc, left)?;
     let batch = batch_of(alloc, (0, 0), (8, 8), right)?;
-    take_right(&mut join_from(alloc, 1, (8, 8), (0, 0))?, alloc, &batch, &left)
+    take_right(
+        &mut join_from(alloc, 1, (8, 8), (0, 0))?,
+        alloc,
+        &batch,
+        &left,
+    )
 }
 
 // The pairs are the same whichever side comes last.
@@ -219,6 +229,56 @@ fn pairs_are_at_joined_times(rt: HostRuntime) -> Result<(), Fail> {
     Ok(())
 }
 
+// What was inserted at (3, 0) may be stored at (3, 4), as of {(0, 4)}. A batch whose times are beyond that frontier has
+// the same pairs with both.
+#[test]
+fn moved_times_give_the_same_pairs(rt: HostRuntime) -> Result<(), Fail> {
+    let left: &[Change] = &[((2, 4), &[1, 5], 1)];
+    let pair: &[Change] = &[((3, 4), &[1, 5, 6], 1)];
+    assert_pairs(&rt, rt.alloc(), left, &[((3, 0), &[1, 6], 1)], pair)?;
+    assert_pairs(&rt, rt.alloc(), left, &[((3, 4), &[1, 6], 1)], pair)?;
+    Ok(())
+}
+
+// A row at each of the times (0, 0) to (99, 0).
+fn at_each_time(alloc: Global, row: &[i64]) -> Result<Vec<Update<Bitime>>, Refusal> {
+    let mut changes = Vec::new(alloc);
+    for i in 0..100 {
+        let row = Row::new(alloc, row)?;
+        changes.push(Update {
+            time: at((i, 0)),
+            row,
+            diff: 1,
+        })?;
+    }
+    Ok(changes)
+}
+
+// Ten thousand pairs have a hundred times. At (i, 0) there are those of the late update with all up to it, and of all
+// up to it with the late one: 2 i and 1.
+#[test]
+fn pairs_of_one_time_become_one(rt: HostRuntime) -> Result<(), Fail> {
+    let left = sealed(
+        rt.alloc(),
+        (0, 0),
+        (100, 0),
+        &at_each_time(rt.alloc(), &[1, 5])?,
+    )?;
+    let right = sealed(
+        rt.alloc(),
+        (0, 0),
+        (100, 0),
+        &at_each_time(rt.alloc(), &[1, 6])?,
+    )?;
+    let mut trace = BatchList::new(rt.alloc(), 0, 0)?;
+    insert(&mut trace, right)?;
+    let mut state = join_from(rt.alloc(), 1, (0, 0), (100, 0))?;
+    let pairs = take_left(&mut state, rt.alloc(), &left, &trace)?;
+    assert!(rt; pairs.len() == 100 && state.looked() == 10_000);
+    assert!(rt; matches!(pairs.last(), Some(last) if last.time == at((99, 0)) && last.diff == 199));
+    Ok(())
+}
+
 // Weights are multiplied as 64-bit numbers. What does not fit is refused, and the join has not moved.
 #[test]
 fn large_products_are_refused(rt: HostRuntime) -> Result<(), Fail> {
@@ -229,7 +289,9 @@ fn large_products_are_refused(rt: HostRuntime) -> Result<(), Fail> {
     let batch = batch_of(rt.alloc(), (0, 0), (8, 8), large)?;
     let mut state = join_from(rt.alloc(), 1, (0, 0), (8, 8))?;
     assert!(rt; take_left(&mut state, rt.alloc(), &batch, &right) == Err(Refusal::Overflow));
-    assert!(rt; state.left() == [at((0, 0))].as_slice() && state.right() == [at((8, 8))].as_slice());
+    assert!(rt;
+        state.left() == [at((0, 0))].as_slice() && state.right() == [at((8, 8))].as_slice()
+    );
     assert!(rt; state.looked() == 0);
     Ok(())
 }
@@ -258,7 +320,9 @@ fn what_is_not_acknowledged_is_not_paired(rt: HostRuntime) -> Result<(), Fail> {
     let batch = batch_of(rt.alloc(), (0, 0), (4, 4), seven)?;
     let mut state = join_from(rt.alloc(), 1, (0, 0), (0, 0))?;
     assert!(rt; take_left(&mut state, rt.alloc(), &batch, &right)?.is_empty());
-    assert!(rt; state.left() == [at((4, 4))].as_slice() && state.right() == [at((0, 0))].as_slice());
+    assert!(rt;
+        state.left() == [at((4, 4))].as_slice() && state.right() == [at((0, 0))].as_slice()
+    );
     Ok(())
 }
 
@@ -289,8 +353,14 @@ fn take_own_right(
 // A table of two batches.
 fn two_sevens(alloc: Global) -> Result<BatchList<Bitime>, Refusal> {
     let mut trace = BatchList::new(alloc, 0, 0)?;
-    insert(&mut trace, batch_of(alloc, (0, 0), (1, 0), &[((0, 1), &[7], 1)])?)?;
-    insert(&mut trace, batch_of(alloc, (1, 0), (2, 0), &[((1, 0), &[7], 1)])?)?;
+    insert(
+        &mut trace,
+        batch_of(alloc, (0, 0), (1, 0), &[((0, 1), &[7], 1)])?,
+    )?;
+    insert(
+        &mut trace,
+        batch_of(alloc, (1, 0), (2, 0), &[((1, 0), &[7], 1)])?,
+    )?;
     Ok(trace)
 }
 
@@ -489,7 +559,12 @@ fn drawn_round(alloc: Global, draws: &mut Draws) -> Result<Round, Refusal> {
 
 // Checks that all pairs of a round are the differences of the plain query.
 fn assert_round(rt: &impl Abort, alloc: Global, draws: &mut Draws) -> Result<(), Refusal> {
-    let Round { left, right, pairs, .. } = drawn_round(alloc, draws)?;
+    let Round {
+        left,
+        right,
+        pairs,
+        ..
+    } = drawn_round(alloc, draws)?;
     let plan = join_of_two(alloc)?;
     let want = listed(rt, alloc, &plan, &[left.changes, right.changes])?;
     assert!(rt; consolidate(pairs)?.as_slice() == want.as_slice());
