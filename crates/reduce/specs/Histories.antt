@@ -1,0 +1,59 @@
+-- What a contract sees of a reduction: the history of each key, and which keys wait.
+use Rattle.std.specs.Prelude.{◌≡◌, ◌↔◌, ◌<◌, ℕ, Bool, false, List, [], ◌∷◌, ℤ, IsTrue, length, ⊤, if◌then◌else◌, flat_map, slice_get, Some}
+use Rattle.std.specs.List.{list_all, list_any}
+use Rattle.std.specs.List.Sorted.{IsStrictlySortedBy}
+use Rattle.std.specs.declared.cmp.Ordering.{Ordering}
+use Rattle.update.specs.Bags.{Entry, same_row}
+use Rattle.update.specs.declared.change.Update.{Update}
+use Rattle.reduce.specs.Joined.{Member, of_key, IsJoined}
+use Rattle.reduce.specs.Standing.{are_wide, KeyStands, IsSettledAt, Shows}
+
+-- a key, its joined times, which of them are pending, and what was given of it
+pub record HistoryState (T : Type 0) : Type 0 where
+  pub key : List ℤ
+  pub times : List T
+  pub due : List T
+  pub given : List (Update T)
+
+-- the number of columns of a key, the reducer, the history of each key, the places of the keys that have pending times,
+-- and how many updates were read
+pub record ReduceView (T R : Type 0) : Type 0 where
+  pub key : ℕ
+  pub reducer : R
+  pub histories : List (HistoryState T)
+  pub waiting : List ℕ
+  pub looked : ℕ
+
+module _ {T : Type 0} where
+  -- what the histories have of a key: of a key without a history nothing
+  abbrev pub of_history : {X : Type 0} → (HistoryState T → List X) → List ℤ → List (HistoryState T) → List X
+  of_history f key hs = flat_map (λ h. if same_row h.key key then f h else []) hs
+
+  -- the pending times of a key
+  abbrev pub due_of : List ℤ → List (HistoryState T) → List T
+  due_of = of_history (λ h. h.due)
+
+  -- the joined times of a key
+  abbrev pub joined_of : List ℤ → List (HistoryState T) → List T
+  joined_of = of_history (λ h. h.times)
+
+  -- what was given of a key
+  abbrev pub given_of : List ℤ → List (HistoryState T) → List (Update T)
+  given_of = of_history (λ h. h.given)
+
+  -- each key once
+  abbrev pub AreKeysApart : List (HistoryState T) → Type 0
+  AreKeysApart [] = ⊤
+  AreKeysApart (h ∷ hs) = (list_any (λ g. same_row h.key g.key) hs ≡ false) × AreKeysApart hs
+
+  -- a history of a key of k columns: times in order, each once, and only rows of the key
+  pub record IsHistory (cmp : T → T → Ordering) (k : ℕ) (h : HistoryState T) : Type 0 where
+    pub width : length h.key ≡ k
+    pub times : IsStrictlySortedBy cmp h.times
+    pub due : IsStrictlySortedBy cmp h.due
+    pub keyed : IsTrue (list_all (of_key k h.key) h.given)
+
+  -- each of them is one
+  abbrev pub AreHistories : (T → T → Ordering) → ℕ → List (HistoryState T) → Type 0
+  AreHistories cmp k [] = ⊤
+  AreHistories cmp k (h ∷ hs) = IsHistory cmp k h × AreHistories cmp k hs

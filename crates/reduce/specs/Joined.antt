@@ -1,0 +1,32 @@
+-- The times at which the answer for a key can change: the joins of the times of its updates (McSherry et al.,
+-- Differential Dataflow, CIDR 2013).
+use Rattle.std.specs.Prelude.{◌≡◌, ℕ, Bool, List, [], ◌∷◌, ℤ, map, take, ◌⊎◌}
+use Rattle.std.specs.List.{filter}
+use Rattle.update.specs.Bags.{same_row}
+use Rattle.update.specs.Joins.{joins_of}
+use Rattle.update.specs.declared.change.Update.{Update}
+
+-- x is one of these
+abbrev pub Member : {X : Type 0} → X → List X → Type 0
+Member x [] = ⊥
+Member x (y ∷ ys) = (x ≡ y) ⊎ Member x ys
+
+module _ {T : Type 0} where
+  -- the update's row begins with the key, of k columns
+  abbrev pub of_key : ℕ → List ℤ → Update T → Bool
+  of_key k key u = same_row (take k u.row) key
+
+  -- the times of a key's updates
+  abbrev pub times_of : ℕ → List ℤ → List (Update T) → List T
+  times_of k key us = map (λ u. u.time) (filter (of_key k key) us)
+
+module _ {T : Type 0} (joined : T → T → T) where
+  -- t is a joined time of the key: the join of a set of times of its updates
+  abbrev pub IsJoined : ℕ → List (Update T) → List ℤ → T → Type 0
+  IsJoined k us key t = Member t (joins_of joined (times_of k key us))
+
+  -- t is the join of a set of new and old times that holds a new one
+  abbrev pub IsFresh : List T → List T → T → Type 0
+  IsFresh new old t =
+      Member t (joins_of joined new)
+      ⊎ ((a : T) × (b : T) × Member a (joins_of joined new) × Member b (joins_of joined old) × (joined a b ≡ t))

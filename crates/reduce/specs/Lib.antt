@@ -1,0 +1,7 @@
+-- The definitions of a reduction, with those of orders and frontiers that its contracts name.
+pub use Rattle.lattice.specs.Order
+pub use Rattle.lattice.specs.Frontiers
+pub mod Joined
+pub mod Standing
+pub mod Histories
+pub mod Corrections

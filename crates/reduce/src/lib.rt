@@ -1,0 +1,8 @@
+//! Reductions that are kept up to date: count, distinct, min and max, or any reducer.
+#![tactic(auto)]
+
+mod history;
+mod reducer;
+
+pub use history::KeyHistory;
+pub use reducer::Reducer;

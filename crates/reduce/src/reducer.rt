@@ -1,0 +1,40 @@
+//! What a reduction answers for a key. A reducer sees the rows of one key as a bag, at one time, and knows of no times.
+//! Its meaning is a function of the key and the bag. So whatever updates sum to the bag, the answer is the same.
+ghost use Rattle.std.specs.Prelude.{◌≤◌, IfOk, IfErr, IsTrue, length};
+ghost use Rattle.std.specs.List.{list_all};
+ghost use Rattle.update.specs.Bags.{Alike, IsBag};
+ghost use Rattle.update.specs.Refusals.{IsMemoryOrOverflow};
+ghost use Rattle.plan.specs.Reductions.{has_key};
+ghost use Rattle.reduce.specs.Corrections.{IsTooLarge};
+
+use std::alloc::Global;
+use update::{Bag, Refusal};
+
+/// A function from a key and the bag of its rows to the bag that is answered for the key.
+///
+/// The ghost member `reduces` says which function it is. Its laws are those of every reduction of a plan: alike bags get
+/// alike answers, an empty bag gets an empty answer, and each row of an answer begins with the key.
+pub trait Reducer {
+    ghost use Rattle.std.specs.Prelude.{ℕ, ℤ, List};
+    ghost use Rattle.update.specs.Bags.{Entry};
+    ghost use Rattle.plan.specs.Reductions.{IsReducer};
+
+    ghost reduces: { Self → List ℤ → List Entry → List Entry };
+
+    /// The answer for a key of 1 to 8 columns from its rows, each of which begins with the key; so does each row of the
+    /// answer.
+    ///
+    /// - [`Refusal::Overflow`] only if the absolute counts of the rows add up to 2^63 or more, however the bag is written.
+    /// - [`Refusal::OutOfMemory`] only if memory for the answer was refused.
+    fn reduce(&self, alloc: Global, key: &[i64], rows: &Bag) -> Result<Bag, Refusal>
+        requires some { 1 ≤ length key.now }
+        requires few { length key.now ≤ 8 }
+        requires keyed { IsTrue (list_all (has_key (length key.now) key.now) rows.now) }
+        ensures value { IfOk result (λ bag. Alike bag (reduces self.now key.now rows.now)) }
+        ensures bag { IfOk result IsBag }
+        ensures keyed { IfOk result
+            (λ bag. IsTrue (list_all (has_key (length key.now) key.now) bag)) }
+        ensures refused { IfErr result (IsMemoryOrOverflow (IsTooLarge rows.now)) };
+
+    ghost laws: { (self : Self) (k : ℕ) → IsReducer k (reduces self) };
+}
