@@ -1,12 +1,11 @@
 -- What a contract sees of a reduction: the history of each key, and which keys wait.
-use Rattle.std.specs.Prelude.{◌≡◌, ◌↔◌, ◌<◌, ℕ, Bool, false, List, [], ◌∷◌, ℤ, IsTrue, length, ⊤, if◌then◌else◌, flat_map, slice_get, Some}
+use Rattle.std.specs.Prelude.{◌≡◌, ℕ, false, List, [], ◌∷◌, ℤ, IsTrue, length, ⊤, if◌then◌else◌, flat_map}
 use Rattle.std.specs.List.{list_all, list_any}
 use Rattle.std.specs.List.Sorted.{IsStrictlySortedBy}
 use Rattle.std.specs.declared.cmp.Ordering.{Ordering}
-use Rattle.update.specs.Bags.{Entry, same_row}
+use Rattle.update.specs.Bags.{same_row}
 use Rattle.update.specs.declared.change.Update.{Update}
-use Rattle.reduce.specs.Joined.{Member, of_key, IsJoined}
-use Rattle.reduce.specs.Standing.{are_wide, KeyStands, IsSettledAt, Shows}
+use Rattle.reduce.specs.Joined.{of_key}
 
 -- a key, its joined times, which of them are pending, and what was given of it
 pub record HistoryState (T : Type 0) : Type 0 where

@@ -1,6 +1,6 @@
 -- What a reduction is to keep of each key: which of its joined times are pending, and that at each other one the
 -- updates that were given are right.
-use Rattle.std.specs.Prelude.{◌≡◌, ℕ, ◌≤◌, Bool, true, List, ℤ, IsTrue, length, take, nat_le, ◌⊎◌}
+use Rattle.std.specs.Prelude.{◌≡◌, ℕ, ◌≤◌, Bool, true, List, ℤ, length, take, nat_le, ◌⊎◌}
 use Rattle.std.specs.List.{filter, list_all}
 use Rattle.update.specs.Bags.{Entry, count_of, same_row}
 use Rattle.update.specs.Updates.{as_of, size}
