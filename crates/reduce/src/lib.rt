@@ -1,6 +1,7 @@
 //! Reductions that are kept up to date: count, distinct, min and max, or any reducer.
 #![tactic(auto)]
 
+mod correcting;
 mod history;
 mod reducer;
 
