@@ -91,7 +91,7 @@ put_more {T} t bag i row count a b = ap (λ n. put t (take n bag)) (add-one i) �
 
 -- ---- one of many updates
 
-weight-append : {T : Type 0} (us vs : List (Update T)) → weight (us ++ vs) ≡ weight us + weight vs
+pub weight-append : {T : Type 0} (us vs : List (Update T)) → weight (us ++ vs) ≡ weight us + weight vs
 weight-append [] vs = omega arith
 weight-append (u ∷ us) vs = let h = weight-append us vs in omega (arith, h)
 

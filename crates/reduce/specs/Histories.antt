@@ -56,3 +56,8 @@ module _ {T : Type 0} where
   abbrev pub AreHistories : (T → T → Ordering) → ℕ → List (HistoryState T) → Type 0
   AreHistories cmp k [] = ⊤
   AreHistories cmp k (h ∷ hs) = IsHistory cmp k h × AreHistories cmp k hs
+
+-- the histories in order of arrival, and how many more there is room for
+pub record HistoriesState (T : Type 0) : Type 0 where
+  pub items : List (HistoryState T)
+  pub spare : ℕ

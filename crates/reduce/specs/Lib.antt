@@ -5,3 +5,5 @@ pub mod Joined
 pub mod Standing
 pub mod Histories
 pub mod Corrections
+pub mod Owing
+pub mod Settling

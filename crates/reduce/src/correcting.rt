@@ -6,7 +6,7 @@ ghost use Rattle.std.specs.Prelude.{◌≡◌, ◌⊎◌, ◌≤◌, ◌++◌, �
 ghost use Rattle.std.specs.List.{list_all, filter};
 ghost use Rattle.update.specs.Bags.{Alike, Entry};
 ghost use Rattle.update.specs.Refusals.{IsMemoryOrOverflow};
-ghost use Rattle.update.specs.Updates.{as_of, size};
+ghost use Rattle.update.specs.Updates.{as_of, size, HasLargeTotal};
 ghost use Rattle.update.specs.declared.change.Update.{Update};
 ghost use Rattle.update.specs.declared.refusal.Refusal.{Refusal};
 ghost use Rattle.plan.specs.Operators.{negated_entry};
@@ -140,6 +140,7 @@ pub(crate) fn correct<T: Lattice, R: Reducer>(
         → rows.now ≡ filter (of_key (length key.now) key.now) content
         → Corrects T.below (length key.now) (R.reduces reducer.now) content
         (given.now ++ so_far.now) key.now time more.items) }
+    ensures exact { IfOk result (λ more. HasLargeTotal T.below more.items → ⊥) }
     ensures refused { IfErr result (IsMemoryOrOverflow ((content : List (Update T))
         → rows.now ≡ filter (of_key (length key.now) key.now) content
         → IsTooMuch T.below (length key.now) (R.reduces reducer.now) content

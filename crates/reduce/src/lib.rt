@@ -2,8 +2,11 @@
 #![tactic(auto)]
 
 mod correcting;
+mod histories;
 mod history;
+mod reading;
 mod reducer;
+mod settling;
 
 pub use history::KeyHistory;
 pub use reducer::Reducer;

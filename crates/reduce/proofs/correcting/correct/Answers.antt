@@ -1,11 +1,12 @@
-use Rattle.std.proofs.Common.{◌≡◌, ◌++◌, [], length, sym, ◌∙◌, ap, subst, inl, inr, ⊎_elim, map}
+use Rattle.update.specs.Bags.{same_row}
+use Rattle.std.proofs.Common.{◌&&◌, FitsSigned, w64, ◌≡◌, ◌++◌, [], length, sym, ◌∙◌, ap, subst, inl, inr, ⊎_elim, map}
 use Rattle.std.specs.Prelude.{IsTrue}
 use Rattle.std.specs.List.{list_all}
 use Rattle.update.specs.Bags.{Alike}
-use Rattle.update.specs.Updates.{as_of, size, HasLargeTotal}
+use Rattle.update.specs.Updates.{as_of, HasLargeTotal}
 use Rattle.plan.specs.Operators.{negated_entry}
 use Rattle.reduce.specs.Corrections.{put}
-use Rattle.reduce.proofs.ResultLemmas.{passed_on, ok_both, err_with}
+use Rattle.reduce.proofs.ResultLemmas.{passed_on, ok_both, ok_without, err_with}
 use Rattle.reduce.proofs.KeyedLemmas.{had_own, own_kept, both_own}
 use Rattle.reduce.proofs.CorrectionLemmas.{change}
 use Rattle.reduce.proofs.CorrectLemmas.{corrects, too_large, too_far}
@@ -54,3 +55,9 @@ returns-clause-refused g c =
     err_with c.consolidate.result
     (λ refused h x. inr (h, λ content rows. too_far o k key t (g.R.Reducer.reduces c.args.reducer.now) content given c.args.rows.now want rows c.in_ok-bag.ensures.value c.in_ok-bag.ensures.keyed (subst (λ z. HasLargeTotal below z) draft x)))
     c.consolidate.ensures.overflow.0 c.consolidate.ensures.only
+
+pub returns-clause-exact : goal.returns-clause-exact
+returns-clause-exact g c =
+    ok_without c.consolidate.result c.consolidate.ensures.overflow.1
+    (λ more totals small h. small (h.0, h.1, λ f. h.2 (subst (FitsSigned w64) (sym (totals (λ r s. same_row r h.0 && (g.T.PartialOrder.below s h.1 && g.T.PartialOrder.below h.1 s)))) f)))
+    c.consolidate.ensures.totals

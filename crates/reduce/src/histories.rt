@@ -1,0 +1,125 @@
+//! The histories of all keys, in order of arrival. A key is found by one look-up of its hash, so a search does not get
+//! slower as keys are added.
+//!
+//! A set holds the keys, and a list holds the histories. The invariant: key `i` of the set is the key of history `i`, and
+//! no key occurs twice. No history is ever removed. So the index of a history never changes, and other tables can refer
+//! to a history by its index.
+//!
+//! Only [`Histories::reserve`] takes memory. A caller reserves room first, and then no later step can be refused.
+ghost use Rattle.std.specs.Prelude.{◌≡◌, ◌≤◌, ◌<◌, ◌+◌, ◌++◌, ◌∷◌, [], None, false, IfErr, IfSome, IsSomeAnd, OnOk, length, set, slice_get};
+ghost use Rattle.std.specs.List.{list_any};
+ghost use Rattle.update.specs.Bags.{same_row};
+ghost use Rattle.update.specs.declared.refusal.Refusal.{Refusal};
+ghost use Rattle.reduce.specs.Histories.{AreKeysApart};
+
+use crate::history::KeyHistory;
+use indexmap::IndexSet;
+use lattice::Lattice;
+use row::Row;
+use std::alloc::Global;
+use std::marker::Model;
+use update::Refusal;
+
+/// The histories of all keys, each key once. A contract sees the histories in order of arrival, and how many more there
+/// is room for.
+#[derive(Drop)]
+pub(crate) struct Histories<T> {
+    // The key of each history, at the same index.
+    keys: IndexSet<Row>,
+    histories: Vec<KeyHistory<T>>,
+}
+
+impl<T> Model for Histories<T> {
+    ghost use Rattle.std.specs.Prelude.{◌≡◌, ◌-◌, map, min, vec_capacity, vec_len};
+    ghost use Rattle.indexmap.specs.IndexSet.{spare};
+    ghost use Rattle.reduce.specs.Histories.{HistoriesState, AreKeysApart};
+
+    ghost Value = { HistoriesState T };
+
+    ghost view = { λ s. record {
+      items = s.histories.items;
+      spare = min (spare s.keys) (vec_capacity s.histories - vec_len s.histories);
+    } };
+
+    ghost invariant = { λ s. (s.keys.keys ≡ map (λ h. h.key) s.histories.items)
+        × AreKeysApart s.histories.items };
+}
+
+impl<T: Lattice> Histories<T> {
+    /// No histories. Takes no memory.
+    pub(crate) fn new(alloc: Global) -> Histories<T>
+        ensures { result.items ≡ [] }
+    {
+        Histories {
+            keys: IndexSet::new(alloc),
+            histories: Vec::new(alloc),
+        }
+    }
+
+    /// The number of histories. Takes no memory.
+    pub(crate) fn len(&self) -> usize
+        ensures len { result ≡ length self.now.items }
+        ensures known { AreKeysApart self.now.items }
+    {
+        self.histories.len()
+    }
+
+    /// The index of the history of a key, if the key has one. Takes no memory.
+    ///
+    /// Cost: one look-up of a hash.
+    pub(crate) fn find(&self, key: &Row) -> Option<usize>
+        ensures within { IfSome result (λ i. i < length self.now.items) }
+        ensures found { IfSome result
+            (λ i. IsSomeAnd (slice_get self.now.items i) (λ h. h.key ≡ key.now)) }
+        ensures absent { result ≡ None
+            → list_any (λ h. same_row key.now h.key) self.now.items ≡ false }
+    {
+        self.keys.get_index_of(key)
+    }
+
+    /// The history at an index. Takes no memory.
+    pub(crate) fn get(&self, i: usize) -> &KeyHistory<T>
+        requires { i < length self.now.items }
+        ensures { IsSomeAnd (slice_get self.now.items i) (λ h. result.now ≡ h) }
+    {
+        &self.histories[i]
+    }
+
+    /// Makes room for `more` histories, so that as many calls of [`push`](Histories::push) take no memory. A call that is
+    /// refused changes no history, and no room is lost.
+    ///
+    /// [`Refusal::OutOfMemory`] only if memory for the keys or the histories was refused.
+    pub(crate) fn reserve(&mut self, more: usize) -> Result<(), Refusal>
+        ensures items { self.new.items ≡ self.old.items }
+        ensures room { OnOk result (more ≤ self.new.spare) }
+        ensures kept { self.old.spare ≤ self.new.spare }
+        ensures only { IfErr result (λ refused. refused ≡ Refusal.OutOfMemory) }
+    {
+        self.keys.reserve(more)?;
+        self.histories.reserve(more)?;
+        Ok(())
+    }
+
+    /// Appends the history of a new key. There must be room for it. Takes no memory.
+    ///
+    /// Cost: one look-up of a hash.
+    pub(crate) fn push(&mut self, history: KeyHistory<T>)
+        requires room { 1 ≤ self.old.spare }
+        requires new { list_any (λ h. same_row history.key h.key) self.old.items ≡ false }
+        ensures items { self.new.items ≡ self.old.items ++ history ∷ [] }
+        ensures room { self.old.spare ≤ self.new.spare + 1 }
+    {
+        self.keys.insert(history.key().copy()).unwrap();
+        self.histories.push(history).unwrap();
+    }
+
+    /// Replaces the history at an index by a new history of the same key. Takes no memory.
+    pub(crate) fn replace(&mut self, i: usize, history: KeyHistory<T>)
+        requires within { i < length self.old.items }
+        requires same { IsSomeAnd (slice_get self.old.items i) (λ h. h.key ≡ history.key) }
+        ensures items { self.new.items ≡ set self.old.items i history }
+        ensures room { self.new.spare ≡ self.old.spare }
+    {
+        self.histories[i] = history;
+    }
+}

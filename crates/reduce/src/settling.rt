@@ -1,0 +1,102 @@
+//! The pending times of one key, in `Ord` order. Those that the frontier has passed are corrected, and the others stay
+//! pending. The order extends the partial one, so at each correction all that was given up to that time is there, and no
+//! time that is still pending is at or before it. That is why one pass is enough.
+//!
+//! Nothing of the key's history is changed here. What is given is gathered aside.
+ghost use Rattle.std.specs.Prelude.{◌≡◌, ◌⊎◌, ◌≤◌, ◌++◌, false, IfOk, IfErr, OnOk, IsTrue, List, length};
+ghost use Rattle.std.specs.List.{filter, list_all};
+ghost use Rattle.std.specs.List.Sorted.{IsStrictlySortedBy};
+ghost use Rattle.lattice.specs.Frontiers.{is_beyond};
+ghost use Rattle.update.specs.Refusals.{IsMemoryOrOverflow};
+ghost use Rattle.update.specs.declared.change.Update.{Update};
+ghost use Rattle.update.specs.declared.refusal.Refusal.{Refusal};
+ghost use Rattle.reduce.specs.Joined.{of_key};
+ghost use Rattle.reduce.specs.Corrections.{IsTooMuch};
+ghost use Rattle.reduce.specs.Settling.{Steps, Settling, IsOverfullFor};
+
+use crate::correcting::correct;
+use crate::{KeyHistory, Reducer};
+use antichain::is_beyond;
+use lattice::Lattice;
+use std::alloc::Global;
+use update::{Refusal, Update};
+
+/// What is given of a key, and which of its times are still pending.
+#[derive(Drop)]
+pub(crate) struct Settled<T> {
+    pub(crate) given: Vec<Update<T>>,
+    pub(crate) due: Vec<T>,
+}
+
+// One pending time: it stays, or it is corrected.
+fn settle_time<T: Lattice, R: Reducer>(
+    alloc: Global,
+    reducer: &R,
+    history: &KeyHistory<T>,
+    frontier: &[T],
+    rows: &[Update<T>],
+    time: T,
+    settled: &mut Settled<T>,
+) -> Result<(), Refusal>
+    requires rows { IsTrue (list_all (of_key (length history.now.key) history.now.key) rows.now) }
+    requires given { IsTrue
+        (list_all (of_key (length history.now.key) history.now.key) history.now.given) }
+    requires settled { IsTrue (list_all (of_key (length history.now.key) history.now.key)
+        settled.old.given.items) }
+    ensures steps { OnOk result ((content : List (Update T))
+        → rows.now ≡ filter (of_key (length history.now.key) history.now.key) content
+        → Steps T.below T.joined (length history.now.key) (R.reduces reducer.now) history.now.key
+        content history.now.given frontier.now time settled.old.given.items
+        settled.new.given.items settled.old.due.items settled.new.due.items) }
+    ensures refused { IfErr result (IsMemoryOrOverflow
+        ((is_beyond T.below frontier.now time ≡ false) × ((content : List (Update T))
+        → rows.now ≡ filter (of_key (length history.now.key) history.now.key) content
+        → IsTooMuch T.below (length history.now.key) (R.reduces reducer.now) content
+        (history.now.given ++ settled.old.given.items) history.now.key time))) }
+{
+    if is_beyond(frontier, &time) {
+        settled.due.push(time)?;
+        return Ok(());
+    }
+    let key = history.key().columns();
+    let given = settled.given.as_slice();
+    let mut more = correct(alloc, reducer, key, time, rows, history.given(), given)?;
+    settled.given.append(&mut more)?;
+    Ok(())
+}
+
+/// What is given of a key at those of its pending times that the frontier has passed, if `rows` are the updates of its
+/// rows.
+///
+/// Cost: one comparison with the frontier for each pending time. For each one that has passed, that of
+/// [`correct`] with all rows and with all that was given of the key.
+pub(crate) fn settle_key<T: Lattice, R: Reducer>(
+    alloc: Global,
+    reducer: &R,
+    history: &KeyHistory<T>,
+    frontier: &[T],
+    rows: &[Update<T>],
+) -> Result<Settled<T>, Refusal>
+    requires ascending { IsStrictlySortedBy T.cmp history.now.due }
+    requires rows { IsTrue (list_all (of_key (length history.now.key) history.now.key) rows.now) }
+    requires given { IsTrue
+        (list_all (of_key (length history.now.key) history.now.key) history.now.given) }
+    ensures settled { IfOk result (λ settled. (content : List (Update T))
+        → rows.now ≡ filter (of_key (length history.now.key) history.now.key) content
+        → Settling T.below T.joined (length history.now.key) (R.reduces reducer.now)
+        history.now.key content history.now.given frontier.now history.now.due
+        (length history.now.due) settled.given.items settled.due.items) }
+    ensures refused { IfErr result (IsMemoryOrOverflow ((content : List (Update T))
+        → rows.now ≡ filter (of_key (length history.now.key) history.now.key) content
+        → IsOverfullFor T.below T.joined (length history.now.key) (R.reduces reducer.now)
+        history.now.key content history.now.given frontier.now history.now.due)) }
+{
+    let mut settled = Settled {
+        given: Vec::new(alloc),
+        due: Vec::new(alloc),
+    };
+    for time in history.due() {
+        settle_time(alloc, reducer, history, frontier, rows, *time, &mut settled)?;
+    }
+    Ok(settled)
+}
