@@ -1,10 +1,15 @@
-mod JoinedLemmas
-mod StandingLemmas
-pub mod HistoryLemmas
-mod KeyedLemmas
+mod AnswerLemmas
 mod ApartLemmas
 mod CorrectionLemmas
 mod CorrectLemmas
+mod CountLemmas
+mod DistinctLemmas
+mod ExtremeLemmas
+pub mod HistoryLemmas
+mod JoinedLemmas
+mod KeyedLemmas
 mod OverfullLemmas
-mod SettleLemmas
+mod ReadingLemmas
 mod ResultLemmas
+mod SettleLemmas
+mod StandingLemmas

@@ -1,11 +1,11 @@
 -- What a contract sees of a reduction: the history of each key, and which keys wait.
-use Rattle.std.specs.Prelude.{◌≡◌, ℕ, false, List, [], ◌∷◌, ℤ, IsTrue, length, ⊤, if◌then◌else◌, flat_map}
+use Rattle.std.specs.Prelude.{◌≡◌, ◌≢◌, ◌↔◌, ℕ, slice_get, IsSomeAnd, false, List, [], ◌∷◌, ℤ, IsTrue, length, ⊤, if◌then◌else◌, flat_map}
 use Rattle.std.specs.List.{list_all, list_any}
 use Rattle.std.specs.List.Sorted.{IsStrictlySortedBy}
 use Rattle.std.specs.declared.cmp.Ordering.{Ordering}
 use Rattle.update.specs.Bags.{same_row}
 use Rattle.update.specs.declared.change.Update.{Update}
-use Rattle.reduce.specs.Joined.{of_key}
+use Rattle.reduce.specs.Joined.{Member, AreOnce, of_key}
 
 -- a key, its joined times, which of them are pending, and what was given of it
 pub record HistoryState (T : Type 0) : Type 0 where
@@ -27,6 +27,10 @@ module _ {T : Type 0} where
   -- what the histories have of a key: of a key without a history nothing
   abbrev pub of_history : {X : Type 0} → (HistoryState T → List X) → List ℤ → List (HistoryState T) → List X
   of_history f key hs = flat_map (λ h. if same_row h.key key then f h else []) hs
+
+  -- the history of a key, or none
+  abbrev pub history_of : List ℤ → List (HistoryState T) → List (HistoryState T)
+  history_of = of_history (λ h. h ∷ [])
 
   -- the pending times of a key
   abbrev pub due_of : List ℤ → List (HistoryState T) → List T
@@ -56,6 +60,12 @@ module _ {T : Type 0} where
   abbrev pub AreHistories : (T → T → Ordering) → ℕ → List (HistoryState T) → Type 0
   AreHistories cmp k [] = ⊤
   AreHistories cmp k (h ∷ hs) = IsHistory cmp k h × AreHistories cmp k hs
+
+module _ {T : Type 0} where
+  -- the places of the histories that have pending times, each once
+  pub record IsWaiting (hs : List (HistoryState T)) (waiting : List ℕ) : Type 0 where
+    pub once : AreOnce waiting
+    pub exact : (i : ℕ) → Member i waiting ↔ IsSomeAnd (slice_get hs i) (λ h. h.due ≢ [])
 
 -- the histories in order of arrival, and how many more there is room for
 pub record HistoriesState (T : Type 0) : Type 0 where

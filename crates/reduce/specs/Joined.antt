@@ -11,6 +11,11 @@ abbrev pub Member : {X : Type 0} → X → List X → Type 0
 Member x [] = ⊥
 Member x (y ∷ ys) = (x ≡ y) ⊎ Member x ys
 
+-- each of these once
+abbrev pub AreOnce : {X : Type 0} → List X → Type 0
+AreOnce [] = Unit {0}
+AreOnce (x ∷ xs) = (Member x xs → ⊥) × AreOnce xs
+
 module _ {T : Type 0} where
   -- the update's row begins with the key, of k columns
   abbrev pub of_key : ℕ → List ℤ → Update T → Bool

@@ -5,5 +5,6 @@ pub mod Joined
 pub mod Standing
 pub mod Histories
 pub mod Corrections
+pub mod Kinds
 pub mod Owing
 pub mod Settling

@@ -1,12 +1,21 @@
 //! Reductions that are kept up to date: count, distinct, min and max, or any reducer.
 #![tactic(auto)]
 
+mod answers;
 mod correcting;
+mod count;
+mod distinct;
+mod extremes;
 mod histories;
 mod history;
+mod kinds;
 mod reading;
 mod reducer;
 mod settling;
 
+pub use count::Count;
+pub use distinct::Distinct;
+pub use extremes::{Max, Min};
 pub use history::KeyHistory;
+pub use kinds::kinds_are_reductions;
 pub use reducer::Reducer;

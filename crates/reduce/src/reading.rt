@@ -1,5 +1,5 @@
 //! The rows of one key in the batches of a trace, read once for all of the key's times.
-ghost use Rattle.std.specs.Prelude.{◌≡◌, ◌≤◌, ◌++◌, ◌+◌, IfErr, IfOk, OnOk, length, slice_range};
+ghost use Rattle.std.specs.Prelude.{◌≡◌, ◌≤◌, ◌<◌, ◌++◌, IfErr, IfOk, IsSomeAnd, OnOk, length, slice_get, slice_range};
 ghost use Rattle.std.specs.List.{filter};
 ghost use Rattle.update.specs.declared.refusal.Refusal.{Refusal};
 ghost use Rattle.trace.specs.Readings.{all_content};
@@ -9,6 +9,18 @@ use batch::BatchReader;
 use std::alloc::Global;
 use std::ops::Range;
 use update::{Refusal, Update};
+
+// A copy of update `i` of a batch.
+fn update_at<B: BatchReader>(batch: &B, i: usize) -> Update<B::Time>
+    requires { i < length (B.content batch.now) }
+    ensures { IsSomeAnd (slice_get (B.content batch.now) i) (λ u. result ≡ u) }
+{
+    Update {
+        time: batch.time(i),
+        row: batch.row(i),
+        diff: batch.diff(i),
+    }
+}
 
 // Appends copies of the updates of a batch in this range.
 fn read_range<B: BatchReader>(
@@ -23,11 +35,7 @@ fn read_range<B: BatchReader>(
     ensures only { IfErr result (λ refused. refused ≡ Refusal.OutOfMemory) }
 {
     for i in range.start..range.end {
-        rows.push(Update {
-            time: batch.time(i),
-            row: batch.row(i),
-            diff: batch.diff(i),
-        })?;
+        rows.push(update_at(batch, i))?;
     }
     Ok(())
 }

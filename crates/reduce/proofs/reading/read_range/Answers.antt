@@ -1,0 +1,8 @@
+use Rattle.std.proofs.Common.{◌∙◌, ap, rules}
+use Rattle.reduce.proofs.ReadingLemmas.{range_pushed}
+use Rattle.reduce.proofs.reading.read_range.Goals as goal
+
+pub loop-i-preserved : goal.loop-i-preserved
+loop-i-preserved g c =
+    c.in_ok-push.ensures.items
+    ∙ range_pushed (g.B.BatchReader.content c.args.batch.now) c.args.rows.now.items c.loop-i.rows.items c.update_at.result c.args.range.start c.loop-i.i c.loop-i.auto.i (search rules) c.update_at.ensures c.loop-i.invariant

@@ -1,0 +1,61 @@
+//! Count: the key followed by the sum of all counts. The counts are added up in 128 bits, and only the sum is converted
+//! to 64 bits. So no sum on the way is refused. If the last one is, then the counts are too large however the bag is
+//! written, because alike bags have the same sum.
+ghost use Rattle.std.specs.Prelude.{◌≡◌, IfOk, IfErr};
+ghost use Rattle.plan.specs.Reductions.{sum_of_counts};
+ghost use Rattle.reduce.specs.Corrections.{IsTooLarge};
+
+use crate::Reducer;
+use crate::answers::{count_at, no_rows, one_row};
+use row::{MAX_WIDTH, Row};
+use std::alloc::Global;
+use update::{Bag, Refusal};
+
+/// Answers the key followed by the sum of all counts, with count 1, unless the sum is 0. A key of 8 columns has no
+/// answer, because its row would have 9. Its refusals are those of [`Reducer::reduce`].
+///
+/// Cost: one pass over the counts.
+#[derive(Clone, Copy)]
+pub struct Count;
+
+// The sum of the counts. It fits, because each of fewer than 2^64 counts adds at most 2^63 to it.
+fn wide_sum(rows: &Bag) -> i128
+    ensures { result ≡ sum_of_counts rows.now }
+{
+    let mut sum = 0;
+    for i in 0..rows.len() {
+        sum += i128::from(count_at(rows, i));
+    }
+    sum
+}
+
+// The sum of the counts, in 64 bits. [`Refusal::Overflow`] only if the counts are too large.
+fn sum_of_counts(rows: &Bag) -> Result<i64, Refusal>
+    ensures sum { IfOk result (λ sum. sum ≡ sum_of_counts rows.now) }
+    ensures only { IfErr result (λ refused. refused ≡ Refusal.Overflow) }
+    ensures large { IfErr result (λ _. IsTooLarge rows.now) }
+{
+    let Ok(sum) = i64::try_from(wide_sum(rows)) else {
+        return Err(Refusal::Overflow);
+    };
+    Ok(sum)
+}
+
+impl Reducer for Count {
+    ghost use Rattle.reduce.specs.Kinds.{count_within, count_reduces};
+
+    ghost reduces = { λ _. count_within };
+
+    fn reduce(&self, alloc: Global, key: &[i64], rows: &Bag) -> Result<Bag, Refusal> {
+        if key.len() >= MAX_WIDTH {
+            return no_rows(alloc);
+        }
+        let sum = sum_of_counts(rows)?;
+        if sum == 0 {
+            return no_rows(alloc);
+        }
+        one_row(alloc, Row::of(alloc, key).followed_by(&[sum]))
+    }
+
+    ghost laws = { λ _. count_reduces };
+}

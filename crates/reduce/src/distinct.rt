@@ -1,0 +1,43 @@
+//! Distinct: each row whose count is above 0, once. A bag has each row only once, so one pass over its entries finds
+//! these rows, and no count in the answer can be too large.
+ghost use Rattle.std.specs.Prelude.{◌≡◌, ◌++◌, IfErr, OnOk};
+ghost use Rattle.reduce.specs.Kinds.{positive_rows};
+
+use crate::Reducer;
+use crate::answers::{is_positive_at, row_at};
+use std::alloc::Global;
+use update::{Bag, Entries, Refusal};
+
+/// Answers each row whose count is above 0, once. Its refusals are those of [`Reducer::reduce`].
+///
+/// Cost: one pass over the rows, and a sort of the answer, whose rows are already in order.
+#[derive(Clone, Copy)]
+pub struct Distinct;
+
+// Appends each row whose count is above 0, once.
+fn put_positive(entries: &mut Entries, rows: &Bag) -> Result<(), Refusal>
+    ensures positive { OnOk result (entries.new ≡ entries.old ++ positive_rows rows.now) }
+    ensures refused { IfErr result (λ refused. refused ≡ Refusal.OutOfMemory) }
+{
+    for i in 0..rows.len() {
+        if is_positive_at(rows, i) {
+            entries.push(row_at(rows, i), 1)?;
+        }
+    }
+    Ok(())
+}
+
+impl Reducer for Distinct {
+    ghost use Rattle.reduce.specs.Kinds.{distinct_answer, distinct_reduces};
+
+    ghost reduces = { λ _. distinct_answer };
+
+    fn reduce(&self, alloc: Global, _key: &[i64], rows: &Bag) -> Result<Bag, Refusal> {
+        let mut entries = Entries::new(alloc);
+        put_positive(&mut entries, rows)?;
+        rows.known();
+        entries.into_bag()
+    }
+
+    ghost laws = { λ _. distinct_reduces };
+}

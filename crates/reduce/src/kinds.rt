@@ -1,0 +1,26 @@
+//! The four reducers are the four reductions of a plan. The function does nothing: it is called, or its clauses cited,
+//! for what it promises. With the contract of [`Reducer`](crate::Reducer) this is all that a layer above needs.
+ghost use Rattle.std.specs.Prelude.{◌≡◌, ◌≤◌, List, ℤ, length};
+ghost use Rattle.update.specs.Bags.{Entry};
+ghost use Rattle.plan.specs.Reductions.{reduction_answer};
+ghost use Rattle.reduce.specs.declared.count.Count.{Count};
+ghost use Rattle.reduce.specs.declared.distinct.Distinct.{Distinct};
+ghost use Rattle.reduce.specs.declared.extremes.Min.{Min};
+ghost use Rattle.reduce.specs.declared.extremes.Max.{Max};
+
+use crate::{Count, Distinct, Max, Min, Reducer};
+use plan::Kind;
+
+/// Each of the four reducers answers what the reduction of its kind answers. For count the key has at most 7 columns, as
+/// in every plan. Costs nothing.
+pub fn kinds_are_reductions()
+    ensures count { (self : Count) (key : List ℤ) (entries : List Entry) → length key ≤ 7
+        → ⟦<Count as Reducer>⟧.reduces self key entries ≡ reduction_answer Kind.Count key entries }
+    ensures distinct { (self : Distinct) (key : List ℤ) (entries : List Entry)
+        → ⟦<Distinct as Reducer>⟧.reduces self key entries
+        ≡ reduction_answer Kind.Distinct key entries }
+    ensures min { (self : Min) (key : List ℤ) (entries : List Entry)
+        → ⟦<Min as Reducer>⟧.reduces self key entries ≡ reduction_answer Kind.Min key entries }
+    ensures max { (self : Max) (key : List ℤ) (entries : List Entry)
+        → ⟦<Max as Reducer>⟧.reduces self key entries ≡ reduction_answer Kind.Max key entries }
+{}
