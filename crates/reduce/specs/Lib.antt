@@ -6,5 +6,6 @@ pub mod Standing
 pub mod Histories
 pub mod Corrections
 pub mod Kinds
+pub mod Taking
 pub mod Owing
 pub mod Settling

@@ -1,0 +1,32 @@
+-- What taking a batch makes of the histories of its keys.
+use Rattle.std.specs.Prelude.{◌≡◌, ◌↔◌, ◌⊎◌, ℕ, List, [], ◌∷◌, ◌++◌, ℤ}
+use Rattle.std.specs.declared.cmp.Ordering.{Ordering}
+use Rattle.update.specs.Joins.{joins_of}
+use Rattle.update.specs.declared.change.Update.{Update}
+use Rattle.reduce.specs.Joined.{Member, times_of, IsFresh}
+use Rattle.reduce.specs.Histories.{HistoryState, AreHistories, AreKeysApart, history_of, due_of, joined_of, given_of}
+
+module _ {T : Type 0} (joined : T → T → T) where
+  -- these times and pending times are those of a key that had `times` and `due`, with new ones
+  pub record HasTaken (times due new : List T) (h : HistoryState T) : Type 0 where
+    pub times_are : (old : List T) → ((t : T) → Member t times ↔ Member t (joins_of joined old))
+        → (t : T) → Member t h.times ↔ Member t (joins_of joined (new ++ old))
+    pub due_are : (old : List T) → ((t : T) → Member t times ↔ Member t (joins_of joined old))
+        → (t : T) → Member t h.due ↔ (Member t due ⊎ IsFresh joined new old t)
+
+  -- these are the new histories of the keys of a batch, in the place of those among hs
+  pub record AreRenewed (cmp : T → T → Ordering) (k : ℕ) (content : List (Update T)) (hs made : List (HistoryState T)) : Type 0 where
+    pub histories : AreHistories cmp k made
+    pub apart : AreKeysApart made
+    -- a key that the batch has not has no new history
+    pub others : (key : List ℤ) → times_of k key content ≡ [] → history_of key made ≡ []
+    -- a key that it has has one
+    pub taken : (key : List ℤ) → (times_of k key content ≡ [] → ⊥)
+        → (h : HistoryState T) × (history_of key made ≡ h ∷ [])
+        × (h.given ≡ given_of key hs)
+        × HasTaken (joined_of key hs) (due_of key hs) (times_of k key content) h
+
+-- the first list, or the second one where the first is empty
+abbrev pub or_else : {X : Type 0} → List X → List X → List X
+or_else [] ys = ys
+or_else (x ∷ xs) ys = x ∷ xs
