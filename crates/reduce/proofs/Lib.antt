@@ -13,3 +13,6 @@ mod ReadingLemmas
 mod ResultLemmas
 mod SettleLemmas
 mod StandingLemmas
+pub mod MemberLemmas
+pub mod OrderLemmas
+pub mod JoinLemmas

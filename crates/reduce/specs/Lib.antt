@@ -7,5 +7,6 @@ pub mod Histories
 pub mod Corrections
 pub mod Kinds
 pub mod Taking
+pub mod Adding
 pub mod Owing
 pub mod Settling

@@ -12,6 +12,7 @@ mod kinds;
 mod reading;
 mod reducer;
 mod settling;
+mod times;
 
 pub use count::Count;
 pub use distinct::Distinct;

@@ -1,0 +1,356 @@
+-- The joins of the times of a key, as sets: what adding times to them adds, and which of them are at or after a new
+-- time.
+use Rattle.std.proofs.Common.{◌≡◌, ◌↔◌, ℕ, ◌<◌, ◌≤◌, ◌+◌, length, get_or, take, Bool, true, List, [], ◌∷◌, ◌++◌, map, ◌⊎◌, inl, inr, ⊎_elim, refl, sym, ap, subst, ◌∙◌}
+use Rattle.std.proofs.lemmas.List.{map-append, take_more, take_all}
+use Rattle.lattice.specs.Order.{PartialOrderLaws, LatticeLaws}
+use Rattle.lattice.proofs.BoundLemmas.{join_commutes, join_associates, join_same}
+use Rattle.update.specs.Joins.{joins_of}
+use Rattle.reduce.specs.Joined.{Member, IsFresh}
+use Rattle.reduce.specs.Adding.{SameMembers, joins_with}
+use Rattle.reduce.proofs.MemberLemmas.{in_left, in_right, in_either, only_one, image_in, image_of, images_within, pushed_members, through, back, in_each, regrouped, same_pushed, same_append}
+
+module _ {T : Type 0} (joined : T → T → T) where
+  -- the joins of these times
+  abbrev pub joins : List T → List T
+  joins ts = joins_of joined ts
+
+  -- a join is still one when there is a time more
+  pub joins_kept : (n : T) (ts : List T) (t : T) → Member t (joins ts) → Member t (joins (n ∷ ts))
+  joins_kept n ts t m =
+      in_left t (joins ts ++ map (λ s. joined s n) (joins ts)) (n ∷ [])
+      (in_left t (joins ts) (map (λ s. joined s n) (joins ts)) m)
+
+  -- a time more adds itself, and each join joined with it
+  pub joins_gained : (n : T) (ts : List T) (t : T) → Member t (joins_with joined n (joins ts)) → Member t (joins (n ∷ ts))
+  joins_gained n ts t m =
+      ⊎_elim
+      (λ e. in_right t (joins ts ++ map (λ s. joined s n) (joins ts)) (n ∷ []) (inl e))
+      (λ k. in_left t (joins ts ++ map (λ s. joined s n) (joins ts)) (n ∷ [])
+      (in_right t (joins ts) (map (λ s. joined s n) (joins ts)) k))
+      m
+
+  -- a time more adds no others
+  pub joins_cases : (n : T) (ts : List T) (t : T) → Member t (joins (n ∷ ts)) → Member t (joins ts) ⊎ Member t (joins_with joined n (joins ts))
+  joins_cases n ts t m =
+      ⊎_elim
+      (λ k. ⊎_elim (λ old. inl old) (λ new. inr (inr new)) (in_either t (joins ts) (map (λ s. joined s n) (joins ts)) k))
+      (λ k. inr (inl (only_one t n k)))
+      (in_either t (joins ts ++ map (λ s. joined s n) (joins ts)) (n ∷ []) m)
+
+  -- each time is a join
+  pub joins_have : (ts : List T) (t : T) → Member t ts → Member t (joins ts)
+  joins_have [] t m = absurd m
+  joins_have (n ∷ ts) t m =
+      ⊎_elim (λ e. joins_gained n ts t (inl e)) (λ k. joins_kept n ts t (joins_have ts t k)) m
+
+  pub joins_step : (n : T) (ts : List T) (t : T) → Member t (joins (n ∷ ts)) ↔ (Member t (joins ts) ⊎ Member t (joins_with joined n (joins ts)))
+  joins_step n ts t = (
+    joins_cases n ts t,
+    (λ m. ⊎_elim (λ k. joins_kept n ts t k) (λ k. joins_gained n ts t k) m),
+  )
+
+  -- a time joined with the members of a list depends on the members alone
+  pub joins_with_same : (n : T) (xs ys : List T) → SameMembers xs ys → SameMembers (joins_with joined n xs) (joins_with joined n ys)
+  joins_with_same n xs ys same t =
+      in_each ((λ e. e), (λ e. e))
+      (images_within (λ s. joined s n) t xs ys (λ s. (same s).0), images_within (λ s. joined s n) t ys xs (λ s. (same s).1))
+
+  -- a step of the loop that joins a time with each of a list
+  pub joins_with_more : (n s join : T) (ts : List T) (i : ℕ) (old new : List T) → i < length ts → s ≡ get_or ts i s → join ≡ joined s n → SameMembers old (joins_with joined n (take i ts)) → ((t : T) → Member t new ↔ (Member t old ⊎ (t ≡ join))) → SameMembers new (joins_with joined n (take (i + 1) ts))
+  joins_with_more n s join ts i old new l e d so more t =
+      let f : T → T = λ r. joined r n in
+      let next : take (i + 1) ts ≡ take i ts ++ s ∷ [] = take_more ts i s l ∙ ap (λ r. take i ts ++ (r ∷ [])) (sym e) in
+      let images : joins_with joined n (take (i + 1) ts) ≡ joins_with joined n (take i ts) ++ join ∷ [] =
+      ap (joins_with joined n) next ∙ (ap (λ rs. n ∷ rs) (map-append f (take i ts) (s ∷ [])) ∙ ap (λ r. joins_with joined n (take i ts) ++ r ∷ []) (sym d)) in
+      subst (λ rs. Member t new ↔ Member t rs) (sym images)
+      (through (more t)
+      (through (in_each (so t) ((λ k. k), (λ k. k))) (back (pushed_members t join (joins_with joined n (take i ts))))))
+
+  -- its end
+  pub joins_with_all : (n : T) (ts : List T) (i : ℕ) (old new : List T) → length ts ≤ i → SameMembers old (joins_with joined n (take i ts)) → SameMembers old new → SameMembers new (joins_with joined n ts)
+  joins_with_all n ts i old new l so same t =
+      subst (λ rs. Member t new ↔ Member t (joins_with joined n rs)) (take_all i ts l) (through (back (same t)) (so t))
+
+  -- what is true of each time, and of the join of any two of which it is true, is true of each join
+  pub joins_least : (P : T → Type 0) → ((a b : T) → P a → P b → P (joined a b)) → (ts : List T) → ((t : T) → Member t ts → P t) → (t : T) → Member t (joins ts) → P t
+  joins_least P closed [] all t m = absurd m
+  joins_least P closed (n ∷ ts) all t m =
+      let old : (s : T) → Member s (joins ts) → P s = joins_least P closed ts (λ s k. all s (inr k)) in
+      ⊎_elim
+      (λ k. old t k)
+      (λ k. ⊎_elim
+      (λ e. all t (inl e))
+      (λ l.
+      let r = image_of (λ s. joined s n) t (joins ts) l in
+      subst P (sym r.2) (closed r.0 n (old r.0 r.1) (all n (inl refl))))
+      k)
+      (joins_cases n ts t m)
+
+  -- the joins of what was added to the old times, if the first list has the joins of the old times
+  abbrev pub AddsJoins : List T → List T → List T → Type 0
+  AddsJoins first added now = (old : List T) → SameMembers first (joins_of joined old) → SameMembers now (joins_of joined (added ++ old))
+
+  -- what was due before, and what is fresh because of what was added
+  abbrev pub AddsFresh : List T → List T → List T → List T → Type 0
+  AddsFresh first before added now =
+      (old : List T) → SameMembers first (joins_of joined old) → (t : T) → Member t now ↔ (Member t before ⊎ IsFresh joined added old t)
+
+module _ {T : Type 0} {below : T → T → Bool} {joined met : T → T → T} (o : PartialOrderLaws below) (b : LatticeLaws below joined met) where
+  -- the join with a later time is that time
+  pub join_later : (s t : T) → below s t ≡ true → joined t s ≡ t
+  join_later s t h = o.antisymmetric _ _ (b.join_least t s t (o.reflexive t) h) (b.join_left t s)
+
+  -- joined with a second time and then with a third, or the other way round
+  join_turned : (r s t : T) → joined (joined r s) t ≡ joined (joined r t) s
+  join_turned r s t = join_associates o b r s t ∙ (ap (joined r) (join_commutes o b s t) ∙ sym (join_associates o b r t s))
+
+  -- if the joins of some times are closed under joins, then so are those of one time more
+  module _ (n : T) (ts : List T) (closed : (s t : T) → Member s (joins_of joined ts) → Member t (joins_of joined ts) → Member (joined s t) (joins_of joined ts)) where
+    gained : (r : T) → Member r (joins_of joined ts) → Member (joined r n) (joins_of joined (n ∷ ts))
+    gained r m = joins_gained joined n ts (joined r n) (inr (image_in (λ s. joined s n) r (joins_of joined ts) m))
+
+    -- what has the new time in it stays as it is when it is joined with that time
+    with_itself : (r : T) → Member r (joins_with joined n (joins_of joined ts)) → joined r n ≡ r
+    with_itself r m =
+        ⊎_elim
+        (λ e. ap (λ u. joined u n) e ∙ (join_same o b n ∙ sym e))
+        (λ i.
+        let q = image_of (λ s. joined s n) r (joins_of joined ts) i in
+        ap (λ u. joined u n) q.2 ∙ (join_associates o b q.0 n n ∙ (ap (joined q.0) (join_same o b n) ∙ sym q.2)))
+        m
+
+    with_new : (r : T) → Member r (joins_of joined (n ∷ ts)) → Member (joined r n) (joins_of joined (n ∷ ts))
+    with_new r m =
+        ⊎_elim
+        (λ old. gained r old)
+        (λ new. subst (λ u. Member u (joins_of joined (n ∷ ts))) (sym (with_itself r new)) m)
+        (joins_cases joined n ts r m)
+
+    with_old : (r u : T) → Member r (joins_of joined ts) → Member u (joins_of joined (n ∷ ts)) → Member (joined r u) (joins_of joined (n ∷ ts))
+    with_old r u old m =
+        ⊎_elim
+        (λ i. joins_kept joined n ts (joined r u) (closed r u old i))
+        (λ new. ⊎_elim
+        (λ e. subst (λ v. Member v (joins_of joined (n ∷ ts))) (ap (joined r) (sym e)) (gained r old))
+        (λ i.
+        let q = image_of (λ s. joined s n) u (joins_of joined ts) i in
+        subst (λ v. Member v (joins_of joined (n ∷ ts))) (join_associates o b r q.0 n ∙ ap (joined r) (sym q.2)) (gained (joined r q.0) (closed r q.0 old q.1)))
+        new)
+        (joins_cases joined n ts u m)
+
+    more_closed : (s t : T) → Member s (joins_of joined (n ∷ ts)) → Member t (joins_of joined (n ∷ ts)) → Member (joined s t) (joins_of joined (n ∷ ts))
+    more_closed s t k l =
+        ⊎_elim
+        (λ old. with_old s t old l)
+        (λ new. ⊎_elim
+        (λ e. subst (λ r. Member r (joins_of joined (n ∷ ts))) (join_commutes o b t n ∙ ap (λ r. joined r t) (sym e)) (with_new t l))
+        (λ i.
+        let r = image_of (λ s. joined s n) s (joins_of joined ts) i in
+        subst (λ u. Member u (joins_of joined (n ∷ ts))) (join_turned r.0 t n ∙ ap (λ u. joined u t) (sym r.2)) (with_new (joined r.0 t) (with_old r.0 t r.1 l)))
+        new)
+        (joins_cases joined n ts s k)
+
+  -- the join of two joins is one
+  pub joins_closed : (ts : List T) (s t : T) → Member s (joins_of joined ts) → Member t (joins_of joined ts) → Member (joined s t) (joins_of joined ts)
+  joins_closed [] s t k l = absurd k
+  joins_closed (n ∷ ts) s t k l = more_closed n ts (joins_closed ts) s t k l
+
+  -- the joins of some of the times are among the joins of all
+  pub joins_within : (xs ys : List T) → ((t : T) → Member t xs → Member t (joins_of joined ys)) → (t : T) → Member t (joins_of joined xs) → Member t (joins_of joined ys)
+  joins_within xs ys to = joins_least joined (λ t. Member t (joins_of joined ys)) (joins_closed ys) xs to
+
+  -- the joins depend on the members alone
+  pub joins_same : (xs ys : List T) → SameMembers xs ys → SameMembers (joins_of joined xs) (joins_of joined ys)
+  joins_same xs ys same t = (
+    joins_within xs ys (λ s m. joins_have joined ys s ((same s).0 m)) t,
+    joins_within ys xs (λ s m. joins_have joined xs s ((same s).1 m)) t,
+  )
+
+  -- each join is at or after one of the times
+  pub joins_above : (ts : List T) (t : T) → Member t (joins_of joined ts) → (n : T) × Member n ts × (below n t ≡ true)
+  joins_above ts =
+      joins_least joined (λ t. (n : T) × Member n ts × (below n t ≡ true))
+      (λ s t k l. (k.0, k.1, o.transitive _ _ _ k.2 (b.join_left s t))) ts
+      (λ t m. (t, m, o.reflexive t))
+
+  -- ---- fresh times
+
+  module _ (new old : List T) where
+    fresh_with_new : (s t : T) → IsFresh joined new old s → Member t (joins_of joined new) → IsFresh joined new old (joined s t)
+    fresh_with_new s t f m =
+        ⊎_elim
+        (λ k. inl (joins_closed new s t k m))
+        (λ r. inr (joined r.0 t, r.1, joins_closed new r.0 t r.2 m, r.3, join_turned r.0 t r.1 ∙ ap (λ u. joined u t) r.4))
+        f
+
+    fresh_with_old : (s t : T) → IsFresh joined new old s → Member t (joins_of joined old) → IsFresh joined new old (joined s t)
+    fresh_with_old s t f m =
+        ⊎_elim
+        (λ k. inr (s, t, k, m, refl))
+        (λ r. inr (r.0, joined r.1 t, r.2, joins_closed old r.1 t r.3 m, sym (join_associates o b r.0 r.1 t) ∙ ap (λ u. joined u t) r.4))
+        f
+
+    -- the join of a fresh time with a fresh or an old one is fresh
+    fresh_closed : (s t : T) → IsFresh joined new old s → IsFresh joined new old t ⊎ Member t (joins_of joined old) → IsFresh joined new old (joined s t)
+    fresh_closed s t f g =
+        ⊎_elim
+        (λ h. ⊎_elim
+        (λ k. fresh_with_new s t f k)
+        (λ r. subst (IsFresh joined new old) (join_associates o b s r.0 r.1 ∙ ap (joined s) r.4)
+        (fresh_with_old (joined s r.0) r.1 (fresh_with_new s r.0 f r.2) r.3))
+        h)
+        (λ k. fresh_with_old s t f k)
+        g
+
+    either_closed : (s t : T) → IsFresh joined new old s ⊎ Member s (joins_of joined old) → IsFresh joined new old t ⊎ Member t (joins_of joined old) → IsFresh joined new old (joined s t) ⊎ Member (joined s t) (joins_of joined old)
+    either_closed s t f g =
+        ⊎_elim
+        (λ h. inl (fresh_closed s t h g))
+        (λ k. ⊎_elim
+        (λ h. inl (subst (IsFresh joined new old) (join_commutes o b t s) (fresh_closed t s h (inr k))))
+        (λ l. inr (joins_closed old s t k l))
+        g)
+        f
+
+    -- the joins of new and old times are the fresh ones and the joins of the old times
+    pub joins_append : (t : T) → Member t (joins_of joined (new ++ old)) ↔ (IsFresh joined new old t ⊎ Member t (joins_of joined old))
+    joins_append t = (
+      joins_least joined (λ s. IsFresh joined new old s ⊎ Member s (joins_of joined old)) either_closed (new ++ old)
+          (λ s m. ⊎_elim (λ k. inl (inl (joins_have joined new s k))) (λ k. inr (joins_have joined old s k)) (in_either s new old m)) t,
+      (λ f. ⊎_elim
+          (λ g. ⊎_elim
+          (λ k. of_new t k)
+          (λ r. subst (λ s. Member s (joins_of joined (new ++ old))) r.4 (joins_closed (new ++ old) r.0 r.1 (of_new r.0 r.2) (of_old r.1 r.3)))
+          g)
+          (λ k. of_old t k)
+          f),
+    )
+      where
+        of_new : (s : T) → Member s (joins_of joined new) → Member s (joins_of joined (new ++ old))
+        of_new = joins_within new (new ++ old) (λ s m. joins_have joined (new ++ old) s (in_left s new old m))
+
+        of_old : (s : T) → Member s (joins_of joined old) → Member s (joins_of joined (new ++ old))
+        of_old = joins_within old (new ++ old) (λ s m. joins_have joined (new ++ old) s (in_right s new old m))
+
+    -- a fresh time is at or after a new one
+    pub fresh_above : (t : T) → IsFresh joined new old t → (n : T) × Member n new × (below n t ≡ true)
+    fresh_above t f =
+        ⊎_elim
+        (λ k. joins_above new t k)
+        (λ r.
+        let n = joins_above new r.0 r.2 in
+        (n.0, n.1, o.transitive _ _ _ n.2 (subst (λ s. below r.0 s ≡ true) r.4 (b.join_left r.0 r.1))))
+        f
+
+    -- a join of old times at or after a new one is fresh
+    pub fresh_absorbs : (n t : T) → Member n new → Member t (joins_of joined old) → below n t ≡ true → IsFresh joined new old t
+    fresh_absorbs n t m k h = inr (n, t, joins_have joined new n m, k, join_commutes o b n t ∙ join_later n t h)
+
+    -- a join of new and old times at or after a new one is fresh
+    pub fresh_upward : (n t : T) → Member n new → Member t (joins_of joined (new ++ old)) → below n t ≡ true → IsFresh joined new old t
+    fresh_upward n t m k h = ⊎_elim (λ f. f) (λ l. fresh_absorbs n t m l h) ((joins_append t).0 k)
+
+  -- more times have more fresh ones
+  pub fresh_within : (new more old others : List T) → ((t : T) → Member t new → Member t more) → ((t : T) → Member t old → Member t others) → (t : T) → IsFresh joined new old t → IsFresh joined more others t
+  fresh_within new more old others to too t f =
+      let news = joins_within new more (λ s m. joins_have joined more s (to s m)) in
+      let olds = joins_within old others (λ s m. joins_have joined others s (too s m)) in
+      ⊎_elim (λ k. inl (news t k)) (λ r. inr (r.0, r.1, news r.0 r.2, olds r.1 r.3, r.4)) f
+
+  -- which times are fresh depends on the members of both lists alone
+  pub fresh_same : (new more old others : List T) → SameMembers new more → SameMembers old others → (t : T) → IsFresh joined new old t ↔ IsFresh joined more others t
+  fresh_same new more old others same too t = (
+    fresh_within new more old others (λ s. (same s).0) (λ s. (too s).0) t,
+    fresh_within more new others old (λ s. (same s).1) (λ s. (too s).1) t,
+  )
+
+  -- a new time more makes fresh what it adds to the joins
+  pub fresh_more : (n : T) (new old : List T) (t : T) → IsFresh joined (n ∷ new) old t ↔ (IsFresh joined new old t ⊎ Member t (joins_with joined n (joins_of joined (new ++ old))))
+  fresh_more n new old t = (to, from)
+    where
+      -- a join of old times at or after the new ones or n
+      from_old : (m : T) → Member m (n ∷ new) → below m t ≡ true → Member t (joins_of joined old) → IsFresh joined new old t ⊎ Member t (joins_with joined n (joins_of joined (new ++ old)))
+      from_old m k h l =
+          ⊎_elim
+          (λ e.
+          let same : joined t n ≡ t = join_later n t (subst (λ s. below s t ≡ true) e h) in
+          inr (inr (subst (λ s. Member s (map (λ s. joined s n) (joins_of joined (new ++ old)))) same
+          (image_in (λ s. joined s n) t (joins_of joined (new ++ old)) ((joins_append new old t).1 (inr l))))))
+          (λ i. inl (fresh_absorbs new old m t i l h))
+          k
+
+      to : IsFresh joined (n ∷ new) old t → IsFresh joined new old t ⊎ Member t (joins_with joined n (joins_of joined (new ++ old)))
+      to f =
+          ⊎_elim
+          (λ k. ⊎_elim
+          (λ g. inl g)
+          (λ l. let m = fresh_above (n ∷ new) old t f in from_old m.0 m.1 m.2 l)
+          ((joins_append new old t).0 k))
+          (λ k. inr k)
+          (joins_cases joined n (new ++ old) t ((joins_append (n ∷ new) old t).1 (inl f)))
+
+      from : IsFresh joined new old t ⊎ Member t (joins_with joined n (joins_of joined (new ++ old))) → IsFresh joined (n ∷ new) old t
+      from f =
+          ⊎_elim
+          (λ g. fresh_within new (n ∷ new) old old (λ s m. inr m) (λ s m. m) t g)
+          (λ k. fresh_upward (n ∷ new) old n t (inl refl) (joins_gained joined n (new ++ old) t k) (above k))
+          f
+        where
+          above : Member t (joins_with joined n (joins_of joined (new ++ old))) → below n t ≡ true
+          above k =
+              ⊎_elim
+              (λ e. subst (λ s. below n s ≡ true) (sym e) (o.reflexive n))
+              (λ i.
+              let r = image_of (λ s. joined s n) t (joins_of joined (new ++ old)) i in
+              subst (λ s. below n s ≡ true) (sym r.2) (b.join_right r.0 n))
+              k
+
+  -- ---- adding times one after the other
+
+  no_fresh : (old : List T) (t : T) → IsFresh joined [] old t → ⊥
+  no_fresh old t f = ⊎_elim (λ n. n) (λ r. r.2) f
+
+  -- at the beginning nothing is added
+  pub adds_none : (first : List T) → AddsJoins joined first [] first
+  adds_none first old same = same
+
+  pub fresh_none : (first before : List T) → AddsFresh joined first before [] before
+  fresh_none first before old same t = ((λ m. inl m), (λ m. ⊎_elim (λ k. k) (λ f. absurd (no_fresh old t f)) m))
+
+  module _ (first before xs : List T) (i : ℕ) (n : T) (inside : i < length xs) (at : n ≡ get_or xs i n) where
+    one_more : take (i + 1) xs ≡ take i xs ++ n ∷ []
+    one_more = take_more xs i n inside ∙ ap (λ r. take i xs ++ (r ∷ [])) (sym at)
+
+    -- one more time is added; `copy` and `copied` are what the step read of `kept` and `due`
+    pub adds_more : (kept copy now : List T) → copy ≡ kept → ((t : T) → Member t now ↔ (Member t copy ⊎ Member t (joins_with joined n copy))) → AddsJoins joined first (take i xs) kept → AddsJoins joined first (take (i + 1) xs) now
+    adds_more kept copy now e more adds old same t =
+        let all = take i xs ++ old in
+        let so : SameMembers copy (joins_of joined all) = subst (λ ks. SameMembers ks (joins_of joined all)) (sym e) (adds old same) in
+        let turned : SameMembers (n ∷ all) ((take i xs ++ n ∷ []) ++ old) = same_append (n ∷ take i xs) (take i xs ++ n ∷ []) old (same_pushed n (take i xs)) in
+        subst (λ ys. Member t now ↔ Member t (joins_of joined (ys ++ old))) (sym one_more)
+        (through (more t)
+        (through (in_each (so t) (joins_with_same joined n copy (joins_of joined all) so t))
+        (through (back (joins_step joined n all t)) (joins_same (n ∷ all) ((take i xs ++ n ∷ []) ++ old) turned t))))
+
+    pub fresh_adds : (kept copy due copied now : List T) → copy ≡ kept → copied ≡ due → ((t : T) → Member t now ↔ (Member t copied ⊎ Member t (joins_with joined n copy))) → AddsJoins joined first (take i xs) kept → AddsFresh joined first before (take i xs) due → AddsFresh joined first before (take (i + 1) xs) now
+    fresh_adds kept copy due copied now e d more adds fresh old same t =
+        let all = take i xs ++ old in
+        let so : SameMembers copy (joins_of joined all) = subst (λ ks. SameMembers ks (joins_of joined all)) (sym e) (adds old same) in
+        let was : Member t copied ↔ (Member t before ⊎ IsFresh joined (take i xs) old t) = subst (λ ds. Member t ds ↔ (Member t before ⊎ IsFresh joined (take i xs) old t)) (sym d) (fresh old same t) in
+        let turned = fresh_same (n ∷ take i xs) (take i xs ++ n ∷ []) old old (same_pushed n (take i xs)) (λ s. ((λ m. m), (λ m. m))) t in
+        subst (λ ys. Member t now ↔ (Member t before ⊎ IsFresh joined ys old t)) (sym one_more)
+        (through (more t)
+        (through (in_each was (joins_with_same joined n copy (joins_of joined all) so t))
+        (through (regrouped (Member t before) (IsFresh joined (take i xs) old t) (Member t (joins_with joined n (joins_of joined all))))
+        (in_each ((λ m. m), (λ m. m)) (through (back (fresh_more n (take i xs) old t)) turned)))))
+
+  -- at the end all are added, in whatever order they came
+  pub adds_all : (first xs new now : List T) (i : ℕ) → length xs ≤ i → SameMembers new xs → AddsJoins joined first (take i xs) now → AddsJoins joined first new now
+  adds_all first xs new now i l same adds old so t =
+      let all : AddsJoins joined first xs now = subst (λ ys. AddsJoins joined first ys now) (take_all i xs l) adds in
+      through (all old so t) (back (joins_same (new ++ old) (xs ++ old) (same_append new xs old same) t))
+
+  pub fresh_all : (first before xs new now : List T) (i : ℕ) → length xs ≤ i → SameMembers new xs → AddsFresh joined first before (take i xs) now → AddsFresh joined first before new now
+  fresh_all first before xs new now i l same adds old so t =
+      let all : AddsFresh joined first before xs now = subst (λ ys. AddsFresh joined first before ys now) (take_all i xs l) adds in
+      through (all old so t) (in_each ((λ m. m), (λ m. m)) (back (fresh_same new xs old old same (λ s. ((λ m. m), (λ m. m))) t)))
