@@ -1,49 +1,45 @@
 -- The joins of the times of a key, as sets: what adding times to them adds, and which of them are at or after a new
 -- time.
-use Rattle.std.proofs.Common.{◌≡◌, ◌↔◌, ℕ, ◌<◌, ◌≤◌, ◌+◌, length, get_or, take, Bool, true, List, [], ◌∷◌, ◌++◌, map, ◌⊎◌, inl, inr, ⊎_elim, refl, sym, ap, subst, ◌∙◌}
-use Rattle.std.proofs.lemmas.List.{map-append, take_more, take_all}
+use Rattle.std.proofs.Common.{◌≡◌, ◌↔◌, Bool, true, List, [], ◌∷◌, ◌++◌, map, ◌⊎◌, inl, inr, ⊎_elim, refl, sym, ap, subst, ◌∙◌}
 use Rattle.lattice.specs.Order.{PartialOrderLaws, LatticeLaws}
 use Rattle.lattice.proofs.BoundLemmas.{join_commutes, join_associates, join_same}
 use Rattle.update.specs.Joins.{joins_of}
 use Rattle.reduce.specs.Joined.{Member, IsFresh}
 use Rattle.reduce.specs.Adding.{SameMembers, joins_with}
-use Rattle.reduce.proofs.MemberLemmas.{in_left, in_right, in_either, only_one, image_in, image_of, images_within, pushed_members, through, back, in_each, regrouped, same_pushed, same_append}
+use Rattle.reduce.proofs.MemberLemmas.{in_left, in_right, in_either, only_one, image_in, image_of, images_within, itself, in_each}
 
 module _ {T : Type 0} (joined : T → T → T) where
-  -- the joins of these times
-  abbrev pub joins : List T → List T
-  joins ts = joins_of joined ts
-
   -- a join is still one when there is a time more
-  pub joins_kept : (n : T) (ts : List T) (t : T) → Member t (joins ts) → Member t (joins (n ∷ ts))
+  pub joins_kept : (n : T) (ts : List T) (t : T) → Member t (joins_of joined ts) → Member t (joins_of joined (n ∷ ts))
   joins_kept n ts t m =
-      in_left t (joins ts ++ map (λ s. joined s n) (joins ts)) (n ∷ [])
-      (in_left t (joins ts) (map (λ s. joined s n) (joins ts)) m)
+      in_left t (joins_of joined ts ++ map (λ s. joined s n) (joins_of joined ts)) (n ∷ [])
+      (in_left t (joins_of joined ts) (map (λ s. joined s n) (joins_of joined ts)) m)
 
   -- a time more adds itself, and each join joined with it
-  pub joins_gained : (n : T) (ts : List T) (t : T) → Member t (joins_with joined n (joins ts)) → Member t (joins (n ∷ ts))
+  pub joins_gained : (n : T) (ts : List T) (t : T) → Member t (joins_with joined n (joins_of joined ts)) → Member t (joins_of joined (n ∷ ts))
   joins_gained n ts t m =
       ⊎_elim
-      (λ e. in_right t (joins ts ++ map (λ s. joined s n) (joins ts)) (n ∷ []) (inl e))
-      (λ k. in_left t (joins ts ++ map (λ s. joined s n) (joins ts)) (n ∷ [])
-      (in_right t (joins ts) (map (λ s. joined s n) (joins ts)) k))
+      (λ e. in_right t (joins_of joined ts ++ map (λ s. joined s n) (joins_of joined ts)) (n ∷ []) (inl e))
+      (λ k. in_left t (joins_of joined ts ++ map (λ s. joined s n) (joins_of joined ts)) (n ∷ [])
+      (in_right t (joins_of joined ts) (map (λ s. joined s n) (joins_of joined ts)) k))
       m
 
   -- a time more adds no others
-  pub joins_cases : (n : T) (ts : List T) (t : T) → Member t (joins (n ∷ ts)) → Member t (joins ts) ⊎ Member t (joins_with joined n (joins ts))
+  pub joins_cases : (n : T) (ts : List T) (t : T) → Member t (joins_of joined (n ∷ ts)) → Member t (joins_of joined ts) ⊎ Member t (joins_with joined n (joins_of joined ts))
   joins_cases n ts t m =
       ⊎_elim
-      (λ k. ⊎_elim (λ old. inl old) (λ new. inr (inr new)) (in_either t (joins ts) (map (λ s. joined s n) (joins ts)) k))
+      (λ k. ⊎_elim (λ old. inl old) (λ new. inr (inr new)) (in_either t (joins_of joined ts) (map (λ s. joined s n) (joins_of joined ts)) k))
       (λ k. inr (inl (only_one t n k)))
-      (in_either t (joins ts ++ map (λ s. joined s n) (joins ts)) (n ∷ []) m)
+      (in_either t (joins_of joined ts ++ map (λ s. joined s n) (joins_of joined ts)) (n ∷ []) m)
 
   -- each time is a join
-  pub joins_have : (ts : List T) (t : T) → Member t ts → Member t (joins ts)
+  pub joins_have : (ts : List T) (t : T) → Member t ts → Member t (joins_of joined ts)
   joins_have [] t m = absurd m
   joins_have (n ∷ ts) t m =
       ⊎_elim (λ e. joins_gained n ts t (inl e)) (λ k. joins_kept n ts t (joins_have ts t k)) m
 
-  pub joins_step : (n : T) (ts : List T) (t : T) → Member t (joins (n ∷ ts)) ↔ (Member t (joins ts) ⊎ Member t (joins_with joined n (joins ts)))
+  -- so a time more adds this and no others
+  pub joins_step : (n : T) (ts : List T) (t : T) → Member t (joins_of joined (n ∷ ts)) ↔ (Member t (joins_of joined ts) ⊎ Member t (joins_with joined n (joins_of joined ts)))
   joins_step n ts t = (
     joins_cases n ts t,
     (λ m. ⊎_elim (λ k. joins_kept n ts t k) (λ k. joins_gained n ts t k) m),
@@ -52,48 +48,23 @@ module _ {T : Type 0} (joined : T → T → T) where
   -- a time joined with the members of a list depends on the members alone
   pub joins_with_same : (n : T) (xs ys : List T) → SameMembers xs ys → SameMembers (joins_with joined n xs) (joins_with joined n ys)
   joins_with_same n xs ys same t =
-      in_each ((λ e. e), (λ e. e))
+      in_each itself
       (images_within (λ s. joined s n) t xs ys (λ s. (same s).0), images_within (λ s. joined s n) t ys xs (λ s. (same s).1))
 
-  -- a step of the loop that joins a time with each of a list
-  pub joins_with_more : (n s join : T) (ts : List T) (i : ℕ) (old new : List T) → i < length ts → s ≡ get_or ts i s → join ≡ joined s n → SameMembers old (joins_with joined n (take i ts)) → ((t : T) → Member t new ↔ (Member t old ⊎ (t ≡ join))) → SameMembers new (joins_with joined n (take (i + 1) ts))
-  joins_with_more n s join ts i old new l e d so more t =
-      let f : T → T = λ r. joined r n in
-      let next : take (i + 1) ts ≡ take i ts ++ s ∷ [] = take_more ts i s l ∙ ap (λ r. take i ts ++ (r ∷ [])) (sym e) in
-      let images : joins_with joined n (take (i + 1) ts) ≡ joins_with joined n (take i ts) ++ join ∷ [] =
-      ap (joins_with joined n) next ∙ (ap (λ rs. n ∷ rs) (map-append f (take i ts) (s ∷ [])) ∙ ap (λ r. joins_with joined n (take i ts) ++ r ∷ []) (sym d)) in
-      subst (λ rs. Member t new ↔ Member t rs) (sym images)
-      (through (more t)
-      (through (in_each (so t) ((λ k. k), (λ k. k))) (back (pushed_members t join (joins_with joined n (take i ts))))))
-
-  -- its end
-  pub joins_with_all : (n : T) (ts : List T) (i : ℕ) (old new : List T) → length ts ≤ i → SameMembers old (joins_with joined n (take i ts)) → SameMembers old new → SameMembers new (joins_with joined n ts)
-  joins_with_all n ts i old new l so same t =
-      subst (λ rs. Member t new ↔ Member t (joins_with joined n rs)) (take_all i ts l) (through (back (same t)) (so t))
-
   -- what is true of each time, and of the join of any two of which it is true, is true of each join
-  pub joins_least : (P : T → Type 0) → ((a b : T) → P a → P b → P (joined a b)) → (ts : List T) → ((t : T) → Member t ts → P t) → (t : T) → Member t (joins ts) → P t
+  pub joins_least : (P : T → Type 0) → ((a b : T) → P a → P b → P (joined a b)) → (ts : List T) → ((t : T) → Member t ts → P t) → (t : T) → Member t (joins_of joined ts) → P t
   joins_least P closed [] all t m = absurd m
   joins_least P closed (n ∷ ts) all t m =
-      let old : (s : T) → Member s (joins ts) → P s = joins_least P closed ts (λ s k. all s (inr k)) in
+      let old : (s : T) → Member s (joins_of joined ts) → P s = joins_least P closed ts (λ s k. all s (inr k)) in
       ⊎_elim
       (λ k. old t k)
       (λ k. ⊎_elim
       (λ e. all t (inl e))
       (λ l.
-      let r = image_of (λ s. joined s n) t (joins ts) l in
+      let r = image_of (λ s. joined s n) t (joins_of joined ts) l in
       subst P (sym r.2) (closed r.0 n (old r.0 r.1) (all n (inl refl))))
       k)
       (joins_cases n ts t m)
-
-  -- the joins of what was added to the old times, if the first list has the joins of the old times
-  abbrev pub AddsJoins : List T → List T → List T → Type 0
-  AddsJoins first added now = (old : List T) → SameMembers first (joins_of joined old) → SameMembers now (joins_of joined (added ++ old))
-
-  -- what was due before, and what is fresh because of what was added
-  abbrev pub AddsFresh : List T → List T → List T → List T → Type 0
-  AddsFresh first before added now =
-      (old : List T) → SameMembers first (joins_of joined old) → (t : T) → Member t now ↔ (Member t before ⊎ IsFresh joined added old t)
 
 module _ {T : Type 0} {below : T → T → Bool} {joined met : T → T → T} (o : PartialOrderLaws below) (b : LatticeLaws below joined met) where
   -- the join with a later time is that time
@@ -106,6 +77,7 @@ module _ {T : Type 0} {below : T → T → Bool} {joined met : T → T → T} (o
 
   -- if the joins of some times are closed under joins, then so are those of one time more
   module _ (n : T) (ts : List T) (closed : (s t : T) → Member s (joins_of joined ts) → Member t (joins_of joined ts) → Member (joined s t) (joins_of joined ts)) where
+    -- an old join joined with the new time
     gained : (r : T) → Member r (joins_of joined ts) → Member (joined r n) (joins_of joined (n ∷ ts))
     gained r m = joins_gained joined n ts (joined r n) (inr (image_in (λ s. joined s n) r (joins_of joined ts) m))
 
@@ -119,6 +91,7 @@ module _ {T : Type 0} {below : T → T → Bool} {joined met : T → T → T} (o
         ap (λ u. joined u n) q.2 ∙ (join_associates o b q.0 n n ∙ (ap (joined q.0) (join_same o b n) ∙ sym q.2)))
         m
 
+    -- any join joined with the new time
     with_new : (r : T) → Member r (joins_of joined (n ∷ ts)) → Member (joined r n) (joins_of joined (n ∷ ts))
     with_new r m =
         ⊎_elim
@@ -126,6 +99,7 @@ module _ {T : Type 0} {below : T → T → Bool} {joined met : T → T → T} (o
         (λ new. subst (λ u. Member u (joins_of joined (n ∷ ts))) (sym (with_itself r new)) m)
         (joins_cases joined n ts r m)
 
+    -- an old join joined with any
     with_old : (r u : T) → Member r (joins_of joined ts) → Member u (joins_of joined (n ∷ ts)) → Member (joined r u) (joins_of joined (n ∷ ts))
     with_old r u old m =
         ⊎_elim
@@ -138,6 +112,7 @@ module _ {T : Type 0} {below : T → T → Bool} {joined met : T → T → T} (o
         new)
         (joins_cases joined n ts u m)
 
+    -- any two
     more_closed : (s t : T) → Member s (joins_of joined (n ∷ ts)) → Member t (joins_of joined (n ∷ ts)) → Member (joined s t) (joins_of joined (n ∷ ts))
     more_closed s t k l =
         ⊎_elim
@@ -176,6 +151,7 @@ module _ {T : Type 0} {below : T → T → Bool} {joined met : T → T → T} (o
   -- ---- fresh times
 
   module _ (new old : List T) where
+    -- a fresh time joined with a join of new times is fresh
     fresh_with_new : (s t : T) → IsFresh joined new old s → Member t (joins_of joined new) → IsFresh joined new old (joined s t)
     fresh_with_new s t f m =
         ⊎_elim
@@ -183,6 +159,7 @@ module _ {T : Type 0} {below : T → T → Bool} {joined met : T → T → T} (o
         (λ r. inr (joined r.0 t, r.1, joins_closed new r.0 t r.2 m, r.3, join_turned r.0 t r.1 ∙ ap (λ u. joined u t) r.4))
         f
 
+    -- and so is one joined with a join of old times
     fresh_with_old : (s t : T) → IsFresh joined new old s → Member t (joins_of joined old) → IsFresh joined new old (joined s t)
     fresh_with_old s t f m =
         ⊎_elim
@@ -202,6 +179,7 @@ module _ {T : Type 0} {below : T → T → Bool} {joined met : T → T → T} (o
         (λ k. fresh_with_old s t f k)
         g
 
+    -- the fresh times and the joins of old times are closed under joins
     either_closed : (s t : T) → IsFresh joined new old s ⊎ Member s (joins_of joined old) → IsFresh joined new old t ⊎ Member t (joins_of joined old) → IsFresh joined new old (joined s t) ⊎ Member (joined s t) (joins_of joined old)
     either_closed s t f g =
         ⊎_elim
@@ -304,53 +282,3 @@ module _ {T : Type 0} {below : T → T → Bool} {joined met : T → T → T} (o
               let r = image_of (λ s. joined s n) t (joins_of joined (new ++ old)) i in
               subst (λ s. below n s ≡ true) (sym r.2) (b.join_right r.0 n))
               k
-
-  -- ---- adding times one after the other
-
-  no_fresh : (old : List T) (t : T) → IsFresh joined [] old t → ⊥
-  no_fresh old t f = ⊎_elim (λ n. n) (λ r. r.2) f
-
-  -- at the beginning nothing is added
-  pub adds_none : (first : List T) → AddsJoins joined first [] first
-  adds_none first old same = same
-
-  pub fresh_none : (first before : List T) → AddsFresh joined first before [] before
-  fresh_none first before old same t = ((λ m. inl m), (λ m. ⊎_elim (λ k. k) (λ f. absurd (no_fresh old t f)) m))
-
-  module _ (first before xs : List T) (i : ℕ) (n : T) (inside : i < length xs) (at : n ≡ get_or xs i n) where
-    one_more : take (i + 1) xs ≡ take i xs ++ n ∷ []
-    one_more = take_more xs i n inside ∙ ap (λ r. take i xs ++ (r ∷ [])) (sym at)
-
-    -- one more time is added; `copy` and `copied` are what the step read of `kept` and `due`
-    pub adds_more : (kept copy now : List T) → copy ≡ kept → ((t : T) → Member t now ↔ (Member t copy ⊎ Member t (joins_with joined n copy))) → AddsJoins joined first (take i xs) kept → AddsJoins joined first (take (i + 1) xs) now
-    adds_more kept copy now e more adds old same t =
-        let all = take i xs ++ old in
-        let so : SameMembers copy (joins_of joined all) = subst (λ ks. SameMembers ks (joins_of joined all)) (sym e) (adds old same) in
-        let turned : SameMembers (n ∷ all) ((take i xs ++ n ∷ []) ++ old) = same_append (n ∷ take i xs) (take i xs ++ n ∷ []) old (same_pushed n (take i xs)) in
-        subst (λ ys. Member t now ↔ Member t (joins_of joined (ys ++ old))) (sym one_more)
-        (through (more t)
-        (through (in_each (so t) (joins_with_same joined n copy (joins_of joined all) so t))
-        (through (back (joins_step joined n all t)) (joins_same (n ∷ all) ((take i xs ++ n ∷ []) ++ old) turned t))))
-
-    pub fresh_adds : (kept copy due copied now : List T) → copy ≡ kept → copied ≡ due → ((t : T) → Member t now ↔ (Member t copied ⊎ Member t (joins_with joined n copy))) → AddsJoins joined first (take i xs) kept → AddsFresh joined first before (take i xs) due → AddsFresh joined first before (take (i + 1) xs) now
-    fresh_adds kept copy due copied now e d more adds fresh old same t =
-        let all = take i xs ++ old in
-        let so : SameMembers copy (joins_of joined all) = subst (λ ks. SameMembers ks (joins_of joined all)) (sym e) (adds old same) in
-        let was : Member t copied ↔ (Member t before ⊎ IsFresh joined (take i xs) old t) = subst (λ ds. Member t ds ↔ (Member t before ⊎ IsFresh joined (take i xs) old t)) (sym d) (fresh old same t) in
-        let turned = fresh_same (n ∷ take i xs) (take i xs ++ n ∷ []) old old (same_pushed n (take i xs)) (λ s. ((λ m. m), (λ m. m))) t in
-        subst (λ ys. Member t now ↔ (Member t before ⊎ IsFresh joined ys old t)) (sym one_more)
-        (through (more t)
-        (through (in_each was (joins_with_same joined n copy (joins_of joined all) so t))
-        (through (regrouped (Member t before) (IsFresh joined (take i xs) old t) (Member t (joins_with joined n (joins_of joined all))))
-        (in_each ((λ m. m), (λ m. m)) (through (back (fresh_more n (take i xs) old t)) turned)))))
-
-  -- at the end all are added, in whatever order they came
-  pub adds_all : (first xs new now : List T) (i : ℕ) → length xs ≤ i → SameMembers new xs → AddsJoins joined first (take i xs) now → AddsJoins joined first new now
-  adds_all first xs new now i l same adds old so t =
-      let all : AddsJoins joined first xs now = subst (λ ys. AddsJoins joined first ys now) (take_all i xs l) adds in
-      through (all old so t) (back (joins_same (new ++ old) (xs ++ old) (same_append new xs old same) t))
-
-  pub fresh_all : (first before xs new now : List T) (i : ℕ) → length xs ≤ i → SameMembers new xs → AddsFresh joined first before (take i xs) now → AddsFresh joined first before new now
-  fresh_all first before xs new now i l same adds old so t =
-      let all : AddsFresh joined first before xs now = subst (λ ys. AddsFresh joined first before ys now) (take_all i xs l) adds in
-      through (all old so t) (in_each ((λ m. m), (λ m. m)) (back (fresh_same new xs old old same (λ s. ((λ m. m), (λ m. m))) t)))

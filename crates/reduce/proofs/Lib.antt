@@ -13,6 +13,8 @@ mod ReadingLemmas
 mod ResultLemmas
 mod SettleLemmas
 mod StandingLemmas
+mod VisitLemmas
 pub mod MemberLemmas
 pub mod OrderLemmas
 pub mod JoinLemmas
+pub mod AddingLemmas

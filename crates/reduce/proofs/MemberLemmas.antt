@@ -1,29 +1,37 @@
 -- Members of lists: of the parts of a list, of images, and of lists with the same members.
-use Rattle.std.proofs.Common.{◌≡◌, ◌↔◌, ℕ, zero, suc, ◌-◌, ◌<◌, List, [], ◌∷◌, ◌++◌, map, length, get_or, ◌⊎◌, inl, inr, ⊎_elim, refl, sym, ap, subst, arith}
+use Rattle.std.proofs.Common.{◌≡◌, ◌↔◌, ℕ, zero, suc, ◌-◌, ◌<◌, List, [], ◌∷◌, ◌++◌, map, length, get_or, ◌⊎◌, inl, inr, ⊎_elim, refl, sym, ap, arith}
 use Rattle.std.specs.List.{Contains}
 use Rattle.reduce.specs.Joined.{Member}
 use Rattle.reduce.specs.Adding.{SameMembers}
 
 -- ---- facts that hold together
 
+pub itself : {A : Type 0} → (A ↔ A)
+itself = ((λ a. a), (λ a. a))
+
+-- a fact with a second one, and this with a third
 pub through : {A B C : Type 0} → (A ↔ B) → (B ↔ C) → (A ↔ C)
 through p q = ((λ a. q.0 (p.0 a)), (λ c. p.1 (q.1 c)))
 
+-- the same, the other way round
 pub back : {A B : Type 0} → (A ↔ B) → (B ↔ A)
 back p = (p.1, p.0)
 
+-- one of two facts
 pub in_each : {A B C D : Type 0} → (A ↔ B) → (C ↔ D) → (A ⊎ C) ↔ (B ⊎ D)
 in_each p q = (
   (λ m. ⊎_elim (λ a. inl (p.0 a)) (λ c. inr (q.0 c)) m),
   (λ m. ⊎_elim (λ b. inl (p.1 b)) (λ d. inr (q.1 d)) m),
 )
 
+-- one of three facts, however they are grouped
 pub regrouped : (A B C : Type 0) → ((A ⊎ B) ⊎ C) ↔ (A ⊎ (B ⊎ C))
 regrouped A B C = (
   (λ m. ⊎_elim (λ l. ⊎_elim (λ a. inl a) (λ b. inr (inl b)) l) (λ c. inr (inr c)) m),
   (λ m. ⊎_elim (λ a. inl (inl a)) (λ r. ⊎_elim (λ b. inl (inr b)) (λ c. inr c) r) m),
 )
 
+-- one of two facts, in either order
 pub exchanged : (A B : Type 0) → (A ⊎ B) ↔ (B ⊎ A)
 exchanged A B = ((λ m. ⊎_elim (λ a. inr a) (λ b. inl b) m), (λ m. ⊎_elim (λ b. inr b) (λ a. inl a) m))
 
@@ -93,13 +101,11 @@ module _ {X : Type 0} where
     (λ m. member_from_contains xs x (from x (contains_from_member ys x m))),
   )
 
-  pub same_through : (xs ys zs : List X) → SameMembers xs ys → SameMembers ys zs → SameMembers xs zs
-  same_through xs ys zs p q x = through (p x) (q x)
-
   -- an element may stand first or last
   pub same_pushed : (x : X) (xs : List X) → SameMembers (x ∷ xs) (xs ++ x ∷ [])
   same_pushed x xs y = through (exchanged (y ≡ x) (Member y xs)) (back (pushed_members y x xs))
 
+  -- the members of two lists, one after the other
   pub append_members : (x : X) (xs ys : List X) → Member x (xs ++ ys) ↔ (Member x xs ⊎ Member x ys)
   append_members x xs ys = (
     in_either x xs ys,
@@ -109,12 +115,7 @@ module _ {X : Type 0} where
   -- lists with the same members still have the same when they are followed by a third
   pub same_append : (xs ys zs : List X) → SameMembers xs ys → SameMembers (xs ++ zs) (ys ++ zs)
   same_append xs ys zs same x =
-      through (append_members x xs zs) (through (in_each (same x) ((λ m. m), (λ m. m))) (back (append_members x ys zs)))
-
-  -- a list that was merged with a copy of one with the same members as a third
-  pub merged_with : (xs copy ys zs out : List X) → copy ≡ ys → SameMembers ys zs → ((x : X) → Member x out ↔ (Member x xs ⊎ Member x copy)) → (x : X) → Member x out ↔ (Member x xs ⊎ Member x zs)
-  merged_with xs copy ys zs out e same merged x =
-      through (merged x) (in_each ((λ m. m), (λ m. m)) (subst (λ us. Member x us ↔ Member x zs) (sym e) (same x)))
+      through (append_members x xs zs) (through (in_each (same x) itself) (back (append_members x ys zs)))
 
 module _ {X Y : Type 0} (f : X → Y) where
   -- the image of a member is a member of the images

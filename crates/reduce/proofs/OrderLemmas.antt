@@ -12,7 +12,7 @@ use Rattle.std.proofs.lemmas.List.{append-nil, drop_more, take_rest}
 use Rattle.std.proofs.lemmas.Map.Keys.{sorted_head, sorted_tail}
 use Rattle.reduce.specs.Joined.{Member}
 use Rattle.reduce.specs.Adding.{IsMerging}
-use Rattle.reduce.proofs.MemberLemmas.{in_left, in_right, in_either, pushed_members, through, in_each, exchanged}
+use Rattle.reduce.proofs.MemberLemmas.{in_left, in_right, in_either, member_last, pushed_members, itself, through, in_each, exchanged}
 
 -- times that compare as equal are equal
 pub equal_from_eq : {T : Type 0} (eq : T → T → Bool) {cmp : T → T → Ordering} → ((x y : T) → eq x y ≡ is_eq (cmp x y)) → ((x y : T) → cmp x y ≡ Equal → x ≡ y) → (x y : T) → eq x y ≡ true → x ≡ y
@@ -22,6 +22,12 @@ equal_from_eq eq {cmp} ties exact x y e = exact x y (step (cmp x y) (sym (ties x
     step Less h = absurd (true≢false (sym h))
     step Equal h = refl
     step Greater h = absurd (true≢false (sym h))
+
+-- if the last time of a list ties with another, then the list has the other already
+pub last_again : {T : Type 0} (eq : T → T → Bool) {cmp : T → T → Ordering} → ((x y : T) → eq x y ≡ is_eq (cmp x y)) → ((x y : T) → cmp x y ≡ Equal → x ≡ y) → (ts : List T) (last t : T) → 0 < length ts → last ≡ get_or ts (length ts - 1) last → true ≡ eq last t → (s : T) → Member s ts ↔ (Member s ts ⊎ (s ≡ t))
+last_again eq ties exact ts last t l e same s =
+    let tied = equal_from_eq eq ties exact last t (sym same) in
+    ((λ m. inl m), (λ m. ⊎_elim (λ k. k) (λ d. subst (λ r. Member r ts) (tied ∙ sym d) (member_last ts last l e)) m))
 
 module _ {T : Type 0} (P : T → Type 0) where
   both : (xs ys : List T) → AllByRecursion P xs → AllByRecursion P ys → AllByRecursion P (xs ++ ys)
@@ -120,7 +126,7 @@ module _ {T : Type 0} {cmp : T → T → Ordering} (total : IsTotalOrder cmp) wh
     ascending_left = m.ascending_right;
     ascending_right = m.ascending_left;
     members = λ t.
-        through (in_each ((λ k. k), (λ k. k)) (exchanged (Member t right) (Member t left)))
+        through (in_each itself (exchanged (Member t right) (Member t left)))
         (through (m.members t) (exchanged (Member t xs) (Member t ys)));
   }
 
@@ -160,7 +166,7 @@ module _ {T : Type 0} {cmp : T → T → Ordering} (total : IsTotalOrder cmp) wh
       subst (λ zs. IsMerging cmp xs ys zs [] []) (sym (append-nil (out ++ (x ∷ left)))) (rest xs ys out (x ∷ left) m)
   rests xs ys out (x ∷ left) (y ∷ right) n m = absurd (n (omega arith) (omega arith))
 
-  module _ {xs ys out new : List T} (i j : ℕ) where
+  module _ {xs ys out : List T} (new : List T) (i j : ℕ) where
     -- taking the left time keeps `IsMerging`
     pub take_left : (x y : T) → i < length xs → j < length ys → x ≡ get_or xs i x → y ≡ get_or ys j y → cmp x y ≡ Less → new ≡ out ++ x ∷ [] → IsMerging cmp xs ys out (drop i xs) (drop j ys) → IsMerging cmp xs ys new (drop (i + 1) xs) (drop j ys)
     take_left x y h k e d l w m =
@@ -180,10 +186,10 @@ module _ {T : Type 0} {cmp : T → T → Ordering} (total : IsTotalOrder cmp) wh
         (step_both xs ys out (drop (i + 1) xs) (drop (j + 1) ys) x here)
 
   -- taking the right time keeps `IsMerging`
-  pub take_right : {xs ys out new : List T} (i j : ℕ) (x y : T) → i < length xs → j < length ys → x ≡ get_or xs i x → y ≡ get_or ys j y → cmp x y ≡ Greater → new ≡ out ++ y ∷ [] → IsMerging cmp xs ys out (drop i xs) (drop j ys) → IsMerging cmp xs ys new (drop i xs) (drop (j + 1) ys)
-  take_right {xs} {ys} {out} {new} i j x y h k e d g w m =
+  pub take_right : {xs ys out : List T} (new : List T) (i j : ℕ) (x y : T) → i < length xs → j < length ys → x ≡ get_or xs i x → y ≡ get_or ys j y → cmp x y ≡ Greater → new ≡ out ++ y ∷ [] → IsMerging cmp xs ys out (drop i xs) (drop j ys) → IsMerging cmp xs ys new (drop i xs) (drop (j + 1) ys)
+  take_right {xs} {ys} {out} new i j x y h k e d g w m =
       let less : cmp y x ≡ Less = total.antisymm y x ∙ ap ordering_reverse g in
-      turned ys xs new (drop (j + 1) ys) (drop i xs) (take_left j i y x k h d e less w (turned xs ys out (drop i xs) (drop j ys) m))
+      turned ys xs new (drop (j + 1) ys) (drop i xs) (take_left new j i y x k h d e less w (turned xs ys out (drop i xs) (drop j ys) m))
 
   -- writing the rest of both lists ends the merge
   pub ends : {xs ys out mid new : List T} (i j : ℕ) → (i < length xs → j < length ys → ⊥) → mid ≡ out ++ take (length xs - i) (drop i xs) → new ≡ mid ++ take (length ys - j) (drop j ys) → IsMerging cmp xs ys out (drop i xs) (drop j ys) → IsMerging cmp xs ys new [] []

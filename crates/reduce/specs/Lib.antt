@@ -8,5 +8,6 @@ pub mod Corrections
 pub mod Kinds
 pub mod Taking
 pub mod Adding
+pub mod Visiting
 pub mod Owing
 pub mod Settling

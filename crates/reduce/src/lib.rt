@@ -13,6 +13,7 @@ mod reading;
 mod reducer;
 mod settling;
 mod times;
+mod visiting;
 
 pub use count::Count;
 pub use distinct::Distinct;

@@ -1,9 +1,11 @@
-//! The joined times of a key, kept in two ascending lists: all of them, and the pending ones. A new time adds itself and
-//! its join with each time that is kept, and all of these are pending from then on.
+//! The joined times of a key, in two ascending lists: all of them, and the pending ones. A new time adds itself and its
+//! join with each time that is kept, and all of these are pending from then on.
 //!
-//! A late time joins with many early ones to itself. So a join that is equal to the one before it is not written, the
-//! list of new joins stays short, and only this list is sorted. The kept times are merged with it in one pass, and never
-//! sorted again.
+//! The invariant after each new time: the kept times are the joins of all times so far, and the pending ones are those
+//! that were pending before and the joins that a new time takes part in.
+//!
+//! A late time joins with many early ones to itself. So a join is not written if it is equal to the one written last.
+//! The list of new joins stays short, and no other list is sorted: the kept times are merged with it in one pass.
 //!
 //! Each call makes new lists, so a call that is refused has changed nothing.
 ghost use Rattle.std.specs.Prelude.{◌≡◌, ◌↔◌, ◌⊎◌, ◌≤◌, ◌<◌, ◌+◌, ◌++◌, List, drop, length, IfOk, IfErr, OnOk};
@@ -134,7 +136,8 @@ fn take_from_both<T: Lattice>(out: &mut Vec<T>, xs: &[T], ys: &[T]) -> Result<Me
     Ok(at)
 }
 
-// The times of both lists, each once and in order. One comparison for each time that is written, and one allocation.
+// The times of both lists, each once and in order. At most one comparison for each time that is written, and one
+// allocation.
 fn merged<T: Lattice>(alloc: Global, xs: &[T], ys: &[T]) -> Result<Vec<T>, Refusal>
     requires left { IsStrictlySortedBy T.cmp xs.now }
     requires right { IsStrictlySortedBy T.cmp ys.now }

@@ -1,5 +1,5 @@
 use Rattle.std.proofs.Common.{arith}
-use Rattle.reduce.proofs.JoinLemmas.{joins_with_more, joins_with_all}
+use Rattle.reduce.proofs.AddingLemmas.{joins_with_more, joins_with_all}
 use Rattle.reduce.proofs.times.joins_with.Goals as goal
 
 pub loop-s-preserved : goal.loop-s-preserved

@@ -1,18 +1,15 @@
-use Rattle.std.proofs.Common.{◌≡◌, true, ◌∙◌, sym, subst, inl, ⊎_elim}
+use Rattle.std.proofs.Common.{◌↔◌, ◌⊎◌, ◌≡◌, subst}
 use Rattle.reduce.specs.Joined.{Member}
-use Rattle.reduce.proofs.MemberLemmas.{member_last, pushed_members}
-use Rattle.reduce.proofs.OrderLemmas.{equal_from_eq}
+use Rattle.reduce.proofs.MemberLemmas.{pushed_members}
+use Rattle.reduce.proofs.OrderLemmas.{last_again}
 use Rattle.reduce.proofs.times.push_unless_last.Goals as goal
 
 -- the last time is the given one
 pub returns-clause-members : goal.returns-clause-members
 returns-clause-members g c s =
-    let last = c.in-Some.last.now in
-    let item = c.in-Some.ensures.item in
-    let test : g.T.PartialEq.eq last c.args.t ≡ true = sym c.if-eq.ensures in
-    let same : last ≡ c.args.t = equal_from_eq g.T.PartialEq.eq g.met.T.Ord.matches_eq g.met.T.Lattice.extends.exact last c.args.t test in
-    let there : Member last c.args.times.now.items = subst (λ xs. Member last xs) c.deref.ensures.value (member_last c.deref.result.now last item.3.0 item.1) in
-    ((λ m. inl m), (λ m. ⊎_elim (λ k. k) (λ e. subst (λ t. Member t c.args.times.now.items) (same ∙ sym e) there) m))
+    let last = c.in-Some.ensures.item in
+    subst (λ ts. Member s ts ↔ (Member s ts ⊎ (s ≡ c.args.t))) c.deref.ensures.value
+    (last_again g.T.PartialEq.eq g.met.T.Ord.matches_eq g.met.T.Lattice.extends.exact c.deref.result.now c.in-Some.last.now c.args.t last.3.0 last.1 c.if-eq.ensures s)
 
 pub returns-2-clause-members : goal.returns-2-clause-members
 returns-2-clause-members g c s =

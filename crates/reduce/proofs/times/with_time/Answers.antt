@@ -1,5 +1,5 @@
 use Rattle.reduce.specs.Adding.{joins_with}
-use Rattle.reduce.proofs.MemberLemmas.{merged_with}
+use Rattle.reduce.proofs.AddingLemmas.{merged_with}
 use Rattle.reduce.proofs.times.with_time.Goals as goal
 
 pub returns-clause-times : goal.returns-clause-times

@@ -1,6 +1,6 @@
 use Rattle.std.proofs.Common.{take}
 use Rattle.std.specs.List.Sorted.{IsStrictlySortedBy}
-use Rattle.reduce.proofs.JoinLemmas.{AddsJoins, AddsFresh}
+use Rattle.reduce.proofs.AddingLemmas.{AddsJoins, AddsFresh}
 use Rattle.reduce.proofs.times.with_times.Given as goal
 
 -- the times so far are added
