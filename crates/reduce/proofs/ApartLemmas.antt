@@ -32,7 +32,7 @@ module _ {T : Type 0} {below : T → T → Bool} (o : PartialOrderLaws below) wh
   at_itself u = and_from (same_row u.row u.row) (below u.time u.time && below u.time u.time) (row_itself u.row) (and_from (below u.time u.time) (below u.time u.time) (o.reflexive u.time) (o.reflexive u.time))
 
   -- an update is doubled by the next one where that is of its row and time
-  doubled : (u v : Update T) → (u.row ≡ v.row) → (u.time ≡ v.time) → is_doubled below u v ≡ true
+  pub doubled : (u v : Update T) → (u.row ≡ v.row) → (u.time ≡ v.time) → is_doubled below u v ≡ true
   doubled u v r t =
       and_from (below u.time v.time && below v.time u.time) (same_row u.row v.row)
       (and_from (below u.time v.time) (below v.time u.time) (subst (λ z. below u.time z ≡ true) t (o.reflexive u.time)) (subst (λ z. below z u.time ≡ true) t (o.reflexive u.time)))

@@ -10,6 +10,8 @@ mod JoinedLemmas
 mod KeyedLemmas
 mod OverfullLemmas
 mod ReadingLemmas
+mod RenewLemmas
+mod ReadyLemmas
 mod ResultLemmas
 mod SettleLemmas
 mod StandingLemmas

@@ -62,6 +62,10 @@ module _ {T : Type 0} where
   AreHistories cmp k (h ∷ hs) = IsHistory cmp k h × AreHistories cmp k hs
 
 module _ {T : Type 0} where
+  -- each of them has pending times
+  abbrev pub ArePending : List (HistoryState T) → Type 0
+  ArePending hs = (h : HistoryState T) → Member h hs → h.due ≢ []
+
   -- the places of the histories that have pending times, each once
   pub record IsWaiting (hs : List (HistoryState T)) (waiting : List ℕ) : Type 0 where
     pub once : AreOnce waiting
@@ -70,4 +74,9 @@ module _ {T : Type 0} where
 -- the histories in order of arrival, and how many more there is room for
 pub record HistoriesState (T : Type 0) : Type 0 where
   pub items : List (HistoryState T)
+  pub spare : ℕ
+
+-- places in a list, and how many more there is room for
+pub record PlacesState : Type 0 where
+  pub items : List ℕ
   pub spare : ℕ

@@ -9,5 +9,6 @@ pub mod Kinds
 pub mod Taking
 pub mod Adding
 pub mod Visiting
+pub mod Reductions
 pub mod Owing
 pub mod Settling

@@ -1,5 +1,5 @@
 -- How a reduction goes through the keys that wait: each is visited once, and its history is renewed.
-use Rattle.std.specs.Prelude.{◌≡◌, ℕ, Bool, not, List, [], ◌∷◌, ◌++◌, map, set, slice_get, Some, if◌then◌else◌, flat_map, length, sum_by, nat_eq, ℤ}
+use Rattle.std.specs.Prelude.{◌≡◌, ℕ, Bool, not, List, [], ◌∷◌, ◌++◌, map, set, slice_get, Some, IsSomeAnd, if◌then◌else◌, flat_map, length, sum_by, nat_eq, ℤ}
 use Rattle.std.specs.List.{filter, list_any}
 use Rattle.lattice.specs.Frontiers.{is_beyond}
 use Rattle.update.specs.Bags.{Entry}
@@ -30,6 +30,12 @@ module _ {T : Type 0} where
   abbrev pub all_replaced : List (Change T) → List (HistoryState T) → List (HistoryState T)
   all_replaced [] hs = hs
   all_replaced (c ∷ cs) hs = all_replaced cs (set hs c.place c.history)
+
+  -- each of them is of the key that has a history at its place
+  abbrev pub AreChanges : List (Change T) → List (HistoryState T) → Type 0
+  AreChanges [] hs = Unit {0}
+  AreChanges (c ∷ cs) hs =
+      IsSomeAnd (slice_get hs c.place) (λ h. h.key ≡ c.history.key) × AreChanges cs (set hs c.place c.history)
 
   -- a key waits on if some of its times are still pending
   abbrev pub waits_on : Visit T → List ℕ

@@ -9,6 +9,7 @@ mod extremes;
 mod histories;
 mod history;
 mod kinds;
+mod places;
 mod reading;
 mod reducer;
 mod settling;

@@ -10,7 +10,7 @@ ghost use Rattle.trace.specs.Readings.{all_content};
 ghost use Rattle.reduce.specs.Joined.{of_key, Member};
 ghost use Rattle.reduce.specs.Histories.{HistoryState, AreHistories};
 ghost use Rattle.reduce.specs.Settling.{IsOverfullFor};
-ghost use Rattle.reduce.specs.Visiting.{Visit, IsVisit, Gathers, changes_of, waits_on, reads_of};
+ghost use Rattle.reduce.specs.Visiting.{Visit, IsVisit, Gathers, AreChanges, all_replaced, changes_of, waits_on, reads_of};
 
 use crate::histories::Histories;
 use crate::reading::rows_of;
@@ -216,4 +216,14 @@ pub(crate) fn visit_all<T: Lattice, R: Reducer, B: BatchReader<Time = T>>(
         visit(alloc, reducer, histories, *place, frontier, batches, &mut gathered)?;
     }
     Ok(gathered)
+}
+
+/// Puts the new histories in the place of the old ones. Takes no memory.
+pub(crate) fn replace_all<T: Lattice>(histories: &mut Histories<T>, changes: Vec<Change<T>>)
+    requires { AreChanges changes.items histories.old.items }
+    ensures { histories.new.items ≡ all_replaced changes.items histories.old.items }
+{
+    for change in changes {
+        histories.replace(change.place, change.history);
+    }
 }

@@ -1,0 +1,45 @@
+-- For which updates a reduction stands, and what its calls are to say of them.
+use Rattle.std.specs.Prelude.{◌≡◌, ◌↔◌, ℕ, Bool, true, false, List, ℤ, IsTrue, take, length, slice_get, Option, Some, None, sum_by, if◌then◌else◌}
+use Rattle.std.specs.List.{filter}
+use Rattle.lattice.specs.Frontiers.{is_beyond}
+use Rattle.update.specs.Bags.{Entry, Alike}
+use Rattle.update.specs.Updates.{as_of}
+use Rattle.update.specs.declared.change.Update.{Update}
+use Rattle.reduce.specs.Joined.{Member, of_key, IsJoined}
+use Rattle.reduce.specs.Standing.{are_wide, KeyStands, IsSettledAt, Shows}
+use Rattle.reduce.specs.Histories.{HistoryState, due_of, joined_of, given_of}
+use Rattle.reduce.specs.Visiting.{is_due}
+
+module _ {T : Type 0} (below : T → T → Bool) where
+  -- these histories are those of all keys, after these updates were taken and those given
+  pub record StandsFor (joined : T → T → T) (k : ℕ) (reduce : List ℤ → List Entry → List Entry)
+      (hs : List (HistoryState T)) (taken given : List (Update T)) : Type 0 where
+    -- each row that was taken has a key
+    pub wide : IsTrue (are_wide k taken)
+    pub times : (key : List ℤ) (t : T) → Member t (joined_of key hs) ↔ IsJoined joined k taken key t
+    pub keys : (key : List ℤ) → KeyStands below joined k reduce taken given key (due_of key hs)
+    pub shown : (key : List ℤ) → Shows below k key (given_of key hs) given
+
+  -- no pending time of its key is at or before the time of an update that was given
+  abbrev pub IsOpenTo : ℕ → List (Update T) → List (HistoryState T) → Type 0
+  IsOpenTo k given hs = (g : Update T) → Member g given → IsSettledAt below (due_of (take k g.row) hs) g.time
+
+  -- no pending time of any key is at or before t
+  abbrev pub IsQuietAt : List (HistoryState T) → T → Type 0
+  IsQuietAt hs t = (key : List ℤ) → IsSettledAt below (due_of key hs) t
+
+  -- at the times beyond the since that the frontier has passed, what was inserted sums to what was taken
+  abbrev pub SumsToTaken : List T → List T → List (Update T) → List (Update T) → Type 0
+  SumsToTaken since front inserted taken =
+      (t : T) → IsTrue (is_beyond below since t) → is_beyond below front t ≡ false
+      → Alike (as_of below t inserted) (as_of below t taken)
+
+  -- how many updates the rows of a key with this history have, if one of its pending times is due
+  abbrev pub reads_in : List T → List (Update T) → Option (HistoryState T) → ℕ
+  reads_in front content None = 0
+  reads_in front content (Some h) =
+      if is_due below front h then length (filter (of_key (length h.key) h.key) content) else 0
+
+  -- how many updates the rows of all keys at these places have of which some pending time is due
+  abbrev pub all_reads : List T → List (Update T) → List (HistoryState T) → List ℕ → ℕ
+  all_reads front content hs places = sum_by (λ i. reads_in front content (slice_get hs i)) places
