@@ -12,6 +12,9 @@ mod OverfullLemmas
 mod ReadingLemmas
 mod RenewLemmas
 mod ReadyLemmas
+mod RestLemmas
+mod FinalLemmas
+mod TraceLemmas
 mod ResultLemmas
 mod SettleLemmas
 mod StandingLemmas

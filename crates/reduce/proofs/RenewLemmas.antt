@@ -78,7 +78,7 @@ module _ {T : Type 0} (below : T → T → Bool) (front : List T) (joined : T �
         ∙ (ap (λ m. record v.history { given = v.history.given ++ m }) nothing_more ∙ ap (λ z. record v.history { given = z }) (append-nil v.history.given))
 
   -- visits to other places are visits after one of them too
-  visits_after : (hs : List (HistoryState T)) (v : Visit T) (vs : List (Visit T)) → (Member v.place (map (λ v. v.place) vs) → ⊥) → AreVisits below front joined reduce content hs vs → AreVisits below front joined reduce content (set hs v.place (renewed v)) vs
+  pub visits_after : (hs : List (HistoryState T)) (v : Visit T) (vs : List (Visit T)) → (Member v.place (map (λ v. v.place) vs) → ⊥) → AreVisits below front joined reduce content hs vs → AreVisits below front joined reduce content (set hs v.place (renewed v)) vs
   visits_after hs v [] n a = tt
   visits_after hs v (w ∷ vs) n a = (
     record { there = set_other hs v.place w.place (renewed v) (λ e. n (inl e)) ∙ a.0.there; settled = a.0.settled },

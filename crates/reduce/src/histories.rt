@@ -64,6 +64,13 @@ impl<T: Lattice> Histories<T> {
         self.histories.len()
     }
 
+    /// Tells the prover that no key occurs twice. Costs nothing.
+    pub(crate) fn known(&self)
+        ensures { AreKeysApart self.now.items }
+    {
+        let _ = &self.keys;
+    }
+
     /// The index of the history of a key, if the key has one. Takes no memory.
     ///
     /// Cost: one look-up of a hash.

@@ -13,6 +13,7 @@ mod places;
 mod reading;
 mod reducer;
 mod settling;
+mod state;
 mod times;
 mod visiting;
 
@@ -22,3 +23,4 @@ pub use extremes::{Max, Min};
 pub use history::KeyHistory;
 pub use kinds::kinds_are_reductions;
 pub use reducer::Reducer;
+pub use state::ReduceState;

@@ -1,0 +1,120 @@
+-- What holds once all visits are put in place: of the histories as they were and as they are, and of what is given.
+use Rattle.std.proofs.Common.{◌≡◌, ℕ, ◌+◌, ◌-◌, ◌^◌, ◌≤◌, min, Bool, true, false, not, List, [], ◌∷◌, ◌++◌, map, take, length, slice_get, IsSomeAnd, IsTrue, refl, sym, ap, subst, ◌∙◌, inl, inr, ⊎_elim, arith}
+use Rattle.std.specs.Prelude.{flat_map, sum_by, ℤ}
+use Rattle.std.specs.List.{filter, list_all}
+use Rattle.std.specs.List.Sorted.{IsStrictlySortedBy}
+use Rattle.std.specs.Cmp.{IsTotalOrder}
+use Rattle.std.specs.declared.cmp.Ordering.{Ordering}
+use Rattle.lattice.specs.Order.{PartialOrderLaws, LatticeLaws}
+use Rattle.lattice.specs.Frontiers.{is_beyond}
+use Rattle.update.specs.Bags.{Entry, Alike}
+use Rattle.update.specs.Updates.{as_of, total_where, AreApart, HasLargeTotal, IsConsolidated}
+use Rattle.update.specs.declared.change.Update.{Update}
+use Rattle.plan.specs.Changes.{has_passed}
+use Rattle.plan.specs.Operators.{reduction_output}
+use Rattle.plan.specs.Reductions.{IsReducer}
+use Rattle.plan.proofs.CountLemmas.{row_same}
+use Rattle.trace.specs.Readings.{IsReadable}
+use Rattle.reduce.specs.declared.visiting.Change.{Change}
+use Rattle.reduce.specs.Joined.{Member, AreOnce, of_key}
+use Rattle.reduce.specs.Histories.{HistoryState, AreHistories, AreKeysApart, IsWaiting, due_of}
+use Rattle.reduce.specs.Standing.{KeyStands, Shows}
+use Rattle.reduce.specs.Owing.{IsOverfull}
+use Rattle.reduce.specs.Reductions.{StandsFor, IsOpenTo, IsQuietAt, SumsToTaken, all_reads}
+use Rattle.reduce.specs.Settling.{ReadsAs, IsOverfullFor}
+use Rattle.reduce.specs.Visiting.{Visit, Gathers, AreChanges, all_renewed, all_replaced, waits_on, reads_of}
+use Rattle.reduce.proofs.ApartLemmas.{apart_fits}
+use Rattle.reduce.proofs.CorrectLemmas.{apart_consolidated}
+use Rattle.reduce.proofs.HistoryLemmas.{at_place, of_there}
+use Rattle.reduce.proofs.ReadyLemmas.{apart_raw, out_at, stands_after, rest_is, quiet, apart_after}
+use Rattle.reduce.proofs.RenewLemmas.{replaced_is, changes_fit, from_visit, visit_in}
+use Rattle.reduce.proofs.RestLemmas.{waiting_after, histories_after, history_there, reads_are_all}
+use Rattle.reduce.proofs.StandingLemmas.{law}
+
+-- what is stored reads as what was taken, at the pending times that are due
+pub reads_as : {T : Type 0} (below : T → T → Bool) (since front due : List T) (content inserted taken : List (Update T)) → ((t : T) → Member t due → is_beyond below front t ≡ false → IsTrue (is_beyond below since t))
+    → IsReadable below since content inserted → SumsToTaken below since front inserted taken → ReadsAs below front due content taken
+reads_as below since front due content inserted taken held r s t m p row = r.sums t (held t m p) row ∙ s t (held t m p) p row
+
+module _ {T : Type 0} {below : T → T → Bool} {joined met : T → T → T} (cmp : T → T → Ordering) (total : IsTotalOrder cmp) (o : PartialOrderLaws below) (l : LatticeLaws below joined met) (k : ℕ) (reduce : List ℤ → List Entry → List Entry) (q : IsReducer k reduce)
+    (content : List (Update T)) (front : List T) (hs : List (HistoryState T)) (known : AreHistories cmp k hs) (apart : AreKeysApart hs) (places : List ℕ) (waits : IsWaiting hs places) where
+  -- a key for which a number is too large
+  pub overfull_of : (i : ℕ) → IsSomeAnd (slice_get hs i) (λ h. IsOverfullFor below joined (length h.key) reduce h.key content h.given front h.due)
+      → (taken given : List (Update T)) → ((key : List ℤ) → ReadsAs below front (due_of key hs) content taken) → StandsFor below joined k reduce hs taken given → AreApart below given → IsOpenTo below k given hs
+      → ((g : Update T) → Member g given → IsTrue (has_passed below front g.time)) → IsOverfull below k reduce taken front
+  overfull_of i s taken given rd st ag op ps =
+      let p = at_place (slice_get hs i) s in
+      let h = p.0 in
+      let key = h.key in
+      let width = (history_there below front joined reduce content cmp k hs i h p.1 known).width in
+      let cause = subst (λ n. IsOverfullFor below joined n reduce key content h.given front h.due) width p.2 in
+      let due = of_there (λ h. h.due) hs i h apart p.1 in
+      let stored = of_there (λ h. h.given) hs i h apart p.1 in
+      cause taken given (subst (λ z. ReadsAs below front z content taken) due (rd key)) (subst (λ z. Shows below k key z given) stored (st.shown key))
+      (subst (KeyStands below joined k reduce taken given key) due (st.keys key)) ag
+      (λ g m e v n b. op g m v (subst (Member v) (sym (ap (λ z. due_of z hs) (row_same (take k g.row) key e) ∙ due)) n) b) ps
+
+  module _ (visits : List (Visit T)) (gathered : List (Update T)) (changes : List (Change T)) (waiting : List ℕ) (reads : ℕ) (g : Gathers below front joined reduce content hs places visits gathered changes waiting reads) where
+    once : AreOnce (map (λ v. v.place) visits)
+    once = subst AreOnce (sym g.places_are) waits.once
+
+    all : (i : ℕ) → IsSomeAnd (slice_get hs i) (λ h. h.due ≡ [] → ⊥) → Member i (map (λ v. v.place) visits)
+    all i s = subst (Member i) (sym g.places_are) ((waits.exact i).1 s)
+
+    pub fits : HasLargeTotal below gathered → ⊥
+    fits h =
+        apart_fits o gathered (subst (AreApart below) (sym g.out_is) (apart_raw cmp o l k reduce content front hs known apart visits g.visits_are once))
+        (λ u m. let r = from_visit below front joined reduce content visits u (subst (Member u) g.out_is m) in (visit_in below front joined reduce content hs visits g.visits_are r.0 r.1).settled.fits u r.2) h
+
+    pub changes_are_fit : AreChanges changes hs
+    changes_are_fit = subst (λ z. AreChanges z hs) (sym g.changes_are) (changes_fit below front joined reduce content visits hs once g.visits_are)
+
+    module _ (new : List (HistoryState T)) (is : new ≡ all_replaced changes hs) where
+      renewed_is : new ≡ all_renewed visits hs
+      renewed_is = is ∙ (ap (λ z. all_replaced z hs) g.changes_are ∙ replaced_is below front joined reduce content visits hs once g.visits_are)
+
+      pub known_after : AreHistories cmp k new
+      known_after = subst (AreHistories cmp k) (sym renewed_is) (histories_after below front joined reduce content cmp k visits hs once g.visits_are known)
+
+      pub waits_after : IsWaiting new waiting
+      waits_after =
+          subst (λ z. IsWaiting z waiting) (sym renewed_is) (subst (IsWaiting (all_renewed visits hs)) (sym g.waiting_is)
+          (waiting_after below front joined reduce content visits hs once g.visits_are (subst (IsWaiting hs) (sym g.places_are) waits)))
+
+      pub final_rest : (key : List ℤ) → due_of key new ≡ filter (λ t. is_beyond below front t) (due_of key hs)
+      final_rest key = ap (due_of key) renewed_is ∙ rest_is cmp o l k reduce content front hs known apart visits g.visits_are once all key
+
+      pub reads_are : reads ≡ all_reads below front content hs places
+      reads_are = g.reads_are ∙ (reads_are_all below front joined reduce content visits hs g.visits_are ∙ ap (all_reads below front content hs) g.places_are)
+
+      module _ (out : List (Update T)) (consolidated : IsConsolidated cmp out) (sums : (t : T) → Alike (as_of below t out) (as_of below t gathered)) (totals : (p : List ℤ → T → Bool) → total_where p out ≡ total_where p gathered)
+          (among : (p : List ℤ → T → Bool) → IsTrue (list_all (λ u. p u.row u.time) gathered) → IsTrue (list_all (λ u. p u.row u.time) out)) where
+        sums2 : (t : T) → Alike (as_of below t out) (as_of below t (flat_map (λ v. v.more) visits))
+        sums2 t = subst (λ z. Alike (as_of below t out) (as_of below t z)) g.out_is (sums t)
+
+        totals2 : (p : List ℤ → T → Bool) → total_where p out ≡ total_where p (flat_map (λ v. v.more) visits)
+        totals2 p = totals p ∙ ap (total_where p) g.out_is
+
+        among2 : (p : List ℤ → T → Bool) → IsTrue (list_all (λ u. p u.row u.time) (flat_map (λ v. v.more) visits)) → IsTrue (list_all (λ u. p u.row u.time) out)
+        among2 p h = among p (subst (λ z. IsTrue (list_all (λ u. p u.row u.time) z)) (sym g.out_is) h)
+
+        pub final_stands : (taken given : List (Update T)) → ((key : List ℤ) → ReadsAs below front (due_of key hs) content taken) → StandsFor below joined k reduce hs taken given → StandsFor below joined k reduce new taken (given ++ out)
+        final_stands taken given rd st = subst (λ z. StandsFor below joined k reduce z taken (given ++ out)) (sym renewed_is) (stands_after cmp o l k reduce content front hs known apart visits g.visits_are once out sums2 totals2 among2 taken given rd st)
+
+        pub final_law : (taken given : List (Update T)) → ((key : List ℤ) → ReadsAs below front (due_of key hs) content taken) → StandsFor below joined k reduce hs taken given
+            → (t : T) → IsQuietAt below new t → Alike (as_of below t (given ++ out)) (reduction_output k reduce (as_of below t taken))
+        final_law taken given rd st t none =
+            let s = final_stands taken given rd st in
+            law o l k reduce q taken (given ++ out) (λ key. due_of key new) s.wide s.keys t none
+
+        pub final_at : (u : Update T) → Member u out → Member u.time (due_of (take k u.row) hs) × (is_beyond below front u.time ≡ false)
+        final_at = out_at cmp o l k reduce content front hs known apart visits g.visits_are once out sums2 totals2 among2
+
+        pub final_quiet : (t : T) → IsTrue (has_passed below front t) → IsQuietAt below new t
+        final_quiet = subst (λ z. (t : T) → IsTrue (has_passed below front t) → IsQuietAt below z t) (sym renewed_is) (quiet cmp o l k reduce content front hs known apart visits g.visits_are once out sums2 totals2 among2 all)
+
+        pub final_apart : (given : List (Update T)) → AreApart below given → IsOpenTo below k given hs → AreApart below (given ++ out) × IsOpenTo below k (given ++ out) new
+        final_apart given ag op =
+            let one = apart_consolidated o total out consolidated.ascending in
+            let r = apart_after cmp o l k reduce content front hs known apart visits g.visits_are once out sums2 totals2 among2 all one given ag op in
+            (r.0, subst (IsOpenTo below k (given ++ out)) (sym renewed_is) r.1)

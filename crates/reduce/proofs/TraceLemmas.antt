@@ -1,0 +1,17 @@
+-- Reading a whole trace.
+use Rattle.std.proofs.Common.{◌≡◌, List, [], ◌∷◌, ◌++◌, Bool, refl, inl, inr, ◌∙◌, sym, subst}
+use Rattle.std.specs.Prelude.{IfSome, Option, Some}
+use Rattle.update.specs.declared.change.Update.{Update}
+use Rattle.trace.specs.Readings.{Insertion, IsUpTo, AreUpTo, IsReadable, all_updates, reached}
+
+module _ {T : Type 0} where
+  -- up to the frontier that a trace has reached are all insertions
+  pub all_up_to : (start upto : List T) (h : List (Insertion T)) → upto ≡ reached start h → AreUpTo start upto h h
+  all_up_to start upto [] e = inr (e, refl)
+  all_up_to start upto (i ∷ h) e = inl (record { last = i; before = h; later = []; is = refl; split = refl; ends = sym e; newest = tt })
+
+  -- so all that is stored reads as all that was inserted
+  pub whole_is_readable : (below : T → T → Bool) (since start upto : List T) (stands : List (Insertion T) → Type 0) (content : List (Update T))
+      → ((h seen : List (Insertion T)) → stands h → AreUpTo start upto h seen → IsReadable below since content (all_updates seen))
+      → (h : List (Insertion T)) → stands h → upto ≡ reached start h → IsReadable below since content (all_updates h)
+  whole_is_readable below since start upto stands content reads h s e = reads h h s (all_up_to start upto h e)

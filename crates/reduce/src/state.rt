@@ -1,0 +1,148 @@
+//! A reduction that is kept up to date. Updates are taken batch by batch; each one makes joined times of its key pending.
+//! Once a frontier has passed a pending time, what the reduction answers there is compared with what was given before,
+//! and the difference is given. No other times and no other keys are looked at.
+//!
+//! The invariant: with a pending time all joined times of its key at or after it are pending, and at each other joined
+//! time what was given is right. So a correction of the past, which makes its time and all later joined times pending,
+//! is given at each of them once, whichever way it alters the answers.
+//!
+//! A call gathers all that it changes aside, and puts it in place at its end. So a refusal leaves the state as it was.
+ghost use Rattle.std.specs.Prelude.{◌≡◌, ◌≤◌, ◌+◌, ◌-◌, ◌^◌, ◌++◌, [], ℕ, ℤ, List, false, min, take, IfErr, IfOk, OnErr, OnOk, IsTrue};
+ghost use Rattle.std.specs.List.{filter, list_all};
+ghost use Rattle.lattice.specs.Frontiers.{is_beyond};
+ghost use Rattle.update.specs.Bags.{Alike};
+ghost use Rattle.update.specs.Refusals.{IsMemoryOrOverflow};
+ghost use Rattle.update.specs.Updates.{as_of, AreApart, IsConsolidated};
+ghost use Rattle.update.specs.declared.change.Update.{Update};
+ghost use Rattle.plan.specs.Changes.{has_passed};
+ghost use Rattle.plan.specs.Operators.{reduction_output};
+ghost use Rattle.trace.specs.Readings.{Insertion, all_updates};
+ghost use Rattle.reduce.specs.Joined.{Member};
+ghost use Rattle.reduce.specs.Histories.{due_of};
+ghost use Rattle.reduce.specs.Owing.{IsOverfull};
+ghost use Rattle.reduce.specs.Reductions.{StandsFor, IsOpenTo, IsQuietAt, SumsToTaken, all_reads};
+
+use crate::Reducer;
+use crate::histories::Histories;
+use crate::places::Places;
+use crate::visiting::{Gathered, replace_all, visit_all};
+use lattice::Lattice;
+use std::alloc::Global;
+use std::marker::Model;
+use trace::Trace;
+use update::{Refusal, Update, consolidate};
+
+/// A reduction by a reducer `R` of rows by their first columns, at times `T`. A contract sees the number of these
+/// columns, the reducer, the history of each key, the places of the keys that wait, and how many updates were read.
+#[derive(Drop)]
+pub struct ReduceState<T: Lattice, R> {
+    key: usize,
+    reducer: R,
+    histories: Histories<T>,
+    waiting: Places,
+    looked: u64,
+}
+
+impl<T: Lattice, R> Model for ReduceState<T, R> {
+    ghost use Rattle.std.specs.Prelude.{◌≤◌};
+    ghost use Rattle.reduce.specs.Histories.{ReduceView, AreHistories, IsWaiting};
+
+    ghost Value = { ReduceView T R };
+
+    ghost view = { λ s. record {
+      key = s.key;
+      reducer = s.reducer;
+      histories = s.histories.items;
+      waiting = s.waiting.items;
+      looked = s.looked;
+    } };
+
+    ghost invariant = { λ s. (1 ≤ s.key) × (s.key ≤ 8)
+        × AreHistories T.cmp s.key s.histories.items
+        × IsWaiting s.histories.items s.waiting.items };
+}
+
+impl<T: Lattice, R: Reducer> ReduceState<T, R> {
+    /// Gives the differences at the pending times that the frontier has passed. The frontier is the slice of its
+    /// elements.
+    pub fn ready<S: Trace<Time = T>>(
+        &mut self,
+        alloc: Global,
+        frontier: &[T],
+        trace: &S,
+    ) -> Result<Vec<Update<T>>, Refusal>
+        requires held { (key : List ℤ) (t : T) → Member t (due_of key self.old.histories)
+            → is_beyond T.below frontier.now t ≡ false
+            → IsTrue (is_beyond T.below (S.held trace.now) t) }
+        ensures consolidated { IfOk result (λ out. IsConsolidated T.cmp out.items) }
+        ensures stands { IfOk result (λ out. (h : List (Insertion T)) (taken given : List (Update T))
+            → S.stands trace.now h
+            → SumsToTaken T.below (S.held trace.now) frontier.now (all_updates h) taken
+            → StandsFor T.below T.joined self.old.key (R.reduces self.old.reducer)
+            self.old.histories taken given
+            → StandsFor T.below T.joined self.old.key (R.reduces self.old.reducer)
+            self.new.histories taken (given ++ out.items)) }
+        ensures law { IfOk result (λ out. (h : List (Insertion T)) (taken given : List (Update T))
+            → S.stands trace.now h
+            → SumsToTaken T.below (S.held trace.now) frontier.now (all_updates h) taken
+            → StandsFor T.below T.joined self.old.key (R.reduces self.old.reducer)
+            self.old.histories taken given
+            → (t : T) → IsQuietAt T.below self.new.histories t
+            → Alike (as_of T.below t (given ++ out.items))
+            (reduction_output self.old.key (R.reduces self.old.reducer) (as_of T.below t taken))) }
+        ensures rest { OnOk result ((key : List ℤ) → due_of key self.new.histories
+            ≡ filter (λ t. is_beyond T.below frontier.now t) (due_of key self.old.histories)) }
+        ensures quiet { OnOk result ((t : T) → IsTrue (has_passed T.below frontier.now t)
+            → IsQuietAt T.below self.new.histories t) }
+        ensures at { IfOk result (λ out. (u : Update T) → Member u out.items
+            → Member u.time (due_of (take self.old.key u.row) self.old.histories)
+            × (is_beyond T.below frontier.now u.time ≡ false)) }
+        ensures apart { IfOk result (λ out. (given : List (Update T))
+            → AreApart T.below given → IsOpenTo T.below self.old.key given self.old.histories
+            → AreApart T.below (given ++ out.items)
+            × IsOpenTo T.below self.old.key (given ++ out.items) self.new.histories) }
+        ensures looked { OnOk result (self.new.looked ≤ self.old.looked
+            + all_reads T.below frontier.now (S.content trace.now)
+            self.old.histories self.old.waiting) }
+        ensures counted { OnOk result (min (self.old.looked
+            + all_reads T.below frontier.now (S.content trace.now)
+            self.old.histories self.old.waiting) (2 ^ 64 - 1) ≤ self.new.looked) }
+        ensures kept { OnOk result (self.new ≡ record self.old {
+          histories = self.new.histories;
+          waiting = self.new.waiting;
+          looked = self.new.looked;
+        }) }
+        ensures same { OnErr result (self.new ≡ self.old) }
+        ensures refused { IfErr result (IsMemoryOrOverflow
+            ((h : List (Insertion T)) (taken given : List (Update T))
+            → S.stands trace.now h
+            → SumsToTaken T.below (S.held trace.now) frontier.now (all_updates h) taken
+            → StandsFor T.below T.joined self.old.key (R.reduces self.old.reducer)
+            self.old.histories taken given
+            → AreApart T.below given → IsOpenTo T.below self.old.key given self.old.histories
+            → ((g : Update T) → Member g given → IsTrue (has_passed T.below frontier.now g.time))
+            → IsOverfull T.below self.old.key (R.reduces self.old.reducer) taken frontier.now)) }
+    {
+        self.histories.known();
+        let batches = trace.through(trace.upper()).unwrap();
+        let Gathered {
+            out,
+            changes,
+            waiting,
+            looked,
+        } = visit_all(
+            alloc,
+            &self.reducer,
+            &self.histories,
+            self.waiting.as_slice(),
+            frontier,
+            batches,
+            self.looked,
+        )?;
+        let out = consolidate(out)?;
+        replace_all(&mut self.histories, changes);
+        self.waiting = Places::from(waiting);
+        self.looked = looked;
+        Ok(out)
+    }
+}
