@@ -1,6 +1,6 @@
 -- Histories of which no two have the same key: what they have of a key, and how that changes when a history is added or
 -- replaced.
-use Rattle.std.proofs.Common.{◌≡◌, ℕ, zero, suc, ◌<◌, Bool, true, false, cond, ◌||◌, List, [], ◌∷◌, ◌++◌, ℤ, map, set, length, get_or, slice_get, position, Option, Some, None, if◌then◌else◌, refl, sym, ap, ◌∙◌, subst}
+use Rattle.std.proofs.Common.{◌≡◌, ℕ, zero, suc, ◌<◌, Bool, true, false, cond, ◌||◌, List, [], ◌∷◌, ◌++◌, ℤ, map, set, length, get_or, slice_get, position, Option, Some, None, if◌then◌else◌, flat_map, refl, sym, ap, ◌∙◌, subst}
 use Rattle.std.specs.List.{list_any}
 use Rattle.std.specs.Option.{IfSome, IsSomeAnd}
 use Rattle.std.proofs.lemmas.Bool.{or_parts, or_from}
@@ -11,7 +11,7 @@ use Rattle.indexmap.specs.IndexSet.{insert_key}
 use Rattle.update.specs.Bags.{same_row}
 use Rattle.plan.proofs.CountLemmas.{row_same, row_itself}
 use Rattle.plan.proofs.ReductionLemmas.{row_differs}
-use Rattle.reduce.specs.Histories.{HistoryState, AreKeysApart, of_history}
+use Rattle.reduce.specs.Histories.{HistoryState, AreKeysApart, of_history, history_of}
 
 -- names the element that an `IsSomeAnd` speaks of
 pub at_place : {X : Type 0} {P : X → Type 0} (o : Option X) → IsSomeAnd o P → (x : X) × (o ≡ Some x) × P x
@@ -154,3 +154,12 @@ module _ {T : Type 0} where
             let other : same_row g.key key ≡ false = ap (same_row g.key) (sym (k ∙ row_same new.key key t)) ∙ differs_at g.key hs i old apart.0 e in
             ap (λ b. cond b (f g) [] ++ f new) other
         step false t = refl
+
+    -- what they have of a key is what the key's history has
+    pub of_its_history : (key : List ℤ) (hs : List (HistoryState T)) → of_history f key hs ≡ flat_map f (history_of key hs)
+    of_its_history key [] = refl
+    of_its_history key (h ∷ hs) = step (same_row h.key key) (of_its_history key hs)
+      where
+        step : (b : Bool) → of_history f key hs ≡ flat_map f (history_of key hs) → cond b (f h) [] ++ of_history f key hs ≡ flat_map f (cond b (h ∷ []) [] ++ history_of key hs)
+        step true ih = ap (λ xs. f h ++ xs) ih
+        step false ih = ih

@@ -1,25 +1,30 @@
-mod AnswerLemmas
-mod ApartLemmas
-mod CorrectionLemmas
-mod CorrectLemmas
-mod CountLemmas
-mod DistinctLemmas
-mod ExtremeLemmas
+-- Lemmas about reductions.
+pub mod AddingLemmas
+pub mod AnswerLemmas
+pub mod ApartLemmas
+pub mod CorrectLemmas
+pub mod CorrectionLemmas
+pub mod CountLemmas
+pub mod DistinctLemmas
+pub mod ExtremeLemmas
+pub mod FinalLemmas
 pub mod HistoryLemmas
-mod JoinedLemmas
-mod KeyedLemmas
-mod OverfullLemmas
-mod ReadingLemmas
-mod RenewLemmas
-mod ReadyLemmas
-mod RestLemmas
-mod FinalLemmas
-mod TraceLemmas
-mod ResultLemmas
-mod SettleLemmas
-mod StandingLemmas
-mod VisitLemmas
+pub mod JoinLemmas
+pub mod JoinedLemmas
+pub mod KeyedLemmas
 pub mod MemberLemmas
 pub mod OrderLemmas
-pub mod JoinLemmas
-pub mod AddingLemmas
+pub mod OverfullLemmas
+pub mod ReadingLemmas
+pub mod ReadyLemmas
+pub mod RenewLemmas
+pub mod RestLemmas
+pub mod ResultLemmas
+pub mod RunLemmas
+pub mod SettleLemmas
+pub mod StandingLemmas
+pub mod TakenLemmas
+pub mod TakingLemmas
+pub mod TraceLemmas
+pub mod VisitLemmas
+pub mod WaitingLemmas

@@ -4,7 +4,7 @@ use Rattle.std.specs.declared.cmp.Ordering.{Ordering}
 use Rattle.update.specs.Joins.{joins_of}
 use Rattle.update.specs.declared.change.Update.{Update}
 use Rattle.reduce.specs.Joined.{Member, times_of, IsFresh}
-use Rattle.reduce.specs.Histories.{HistoryState, AreHistories, AreKeysApart, history_of, due_of, joined_of, given_of}
+use Rattle.reduce.specs.Histories.{HistoryState, IsHistory, AreHistories, AreKeysApart, history_of, due_of, joined_of, given_of}
 
 module _ {T : Type 0} (joined : T → T → T) where
   -- these times and pending times are those of a key that had `times` and `due`, with new ones
@@ -13,6 +13,17 @@ module _ {T : Type 0} (joined : T → T → T) where
         → (t : T) → Member t h.times ↔ Member t (joins_of joined (new ++ old))
     pub due_are : (old : List T) → ((t : T) → Member t times ↔ Member t (joins_of joined old))
         → (t : T) → Member t h.due ↔ (Member t due ⊎ IsFresh joined new old t)
+
+  -- the joined times of each key are the joins of some times
+  abbrev pub HaveJoins : List (HistoryState T) → Type 0
+  HaveJoins hs = (key : List ℤ) → (old : List T) × ((t : T) → Member t (joined_of key hs) ↔ Member t (joins_of joined old))
+
+  -- h is the new history of a key that has these new times, in the place of the one among hs
+  pub record IsRenewed (cmp : T → T → Ordering) (k : ℕ) (hs : List (HistoryState T)) (key : List ℤ) (new : List T) (h : HistoryState T) : Type 0 where
+    pub key_is : h.key ≡ key
+    pub history : IsHistory cmp k h
+    pub given_is : h.given ≡ given_of key hs
+    pub taken : HasTaken (joined_of key hs) (due_of key hs) new h
 
   -- these are the new histories of the keys of a batch, in the place of those among hs
   pub record AreRenewed (cmp : T → T → Ordering) (k : ℕ) (content : List (Update T)) (hs made : List (HistoryState T)) : Type 0 where

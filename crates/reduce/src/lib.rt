@@ -14,6 +14,7 @@ mod reading;
 mod reducer;
 mod settling;
 mod state;
+mod taking;
 mod times;
 mod visiting;
 

@@ -1,0 +1,257 @@
+-- The new histories of the keys of a batch, made run by run.
+use Rattle.std.proofs.Common.{◌≡◌, ◌≢◌, ◌↔◌, ℕ, zero, suc, ◌≤◌, ◌<◌, Bool, true, false, cond, List, [], ◌∷◌, ◌++◌, ℤ, map, take, drop, length, slice_get, Some, Result, Ok, Err, IsTrue, flat_map, ◌⊎◌, inl, inr, ⊎_elim, refl, sym, ap, ◌∙◌, subst, arith}
+use Rattle.std.specs.Prelude.{slice_range}
+use Rattle.std.specs.List.{list_any, list_all, filter}
+use Rattle.std.specs.List.Sorted.{IsStrictlySortedBy}
+use Rattle.std.specs.Option.{IsSomeAnd}
+use Rattle.std.specs.Result.{IfOk}
+use Rattle.std.specs.declared.cmp.Ordering.{Ordering}
+use Rattle.std.proofs.lemmas.Bool.{or_from}
+use Rattle.std.proofs.lemmas.List.{append-nil, map-append, length-map}
+use Rattle.std.proofs.lemmas.List.Elements.{filter-append}
+use Rattle.update.specs.Bags.{same_row}
+use Rattle.update.specs.Joins.{joins_of}
+use Rattle.update.specs.declared.change.Update.{Update}
+use Rattle.plan.proofs.CountLemmas.{row_same, row_itself}
+use Rattle.plan.proofs.ReductionLemmas.{row_differs}
+use Rattle.reduce.specs.Joined.{Member, IsFresh, of_key, times_of}
+use Rattle.reduce.specs.Adding.{SameMembers}
+use Rattle.reduce.specs.Histories.{HistoryState, AreKeysApart, AreHistories, ArePending, IsHistory, of_history, history_of, joined_of, due_of, given_of}
+use Rattle.reduce.specs.Taking.{HasTaken, HaveJoins, IsRenewed, AreRenewed, or_else}
+use Rattle.reduce.proofs.HistoryLemmas.{at_place, of_absent, of_there, of_pushed, of_its_history, apart_pushed}
+use Rattle.reduce.proofs.KeyedLemmas.{own_kept}
+use Rattle.reduce.proofs.MemberLemmas.{in_right}
+use Rattle.reduce.proofs.RunLemmas.{IsRun, IsBorder, others_none, front_longer, run_first, run_some}
+use Rattle.reduce.proofs.TakingLemmas.{histories_behind}
+
+module _ {T : Type 0} where
+  abbrev alone : HistoryState T → List (HistoryState T)
+  alone h = h ∷ []
+
+  -- ---- one history
+
+  -- what the histories have of a key is what this one has
+  pub record StandsFor (hs : List (HistoryState T)) (key : List ℤ) (old : HistoryState T) : Type 0 where
+    pub key_is : old.key ≡ key
+    pub times_are : old.times ≡ joined_of key hs
+    pub due_are : old.due ≡ due_of key hs
+    pub given_is : old.given ≡ given_of key hs
+
+  -- the history that was found stands for its key
+  pub stands_found : (hs : List (HistoryState T)) (key : List ℤ) (i : ℕ) (old : HistoryState T) → AreKeysApart hs → IsSomeAnd (slice_get hs i) (λ h. h.key ≡ key) → IsSomeAnd (slice_get hs i) (λ h. old ≡ h) → StandsFor hs key old
+  stands_found hs key i old apart same is =
+      let there = at_place (slice_get hs i) is in
+      let at : slice_get hs i ≡ Some old = there.1 ∙ ap (λ h. Some h) (sym there.2) in
+      let own : old.key ≡ key = subst (λ o. IsSomeAnd o (λ h. h.key ≡ key)) at same in
+      record {
+        key_is = own;
+        times_are = sym (of_there (λ h. h.times) hs i old apart at) ∙ ap (λ r. joined_of r hs) own;
+        due_are = sym (of_there (λ h. h.due) hs i old apart at) ∙ ap (λ r. due_of r hs) own;
+        given_is = sym (of_there (λ h. h.given) hs i old apart at) ∙ ap (λ r. given_of r hs) own;
+      }
+
+  -- an empty one stands for a key without a history
+  pub stands_none : (hs : List (HistoryState T)) (key : List ℤ) (old : HistoryState T) → list_any (λ h. same_row key h.key) hs ≡ false → old.key ≡ key → old.times ≡ [] → old.due ≡ [] → old.given ≡ [] → StandsFor hs key old
+  stands_none hs key old none own times due given = record {
+    key_is = own;
+    times_are = times ∙ sym (of_absent (λ h. h.times) key hs none);
+    due_are = due ∙ sym (of_absent (λ h. h.due) key hs none);
+    given_is = given ∙ sym (of_absent (λ h. h.given) key hs none);
+  }
+
+  nothing_sorted : (cmp : T → T → Ordering) → IsStrictlySortedBy cmp []
+  unfolding IsStrictlySortedBy
+  nothing_sorted cmp = tt
+
+  -- an empty history is one
+  pub empty_history : (cmp : T → T → Ordering) (h : HistoryState T) → h.times ≡ [] → h.due ≡ [] → h.given ≡ [] → IsHistory cmp (length h.key) h
+  empty_history cmp h times due given = record {
+    width = refl;
+    times = rw times (nothing_sorted cmp);
+    due = rw due (nothing_sorted cmp);
+    keyed = rw given refl;
+  }
+
+  -- the history at a place is one
+  pub history_at : (cmp : T → T → Ordering) (k : ℕ) (hs : List (HistoryState T)) (i : ℕ) (h : HistoryState T) → AreHistories cmp k hs → IsSomeAnd (slice_get hs i) (λ g. h ≡ g) → IsHistory cmp k h
+  history_at cmp k [] i h all is = absurd is
+  history_at cmp k (g ∷ gs) zero h all is = subst (IsHistory cmp k) (sym is) all.0
+  history_at cmp k (g ∷ gs) (suc i) h all is = history_at cmp k gs i h all.1 is
+
+  -- a history of new times that were made from those of another one has taken the new ones
+  pub taken_from : (joined : T → T → T) (old : HistoryState T) (times due new : List T) (h : HistoryState T) (times2 due2 : List T) → times ≡ old.times → due ≡ old.due → h.times ≡ times2 → h.due ≡ due2
+      → ((before : List T) → SameMembers times (joins_of joined before) → SameMembers times2 (joins_of joined (new ++ before)))
+      → ((before : List T) → SameMembers times (joins_of joined before) → (t : T) → Member t due2 ↔ (Member t due ⊎ IsFresh joined new before t))
+      → HasTaken joined old.times old.due new h
+  taken_from joined old times due new h times2 due2 e f g i timely pending = record {
+    times_are = λ before same t. rw g (timely before (rw e same) t);
+    due_are = λ before same t. rw (i, ← f) (pending before (rw e same) t);
+  }
+
+  -- what is made from the history that stands for a key is the key's new history
+  pub renewed_from : {E : Type 0} (joined : T → T → T) (cmp : T → T → Ordering) (hs : List (HistoryState T)) (key : List ℤ) (old : HistoryState T) (read new : List T) (r : Result (HistoryState T) E) → StandsFor hs key old → read ≡ new
+      → IfOk r (λ h. h.key ≡ old.key) → IfOk r (λ h. IsHistory cmp (length old.key) h) → IfOk r (λ h. h.given ≡ old.given) → IfOk r (λ h. HasTaken joined old.times old.due read h)
+      → IfOk r (λ h. IsRenewed joined cmp (length key) hs key new h)
+  renewed_from joined cmp hs key old read new (Err e) stands same own history given taken = tt
+  renewed_from joined cmp hs key old read new (Ok h) stands same own history given taken = record {
+    key_is = own ∙ stands.key_is;
+    history = subst (λ r. IsHistory cmp (length r) h) stands.key_is history;
+    given_is = given ∙ stands.given_is;
+    taken = rw (← stands.times_are, ← stands.due_are, ← same) taken;
+  }
+
+  -- ---- all of them
+
+  -- a key of which nothing is found has no history
+  absent_from : (key : List ℤ) (hs : List (HistoryState T)) → history_of key hs ≡ [] → list_any (λ g. same_row key g.key) hs ≡ false
+  absent_from key [] e = refl
+  absent_from key (h ∷ hs) e = step (same_row h.key key) refl e (absent_from key hs)
+    where
+      step : (b : Bool) → same_row h.key key ≡ b → cond b (h ∷ []) [] ++ history_of key hs ≡ [] → (history_of key hs ≡ [] → list_any (λ g. same_row key g.key) hs ≡ false) → list_any (λ g. same_row key g.key) (h ∷ hs) ≡ false
+      step true i e ih = absurd (let long : length (h ∷ history_of key hs) ≡ 0 = ap length e in omega (arith, long))
+      step false i e ih = or_from (same_row key h.key) (list_any (λ g. same_row key g.key) hs) (row_differs h.key key i) (ih e)
+
+  -- the times of a key in both parts of a list
+  times_parts : (k : ℕ) (key : List ℤ) (us vs : List (Update T)) → times_of k key (us ++ vs) ≡ times_of k key us ++ times_of k key vs
+  times_parts k key us vs =
+      ap (map (λ u. u.time)) (filter-append (of_key k key) us vs)
+      ∙ map-append (λ (u : Update T). u.time) (filter (of_key k key) us) (filter (of_key k key) vs)
+
+module _ {T : Type 0} (joined : T → T → T) (cmp : T → T → Ordering) (k : ℕ) (hs : List (HistoryState T)) where
+  -- the updates of a new key make one more
+  pub renewed_more : (front run : List (Update T)) (key : List ℤ) (made : List (HistoryState T)) (h : HistoryState T) → filter (of_key k key) front ≡ [] → IsTrue (list_all (of_key k key) run) → 0 < length run
+      → IsRenewed joined cmp k hs key (map (λ u. u.time) run) h → AreRenewed joined cmp k front hs made → AreRenewed joined cmp k (front ++ run) hs (made ++ h ∷ [])
+  renewed_more front run key made h first own some one so_far =
+      let none_made : history_of h.key made ≡ [] = so_far.others h.key (ap (λ r. times_of k r front) one.key_is ∙ ap (map (λ u. u.time)) first) in
+      record {
+        histories = histories_behind cmp k made h so_far.histories one.history;
+        apart = apart_pushed made h so_far.apart (absent_from h.key made none_made);
+        others = λ other e. others other e (same_row h.key other) refl;
+        taken = λ other e. taken other e (same_row h.key other) refl;
+      }
+    where
+      times : List T
+      times = map (λ u. u.time) run
+
+      -- the times of the key are those of the run
+      own_times : times_of k key (front ++ run) ≡ map (λ u. u.time) run
+      own_times =
+          times_parts k key front run
+          ∙ ap (λ us. map (λ u. u.time) us ++ times_of k key run) first
+          ∙ ap (map (λ u. u.time)) (own_kept k key run own)
+
+      -- those of another key are those before the run
+      other_times : (other : List ℤ) → same_row h.key other ≡ false → times_of k other (front ++ run) ≡ times_of k other front
+      other_times other d =
+          let differs : same_row key other ≡ false = ap (λ r. same_row r other) (sym one.key_is) ∙ d in
+          times_parts k other front run
+          ∙ ap (λ us. times_of k other front ++ map (λ u. u.time) us) (others_none k key other run own differs)
+          ∙ append-nil (times_of k other front)
+
+      -- the new history adds nothing to another key
+      other_history : (other : List ℤ) → same_row h.key other ≡ false → history_of other (made ++ h ∷ []) ≡ history_of other made
+      other_history other d =
+          of_pushed alone other made h
+          ∙ ap (λ b. history_of other made ++ cond b (h ∷ []) []) d
+          ∙ append-nil (history_of other made)
+
+      -- it is the only one of its key
+      own_history : history_of key (made ++ h ∷ []) ≡ h ∷ []
+      own_history =
+          of_pushed alone key made h
+          ∙ ap (λ xs. xs ++ cond (same_row h.key key) (h ∷ []) []) (so_far.others key (ap (map (λ u. u.time)) first))
+          ∙ ap (λ r. cond (same_row r key) (h ∷ []) []) one.key_is
+          ∙ ap (λ b. cond b (h ∷ []) []) (row_itself key)
+
+      others : (other : List ℤ) → times_of k other (front ++ run) ≡ [] → (b : Bool) → same_row h.key other ≡ b → history_of other (made ++ h ∷ []) ≡ []
+      others other e true d =
+          let same : key ≡ other = sym one.key_is ∙ row_same h.key other d in
+          let none : map (λ u. u.time) run ≡ [] = sym own_times ∙ ap (λ r. times_of k r (front ++ run)) same ∙ e in
+          let long : length run ≡ 0 = sym (length-map run (λ (u : Update T). u.time)) ∙ ap length none in
+          absurd (omega (arith, long, some))
+      others other e false d = other_history other d ∙ so_far.others other (sym (other_times other d) ∙ e)
+
+      taken : (other : List ℤ) → (times_of k other (front ++ run) ≡ [] → ⊥) → (b : Bool) → same_row h.key other ≡ b
+          → (g : HistoryState T) × (history_of other (made ++ h ∷ []) ≡ g ∷ []) × (g.given ≡ given_of other hs) × HasTaken joined (joined_of other hs) (due_of other hs) (times_of k other (front ++ run)) g
+      taken other e true d =
+          let same : key ≡ other = sym one.key_is ∙ row_same h.key other d in
+          subst
+          (λ r. (g : HistoryState T) × (history_of r (made ++ h ∷ []) ≡ g ∷ []) × (g.given ≡ given_of r hs) × HasTaken joined (joined_of r hs) (due_of r hs) (times_of k r (front ++ run)) g)
+          same
+          (h, own_history, one.given_is, subst (λ ts. HasTaken joined (joined_of key hs) (due_of key hs) ts h) (sym own_times) one.taken)
+      taken other e false d =
+          let was = so_far.taken other (λ n. e (other_times other d ∙ n)) in
+          (was.0, other_history other d ∙ was.1, was.2, subst (λ ts. HasTaken joined (joined_of other hs) (due_of other hs) ts was.0) (sym (other_times other d)) was.3)
+
+  -- one more run makes one more
+  pub renewed_step : (us : List (Update T)) (start end : ℕ) (key : List ℤ) (made new : List (HistoryState T)) (h : HistoryState T) → start ≤ end → end ≤ length us → IsRun k key us start end → IsBorder k (take start us) (drop start us)
+      → IsRenewed joined cmp k hs key (map (λ u. u.time) (slice_range us start end)) h → AreRenewed joined cmp k (take start us) hs made → new ≡ made ++ h ∷ [] → AreRenewed joined cmp k (take end us) hs new
+  renewed_step us start end key made new h g l run border one so_far push =
+      rw (push, front_longer us start end g)
+      (renewed_more (take start us) (slice_range us start end) key made h (run_first k key us start end g l run border) run.own (run_some k key us start end l run) one so_far)
+
+  -- ---- pending times
+
+  -- a new time is the join of itself
+  new_joined : (t : T) (ts : List T) → Member t (joins_of joined (t ∷ ts))
+  new_joined t ts = in_right t (joins_of joined ts ++ map (λ s. joined s t) (joins_of joined ts)) (t ∷ []) (inl refl)
+
+  -- a key with new times has pending ones
+  pending_with : (h : HistoryState T) (times due new : List T) → (new ≡ [] → ⊥) → HasTaken joined times due new h → (old : List T) × ((t : T) → Member t times ↔ Member t (joins_of joined old)) → h.due ≢ []
+  pending_with h times due [] some taken old none = some refl
+  pending_with h times due (t ∷ ts) some taken old none =
+      let there : Member t h.due = (taken.due_are old.0 old.1 t).1 (inr (inl (new_joined t ts))) in
+      subst (Member t) none there
+
+  -- the history of a key of the list is the one that is found
+  found_itself : (gs : List (HistoryState T)) (h : HistoryState T) → AreKeysApart gs → Member h gs → history_of h.key gs ≡ h ∷ []
+  found_itself gs h apart m = let at = place_of gs h m in of_there alone gs at.0 h apart at.1
+    where
+      place_of : (gs : List (HistoryState T)) (h : HistoryState T) → Member h gs → (i : ℕ) × (slice_get gs i ≡ Some h)
+      place_of [] h m = absurd m
+      place_of (g ∷ gs) h m = ⊎_elim (λ e. (0, ap (λ x. Some x) (sym e))) (λ n. let at = place_of gs h n in (suc at.0, at.1)) m
+
+  -- each new history has pending times
+  pub renewed_pending : (content : List (Update T)) (made : List (HistoryState T)) → AreRenewed joined cmp k content hs made → HaveJoins joined hs → ArePending made
+  renewed_pending content made all joins h m =
+      let found = found_itself made h all.apart m in
+      let some : times_of k h.key content ≡ [] → ⊥ = λ e. let long : length (h ∷ []) ≡ 0 = ap length (sym found ∙ all.others h.key e) in omega (arith, long) in
+      let r = all.taken h.key some in
+      let same : r.0 ≡ h = head_same r.0 h (sym r.1 ∙ found) in
+      pending_with h (joined_of h.key hs) (due_of h.key hs) (times_of k h.key content) some
+      (subst (HasTaken joined (joined_of h.key hs) (due_of h.key hs) (times_of k h.key content)) same r.3)
+      (joins h.key)
+    where
+      head_same : (a b : HistoryState T) → a ∷ [] ≡ b ∷ [] → a ≡ b
+      head_same a b e = cc
+
+  -- ---- after all are put in place
+
+  module _ (content : List (Update T)) (made new : List (HistoryState T)) (all : AreRenewed joined cmp k content hs made)
+      (put : (key : List ℤ) → history_of key new ≡ or_else (history_of key made) (history_of key hs)) where
+    -- of a key that the batch has not, the histories have what they had
+    pub key_kept : {X : Type 0} (f : HistoryState T → List X) (key : List ℤ) → times_of k key content ≡ [] → of_history f key new ≡ of_history f key hs
+    key_kept f key none =
+        of_its_history f key new
+        ∙ ap (flat_map f) (put key ∙ ap (λ xs. or_else xs (history_of key hs)) (all.others key none))
+        ∙ sym (of_its_history f key hs)
+
+    -- of a key that it has, they have what its new history has
+    pub key_renewed : {X : Type 0} (f : HistoryState T → List X) (key : List ℤ) (some : times_of k key content ≡ [] → ⊥) → of_history f key new ≡ f (all.taken key some).0
+    key_renewed f key some =
+        let r = all.taken key some in
+        of_its_history f key new
+        ∙ ap (flat_map f) (put key ∙ ap (λ xs. or_else xs (history_of key hs)) r.1)
+        ∙ append-nil (f r.0)
+
+    -- the joined times of each key are still the joins of some times
+    pub joins_kept : HaveJoins joined hs → HaveJoins joined new
+    joins_kept joins key = step (times_of k key content) refl (joins key)
+      where
+        step : (ts : List T) → times_of k key content ≡ ts → (old : List T) × ((t : T) → Member t (joined_of key hs) ↔ Member t (joins_of joined old))
+            → (old : List T) × ((t : T) → Member t (joined_of key new) ↔ Member t (joins_of joined old))
+        step [] e old = (old.0, λ t. rw (key_kept (λ h. h.times) key e) (old.1 t))
+        step (s ∷ ts) e old =
+            let some : times_of k key content ≡ [] → ⊥ = λ n. let long : length (s ∷ ts) ≡ 0 = ap length (sym e ∙ n) in omega (arith, long) in
+            let r = all.taken key some in
+            (times_of k key content ++ old.0, λ t. rw (key_renewed (λ h. h.times) key some) (r.3.times_are old.0 old.1 t))
