@@ -17,16 +17,17 @@ use Rattle.plan.proofs.CountLemmas.{row_same}
 use Rattle.trace.specs.Readings.{IsReadable}
 use Rattle.reduce.specs.declared.visiting.Change.{Change}
 use Rattle.reduce.specs.Joined.{Member, AreOnce, of_key}
-use Rattle.reduce.specs.Histories.{HistoryState, AreHistories, AreKeysApart, IsWaiting, due_of}
+use Rattle.reduce.specs.Histories.{HistoryState, AreHistories, AreKeysApart, IsWaiting, due_of, joined_of}
 use Rattle.reduce.specs.Standing.{KeyStands, Shows}
 use Rattle.reduce.specs.Owing.{IsOverfull}
 use Rattle.reduce.specs.Reductions.{StandsFor, IsOpenTo, IsQuietAt, SumsToTaken, all_reads}
 use Rattle.reduce.specs.Settling.{ReadsAs, IsOverfullFor}
+use Rattle.reduce.specs.Taking.{HaveJoins}
 use Rattle.reduce.specs.Visiting.{Visit, Gathers, AreChanges, all_renewed, all_replaced, waits_on, reads_of}
 use Rattle.reduce.proofs.ApartLemmas.{apart_fits}
 use Rattle.reduce.proofs.CorrectLemmas.{apart_consolidated}
 use Rattle.reduce.proofs.HistoryLemmas.{at_place, of_there}
-use Rattle.reduce.proofs.ReadyLemmas.{apart_raw, out_at, stands_after, rest_is, quiet, apart_after}
+use Rattle.reduce.proofs.ReadyLemmas.{times_stay, apart_raw, out_at, stands_after, rest_is, quiet, apart_after}
 use Rattle.reduce.proofs.RenewLemmas.{replaced_is, changes_fit, from_visit, visit_in}
 use Rattle.reduce.proofs.RestLemmas.{waiting_after, histories_after, history_there, reads_are_all}
 use Rattle.reduce.proofs.StandingLemmas.{law}
@@ -75,6 +76,12 @@ module _ {T : Type 0} {below : T → T → Bool} {joined met : T → T → T} (c
 
       pub known_after : AreHistories cmp k new
       known_after = subst (AreHistories cmp k) (sym renewed_is) (histories_after below front joined reduce content cmp k visits hs once g.visits_are known)
+
+      pub joins_after : HaveJoins joined hs → HaveJoins joined new
+      joins_after joins key =
+          let old = joins key in
+          let same : joined_of key new ≡ joined_of key hs = ap (joined_of key) renewed_is ∙ times_stay cmp o l k reduce content front hs known apart visits g.visits_are once key in
+          (old.0, λ t. ((λ m. (old.1 t).0 (subst (Member t) same m)), (λ m. subst (Member t) (sym same) ((old.1 t).1 m))))
 
       pub waits_after : IsWaiting new waiting
       waits_after =

@@ -22,6 +22,7 @@ pub mod RestLemmas
 pub mod ResultLemmas
 pub mod RunLemmas
 pub mod SettleLemmas
+pub mod StandLemmas
 pub mod StandingLemmas
 pub mod TakenLemmas
 pub mod TakingLemmas

@@ -7,8 +7,8 @@
 //! is given at each of them once, whichever way it alters the answers.
 //!
 //! A call gathers all that it changes aside, and puts it in place at its end. So a refusal leaves the state as it was.
-ghost use Rattle.std.specs.Prelude.{◌≡◌, ◌≤◌, ◌+◌, ◌-◌, ◌^◌, ◌++◌, [], ℕ, ℤ, List, false, min, take, IfErr, IfOk, OnErr, OnOk, IsTrue};
-ghost use Rattle.std.specs.List.{filter, list_all};
+ghost use Rattle.std.specs.Prelude.{◌≡◌, ◌↔◌, ◌⊎◌, ◌≤◌, ◌<◌, ◌+◌, ◌-◌, ◌^◌, ◌++◌, [], ℕ, ℤ, List, false, true, length, min, take, slice_get, IfErr, IfOk, IsSomeAnd, OnErr, OnOk, IsTrue};
+ghost use Rattle.std.specs.List.{filter};
 ghost use Rattle.lattice.specs.Frontiers.{is_beyond};
 ghost use Rattle.update.specs.Bags.{Alike};
 ghost use Rattle.update.specs.Refusals.{IsMemoryOrOverflow};
@@ -17,15 +17,18 @@ ghost use Rattle.update.specs.declared.change.Update.{Update};
 ghost use Rattle.plan.specs.Changes.{has_passed};
 ghost use Rattle.plan.specs.Operators.{reduction_output};
 ghost use Rattle.trace.specs.Readings.{Insertion, all_updates};
-ghost use Rattle.reduce.specs.Joined.{Member};
-ghost use Rattle.reduce.specs.Histories.{due_of};
+ghost use Rattle.reduce.specs.Joined.{Member, IsFresh, times_of};
+ghost use Rattle.reduce.specs.Histories.{AreHistories, IsWaiting, due_of};
 ghost use Rattle.reduce.specs.Owing.{IsOverfull};
+ghost use Rattle.reduce.specs.Standing.{are_wide};
 ghost use Rattle.reduce.specs.Reductions.{StandsFor, IsOpenTo, IsQuietAt, SumsToTaken, all_reads};
 
-use crate::Reducer;
+use crate::{KeyHistory, Reducer};
 use crate::histories::Histories;
 use crate::places::Places;
+use crate::taking::{put_all, renewed_by};
 use crate::visiting::{Gathered, replace_all, visit_all};
+use batch::BatchReader;
 use lattice::Lattice;
 use std::alloc::Global;
 use std::marker::Model;
@@ -46,6 +49,7 @@ pub struct ReduceState<T: Lattice, R> {
 impl<T: Lattice, R> Model for ReduceState<T, R> {
     ghost use Rattle.std.specs.Prelude.{◌≤◌};
     ghost use Rattle.reduce.specs.Histories.{ReduceView, AreHistories, IsWaiting};
+    ghost use Rattle.reduce.specs.Taking.{HaveJoins};
 
     ghost Value = { ReduceView T R };
 
@@ -59,10 +63,114 @@ impl<T: Lattice, R> Model for ReduceState<T, R> {
 
     ghost invariant = { λ s. (1 ≤ s.key) × (s.key ≤ 8)
         × AreHistories T.cmp s.key s.histories.items
-        × IsWaiting s.histories.items s.waiting.items };
+        × IsWaiting s.histories.items s.waiting.items
+        × HaveJoins T.joined s.histories.items };
 }
 
 impl<T: Lattice, R: Reducer> ReduceState<T, R> {
+    /// A reduction by the first `key` columns, 1 to 8, that has taken nothing. Takes no memory.
+    pub fn new(alloc: Global, key: usize, reducer: R) -> ReduceState<T, R>
+        requires some { 1 ≤ key }
+        requires few { key ≤ 8 }
+        ensures first { result ≡ record {
+          key = key;
+          reducer = reducer;
+          histories = [];
+          waiting = [];
+          looked = 0;
+        } }
+        ensures stands { StandsFor T.below T.joined key (R.reduces reducer) result.histories [] [] }
+    {
+        ReduceState {
+            key,
+            reducer,
+            histories: Histories::new(alloc),
+            waiting: Places::new(alloc),
+            looked: 0,
+        }
+    }
+
+    /// The number of columns of the key. Takes no memory.
+    pub fn key(&self) -> usize
+        ensures value { result ≡ self.now.key }
+        ensures some { 1 ≤ self.now.key }
+        ensures few { self.now.key ≤ 8 }
+    {
+        self.key
+    }
+
+    /// The places of the keys that have pending times, each once. Their histories are asked for by
+    /// [`history`](ReduceState::history). Takes no memory.
+    pub fn waiting(&self) -> &[usize]
+        ensures value { result.now ≡ self.now.waiting }
+        ensures exact { IsWaiting self.now.histories self.now.waiting }
+    {
+        self.waiting.as_slice()
+    }
+
+    /// The history of the key at a place: the key, its joined times, which of them are pending, and what was given of
+    /// it. Takes no memory.
+    pub fn history(&self, place: usize) -> &KeyHistory<T>
+        requires { place < length self.now.histories }
+        ensures value { IsSomeAnd (slice_get self.now.histories place) (λ h. result.now ≡ h) }
+        ensures known { AreHistories T.cmp self.now.key self.now.histories }
+    {
+        self.histories.get(place)
+    }
+
+    /// How many updates were read in all answered calls, those of a key once in each call in which one of its times was
+    /// due. It stays at its greatest value. Takes no memory.
+    pub fn looked(&self) -> u64
+        ensures { result ≡ self.now.looked }
+    {
+        self.looked
+    }
+
+    /// Takes a batch. Of each of its keys the times of its updates become pending, and with them all joins of sets of
+    /// times that hold one of these. If the call is refused, then nothing has changed.
+    ///
+    /// Each row of the batch has at least as many columns as the key. [`Refusal::OutOfMemory`] only if memory for the
+    /// times, or for the histories of the keys, was refused.
+    ///
+    /// Cost: for each key of the batch one look-up of a hash and a copy of its history; for each new time of a key a
+    /// join with each joined time that the key has.
+    pub fn take<B: BatchReader<Time = T>>(&mut self, alloc: Global, batch: &B) -> Result<(), Refusal>
+        requires wide { IsTrue (are_wide self.old.key (B.content batch.now)) }
+        ensures stands { OnOk result ((taken given : List (Update T))
+            → StandsFor T.below T.joined self.old.key (R.reduces self.old.reducer)
+            self.old.histories taken given
+            → StandsFor T.below T.joined self.old.key (R.reduces self.old.reducer)
+            self.new.histories (B.content batch.now ++ taken) given) }
+        ensures pending { OnOk result ((taken given : List (Update T))
+            → StandsFor T.below T.joined self.old.key (R.reduces self.old.reducer)
+            self.old.histories taken given
+            → (key : List ℤ) (t : T) → Member t (due_of key self.new.histories)
+            ↔ (Member t (due_of key self.old.histories)
+            ⊎ IsFresh T.joined (times_of self.old.key key (B.content batch.now))
+            (times_of self.old.key key taken) t)) }
+        ensures later { OnOk result ((key : List ℤ) (t : T) → Member t (due_of key self.new.histories)
+            → Member t (due_of key self.old.histories)
+            ⊎ ((u : Update T) × Member u (B.content batch.now) × (take self.old.key u.row ≡ key)
+            × (T.below u.time t ≡ true))) }
+        ensures open { OnOk result ((given : List (Update T))
+            → IsOpenTo T.below self.old.key given self.old.histories
+            → ((u g : Update T) → Member u (B.content batch.now) → Member g given
+            → take self.old.key u.row ≡ take self.old.key g.row → T.below u.time g.time ≡ false)
+            → IsOpenTo T.below self.old.key given self.new.histories) }
+        ensures kept { OnOk result (self.new ≡ record self.old {
+          histories = self.new.histories;
+          waiting = self.new.waiting;
+        }) }
+        ensures same { OnErr result (self.new ≡ self.old) }
+        ensures only { IfErr result (λ refused. refused ≡ Refusal.OutOfMemory) }
+    {
+        let made = renewed_by(alloc, self.key, &self.histories, batch)?;
+        self.histories.reserve(made.len())?;
+        self.waiting.reserve(made.len())?;
+        put_all(&mut self.histories, &mut self.waiting, made);
+        Ok(())
+    }
+
     /// Gives the differences at the pending times that the frontier has passed. The frontier is the slice of its
     /// elements.
     pub fn ready<S: Trace<Time = T>>(

@@ -10,7 +10,7 @@ use Rattle.reduce.specs.Joined.{Member}
 use Rattle.reduce.specs.Histories.{HistoryState, ReduceView, IsWaiting, due_of}
 use Rattle.reduce.specs.Reductions.{StandsFor, IsOpenTo, SumsToTaken, all_reads}
 use Rattle.reduce.specs.Settling.{ReadsAs}
-use Rattle.reduce.proofs.FinalLemmas.{reads_as, overfull_of, fits, changes_are_fit, known_after, waits_after, reads_are, final_rest, final_stands, final_law, final_at, final_quiet, final_apart}
+use Rattle.reduce.proofs.FinalLemmas.{reads_as, overfull_of, fits, changes_are_fit, known_after, waits_after, joins_after, reads_are, final_rest, final_stands, final_law, final_at, final_quiet, final_apart}
 use Rattle.reduce.proofs.ResultLemmas.{passed_on}
 use Rattle.reduce.proofs.TraceLemmas.{whole_is_readable}
 use Rattle.reduce.proofs.state.ReduceState.ready.Given.{Over}
@@ -134,6 +134,7 @@ invariant_of-self g c =
       c.self.invariant.1,
       known_after g.T.Ord.cmp g.met.T.Ord.total g.met.T.PartialOrder.order g.met.T.Lattice.bounds c.self.inside.key (g.R.Reducer.reduces c.self.inside.reducer) (g.met.R.Reducer.laws c.self.inside.reducer c.self.inside.key) (content g c) c.args.frontier.now (hs g c) c.self.invariant.2 c.known.ensures c.as_slice.result.now (waits g c) c.in_ok-out.ensures.visited.0 c.in_ok-out.field-0.out.items c.in_ok-out.field-0.changes.items c.in_ok-out.field-0.waiting.items c.in_ok-out.ensures.visited.1 c.in_ok-out.ensures.visited.2 c.replace_all.new.histories.items c.replace_all.ensures,
       rw c.from.ensures (waits_after g.T.Ord.cmp g.met.T.Ord.total g.met.T.PartialOrder.order g.met.T.Lattice.bounds c.self.inside.key (g.R.Reducer.reduces c.self.inside.reducer) (g.met.R.Reducer.laws c.self.inside.reducer c.self.inside.key) (content g c) c.args.frontier.now (hs g c) c.self.invariant.2 c.known.ensures c.as_slice.result.now (waits g c) c.in_ok-out.ensures.visited.0 c.in_ok-out.field-0.out.items c.in_ok-out.field-0.changes.items c.in_ok-out.field-0.waiting.items c.in_ok-out.ensures.visited.1 c.in_ok-out.ensures.visited.2 c.replace_all.new.histories.items c.replace_all.ensures),
+      joins_after g.T.Ord.cmp g.met.T.Ord.total g.met.T.PartialOrder.order g.met.T.Lattice.bounds c.self.inside.key (g.R.Reducer.reduces c.self.inside.reducer) (g.met.R.Reducer.laws c.self.inside.reducer c.self.inside.key) (content g c) c.args.frontier.now (hs g c) c.self.invariant.2 c.known.ensures c.as_slice.result.now (waits g c) c.in_ok-out.ensures.visited.0 c.in_ok-out.field-0.out.items c.in_ok-out.field-0.changes.items c.in_ok-out.field-0.waiting.items c.in_ok-out.ensures.visited.1 c.in_ok-out.ensures.visited.2 c.replace_all.new.histories.items c.replace_all.ensures c.self.invariant.4,
     )
 
 pub returns-clause-stands : goal.returns-clause-stands
