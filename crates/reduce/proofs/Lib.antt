@@ -8,6 +8,7 @@ pub mod CountLemmas
 pub mod DistinctLemmas
 pub mod ExtremeLemmas
 pub mod FinalLemmas
+pub mod HeldLemmas
 pub mod HistoryLemmas
 pub mod JoinLemmas
 pub mod JoinedLemmas

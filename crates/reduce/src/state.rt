@@ -7,7 +7,7 @@
 //! is given at each of them once, whichever way it alters the answers.
 //!
 //! A call gathers all that it changes aside, and puts it in place at its end. So a refusal leaves the state as it was.
-ghost use Rattle.std.specs.Prelude.{◌≡◌, ◌↔◌, ◌⊎◌, ◌≤◌, ◌<◌, ◌+◌, ◌-◌, ◌^◌, ◌++◌, [], ℕ, ℤ, List, false, true, length, min, take, slice_get, IfErr, IfOk, IsSomeAnd, OnErr, OnOk, IsTrue};
+ghost use Rattle.std.specs.Prelude.{◌≡◌, ◌↔◌, ◌⊎◌, ◌≤◌, ◌<◌, ◌+◌, ◌-◌, ◌^◌, ◌++◌, ◌||◌, [], ℕ, ℤ, List, false, true, length, min, take, slice_get, IfErr, IfOk, IsSomeAnd, OnErr, OnOk, IsTrue};
 ghost use Rattle.std.specs.List.{filter};
 ghost use Rattle.lattice.specs.Frontiers.{is_beyond};
 ghost use Rattle.update.specs.Bags.{Alike};
@@ -28,6 +28,7 @@ use crate::histories::Histories;
 use crate::places::Places;
 use crate::taking::{put_all, renewed_by};
 use crate::visiting::{Gathered, replace_all, visit_all};
+use antichain::Antichain;
 use batch::BatchReader;
 use lattice::Lattice;
 use std::alloc::Global;
@@ -65,6 +66,18 @@ impl<T: Lattice, R> Model for ReduceState<T, R> {
         × AreHistories T.cmp s.key s.histories.items
         × IsWaiting s.histories.items s.waiting.items
         × HaveJoins T.joined s.histories.items };
+}
+
+// Inserts all of these times.
+fn insert_all<T: Lattice>(held: &mut Antichain<T>, times: &[T]) -> Result<(), Refusal>
+    ensures beyond { OnOk result ((t : T) → is_beyond T.below held.new t
+        ≡ (is_beyond T.below held.old t || is_beyond T.below times.now t)) }
+    ensures only { IfErr result (λ refused. refused ≡ Refusal.OutOfMemory) }
+{
+    for time in times {
+        held.insert(*time)?;
+    }
+    Ok(())
 }
 
 impl<T: Lattice, R: Reducer> ReduceState<T, R> {
@@ -124,6 +137,25 @@ impl<T: Lattice, R: Reducer> ReduceState<T, R> {
         ensures { result ≡ self.now.looked }
     {
         self.looked
+    }
+
+    /// The least of all pending times: exactly the times at or after a pending time are beyond this frontier. As long as
+    /// the trace's since is not beyond it, whatever comes to be due can be read. [`Refusal::OutOfMemory`] only if memory
+    /// for more than four times was refused.
+    ///
+    /// Cost: each pending time is compared with the least ones so far.
+    pub fn held(&self, alloc: Global) -> Result<Antichain<T>, Refusal>
+        ensures beyond { IfOk result (λ held. (t : T) → IsTrue (is_beyond T.below held t)
+            ↔ ((key : List ℤ) × (s : T) × Member s (due_of key self.now.histories)
+            × (T.below s t ≡ true))) }
+        ensures only { IfErr result (λ refused. refused ≡ Refusal.OutOfMemory) }
+    {
+        self.histories.known();
+        let mut held = Antichain::new(alloc);
+        for place in self.waiting.as_slice() {
+            insert_all(&mut held, self.histories.get(*place).due())?;
+        }
+        Ok(held)
     }
 
     /// Takes a batch. Of each of its keys the times of its updates become pending, and with them all joins of sets of
