@@ -167,6 +167,10 @@ module _ {T : Type 0} {below : T → T → Bool} {joined met : T → T → T} (o
           outside true h = h ∙ sym (o.transitive x f.0 t h f.2)
           outside false h = h ∙ sym e
 
+  -- tests of being at or before two times agree on all joins where they agree on the times
+  pub floor_joins : (ts : List T) (s t : T) → Agree (λ x. below x s) (λ x. below x t) ts → (r : T) → Member r (joins_of joined ts) → below r s ≡ below r t
+  floor_joins ts s t a r m = agree-member (λ x. below x s) (λ x. below x t) r (joins_of joined ts) (agree-joined (λ x. below x s) (λ x. below x t) (on_below s) (on_below t) ts a) m
+
   module _ (k : ℕ) where
     -- what was taken of a key, by two tests that agree on its times
     pub taken_same : (s t : T) (key : List ℤ) (us : List (Update T)) → Agree (λ x. below x s) (λ x. below x t) (times_of k key us) → filter (has_key k key) (as_of below s us) ≡ filter (has_key k key) (as_of below t us)

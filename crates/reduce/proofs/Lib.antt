@@ -13,6 +13,7 @@ pub mod HistoryLemmas
 pub mod JoinLemmas
 pub mod JoinedLemmas
 pub mod KeyedLemmas
+pub mod LawLemmas
 pub mod MemberLemmas
 pub mod OrderLemmas
 pub mod OverfullLemmas

@@ -1,0 +1,69 @@
+//! What follows from the definitions alone. The functions do nothing: they are called, or their clauses cited, for what
+//! they promise in every lattice and of every reducer.
+ghost use Rattle.std.specs.Prelude.{◌≡◌, ◌⊎◌, ℕ, ℤ, List, [], IsTrue, true};
+ghost use Rattle.std.specs.List.{filter, list_all};
+ghost use Rattle.update.specs.Bags.{Alike, Entry};
+ghost use Rattle.update.specs.Joins.{joins_of};
+ghost use Rattle.update.specs.Updates.{as_of, IsConsolidated};
+ghost use Rattle.update.specs.declared.change.Update.{Update};
+ghost use Rattle.plan.specs.Changes.{has_passed};
+ghost use Rattle.plan.specs.Operators.{reduction_output};
+ghost use Rattle.plan.specs.Reductions.{IsReducer, has_key};
+ghost use Rattle.reduce.specs.Joined.{Member, IsJoined};
+ghost use Rattle.reduce.specs.Histories.{HistoryState};
+ghost use Rattle.reduce.specs.Reductions.{StandsFor, IsQuietAt};
+
+use lattice::Lattice;
+
+/// The answer for a key changes at joined times alone. At every time, either no update of the key is there yet, and the
+/// answer is empty; or there is a greatest joined time at or before it, at which the rows of the key are just the same.
+/// Costs nothing.
+pub fn outputs_change_at_joined_times<T: Lattice>()
+    ensures joined { (k : ℕ) (reduce : List ℤ → List Entry → List Entry) → IsReducer k reduce
+        → (us : List (Update T)) (key : List ℤ) (t : T)
+        → Alike (reduce key (filter (has_key k key) (as_of T.below t us))) []
+        ⊎ ((s : T) × IsJoined T.joined k us key s × (T.below s t ≡ true)
+        × ((r : T) → IsJoined T.joined k us key r → T.below r t ≡ true → T.below r s ≡ true)
+        × (filter (has_key k key) (as_of T.below s us)
+        ≡ filter (has_key k key) (as_of T.below t us))) }
+{}
+
+/// The joins of some times have each of these times, and with any two of them their join. They are the least list that
+/// has both. Costs nothing.
+pub fn joined_times_are_closed<T: Lattice>()
+    ensures times { (ts : List T) (t : T) → Member t ts → Member t (joins_of T.joined ts) }
+    ensures joins { (ts : List T) (s t : T) → Member s (joins_of T.joined ts)
+        → Member t (joins_of T.joined ts) → Member (T.joined s t) (joins_of T.joined ts) }
+    ensures least { (ts us : List T) → ((t : T) → Member t ts → Member t us)
+        → ((s t : T) → Member s us → Member t us → Member (T.joined s t) us)
+        → (t : T) → Member t (joins_of T.joined ts) → Member t us }
+{}
+
+/// Where nothing is pending at or before a time, what was given sums there to the reduction of what was taken. Costs
+/// nothing.
+pub fn settled_is_right<T: Lattice>()
+    ensures sums { (k : ℕ) (reduce : List ℤ → List Entry → List Entry) → IsReducer k reduce
+        → (hs : List (HistoryState T)) (taken given : List (Update T))
+        → StandsFor T.below T.joined k reduce hs taken given
+        → (t : T) → IsQuietAt T.below hs t
+        → Alike (as_of T.below t given) (reduction_output k reduce (as_of T.below t taken)) }
+{}
+
+/// If a frontier has passed only times at or before which nothing is pending, and has passed the time of each update
+/// that was given, then the consolidation of what was given is the one consolidated list of passed updates that sums, at
+/// each passed time, to the reduction of what was taken. So it does not matter in which pieces updates were taken, nor
+/// when a frontier moved: the list is the same. Costs nothing.
+pub fn answers_are_the_differences<T: Lattice>()
+    ensures one { (k : ℕ) (reduce : List ℤ → List Entry → List Entry) → IsReducer k reduce
+        → (frontier : List T) (hs : List (HistoryState T)) (taken given us vs : List (Update T))
+        → StandsFor T.below T.joined k reduce hs taken given
+        → ((t : T) → IsTrue (has_passed T.below frontier t) → IsQuietAt T.below hs t)
+        → IsConsolidated T.cmp us
+        → IsTrue (list_all (λ u. has_passed T.below frontier u.time) us)
+        → ((t : T) → Alike (as_of T.below t us) (as_of T.below t given))
+        → IsConsolidated T.cmp vs
+        → IsTrue (list_all (λ u. has_passed T.below frontier u.time) vs)
+        → ((t : T) → IsTrue (has_passed T.below frontier t)
+        → Alike (as_of T.below t vs) (reduction_output k reduce (as_of T.below t taken)))
+        → us ≡ vs }
+{}
