@@ -1,21 +1,20 @@
 -- Lists that have no row twice at one time.
-use Rattle.std.proofs.Common.{◌≡◌, ◌≤◌, ◌<◌, ◌^◌, ℕ, ◌+◌, Bool, true, false, cond, not, ◌&&◌, ◌||◌, List, [], ◌∷◌, ◌++◌, refl, sym, ap, ◌∙◌, subst, inl, inr, ◌⊎◌, ⊎_elim, arith, w64, FitsSigned}
-use Rattle.std.specs.Prelude.{ℤ, pos, ◌+ℤ◌, unsigned_abs, IsTrue}
-use Rattle.std.specs.List.{filter, list_any, list_all}
-use Rattle.std.proofs.lemmas.Bool.{and_parts, and_from, or_parts, true≢false, false≢true}
+use Rattle.std.proofs.Common.{◌≡◌, ◌≤◌, ◌<◌, ◌^◌, Bool, true, false, cond, ◌&&◌, ◌||◌, List, [], ◌∷◌, ◌++◌, refl, sym, ap, ◌∙◌, subst, inl, inr, ◌⊎◌, ⊎_elim, arith, w64, FitsSigned}
+use Rattle.std.specs.Prelude.{ℤ, pos, ◌+ℤ◌}
+use Rattle.std.specs.List.{filter, list_any}
+use Rattle.std.proofs.lemmas.Bool.{and_parts, and_from, or_parts, true≢false}
 use Rattle.std.proofs.Math.Dec.{ltb}
 use borrow.Author.Tests.{ltb-false}
 use Rattle.std.proofs.lemmas.Bool.Decides.{Decides-ltb}
 use lib.Signed.{mag}
 use Rattle.std.proofs.Math.IntN.{+ℤ_idl, +ℤ_idr}
 use Rattle.lattice.specs.Order.{PartialOrderLaws}
-use Rattle.update.specs.Bags.{same_row, total_by}
-use Rattle.update.specs.Updates.{total_at, total_where, AreApart, is_doubled, HasLargeTotal}
+use Rattle.update.specs.Bags.{same_row}
+use Rattle.update.specs.Updates.{total_at, AreApart, is_doubled, HasLargeTotal}
 use Rattle.update.specs.declared.change.Update.{Update}
 use Rattle.update.proofs.TotalLemmas.{fits_zero}
 use Rattle.plan.proofs.CountLemmas.{row_same, row_itself}
 use Rattle.reduce.specs.Joined.{Member}
-use Rattle.reduce.proofs.JoinedLemmas.{member-parts}
 
 module _ {T : Type 0} {below : T → T → Bool} (o : PartialOrderLaws below) where
   -- the update is of the row and at the time

@@ -1,8 +1,7 @@
 -- What holds once all visits are put in place: of the histories as they were and as they are, and of what is given.
-use Rattle.std.proofs.Common.{◌≡◌, ℕ, ◌+◌, ◌-◌, ◌^◌, ◌≤◌, min, Bool, true, false, not, List, [], ◌∷◌, ◌++◌, map, take, length, slice_get, IsSomeAnd, IsTrue, refl, sym, ap, subst, ◌∙◌, inl, inr, ⊎_elim, arith}
-use Rattle.std.specs.Prelude.{flat_map, sum_by, ℤ}
+use Rattle.std.proofs.Common.{◌≡◌, ℕ, Bool, false, List, [], ◌++◌, map, take, length, slice_get, IsSomeAnd, IsTrue, sym, ap, subst, ◌∙◌}
+use Rattle.std.specs.Prelude.{flat_map, ℤ}
 use Rattle.std.specs.List.{filter, list_all}
-use Rattle.std.specs.List.Sorted.{IsStrictlySortedBy}
 use Rattle.std.specs.Cmp.{IsTotalOrder}
 use Rattle.std.specs.declared.cmp.Ordering.{Ordering}
 use Rattle.lattice.specs.Order.{PartialOrderLaws, LatticeLaws}
@@ -16,14 +15,14 @@ use Rattle.plan.specs.Reductions.{IsReducer}
 use Rattle.plan.proofs.CountLemmas.{row_same}
 use Rattle.trace.specs.Readings.{IsReadable}
 use Rattle.reduce.specs.declared.visiting.Change.{Change}
-use Rattle.reduce.specs.Joined.{Member, AreOnce, of_key}
+use Rattle.reduce.specs.Joined.{Member, AreOnce}
 use Rattle.reduce.specs.Histories.{HistoryState, AreHistories, AreKeysApart, IsWaiting, due_of, joined_of}
 use Rattle.reduce.specs.Standing.{KeyStands, Shows}
 use Rattle.reduce.specs.Owing.{IsOverfull}
 use Rattle.reduce.specs.Reductions.{StandsFor, IsOpenTo, IsQuietAt, SumsToTaken, all_reads}
 use Rattle.reduce.specs.Settling.{ReadsAs, IsOverfullFor}
 use Rattle.reduce.specs.Taking.{HaveJoins}
-use Rattle.reduce.specs.Visiting.{Visit, Gathers, AreChanges, all_renewed, all_replaced, waits_on, reads_of}
+use Rattle.reduce.specs.Visiting.{Visit, Gathers, AreChanges, all_renewed, all_replaced}
 use Rattle.reduce.proofs.ApartLemmas.{apart_fits}
 use Rattle.reduce.proofs.CorrectLemmas.{apart_consolidated}
 use Rattle.reduce.proofs.HistoryLemmas.{at_place, of_there}

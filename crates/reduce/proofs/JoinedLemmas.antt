@@ -11,6 +11,7 @@ use Rattle.update.specs.declared.change.Update.{Update}
 use Rattle.plan.specs.Reductions.{has_key}
 use Rattle.plan.proofs.CountLemmas.{row_same, row_itself, count_of-append}
 use Rattle.reduce.specs.Joined.{Member, times_of, of_key, IsJoined}
+use Rattle.reduce.proofs.MemberLemmas.{in_left, in_right, image_in}
 
 module _ {T : Type 0} (below : T → T → Bool) where
   -- how often a row is in the sum at t
@@ -43,34 +44,6 @@ through_is {T} below row t (u ∷ us) = step (below u.time t) (through_is below 
 pub none_comes : {X : Type 0} (xs : List X) → total_by (λ x. pos 0) xs ≡ pos 0
 none_comes [] = refl
 none_comes (x ∷ xs) = rw (none_comes xs) refl
-
-pub member-left : {X : Type 0} (x : X) (xs ys : List X) → Member x xs → Member x (xs ++ ys)
-member-left x [] ys m = absurd m
-member-left x (y ∷ xs) ys (inl e) = inl e
-member-left x (y ∷ xs) ys (inr m) = inr (member-left x xs ys m)
-
-pub member-right : {X : Type 0} (x : X) (xs ys : List X) → Member x ys → Member x (xs ++ ys)
-member-right x [] ys m = m
-member-right x (y ∷ xs) ys m = inr (member-right x xs ys m)
-
-pub member-parts : {X : Type 0} (x : X) (xs ys : List X) → Member x (xs ++ ys) → Member x xs ⊎ Member x ys
-member-parts x [] ys m = inr m
-member-parts x (y ∷ xs) ys (inl e) = inl (inl e)
-member-parts x (y ∷ xs) ys (inr m) = past (member-parts x xs ys m)
-  where
-    past : Member x xs ⊎ Member x ys → Member x (y ∷ xs) ⊎ Member x ys
-    past (inl k) = inl (inr k)
-    past (inr k) = inr k
-
-pub member-map : {X Y : Type 0} (f : X → Y) (x : X) (xs : List X) → Member x xs → Member (f x) (map f xs)
-member-map f x [] m = absurd m
-member-map f x (y ∷ xs) (inl e) = inl (ap f e)
-member-map f x (y ∷ xs) (inr m) = inr (member-map f x xs m)
-
-pub member-mapped : {X Y : Type 0} (f : X → Y) (y : Y) (xs : List X) → Member y (map f xs) → (x : X) × Member x xs × (f x ≡ y)
-member-mapped f y [] m = absurd m
-member-mapped f y (x ∷ xs) (inl e) = (x, inl refl, sym e)
-member-mapped f y (x ∷ xs) (inr m) = let n = member-mapped f y xs m in (n.0, inr n.1, n.2)
 
 module _ {T : Type 0} {below : T → T → Bool} {joined met : T → T → T} (o : PartialOrderLaws below) (l : LatticeLaws below joined met) where
   pub join_below : (a b t : T) → below (joined a b) t ≡ below a t && below b t
@@ -141,15 +114,15 @@ module _ {T : Type 0} {below : T → T → Bool} {joined met : T → T → T} (o
 
   -- a time is one of its own joins; so are the joins of the others, and their joins with it
   joins-itself : (x : T) (ts : List T) → Member x (joins_of joined (x ∷ ts))
-  joins-itself x ts = member-right x (joins_of joined ts ++ map (λ s. joined s x) (joins_of joined ts)) (x ∷ []) (inl refl)
+  joins-itself x ts = in_right x (joins_of joined ts ++ map (λ s. joined s x) (joins_of joined ts)) (x ∷ []) (inl refl)
 
   joins-others : (x s : T) (ts : List T) → Member s (joins_of joined ts) → Member s (joins_of joined (x ∷ ts))
-  joins-others x s ts m = member-left s (joins_of joined ts ++ map (λ s. joined s x) (joins_of joined ts)) (x ∷ []) (member-left s (joins_of joined ts) (map (λ s. joined s x) (joins_of joined ts)) m)
+  joins-others x s ts m = in_left s (joins_of joined ts ++ map (λ s. joined s x) (joins_of joined ts)) (x ∷ []) (in_left s (joins_of joined ts) (map (λ s. joined s x) (joins_of joined ts)) m)
 
   joins-with : (x s : T) (ts : List T) → Member s (joins_of joined ts) → Member (joined s x) (joins_of joined (x ∷ ts))
   joins-with x s ts m =
-      member-left (joined s x) (joins_of joined ts ++ map (λ s. joined s x) (joins_of joined ts)) (x ∷ [])
-      (member-right (joined s x) (joins_of joined ts) (map (λ s. joined s x) (joins_of joined ts)) (member-map (λ s. joined s x) s (joins_of joined ts) m))
+      in_left (joined s x) (joins_of joined ts ++ map (λ s. joined s x) (joins_of joined ts)) (x ∷ [])
+      (in_right (joined s x) (joins_of joined ts) (map (λ s. joined s x) (joins_of joined ts)) (image_in (λ s. joined s x) s (joins_of joined ts) m))
 
   pub floor : (ts : List T) (t : T) → Floor ts t
   floor [] t = inl tt

@@ -1,22 +1,21 @@
 -- What the laws of reductions say.
-use Rattle.std.proofs.Common.{◌≡◌, ℕ, Bool, true, false, cond, not, List, [], ◌∷◌, IsTrue, refl, sym, ap, subst, ◌∙◌, inl, inr, ◌⊎◌, ⊎_elim}
+use Rattle.std.proofs.Common.{◌≡◌, ℕ, Bool, true, false, not, List, [], ◌∷◌, IsTrue, refl, sym, ap, ◌∙◌, inl, inr, ◌⊎◌}
 use Rattle.std.specs.Prelude.{ℤ}
 use Rattle.std.specs.List.{filter, list_all}
 use Rattle.std.specs.Cmp.{IsTotalOrder}
 use Rattle.std.specs.declared.cmp.Ordering.{Ordering}
-use Rattle.std.proofs.lemmas.Bool.{and_parts, false≢true, true≢false}
+use Rattle.std.proofs.lemmas.Bool.{and_parts, false≢true}
 use Rattle.lattice.specs.Order.{PartialOrderLaws, LatticeLaws}
 use Rattle.lattice.specs.Frontiers.{is_beyond}
 use Rattle.lattice.proofs.FrontierLemmas.{beyond_up}
 use Rattle.update.specs.Bags.{Alike, Entry, count_of}
-use Rattle.update.specs.Joins.{joins_of}
 use Rattle.update.specs.Updates.{as_of, IsConsolidated}
 use Rattle.update.specs.declared.change.Update.{Update}
 use Rattle.update.proofs.UniqueLemmas.{same_totals, same_updates}
 use Rattle.plan.specs.Changes.{has_passed}
 use Rattle.plan.specs.Operators.{reduction_output}
 use Rattle.plan.specs.Reductions.{IsReducer, has_key}
-use Rattle.reduce.specs.Joined.{Member, IsJoined, times_of}
+use Rattle.reduce.specs.Joined.{IsJoined, times_of}
 use Rattle.reduce.specs.Histories.{HistoryState, due_of}
 use Rattle.reduce.specs.Reductions.{StandsFor, IsQuietAt}
 use Rattle.reduce.proofs.JoinedLemmas.{Floor, floor, floor_joins, taken_same, taken_none}

@@ -18,7 +18,7 @@ module _ {X : Type 0} where
       let count : i + 1 - a ≡ (i - a) + 1 = omega (arith, from) in
       let same : a + (i - a) ≡ i = omega (arith, from) in
       let more : slice_range xs a (i + 1) ≡ slice_range xs a i ++ x ∷ [] =
-          ap (λ n. take n (drop a xs)) count
-          ∙ (take_more (drop a xs) (i - a) x inside
-          ∙ ap (λ y. take (i - a) (drop a xs) ++ y ∷ []) (get_or-drop a xs (i - a) x ∙ (ap (λ n. get_or xs n x) same ∙ at_some xs i x x h))) in
+      ap (λ n. take n (drop a xs)) count
+      ∙ (take_more (drop a xs) (i - a) x inside
+      ∙ ap (λ y. take (i - a) (drop a xs) ++ y ∷ []) (get_or-drop a xs (i - a) x ∙ (ap (λ n. get_or xs n x) same ∙ at_some xs i x x h))) in
       ap (λ ys. ys ++ x ∷ []) e ∙ (append_assoc before (slice_range xs a i) (x ∷ []) ∙ ap (λ ys. before ++ ys) (sym more))

@@ -1,37 +1,35 @@
 -- What a reduction stands for once it has visited the keys that wait.
 use Rattle.std.proofs.lemmas.Option.{same_Some}
-use Rattle.std.proofs.Common.{◌≡◌, ◌≢◌, ℕ, zero, suc, ◌+◌, ◌≤◌, Bool, true, false, cond, not, ◌&&◌, ◌||◌, List, [], ◌∷◌, ◌++◌, map, take, drop, length, slice_get, Some, IsSomeAnd, IsTrue, refl, sym, ap, subst, ◌∙◌, ◌⊎◌, inl, inr, ⊎_elim, arith}
-use Rattle.std.specs.Prelude.{flat_map, sum_by, unsigned_abs, ℤ, ◌↔◌}
+use Rattle.std.proofs.Common.{◌≡◌, ◌≢◌, ℕ, zero, suc, ◌+◌, ◌≤◌, Bool, true, false, cond, not, ◌&&◌, ◌||◌, List, [], ◌∷◌, ◌++◌, map, take, length, slice_get, Some, IsSomeAnd, IsTrue, refl, sym, ap, subst, ◌∙◌, ◌⊎◌, inl, inr, ⊎_elim, arith}
+use Rattle.std.specs.Prelude.{flat_map, unsigned_abs, ℤ}
 use Rattle.std.specs.List.{filter, list_any, list_all}
 use Rattle.std.specs.declared.cmp.Ordering.{Ordering}
 use Rattle.std.proofs.lemmas.Bool.{and_from, and_parts, or_parts, true≢false, false≢true}
 use Rattle.std.proofs.lemmas.List.{append-nil}
 use Rattle.std.proofs.lemmas.List.Elements.{filter-append}
-use Rattle.std.proofs.lemmas.List.Recursion.{is_sum_by}
 use Rattle.std.proofs.lemmas.Int.{ints}
 use Rattle.std.proofs.Math.IntN.{pos, ◌+ℤ◌, +ℤ_idl}
 use Rattle.lattice.specs.Order.{PartialOrderLaws, LatticeLaws}
 use Rattle.lattice.specs.Frontiers.{is_beyond}
 use Rattle.lattice.proofs.FrontierLemmas.{beyond_up}
 use Rattle.update.specs.Bags.{Entry, Alike, count_of, same_row, total_by}
-use Rattle.update.specs.Updates.{as_of, size, total_at, total_where, AreApart, is_doubled}
+use Rattle.update.specs.Updates.{as_of, total_at, total_where, AreApart, is_doubled}
 use Rattle.update.specs.declared.change.Update.{Update}
 use Rattle.update.proofs.SumLemmas.{total_by-filter, total_where-filter}
 use Rattle.update.proofs.UniqueLemmas.{meets, meets_row, meets_time}
 use Rattle.plan.specs.Changes.{has_passed}
 use Rattle.plan.proofs.CountLemmas.{row_same, row_itself}
-use Rattle.reduce.specs.declared.visiting.Change.{Change}
 use Rattle.reduce.specs.Joined.{Member, AreOnce, of_key, IsJoined}
-use Rattle.reduce.specs.Standing.{KeyStands, IsSettledAt, Shows}
-use Rattle.reduce.specs.Histories.{HistoryState, AreHistories, AreKeysApart, IsWaiting, due_of, joined_of, given_of}
+use Rattle.reduce.specs.Standing.{KeyStands, Shows}
+use Rattle.reduce.specs.Histories.{HistoryState, AreHistories, AreKeysApart, due_of, joined_of, given_of}
 use Rattle.reduce.specs.Settling.{Settling, ReadsAs}
-use Rattle.reduce.specs.Visiting.{Visit, AreVisits, Gathers, all_renewed}
+use Rattle.reduce.specs.Visiting.{Visit, AreVisits, all_renewed}
 use Rattle.reduce.specs.Reductions.{StandsFor, IsOpenTo, IsQuietAt}
 use Rattle.reduce.proofs.ApartLemmas.{apart_both, apart_filter, doubled, doubled_is, own_total}
 use Rattle.reduce.proofs.CorrectionLemmas.{as_of-keyed, count-had, weight, weight_is, weight-append}
 use Rattle.reduce.proofs.JoinedLemmas.{sum_at, sum_at-append}
 use Rattle.reduce.proofs.MemberLemmas.{in_either}
-use Rattle.reduce.proofs.RenewLemmas.{Unchanged, Changed, outcome, own_more, some_there, from_visit, visit_in, all_apart}
+use Rattle.reduce.proofs.RenewLemmas.{Unchanged, Changed, outcome, own_more, some_there, visit_in, all_apart}
 use Rattle.reduce.proofs.SettleLemmas.{take_whole, drop_whole, shows_more, own_from}
 use Rattle.reduce.proofs.StandingLemmas.{given_replaced}
 
@@ -337,9 +335,9 @@ module _ {T : Type 0} {below : T → T → Bool} {joined met : T → T → T} (c
       apart_after one given ag op = (
         apart_both o given out ag one (λ g u m n. step g u m n (is_doubled below g u) refl),
         λ u m s n b. ⊎_elim
-        (λ a. op u a s (late (take k u.row) s n).0 b)
-        (λ a. false≢true (sym (out_at u a).1 ∙ beyond_up o front s u.time (late (take k u.row) s n).1 b))
-        (in_either u given out m),
+            (λ a. op u a s (late (take k u.row) s n).0 b)
+            (λ a. false≢true (sym (out_at u a).1 ∙ beyond_up o front s u.time (late (take k u.row) s n).1 b))
+            (in_either u given out m),
       )
         where
           step : (g u : Update T) → Member g given → Member u out → (b : Bool) → is_doubled below g u ≡ b → is_doubled below g u ≡ false

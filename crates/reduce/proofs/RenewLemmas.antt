@@ -1,9 +1,9 @@
 -- The histories after all visits, and what was given at them, key by key.
-use Rattle.std.proofs.Common.{◌≡◌, ◌≢◌, ℕ, zero, suc, ◌<◌, Bool, true, false, cond, not, ◌||◌, List, [], ◌∷◌, ◌++◌, map, set, take, length, get_or, slice_get, Option, Some, IsSomeAnd, IsTrue, refl, sym, ap, subst, ◌∙◌, ◌⊎◌, inl, inr, ⊎_elim, arith, w64, FitsSigned}
-use Rattle.std.specs.Prelude.{flat_map, sum_by, ℤ}
-use Rattle.std.specs.List.{filter, list_any, list_all}
+use Rattle.std.proofs.Common.{◌≡◌, ℕ, zero, suc, Bool, true, false, cond, not, ◌||◌, List, [], ◌∷◌, ◌++◌, map, set, take, length, slice_get, Some, IsSomeAnd, refl, sym, ap, subst, ◌∙◌, ◌⊎◌, inl, inr, ⊎_elim}
+use Rattle.std.specs.Prelude.{flat_map, ℤ}
+use Rattle.std.specs.List.{filter, list_any}
 use Rattle.std.specs.declared.cmp.Ordering.{Ordering}
-use Rattle.std.proofs.lemmas.Bool.{and_from, and_parts, or_parts, true≢false, false≢true}
+use Rattle.std.proofs.lemmas.Bool.{or_parts, true≢false}
 use Rattle.std.proofs.lemmas.List.{append-nil}
 use Rattle.std.proofs.lemmas.List.Elements.{filter-append}
 use Rattle.std.proofs.lemmas.Option.{none-some, same_Some}
@@ -13,10 +13,8 @@ use Rattle.update.specs.Bags.{Entry, same_row}
 use Rattle.update.specs.Updates.{AreApart, is_doubled}
 use Rattle.update.specs.declared.change.Update.{Update}
 use Rattle.plan.proofs.CountLemmas.{row_same, row_itself}
-use Rattle.reduce.specs.declared.visiting.Change.{Change}
 use Rattle.reduce.specs.Joined.{Member, AreOnce, of_key}
 use Rattle.reduce.specs.Histories.{HistoryState, IsHistory, AreHistories, AreKeysApart, of_history, due_of, joined_of, given_of}
-use Rattle.reduce.specs.Settling.{Settling}
 use Rattle.reduce.specs.Visiting.{Visit, IsVisit, AreVisits, AreChanges, renewed, all_renewed, all_replaced, changes_of, is_due}
 use Rattle.reduce.proofs.ApartLemmas.{apart_both, doubled_is}
 use Rattle.reduce.proofs.HistoryLemmas.{of_replaced, of_there, apart_replaced}

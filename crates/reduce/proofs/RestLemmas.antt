@@ -1,6 +1,6 @@
 -- Which keys wait after all visits, that their histories are in order, and how much was read.
-use Rattle.std.proofs.Common.{◌≡◌, ◌≢◌, ℕ, zero, suc, ◌+◌, Bool, true, false, cond, List, [], ◌∷◌, ◌++◌, map, set, take, length, slice_get, Some, IsSomeAnd, IsTrue, refl, sym, ap, subst, ◌∙◌, ◌⊎◌, inl, inr, ⊎_elim, arith}
-use Rattle.std.specs.Prelude.{flat_map, sum_by, nat_eq, ℤ, ◌↔◌}
+use Rattle.std.proofs.Common.{◌≡◌, ◌≢◌, ℕ, zero, suc, ◌+◌, Bool, true, false, cond, List, [], ◌∷◌, ◌++◌, map, set, length, slice_get, Some, IsSomeAnd, IsTrue, refl, sym, ap, subst, ◌∙◌, ◌⊎◌, inl, inr, ⊎_elim, arith}
+use Rattle.std.specs.Prelude.{flat_map, sum_by, nat_eq, ℤ}
 use Rattle.std.specs.List.{filter, list_all}
 use Rattle.std.specs.List.Sorted.{IsStrictlySortedBy}
 use Rattle.std.specs.declared.cmp.Ordering.{Ordering}
@@ -15,7 +15,7 @@ use Rattle.update.specs.declared.change.Update.{Update}
 use Rattle.reduce.specs.Joined.{Member, AreOnce, of_key}
 use Rattle.reduce.specs.Histories.{HistoryState, IsHistory, AreHistories, IsWaiting}
 use Rattle.reduce.specs.Reductions.{reads_in, all_reads}
-use Rattle.reduce.specs.Visiting.{Visit, IsVisit, AreVisits, renewed, all_renewed, waits_on, reads_of}
+use Rattle.reduce.specs.Visiting.{Visit, AreVisits, renewed, all_renewed, waits_on, reads_of}
 use Rattle.reduce.proofs.MemberLemmas.{in_either, in_left, in_right, image_in, image_of}
 use Rattle.reduce.proofs.RenewLemmas.{set_other, some_there, visits_after, own_more}
 use Rattle.reduce.proofs.SettleLemmas.{take_whole}

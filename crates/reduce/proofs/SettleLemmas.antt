@@ -1,7 +1,7 @@
 -- Over the pending times of one key.
-use Rattle.std.proofs.Common.{◌≡◌, ℕ, zero, suc, ◌+◌, ◌<◌, ◌≤◌, ◌^◌, Bool, true, false, cond, not, ◌&&◌, List, [], ◌∷◌, ◌++◌, take, drop, get_or, length, sym, refl, ap, ◌∙◌, subst, inl, inr, ◌⊎◌, ⊎_elim, arith, append_assoc, add-one, drop-cons, w64, FitsSigned}
+use Rattle.std.proofs.Common.{◌≡◌, ℕ, zero, suc, ◌+◌, ◌<◌, ◌≤◌, ◌^◌, Bool, true, false, cond, not, List, [], ◌∷◌, ◌++◌, take, drop, get_or, length, sym, refl, ap, ◌∙◌, subst, inl, inr, ◌⊎◌, ⊎_elim, arith, append_assoc, add-one, drop-cons}
 use Rattle.std.specs.Prelude.{IsTrue, ℤ}
-use Rattle.std.specs.List.{filter, list_all, list_any, AllByRecursion}
+use Rattle.std.specs.List.{filter, list_all, AllByRecursion}
 use Rattle.std.specs.List.Sorted.{IsStrictlySortedBy}
 use Rattle.std.specs.Cmp.{IsTotalOrder}
 use Rattle.std.specs.Ordering.{is_le, ordering_reverse}
@@ -15,18 +15,19 @@ use Rattle.std.proofs.Math.IntN.{◌+ℤ◌}
 use Rattle.lattice.specs.Order.{PartialOrderLaws, LatticeLaws, ExtendsLaws}
 use Rattle.lattice.specs.Frontiers.{is_beyond}
 use Rattle.lattice.proofs.FrontierLemmas.{beyond_up}
-use Rattle.update.specs.Bags.{Entry, count_of, Alike, same_row}
-use Rattle.update.specs.Updates.{as_of, size, AreApart, is_doubled, HasLargeTotal}
+use Rattle.update.specs.Bags.{Entry, count_of, same_row}
+use Rattle.update.specs.Updates.{as_of, size, AreApart, is_doubled}
 use Rattle.update.specs.declared.change.Update.{Update}
 use Rattle.plan.specs.Changes.{has_passed}
-use Rattle.plan.specs.Reductions.{has_key, IsReducer}
-use Rattle.plan.proofs.CountLemmas.{row_same, row_itself}
-use Rattle.reduce.specs.Joined.{Member, of_key, IsJoined}
+use Rattle.plan.specs.Reductions.{IsReducer}
+use Rattle.plan.proofs.CountLemmas.{row_itself}
+use Rattle.reduce.specs.Joined.{Member, of_key}
 use Rattle.reduce.specs.Standing.{IsRight, KeyStands, IsSettledAt, Shows}
 use Rattle.reduce.specs.Corrections.{AllAt, Corrects, IsTooMuch}
-use Rattle.reduce.specs.Owing.{IsOwed, IsOverfull}
+use Rattle.reduce.specs.Owing.{IsOwed}
 use Rattle.reduce.specs.Settling.{ReadsAs, Steps, Settling, IsOverfullFor}
-use Rattle.reduce.proofs.JoinedLemmas.{member-parts, member-left, member-right, sum_at, sum_at-append}
+use Rattle.reduce.proofs.JoinedLemmas.{sum_at, sum_at-append}
+use Rattle.reduce.proofs.MemberLemmas.{in_either, in_left, in_right}
 use Rattle.reduce.proofs.StandingLemmas.{corrects_one, key_right}
 use Rattle.reduce.proofs.ApartLemmas.{apart_both, apart_filter, doubled_is, fits_each}
 use Rattle.reduce.proofs.CorrectionLemmas.{as_of-keyed, count-had, size_right, weight, weight_is, weight-append}
@@ -131,7 +132,7 @@ module _ {T : Type 0} {below : T → T → Bool} {joined met : T → T → T} (o
       ⊎_elim
       (λ r. false≢true (sym p ∙ beyond_up o front s t (a s r) b))
       (λ r. true≢false (sym b ∙ n s r))
-      (member-parts s rest after m)
+      (in_either s rest after m)
 
   all_at_is : (us : List (Update T)) (t : T) → AllAt k key t us → (u : Update T) → Member u us → (of_key k key u ≡ true) × (u.time ≡ t)
   all_at_is [] t a u m = absurd m
@@ -230,7 +231,7 @@ module _ {T : Type 0} {below : T → T → Bool} {joined met : T → T → T} (o
       own = own_from more (λ u m. (s.at u m).0)
 
       still : (u : Update T) → Member u more → (of_key k key u ≡ true) × Member u.time (take (i + 1) due) × (is_beyond below front u.time ≡ false)
-      still u m = let a = s.at u m in (a.0, subst (Member u.time) (sym (more_taken due i t lt e)) (member-left u.time (take i due) (t ∷ []) a.1), a.2)
+      still u m = let a = s.at u m in (a.0, subst (Member u.time) (sym (more_taken due i t lt e)) (in_left u.time (take i due) (t ∷ []) a.1), a.2)
 
       -- with one more correction
       corrected : is_beyond below front t ≡ false → (new : List (Update T)) → Corrects below k reduce content (stored ++ more) key t new
@@ -274,8 +275,8 @@ module _ {T : Type 0} {below : T → T → Bool} {joined met : T → T → T} (o
             subst (λ z. KeyStands below joined k reduce taken z key (rest2 ++ after)) (append_assoc given more new ∙ ap (λ z. given ++ z) (sym w.2.1))
             (subst (λ z. KeyStands below joined k reduce taken ((given ++ more) ++ new) key (z ++ after)) (sym w.1) (corrected w.0 new c taken given rd sh st));
         apart = subst (AreApart below) (sym w.2.1) (apart_new new c.at c.apart);
-        at = λ u m. ⊎_elim (still u) (λ n. let a = all_at_is new t c.at u n in (a.0, subst (λ z. Member z (take (i + 1) due)) (sym a.1) here, ap (λ z. is_beyond below front z) a.1 ∙ w.0)) (member-parts u more new (subst (Member u) w.2.1 m));
-        fits = λ u m. ⊎_elim (s.fits u) (λ n. fits_each o new c.apart w.2.2 u n) (member-parts u more new (subst (Member u) w.2.1 m));
+        at = λ u m. ⊎_elim (still u) (λ n. let a = all_at_is new t c.at u n in (a.0, subst (λ z. Member z (take (i + 1) due)) (sym a.1) here, ap (λ z. is_beyond below front z) a.1 ∙ w.0)) (in_either u more new (subst (Member u) w.2.1 m));
+        fits = λ u m. ⊎_elim (s.fits u) (λ n. fits_each o new c.apart w.2.2 u n) (in_either u more new (subst (Member u) w.2.1 m));
       }
         where
           new : List (Update T)
@@ -285,7 +286,7 @@ module _ {T : Type 0} {below : T → T → Bool} {joined met : T → T → T} (o
           c = w.2.3
 
           here : Member t (take (i + 1) due)
-          here = subst (Member t) (sym (more_taken due i t lt e)) (member-right t (take i due) (t ∷ []) (inl refl))
+          here = subst (Member t) (sym (more_taken due i t lt e)) (in_right t (take i due) (t ∷ []) (inl refl))
 
           goes : filter (λ t. is_beyond below front t) (t ∷ []) ≡ []
           goes = rw w.0 refl
@@ -300,10 +301,10 @@ module _ {T : Type 0} {below : T → T → Bool} {joined met : T → T → T} (o
             filter (of_key k key) (given ++ more),
             owed q taken (given ++ more) (rest ++ drop i due) (s.stands taken given rd sh st) both passed opened,
             (let a = (shows_more given more own sh).smaller in
-            let b = lighter (stored ++ more) in
-            let c = weight_is (filter (of_key k key) (stored ++ more)) in
-            let d = weight_is (stored ++ more) in
-            omega (arith, a, b, c, d, h)),
+                let b = lighter (stored ++ more) in
+                let c = weight_is (filter (of_key k key) (stored ++ more)) in
+                let d = weight_is (stored ++ more) in
+                omega (arith, a, b, c, d, h)),
           ))
           (λ h.
           let ideals : List (Update T) = ideal o k key t reduce content (stored ++ more) in
@@ -311,9 +312,9 @@ module _ {T : Type 0} {below : T → T → Bool} {joined met : T → T → T} (o
           let at = all_at_is ideals t c.at in
           let apart2 : AreApart below ((given ++ more) ++ ideals) = apart_both o (given ++ more) ideals both c.apart (λ u v m n. other u v m (at v n) (is_doubled below u v) refl) in
           let passed2 : (u : Update T) → Member u ((given ++ more) ++ ideals) → IsTrue (has_passed below front u.time) =
-              λ u m. ⊎_elim (passed u) (λ n. ap (λ z. not (is_beyond below front z)) (at u n).1 ∙ ap not p) (member-parts u (given ++ more) ideals m) in
+          λ u m. ⊎_elim (passed u) (λ n. ap (λ z. not (is_beyond below front z)) (at u n).1 ∙ ap not p) (in_either u (given ++ more) ideals m) in
           let opened2 : (u : Update T) → Member u ((given ++ more) ++ ideals) → of_key k key u ≡ true → IsSettledAt below (rest ++ after) u.time =
-              λ u m d v n b. ⊎_elim (λ y. opened u y d v (fewer v n) b) (λ y. least t rest after left p (later x total due ascending i t lt e) v n (subst (λ z. below v z ≡ true) (at u y).1 b)) (member-parts u (given ++ more) ideals m) in
+          λ u m d v n b. ⊎_elim (λ y. opened u y d v (fewer v n) b) (λ y. least t rest after left p (later x total due ascending i t lt e) v n (subst (λ z. below v z ≡ true) (at u y).1 b)) (in_either u (given ++ more) ideals m) in
           inr (
             key,
             filter (of_key k key) ((given ++ more) ++ ideals),
@@ -351,19 +352,19 @@ module _ {T : Type 0} {below : T → T → Bool} {joined met : T → T → T} (o
           both = apart_both o given more ag s.apart (λ u v m n. apart_from u v m n (is_doubled below u v) refl)
 
           passed : (u : Update T) → Member u (given ++ more) → IsTrue (has_passed below front u.time)
-          passed u m = ⊎_elim (ps u) (λ n. ap not (s.at u n).2) (member-parts u given more m)
+          passed u m = ⊎_elim (ps u) (λ n. ap not (s.at u n).2) (in_either u given more m)
 
           opened : (u : Update T) → Member u (given ++ more) → of_key k key u ≡ true → IsSettledAt below (rest ++ drop i due) u.time
           opened u m d v n b =
               ⊎_elim
-              (λ y. op u y d v (⊎_elim (in_due v) (member-dropped due i v) (member-parts v rest (drop i due) n)) b)
+              (λ y. op u y d v (⊎_elim (in_due v) (member-dropped due i v) (in_either v rest (drop i due) n)) b)
               (λ y.
               let a = s.at u y in
               ⊎_elim
               (λ r. false≢true (sym a.2 ∙ beyond_up o front v u.time (left v r) b))
               (λ r. true≢false (sym b ∙ behind x total due ascending i u.time v a.1 r))
-              (member-parts v rest (drop i due) n))
-              (member-parts u given more m)
+              (in_either v rest (drop i due) n))
+              (in_either u given more m)
 
           other : (u v : Update T) → Member u (given ++ more) → (of_key k key v ≡ true) × (v.time ≡ t) → (b : Bool) → is_doubled below u v ≡ b → is_doubled below u v ≡ false
           other u v m a false d = d

@@ -1,14 +1,14 @@
 -- What a reduction stands for once it has taken more updates.
 use Rattle.std.proofs.Common.{◌≡◌, ℕ, Bool, true, false, cond, List, [], ◌∷◌, ◌++◌, map, take, length, refl, sym, ap, subst, ◌∙◌, ◌⊎◌, inl, inr, ⊎_elim}
 use Rattle.std.specs.Prelude.{IsTrue, ℤ, ◌↔◌, nat_le}
-use Rattle.std.specs.List.{filter, list_all, list_any}
+use Rattle.std.specs.List.{filter, list_any}
 use Rattle.std.specs.declared.cmp.Ordering.{Ordering}
 use Rattle.std.proofs.lemmas.Bool.{and_from, or_parts, true≢false, false≢true}
 use Rattle.std.proofs.lemmas.List.{map-append}
 use Rattle.std.proofs.lemmas.List.Elements.{filter-append}
 use Rattle.std.proofs.lemmas.List.Folds.{list_all-append}
 use Rattle.lattice.specs.Order.{PartialOrderLaws, LatticeLaws}
-use Rattle.update.specs.Bags.{Entry, count_of, same_row}
+use Rattle.update.specs.Bags.{Entry, count_of}
 use Rattle.update.specs.Joins.{joins_of}
 use Rattle.update.specs.Updates.{entry, as_of}
 use Rattle.update.specs.declared.change.Update.{Update}
@@ -20,7 +20,6 @@ use Rattle.reduce.specs.Histories.{HistoryState, due_of, joined_of, given_of, hi
 use Rattle.reduce.specs.Reductions.{StandsFor, IsOpenTo}
 use Rattle.reduce.specs.Taking.{AreRenewed, HaveJoins, or_else}
 use Rattle.reduce.proofs.JoinLemmas.{joins_append, fresh_above, fresh_absorbs}
-use Rattle.reduce.proofs.JoinedLemmas.{as_of-append}
 use Rattle.reduce.proofs.TakenLemmas.{key_kept, key_renewed}
 
 module _ {T : Type 0} where
@@ -61,8 +60,7 @@ module _ {T : Type 0} {below : T → T → Bool} {joined met : T → T → T} (c
       where
         step : (ts : List T) → times_of k key us ≡ ts → Member t (due_of key new) ↔ (Member t (due_of key hs) ⊎ IsFresh joined (times_of k key us) old t)
         step [] e =
-            let d = key_kept joined cmp k hs us made new all put (λ h. h.due) key e in
-            (
+            let d = key_kept joined cmp k hs us made new all put (λ h. h.due) key e in (
               λ m. inl (subst (Member t) d m),
               λ m. ⊎_elim (λ n. subst (Member t) (sym d) n) (λ f. absurd (none (subst (λ z. IsFresh joined z old t) e f))) m,
             )

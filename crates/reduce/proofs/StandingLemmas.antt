@@ -16,7 +16,8 @@ use Rattle.plan.proofs.ReductionLemmas.{by_key_at}
 use Rattle.reduce.specs.Joined.{Member, times_of, of_key, IsJoined}
 use Rattle.reduce.specs.Standing.{IsRight, KeyStands, IsSettledAt, are_wide}
 use Rattle.reduce.specs.Corrections.{AllAt}
-use Rattle.reduce.proofs.JoinedLemmas.{sum_at, sum_at-append, through_is, none_comes, member-parts, Floor, floor, given_same, on_below, on_none, taken_same, taken_none}
+use Rattle.reduce.proofs.JoinedLemmas.{sum_at, sum_at-append, through_is, none_comes, Floor, floor, given_same, on_below, on_none, taken_same, taken_none}
+use Rattle.reduce.proofs.MemberLemmas.{in_either}
 
 -- a row with the same first k columns has k columns
 wider : (k : ℕ) (a b : List ℤ) → take k a ≡ take k b → nat_le k (length a) ≡ true → nat_le k (length b) ≡ true
@@ -115,7 +116,7 @@ module _ {T : Type 0} {below : T → T → Bool} {joined met : T → T → T} (o
       → IsRight below k reduce taken (given ++ out) key t
       → KeyStands below joined k reduce taken (given ++ out) key new
   corrects_one taken given out key old new t w here less rest least a right = record {
-    given_joined = λ g m e. ⊎_elim (λ n. w.given_joined g n e) (λ n. subst (IsJoined joined k taken key) (all_at_time out key t a g n) (w.pending t here)) (member-parts g given out m);
+    given_joined = λ g m e. ⊎_elim (λ n. w.given_joined g n e) (λ n. subst (IsJoined joined k taken key) (all_at_time out key t a g n) (w.pending t here)) (in_either g given out m);
     pending = λ s h. w.pending s (less s h);
     upward = λ s v h j b. ⊎_elim (λ e. absurd (least s h (ap (λ z. below s z) (sym e) ∙ b))) (λ n. n) (rest v (w.upward s v (less s h) j b));
     settled = λ s j. settle s j (w.settled s j);

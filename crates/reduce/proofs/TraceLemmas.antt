@@ -1,8 +1,7 @@
 -- Reading a whole trace.
-use Rattle.std.proofs.Common.{◌≡◌, List, [], ◌∷◌, ◌++◌, Bool, refl, inl, inr, ◌∙◌, sym, subst}
-use Rattle.std.specs.Prelude.{IfSome, Option, Some}
+use Rattle.std.proofs.Common.{◌≡◌, List, [], ◌∷◌, Bool, refl, inl, inr, sym}
 use Rattle.update.specs.declared.change.Update.{Update}
-use Rattle.trace.specs.Readings.{Insertion, IsUpTo, AreUpTo, IsReadable, all_updates, reached}
+use Rattle.trace.specs.Readings.{Insertion, AreUpTo, IsReadable, all_updates, reached}
 
 module _ {T : Type 0} where
   -- up to the frontier that a trace has reached are all insertions

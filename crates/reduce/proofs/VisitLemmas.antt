@@ -6,12 +6,11 @@ use Rattle.std.specs.declared.cmp.Ordering.{Ordering}
 use Rattle.std.proofs.lemmas.Bool.{and_from, or_parts, true≢false, eqb-true}
 use Rattle.std.proofs.lemmas.List.{append-nil, take_more}
 use Rattle.std.proofs.lemmas.List.Recursion.{is_sum_by}
-use Rattle.lattice.specs.Order.{PartialOrderLaws, LatticeLaws}
 use Rattle.lattice.specs.Frontiers.{is_beyond}
 use Rattle.update.specs.Bags.{Entry}
 use Rattle.update.specs.declared.change.Update.{Update}
 use Rattle.reduce.specs.declared.visiting.Change.{Change}
-use Rattle.reduce.specs.Joined.{Member, of_key}
+use Rattle.reduce.specs.Joined.{of_key}
 use Rattle.reduce.specs.Standing.{KeyStands}
 use Rattle.reduce.specs.Histories.{HistoryState, IsHistory, AreHistories}
 use Rattle.reduce.specs.Settling.{Settling}

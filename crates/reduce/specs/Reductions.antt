@@ -1,5 +1,5 @@
 -- For which updates a reduction stands, and what its calls are to say of them.
-use Rattle.std.specs.Prelude.{◌≡◌, ◌↔◌, ℕ, Bool, true, false, List, ℤ, IsTrue, take, length, slice_get, Option, Some, None, sum_by, if◌then◌else◌}
+use Rattle.std.specs.Prelude.{◌≡◌, ◌↔◌, ℕ, Bool, false, List, ℤ, IsTrue, take, length, slice_get, Option, Some, None, sum_by, if◌then◌else◌}
 use Rattle.std.specs.List.{filter}
 use Rattle.lattice.specs.Frontiers.{is_beyond}
 use Rattle.update.specs.Bags.{Entry, Alike}

@@ -1,4 +1,18 @@
-//! Reductions that are kept up to date: count, distinct, min and max, or any reducer.
+//! Reductions that are kept up to date: count, distinct, min and max, or any reducer, by the first columns of rows.
+//!
+//! A correction of the past alters what was answered since, and not only at its own time. The rows of two corrections are
+//! first seen together at the join of their times, a time that no input may have. So an answer can change at joins of the
+//! times of a key's updates, and at no others. A reduction keeps these joined times key by key. It evaluates each one once
+//! a frontier has passed it, and again whenever an update comes in at or before it.
+//!
+//! - [`Reducer`] is what a key's rows are reduced to: a function of a bag. [`Count`], [`Distinct`], [`Min`] and [`Max`]
+//!   are those of plans.
+//! - [`ReduceState`] takes batches and gives the differences that a frontier has passed.
+//! - [`KeyHistory`] is what is kept of a key.
+//! - The laws say what follows from the definitions: where answers can change, and that what is given is one list in
+//!   whatever pieces it was taken.
+//!
+//! What a reduction stands for is defined in `specs/Standing.antt` and `specs/Reductions.antt`.
 #![tactic(auto)]
 
 mod answers;

@@ -23,11 +23,11 @@ ghost use Rattle.reduce.specs.Owing.{IsOverfull};
 ghost use Rattle.reduce.specs.Standing.{are_wide};
 ghost use Rattle.reduce.specs.Reductions.{StandsFor, IsOpenTo, IsQuietAt, SumsToTaken, all_reads};
 
-use crate::{KeyHistory, Reducer};
 use crate::histories::Histories;
 use crate::places::Places;
 use crate::taking::{put_all, renewed_by};
 use crate::visiting::{Gathered, replace_all, visit_all};
+use crate::{KeyHistory, Reducer};
 use antichain::Antichain;
 use batch::BatchReader;
 use lattice::Lattice;
@@ -166,7 +166,11 @@ impl<T: Lattice, R: Reducer> ReduceState<T, R> {
     ///
     /// Cost: for each key of the batch one look-up of a hash and a copy of its history; for each new time of a key a
     /// join with each joined time that the key has.
-    pub fn take<B: BatchReader<Time = T>>(&mut self, alloc: Global, batch: &B) -> Result<(), Refusal>
+    pub fn take<B: BatchReader<Time = T>>(
+        &mut self,
+        alloc: Global,
+        batch: &B,
+    ) -> Result<(), Refusal>
         requires wide { IsTrue (are_wide self.old.key (B.content batch.now)) }
         ensures stands { OnOk result ((taken given : List (Update T))
             → StandsFor T.below T.joined self.old.key (R.reduces self.old.reducer)
@@ -203,8 +207,22 @@ impl<T: Lattice, R: Reducer> ReduceState<T, R> {
         Ok(())
     }
 
-    /// Gives the differences at the pending times that the frontier has passed. The frontier is the slice of its
-    /// elements.
+    /// Gives the differences at the pending times that the frontier has passed, consolidated: at each of these times
+    /// what the reducer makes of the rows of the key, less what was given up to it. These times are pending no longer.
+    /// After the call, what was given sums at each time that the frontier has passed to the reduction of what was taken.
+    ///
+    /// The frontier is the slice of its elements. The trace is read whole, and may have moved times together, as of its
+    /// since: the pending times that the frontier has passed are to be beyond it. That the trace sums, at the times that
+    /// the frontier has passed, to what was taken is a premise of the promises and not a condition of the call. If the
+    /// call is refused, then nothing has changed.
+    ///
+    /// - [`Refusal::Overflow`] only if the absolute diffs of what was taken add up to 2^63 or more, or those of a list of
+    ///   updates of one key that is owed: up to some step of the computation it is what the reduction is to give.
+    /// - [`Refusal::OutOfMemory`] only if memory was refused.
+    ///
+    /// Cost: a comparison with the frontier for each pending time. For each key of which some time is due two binary
+    /// searches in each batch, and a copy of its history. For each due time one pass over the rows of the key and over
+    /// what was given of it, and n log n in the number of rows at or before the time. No other key is read.
     pub fn ready<S: Trace<Time = T>>(
         &mut self,
         alloc: Global,

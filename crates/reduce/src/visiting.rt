@@ -213,7 +213,15 @@ pub(crate) fn visit_all<T: Lattice, R: Reducer, B: BatchReader<Time = T>>(
 {
     let mut gathered = Gathered::none(alloc, looked);
     for place in places {
-        visit(alloc, reducer, histories, *place, frontier, batches, &mut gathered)?;
+        visit(
+            alloc,
+            reducer,
+            histories,
+            *place,
+            frontier,
+            batches,
+            &mut gathered,
+        )?;
     }
     Ok(gathered)
 }

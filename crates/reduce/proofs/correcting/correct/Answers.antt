@@ -34,7 +34,7 @@ returns-clause-corrects g c =
     let given = c.args.given.now ++ c.args.so_far.now in
     let want = c.in_ok-bag.bag in
     let draft : c.in_ok-draft.draft.items ≡ put t (change below k key want t given) =
-        c.in_ok-draft.ensures.draft ∙ ap (λ z. put t (want ++ map negated_entry z)) (sym (had_own below k key t given (both_own k key c.args.given.now c.args.so_far.now c.requires.given c.requires.so_far))) in
+    c.in_ok-draft.ensures.draft ∙ ap (λ z. put t (want ++ map negated_entry z)) (sym (had_own below k key t given (both_own k key c.args.given.now c.args.so_far.now c.requires.given c.requires.so_far))) in
     ok_both c.consolidate.result
     (λ more a b s content rows. corrects o k key t (g.R.Reducer.reduces c.args.reducer.now) content given c.args.rows.now want g.met.T.Ord.total rows c.in_ok-bag.ensures.value c.in_ok-bag.ensures.keyed more.items a
     (λ p h. b p (subst (λ z. IsTrue (list_all (λ u. p u.row u.time) z)) (sym draft) h))
@@ -51,7 +51,7 @@ returns-clause-refused g c =
     let given = c.args.given.now ++ c.args.so_far.now in
     let want = c.in_ok-bag.bag in
     let draft : c.in_ok-draft.draft.items ≡ put t (change below k key want t given) =
-        c.in_ok-draft.ensures.draft ∙ ap (λ z. put t (want ++ map negated_entry z)) (sym (had_own below k key t given (both_own k key c.args.given.now c.args.so_far.now c.requires.given c.requires.so_far))) in
+    c.in_ok-draft.ensures.draft ∙ ap (λ z. put t (want ++ map negated_entry z)) (sym (had_own below k key t given (both_own k key c.args.given.now c.args.so_far.now c.requires.given c.requires.so_far))) in
     err_with c.consolidate.result
     (λ refused h x. inr (h, λ content rows. too_far o k key t (g.R.Reducer.reduces c.args.reducer.now) content given c.args.rows.now want rows c.in_ok-bag.ensures.value c.in_ok-bag.ensures.keyed (subst (λ z. HasLargeTotal below z) draft x)))
     c.consolidate.ensures.overflow.0 c.consolidate.ensures.only

@@ -1,4 +1,4 @@
-use Rattle.std.proofs.Common.{◌∙◌, ap, rules}
+use Rattle.std.proofs.Common.{◌∙◌, rules}
 use Rattle.reduce.proofs.ReadingLemmas.{range_pushed}
 use Rattle.reduce.proofs.reading.read_range.Goals as goal
 

@@ -1,4 +1,4 @@
-use Rattle.std.proofs.Common.{◌≡◌, ◌+◌, List, length, sym, ◌∙◌, refl, inl, inr, ⊎_elim}
+use Rattle.std.proofs.Common.{◌≡◌, ◌+◌, List, length, sym, refl, inl, inr, ⊎_elim}
 use Rattle.std.specs.List.{filter}
 use Rattle.update.specs.declared.change.Update.{Update}
 use Rattle.reduce.specs.Joined.{of_key}
@@ -36,9 +36,9 @@ loop-time-preserved g c =
     let lt = rw c.due-time-items.ensures at c.loop-time-test.true in
     let is = rw c.due-time-items.ensures at c.time-item.is in
     let step : (content : List (Update g.row.T.Denot)) → c.args.rows.now ≡ filter (of_key (length c.args.history.now.key) c.args.history.now.key) content
-        → Settling g.T.PartialOrder.below g.T.Lattice.joined (length c.args.history.now.key) (g.R.Reducer.reduces c.args.reducer.now) c.args.history.now.key content c.args.history.now.given c.args.frontier.now c.args.history.now.due (c.loop-time.time-index + 1)
-        c.settle_time.new.settled.given.items c.settle_time.new.settled.due.items =
+    → Settling g.T.PartialOrder.below g.T.Lattice.joined (length c.args.history.now.key) (g.R.Reducer.reduces c.args.reducer.now) c.args.history.now.key content c.args.history.now.given c.args.frontier.now c.args.history.now.due (c.loop-time.time-index + 1)
+    c.settle_time.new.settled.given.items c.settle_time.new.settled.due.items =
     λ content rows. stepped g.met.T.PartialOrder.order g.met.T.Lattice.bounds (length h.key) (g.R.Reducer.reduces c.args.reducer.now) h.key content h.given c.args.frontier.now g.met.T.Lattice.extends g.met.T.Ord.total h.due c.requires.ascending
-        c.loop-time.time-index c.time-item.result lt is c.loop-time.settled.given.items c.loop-time.settled.due.items (c.loop-time.invariant.1 content rows)
-        c.settle_time.new.settled.given.items c.settle_time.new.settled.due.items (c.in_ok-settle_time.ensures.steps content rows) in
+    c.loop-time.time-index c.time-item.result lt is c.loop-time.settled.given.items c.loop-time.settled.due.items (c.loop-time.invariant.1 content rows)
+    c.settle_time.new.settled.given.items c.settle_time.new.settled.due.items (c.in_ok-settle_time.ensures.steps content rows) in
     (own_from g.met.T.PartialOrder.order g.met.T.Lattice.bounds (length h.key) (g.R.Reducer.reduces c.args.reducer.now) h.key c.args.rows.now h.given c.args.frontier.now c.settle_time.new.settled.given.items (λ u m. ((step c.args.rows.now (sym (own_kept (length h.key) h.key c.args.rows.now c.requires.rows))).at u m).0), step)

@@ -1,6 +1,5 @@
-use Rattle.std.proofs.Common.{◌≡◌, ◌≢◌, ◌∙◌, [], false, true, not, length, sym, refl, ap, subst, inl, inr, ⊎_elim, arith, IsTrue}
-use Rattle.std.specs.List.{list_any, list_all, filter}
-use Rattle.lattice.specs.Frontiers.{is_beyond}
+use Rattle.std.proofs.Common.{◌≢◌, ◌∙◌, [], length, sym, ap, subst, inl, inr, ⊎_elim, IsTrue}
+use Rattle.std.specs.List.{list_all}
 use Rattle.trace.specs.Readings.{all_content}
 use Rattle.reduce.specs.Joined.{of_key}
 use Rattle.reduce.proofs.ResultLemmas.{passed_on}
@@ -34,8 +33,11 @@ pub returns-in_err-settled-clause-refused : goal.returns-in_err-settled-clause-r
 returns-in_err-settled-clause-refused g c =
     let rows = c.as_slice.ensures.value ∙ (rw (c.columns.ensures.columns, c.key.ensures) at c.in_ok-rows.ensures.rows) in
     passed_on c.from_residual-in_err-settled.result c.in_err-settled.field-0.0 _ c.from_residual-in_err-settled.ensures.1
-    (⊎_elim inl (λ y. inr (y.0, put_there _ c.args.histories.now.items c.args.place c.get-history.result.now c.get-history.ensures
-    (y.1 (all_content g.B.BatchReader.content c.args.batches.now) rows))) c.in_err-settled.ensures.refused)
+    (⊎_elim inl (λ y. inr (
+      y.0,
+      put_there _ c.args.histories.now.items c.args.place c.get-history.result.now c.get-history.ensures
+          (y.1 (all_content g.B.BatchReader.content c.args.batches.now) rows),
+    )) c.in_err-settled.ensures.refused)
 
 pub returns-clause-visited : goal.returns-clause-visited
 returns-clause-visited g c =

@@ -1,4 +1,4 @@
-use Rattle.std.proofs.Common.{◌≡◌, ◌+◌, ◌++◌, [], ◌∷◌, length, get_or, refl, inl, inr, ⊎_elim, arith}
+use Rattle.std.proofs.Common.{◌++◌, [], ◌∷◌, get_or, inl, inr, ⊎_elim, arith}
 use Rattle.std.specs.Prelude.{sum_by}
 use Rattle.trace.specs.Readings.{all_content}
 use Rattle.reduce.specs.Visiting.{reads_of}
@@ -9,12 +9,11 @@ use Rattle.reduce.proofs.visiting.visit_all.Goals as goal
 
 pub loop-place-init : goal.loop-place-init
 loop-place-init g c =
-    let looked = c.none-gathered.ensures.looked in
-    (
+    let looked = c.none-gathered.ensures.looked in (
       [],
       0,
       rw (c.none-gathered.ensures.out, c.none-gathered.ensures.changes, c.none-gathered.ensures.waiting)
-      (gathers_none g.T.PartialOrder.below c.args.frontier.now g.T.Lattice.joined (g.R.Reducer.reduces c.args.reducer.now) (all_content g.B.BatchReader.content c.args.batches.now) c.args.histories.now.items),
+          (gathers_none g.T.PartialOrder.below c.args.frontier.now g.T.Lattice.joined (g.R.Reducer.reduces c.args.reducer.now) (all_content g.B.BatchReader.content c.args.batches.now) c.args.histories.now.items),
       omega (arith, looked),
       omega (arith, looked),
     )
@@ -39,8 +38,7 @@ loop-place-preserved g c =
     let a = old.3 in
     let b = old.4 in
     let d = v.6 in
-    let e = v.7 in
-    (
+    let e = v.7 in (
       old.0 ++ v.0 ∷ [],
       sum_by (reads_of below c.args.frontier.now content) (old.0 ++ v.0 ∷ []),
       gathers_more below c.args.frontier.now g.T.Lattice.joined (g.R.Reducer.reduces c.args.reducer.now) content c.args.histories.now.items c.args.places.now c.loop-place.place-index (get_or c.args.places.now c.loop-place.place-index 0) c.loop-place-test.true (item_is c.args.places.now c.loop-place.place-index 0 c.loop-place-test.true)

@@ -1,4 +1,4 @@
-use Rattle.std.proofs.Common.{◌≡◌, ◌+◌, ◌-◌, ◌^◌, ◌≤◌, min, ℕ, List, take}
+use Rattle.std.proofs.Common.{◌+◌, ◌-◌, ◌^◌, ◌≤◌, min, ℕ, List, take}
 use Rattle.trace.specs.Readings.{all_content}
 use Rattle.reduce.specs.Visiting.{Visit, Gathers}
 use Rattle.reduce.proofs.visiting.visit_all.Given as goal

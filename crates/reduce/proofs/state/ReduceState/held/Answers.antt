@@ -1,4 +1,4 @@
-use Rattle.std.proofs.Common.{◌≡◌, ap, subst, sym, arith}
+use Rattle.std.proofs.Common.{ap, subst}
 use Rattle.reduce.specs.Histories.{AreKeysApart, IsWaiting}
 use Rattle.reduce.proofs.HeldLemmas.{within, held_more, held_all}
 use Rattle.reduce.proofs.state.ReduceState.held.Goals as goal

@@ -1,9 +1,8 @@
-use Rattle.std.proofs.Common.{◌≡◌, ◌∙◌, ◌≤◌, ◌+◌, ◌-◌, ◌^◌, min, ℕ, List, sym, ap, subst, inl, inr, ⊎_elim, arith, false, refl}
+use Rattle.std.proofs.Common.{◌≡◌, ◌∙◌, List, sym, ap, subst, inl, inr, ⊎_elim, arith, refl}
 use Rattle.std.specs.Prelude.{ℤ, IsTrue}
 use Rattle.update.specs.Updates.{AreApart}
 use Rattle.plan.specs.Changes.{has_passed}
 use Rattle.reduce.specs.Owing.{IsOverfull}
-use Rattle.lattice.specs.Frontiers.{is_beyond}
 use Rattle.update.specs.declared.change.Update.{Update}
 use Rattle.trace.specs.Readings.{Insertion, IsReadable, all_content, all_updates}
 use Rattle.reduce.specs.Joined.{Member}
@@ -128,14 +127,13 @@ module _ (g : Over) (c : goal.After-self-1 g) where
       (λ t m p. c.requires.held key t (subst (λ z. Member t (due_of key z)) (ap (λ s. s.histories) c.self.view_is) m) p) (readable h s) sums
 
 pub invariant_of-self : goal.invariant_of-self
-invariant_of-self g c =
-    (
-      c.self.invariant.0,
-      c.self.invariant.1,
-      known_after g.T.Ord.cmp g.met.T.Ord.total g.met.T.PartialOrder.order g.met.T.Lattice.bounds c.self.inside.key (g.R.Reducer.reduces c.self.inside.reducer) (g.met.R.Reducer.laws c.self.inside.reducer c.self.inside.key) (content g c) c.args.frontier.now (hs g c) c.self.invariant.2 c.known.ensures c.as_slice.result.now (waits g c) c.in_ok-out.ensures.visited.0 c.in_ok-out.field-0.out.items c.in_ok-out.field-0.changes.items c.in_ok-out.field-0.waiting.items c.in_ok-out.ensures.visited.1 c.in_ok-out.ensures.visited.2 c.replace_all.new.histories.items c.replace_all.ensures,
-      rw c.from.ensures (waits_after g.T.Ord.cmp g.met.T.Ord.total g.met.T.PartialOrder.order g.met.T.Lattice.bounds c.self.inside.key (g.R.Reducer.reduces c.self.inside.reducer) (g.met.R.Reducer.laws c.self.inside.reducer c.self.inside.key) (content g c) c.args.frontier.now (hs g c) c.self.invariant.2 c.known.ensures c.as_slice.result.now (waits g c) c.in_ok-out.ensures.visited.0 c.in_ok-out.field-0.out.items c.in_ok-out.field-0.changes.items c.in_ok-out.field-0.waiting.items c.in_ok-out.ensures.visited.1 c.in_ok-out.ensures.visited.2 c.replace_all.new.histories.items c.replace_all.ensures),
-      joins_after g.T.Ord.cmp g.met.T.Ord.total g.met.T.PartialOrder.order g.met.T.Lattice.bounds c.self.inside.key (g.R.Reducer.reduces c.self.inside.reducer) (g.met.R.Reducer.laws c.self.inside.reducer c.self.inside.key) (content g c) c.args.frontier.now (hs g c) c.self.invariant.2 c.known.ensures c.as_slice.result.now (waits g c) c.in_ok-out.ensures.visited.0 c.in_ok-out.field-0.out.items c.in_ok-out.field-0.changes.items c.in_ok-out.field-0.waiting.items c.in_ok-out.ensures.visited.1 c.in_ok-out.ensures.visited.2 c.replace_all.new.histories.items c.replace_all.ensures c.self.invariant.4,
-    )
+invariant_of-self g c = (
+  c.self.invariant.0,
+  c.self.invariant.1,
+  known_after g.T.Ord.cmp g.met.T.Ord.total g.met.T.PartialOrder.order g.met.T.Lattice.bounds c.self.inside.key (g.R.Reducer.reduces c.self.inside.reducer) (g.met.R.Reducer.laws c.self.inside.reducer c.self.inside.key) (content g c) c.args.frontier.now (hs g c) c.self.invariant.2 c.known.ensures c.as_slice.result.now (waits g c) c.in_ok-out.ensures.visited.0 c.in_ok-out.field-0.out.items c.in_ok-out.field-0.changes.items c.in_ok-out.field-0.waiting.items c.in_ok-out.ensures.visited.1 c.in_ok-out.ensures.visited.2 c.replace_all.new.histories.items c.replace_all.ensures,
+  rw c.from.ensures (waits_after g.T.Ord.cmp g.met.T.Ord.total g.met.T.PartialOrder.order g.met.T.Lattice.bounds c.self.inside.key (g.R.Reducer.reduces c.self.inside.reducer) (g.met.R.Reducer.laws c.self.inside.reducer c.self.inside.key) (content g c) c.args.frontier.now (hs g c) c.self.invariant.2 c.known.ensures c.as_slice.result.now (waits g c) c.in_ok-out.ensures.visited.0 c.in_ok-out.field-0.out.items c.in_ok-out.field-0.changes.items c.in_ok-out.field-0.waiting.items c.in_ok-out.ensures.visited.1 c.in_ok-out.ensures.visited.2 c.replace_all.new.histories.items c.replace_all.ensures),
+  joins_after g.T.Ord.cmp g.met.T.Ord.total g.met.T.PartialOrder.order g.met.T.Lattice.bounds c.self.inside.key (g.R.Reducer.reduces c.self.inside.reducer) (g.met.R.Reducer.laws c.self.inside.reducer c.self.inside.key) (content g c) c.args.frontier.now (hs g c) c.self.invariant.2 c.known.ensures c.as_slice.result.now (waits g c) c.in_ok-out.ensures.visited.0 c.in_ok-out.field-0.out.items c.in_ok-out.field-0.changes.items c.in_ok-out.field-0.waiting.items c.in_ok-out.ensures.visited.1 c.in_ok-out.ensures.visited.2 c.replace_all.new.histories.items c.replace_all.ensures c.self.invariant.4,
+)
 
 pub returns-clause-stands : goal.returns-clause-stands
 returns-clause-stands g c =

@@ -1,6 +1,4 @@
-use Rattle.std.proofs.Common.{ap, sym, subst}
-use Rattle.std.specs.Prelude.{IsTrue}
-use Rattle.reduce.specs.Standing.{are_wide}
+use Rattle.std.proofs.Common.{ap}
 use Rattle.reduce.proofs.StandLemmas.{stands_now, pending_now, later_now, open_now}
 use Rattle.reduce.proofs.TakenLemmas.{joins_kept}
 use Rattle.reduce.proofs.state.ReduceState.take.Goals as goal
@@ -15,15 +13,14 @@ pub put_all-requires-clause-due : goal.put_all-requires-clause-due
 put_all-requires-clause-due g c = c.in_ok-made.ensures.due c.self.invariant.4
 
 pub invariant_of-self-2 : goal.invariant_of-self-2
-invariant_of-self-2 g c =
-    (
-      c.self.invariant.0,
-      c.self.invariant.1,
-      c.put_all.ensures.known c.self.inside.key (rw c.reserve.ensures.items c.self.invariant.2) c.in_ok-made.ensures.made.histories,
-      c.put_all.ensures.waiting,
-      joins_kept g.T.Lattice.joined g.T.Ord.cmp c.self.inside.key c.self.inside.histories.items (g.B.BatchReader.content c.args.batch.now) c.in_ok-made.made.items c.put_all.new.histories.items c.in_ok-made.ensures.made
-          (rw c.reserve.ensures.items at c.put_all.ensures.found) c.self.invariant.4,
-    )
+invariant_of-self-2 g c = (
+  c.self.invariant.0,
+  c.self.invariant.1,
+  c.put_all.ensures.known c.self.inside.key (rw c.reserve.ensures.items c.self.invariant.2) c.in_ok-made.ensures.made.histories,
+  c.put_all.ensures.waiting,
+  joins_kept g.T.Lattice.joined g.T.Ord.cmp c.self.inside.key c.self.inside.histories.items (g.B.BatchReader.content c.args.batch.now) c.in_ok-made.made.items c.put_all.new.histories.items c.in_ok-made.ensures.made
+      (rw c.reserve.ensures.items at c.put_all.ensures.found) c.self.invariant.4,
+)
 
 pub returns-clause-stands : goal.returns-clause-stands
 returns-clause-stands g c =
