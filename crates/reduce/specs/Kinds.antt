@@ -3,6 +3,7 @@ use Rattle.std.specs.Prelude.{◌≡◌, ℕ, Bool, true, false, if◌then◌els
 use Rattle.std.specs.List.{filter}
 use Rattle.update.specs.Bags.{Entry, Alike, count_of}
 use Rattle.plan.specs.Reductions.{IsReducer, single, reduction_answer, has_key}
+use Rattle.plan.specs.declared.node.Kind.{Kind}
 use Rattle.plan.specs.declared.node.Kind.TheVariants.{Count, Distinct, Min, Max}
 use Rattle.plan.proofs.ReducerLemmas.{all_reduce}
 
@@ -33,6 +34,13 @@ min_answer = reduction_answer Min
 -- the answer of max
 abbrev pub max_answer : List ℤ → List Entry → List Entry
 max_answer = reduction_answer Max
+
+-- the answer of each kind
+abbrev pub kind_answer : Kind → List ℤ → List Entry → List Entry
+kind_answer Count = count_within
+kind_answer Distinct = distinct_answer
+kind_answer Min = min_answer
+kind_answer Max = max_answer
 
 -- ---- laws
 
@@ -73,3 +81,10 @@ min_reduces k = all_reduce Min k
 -- max satisfies the laws of a reducer
 pub max_reduces : (k : ℕ) → IsReducer k max_answer
 max_reduces k = all_reduce Max k
+
+-- each kind satisfies the laws of a reducer
+pub kind_reduces : (kind : Kind) (k : ℕ) → IsReducer k (kind_answer kind)
+kind_reduces Count = count_reduces
+kind_reduces Distinct = distinct_reduces
+kind_reduces Min = min_reduces
+kind_reduces Max = max_reduces

@@ -1,5 +1,6 @@
-//! The four reducers are the four reductions of a plan. The function does nothing: it is called, or its clauses cited,
-//! for what it promises. With the contract of [`Reducer`](crate::Reducer) this is all that a layer above needs.
+//! The four reducers are the four reductions of a plan, and a node's kind is a reducer itself: code that has nodes of all
+//! kinds in one list uses that one. The function does nothing: it is called, or its clauses cited, for what it promises.
+//! With the contract of [`Reducer`](crate::Reducer) this is all that a layer above needs.
 ghost use Rattle.std.specs.Prelude.{◌≡◌, ◌≤◌, List, ℤ, length};
 ghost use Rattle.update.specs.Bags.{Entry};
 ghost use Rattle.plan.specs.Reductions.{reduction_answer};
@@ -10,6 +11,27 @@ ghost use Rattle.reduce.specs.declared.extremes.Max.{Max};
 
 use crate::{Count, Distinct, Max, Min, Reducer};
 use plan::Kind;
+use std::alloc::Global;
+use update::{Bag, Refusal};
+
+/// The reduction of a plan's node, by its kind. It answers what the reducer of that kind answers, and refuses when that
+/// one does.
+impl Reducer for Kind {
+    ghost use Rattle.reduce.specs.Kinds.{kind_answer, kind_reduces};
+
+    ghost reduces = { kind_answer };
+
+    fn reduce(&self, alloc: Global, key: &[i64], rows: &Bag) -> Result<Bag, Refusal> {
+        match self {
+            Kind::Count => Count.reduce(alloc, key, rows),
+            Kind::Distinct => Distinct.reduce(alloc, key, rows),
+            Kind::Min => Min.reduce(alloc, key, rows),
+            Kind::Max => Max.reduce(alloc, key, rows),
+        }
+    }
+
+    ghost laws = { kind_reduces };
+}
 
 /// Each of the four reducers answers what the reduction of its kind answers. For count the key has at most 7 columns, as
 /// in every plan. Costs nothing.
