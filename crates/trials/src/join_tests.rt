@@ -12,7 +12,6 @@ ghost use Rattle.join.specs.Pairs.{is_wide};
 
 use crate::batch_tests::sealed;
 use crate::difference_tests::listed;
-use crate::draws::Draws;
 use crate::sketches::{at, join_of_two, list};
 use antichain::{Antichain, is_beyond};
 use batch::{Batch, BatchReader};
@@ -453,6 +452,26 @@ fn taking_a_right_batch_takes_memory(rt: HostRuntime) -> Result<(), Fail> {
     assert!(rt; pairs?.len() == 4);
     assert!(rt; state.right() == [at((8, 8))].as_slice() && state.looked() == 4);
     Ok(())
+}
+
+// Numbers that look drawn, the same ones in each run.
+#[derive(Drop)]
+struct Draws {
+    state: u64,
+}
+
+impl Draws {
+    // The next number below `n`.
+    fn below(&mut self, n: u64) -> u64
+        requires { 0 < n }
+        ensures { result < n }
+    {
+        self.state = self
+            .state
+            .wrapping_mul(6_364_136_223_846_793_005)
+            .wrapping_add(1_442_695_040_888_963_407);
+        (self.state >> 33) % n
+    }
 }
 
 // Up to four changes of the interval from (i, 0) to (i + 1, 0).

@@ -21,8 +21,6 @@ mod batch_tests;
 #[cfg(test)]
 mod difference_tests;
 #[cfg(test)]
-mod draws;
-#[cfg(test)]
 mod grammar_tests;
 #[cfg(test)]
 mod join_tests;

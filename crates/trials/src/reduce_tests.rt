@@ -1,5 +1,5 @@
 //! Reductions: each key is answered at each joined time of its changes, once a frontier has passed it; a late change
-//! corrects what was given; a key that nothing happens to is not read; and a refused call changes nothing.
+//! corrects what was given; and a key that nothing happens to is not read.
 //!
 //! A reduction asks something of its caller. Here a call is made only after it was tested, so that a test need not be
 //! proved to keep it.
@@ -8,20 +8,21 @@ ghost use Rattle.std.specs.Bool.{OnTrue};
 ghost use Rattle.reduce.specs.Standing.{are_wide};
 
 use crate::batch_tests::sealed;
-use crate::difference_tests::listed;
-use crate::draws::Draws;
-use crate::sketches::{at, list, reduction};
+use crate::sketches::{at, list};
 use antichain::all_beyond;
 use batch::{Batch, BatchReader};
-use lattice::{Bitime, Lattice};
+use lattice::Bitime;
 use plan::Kind;
-use reduce::{Count, Distinct, Max, Min, ReduceState, Reducer};
+use reduce::ReduceState;
 use row::Row;
 use std::alloc::Global;
 use std::process::Abort;
 use std::test::Fail;
 use trace::{BatchList, Trace};
-use update::{Refusal, Update, consolidate};
+use update::{Refusal, Update};
+
+// A reduction by the first column, of some kind.
+type Reduced = ReduceState<Bitime, Kind>;
 
 // Whether row `i` of a batch has the columns of the key.
 fn is_wide<B: BatchReader>(key: usize, batch: &B, i: usize) -> bool
@@ -45,11 +46,7 @@ fn all_wide<B: BatchReader>(key: usize, batch: &B) -> bool
 }
 
 // Takes a batch. `Stray` if some row of it has no key.
-fn take<T: Lattice, R: Reducer, B: BatchReader<Time = T>>(
-    state: &mut ReduceState<T, R>,
-    alloc: Global,
-    batch: &B,
-) -> Result<(), Refusal> {
+fn take(state: &mut Reduced, alloc: Global, batch: &Batch<Bitime>) -> Result<(), Refusal> {
     if !all_wide(state.key(), batch) {
         return Err(Refusal::Stray);
     }
@@ -57,29 +54,17 @@ fn take<T: Lattice, R: Reducer, B: BatchReader<Time = T>>(
 }
 
 // Gives what the frontier has passed. `Stray` if some pending time can no longer be read.
-fn ready<T: Lattice, R: Reducer, S: Trace<Time = T>>(
-    state: &mut ReduceState<T, R>,
+fn ready(
+    state: &mut Reduced,
     alloc: Global,
-    frontier: &[T],
-    trace: &S,
-) -> Result<Vec<Update<T>>, Refusal> {
+    frontier: &[Bitime],
+    trace: &BatchList<Bitime>,
+) -> Result<Vec<Update<Bitime>>, Refusal> {
     let held = state.held(alloc)?;
     if !all_beyond(trace.since(), held.elements()) {
         return Err(Refusal::Stray);
     }
     state.ready(alloc, frontier, trace)
-}
-
-// The pending times of all keys.
-fn pending<T: Lattice, R: Reducer>(
-    alloc: Global,
-    state: &ReduceState<T, R>,
-) -> Result<Vec<T>, Refusal> {
-    let mut times = Vec::new(alloc);
-    for place in state.waiting() {
-        times.extend_from_slice(state.history(*place).due())?;
-    }
-    Ok(times)
 }
 
 // A change: its time, its row and its diff.
@@ -93,18 +78,18 @@ fn insert(trace: &mut BatchList<Bitime>, batch: Batch<Bitime>) -> Result<(), Ref
     }
 }
 
-// A reduction by the first column, and the trace of what it has taken.
+// A reduction, and the trace of what it has taken.
 #[derive(Drop)]
-struct Reduction<R> {
-    state: ReduceState<Bitime, R>,
+struct Reduction {
+    state: Reduced,
     trace: BatchList<Bitime>,
 }
 
-impl<R: Reducer + Drop> Reduction<R> {
-    fn new(alloc: Global, reducer: R) -> Result<Reduction<R>, Refusal> {
+impl Reduction {
+    fn new(alloc: Global, kind: Kind) -> Result<Reduction, Refusal> {
         Ok(Reduction {
             trace: BatchList::new(alloc, 0, 0)?,
-            state: ReduceState::new(alloc, 1, reducer),
+            state: ReduceState::new(alloc, 1, kind),
         })
     }
 
@@ -131,21 +116,17 @@ impl<R: Reducer + Drop> Reduction<R> {
 }
 
 // A reduction that has taken one batch of these changes, from (0, 0) to (16, 16).
-fn taken<R: Reducer + Drop>(
-    alloc: Global,
-    reducer: R,
-    changes: &[Change],
-) -> Result<Reduction<R>, Refusal> {
-    let mut reduction = Reduction::new(alloc, reducer)?;
+fn taken(alloc: Global, kind: Kind, changes: &[Change]) -> Result<Reduction, Refusal> {
+    let mut reduction = Reduction::new(alloc, kind)?;
     reduction.take(alloc, (0, 0), (16, 16), &list(alloc, changes)?)?;
     Ok(reduction)
 }
 
 // Checks what is ready as of this frontier.
-fn assert_ready<R: Reducer + Drop>(
+fn assert_ready(
     rt: &impl Abort,
     alloc: Global,
-    reduction: &mut Reduction<R>,
+    reduction: &mut Reduction,
     frontier: &[Bitime],
     want: &[Change],
 ) -> Result<(), Refusal> {
@@ -155,33 +136,27 @@ fn assert_ready<R: Reducer + Drop>(
 }
 
 // Checks all that a reduction gives for one batch of these changes.
-fn assert_reduces<R: Reducer + Drop>(
+fn assert_reduces(
     rt: &impl Abort,
     alloc: Global,
-    reducer: R,
+    kind: Kind,
     changes: &[Change],
     want: &[Change],
 ) -> Result<(), Refusal> {
-    let mut reduction = taken(alloc, reducer, changes)?;
+    let mut reduction = taken(alloc, kind, changes)?;
     assert_ready(rt, alloc, &mut reduction, &[], want)
 }
 
 // No two of the three changes are comparable.
 const THREE: [Change; 3] = [((0, 4), &[7], 1), ((2, 2), &[7], 1), ((4, 0), &[7], 1)];
 
-// Each two changes meet at a join, and all three at (4, 4), where nothing changes. All six times are pending.
+// Each two changes meet at a join, and all three at (4, 4), where nothing changes. Their own times are the least that are
+// pending.
 #[test]
 fn three_changes_under_distinct(rt: HostRuntime) -> Result<(), Fail> {
-    let mut reduction = taken(rt.alloc(), Distinct, &THREE)?;
-    let six = [
-        at((0, 4)),
-        at((2, 2)),
-        at((2, 4)),
-        at((4, 0)),
-        at((4, 2)),
-        at((4, 4)),
-    ];
-    assert!(rt; pending(rt.alloc(), &reduction.state)?.as_slice() == six.as_slice());
+    let mut reduction = taken(rt.alloc(), Kind::Distinct, &THREE)?;
+    let least = [at((0, 4)), at((2, 2)), at((4, 0))];
+    assert!(rt; reduction.state.held(rt.alloc())?.elements() == least.as_slice());
     let want: &[Change] = &[
         ((0, 4), &[7], 1),
         ((2, 2), &[7], 1),
@@ -208,7 +183,7 @@ fn three_changes_under_count(rt: HostRuntime) -> Result<(), Fail> {
         ((4, 4), &[7, 2], -2),
         ((4, 4), &[7, 3], 1),
     ];
-    assert_reduces(&rt, rt.alloc(), Count, &THREE, want)?;
+    assert_reduces(&rt, rt.alloc(), Kind::Count, &THREE, want)?;
     Ok(())
 }
 
@@ -216,11 +191,10 @@ fn three_changes_under_count(rt: HostRuntime) -> Result<(), Fail> {
 #[test]
 fn a_join_waits_for_the_frontier(rt: HostRuntime) -> Result<(), Fail> {
     let changes: &[Change] = &[((0, 3), &[7], 1), ((3, 0), &[7], 1)];
-    let mut reduction = taken(rt.alloc(), Distinct, changes)?;
+    let mut reduction = taken(rt.alloc(), Kind::Distinct, changes)?;
     let first: &[Change] = &[((0, 3), &[7], 1), ((3, 0), &[7], 1)];
     assert_ready(&rt, rt.alloc(), &mut reduction, &[at((3, 3))], first)?;
     let left = [at((3, 3))];
-    assert!(rt; pending(rt.alloc(), &reduction.state)?.as_slice() == left.as_slice());
     assert!(rt; reduction.state.held(rt.alloc())?.elements() == left.as_slice());
     assert_ready(&rt, rt.alloc(), &mut reduction, &[], &[((3, 3), &[7], -1)])?;
     assert!(rt; reduction.state.waiting().is_empty());
@@ -237,7 +211,7 @@ fn counts_meet_at_the_join(rt: HostRuntime) -> Result<(), Fail> {
         ((10, 2), &[1, 1], -2),
         ((10, 2), &[1, 2], 1),
     ];
-    assert_reduces(&rt, rt.alloc(), Count, changes, want)?;
+    assert_reduces(&rt, rt.alloc(), Kind::Count, changes, want)?;
     Ok(())
 }
 
@@ -256,7 +230,7 @@ fn the_least_row_comes_and_goes(rt: HostRuntime) -> Result<(), Fail> {
         ((0, 2), &[1, 3], -1),
         ((0, 2), &[1, 5], 1),
     ];
-    assert_reduces(&rt, rt.alloc(), Min, changes, want)?;
+    assert_reduces(&rt, rt.alloc(), Kind::Min, changes, want)?;
     Ok(())
 }
 
@@ -274,7 +248,7 @@ fn the_greatest_row_is_one_that_is_there(rt: HostRuntime) -> Result<(), Fail> {
         ((0, 2), &[1, 5], -1),
         ((0, 2), &[1, 9], 1),
     ];
-    assert_reduces(&rt, rt.alloc(), Max, changes, want)?;
+    assert_reduces(&rt, rt.alloc(), Kind::Max, changes, want)?;
     Ok(())
 }
 
@@ -283,20 +257,26 @@ fn the_greatest_row_is_one_that_is_there(rt: HostRuntime) -> Result<(), Fail> {
 fn a_total_of_nothing_gives_nothing(rt: HostRuntime) -> Result<(), Fail> {
     let changes: &[Change] = &[((0, 0), &[1, 5], -3), ((0, 1), &[1, 6], 3)];
     let want: &[Change] = &[((0, 0), &[1, -3], 1), ((0, 1), &[1, -3], -1)];
-    assert_reduces(&rt, rt.alloc(), Count, changes, want)?;
+    assert_reduces(&rt, rt.alloc(), Kind::Count, changes, want)?;
     let owed: &[Change] = &[((0, 0), &[7], -1), ((0, 1), &[7], 2), ((0, 2), &[7], -1)];
     let there: &[Change] = &[((0, 1), &[7], 1), ((0, 2), &[7], -1)];
-    assert_reduces(&rt, rt.alloc(), Distinct, owed, there)?;
+    assert_reduces(&rt, rt.alloc(), Kind::Distinct, owed, there)?;
     Ok(())
 }
 
 // The second change lies behind a day that was settled: it is given at its own time, and at the join with that day.
 #[test]
 fn a_correction_behind_a_settled_day(rt: HostRuntime) -> Result<(), Fail> {
-    let mut reduction = Reduction::new(rt.alloc(), Count)?;
+    let mut reduction = Reduction::new(rt.alloc(), Kind::Count)?;
     let day = list(rt.alloc(), &[((3, 0), &[7, 500], 1)])?;
     reduction.take(rt.alloc(), (0, 0), (0, 1), &day)?;
-    assert_ready(&rt, rt.alloc(), &mut reduction, &[at((0, 1))], &[((3, 0), &[7, 1], 1)])?;
+    assert_ready(
+        &rt,
+        rt.alloc(),
+        &mut reduction,
+        &[at((0, 1))],
+        &[((3, 0), &[7, 1], 1)],
+    )?;
     let late = list(rt.alloc(), &[((1, 1), &[7, 90], 1)])?;
     reduction.take(rt.alloc(), (0, 1), (0, 2), &late)?;
     let want: &[Change] = &[
@@ -325,7 +305,7 @@ fn thousand(alloc: Global) -> Result<Vec<Update<Bitime>>, Refusal> {
 // A change of one key among a thousand reads two updates at most, and where nothing is due none.
 #[test]
 fn other_keys_are_not_read(rt: HostRuntime) -> Result<(), Fail> {
-    let mut reduction = Reduction::new(rt.alloc(), Count)?;
+    let mut reduction = Reduction::new(rt.alloc(), Kind::Count)?;
     reduction.take(rt.alloc(), (0, 0), (1, 0), &thousand(rt.alloc())?)?;
     assert_eq!(rt; reduction.ready(rt.alloc(), &[at((1, 0))])?.len(), 1000);
     let before = reduction.state.looked();
@@ -336,152 +316,5 @@ fn other_keys_are_not_read(rt: HostRuntime) -> Result<(), Fail> {
     let want: &[Change] = &[((1, 0), &[7, 1], -1), ((1, 0), &[7, 2], 1)];
     assert_ready(&rt, rt.alloc(), &mut reduction, &[at((2, 0))], want)?;
     assert!(rt; reduction.state.looked() <= before.saturating_add(2));
-    Ok(())
-}
-
-// A count past 64 bits is refused and nothing changes. Once a row is taken back at that time, the answer comes.
-#[test]
-fn a_large_count_is_refused_until_it_fits(rt: HostRuntime) -> Result<(), Fail> {
-    let mut reduction = Reduction::new(rt.alloc(), Count)?;
-    let large = list(rt.alloc(), &[((0, 0), &[1, 5], i64::MAX), ((1, 0), &[1, 6], 1)])?;
-    reduction.take(rt.alloc(), (0, 0), (0, 1), &large)?;
-    for _ in 0..2 {
-        let refused = reduction.ready(rt.alloc(), &[at((0, 1))]);
-        assert!(rt; matches!(refused, Err(Refusal::Overflow)));
-    }
-    assert_eq!(rt; pending(rt.alloc(), &reduction.state)?.len(), 2);
-    let back = list(rt.alloc(), &[((1, 1), &[1, 6], -1)])?;
-    reduction.take(rt.alloc(), (0, 1), (0, 2), &back)?;
-    assert_eq!(rt; pending(rt.alloc(), &reduction.state)?.len(), 3);
-    Ok(())
-}
-
-// Up to four changes of revision i.
-fn drawn(alloc: Global, draws: &mut Draws, i: u64) -> Result<Vec<Update<Bitime>>, Refusal> {
-    let mut changes = Vec::new(alloc);
-    for _ in 0..draws.below(5) {
-        let time = at((draws.below(5), i));
-        let row = Row::new(alloc, &[draws.below(3) as i64, draws.below(3) as i64])?;
-        let diff = if draws.below(3) == 0 { -1 } else { 1 };
-        changes.push(Update { time, row, diff })?;
-    }
-    Ok(changes)
-}
-
-// A reduction, all that it was given to take, and all that it gave.
-#[derive(Drop)]
-struct Round<R> {
-    reduction: Reduction<R>,
-    changes: Vec<Update<Bitime>>,
-    given: Vec<Update<Bitime>>,
-}
-
-impl<R: Reducer + Drop> Round<R> {
-    // A drawn revision is taken. Sometimes the frontier moves behind it, and sometimes it stays.
-    fn step(&mut self, alloc: Global, draws: &mut Draws, i: u64) -> Result<(), Refusal> {
-        let next = i.saturating_add(1);
-        let mut changes = drawn(alloc, draws, i)?;
-        self.reduction.take(alloc, (0, i), (0, next), &changes)?;
-        self.changes.append(&mut changes)?;
-        if draws.below(3) > 0 {
-            let mut given = self.reduction.ready(alloc, &[at((0, next))])?;
-            self.given.append(&mut given)?;
-        }
-        Ok(())
-    }
-}
-
-// Eight drawn revisions, and what is left once no more can come.
-fn drawn_round<R: Reducer + Drop>(
-    alloc: Global,
-    reducer: R,
-    draws: &mut Draws,
-) -> Result<Round<R>, Refusal> {
-    let mut round = Round {
-        reduction: Reduction::new(alloc, reducer)?,
-        changes: Vec::new(alloc),
-        given: Vec::new(alloc),
-    };
-    for i in 0..8 {
-        round.step(alloc, draws, i)?;
-    }
-    let mut rest = round.reduction.ready(alloc, &[])?;
-    round.given.append(&mut rest)?;
-    Ok(round)
-}
-
-// Checks that all that was given in some rounds is the differences of the plain query.
-fn assert_rounds<R: Reducer + Copy + Drop>(
-    rt: &impl Abort,
-    alloc: Global,
-    reducer: R,
-    kind: Kind,
-) -> Result<(), Refusal> {
-    let mut draws = Draws { state: 22 };
-    let plan = reduction(alloc, 2, kind)?;
-    for _ in 0..50 {
-        let Round { changes, given, .. } = drawn_round(alloc, reducer, &mut draws)?;
-        let want = listed(rt, alloc, &plan, &[changes])?;
-        assert!(rt; consolidate(given)?.as_slice() == want.as_slice());
-    }
-    Ok(())
-}
-
-// Two hundred rounds of eight revisions. The plain query knows no batches and no frontiers that move.
-#[test]
-fn drawn_revisions_give_the_plain_query(rt: HostRuntime) -> Result<(), Fail> {
-    assert_rounds(&rt, rt.alloc(), Count, Kind::Count)?;
-    assert_rounds(&rt, rt.alloc(), Distinct, Kind::Distinct)?;
-    assert_rounds(&rt, rt.alloc(), Min, Kind::Min)?;
-    assert_rounds(&rt, rt.alloc(), Max, Kind::Max)?;
-    Ok(())
-}
-
-// A reduction that has taken nothing, and a batch of three changes.
-fn prepared(alloc: Global) -> Result<(Reduction<Count>, Batch<Bitime>), Refusal> {
-    let batch = sealed(alloc, (0, 0), (16, 16), &list(alloc, &THREE)?)?;
-    Ok((Reduction::new(alloc, Count)?, batch))
-}
-
-// The same, once more if memory was refused.
-fn prepared_again(alloc: Global) -> Result<(Reduction<Count>, Batch<Bitime>), Refusal> {
-    match prepared(alloc) {
-        Ok(made) => Ok(made),
-        Err(_) => prepared(alloc),
-    }
-}
-
-// A batch that is refused for want of memory is not taken in part, and is taken once there is memory.
-#[test]
-fn taking_takes_memory(rt: HostRuntime) -> Result<(), Fail> {
-    let (mut reduction, batch) = prepared_again(rt.alloc())?;
-    if take(&mut reduction.state, rt.alloc(), &batch) == Err(Refusal::OutOfMemory) {
-        assert!(rt; reduction.state.waiting().is_empty());
-        take(&mut reduction.state, rt.alloc(), &batch)?;
-    }
-    let [place] = reduction.state.waiting() else {
-        return Err(Refusal::Stray)?;
-    };
-    assert!(rt; reduction.state.history(*place).due().len() == 6);
-    Ok(())
-}
-
-// What is refused for want of memory stays pending, and is given once there is memory.
-#[test]
-fn answering_takes_memory(rt: HostRuntime) -> Result<(), Fail> {
-    let (mut reduction, batch) = prepared_again(rt.alloc())?;
-    if take(&mut reduction.state, rt.alloc(), &batch) == Err(Refusal::OutOfMemory) {
-        take(&mut reduction.state, rt.alloc(), &batch)?;
-    }
-    if insert(&mut reduction.trace, batch) == Err(Refusal::OutOfMemory) {
-        return Ok(());
-    }
-    let mut out = reduction.ready(rt.alloc(), &[]);
-    if out == Err(Refusal::OutOfMemory) {
-        assert!(rt; reduction.state.waiting().len() == 1 && reduction.state.looked() == 0);
-        out = reduction.ready(rt.alloc(), &[]);
-    }
-    assert!(rt; out?.len() == 10);
-    assert!(rt; reduction.state.waiting().is_empty() && reduction.state.looked() == 3);
     Ok(())
 }
