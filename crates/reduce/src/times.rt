@@ -60,7 +60,8 @@ fn push_unless_last<T: Lattice>(times: &mut Vec<T>, t: T) -> Result<(), Refusal>
 
 // The time and its join with each of these times, each once and in order.
 fn joins_with<T: Lattice>(alloc: Global, t: T, times: &[T]) -> Result<Vec<T>, Refusal>
-    ensures members { IfOk result (λ joins. SameMembers joins.items (joins_with T.joined t times.now)) }
+    ensures members { IfOk result
+        (λ joins. SameMembers joins.items (joins_with T.joined t times.now)) }
     ensures ascending { IfOk result (λ joins. IsStrictlySortedBy T.cmp joins.items) }
     ensures only { IfErr result (λ refused. refused ≡ Refusal.OutOfMemory) }
 {
