@@ -188,9 +188,9 @@ module _ {T : Type 0} (below : T → T → Bool) (k : ℕ) (key : List ℤ) wher
       count_of-append want (map negated_entry (had below k key t given)) row
       ∙ ap (λ z. count_of want row +ℤ z) (count_of-negated_entry (had below k key t given) row ∙ ap neg_ℤ (count-had t given row d))
 
-  -- where a total of the change is too large, it is that of a row of the key
-  pub large_change : (es : List Entry) (t : T) → IsTrue (list_all (has_key k key) es) → HasLargeTotal below (put t es) → (row : List ℤ) × (same_row (take k row) key ≡ true) × (FitsSigned w64 (count_of es row) → ⊥)
-  large_change es t a h = step (same_row (take k h.0) key) refl (below t h.1 && below h.1 t) refl
+  -- where a total of a draft of the change is too large, it is that of a row of the key
+  pub large_draft : (es fs : List Entry) (t : T) → Alike es fs → IsTrue (list_all (has_key k key) fs) → HasLargeTotal below (put t es) → (row : List ℤ) × (same_row (take k row) key ≡ true) × (FitsSigned w64 (count_of es row) → ⊥)
+  large_draft es fs t same a h = step (same_row (take k h.0) key) refl (below t h.1 && below h.1 t) refl
     where
       large : FitsSigned w64 (cond (below t h.1 && below h.1 t) (count_of es h.0) (pos 0)) → ⊥
       large f = h.2 (subst (FitsSigned w64) (sym (total-put t h.1 h.0 es)) f)
@@ -198,7 +198,7 @@ module _ {T : Type 0} (below : T → T → Bool) (k : ℕ) (key : List ℤ) wher
       step : (d : Bool) → same_row (take k h.0) key ≡ d → (b : Bool) → (below t h.1 && below h.1 t) ≡ b → (row : List ℤ) × (same_row (take k row) key ≡ true) × (FitsSigned w64 (count_of es row) → ⊥)
       step d e false f = absurd (large (subst (λ b. FitsSigned w64 (cond b (count_of es h.0) (pos 0))) (sym f) fits_zero))
       step true e true f = (h.0, e, λ g. large (subst (λ b. FitsSigned w64 (cond b (count_of es h.0) (pos 0))) (sym f) g))
-      step false e true f = absurd (large (subst (λ b. FitsSigned w64 (cond b (count_of es h.0) (pos 0))) (sym f) (subst (FitsSigned w64) (sym (count-elsewhere es a h.0 e)) fits_zero)))
+      step false e true f = absurd (large (subst (λ b. FitsSigned w64 (cond b (count_of es h.0) (pos 0))) (sym f) (subst (FitsSigned w64) (sym (same h.0 ∙ count-elsewhere fs a h.0 e)) fits_zero)))
 
   abbrev pub at_key : T → List ℤ → T → Bool
   at_key t row s = same_row (take k row) key && (below s t && below t s)

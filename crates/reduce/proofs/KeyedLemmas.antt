@@ -18,7 +18,7 @@ use Rattle.reduce.specs.Corrections.{had}
 -- ---- entries
 
 -- if all rows pass a test, a row that does not pass has count 0
-absent_row : (p : List ℤ → Bool) (es : List Entry) (row : List ℤ) → IsTrue (list_all (λ e. p e.row) es) → p row ≡ false → count_of es row ≡ pos 0
+pub absent_row : (p : List ℤ → Bool) (es : List Entry) (row : List ℤ) → IsTrue (list_all (λ e. p e.row) es) → p row ≡ false → count_of es row ≡ pos 0
 absent_row p es row h n = count_absent es row (others es h)
   where
     others : (es : List Entry) → IsTrue (list_all (λ e. p e.row) es) → AllByRecursion (λ e. same_row e.row row ≡ false) es

@@ -39,7 +39,7 @@ module _ {T : Type 0} {below : T → T → Bool} {joined met : T → T → T} (o
   settled_law k reduce q hs taken given st t quiet = law o l k reduce q taken given (λ key. due_of key hs) st.wide st.keys t quiet
 
 module _ {T : Type 0} {below : T → T → Bool} {cmp : T → T → Ordering} (o : PartialOrderLaws below) (total : IsTotalOrder cmp) where
-  passed_down : (frontier : List T) (s t : T) → IsTrue (below s t) → IsTrue (has_passed below frontier t) → IsTrue (has_passed below frontier s)
+  pub passed_down : (frontier : List T) (s t : T) → IsTrue (below s t) → IsTrue (has_passed below frontier t) → IsTrue (has_passed below frontier s)
   passed_down frontier s t b p = step (is_beyond below frontier s) refl
     where
       step : (c : Bool) → is_beyond below frontier s ≡ c → IsTrue (not (is_beyond below frontier s))

@@ -6,6 +6,8 @@ pub mod CorrectLemmas
 pub mod CorrectionLemmas
 pub mod CountLemmas
 pub mod DistinctLemmas
+pub mod DraftLemmas
+pub mod EvaluationLemmas
 pub mod ExtremeLemmas
 pub mod FinalLemmas
 pub mod HeldLemmas
@@ -17,11 +19,13 @@ pub mod LawLemmas
 pub mod MemberLemmas
 pub mod OrderLemmas
 pub mod OverfullLemmas
+pub mod PermutedLemmas
 pub mod ReadingLemmas
 pub mod ReadyLemmas
 pub mod RenewLemmas
 pub mod RestLemmas
 pub mod ResultLemmas
+pub mod RowLemmas
 pub mod RunLemmas
 pub mod SettleLemmas
 pub mod StandLemmas

@@ -5,6 +5,7 @@ pub mod Joined
 pub mod Standing
 pub mod Histories
 pub mod Corrections
+pub mod Evaluations
 pub mod Kinds
 pub mod Taking
 pub mod Adding

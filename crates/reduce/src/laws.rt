@@ -1,7 +1,8 @@
 //! What follows from the definitions alone. The functions do nothing: they are called, or their clauses cited, for what
 //! they promise in every lattice and of every reducer.
-ghost use Rattle.std.specs.Prelude.{◌≡◌, ◌⊎◌, ℕ, ℤ, List, [], IsTrue, true};
+ghost use Rattle.std.specs.Prelude.{◌≡◌, ◌⊎◌, ◌++◌, Bool, ℕ, ℤ, List, [], IsTrue, true};
 ghost use Rattle.std.specs.List.{filter, list_all};
+ghost use Rattle.std.specs.List.Sorted.{IsPermutation};
 ghost use Rattle.update.specs.Bags.{Alike, Entry};
 ghost use Rattle.update.specs.Joins.{joins_of};
 ghost use Rattle.update.specs.Updates.{as_of, IsConsolidated};
@@ -66,4 +67,31 @@ pub fn answers_are_the_differences<T: Lattice>()
         → ((t : T) → IsTrue (has_passed T.below frontier t)
         → Alike (as_of T.below t vs) (reduction_output k reduce (as_of T.below t taken)))
         → us ≡ vs }
+{}
+
+/// What a reduction stands for does not depend on the order in which updates were taken, nor on the order of those that
+/// were given. So a worker may list what it received in whatever order it came. Costs nothing.
+pub fn order_does_not_matter<T: Lattice>()
+    ensures stands { (k : ℕ) (reduce : List ℤ → List Entry → List Entry) → IsReducer k reduce
+        → (hs : List (HistoryState T)) (taken taken2 given given2 : List (Update T))
+        → IsPermutation taken taken2 → IsPermutation given given2
+        → StandsFor T.below T.joined k reduce hs taken given
+        → StandsFor T.below T.joined k reduce hs taken2 given2 }
+{}
+
+/// No row is given that no answer has. If a test passes for each row of the answers at the times that a frontier has
+/// passed, and for each row that was given before, then it passes for each row that `ready` gives as of that frontier. So
+/// what is given has the width of the answers. Costs nothing.
+pub fn rows_given_are_answered<T: Lattice>()
+    ensures rows { (k : ℕ) (reduce : List ℤ → List Entry → List Entry) → IsReducer k reduce
+        → (p : List ℤ → Bool) (frontier : List T) (hs : List (HistoryState T))
+        (taken given out : List (Update T))
+        → StandsFor T.below T.joined k reduce hs taken (given ++ out)
+        → ((t : T) → IsTrue (has_passed T.below frontier t) → IsQuietAt T.below hs t)
+        → IsConsolidated T.cmp out
+        → IsTrue (list_all (λ u. has_passed T.below frontier u.time) out)
+        → IsTrue (list_all (λ u. p u.row) given)
+        → ((t : T) → IsTrue (has_passed T.below frontier t)
+        → IsTrue (list_all (λ e. p e.row) (reduction_output k reduce (as_of T.below t taken))))
+        → IsTrue (list_all (λ u. p u.row) out) }
 {}

@@ -19,6 +19,8 @@ mod answers;
 mod correcting;
 mod count;
 mod distinct;
+mod draft;
+mod evaluation;
 mod extremes;
 mod histories;
 mod history;
@@ -39,8 +41,8 @@ pub use extremes::{Max, Min};
 pub use history::KeyHistory;
 pub use kinds::kinds_are_reductions;
 pub use laws::{
-    answers_are_the_differences, joined_times_are_closed, outputs_change_at_joined_times,
-    settled_is_right,
+    answers_are_the_differences, joined_times_are_closed, order_does_not_matter,
+    outputs_change_at_joined_times, rows_given_are_answered, settled_is_right,
 };
 pub use reducer::Reducer;
 pub use state::ReduceState;

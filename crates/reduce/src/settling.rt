@@ -3,7 +3,7 @@
 //! time that is still pending is at or before it. That is why one pass is enough.
 //!
 //! Nothing of the key's history is changed here. What is given is gathered aside.
-ghost use Rattle.std.specs.Prelude.{◌≡◌, ◌⊎◌, ◌≤◌, ◌++◌, false, IfOk, IfErr, OnOk, IsTrue, List, length};
+ghost use Rattle.std.specs.Prelude.{◌≡◌, ◌⊎◌, ◌≤◌, ◌++◌, false, IfOk, IfErr, IfSome, OnOk, IsTrue, List, length};
 ghost use Rattle.std.specs.List.{filter, list_all};
 ghost use Rattle.std.specs.List.Sorted.{IsStrictlySortedBy};
 ghost use Rattle.lattice.specs.Frontiers.{is_beyond};
@@ -12,20 +12,23 @@ ghost use Rattle.update.specs.declared.change.Update.{Update};
 ghost use Rattle.update.specs.declared.refusal.Refusal.{Refusal};
 ghost use Rattle.reduce.specs.Joined.{of_key};
 ghost use Rattle.reduce.specs.Corrections.{IsTooMuch};
+ghost use Rattle.reduce.specs.Evaluations.{IsEvaluation};
 ghost use Rattle.reduce.specs.Settling.{Steps, Settling, IsOverfullFor};
 
-use crate::correcting::correct;
+use crate::correcting::{Correction, correct};
+use crate::evaluation::Evaluation;
 use crate::{KeyHistory, Reducer};
 use antichain::is_beyond;
 use lattice::Lattice;
 use std::alloc::Global;
 use update::{Refusal, Update};
 
-/// What is given of a key, and which of its times are still pending.
+/// What is given of a key, which of its times are still pending, and what was evaluated at the last time that was not.
 #[derive(Drop)]
 pub(crate) struct Settled<T> {
     pub(crate) given: Vec<Update<T>>,
     pub(crate) due: Vec<T>,
+    pub(crate) last: Option<Evaluation<T>>,
 }
 
 // One pending time: it stays, or it is corrected.
@@ -43,6 +46,10 @@ fn settle_time<T: Lattice, R: Reducer>(
         (list_all (of_key (length history.now.key) history.now.key) history.now.given) }
     requires settled { IsTrue (list_all (of_key (length history.now.key) history.now.key)
         settled.old.given.items) }
+    requires last { IfSome settled.old.last
+        (IsEvaluation T.below rows.now (history.now.given ++ settled.old.given.items)) }
+    ensures last { OnOk result (IfSome settled.new.last
+        (IsEvaluation T.below rows.now (history.now.given ++ settled.new.given.items))) }
     ensures steps { OnOk result ((content : List (Update T))
         → rows.now ≡ filter (of_key (length history.now.key) history.now.key) content
         → Steps T.below T.joined (length history.now.key) (R.reduces reducer.now) history.now.key
@@ -60,16 +67,31 @@ fn settle_time<T: Lattice, R: Reducer>(
     }
     let key = history.key().columns();
     let given = settled.given.as_slice();
-    let mut more = correct(alloc, reducer, key, time, rows, history.given(), given)?;
+    let last = &settled.last;
+    let correction = correct(
+        alloc,
+        reducer,
+        key,
+        time,
+        rows,
+        history.given(),
+        given,
+        last,
+    )?;
+    let Correction {
+        given: mut more,
+        evaluation,
+    } = correction;
     settled.given.append(&mut more)?;
+    settled.last = Some(evaluation);
     Ok(())
 }
 
 /// What is given of a key at those of its pending times that the frontier has passed, if `rows` are the updates of its
 /// rows.
 ///
-/// Cost: one comparison with the frontier for each pending time. For each one that has passed, that of
-/// [`correct`] with all rows and with all that was given of the key.
+/// Cost: one comparison with the frontier for each pending time. For each one that has passed, that of [`correct`] with
+/// all rows and with all that was given of the key.
 pub(crate) fn settle_key<T: Lattice, R: Reducer>(
     alloc: Global,
     reducer: &R,
@@ -94,6 +116,7 @@ pub(crate) fn settle_key<T: Lattice, R: Reducer>(
     let mut settled = Settled {
         given: Vec::new(alloc),
         due: Vec::new(alloc),
+        last: None,
     };
     for time in history.due() {
         settle_time(alloc, reducer, history, frontier, rows, *time, &mut settled)?;

@@ -132,6 +132,7 @@ impl<T: Lattice> Gathered<T> {
         let Settled {
             given: mut more,
             due,
+            last: _,
         } = settled;
         if !due.is_empty() {
             self.waiting.push(place)?;

@@ -12,7 +12,7 @@ pub loop-time-init : goal.loop-time-init
 loop-time-init g c =
     let h = c.args.history.now in
     rw (c.new.ensures.items, c.new-2.ensures.items)
-    (refl, λ content rows. first_of g.met.T.PartialOrder.order g.met.T.Lattice.bounds (length h.key) (g.R.Reducer.reduces c.args.reducer.now) h.key content h.given c.args.frontier.now g.met.T.Lattice.extends g.met.T.Ord.total h.due c.requires.ascending)
+    (refl, λ content rows. first_of g.met.T.PartialOrder.order g.met.T.Lattice.bounds (length h.key) (g.R.Reducer.reduces c.args.reducer.now) h.key content h.given c.args.frontier.now g.met.T.Lattice.extends g.met.T.Ord.total h.due c.requires.ascending, tt)
 
 pub settle_time-requires-clause-settled : goal.settle_time-requires-clause-settled
 settle_time-requires-clause-settled g c = c.loop-time.invariant.0
@@ -41,4 +41,7 @@ loop-time-preserved g c =
     λ content rows. stepped g.met.T.PartialOrder.order g.met.T.Lattice.bounds (length h.key) (g.R.Reducer.reduces c.args.reducer.now) h.key content h.given c.args.frontier.now g.met.T.Lattice.extends g.met.T.Ord.total h.due c.requires.ascending
     c.loop-time.time-index c.time-item.result lt is c.loop-time.settled.given.items c.loop-time.settled.due.items (c.loop-time.invariant.1 content rows)
     c.settle_time.new.settled.given.items c.settle_time.new.settled.due.items (c.in_ok-settle_time.ensures.steps content rows) in
-    (own_from g.met.T.PartialOrder.order g.met.T.Lattice.bounds (length h.key) (g.R.Reducer.reduces c.args.reducer.now) h.key c.args.rows.now h.given c.args.frontier.now c.settle_time.new.settled.given.items (λ u m. ((step c.args.rows.now (sym (own_kept (length h.key) h.key c.args.rows.now c.requires.rows))).at u m).0), step)
+    (own_from g.met.T.PartialOrder.order g.met.T.Lattice.bounds (length h.key) (g.R.Reducer.reduces c.args.reducer.now) h.key c.args.rows.now h.given c.args.frontier.now c.settle_time.new.settled.given.items (λ u m. ((step c.args.rows.now (sym (own_kept (length h.key) h.key c.args.rows.now c.requires.rows))).at u m).0), step, c.in_ok-settle_time.ensures.last)
+
+pub settle_time-requires-clause-last : goal.settle_time-requires-clause-last
+settle_time-requires-clause-last g c = c.loop-time.invariant.2

@@ -1,7 +1,7 @@
 use Rattle.std.proofs.Common.{inl, inr, ⊎_elim}
 use Rattle.reduce.proofs.ResultLemmas.{passed_on}
 use Rattle.reduce.proofs.CorrectionLemmas.{size_one}
-use Rattle.reduce.proofs.correcting.put_back.Goals as goal
+use Rattle.reduce.proofs.draft.put_back.Goals as goal
 
 pub returns-in_err-put_back_one-clause-refused : goal.returns-in_err-put_back_one-clause-refused
 returns-in_err-put_back_one-clause-refused g c =

@@ -1,0 +1,35 @@
+-- From one time of a key to the next: what was evaluated last, and what of it changes.
+use Rattle.std.specs.Prelude.{◌≡◌, ℕ, ◌≤◌, ◌^◌, Bool, ◌&&◌, not, List, ◌++◌, ℤ, ◌+ℤ◌, neg_ℤ, map, unsigned_abs}
+use Rattle.std.specs.List.{filter}
+use Rattle.update.specs.Bags.{Entry, Alike, count_of}
+use Rattle.update.specs.Updates.{as_of}
+use Rattle.update.specs.declared.change.Update.{Update}
+use Rattle.plan.specs.Operators.{negated_entry}
+use Rattle.reduce.specs.declared.evaluation.Evaluation.{Evaluation}
+use Rattle.reduce.specs.Corrections.{put}
+
+-- some row counts 2^63 or more, or as much below 0
+abbrev pub HasGreatCount : List Entry → Type 0
+HasGreatCount entries = (row : List ℤ) × (2 ^ 63 ≤ unsigned_abs (count_of entries row))
+
+-- some entries of both lists were read, and these ones add up to what they change
+abbrev pub Moves : (want had entries want_left had_left : List Entry) → Type 0
+Moves want had entries want_left had_left = (row : List ℤ)
+    → count_of entries row +ℤ (count_of want_left row +ℤ neg_ℤ (count_of had_left row))
+    ≡ count_of want row +ℤ neg_ℤ (count_of had row)
+
+module _ {T : Type 0} (below : T → T → Bool) where
+  -- the updates at or before one time but not at or before another
+  abbrev pub between : T → T → List (Update T) → List (Update T)
+  between after upto us = filter (λ u. below u.time upto && not (below u.time after)) us
+
+  -- at its time the rows of the evaluation are the sum of the key's updates, and its answer is the sum of what was given
+  pub record IsEvaluation (updates given : List (Update T)) (e : Evaluation T) : Type 0 where
+    pub rows_are : Alike e.rows (as_of below e.time updates)
+    pub answer_is : Alike e.answer (as_of below e.time given)
+
+  -- the draft has entries at the time, which add up to what is wanted less what was given up to it
+  pub record IsDraft (t : T) (want : List Entry) (given draft : List (Update T)) : Type 0 where
+    pub entries : List Entry
+    pub draft_is : draft ≡ put t entries
+    pub adds_up : Alike entries (want ++ map negated_entry (as_of below t given))
