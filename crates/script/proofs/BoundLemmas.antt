@@ -1,41 +1,46 @@
--- If a number is too large, the bound of some node is too large. Each node of a linear plan has a list of
--- updates that sums to the query at every time, and whose size is at most the node's bound. So at no time is
--- the count of a row larger than the bound, and neither is a total of a view's changes.
-use Rattle.std.proofs.Common.{◌≡◌, ℕ, ◌+◌, ◌<◌, ◌≤◌, ◌^◌, Bool, true, false, cond, ◌&&◌, List, [], ◌∷◌, ◌++◌, map, length, Option, Some, None, slice_get, IsTrue, ⊎_elim, refl, sym, ◌∙◌, ap, ap₂, subst, arith, w64, FitsSigned}
-use Rattle.std.specs.Prelude.{ℤ, pos, neg_ℤ, ◌+ℤ◌, unsigned_abs}
-use Rattle.std.specs.List.{All, AllByRecursion, filter}
+-- If a number is too large, the bound of some node is too large. Each node of a plan has a list of updates that
+-- sums to the query at every time, and whose size is at most the node's bound: what a linear node makes of the
+-- lists of its sources, the pairs of a join, and the differences of a reduction. So at no time is the count of a
+-- row larger than the bound, and neither are a total of a view's changes, the product of two counts that a join
+-- forms, and the total of a key that a count counts.
+use Rattle.std.proofs.Common.{◌≡◌, ℕ, ◌+◌, ◌*◌, ◌<◌, ◌≤◌, ◌^◌, Bool, true, false, cond, ◌&&◌, mul-le-mul, List, [], ◌∷◌, ◌++◌, map, length, Option, Some, None, slice_get, IsTrue, ⊎_elim, refl, sym, ◌∙◌, ap, ap₂, subst, arith, w64, FitsSigned}
+use Rattle.std.specs.Cmp.{IsTotalOrder}
+use Rattle.std.specs.Prelude.{ℤ, pos, neg_ℤ, ◌+ℤ◌, ◌*ℤ◌, take, unsigned_abs}
+use Rattle.std.specs.List.{AllByRecursion, filter}
 use Rattle.std.specs.declared.cmp.Ordering.{Ordering}
 use Rattle.std.proofs.lemmas.Bool.{cases_lt, and_parts, true≢false}
-use Rattle.std.proofs.lemmas.Int.{ints, fits_signed_from_abs}
+use Rattle.std.proofs.lemmas.Int.{ints, fits_signed_from_abs, unsigned_abs-mul}
 use Rattle.std.proofs.lemmas.List.{append-nil}
-use Rattle.std.proofs.lemmas.Option.{unwrap_or-slice_get}
-use Rattle.lattice.specs.Order.{PartialOrderLaws}
+use Rattle.lattice.specs.Order.{PartialOrderLaws, LatticeLaws, ExtendsLaws}
+use Rattle.lattice.proofs.BoundLemmas.{join_below}
 use Rattle.update.specs.Bags.{Entry, Alike, HasLargeCount, count_of, same_row}
-use Rattle.update.specs.Updates.{as_of, size, total_at, total_where, HasLargeTotal}
+use Rattle.update.specs.Updates.{as_of, entry, size, total_at, total_where, HasLargeTotal}
 use Rattle.update.specs.declared.change.Update.{Update}
 use Rattle.update.proofs.ConsolidatedLemmas.{summed_size, summed_size_is}
 use Rattle.update.proofs.SumLemmas.{total_where-filter, total_by-append, total_by-zero}
 use Rattle.update.proofs.UniqueLemmas.{count_as_of, same_totals, at_each}
 use Rattle.plan.specs.Changes.{query_at}
-use Rattle.plan.specs.Nodes.{node_at, sources, key_width, is_linear}
-use Rattle.plan.specs.Operators.{negated_entry}
+use Rattle.plan.specs.Nodes.{node_at, sources, key_width, is_reduction}
+use Rattle.plan.specs.Operators.{negated_entry, operator_output}
 use Rattle.plan.specs.Queries.{source_value}
+use Rattle.plan.specs.Reductions.{has_key, sum_of_counts}
 use Rattle.plan.specs.Rules.{IsPlan}
-use Rattle.plan.specs.Bounds.{bound_by, HasLargeBound}
+use Rattle.plan.specs.Bounds.{bound_by, output_bound, HasLargeBound}
 use Rattle.plan.specs.declared.node.Kind.{Kind}
 use Rattle.plan.specs.declared.node.Node.{Node}
-use Rattle.plan.specs.declared.node.Node.TheVariants.{Input, Reduce}
-use Rattle.plan.proofs.BoundLemmas.{output_bound-le}
+use Rattle.plan.specs.declared.node.Node.TheVariants.{Join, Reduce}
+use Rattle.plan.proofs.BoundLemmas.{output_bound-le, own_free}
 use Rattle.linear.proofs.OutputLemmas.{whole_output, whole_output-le, whole_output_sums}
 use Rattle.plan.proofs.OperatorLemmas.{given_alike}
-use Rattle.plan.proofs.PlanLemmas.{node_past, source_smaller}
+use Rattle.plan.proofs.PlanLemmas.{source_smaller}
 use Rattle.plan.proofs.StepLemmas.{query_by_sources, bound_by_sources}
 use Rattle.plan.proofs.UpwardLemmas.{by_smaller}
-use Rattle.plan.proofs.CountLemmas.{count_of-append, count_of-negated_entry}
+use Rattle.plan.proofs.CountLemmas.{count_of-append, count_of-filter, count_of-negated_entry, weigh_alike}
 use Rattle.linear.proofs.SumLemmas.{as_of-append}
-use Rattle.machine.specs.Histories.States.{fed_to}
+use Rattle.join.specs.Pairs.{pairs}
+use Rattle.join.proofs.PairLemmas.{pairs_at, size_pairs}
 use Rattle.oracle.specs.Listing.{at_time, HasLargeGap}
-use Rattle.script.specs.Sessions.{Session}
+use Rattle.script.proofs.EveryBoundLemmas.{all_differences, are_differences, are_own, own, reduction_within}
 
 -- ---- sizes
 
@@ -57,73 +62,152 @@ module _ {T : Type 0} where
   large_total : (q : List ℤ → T → Bool) (us : List (Update T)) → (FitsSigned w64 (total_where q us) → ⊥) → 2 ^ 63 ≤ summed_size us
   large_total q us h = let large = not_fits (total_where q us) h in let within = total_within q us in omega (arith, large, within)
 
--- ---- the output of a node, as a list of updates
+  -- so is the total of a key at a time
+  number_within : (below : T → T → Bool) (k : ℕ) (key : List ℤ) (t : T) (us : List (Update T)) → unsigned_abs (sum_of_counts (filter (has_key k key) (as_of below t us))) ≤ summed_size us
+  number_within below k key t [] = omega arith
+  number_within below k key t (u ∷ us) = step (below u.time t) (number_within below k key t us)
+    where
+      seen : List (Update T)
+      seen = filter (λ w. below w.time t) us
 
-module _ {T : Type 0} (below : T → T → Bool) (p : List Node) (plan : IsPlan p) (linear : (n : ℕ) → IsTrue (is_linear (node_at p n))) (changes : ℕ → List (Update T)) where
-  abbrev pub none : ℕ → ℕ
-  none n = 0
+      of_key : List Entry
+      of_key = filter (has_key k key) (map entry seen)
 
-  abbrev pub limit : ℕ → ℕ
-  limit = bound_by p none (λ i. size (changes i))
+      counted : (c : Bool) → unsigned_abs (sum_of_counts of_key) ≤ summed_size us → unsigned_abs (sum_of_counts (cond c (entry u ∷ of_key) of_key)) ≤ unsigned_abs u.diff + summed_size us
+      counted true h = omega (arith, ints, h)
+      counted false h = omega (arith, h)
+
+      step : (b : Bool) → unsigned_abs (sum_of_counts of_key) ≤ summed_size us → unsigned_abs (sum_of_counts (filter (has_key k key) (map entry (cond b (u ∷ seen) seen)))) ≤ unsigned_abs u.diff + summed_size us
+      step true h = counted (same_row (take k u.row) key) h
+      step false h = omega (arith, h)
+
+filtered_alike : (test : List ℤ → Bool) (a b : List Entry) → Alike a b → Alike (filter (λ e. test e.row) a) (filter (λ e. test e.row) b)
+filtered_alike test a b h row = count_of-filter test a row ∙ (ap (λ n. cond (test row) n (pos 0)) (h row) ∙ sym (count_of-filter test b row))
+
+-- alike bags have the same total for each key
+pub same_number : (k : ℕ) (key : List ℤ) (a b : List Entry) → Alike a b → sum_of_counts (filter (has_key k key) a) ≡ sum_of_counts (filter (has_key k key) b)
+same_number k key a b h = weigh_alike (λ row n. n) (λ row m n. refl) (filter (has_key k key) a) (filter (has_key k key) b) (filtered_alike (λ row. same_row (take k row) key) a b h)
+
+-- ---- the output of a node that is no reduction, as a list of updates
+
+module _ {T : Type 0} (joined : T → T → T) where
+  abbrev made : ℕ → Node → (ℕ → List (Update T)) → List (Update T)
+  made k (Join left right) lists = pairs joined k (lists 0) (lists 1)
+  made k node lists = whole_output node lists
+
+  made_within : (k : ℕ) (node : Node) → is_reduction node ≡ false → (lists : ℕ → List (Update T)) → summed_size (made k node lists) ≤ output_bound node 0 (λ port. summed_size (lists port))
+  made_within k (Join left right) plain lists =
+      let product = size_pairs joined k (lists 0) (lists 1) in
+      subst (λ n. n ≤ summed_size (lists 0) * summed_size (lists 1)) (sym (summed_size_is (pairs joined k (lists 0) (lists 1))))
+      (subst (λ n. size (pairs joined k (lists 0) (lists 1)) ≤ n * summed_size (lists 1)) (sym (summed_size_is (lists 0)))
+      (subst (λ n. size (pairs joined k (lists 0) (lists 1)) ≤ size (lists 0) * n) (sym (summed_size_is (lists 1))) product))
+  made_within k (Reduce kind source) plain lists = absurd (true≢false plain)
+  made_within k node plain lists = whole_output-le node refl 0 lists
+
+  module _ {below : T → T → Bool} {met : T → T → T} (o : PartialOrderLaws below) (b : LatticeLaws below joined met) where
+    made_sums : (t : T) (k : ℕ) (node : Node) → is_reduction node ≡ false → (lists : ℕ → List (Update T)) → Alike (as_of below t (made k node lists)) (operator_output k node (λ port. as_of below t (lists port)))
+    made_sums t k (Join left right) plain lists row = ap (λ es. count_of es row) (pairs_at below joined (join_below o b) k t (lists 0) (lists 1))
+    made_sums t k (Reduce kind source) plain lists row = absurd (true≢false plain)
+    made_sums t k node plain lists row = whole_output_sums below t k node refl lists row
+
+-- ---- a list for each node of a plan, and numbers that are too large
+
+module _ {T : Type 0} {below : T → T → Bool} {joined met : T → T → T} {cmp : T → T → Ordering} (o : PartialOrderLaws below) (b : LatticeLaws below joined met) (x : ExtendsLaws below cmp) (total : IsTotalOrder cmp) (p : List Node) (plan : IsPlan p) (changes : ℕ → List (Update T)) where
+  abbrev limit : ℕ → ℕ
+  limit = bound_by p (own o b x total p plan changes) (λ i. size (changes i))
 
   -- some list sums to the query at every time, and its size is at most the node's bound
   abbrev Told : ℕ → Type 0
   Told n = (us : List (Update T)) × ((t : T) → Alike (as_of below t us) (query_at below p changes n t)) × (summed_size us ≤ limit n)
 
   abbrev ToldAt : ℕ → Option ℕ → Type 0
-  ToldAt n o = (us : List (Update T)) × ((t : T) → Alike (as_of below t us) (source_value (as_of below t (changes n)) (λ m. query_at below p changes m t) o)) × (summed_size us ≤ source_value (size (changes n)) limit o)
+  ToldAt n port = (us : List (Update T)) × ((t : T) → Alike (as_of below t us) (source_value (as_of below t (changes n)) (λ m. query_at below p changes m t) port)) × (summed_size us ≤ source_value (size (changes n)) limit port)
 
-  told_at : (n : ℕ) → ((m : ℕ) → m < n → Told m) → (o : Option ℕ) → ((s : ℕ) → o ≡ Some s → s < n) → ToldAt n o
+  told_at : (n : ℕ) → ((m : ℕ) → m < n → Told m) → (port : Option ℕ) → ((s : ℕ) → port ≡ Some s → s < n) → ToldAt n port
   told_at n rest None h = (changes n, (λ t row. refl), let same = summed_size_is (changes n) in omega (arith, same))
   told_at n rest (Some s) h = rest s (h s refl)
 
+  -- what a node that is no reduction makes of the lists at its ports
+  told_by : (n : ℕ) (node : Node) → node_at p n ≡ node → is_reduction node ≡ false → ((port : ℕ) → ToldAt n (slice_get (sources node) port)) → Told n
+  told_by n node e plain at =
+      let lists = λ (port : ℕ). (at port).0 in
+      let k = key_width p node in (
+        made joined k node lists,
+        (λ t row.
+            made_sums joined o b t k node plain lists row
+            ∙ given_alike k node (λ port. as_of below t (lists port))
+            (λ port. source_value (as_of below t (changes n)) (λ m. query_at below p changes m t) (slice_get (sources node) port)) (λ port seen. (at port).1 t) row
+            ∙ ap (λ es. count_of es row)
+            (sym (subst (λ (it : Node). query_at below p changes n t ≡ operator_output (key_width p it) it (λ port. source_value (as_of below t (changes n)) (λ m. query_at below p changes m t) (slice_get (sources it) port))) e
+            (query_by_sources p plan (λ i. as_of below t (changes i)) n)))),
+        (
+            let made_le = made_within joined k node plain lists in
+            let ports_le = output_bound-le node 0 (λ port. summed_size (lists port)) (λ port. source_value (size (changes n)) limit (slice_get (sources node) port)) (λ port seen. (at port).2) in
+            let free = own_free node 0 (own o b x total p plan changes n) (λ port. source_value (size (changes n)) limit (slice_get (sources node) port)) plain in
+            let same = subst (λ (it : Node). limit n ≡ output_bound it (own o b x total p plan changes n) (λ port. source_value (size (changes n)) limit (slice_get (sources it) port))) e (bound_by_sources p plan (own o b x total p plan changes) (λ i. size (changes i)) n) in
+            omega (arith, made_le, ports_le, free, same)),
+      )
+
+  told_from : (n : ℕ) (node : Node) → node_at p n ≡ node → ((port : ℕ) → ToldAt n (slice_get (sources node) port)) → Told n
+  told_from n (Reduce kind source) e at =
+      let list = all_differences o b x total p plan changes n in
+      let is = are_differences o b x total p plan changes n (reduction_within o b x total p plan changes n source kind e) in (
+        list,
+        (λ t row. is.sums t refl row),
+        (
+            let same = summed_size_is list in
+            let bound = subst (λ (it : Node). limit n ≡ output_bound it (own o b x total p plan changes n) (λ port. source_value (size (changes n)) limit (slice_get (sources it) port))) e (bound_by_sources p plan (own o b x total p plan changes) (λ i. size (changes i)) n) in
+            omega (arith, same, bound)),
+      )
+  told_from n node e at = told_by n node e refl at
+
   told : (n : ℕ) → Told n
-  told = by_smaller Told step
-    where
-      step : (n : ℕ) → ((m : ℕ) → m < n → Told m) → Told n
-      step n rest =
-          let at = λ (port : ℕ). told_at n rest (slice_get (sources (node_at p n)) port) (λ s e. source_smaller p plan n port s e) in
-          let lists = λ (port : ℕ). (at port).0 in (
-            whole_output (node_at p n) lists,
-            (λ t row.
-                whole_output_sums below t (key_width p (node_at p n)) (node_at p n) (linear n) lists row
-                ∙ given_alike (key_width p (node_at p n)) (node_at p n) (λ port. as_of below t (lists port))
-                (λ port. source_value (as_of below t (changes n)) (λ m. query_at below p changes m t) (slice_get (sources (node_at p n)) port)) (λ port seen. (at port).1 t) row
-                ∙ ap (λ es. count_of es row) (sym (query_by_sources p plan (λ i. as_of below t (changes i)) n))),
-            (
-                let made_le = whole_output-le (node_at p n) (linear n) 0 lists in
-                let ports_le = output_bound-le (node_at p n) 0 (λ port. summed_size (lists port)) (λ port. source_value (size (changes n)) limit (slice_get (sources (node_at p n)) port)) (λ port seen. (at port).2) in
-                let same = bound_by_sources p plan none (λ i. size (changes i)) n in
-                omega (arith, made_le, ports_le, same)),
-          )
+  told = by_smaller Told (λ n rest. told_from n (node_at p n) refl (λ port. told_at n rest (slice_get (sources (node_at p n)) port) (λ s e. source_smaller p plan n port s e)))
 
--- all nodes of a linear plan are linear, and so is the default at numbers past the end
-pub linear_within : (p : List Node) → ((n : ℕ) → n < length p → IsTrue (is_linear (node_at p n))) → (n : ℕ) → IsTrue (is_linear (node_at p n))
-linear_within p each n = ⊎_elim (λ l. each n l) (λ l. ap is_linear (node_past p n l)) (cases_lt n (length p))
-
--- asks a linear plan about a number that may be past its nodes
-pub linear_at : (p : List Node) → All (λ node. IsTrue (is_linear node)) p → (n : ℕ) → IsTrue (is_linear (node_at p n))
-linear_at p all = linear_within p (λ n l. subst (λ (node : Node). IsTrue (is_linear node)) (sym (unwrap_or-slice_get p n (Input 0))) (all n (Input 0) l))
-
--- ---- numbers that are too large in a session
-
-module _ {T : Type 0} {below : T → T → Bool} (o : PartialOrderLaws below) (cmp : T → T → Ordering) (p : List Node) (plan : IsPlan p) (linear : (n : ℕ) → IsTrue (is_linear (node_at p n))) (s : Session T) where
-  abbrev pub changes : ℕ → List (Update T)
-  changes i = fed_to i s.fed
+  -- if the bound of a node is large, some bound is
+  bound_large : (n : ℕ) → n < length p → 2 ^ 63 ≤ limit n → HasLargeBound below cmp p changes
+  bound_large n l large = (n, limit n, l, (own o b x total p plan changes, are_own o b x total p plan changes, refl), large)
 
   -- if the list of a node is large, so is its bound
-  heavy : (n : ℕ) → n < length p → 2 ^ 63 ≤ summed_size (told below p plan linear changes n).0 → HasLargeBound below cmp p changes
-  heavy n l large =
-      let within = (told below p plan linear changes n).2 in
-      (n, limit below p plan linear changes n, l, (none below p plan linear changes, (λ m source kind e. absurd (reduces m source kind e)), refl), omega (arith, large, within))
+  heavy : (n : ℕ) → n < length p → 2 ^ 63 ≤ summed_size (told n).0 → HasLargeBound below cmp p changes
+  heavy n l large = let within = (told n).2 in bound_large n l (omega (arith, large, within))
+
+  -- the count of a row is at most the bound of the node
+  count_within : (n : ℕ) (t : T) (row : List ℤ) → unsigned_abs (count_of (query_at below p changes n t) row) ≤ limit n
+  count_within n t row =
+      let list = told n in
+      let within = total_within (λ r u. same_row r row && below u t) list.0 in
+      let le = list.2 in
+      subst (λ c. unsigned_abs c ≤ limit n) (sym (count_as_of below row t list.0) ∙ list.1 t row) (omega (arith, within, le))
+
+  -- if a join forms a product that is too large, so is its bound
+  pub large_product : (n left right : ℕ) → n < length p → node_at p n ≡ Join left right → (t : T) (row other : List ℤ)
+      → (FitsSigned w64 (count_of (query_at below p changes left t) row *ℤ count_of (query_at below p changes right t) other) → ⊥) → HasLargeBound below cmp p changes
+  large_product n left right l e t row other large =
+      let a = count_of (query_at below p changes left t) row in
+      let c = count_of (query_at below p changes right t) other in
+      let product = not_fits (a *ℤ c) large in
+      let split = unsigned_abs-mul a c in
+      let within = mul-le-mul (count_within left t row) (count_within right t other) in
+      let same = subst (λ (it : Node). limit n ≡ output_bound it (own o b x total p plan changes n) (λ port. source_value (size (changes n)) limit (slice_get (sources it) port))) e (bound_by_sources p plan (own o b x total p plan changes) (λ i. size (changes i)) n) in
+      bound_large n l (subst (λ m. 2 ^ 63 ≤ m) (sym same) (le_then (2 ^ 63) (unsigned_abs (a *ℤ c)) (limit left * limit right) product (subst (λ m. m ≤ limit left * limit right) (sym split) within)))
     where
-      reduces : (m source : ℕ) (kind : Kind) → node_at p m ≡ Reduce kind source → ⊥
-      reduces m source kind e = true≢false (sym (linear m) ∙ ap is_linear e)
+      le_then : (i j k : ℕ) → i ≤ j → j ≤ k → i ≤ k
+      le_then i j k g h = omega (arith, g, h)
+
+  -- if the total of a key is too large, so is a bound
+  pub large_number : (n : ℕ) → n < length p → (t : T) (k : ℕ) (key : List ℤ)
+      → (FitsSigned w64 (sum_of_counts (filter (has_key k key) (query_at below p changes n t))) → ⊥) → HasLargeBound below cmp p changes
+  large_number n l t k key large =
+      let list = told n in
+      let absolute = not_fits _ (λ fits. large (subst (FitsSigned w64) (same_number k key (as_of below t list.0) (query_at below p changes n t) (list.1 t)) fits)) in
+      let within = number_within below k key t list.0 in
+      heavy n l (omega (arith, absolute, within))
 
   -- if a count of the query is too large, so is a bound
   pub large_count : (n : ℕ) → n < length p → (t : T) → HasLargeCount (query_at below p changes n t) → HasLargeBound below cmp p changes
   large_count n l t (row, large) =
-      let list = told below p plan linear changes n in
+      let list = told n in
       heavy n l (large_total (λ r u. same_row r row && below u t) list.0
       (λ fits. large (subst (FitsSigned w64) (sym (count_as_of below row t list.0) ∙ list.1 t row) fits)))
 
@@ -135,7 +219,7 @@ module _ {T : Type 0} {below : T → T → Bool} (o : PartialOrderLaws below) (c
     where
       by : (b : Bool) → among t ≡ b → HasLargeBound below cmp p changes
       by true e =
-          let list = told below p plan linear changes n in
+          let list = told n in
           let kept = total_where-filter (λ r u. same_row r row && (below u t && below t u)) (λ u. among u.time) us (λ u h. down u.time t (and_parts _ _ (and_parts _ _ h).1).0 e) in
           let same = same_totals o among us list.0 down (λ v h row. sums v h row ∙ sym (list.1 v row)) row t e in
           heavy n l (large_total (λ r u. same_row r row && (below u t && below t u)) list.0 (λ fits. large (subst (FitsSigned w64) (sym (kept ∙ same)) fits)))
@@ -211,7 +295,7 @@ module _ {T : Type 0} {below : T → T → Bool} (o : PartialOrderLaws below) (c
     -- if the difference is too large, so is a bound
     pub large_gap : AllByRecursion (λ u. u.time ≡ t → ⊥) us → HasLargeGap below t wanted us → HasLargeBound below cmp p changes
     large_gap apart (row, large) =
-        let list = told below p plan linear changes n in
+        let list = told n in
         let same = same_totals o (λ u. below u t) further list.0 (λ u v h k. o.transitive u v t h k) (λ u h row. further_sums u h row ∙ sym (list.1 u row)) row t (o.reflexive t) in
         let parts = total_by-append (λ (u : Update T). cond (same_row u.row row && (below u.time t && below t u.time)) u.diff (pos 0)) us (map (at_time t) unlisted_entries) in
         let none_yet = nothing_yet row apart in

@@ -62,7 +62,7 @@ module _ {T : Type 0} {below : T → T → Bool} {joined met : T → T → T} {c
   fed = fed_below changes (length p)
 
   -- the differences of a node, over all changes
-  abbrev all_differences : ℕ → List (Update T)
+  abbrev pub all_differences : ℕ → List (Update T)
   all_differences n =
       changes_along below cmp joined [] (λ t. query_at below p (λ i. fed_to i fed) n t) (map (λ f. f.update.time) fed)
 
@@ -84,17 +84,17 @@ module _ {T : Type 0} {below : T → T → Bool} {joined met : T → T → T} {c
         sums = λ t h row. d.sums t h row ∙ same_query n l t row;
       }
 
-  abbrev own : ℕ → ℕ
+  abbrev pub own : ℕ → ℕ
   own n = size (all_differences n)
 
   -- past the plan's nodes there is no reduction
-  reduction_within : (n source : ℕ) (kind : Kind) → node_at p n ≡ Reduce kind source → n < length p
+  pub reduction_within : (n source : ℕ) (kind : Kind) → node_at p n ≡ Reduce kind source → n < length p
   reduction_within n source kind e = ⊎_elim (λ l. l) (λ l. absurd (no_input (sym (node_past p n l) ∙ e))) (cases_lt n (length p))
     where
       no_input : Input 0 ≡ Reduce kind source → ⊥
       no_input e = cc
 
-  are_own : AreOwn below cmp p changes own
+  pub are_own : AreOwn below cmp p changes own
   are_own n source kind e = (all_differences n, are_differences n (reduction_within n source kind e), refl)
 
   -- answers bounds_exist

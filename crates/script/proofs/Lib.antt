@@ -15,4 +15,5 @@ pub mod ChangesLemmas
 pub mod EndLemmas
 pub mod BoundLemmas
 pub mod EveryBoundLemmas
+pub mod LargeLemmas
 pub mod OracleEngineLemmas

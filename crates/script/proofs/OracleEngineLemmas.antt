@@ -1,9 +1,9 @@
 -- The state of the oracle engine is that of its session, and so are its answers.
 use Rattle.std.proofs.Common.{◌≡◌, ℕ, zero, suc, ◌+◌, ◌<◌, ◌≤◌, Bool, true, false, cond, not, ◌||◌, eqb, ltb-true, List, [], ◌∷◌, ◌++◌, ℤ, map, length, get_or, Option, Some, None, Result, Ok, Err, IsTrue, inl, inr, ⊎_elim, refl, sym, ◌∙◌, ap, subst, length-append, nat_le, nat_lt, unsigned_abs, arith}
 use Rattle.std.specs.Int.{w64}
-use Rattle.std.specs.Prelude.{FitsSigned, neg_ℤ, pos, ◌+ℤ◌, set, reverse, IfOk, IfErr, OnOk, OnErr}
+use Rattle.std.specs.Prelude.{pos, ◌+ℤ◌, set, reverse, IfOk, IfErr, OnOk, OnErr}
 use Rattle.std.specs.Cmp.{IsTotalOrder}
-use Rattle.std.specs.List.{All, filter, flat_map, list_all}
+use Rattle.std.specs.List.{filter, flat_map, list_all}
 use Rattle.std.specs.Ordering.{int_eq}
 use Rattle.std.specs.declared.cmp.Ordering.{Ordering}
 use Rattle.std.specs.declared.cmp.Ordering.TheVariants.{Equal}
@@ -29,8 +29,7 @@ use Rattle.update.specs.declared.refusal.Refusal.TheVariants.{OutOfMemory, Wrong
 use Rattle.plan.specs.Ancestors.{feeds, numbers_below}
 use Rattle.plan.specs.Changes.{AreDifferences, has_passed, query_at, open_for}
 use Rattle.plan.specs.Edges.{numbers_where}
-use Rattle.plan.specs.Nodes.{node_at, key_width, is_input, is_linear}
-use Rattle.plan.specs.Queries.{query}
+use Rattle.plan.specs.Nodes.{node_at, is_input}
 use Rattle.plan.specs.Rules.{IsPlan, first_refusal}
 use Rattle.update.specs.Refusals.{IsRefusalBy, IsMemoryOrOverflow}
 use Rattle.plan.specs.Bounds.{HasLargeBound}
@@ -44,9 +43,9 @@ use Rattle.machine.specs.declared.histories.event.Fed.{Fed}
 use Rattle.machine.specs.Boards.Inputs.{front_at, feed_faults, advance_faults}
 use Rattle.machine.specs.Histories.States.{fed_to}
 use Rattle.grammar.specs.Commands.{is_input_of}
-use Rattle.oracle.specs.Evaluation.{HasLargeAbove, output_at, inputs_before, list_of, ports, sums_at}
+use Rattle.oracle.specs.Evaluation.{HasLargeAbove, inputs_before, list_of, sums_at}
 use Rattle.oracle.specs.Listing.{HasLargeDifference}
-use Rattle.oracle.proofs.EvaluationLemmas.{inputs_with, inputs_without, linear_no_step}
+use Rattle.oracle.proofs.EvaluationLemmas.{inputs_with, inputs_without}
 use Rattle.script.specs.Engines.{IsTold, IsFound}
 use Rattle.script.specs.Orders.{in_order}
 use Rattle.script.specs.OracleStanding.{Register, IsRegister, Records, with_entry, with_input, entry_refusal, input_refusal, AreFrontiers}
@@ -56,7 +55,7 @@ use Rattle.script.proofs.ChangesLemmas.{changes_are, differences_only}
 use Rattle.script.proofs.InputLemmas.{query_at_inputs}
 use Rattle.script.proofs.OrderLemmas.{in_order-sorted, in_order-has, in_order-only}
 use Rattle.script.proofs.StandingLemmas.{answered, refused_by}
-use Rattle.script.proofs.BoundLemmas.{linear_at, large_count, large_gap}
+use Rattle.script.proofs.LargeLemmas.{large_above, large_difference}
 
 -- ---- the index of an input's list
 
@@ -138,7 +137,6 @@ module _ {T : Type 0} (r : Register T) (is : IsRegister r) (f : Fed T) (there : 
   -- the invariant holds after an accepted change
   pub entry_register : IsTrue (eqb (length f.update.row) (width_of r.plan f.input)) → IsRegister (with_entry f r)
   entry_register wide = record {
-    linear = is.linear;
     lists = length-set r.changes (inputs_before r.plan f.input) (list_of r.plan r.changes f.input ++ f.update ∷ []) ∙ is.lists;
     wide = λ n l t. by n l t (eqb f.input n) refl;
     inputs = is.inputs;
@@ -189,7 +187,7 @@ module _ {T : Type 0} (below : T → T → Bool) where
       let whole : lists ≡ (with_entry f r).changes = pushed ∙ ap (λ k. set r.changes k (get_or r.changes k [] ++ f.update ∷ [])) at in
       subst (λ (ls : List (List (Update T))). IsRegister (record { plan = r.plan; changes = ls; inputs = r.inputs })) (sym whole) (entry_register r is f there (entry_wide r f accepted))
   after_entry r lists f place (Err e) is there accepted at pushed stays =
-      subst (λ (ls : List (List (Update T))). IsRegister (record { plan = r.plan; changes = ls; inputs = r.inputs })) (sym stays) (record { linear = is.linear; lists = is.lists; wide = is.wide; inputs = is.inputs })
+      subst (λ (ls : List (List (Update T))). IsRegister (record { plan = r.plan; changes = ls; inputs = r.inputs })) (sym stays) (record { lists = is.lists; wide = is.wide; inputs = is.inputs })
 
   -- the register refuses a change or a frontier if and only if the session does
   same_entry_refusal : {minimum : T} (r : Register T) (s : Session T) (f : Fed T) → IsTrue (is_input_of r.plan f.input) → Records minimum r s → entry_refusal below r f ≡ change_refusal below r.plan s f
@@ -371,23 +369,14 @@ module _ {T : Type 0} {below : T → T → Bool} {minimum : T} (o : PartialOrder
     same_query t = same_query_of v within t
 
     -- if a number of the query is too large, so is a bound
-    module _ (cmp : T → T → Ordering) (linear : All (λ node. IsTrue (is_linear node)) r.plan) where
+    module _ {joined met : T → T → T} {cmp : T → T → Ordering} (l : LatticeLaws below joined met) (x : ExtendsLaws below cmp) (total : IsTotalOrder cmp) where
       -- the cause of a read that overflowed
       pub large_query : (t : T) → HasLargeAbove r.plan (sums_at below r.plan r.changes t) v → HasLargeBound below cmp r.plan (λ i. fed_to i s.fed)
-      large_query t (m, above, inl (row, large)) =
-          let early : m < length r.plan = let up = above_earlier r.plan plan m v above in omega (arith, up, within) in
-          large_count o cmp r.plan plan (linear_at r.plan linear) s m early t (row, λ fits. large (subst (FitsSigned w64) (sym (own row ∙ same_query_of m early t row)) fits))
-        where
-          own : (row : List ℤ) → count_of (output_at r.plan m (sums_at below r.plan r.changes t m) (query r.plan (sums_at below r.plan r.changes t))) row ≡ count_of (query_at below r.plan (list_of r.plan r.changes) m t) row
-          own row = ap (λ es. count_of es row) (sym (query_by_sources r.plan plan (sums_at below r.plan r.changes t) m))
-      large_query t (m, above, inr step) = absurd (linear_no_step (key_width r.plan (node_at r.plan m)) (node_at r.plan m) (linear_at r.plan linear m) (ports r.plan m (sums_at below r.plan r.changes t m) (query r.plan (sums_at below r.plan r.changes t))) step)
+      large_query t large = large_above o l x total r.plan plan r.changes (λ i. fed_to i s.fed) same_query_of v within t large
 
       -- the cause of a question for changes that overflowed
       pub large_changes : (F : List T) → HasLargeDifference below r.plan r.changes F v → HasLargeBound below cmp r.plan (λ i. fed_to i s.fed)
-      large_changes F (t, passed, inl above) = large_query t above
-      large_changes F (t, passed, inr (us, before, apart, (row, large))) =
-          large_gap o cmp r.plan plan (linear_at r.plan linear) s v within t us (λ u l d row. before u l d row ∙ same_query u row) apart
-          (row, λ fits. large (subst (FitsSigned w64) (sym (ap (λ x. x +ℤ neg_ℤ (count_of (as_of below t us) row)) (same_query t row))) fits))
+      large_changes F large = large_difference o l x total r.plan plan r.changes (λ i. fed_to i s.fed) same_query_of v within F large
 
     -- answers the clause `answered` of read
     pub rows_answered : (cause Large : Type 0) → (cause → Large) → (t : T) (x : Result (List Entry) Refusal) → IsTrue (below minimum t) → is_beyond below (view_frontier below r.plan s v) t ≡ false

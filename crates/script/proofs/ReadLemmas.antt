@@ -17,7 +17,7 @@ use Rattle.update.specs.declared.change.Update.{Update}
 use Rattle.update.specs.declared.refusal.Refusal.{Refusal}
 use Rattle.update.specs.declared.refusal.Refusal.TheVariants.{NotPassed, GivenUp}
 use Rattle.plan.specs.Changes.{AreDifferences, has_passed, query_at, open_for}
-use Rattle.plan.specs.Nodes.{is_linear, is_output}
+use Rattle.plan.specs.Nodes.{is_output}
 use Rattle.plan.specs.Rules.{first_refusal}
 use Rattle.plan.specs.Bounds.{HasLargeBound}
 use Rattle.plan.proofs.PlanLemmas.{no_first, no_fault}
@@ -47,7 +47,7 @@ use Rattle.script.specs.Sessions.{Session, view_frontier, read_refusal, changes_
 use Rattle.script.specs.Standing.{StandsAs}
 use Rattle.script.proofs.BagLemmas.{consolidated_bag-only}
 use Rattle.script.proofs.RelayLemmas.{quiet}
-use Rattle.script.proofs.BoundLemmas.{linear_within, large_count, large_listed}
+use Rattle.script.proofs.BoundLemmas.{large_count, large_listed}
 use Rattle.script.proofs.ChangesLemmas.{changes_are, differences_only}
 use Rattle.script.proofs.OrderLemmas.{in_order-sorted, in_order-has, in_order-only}
 
@@ -102,8 +102,8 @@ module _ {T : Type 0} (below : T → T → Bool) (minimum : T) where
     read_answered cause Large (Err r) found accepted refused is alike = refused_alike cause Large (reads.read_refusal_on below b v t) _ r same_read_refusal found refused
 
   -- if a number in a read is too large, so is a bound
-  module _ (o : PartialOrderLaws below) (cmp : T → T → Ordering) (b : BoardState T) (s : Session T) (v : ℕ) (board : IsBoard b) (within : v < length b.dataflow.nodes) (view : IsTrue (is_output (node_of b.dataflow v)))
-      (idle : IsIdle b) (a : StandsAs below minimum b s) where
+  module _ {joined met : T → T → T} {cmp : T → T → Ordering} (o : PartialOrderLaws below) (l : LatticeLaws below joined met) (x : ExtendsLaws below cmp) (total : IsTotalOrder cmp) (b : BoardState T) (s : Session T) (v : ℕ) (board : IsBoard b)
+      (within : v < length b.dataflow.nodes) (view : IsTrue (is_output (node_of b.dataflow v))) (a : StandsAs below minimum b s) where
     -- at a passed time that was not given up, the captured updates sum to the session's query
     captured_query : (t : T) → IsTrue (is_from_start below minimum (since_of b v) || is_beyond below (since_of b v) t) → IsTrue (has_passed below (front below b v) t) → Alike (as_of below t (captured_of b v)) (query_at below b.dataflow.nodes (λ i. fed_to i s.fed) v t)
     captured_query t held h row =
@@ -111,23 +111,20 @@ module _ {T : Type 0} (below : T → T → Bool) (minimum : T) where
         ∙ (headline_lem below minimum o b.dataflow board.dataflow a.history a.stands.legal v t (ap not (sym (front_stands below o minimum b board a.history a.stands v t)) ∙ h) row
         ∙ ap (λ (fs : List (Fed T)). count_of (query_at below b.dataflow.nodes (λ i. fed_to i fs) v t) row) a.fed)
 
-    linear : (n : ℕ) → IsTrue (is_linear (node_of b.dataflow n))
-    linear = linear_within b.dataflow.nodes idle.linear
-
     -- the cause of a read that overflowed
     pub large_read : (t : T) → HasLargeCount (as_of below t (captured_of b v)) → reads.read_refusal_on below b v t ≡ None → HasLargeBound below cmp b.dataflow.nodes (λ i. fed_to i s.fed)
     large_read t (row, large) e =
         let passed = no_first (is_beyond below (front below b v) t) NotPassed ((not (is_beyond below (since_of b v) t), GivenUp) ∷ []) e in
         let kept = no_fault (is_beyond below (since_of b v) t) (no_first (not (is_beyond below (since_of b v) t)) GivenUp [] passed.1).0 in
         let held = or_right (is_from_start below minimum (since_of b v)) (is_beyond below (since_of b v) t) kept in
-        large_count o cmp b.dataflow.nodes board.dataflow.plan linear s v within t (row, λ fits. large (subst (FitsSigned w64) (sym (captured_query t held (ap not passed.0) row)) fits))
+        large_count o l x total b.dataflow.nodes board.dataflow.plan (λ i. fed_to i s.fed) v within t (row, λ fits. large (subst (FitsSigned w64) (sym (captured_query t held (ap not passed.0) row)) fits))
 
     -- the cause of a question for changes that overflowed
     pub large_changes : HasLargeTotal below (filter (λ u. has_passed below (front below b v) u.time) (captured_of b v)) → reads.changes_refusal_on below minimum b v ≡ None
         → HasLargeBound below cmp b.dataflow.nodes (λ i. fed_to i s.fed)
     large_changes large e =
         let kept = no_fault (is_from_start below minimum (since_of b v)) (no_first (not (is_from_start below minimum (since_of b v))) GivenUp [] e).0 in
-        large_listed o cmp b.dataflow.nodes board.dataflow.plan linear s v within (has_passed below (front below b v)) (λ u t l h. is_passed _ (passed_down below o (front below b v) u t l (not_beyond _ h))) (captured_of b v)
+        large_listed o l x total b.dataflow.nodes board.dataflow.plan (λ i. fed_to i s.fed) v within (has_passed below (front below b v)) (λ u t l h. is_passed _ (passed_down below o (front below b v) u t l (not_beyond _ h))) (captured_of b v)
         (λ t h. captured_query t (or_left (is_from_start below minimum (since_of b v)) (is_beyond below (since_of b v) t) kept) h) large
 
   -- answers over all times of a view

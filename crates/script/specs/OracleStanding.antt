@@ -1,10 +1,9 @@
 -- What the oracle engine keeps, and for which session it stands.
 use Rattle.std.specs.Prelude.{◌≡◌, ℕ, Bool, List, ◌∷◌, [], ◌++◌, length, reverse, set, Option, IsTrue}
-use Rattle.std.specs.List.{All}
 use Rattle.lattice.specs.Frontiers.{is_beyond}
 use Rattle.update.specs.declared.change.Update.{Update}
 use Rattle.update.specs.declared.refusal.Refusal.{Refusal}
-use Rattle.plan.specs.Nodes.{is_input, is_linear}
+use Rattle.plan.specs.Nodes.{is_input}
 use Rattle.plan.specs.Edges.{numbers_where}
 use Rattle.plan.specs.Rules.{first_refusal}
 use Rattle.plan.specs.declared.node.Node.{Node}
@@ -24,9 +23,8 @@ pub record Register (T : Type 0) : Type 0 where
   pub inputs : List (List T)
 
 module _ {T : Type 0} where
-  -- the plan is linear, each input has a list, and the rows in it have the input's width
+  -- each input has a list, and the rows in it have the input's width
   pub record IsRegister (r : Register T) : Type 0 where
-    pub linear : All (λ node. IsTrue (is_linear node)) r.plan
     pub lists : length r.changes ≡ length (numbers_where is_input r.plan)
     pub wide : AreWide r.plan r.changes
     pub inputs : length r.inputs ≡ length r.plan

@@ -6,9 +6,11 @@ ghost use Rattle.update.specs.Bags.{Entry, Alike, IsBag};
 ghost use Rattle.update.specs.declared.change.Update.{Update};
 ghost use Rattle.plan.specs.Changes.{AreDifferences};
 ghost use Rattle.plan.specs.Rules.{IsPlan};
-ghost use Rattle.plan.specs.Bounds.{IsBound};
+ghost use Rattle.plan.specs.Bounds.{HasLargeBound, IsBound};
 ghost use Rattle.plan.specs.declared.node.Node.{Node};
 ghost use Rattle.machine.specs.Histories.States.{fed_to};
+ghost use Rattle.oracle.specs.Evaluation.{HasLargeAbove, list_of, sums_at};
+ghost use Rattle.oracle.specs.Listing.{HasLargeDifference};
 ghost use Rattle.script.specs.Bags.{consolidated_bag};
 ghost use Rattle.script.specs.Sessions.{Session, view_frontier, frontier_at, changes_at};
 
@@ -41,6 +43,19 @@ pub fn the_frontier_of_a_view<T: Lattice>()
         → SameElements (frontier_at T.below p s T.cmp view) (view_frontier T.below p s view) }
     ensures ascending { (p : List Node) (s : Session T) (view : ℕ)
         → IsStrictlySortedBy T.cmp (frontier_at T.below p s T.cmp view) }
+{}
+
+/// If the plain query overflows, then some node has a bound of 2 to the 63 or more. The clause `above` is of the cause
+/// that `oracle::evaluate` states, and `differences` of that of `oracle::differences`. `lists` has the changes of each
+/// input, in the order of the inputs' numbers. So who keeps the bounds small never meets these refusals.
+pub fn large_numbers_have_large_bounds<T: Lattice>()
+    ensures above { (p : List Node) → IsPlan p → (lists : List (List (Update T))) (view : ℕ)
+        → view < length p → (t : T) → HasLargeAbove p (sums_at T.below p lists t) view
+        → HasLargeBound T.below T.cmp p (list_of p lists) }
+    ensures differences { (p : List Node) → IsPlan p → (lists : List (List (Update T))) (view : ℕ)
+        → view < length p → (frontier : List T)
+        → HasLargeDifference T.below p lists frontier view
+        → HasLargeBound T.below T.cmp p (list_of p lists) }
 {}
 
 /// Every node of a plan has a bound, for any changes that its inputs were fed. So the bound that other laws

@@ -35,7 +35,7 @@ mod relay;
 mod run;
 
 pub use fault::RunFault;
-pub use laws::{bounds_exist, the_bag_of_entries, the_changes_of_a_view, the_frontier_of_a_view};
+pub use laws::{bounds_exist, large_numbers_have_large_bounds, the_bag_of_entries, the_changes_of_a_view, the_frontier_of_a_view};
 pub use memory::MemoryOut;
 pub use oracle_engine::plain_script;
 pub use outputs::{Out, OutFault, put_all};

@@ -7,13 +7,11 @@
 //! so nothing can be out of date. This engine is slow, but it is easy to see why it is right. It tests commands
 //! with the same function as a board (crate `machine`), so both refuse alike.
 ghost use Rattle.std.specs.Prelude.{◌≡◌, ◌<◌, ◌++◌, ℕ, List, [], ◌∷◌, None, Some, length, map, replicate, set, slice_index_or, IfErr, IfOk, IsTrue, OnErr, OnOk};
-ghost use Rattle.std.specs.List.{All};
 ghost use Rattle.lattice.specs.declared.product.Pair.{Pair};
 ghost use Rattle.lattice.specs.Frontiers.{is_beyond};
 ghost use Rattle.lattice.specs.Pairs.{make_pair};
 ghost use Rattle.update.specs.declared.refusal.Refusal.TheVariants.{OutOfMemory};
 ghost use Rattle.plan.specs.Changes.{open_for};
-ghost use Rattle.plan.specs.Nodes.{is_linear};
 ghost use Rattle.update.specs.Refusals.{IsRefusalBy};
 ghost use Rattle.machine.specs.Boards.Inputs.{front_at};
 ghost use Rattle.grammar.specs.Commands.{is_input_of};
@@ -148,7 +146,6 @@ fn frontiers(
 impl OracleEngine {
     /// An engine to which nothing has happened yet. Refused only with `OutOfMemory`.
     pub(crate) fn open(alloc: Global, plan: &Plan) -> Result<OracleEngine, Refusal>
-        requires linear { All (λ node. IsTrue (is_linear node)) plan.now }
         ensures plan { IfOk result (λ engine. engine.plan ≡ plan.now) }
         ensures stands { IfOk result
             (λ engine. Records (make_pair 0 0) engine (opening_session plan.now)) }

@@ -13,7 +13,7 @@ use Rattle.machine.specs.Boards.Reads.{changes_refusal_on}
 use Rattle.script.specs.Answers.{FindsChanges}
 use Rattle.script.specs.Relays.{IsRelayed}
 use Rattle.script.specs.Standing.{StandsAs}
-use Rattle.lattice.specs.Bitimes.{bitime_cmp, bitime_below}
+use Rattle.lattice.specs.Bitimes.{bitime_below}
 use Rattle.script.specs.Bounds.{IsLarge, EndsByBound}
 use Rattle.script.proofs.ReadLemmas.{changes_found, large_changes, refused_alike, same_changes_refusal}
 use Rattle.script.proofs.board_engine.BoardEngineEngine.changes.Goals as goal
@@ -42,5 +42,5 @@ returns-clause-answered c s =
       | in-Err w ↦ subst (Answered b) (sym w.result-is)
           (λ a. refused_alike _ (IsLarge b.dataflow.nodes s) (changes_refusal_on bitime_below (make_pair 0 0) b v) _ w.in-Err.refusal
           (same_changes_refusal bitime_below (make_pair 0 0) o b s v plan within relayed.0 relayed.1 a)
-          (large_changes bitime_below (make_pair 0 0) o bitime_cmp b s v plan within (and_parts _ _ there).1 relayed.0 a) w.in-Err.ensures.refused)
+          (large_changes bitime_below (make_pair 0 0) o (pair_bounds nat_bounds nat_bounds) (pair_extends nat_extends nat_extends) total b s v plan within (and_parts _ _ there).1 a) w.in-Err.ensures.refused)
     ])

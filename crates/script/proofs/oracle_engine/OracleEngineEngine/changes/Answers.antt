@@ -49,10 +49,11 @@ returns-in_err-changes-clause-answered c s a =
     let there = subst (λ (r : Register (Pair ℕ ℕ)). IsTrue (is_view_of r.plan v)) (sym c.self.view_is) c.requires.view in
     let within : v < length p = ltb-true v (length p) (and_parts _ _ there).0 in
     let o = pair_order nat_order nat_order in
+    let total = then_total (on_total (λ (t : Pair ℕ ℕ). t.first) nat_cmp_total) (on_total (λ (t : Pair ℕ ℕ). t.second) nat_cmp_total) in
     let is = err_from_is_err_and c.from_residual-in_err-changes.result c.from_residual-in_err-changes.ensures.1 in
     rw (is.1, is.2)
     (inr (refusal_weaker
     (λ large. subst (λ (r : Register (Pair ℕ ℕ)). IsLarge r.plan s) c.self.view_is
-    (large_changes o r s own v c.known.ensures.plan within bitime_cmp c.self.invariant.linear (open_for bitime_below p (list_of p c.deref-2.result.now) v)
+    (large_changes o r s own v c.known.ensures.plan within (pair_bounds nat_bounds nat_bounds) (pair_extends nat_extends nat_extends) total (open_for bitime_below p (list_of p c.deref-2.result.now) v)
     (subst (λ (ls : List (Vec (Update (Pair ℕ ℕ)) Global)). HasLargeDifference bitime_below p (map items ls) (open_for bitime_below p (list_of p c.deref-2.result.now) v) v) c.deref.ensures.value large)))
     _ c.in_err-changes.ensures.refused))

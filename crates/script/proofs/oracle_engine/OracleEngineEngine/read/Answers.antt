@@ -1,8 +1,9 @@
 use Rattle.std.proofs.Common.{◌≡◌, ◌<◌, ◌∙◌, ℕ, List, map, length, IsTrue, Vec, Global, ltb-true, inl, ap, sym, subst}
 use Rattle.std.specs.Prelude.{IfOk}
 use Rattle.std.proofs.lemmas.Bool.{and_parts, and_from}
-use Rattle.lattice.specs.Naturals.{nat_order, nat_lowest}
-use Rattle.lattice.specs.Pairs.{make_pair, pair_order}
+use Rattle.std.proofs.lemmas.Cmp.{nat_cmp_total, then_total, on_total}
+use Rattle.lattice.specs.Naturals.{nat_order, nat_bounds, nat_extends, nat_lowest}
+use Rattle.lattice.specs.Pairs.{make_pair, pair_order, pair_bounds, pair_extends}
 use Rattle.lattice.specs.declared.product.Pair.{Pair}
 use Rattle.update.specs.Bags.{Alike}
 use Rattle.update.specs.declared.change.Update.{Update}
@@ -13,7 +14,7 @@ use Rattle.oracle.specs.Evaluation.{HasLargeAbove, list_of, sums_at}
 use Rattle.script.specs.Answers.{FindsRows}
 use Rattle.script.specs.OracleStanding.{Register, Records}
 use Rattle.script.specs.Sessions.{read_refusal}
-use Rattle.lattice.specs.Bitimes.{bitime_cmp, bitime_below}
+use Rattle.lattice.specs.Bitimes.{bitime_below}
 use Rattle.script.specs.Bounds.{IsLarge, EndsByBound}
 use Rattle.script.proofs.OracleEngineLemmas.{same_passed, open_refuses, large_query, rows_answered}
 use Rattle.script.proofs.oracle_engine.OracleEngineEngine.read.Goals as goal
@@ -51,5 +52,5 @@ returns-clause-answered c s a =
     (λ (r : Register (Pair ℕ ℕ)). FindsRows (EndsByBound r.plan s) r.plan s v t c.evaluate.result)
     c.self.view_is
     (rows_answered (pair_order nat_order nat_order) r s own v c.known.ensures.plan within (HasLargeAbove p (sums_at bitime_below p (map items c.deref-2.result.now) t) v) (IsLarge p s)
-    (λ large. large_query (pair_order nat_order nat_order) r s own v c.known.ensures.plan within bitime_cmp c.self.invariant.linear t (subst (λ (ls : List (Vec (Update (Pair ℕ ℕ)) Global)). HasLargeAbove p (sums_at bitime_below p (map items ls) t) v) c.deref-2.ensures.value large)) t c.evaluate.result
+    (λ large. large_query (pair_order nat_order nat_order) r s own v c.known.ensures.plan within (pair_bounds nat_bounds nat_bounds) (pair_extends nat_extends nat_extends) (then_total (on_total (λ (t : Pair ℕ ℕ). t.first) nat_cmp_total) (on_total (λ (t : Pair ℕ ℕ). t.second) nat_cmp_total)) t (subst (λ (ls : List (Vec (Update (Pair ℕ ℕ)) Global)). HasLargeAbove p (sums_at bitime_below p (map items ls) t) v) c.deref-2.ensures.value large)) t c.evaluate.result
     (and_from _ _ (nat_lowest t.first) (nat_lowest t.second)) passed query c.evaluate.ensures.bag c.evaluate.ensures.refused)
