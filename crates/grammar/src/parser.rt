@@ -14,7 +14,7 @@ use crate::text::first_line;
 use std::alloc::Global;
 use update::Refusal;
 
-fn fault(line: u64, error: LineError) -> Fault
+pub(crate) fn fault(line: u64, error: LineError) -> Fault
     ensures { result ≡ record { line = line; code = error_code error } }
 {
     Fault {
