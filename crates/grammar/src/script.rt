@@ -76,7 +76,7 @@ impl Script {
 
     /// The plan, with the nodes in the order of their lines. Takes no memory.
     pub fn plan(&self) -> &Plan
-        ensures { result.now ≡ self.now.plan }
+        ensures plan { result.now ≡ self.now.plan }
     {
         &self.plan
     }
