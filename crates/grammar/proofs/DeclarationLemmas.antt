@@ -1,17 +1,20 @@
 -- What an accepted line that declares a node says, for each kind of such lines.
 use Rattle.std.proofs.Common.{◌≡◌, ℕ, false, ltb, List, [], ◌∷◌, ◌++◌, length, Some, None, Ok, refl, sym, ap, subst, ◌∙◌, codes}
-use Rattle.std.specs.Prelude.{map}
+use Rattle.std.specs.Prelude.{map, decimal}
 use Rattle.row.specs.Text.{item_text}
 use Rattle.update.specs.declared.refusal.Refusal.TheVariants.{UnknownCommand, WrongWordCount}
 use Rattle.plan.specs.declared.node.Node.{Node}
-use Rattle.plan.specs.declared.node.Node.TheVariants.{Input, Map, Filter, Concat, Negate, Output}
+use Rattle.plan.specs.declared.node.Node.TheVariants.{Input, Map, Filter, Concat, Negate, Arrange, Join, Reduce, Output}
+use Rattle.plan.specs.declared.node.Kind.{Kind}
+use Rattle.plan.specs.declared.node.Kind.TheVariants.{Count, Distinct, Min, Max}
+use Rattle.plan.specs.Text.{kind_text}
 use Rattle.grammar.specs.declared.kind.KindWord.{KindWord}
 use Rattle.grammar.specs.declared.kind.KindWord.TheVariants as kind
 use Rattle.grammar.specs.Outcomes.{◌>>=◌, or_refused}
 use Rattle.grammar.specs.ParseStates.{ParseState, source, new_name}
 use Rattle.grammar.specs.Words.{whole}
 use Rattle.grammar.specs.Items.{items, filter_test}
-use Rattle.grammar.specs.Declarations.{with_node, input_line, view_line, map_line, filter_line, concat_line, negate_line, kind_word, kind_line, node_line}
+use Rattle.grammar.specs.Declarations.{with_node, input_line, view_line, map_line, filter_line, concat_line, negate_line, arrange_line, join_line, reduce_line, kind_word, kind_line, node_line}
 use Rattle.grammar.specs.Text.{is_skipped}
 use Rattle.grammar.specs.ScriptModels.{name_at}
 use Rattle.grammar.specs.Spelling.{node_words, test_words, Declares}
@@ -112,25 +115,71 @@ is_negate_line k next name (from ∷ []) early e =
     (node_spelled name (codes "negate") from [] (name_at k.names b.0) [] (source_ok k from b.0 b.1).name_is refl) refl
 is_negate_line k next name (from ∷ more ∷ words) early e = absurd cc
 
+is_arrange_line : (k next : ParseState) (name : List ℕ) (words : List (List ℕ)) → k.started ≡ false → arrange_line k name words ≡ Ok next → Declares k (codes "node" ∷ name ∷ codes "arrange" ∷ words) next
+unfolding arrange_line
+is_arrange_line k next name [] early e = absurd cc
+is_arrange_line k next name (from ∷ []) early e = absurd cc
+is_arrange_line k next name (from ∷ key ∷ []) early e =
+    let a = bind_ok (new_name k name) (λ name. source k from >>= λ from. whole key >>= λ key. with_node k name (Arrange from key)) next e in
+    let b = bind_ok (source k from) (λ from. whole key >>= λ key. with_node k a.0 (Arrange from key)) next a.2 in
+    let c = bind_ok (whole key) (λ key. with_node k a.0 (Arrange b.0 key)) next b.2 in
+    declares k next name a.0 (Arrange b.0 c.0) (codes "node" ∷ name ∷ codes "arrange" ∷ from ∷ key ∷ []) early a.1 c.2
+    (node_spelled name (codes "arrange") from (key ∷ []) (name_at k.names b.0) (decimal c.0 ∷ []) (source_ok k from b.0 b.1).name_is (ap (λ (w : List ℕ). w ∷ []) (whole_ok key c.0 c.1))) refl
+is_arrange_line k next name (from ∷ key ∷ more ∷ words) early e = absurd cc
+
+is_join_line : (k next : ParseState) (name : List ℕ) (words : List (List ℕ)) → k.started ≡ false → join_line k name words ≡ Ok next → Declares k (codes "node" ∷ name ∷ codes "join" ∷ words) next
+unfolding join_line
+is_join_line k next name [] early e = absurd cc
+is_join_line k next name (left ∷ []) early e = absurd cc
+is_join_line k next name (left ∷ right ∷ []) early e =
+    let a = bind_ok (new_name k name) (λ name. source k left >>= λ left. source k right >>= λ right. with_node k name (Join left right)) next e in
+    let b = bind_ok (source k left) (λ left. source k right >>= λ right. with_node k a.0 (Join left right)) next a.2 in
+    let c = bind_ok (source k right) (λ right. with_node k a.0 (Join b.0 right)) next b.2 in
+    declares k next name a.0 (Join b.0 c.0) (codes "node" ∷ name ∷ codes "join" ∷ left ∷ right ∷ []) early a.1 c.2
+    (node_spelled name (codes "join") left (right ∷ []) (name_at k.names b.0) (name_at k.names c.0 ∷ []) (source_ok k left b.0 b.1).name_is (ap (λ (w : List ℕ). w ∷ []) (source_ok k right c.0 c.1).name_is)) refl
+is_join_line k next name (left ∷ right ∷ more ∷ words) early e = absurd cc
+
+is_reduce_line : (reduction : Kind) (k next : ParseState) (name : List ℕ) (words : List (List ℕ)) → k.started ≡ false → reduce_line reduction k name words ≡ Ok next → Declares k (codes "node" ∷ name ∷ kind_text reduction ∷ words) next
+unfolding reduce_line
+is_reduce_line reduction k next name [] early e = absurd cc
+is_reduce_line reduction k next name (from ∷ []) early e =
+    let a = bind_ok (new_name k name) (λ name. source k from >>= λ from. with_node k name (Reduce reduction from)) next e in
+    let b = bind_ok (source k from) (λ from. with_node k a.0 (Reduce reduction from)) next a.2 in
+    declares k next name a.0 (Reduce reduction b.0) (codes "node" ∷ name ∷ kind_text reduction ∷ from ∷ []) early a.1 b.2
+    (node_spelled name (kind_text reduction) from [] (name_at k.names b.0) [] (source_ok k from b.0 b.1).name_is refl) refl
+is_reduce_line reduction k next name (from ∷ more ∷ words) early e = absurd cc
+
 -- the word that spells a kind
 abbrev word_of_kind : KindWord → List ℕ
 word_of_kind kind.Map = codes "map"
 word_of_kind kind.Filter = codes "filter"
 word_of_kind kind.Concat = codes "concat"
 word_of_kind kind.Negate = codes "negate"
+word_of_kind kind.Arrange = codes "arrange"
+word_of_kind kind.Join = codes "join"
+word_of_kind (kind.Reduce reduction) = kind_text reduction
 
 kind_ok : (word : List ℕ) (found : KindWord) → kind_word word ≡ Some found → word ≡ word_of_kind found
 kind_ok word found e =
     one_of word_of_kind word (codes "map") kind.Map found _ e refl (λ e.
     one_of word_of_kind word (codes "filter") kind.Filter found _ e refl (λ e.
     one_of word_of_kind word (codes "concat") kind.Concat found _ e refl (λ e.
-    one_of word_of_kind word (codes "negate") kind.Negate found None e refl (λ e. absurd cc))))
+    one_of word_of_kind word (codes "negate") kind.Negate found _ e refl (λ e.
+    one_of word_of_kind word (codes "arrange") kind.Arrange found _ e refl (λ e.
+    one_of word_of_kind word (codes "join") kind.Join found _ e refl (λ e.
+    one_of word_of_kind word (codes "count") (kind.Reduce Count) found _ e refl (λ e.
+    one_of word_of_kind word (codes "distinct") (kind.Reduce Distinct) found _ e refl (λ e.
+    one_of word_of_kind word (codes "min") (kind.Reduce Min) found _ e refl (λ e.
+    one_of word_of_kind word (codes "max") (kind.Reduce Max) found None e refl (λ e. absurd cc))))))))))
 
 kind_declares : (k next : ParseState) (name : List ℕ) (found : KindWord) (words : List (List ℕ)) → k.started ≡ false → kind_line k name found words ≡ Ok next → Declares k (codes "node" ∷ name ∷ word_of_kind found ∷ words) next
 kind_declares k next name kind.Map words early e = is_map_line k next name words early e
 kind_declares k next name kind.Filter words early e = is_filter_line k next name words early e
 kind_declares k next name kind.Concat words early e = is_concat_line k next name words early e
 kind_declares k next name kind.Negate words early e = is_negate_line k next name words early e
+kind_declares k next name kind.Arrange words early e = is_arrange_line k next name words early e
+kind_declares k next name kind.Join words early e = is_join_line k next name words early e
+kind_declares k next name (kind.Reduce reduction) words early e = is_reduce_line reduction k next name words early e
 
 -- the case of node lines in keyword_says
 pub is_node_line : (k next : ParseState) (words : List (List ℕ)) → k.started ≡ false → node_line k words ≡ Ok next → Declares k (codes "node" ∷ words) next

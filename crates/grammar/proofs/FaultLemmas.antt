@@ -57,7 +57,8 @@ lines_from-parse_lines n k next (line ∷ before) lines e =
           absurd cc
     ]
 
-whole : (b : Bool) (k : ParseState) (n : ℕ) (t : ScriptModel) → cond b (parsed_script (model_of k)) (made n BadOrder) ≡ parsed_script t → (b ≡ true) × (model_of k ≡ t)
+-- the script at the end of lines with a `start`
+pub whole : (b : Bool) (k : ParseState) (n : ℕ) (t : ScriptModel) → cond b (parsed_script (model_of k)) (made n BadOrder) ≡ parsed_script t → (b ≡ true) × (model_of k ≡ t)
 whole true k n t e = (refl, cc)
 whole false k n t e = absurd cc
 

@@ -6,9 +6,8 @@ use Rattle.std.proofs.lemmas.Bool.{and_parts, and_from}
 use Rattle.std.proofs.lemmas.List.{append-nil, map-append}
 use Rattle.std.proofs.lemmas.List.Elements.{All-nil, All-push, All-weaker}
 use Rattle.update.specs.declared.refusal.Refusal.TheVariants.{BadOrder}
-use Rattle.plan.specs.Nodes.{node_at, is_input, is_linear, is_output}
+use Rattle.plan.specs.Nodes.{node_at, is_input, is_output}
 use Rattle.plan.specs.declared.node.Node.{Node}
-use Rattle.plan.specs.declared.node.Node.TheVariants.{Join, Reduce}
 use Rattle.plan.proofs.PlanLemmas.{node_before_more}
 use Rattle.grammar.specs.declared.command.Command.{Command}
 use Rattle.grammar.specs.declared.command.Command.TheVariants as command
@@ -36,27 +35,19 @@ about_more : (p more : List Node) (command : Command) → IsAbout p command → 
 about_more p more (command.Input change) h = within_more is_input p more (changed_input change) h
 about_more p more (command.View question) h = within_more is_output p more (asked_view question) h
 
--- a node whose printed line is not skipped is linear
-kept_is_linear : (names : List (List ℕ)) (name : List ℕ) (node : Node) → is_skipped (node_words names name node) ≡ false → IsTrue (is_linear node)
-kept_is_linear names name (Join left right) e = absurd cc
-kept_is_linear names name (Reduce kind source) e = absurd cc
-kept_is_linear names name node e = refl
-
 -- what holds of the parse state after each line
 pub record IsConsistent (k : ParseState) : Type 0 where
   pub named : length k.names ≡ length k.plan
-  pub linear : All (λ node. IsTrue (is_linear node)) k.plan
   pub about : All (λ line. IsAbout k.plan line.command) k.commands
   pub asked_late : k.started ≡ false → k.commands ≡ []
 
 -- begins the inductions over the lines of a script
 pub nothing_stands : IsConsistent first_parse_state
-nothing_stands = record { named = refl; linear = All-nil (λ (node : Node). IsTrue (is_linear node)); about = All-nil (λ (line : CommandLine). IsAbout [] line.command); asked_late = λ e. refl }
+nothing_stands = record { named = refl; about = All-nil (λ (line : CommandLine). IsAbout [] line.command); asked_late = λ e. refl }
 
 declared_stands : (k next : ParseState) (words : List (List ℕ)) → IsConsistent k → Declares k words next → IsConsistent next
 declared_stands k next words s d = subst IsConsistent (sym d.next_is) (record {
   named = (let a = length-append k.names (d.name ∷ []) in let b = length-append k.plan (d.node ∷ []) in let e = s.named in omega arith);
-  linear = All-push (λ (node : Node). IsTrue (is_linear node)) k.plan d.node s.linear (kept_is_linear k.names d.name d.node (ap is_skipped (sym d.words_are) ∙ d.is_kept));
   about = All-weaker (λ (line : CommandLine). IsAbout k.plan line.command) (λ line. IsAbout (k.plan ++ d.node ∷ []) line.command) (λ line h. about_more k.plan (d.node ∷ []) line.command h) k.commands s.about;
   asked_late = s.asked_late;
 })
@@ -64,7 +55,6 @@ declared_stands k next words s d = subst IsConsistent (sym d.next_is) (record {
 asked_stands : (n : ℕ) (k next : ParseState) (words : List (List ℕ)) → IsConsistent k → Asks n k words next → IsConsistent next
 asked_stands n k next words s a = subst IsConsistent (sym a.next_is) (record {
   named = s.named;
-  linear = s.linear;
   about = All-push (λ (line : CommandLine). IsAbout k.plan line.command) k.commands (record { line = n; command = a.command }) s.about a.is_about;
   asked_late = λ e. (let no : true ≡ false = sym a.is_late ∙ e in absurd cc);
 })
@@ -73,7 +63,7 @@ asked_stands n k next words s a = subst IsConsistent (sym a.next_is) (record {
 pub says_stands : (n : ℕ) (k next : ParseState) (words : List (List ℕ)) → IsConsistent k → Says n k words next → IsConsistent next
 says_stands n k next words s (inl h) = subst IsConsistent (sym h.next_is) s
 says_stands n k next words s (inr (inl h)) = declared_stands k next words s h
-says_stands n k next words s (inr (inr (inl h))) = subst IsConsistent (sym h.next_is) (record { named = s.named; linear = s.linear; about = s.about; asked_late = λ e. absurd (no e) })
+says_stands n k next words s (inr (inr (inl h))) = subst IsConsistent (sym h.next_is) (record { named = s.named; about = s.about; asked_late = λ e. absurd (no e) })
   where
     no : true ≡ false → ⊥
     no e = absurd cc
@@ -161,7 +151,7 @@ at_end n k t s e = by k.started refl e
 
     by : (b : Bool) → k.started ≡ b → cond b (parsed_script (model_of k)) (made n BadOrder) ≡ parsed_script t → Read_from k [] t
     by true started h = record {
-      whole = subst IsWhole (same h) (record { named = s.named; linear = s.linear; about = s.about });
+      whole = subst IsWhole (same h) (record { named = s.named; about = s.about });
       words = append-nil (known_words k) ∙ ap (λ b. plan_words [] k.names k.plan ++ late_words b k.names k.commands) started ∙ ap script_words (same h);
     }
     by false started h = absurd cc

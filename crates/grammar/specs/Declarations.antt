@@ -5,7 +5,9 @@ use Rattle.std.specs.Str.{bytes_eq}
 use Rattle.update.specs.declared.refusal.Refusal.{Refusal}
 use Rattle.update.specs.declared.refusal.Refusal.TheVariants.{UnknownCommand, WrongWordCount}
 use Rattle.plan.specs.declared.node.Node.{Node}
-use Rattle.plan.specs.declared.node.Node.TheVariants.{Input, Map, Filter, Concat, Negate, Output}
+use Rattle.plan.specs.declared.node.Node.TheVariants.{Input, Map, Filter, Concat, Negate, Arrange, Join, Reduce, Output}
+use Rattle.plan.specs.declared.node.Kind.{Kind}
+use Rattle.plan.specs.declared.node.Kind.TheVariants.{Count, Distinct, Min, Max}
 use Rattle.grammar.specs.declared.kind.KindWord.{KindWord}
 use Rattle.grammar.specs.declared.kind.KindWord.TheVariants as kind
 use Rattle.grammar.specs.Outcomes.{◌>>=◌, or_refused}
@@ -69,12 +71,44 @@ negate_line k name (from ∷ []) = do
   with_node k name (Negate from)
 negate_line k name _ = Err WrongWordCount
 
+-- node NAME arrange SRC K
+unfoldable pub arrange_line : ParseState → List ℕ → List (List ℕ) → Result ParseState Refusal
+arrange_line k name (from ∷ key ∷ []) = do
+  name ← new_name k name
+  from ← source k from
+  key ← whole key
+  with_node k name (Arrange from key)
+arrange_line k name _ = Err WrongWordCount
+
+-- node NAME join SRC SRC
+unfoldable pub join_line : ParseState → List ℕ → List (List ℕ) → Result ParseState Refusal
+join_line k name (left ∷ right ∷ []) = do
+  name ← new_name k name
+  left ← source k left
+  right ← source k right
+  with_node k name (Join left right)
+join_line k name _ = Err WrongWordCount
+
+-- node NAME count SRC, and likewise for the other reductions
+unfoldable pub reduce_line : Kind → ParseState → List ℕ → List (List ℕ) → Result ParseState Refusal
+reduce_line reduction k name (from ∷ []) = do
+  name ← new_name k name
+  from ← source k from
+  with_node k name (Reduce reduction from)
+reduce_line reduction k name _ = Err WrongWordCount
+
 -- the kind that the third word of a `node` line names
 abbrev pub kind_word : List ℕ → Option KindWord
 kind_word word = if bytes_eq word (codes "map") then Some kind.Map
     else if bytes_eq word (codes "filter") then Some kind.Filter
     else if bytes_eq word (codes "concat") then Some kind.Concat
-    else if bytes_eq word (codes "negate") then Some kind.Negate else None
+    else if bytes_eq word (codes "negate") then Some kind.Negate
+    else if bytes_eq word (codes "arrange") then Some kind.Arrange
+    else if bytes_eq word (codes "join") then Some kind.Join
+    else if bytes_eq word (codes "count") then Some (kind.Reduce Count)
+    else if bytes_eq word (codes "distinct") then Some (kind.Reduce Distinct)
+    else if bytes_eq word (codes "min") then Some (kind.Reduce Min)
+    else if bytes_eq word (codes "max") then Some (kind.Reduce Max) else None
 
 -- a `node` line of this kind; these words come after the kind
 abbrev pub kind_line : ParseState → List ℕ → KindWord → List (List ℕ) → Result ParseState Refusal
@@ -82,6 +116,9 @@ kind_line k name kind.Map words = map_line k name words
 kind_line k name kind.Filter words = filter_line k name words
 kind_line k name kind.Concat words = concat_line k name words
 kind_line k name kind.Negate words = negate_line k name words
+kind_line k name kind.Arrange words = arrange_line k name words
+kind_line k name kind.Join words = join_line k name words
+kind_line k name (kind.Reduce reduction) words = reduce_line reduction k name words
 
 -- node NAME KIND ..
 unfoldable pub node_line : ParseState → List (List ℕ) → Result ParseState Refusal

@@ -1,7 +1,6 @@
 -- The contents of a script, which remain after its lines were read.
-use Rattle.std.specs.Prelude.{◌≡◌, ℕ, IsTrue, List, [], length, slice_get, unwrap_or}
+use Rattle.std.specs.Prelude.{◌≡◌, ℕ, List, [], length, slice_get, unwrap_or}
 use Rattle.std.specs.List.{All}
-use Rattle.plan.specs.Nodes.{is_linear}
 use Rattle.plan.specs.declared.node.Node.{Node}
 use Rattle.grammar.specs.declared.command.CommandLine.{CommandLine}
 use Rattle.grammar.specs.Commands.{IsAbout}
@@ -16,8 +15,7 @@ pub record ScriptModel : Type 0 where
 abbrev pub name_at : List (List ℕ) → ℕ → List ℕ
 name_at names n = unwrap_or (slice_get names n) []
 
--- each node has a name and is linear, and each command is about a node of the kind that it needs
+-- each node has a name, and each command is about a node of the kind that it needs
 pub record IsWhole (t : ScriptModel) : Type 0 where
   pub named : length t.names ≡ length t.plan
-  pub linear : All (λ node. IsTrue (is_linear node)) t.plan
   pub about : All (λ line. IsAbout t.plan line.command) t.commands

@@ -6,6 +6,7 @@ use Rattle.lattice.specs.declared.product.Pair.{Pair}
 use Rattle.row.specs.Text.{item_text, cmp_text}
 use Rattle.row.specs.declared.test.Test.{Test}
 use Rattle.plan.specs.Rules.{node_refusal}
+use Rattle.plan.specs.Text.{kind_text}
 use Rattle.plan.specs.declared.node.Node.{Node}
 use Rattle.plan.specs.declared.node.Node.TheVariants.{Input, Map, Filter, Concat, Negate, Arrange, Join, Reduce, Output}
 use Rattle.grammar.specs.declared.command.Command.{Command}
@@ -32,8 +33,7 @@ time_words t = decimal t.first ∷ decimal t.second ∷ []
 abbrev pub test_words : Test → List (List ℕ)
 test_words test = item_text test.left ∷ cmp_text test.op ∷ item_text test.right ∷ []
 
--- the words of a node's line, given the names of nodes; no line can declare an arrange node, a join or a
--- reduction yet
+-- the words of a node's line, given the names of nodes
 abbrev pub node_words : List (List ℕ) → List ℕ → Node → List (List ℕ)
 node_words names name (Input width) = codes "input" ∷ name ∷ decimal width ∷ []
 node_words names name (Output source) = codes "view" ∷ name ∷ name_at names source ∷ []
@@ -45,9 +45,12 @@ node_words names name (Concat left right) =
     codes "node" ∷ name ∷ codes "concat" ∷ name_at names left ∷ name_at names right ∷ []
 node_words names name (Negate source) =
     codes "node" ∷ name ∷ codes "negate" ∷ name_at names source ∷ []
-node_words names name (Arrange source key) = []
-node_words names name (Join left right) = []
-node_words names name (Reduce kind source) = []
+node_words names name (Arrange source key) =
+    codes "node" ∷ name ∷ codes "arrange" ∷ name_at names source ∷ decimal key ∷ []
+node_words names name (Join left right) =
+    codes "node" ∷ name ∷ codes "join" ∷ name_at names left ∷ name_at names right ∷ []
+node_words names name (Reduce kind source) =
+    codes "node" ∷ name ∷ kind_text kind ∷ name_at names source ∷ []
 
 -- the words of the line of a command that changes an input
 abbrev pub input_command_words : List (List ℕ) → InputCommand → List (List ℕ)

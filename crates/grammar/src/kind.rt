@@ -1,6 +1,8 @@
-//! The kinds of nodes that a `node` line can declare. Kinds that need arranged rows are not among them yet.
+//! The kinds of nodes that a `node` line can declare.
 ghost use Rattle.std.specs.Prelude.{◌≡◌};
 ghost use Rattle.grammar.specs.Declarations.{kind_word};
+
+use plan::Kind;
 
 /// The third word of a `node` line.
 #[derive(Clone, Copy)]
@@ -9,6 +11,9 @@ pub(crate) enum KindWord {
     Filter,
     Concat,
     Negate,
+    Arrange,
+    Join,
+    Reduce(Kind),
 }
 
 impl KindWord {
@@ -24,6 +29,18 @@ impl KindWord {
             Some(KindWord::Concat)
         } else if word == "negate" {
             Some(KindWord::Negate)
+        } else if word == "arrange" {
+            Some(KindWord::Arrange)
+        } else if word == "join" {
+            Some(KindWord::Join)
+        } else if word == "count" {
+            Some(KindWord::Reduce(Kind::Count))
+        } else if word == "distinct" {
+            Some(KindWord::Reduce(Kind::Distinct))
+        } else if word == "min" {
+            Some(KindWord::Reduce(Kind::Min))
+        } else if word == "max" {
+            Some(KindWord::Reduce(Kind::Max))
         } else {
             None
         }

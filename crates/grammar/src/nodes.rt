@@ -2,7 +2,7 @@
 //! the kind is tested first, then the number of words, and then the words from left to right.
 ghost use Rattle.std.specs.Prelude.{map};
 ghost use Rattle.grammar.specs.ParseStates.{parse_state};
-ghost use Rattle.grammar.specs.Declarations.{map_line, filter_line, concat_line, negate_line, kind_line, node_line};
+ghost use Rattle.grammar.specs.Declarations.{map_line, filter_line, concat_line, negate_line, arrange_line, join_line, reduce_line, kind_line, node_line};
 ghost use Rattle.grammar.specs.Outcomes.{Gives};
 
 use crate::declarations::wrong_count;
@@ -10,7 +10,8 @@ use crate::draft::Draft;
 use crate::fault::LineError;
 use crate::items::{items, test};
 use crate::kind::KindWord;
-use plan::{Items, Node};
+use crate::words::whole;
+use plan::{Items, Kind, Node};
 use std::alloc::Global;
 use update::Refusal;
 
@@ -95,6 +96,65 @@ fn negate_line(
     }
 }
 
+#[tactic(auto, unfolding(crate::specs::Declarations::arrange_line))]
+fn arrange_line(
+    alloc: Global,
+    draft: &mut Draft,
+    name: &str,
+    words: &[&str],
+) -> Result<(), LineError>
+    ensures { Gives (λ _. parse_state draft.new) result
+        (arrange_line (parse_state draft.old) name.now (map (λ w. w.now) words.now)) }
+{
+    match words {
+        [source, key] => {
+            let name = draft.new_name(alloc, name)?;
+            let source = draft.source(source)?;
+            let key = whole(key)? as usize;
+            draft.add(alloc, name, Node::Arrange { source, key })
+        }
+        _ => Err(wrong_count()),
+    }
+}
+
+#[tactic(auto, unfolding(crate::specs::Declarations::join_line))]
+fn join_line(alloc: Global, draft: &mut Draft, name: &str, words: &[&str]) -> Result<(), LineError>
+    ensures { Gives (λ _. parse_state draft.new) result
+        (join_line (parse_state draft.old) name.now (map (λ w. w.now) words.now)) }
+{
+    match words {
+        [left, right] => {
+            let name = draft.new_name(alloc, name)?;
+            let left = draft.source(left)?;
+            let right = draft.source(right)?;
+            draft.add(alloc, name, Node::Join { left, right })
+        }
+        _ => Err(wrong_count()),
+    }
+}
+
+// The line of a reduction: `count`, `distinct`, `min` or `max`.
+#[tactic(auto, unfolding(crate::specs::Declarations::reduce_line))]
+fn reduce_line(
+    alloc: Global,
+    kind: Kind,
+    draft: &mut Draft,
+    name: &str,
+    words: &[&str],
+) -> Result<(), LineError>
+    ensures { Gives (λ _. parse_state draft.new) result
+        (reduce_line kind (parse_state draft.old) name.now (map (λ w. w.now) words.now)) }
+{
+    match words {
+        [source] => {
+            let name = draft.new_name(alloc, name)?;
+            let source = draft.source(source)?;
+            draft.add(alloc, name, Node::Reduce { kind, source })
+        }
+        _ => Err(wrong_count()),
+    }
+}
+
 // Handles the words after the kind.
 fn kind_line(
     alloc: Global,
@@ -111,6 +171,9 @@ fn kind_line(
         KindWord::Filter => filter_line(alloc, draft, name, words),
         KindWord::Concat => concat_line(alloc, draft, name, words),
         KindWord::Negate => negate_line(alloc, draft, name, words),
+        KindWord::Arrange => arrange_line(alloc, draft, name, words),
+        KindWord::Join => join_line(alloc, draft, name, words),
+        KindWord::Reduce(kind) => reduce_line(alloc, kind, draft, name, words),
     }
 }
 

@@ -14,7 +14,7 @@ use crate::text::first_line;
 use std::alloc::Global;
 use update::Refusal;
 
-fn fault(line: u64, error: LineError) -> Fault
+pub(crate) fn fault(line: u64, error: LineError) -> Fault
     ensures { result ≡ record { line = line; code = error_code error } }
 {
     Fault {
@@ -49,8 +49,8 @@ fn take_lines(alloc: Global, draft: &mut Draft, bytes: &[u8]) -> Result<(), Faul
 
 /// Parses a command file: returns its script, or its first faulty line with the code of the refusal.
 ///
-/// The codes are those of [`Refusal::code`]: 13 to 17, 20 and 31 to 37, and 1 if memory ran out while the line
-/// was being read.
+/// The codes are those of [`Refusal::code`]: 13 to 21 and 31 to 37, and 1 if memory ran out while the line was
+/// being read.
 ///
 /// Cost: linear in the bytes up to the fault.
 pub fn parse(alloc: Global, bytes: &[u8]) -> Result<Script, Fault>

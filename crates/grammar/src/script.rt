@@ -1,9 +1,8 @@
 //! A script that was read: a plan, a name for each of its nodes, and the commands in the order of their lines.
 //! The invariant saves a reader of the commands from testing them: each command names an input of the plan, or
 //! a view if it asks about one.
-ghost use Rattle.std.specs.Prelude.{◌≡◌, ◌<◌, IsTrue, length};
+ghost use Rattle.std.specs.Prelude.{◌≡◌, ◌<◌, length};
 ghost use Rattle.std.specs.List.{All};
-ghost use Rattle.plan.specs.Nodes.{is_linear};
 ghost use Rattle.grammar.specs.Commands.{IsAbout};
 ghost use Rattle.grammar.specs.ParseStates.{parse_state};
 ghost use Rattle.grammar.specs.Scripts.{model_of};
@@ -75,11 +74,9 @@ impl Script {
         self.commands.len() as u64
     }
 
-    /// The plan, with the nodes in the order of their lines. None of them is a join or a reduction yet. Takes
-    /// no memory.
+    /// The plan, with the nodes in the order of their lines. Takes no memory.
     pub fn plan(&self) -> &Plan
         ensures plan { result.now ≡ self.now.plan }
-        ensures linear { All (λ node. IsTrue (is_linear node)) self.now.plan }
     {
         &self.plan
     }

@@ -17,3 +17,4 @@ pub mod BoundLemmas
 pub mod EveryBoundLemmas
 pub mod LargeLemmas
 pub mod OracleEngineLemmas
+pub mod WorkerLemmas

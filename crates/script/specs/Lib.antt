@@ -13,3 +13,4 @@ pub mod Answers
 pub mod Standing
 pub mod OracleStanding
 pub mod Relays
+pub mod Workers

@@ -33,10 +33,15 @@ mod outputs;
 mod printer;
 mod relay;
 mod run;
+mod workers;
 
 pub use fault::RunFault;
-pub use laws::{bounds_exist, large_numbers_have_large_bounds, the_bag_of_entries, the_changes_of_a_view, the_frontier_of_a_view};
+pub use laws::{
+    bounds_exist, large_numbers_have_large_bounds, the_bag_of_entries, the_changes_of_a_view,
+    the_frontier_of_a_view,
+};
 pub use memory::MemoryOut;
 pub use oracle_engine::plain_script;
 pub use outputs::{Out, OutFault, put_all};
 pub use run::run_script;
+pub use workers::first_not_linear;

@@ -1,11 +1,12 @@
 //! The loop over the lines of a script, and a run by one worker.
-ghost use Rattle.std.specs.Prelude.{◌≡◌, ◌≢◌, ◌⊎◌, ◌↔◌, ◌++◌, ℕ, List, [], IfErr, OnOk, IsErrOf};
+ghost use Rattle.std.specs.Prelude.{◌≡◌, ◌≢◌, ◌⊎◌, ◌↔◌, ◌++◌, ℕ, List, [], false, IfErr, OnOk, IsErrOf};
 ghost use Rattle.script.specs.Ends.{IsTextBefore, IsTextBeforeOverflow};
 ghost use Rattle.update.specs.declared.refusal.Refusal.TheVariants.{Overflow};
 ghost use Rattle.script.specs.Engines.{IsEnd, IsRunEnd, failures};
 ghost use Rattle.script.specs.Outs.{IsBeginning, Wrote, Broke};
 ghost use Rattle.script.specs.Text.{BitemporalSession, HoldsAlong, lines_text, text};
 ghost use Rattle.script.specs.Bounds.{IsLargeScript};
+ghost use Rattle.script.specs.Workers.{is_linear_plan};
 ghost use Rattle.script.specs.declared.fault.RunFault.TheVariants.{Refused};
 
 use crate::board_engine::BoardEngine;
@@ -14,6 +15,7 @@ use crate::fault::RunFault;
 use crate::line::run_line;
 use crate::output_buffer::OutputBuffer;
 use crate::outputs::Out;
+use crate::workers::first_not_linear;
 use grammar::Script;
 use std::alloc::Global;
 use update::Refusal;
@@ -90,6 +92,7 @@ pub(crate) fn run<E: CatchUp, W: Out>(
 /// | Fault | When |
 /// |---|---|
 /// | `Refused(23)` | the number of workers is not 1; no other number is supported yet |
+/// | `Refused(31)` | the plan has a join or a reduction, which workers do not take yet; [`first_not_linear`] finds it |
 /// | `Refused(1)` | an allocation was refused |
 /// | `Refused(10)` | the count of a row does not fit in 64 bits |
 /// | `Write` | the output failed; after any other fault, no call of the output has failed |
@@ -114,12 +117,18 @@ pub fn run_script<W: Out>(
     ensures overflow { IfErr result (λ fault. fault ≡ Refused 10
         → (part : List ℕ) × IsTextBeforeOverflow script.now part × W.took out.old part 0 out.new) }
     ensures workers { IsErrOf result (Refused 23) ↔ (workers ≢ 1) }
+    ensures kinds { IsErrOf result (Refused 31) ↔ ((workers ≡ 1)
+        × (is_linear_plan script.now.plan ≡ false)) }
     ensures known { IfErr result (λ fault. IsRunEnd (IsLargeScript script.now) fault
-        ⊎ (fault ≡ Refused 23)) }
+        ⊎ ((fault ≡ Refused 23) ⊎ (fault ≡ Refused 31))) }
 {
     if workers != 1 {
         return Err(RunFault::from(Refusal::BadWorkers));
     }
-    let mut engine = BoardEngine::open(alloc, script.plan())?;
+    let plan = script.plan();
+    if first_not_linear(plan).is_some() {
+        return Err(RunFault::from(Refusal::UnknownCommand));
+    }
+    let mut engine = BoardEngine::open(alloc, plan)?;
     run(alloc, &mut engine, script, out)
 }
