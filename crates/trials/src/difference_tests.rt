@@ -1,7 +1,8 @@
 //! Differences of small views, worked out by hand from the view's rows at each time. No clause says that a list
 //! is returned at all. These tests show that it is, and that two changes at incomparable times get their
 //! correction at the join of their times. The last test is at the limit of 64 bits.
-use crate::sketches::{arrange, at, built, input, join, list, reduction, view};
+use crate::sketches::{Change, arrange, at, built, input, join, list, reduction, view};
+use antichain::Antichain;
 use lattice::Bitime;
 use oracle::{are_wide, differences, evaluate};
 use plan::{Kind, NodeId, Plan};
@@ -10,21 +11,19 @@ use std::process::Abort;
 use std::test::Fail;
 use update::{Bag, Refusal, Update};
 
-// A change: its time, its row and its diff.
-type Change = ((u64, u64), &'static [i64], i64);
-
-// The differences of the plan's last node, once all inputs are closed.
+// The differences of the plan's last node, as of the inputs' frontiers. An input without one is closed.
 pub(crate) fn listed(
     rt: &impl Abort,
     alloc: Global,
     plan: &Plan,
     changes: &[Vec<Update<Bitime>>],
+    frontiers: &[Antichain<Bitime>],
 ) -> Result<Vec<Update<Bitime>>, Refusal> {
     assert!(rt; !plan.is_empty());
     let last = plan.len() - 1;
     assert!(rt; last < plan.len());
     assert!(rt; are_wide(plan, changes));
-    differences(alloc, plan, NodeId::new(last), changes, &[])
+    differences(alloc, plan, NodeId::new(last), changes, frontiers)
 }
 
 fn assert_listed(
@@ -34,7 +33,7 @@ fn assert_listed(
     changes: &[Vec<Update<Bitime>>],
     want: &[Change],
 ) -> Result<(), Refusal> {
-    let listed = listed(rt, alloc, plan, changes)?;
+    let listed = listed(rt, alloc, plan, changes, &[])?;
     assert!(rt; listed.as_slice() == list(alloc, want)?.as_slice());
     Ok(())
 }

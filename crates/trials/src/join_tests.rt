@@ -12,7 +12,9 @@ ghost use Rattle.join.specs.Pairs.{is_wide};
 
 use crate::batch_tests::sealed;
 use crate::difference_tests::listed;
-use crate::sketches::{at, join_of_two, list};
+use crate::draws::Draws;
+use crate::sketches::{Change, at, join_of_two, list};
+use crate::trace_tests::insert;
 use antichain::{Antichain, is_beyond};
 use batch::{Batch, BatchReader};
 use join::JoinState;
@@ -125,8 +127,6 @@ fn take_right<T: Lattice, L: Trace<Time = T>, R: Trace<Time = T>>(
     state.take_right(alloc, batch, left)
 }
 
-type Change = ((u64, u64), &'static [i64], i64);
-
 type Lists = JoinState<Bitime, BatchList<Bitime>, BatchList<Bitime>>;
 
 // A batch of these changes, between two frontiers of one time each.
@@ -137,14 +137,6 @@ fn batch_of(
     changes: &[Change],
 ) -> Result<Batch<Bitime>, Refusal> {
     sealed(alloc, lower, upper, &list(alloc, changes)?)
-}
-
-// Inserts the batch, and drops it if it is refused.
-fn insert(trace: &mut BatchList<Bitime>, batch: Batch<Bitime>) -> Result<(), Refusal> {
-    match trace.insert(batch) {
-        Ok(()) => Ok(()),
-        Err(unplaced) => Err(unplaced.refusal),
-    }
 }
 
 // A batch list of one batch with these changes, which ends at (8, 8).
@@ -454,34 +446,12 @@ fn taking_a_right_batch_takes_memory(rt: HostRuntime) -> Result<(), Fail> {
     Ok(())
 }
 
-// Numbers that look drawn, the same ones in each run.
-#[derive(Drop)]
-struct Draws {
-    state: u64,
-}
-
-impl Draws {
-    // The next number below `n`.
-    fn below(&mut self, n: u64) -> u64
-        requires { 0 < n }
-        ensures { result < n }
-    {
-        self.state = self
-            .state
-            .wrapping_mul(6_364_136_223_846_793_005)
-            .wrapping_add(1_442_695_040_888_963_407);
-        (self.state >> 33) % n
-    }
-}
-
 // Up to four changes of the interval from (i, 0) to (i + 1, 0).
 fn drawn(alloc: Global, draws: &mut Draws, i: u64) -> Result<Vec<Update<Bitime>>, Refusal> {
     let mut changes = Vec::new(alloc);
     for _ in 0..draws.below(5) {
         let time = at((i, draws.below(6)));
-        let row = Row::new(alloc, &[draws.below(4) as i64, draws.below(3) as i64])?;
-        let diff = if draws.below(3) == 0 { -1 } else { 1 };
-        changes.push(Update { time, row, diff })?;
+        changes.push(draws.change(alloc, time)?)?;
     }
     Ok(changes)
 }
@@ -566,7 +536,7 @@ fn assert_round(rt: &impl Abort, alloc: Global, draws: &mut Draws) -> Result<(),
         ..
     } = drawn_round(alloc, draws)?;
     let plan = join_of_two(alloc)?;
-    let want = listed(rt, alloc, &plan, &[left.changes, right.changes])?;
+    let want = listed(rt, alloc, &plan, &[left.changes, right.changes], &[])?;
     assert!(rt; consolidate(pairs)?.as_slice() == want.as_slice());
     Ok(())
 }
@@ -574,7 +544,7 @@ fn assert_round(rt: &impl Abort, alloc: Global, draws: &mut Draws) -> Result<(),
 // A thousand batches in a hundred rounds. The plain query knows no batches, no boundaries and no order of coming.
 #[test]
 fn drawn_batches_give_the_plain_query(rt: HostRuntime) -> Result<(), Fail> {
-    let mut draws = Draws { state: 20 };
+    let mut draws = Draws::new(20);
     for _ in 0..100 {
         assert_round(&rt, rt.alloc(), &mut draws)?;
     }

@@ -21,6 +21,8 @@ mod batch_tests;
 #[cfg(test)]
 mod difference_tests;
 #[cfg(test)]
+mod draws;
+#[cfg(test)]
 mod grammar_tests;
 #[cfg(test)]
 mod join_tests;
@@ -34,6 +36,10 @@ mod machine_tests;
 mod oracle_tests;
 #[cfg(test)]
 mod plan_tests;
+#[cfg(test)]
+mod reduce_refusals;
+#[cfg(test)]
+mod reduce_rounds;
 #[cfg(test)]
 mod reduce_tests;
 #[cfg(test)]

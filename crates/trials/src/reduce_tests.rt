@@ -8,7 +8,8 @@ ghost use Rattle.std.specs.Bool.{OnTrue};
 ghost use Rattle.reduce.specs.Standing.{are_wide};
 
 use crate::batch_tests::sealed;
-use crate::sketches::{at, list};
+use crate::sketches::{Change, at, list};
+use crate::trace_tests::insert;
 use antichain::all_beyond;
 use batch::{Batch, BatchReader};
 use lattice::Bitime;
@@ -22,7 +23,7 @@ use trace::{BatchList, Trace};
 use update::{Refusal, Update};
 
 // A reduction by the first column, of some kind.
-type Reduced = ReduceState<Bitime, Kind>;
+pub(crate) type Reduced = ReduceState<Bitime, Kind>;
 
 // Whether row `i` of a batch has the columns of the key.
 fn is_wide<B: BatchReader>(key: usize, batch: &B, i: usize) -> bool
@@ -46,7 +47,11 @@ fn all_wide<B: BatchReader>(key: usize, batch: &B) -> bool
 }
 
 // Takes a batch. `Stray` if some row of it has no key.
-fn take(state: &mut Reduced, alloc: Global, batch: &Batch<Bitime>) -> Result<(), Refusal> {
+pub(crate) fn take(
+    state: &mut Reduced,
+    alloc: Global,
+    batch: &Batch<Bitime>,
+) -> Result<(), Refusal> {
     if !all_wide(state.key(), batch) {
         return Err(Refusal::Stray);
     }
@@ -67,26 +72,15 @@ fn ready(
     state.ready(alloc, frontier, trace)
 }
 
-// A change: its time, its row and its diff.
-type Change = ((u64, u64), &'static [i64], i64);
-
-// Inserts the batch, and drops it if it is refused.
-fn insert(trace: &mut BatchList<Bitime>, batch: Batch<Bitime>) -> Result<(), Refusal> {
-    match trace.insert(batch) {
-        Ok(()) => Ok(()),
-        Err(unplaced) => Err(unplaced.refusal),
-    }
-}
-
 // A reduction, and the trace of what it has taken.
 #[derive(Drop)]
-struct Reduction {
-    state: Reduced,
-    trace: BatchList<Bitime>,
+pub(crate) struct Reduction {
+    pub(crate) state: Reduced,
+    pub(crate) trace: BatchList<Bitime>,
 }
 
 impl Reduction {
-    fn new(alloc: Global, kind: Kind) -> Result<Reduction, Refusal> {
+    pub(crate) fn new(alloc: Global, kind: Kind) -> Result<Reduction, Refusal> {
         Ok(Reduction {
             trace: BatchList::new(alloc, 0, 0)?,
             state: ReduceState::new(alloc, 1, kind),
@@ -94,7 +88,7 @@ impl Reduction {
     }
 
     // Takes a batch of these updates, between two frontiers of one time each.
-    fn take(
+    pub(crate) fn take(
         &mut self,
         alloc: Global,
         lower: (u64, u64),
@@ -106,7 +100,7 @@ impl Reduction {
         insert(&mut self.trace, batch)
     }
 
-    fn ready(
+    pub(crate) fn ready(
         &mut self,
         alloc: Global,
         frontier: &[Bitime],
@@ -116,14 +110,14 @@ impl Reduction {
 }
 
 // A reduction that has taken one batch of these changes, from (0, 0) to (16, 16).
-fn taken(alloc: Global, kind: Kind, changes: &[Change]) -> Result<Reduction, Refusal> {
+pub(crate) fn taken(alloc: Global, kind: Kind, changes: &[Change]) -> Result<Reduction, Refusal> {
     let mut reduction = Reduction::new(alloc, kind)?;
     reduction.take(alloc, (0, 0), (16, 16), &list(alloc, changes)?)?;
     Ok(reduction)
 }
 
 // Checks what is ready as of this frontier.
-fn assert_ready(
+pub(crate) fn assert_ready(
     rt: &impl Abort,
     alloc: Global,
     reduction: &mut Reduction,

@@ -105,6 +105,9 @@ pub(crate) fn join_of_two(alloc: Global) -> Result<Plan, Refusal> {
     )
 }
 
+/// A change: its time, its row and its diff.
+pub(crate) type Change = ((u64, u64), &'static [i64], i64);
+
 /// A list of updates, each from its time, row and diff.
 pub(crate) fn list(
     alloc: Global,

@@ -9,7 +9,7 @@ use trace::{BatchList, Trace};
 use update::Refusal;
 
 // Inserts the batch, and drops it if it is refused.
-fn insert(batches: &mut BatchList<Bitime>, batch: Batch<Bitime>) -> Result<(), Refusal> {
+pub(crate) fn insert(batches: &mut BatchList<Bitime>, batch: Batch<Bitime>) -> Result<(), Refusal> {
     match batches.insert(batch) {
         Ok(()) => Ok(()),
         Err(unplaced) => Err(unplaced.refusal),
