@@ -3,6 +3,7 @@
 ghost use Rattle.std.specs.Prelude.{◌≡◌, ◌≤◌, ◌<◌, true, false, take, length, slice_index_or, IsTrue};
 ghost use Rattle.std.specs.List.{AllWithin};
 ghost use Rattle.update.specs.Bags.{Entry};
+ghost use Rattle.plan.specs.Reductions.{has_key};
 ghost use Rattle.oracle.specs.Keys.{is_before_key, have_keys, IsKeyRange};
 
 use crate::entries::row_at;
@@ -21,6 +22,18 @@ pub(crate) fn key_at(bag: &Bag, i: usize, k: usize) -> &[i64]
     let row = row_at(bag, i);
     row.known();
     row.key(k)
+}
+
+/// Whether the two entries have the same key.
+pub(crate) fn have_one_key(bag: &Bag, i: usize, j: usize, k: usize) -> bool
+    requires one { i < length bag.now }
+    requires other { j < length bag.now }
+    requires keys { IsTrue (have_keys k bag.now) }
+    ensures { (d : Entry)
+        → result ≡ has_key k (take k (slice_index_or bag.now i d).row)
+        (slice_index_or bag.now j d) }
+{
+    key_at(bag, j, k) == key_at(bag, i, k)
 }
 
 // Whether the entry's key is less than `key` (or equal to it, if `equal`).

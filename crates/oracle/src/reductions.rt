@@ -12,7 +12,7 @@ ghost use Rattle.oracle.specs.Keys.{have_keys};
 ghost use Rattle.oracle.specs.Reduced.{key_entry, count_entry, is_least_row, is_greatest_row, HasLargeNumber};
 
 use crate::entries::{count_at, is_positive, put_entry, row_at};
-use crate::keys::key_at;
+use crate::keys::{have_one_key, key_at};
 use plan::Kind;
 use row::Row;
 use std::alloc::Global;
@@ -43,18 +43,6 @@ fn distinct(alloc: Global, bag: &Bag) -> Result<Bag, Refusal>
     put_present(&mut entries, bag)?;
     bag.known();
     entries.into_bag()
-}
-
-// Whether the two entries have the same key.
-fn have_one_key(bag: &Bag, i: usize, j: usize, k: usize) -> bool
-    requires one { i < length bag.now }
-    requires other { j < length bag.now }
-    requires keys { IsTrue (have_keys k bag.now) }
-    ensures { (d : Entry)
-        → result ≡ has_key k (take k (slice_index_or bag.now i d).row)
-        (slice_index_or bag.now j d) }
-{
-    key_at(bag, j, k) == key_at(bag, i, k)
 }
 
 // Whether the entry is the first of its key. It is enough to look at the entry before it.

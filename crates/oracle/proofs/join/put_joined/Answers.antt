@@ -1,7 +1,8 @@
-use Rattle.std.proofs.Common.{◌≡◌, ◌<◌, ◌+◌, ◌-◌, ◌∙◌, ◌++◌, List, ℤ, map, take, length, slice_index_or, IsTrue, sym, subst, to_z, of_z, w64, FitsSigned, rules, arith}
+use Rattle.std.proofs.Common.{◌≡◌, ℕ, ◌<◌, ◌+◌, ◌-◌, ◌∙◌, ◌++◌, List, ℤ, map, take, length, slice_index_or, IsTrue, sym, subst, to_z, of_z, w64, FitsSigned, rules, arith}
 use Rattle.std.specs.Prelude.{nat_le}
 use Rattle.std.specs.List.{filter, list_all}
 use Rattle.std.proofs.lemmas.Bool.{leb-true}
+use Rattle.std.proofs.lemmas.List.{append-nil}
 use Rattle.std.proofs.lemmas.Int.{to_z-of_z}
 use Rattle.std.proofs.lemmas.Result.{err_from_is_err_and}
 use Rattle.update.specs.Bags.{Entry}
@@ -9,10 +10,23 @@ use Rattle.plan.specs.Operators.{joined_entry}
 use Rattle.plan.specs.Reductions.{has_key}
 use Rattle.update.specs.Bags.{entry_of}
 use Rattle.update.specs.Refusals.{IsMemoryOrOverflow}
+use Rattle.oracle.specs.Keys.{IsKeyRange}
 use Rattle.oracle.specs.Products.{HasLargePair}
 use Rattle.oracle.proofs.PutLemmas.{no_entry, passes_at, put_flat}
 use Rattle.oracle.proofs.PairLemmas.{large_pair}
 use Rattle.oracle.proofs.join.put_joined.Goals as goal
+
+pub loop-i-init : goal.loop-i-init
+loop-i-init c = record {
+  pairs = sym (append-nil c.args.entries.now);
+  range = λ d none. absurd (omega (arith, none));
+}
+
+-- the range that was found is that of the row that is paired
+pub put_pairs-requires-clause-range : goal.put_pairs-requires-clause-range
+put_pairs-requires-clause-range c =
+    let k = c.args.k in
+    subst (λ (row : List ℤ). IsKeyRange k (take k row) c.args.right.now c.range_of-range.result.0 c.range_of-range.result.1) (sym (c.row_at.ensures no_entry)) (c.range_of-range.ensures no_entry)
 
 pub put_pairs-requires-clause-key : goal.put_pairs-requires-clause-key
 put_pairs-requires-clause-key c =
@@ -54,5 +68,9 @@ loop-i-preserved c =
     let count : to_z w64 (of_z w64 c.count_at.result) ≡ (slice_index_or left i no_entry).count = to_z-of_z w64 c.count_at.result fits ∙ c.count_at.ensures no_entry in
     let mid = c.loop-i.entries in
     let pairs = λ (x : Entry). map (joined_entry k x) (filter (has_key k (take k x.row)) right) in
-    put_flat pairs c.args.entries.now mid c.put_pairs.new.entries left i no_entry inside
-    c.loop-i.invariant (c.in_ok-put_pairs.ensures.pairs ∙ (λ j. mid ++ pairs (entry_of (row j) (count j))))
+    let next : (i + 1) - 1 ≡ i = omega arith in
+    record {
+      pairs = put_flat pairs c.args.entries.now mid c.put_pairs.new.entries left i no_entry inside
+          c.loop-i.invariant.pairs (c.in_ok-put_pairs.ensures.pairs ∙ (λ j. mid ++ pairs (entry_of (row j) (count j))));
+      range = λ d some. subst (λ (n : ℕ). IsKeyRange k (take k (slice_index_or left n d).row) right c.range_of-range.result.0 c.range_of-range.result.1) (sym next) (c.range_of-range.ensures d);
+    }

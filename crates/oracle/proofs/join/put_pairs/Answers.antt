@@ -15,13 +15,13 @@ pub loop-j-init : goal.loop-j-init
 loop-j-init c =
     let old = c.args.entries.now in
     let f = joined_entry c.args.k (entry_of c.args.row.now (to_z w64 (of_z w64 c.args.count))) in
-    sym (ap (λ es. old ++ map f es) c.key_range-from.ensures.before ∙ append-nil old)
+    sym (ap (λ es. old ++ map f es) c.requires.range.before ∙ append-nil old)
 
 pub returns-in_default-clause-refused : goal.returns-in_default-clause-refused
 returns-in_default-clause-refused c =
     let es = c.args.right.now in
     let j = c.loop-j.j in
-    let range = c.key_range-from.ensures in
+    let range = c.requires.range in
     let e = slice_index_or es j no_entry in
     let inside : j < length es = omega arith in
     let fits : FitsSigned w64 c.args.count = search rules in
@@ -35,7 +35,7 @@ returns-in_default-clause-refused c =
 pub rest-requires : goal.rest-requires
 rest-requires c =
     let k = c.args.k in
-    let range = c.key_range-from.ensures in
+    let range = c.requires.range in
     let inside : c.loop-j.j < length c.args.right.now = omega arith in
     leb-true k (length c.row_at.result.now)
     (subst (λ (row : List ℤ). IsTrue (nat_le k (length row))) (sym (c.row_at.ensures no_entry)) (passes_at (λ e. nat_le k (length e.row)) c.args.right.now c.loop-j.j no_entry inside c.requires.keys))
@@ -45,7 +45,7 @@ followed_by-requires c =
     let k = c.args.k in
     let row = c.args.row.now in
     let es = c.args.right.now in
-    let range = c.key_range-from.ensures in
+    let range = c.requires.range in
     let inside : c.loop-j.j < length es = omega arith in
     let e = slice_index_or es c.loop-j.j no_entry in
     let room = leb-true (length row + (length e.row - k)) 8 (passes_at (λ y. nat_le (length row + (length y.row - k)) 8) es c.loop-j.j no_entry inside c.requires.room) in
@@ -58,7 +58,7 @@ loop-j-preserved c =
     let row = c.args.row.now in
     let es = c.args.right.now in
     let j = c.loop-j.j in
-    let range = c.key_range-from.ensures in
+    let range = c.requires.range in
     let inside : j < length es = omega arith in
     let e = slice_index_or es j no_entry in
     let count = to_z w64 (of_z w64 c.args.count) in
@@ -78,13 +78,13 @@ returns-clause-pairs c =
     let row = c.args.row.now in
     let es = c.args.right.now in
     let old = c.args.entries.now in
-    let range = c.key_range-from.ensures in
+    let range = c.requires.range in
     let count = to_z w64 (of_z w64 c.args.count) in
     let fits : FitsSigned w64 c.args.count = search rules in
     let one : count ≡ c.args.count = to_z-of_z w64 c.args.count fits in
     let order = range.order in
     let last = c.loop-j.auto.j-end order in
-    let at_end : c.loop-j.j ≡ c.key_range-from.result.1 = omega (arith, last) in
+    let at_end : c.loop-j.j ≡ c.args.range.1 = omega (arith, last) in
     c.loop-j.invariant
     ∙ (ap (λ n. old ++ map (joined_entry k (entry_of row count)) (filter (has_key k (take k row)) (take n es))) at_end
     ∙ (ap (λ l. old ++ map (joined_entry k (entry_of row count)) l) range.behind
