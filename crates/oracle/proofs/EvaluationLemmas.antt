@@ -1,6 +1,6 @@
 -- The bags of the nodes, one after another: if the earlier bags are right, so is the next one.
 use Rattle.std.proofs.Common.{◌≡◌, ℕ, zero, suc, ◌+◌, ◌<◌, ◌≤◌, Bool, true, false, cond, List, [], ◌∷◌, ◌++◌, ℤ, map, take, length, IsTrue, ⊎_elim, inl, inr, refl, ap, sym, subst, ◌∙◌, length-append, Option, Some, None, Result, w64, FitsSigned, eq-or-lt_of_le, arith}
-use Rattle.std.specs.Prelude.{pos, IfOk, IfErr, ◌+ℤ◌, ◌*ℤ◌, eqb, slice_get}
+use Rattle.std.specs.Prelude.{pos, IfOk, IfErr, ◌+ℤ◌, ◌*ℤ◌, eqb, slice_get, unwrap_or}
 use Rattle.std.specs.List.{filter, list_all}
 use Rattle.std.proofs.lemmas.Bool.{and_parts, and_from, true≢false}
 use Rattle.std.proofs.lemmas.List.{get_or_push}
@@ -10,22 +10,23 @@ use Rattle.update.specs.Updates.{as_of}
 use Rattle.update.specs.declared.change.Update.{Update}
 use Rattle.plan.specs.Ancestors.{reaches, numbers_below}
 use Rattle.plan.specs.Nodes.{node_at, sources, key_width, is_input, is_linear}
+use Rattle.plan.specs.Operators.{operator_output}
 use Rattle.plan.specs.Queries.{query, source_value}
 use Rattle.plan.specs.Reductions.{has_key, sum_of_counts}
 use Rattle.plan.specs.Rules.{IsPlan}
-use Rattle.plan.specs.Widths.{width_of}
+use Rattle.plan.specs.Widths.{width_of, width_from}
 use Rattle.plan.specs.declared.node.Kind.TheVariants.{Count}
 use Rattle.plan.specs.declared.node.Node.{Node}
-use Rattle.plan.specs.declared.node.Node.TheVariants.{Join, Reduce}
+use Rattle.plan.specs.declared.node.Node.TheVariants.{Input, Map, Filter, Concat, Negate, Arrange, Join, Reduce, Output}
 use Rattle.plan.proofs.OperatorLemmas.{given_alike}
 use Rattle.plan.proofs.PlanLemmas.{source_smaller}
 use Rattle.plan.proofs.StandLemmas.{above_itself, above_from_source, above_transitive}
-use Rattle.plan.proofs.StepLemmas.{query_by_sources}
+use Rattle.plan.proofs.StepLemmas.{query_by_sources, width_by_sources}
 use Rattle.plan.proofs.CountLemmas.{weigh, weigh_alike, when_add}
 use Rattle.update.specs.declared.refusal.Refusal.{Refusal}
 use Rattle.oracle.specs.Entries.{all_wide}
 use Rattle.update.specs.Refusals.{IsMemoryOrOverflow}
-use Rattle.oracle.specs.Evaluation.{AreBags, AreWide, HasLargeAbove, HasLargeAt, HasLargeStep, nth_bag, output_at, inputs_before, list_of, ports, sums_at}
+use Rattle.oracle.specs.Evaluation.{AreBags, AreWide, HasLargeAbove, HasLargeAt, HasLargeStep, nth_bag, output_at, inputs_before, list_of, passed_on, ports, sums_at}
 use Rattle.oracle.proofs.CountLemmas.{large_alike, refused_by}
 use Rattle.oracle.proofs.NodeLemmas.{given_wide}
 use Rattle.oracle.proofs.ResultLemmas.{ok_more, ok_both, err_more}
@@ -209,3 +210,50 @@ sum_wide {T} below t w (u ∷ us) h =
 -- the sums of the inputs' lists have the inputs' widths
 pub inputs_wide : {T : Type 0} (below : T → T → Bool) (p : List Node) (lists : List (List (Update T))) (t : T) (n : ℕ) → AreWide p lists → n < length p → is_input (node_at p n) ≡ true → IsTrue (all_wide (width_of p n) (sums_at below p lists t n))
 inputs_wide below p lists t n wide l h = sum_wide below t (width_of p n) (list_of p lists n) (wide n l h)
+
+-- ---- nodes that pass rows on
+
+passed_source : (node : Node) (s : ℕ) → passed_on node ≡ Some s → slice_get (sources node) 0 ≡ Some s
+passed_source (Arrange source key) s e = e
+passed_source (Output source) s e = e
+passed_source (Input width) s e = absurd cc
+passed_source (Map source items) s e = absurd cc
+passed_source (Filter source test) s e = absurd cc
+passed_source (Concat left right) s e = absurd cc
+passed_source (Negate source) s e = absurd cc
+passed_source (Join left right) s e = absurd cc
+passed_source (Reduce kind source) s e = absurd cc
+
+passed_output : (k : ℕ) (node : Node) (s : ℕ) → passed_on node ≡ Some s → (outside : List Entry) (bags : ℕ → List Entry) → operator_output k node (λ port. source_value outside bags (slice_get (sources node) port)) ≡ bags s
+passed_output k (Arrange source key) s e outside bags = ap (source_value outside bags) e
+passed_output k (Output source) s e outside bags = ap (source_value outside bags) e
+passed_output k (Input width) s e outside bags = absurd cc
+passed_output k (Map source items) s e outside bags = absurd cc
+passed_output k (Filter source test) s e outside bags = absurd cc
+passed_output k (Concat left right) s e outside bags = absurd cc
+passed_output k (Negate source) s e outside bags = absurd cc
+passed_output k (Join left right) s e outside bags = absurd cc
+passed_output k (Reduce kind source) s e outside bags = absurd cc
+
+passed_width : (k : ℕ) (node : Node) (s : ℕ) → passed_on node ≡ Some s → (widths : ℕ → ℕ) → width_from k node widths ≡ widths s
+passed_width k (Arrange source key) s e widths = ap (λ o. widths (unwrap_or o 0)) e
+passed_width k (Output source) s e widths = ap (λ o. widths (unwrap_or o 0)) e
+passed_width k (Input width) s e widths = absurd cc
+passed_width k (Map source items) s e widths = absurd cc
+passed_width k (Filter source test) s e widths = absurd cc
+passed_width k (Concat left right) s e widths = absurd cc
+passed_width k (Negate source) s e widths = absurd cc
+passed_width k (Join left right) s e widths = absurd cc
+passed_width k (Reduce kind source) s e widths = absurd cc
+
+module _ (p : List Node) (plan : IsPlan p) (inputs : ℕ → List Entry) (view : ℕ) (bags : List (List Entry)) (are : AreBags p inputs view bags) (s : ℕ) (passes : passed_on (node_at p (length bags)) ≡ Some s) where
+  -- its source is an earlier node
+  pub passed_before : s < length bags
+  passed_before = source_smaller p plan (length bags) 0 s (passed_source (node_at p (length bags)) s passes)
+
+  -- and the bag of its source is its own
+  pub are_shared : AreBags p inputs view (bags ++ nth_bag bags s ∷ [])
+  are_shared =
+      are_more p inputs view bags (nth_bag bags s) are
+      (subst (λ w. IsTrue (all_wide w (nth_bag bags s))) (sym (width_by_sources p plan (length bags) ∙ passed_width (key_width p (node_at p (length bags))) (node_at p (length bags)) s passes (width_of p))) (are.wide s passed_before))
+      (λ above. next_query p plan inputs view bags are above (nth_bag bags s) (λ row. ap (λ es. count_of es row) (sym (passed_output (key_width p (node_at p (length bags))) (node_at p (length bags)) s passes (inputs (length bags)) (nth_bag bags)))))

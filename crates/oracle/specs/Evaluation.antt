@@ -1,6 +1,6 @@
 -- The plain query as the code computes it: what a node reads at its ports, which list belongs to which input,
 -- and which numbers may fail to fit in 64 bits.
-use Rattle.std.specs.Prelude.{◌≡◌, ℕ, Bool, true, List, [], ◌⊎◌, ◌<◌, take, length, eqb, not, ◌||◌, ◌*ℤ◌, FitsSigned, IsTrue, slice_get, slice_index_or, ℤ}
+use Rattle.std.specs.Prelude.{◌≡◌, ℕ, Bool, true, List, [], ◌⊎◌, ◌<◌, take, length, eqb, not, ◌||◌, ◌*ℤ◌, FitsSigned, IsTrue, Option, Some, None, slice_get, slice_index_or, ℤ}
 use Rattle.std.specs.Int.{w64}
 use Rattle.std.specs.List.{filter, list_all}
 use Rattle.update.specs.Bags.{Entry, Alike, HasLargeCount, count_of}
@@ -13,7 +13,7 @@ use Rattle.plan.specs.Queries.{query, source_value}
 use Rattle.plan.specs.Widths.{width_of}
 use Rattle.plan.specs.declared.node.Kind.TheVariants.{Count}
 use Rattle.plan.specs.declared.node.Node.{Node}
-use Rattle.plan.specs.declared.node.Node.TheVariants.{Join, Reduce}
+use Rattle.plan.specs.declared.node.Node.TheVariants.{Arrange, Join, Reduce, Output}
 use Rattle.oracle.specs.Entries.{all_wide}
 use Rattle.oracle.specs.Reduced.{HasLargeNumber}
 
@@ -29,6 +29,12 @@ output_at p n outside bags =
 -- the bag of node n in a list of bags
 abbrev pub nth_bag : List (List Entry) → ℕ → List Entry
 nth_bag bags n = slice_index_or bags n []
+
+-- the source whose rows the node passes on as they are, if it does
+abbrev pub passed_on : Node → Option ℕ
+passed_on (Arrange source key) = Some source
+passed_on (Output source) = Some source
+passed_on other = None
 
 -- two rows have the same key, and the product of their counts does not fit in 64 bits
 abbrev pub HasLargeProductOf : ℕ → List Entry → List Entry → Type 0

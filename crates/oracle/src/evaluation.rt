@@ -1,7 +1,8 @@
 //! The query at one time, computed from scratch. The bags of the nodes are computed in the order of the nodes'
 //! numbers. So each is computed once, after those of its sources. A node from which the view cannot be reached
-//! gets an empty bag: it is not computed, so nothing in it can overflow.
-ghost use Rattle.std.specs.Prelude.{◌≡◌, ◌≤◌, ◌<◌, ◌↔◌, eqb, map, length, IfOk, IfErr, IsTrue};
+//! gets an empty bag: it is not computed, so nothing in it can overflow. A node that passes rows on shares the bag of
+//! its source.
+ghost use Rattle.std.specs.Prelude.{◌≡◌, ◌≤◌, ◌<◌, ◌+◌, ◌↔◌, eqb, map, length, IfOk, IfErr, OnOk, IsTrue};
 ghost use Rattle.std.specs.List.{list_all};
 ghost use Rattle.update.specs.Bags.{Alike, IsBag};
 ghost use Rattle.plan.specs.Ancestors.{feeds, reaches};
@@ -12,7 +13,8 @@ ghost use Rattle.oracle.specs.Entries.{all_wide};
 ghost use Rattle.update.specs.Refusals.{IsMemoryOrOverflow};
 ghost use Rattle.oracle.specs.Evaluation.{AreBags, AreWide, HasLargeAbove, inputs_before, is_wide_at, list_of, sums_at};
 
-use crate::node::of_node;
+use crate::bags::Bags;
+use crate::node::{of_node, passed_on};
 use lattice::Lattice;
 use plan::{NodeId, Plan};
 use std::alloc::Global;
@@ -101,7 +103,7 @@ fn next_bag<T: Lattice>(
     view: NodeId,
     changes: &[Vec<Update<T>>],
     t: T,
-    bags: &[Bag],
+    bags: &Bags,
 ) -> Result<Bag, Refusal>
     requires view { view < length plan.now }
     requires next { length bags.now < length plan.now }
@@ -126,6 +128,37 @@ fn next_bag<T: Lattice>(
     of_node(alloc, plan, id, list_of(plan, changes, id), t, bags)
 }
 
+// Appends the bag of the node that comes after those in `bags`.
+fn put_next<T: Lattice>(
+    alloc: Global,
+    plan: &Plan,
+    view: NodeId,
+    changes: &[Vec<Update<T>>],
+    t: T,
+    bags: &mut Bags,
+) -> Result<(), Refusal>
+    requires view { view < length plan.now }
+    requires next { length bags.old < length plan.now }
+    requires lists { AreWide plan.now (map (λ v. v.items) changes.now) }
+    requires bags { AreBags plan.now
+        (sums_at T.below plan.now (map (λ v. v.items) changes.now) t) view bags.old }
+    ensures bags { OnOk result (AreBags plan.now
+        (sums_at T.below plan.now (map (λ v. v.items) changes.now) t) view bags.new) }
+    ensures count { OnOk result (length bags.new ≡ length bags.old + 1) }
+    ensures refused { IfErr result
+        (IsMemoryOrOverflow (HasLargeAbove plan.now
+        (sums_at T.below plan.now (map (λ v. v.items) changes.now) t) view)) }
+{
+    plan.known();
+    match passed_on(plan.node(NodeId::new(bags.len()))) {
+        Some(source) => bags.share(source.number()),
+        None => {
+            let bag = next_bag(alloc, plan, view, changes, t, bags)?;
+            bags.push(alloc, bag)
+        }
+    }
+}
+
 // The bags of the nodes before the view.
 fn bags_before<T: Lattice>(
     alloc: Global,
@@ -133,21 +166,20 @@ fn bags_before<T: Lattice>(
     view: NodeId,
     changes: &[Vec<Update<T>>],
     t: T,
-) -> Result<Vec<Bag>, Refusal>
+) -> Result<Bags, Refusal>
     requires view { view < length plan.now }
     requires lists { AreWide plan.now (map (λ v. v.items) changes.now) }
     ensures bags { IfOk result
         (λ bags. AreBags plan.now
-        (sums_at T.below plan.now (map (λ v. v.items) changes.now) t) view bags.items) }
-    ensures count { IfOk result (λ bags. length bags.items ≡ view) }
+        (sums_at T.below plan.now (map (λ v. v.items) changes.now) t) view bags) }
+    ensures count { IfOk result (λ bags. length bags ≡ view) }
     ensures refused { IfErr result
         (IsMemoryOrOverflow (HasLargeAbove plan.now
         (sums_at T.below plan.now (map (λ v. v.items) changes.now) t) view)) }
 {
-    let mut bags = Vec::new(alloc);
-    for n in 0..view.number() {
-        let bag = next_bag(alloc, plan, view, changes, t, &bags)?;
-        bags.push(bag)?;
+    let mut bags = Bags::new(alloc);
+    for _node in 0..view.number() {
+        put_next(alloc, plan, view, changes, t, &mut bags)?;
     }
     Ok(bags)
 }
@@ -166,8 +198,8 @@ fn bags_before<T: Lattice>(
 /// The number that is too large is the count of a row, the product of two counts in a join, or the total count
 /// of a key's rows.
 ///
-/// Cost: for each node above the view, one or two sorts of the rows that it reads and writes; one pass over
-/// each input's changes.
+/// Cost: for each node above the view, one or two sorts of the rows that it reads and writes, and nothing for an
+/// arrange node; one pass over each input's changes.
 pub fn evaluate<T: Lattice>(
     alloc: Global,
     plan: &Plan,

@@ -15,6 +15,7 @@
 //! [`Refusal::Overflow`]: update::Refusal::Overflow
 #![tactic(auto)]
 
+mod bags;
 mod difference;
 mod entries;
 mod evaluation;

@@ -6,8 +6,9 @@ ghost use Rattle.update.specs.Updates.{as_of};
 ghost use Rattle.plan.specs.Widths.{width_of};
 ghost use Rattle.oracle.specs.Entries.{all_wide};
 ghost use Rattle.update.specs.Refusals.{IsMemoryOrOverflow};
-ghost use Rattle.oracle.specs.Evaluation.{nth_bag, output_at, HasLargeAt};
+ghost use Rattle.oracle.specs.Evaluation.{nth_bag, output_at, passed_on, HasLargeAt};
 
+use crate::bags::Bags;
 use crate::operators::{joined, mapped, opposite, passing, together};
 use crate::reductions::reduced;
 use lattice::Lattice;
@@ -16,14 +17,25 @@ use std::alloc::Global;
 use update::{Bag, Refusal, Update, sum_at};
 
 // The bag of a node, as the definitions look it up.
-fn bag_at(bags: &[Bag], id: NodeId) -> &Bag
+fn bag_at(bags: &Bags, id: NodeId) -> &Bag
     requires { id < length bags.now }
     ensures { result.now ≡ nth_bag bags.now id }
 {
-    &bags[id.number()]
+    bags.get(id.number())
 }
 
-// A copy of the bag. Arrange and output nodes pass their rows on.
+/// The source whose rows the node passes on as they are. Arrange nodes and views do so.
+pub(crate) fn passed_on(node: &Node) -> Option<NodeId>
+    ensures { result ≡ passed_on node.now }
+{
+    match node {
+        Node::Arrange { source, .. } => Some(*source),
+        Node::Output { source } => Some(*source),
+        _ => None,
+    }
+}
+
+// A copy of the bag, for who asks an arrange node or a view.
 fn copied(bag: &Bag) -> Result<Bag, Refusal>
     ensures same { IfOk result (λ out. Alike out bag.now) }
     ensures bag { IfOk result IsBag }
@@ -44,7 +56,7 @@ pub(crate) fn of_node<T: Lattice>(
     id: NodeId,
     own: &[Update<T>],
     t: T,
-    bags: &[Bag],
+    bags: &Bags,
 ) -> Result<Bag, Refusal>
     requires inside { id < length plan.now }
     requires bags { id ≤ length bags.now }
