@@ -8,6 +8,7 @@ use crate::reduce_tests::{Reduction, take};
 use crate::sketches::{at, reduction};
 use crate::trace_tests::insert;
 use antichain::Antichain;
+use batch::Batch;
 use lattice::{Bitime, PartialOrder};
 use plan::{Kind, Plan};
 use std::alloc::Global;
@@ -137,17 +138,36 @@ fn assert_steps(
     assert_given(rt, alloc, query, &round.given, &[])
 }
 
-// What is given for the changes in two batches, if the later one is taken first.
-fn backwards(alloc: Global, query: &Query) -> Result<Vec<Update<Bitime>>, Refusal> {
-    let early = between(alloc, &query.changes, (0, 0), (2, 1))?;
-    let early = sealed(alloc, (0, 0), (2, 1), &early)?;
-    let late = between(alloc, &query.changes, (2, 1), (16, 16))?;
-    let late = sealed(alloc, (2, 1), (16, 16), &late)?;
-    let mut reduction = Reduction::new(alloc, query.kind)?;
+// A batch of the changes between two frontiers of one time each.
+fn batch_between(
+    alloc: Global,
+    query: &Query,
+    lower: (u64, u64),
+    upper: (u64, u64),
+) -> Result<Batch<Bitime>, Refusal> {
+    let part = between(alloc, &query.changes, lower, upper)?;
+    sealed(alloc, lower, upper, &part)
+}
+
+// Takes two batches, the later one first. The trace gets them in order.
+fn take_backwards(
+    reduction: &mut Reduction,
+    alloc: Global,
+    early: Batch<Bitime>,
+    late: Batch<Bitime>,
+) -> Result<(), Refusal> {
     take(&mut reduction.state, alloc, &late)?;
     take(&mut reduction.state, alloc, &early)?;
     insert(&mut reduction.trace, early)?;
-    insert(&mut reduction.trace, late)?;
+    insert(&mut reduction.trace, late)
+}
+
+// What is given for the changes in two batches, if the later one is taken first.
+fn backwards(alloc: Global, query: &Query) -> Result<Vec<Update<Bitime>>, Refusal> {
+    let early = batch_between(alloc, query, (0, 0), (2, 1))?;
+    let late = batch_between(alloc, query, (2, 1), (16, 16))?;
+    let mut reduction = Reduction::new(alloc, query.kind)?;
+    take_backwards(&mut reduction, alloc, early, late)?;
     reduction.ready(alloc, &[])
 }
 
