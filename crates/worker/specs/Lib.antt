@@ -1,0 +1,7 @@
+-- The definitions of a worker: what it keeps by node, and of which state that is right.
+pub use Rattle.lattice.specs.Frontiers
+pub mod Gathering
+pub mod Arranging
+pub mod Joining
+pub mod Reducing
+pub mod Working

@@ -1,0 +1,37 @@
+//! Worker: what one worker computes with, between the events of the machine.
+//!
+//! A worker takes bundles, computes, and gives. Between these events it keeps something at each node: updates that it
+//! has computed and not given yet, a trace, the times at which a reduction still has to answer. The machine knows
+//! nothing of this. It sees only what was received, given and held, and it allows a give only if the node law and the
+//! load rule hold afterwards.
+//!
+//! The laws connect the two. For each sort of node, an invariant relates what the worker keeps there to a state of the
+//! machine. Each law is about one event: if the invariant holds before the event, then it holds afterwards for what the
+//! worker keeps from then on. If the event is the worker's own give, then the law also says that it is allowed. The
+//! laws are functions with empty bodies. They speak of states and events alone, so they do not know how a worker stores
+//! what it keeps.
+#![tactic(auto)]
+
+mod laws;
+
+pub use laws::arranging::{
+    arranged_elsewhere, arranged_holds_back, arranged_in_any_order, arranged_inserts,
+    arranged_takes, arranging_begins, may_seal, sealed_splits,
+};
+pub use laws::gathering::{
+    consolidated_splits, gathered_elsewhere, gathering_begins, gathering_gives,
+    gathering_holds_back, gathering_takes, linear_piece, waiting_bundles_are_stamped,
+    waits_in_any_order,
+};
+pub use laws::joining::{
+    join_piece, joined_elsewhere, joined_gives, joined_takes_left, joined_takes_right,
+    queued_elsewhere, queued_inserts,
+};
+pub use laws::reducing::{
+    reduced_elsewhere, reduced_gives, reduced_holds_back, reduced_takes, reducing_begins,
+    turning_leaves_it,
+};
+pub use laws::working::{
+    gives_at_one_node, inserts_at_one_node, joins_read_arranged_nodes, quiet_while_it_waits,
+    reader_has_all, takes_at_one_node, workers_are_apart, working_begins,
+};
