@@ -32,7 +32,7 @@ module _ {T : Type 0} where
   queue_both site xs ys = flat_map-append (λ (b : Bundle T). cond (same_place b.place site) (b ∷ []) []) xs ys
 
   -- a take elsewhere leaves what waits at a place
-  queue_without : (site other : Site) → same_place other site ≡ false → (qs : List (Bundle T)) (j : ℕ) → queue site (without other qs j) ≡ queue site qs
+  pub queue_without : (site other : Site) → same_place other site ≡ false → (qs : List (Bundle T)) (j : ℕ) → queue site (without other qs j) ≡ queue site qs
   queue_without site other d [] j = refl
   queue_without site other d (b ∷ qs) zero = step (same_place b.place other) refl (queue_without site other d qs zero)
     where

@@ -39,7 +39,7 @@ module _ {T : Type 0} (below : T → T → Bool) (o : PartialOrderLaws below) (p
   still_was w n k (TakeHeld i m) t h = or_right ((eqb m n && eqb i k) && has_passed below (input_frontier below p w m) t) (was_passed below n k w.observed t) h
   still_was w n k e t h = h
 
-  all_still_were : (w : State T) (n k : ℕ) (e : Event T) (us : List (Update T)) → list_all (λ u. was_passed below n k w.observed u.time) us ≡ true → list_all (λ u. was_passed below n k (next_state below p w e).observed u.time) us ≡ true
+  pub all_still_were : (w : State T) (n k : ℕ) (e : Event T) (us : List (Update T)) → list_all (λ u. was_passed below n k w.observed u.time) us ≡ true → list_all (λ u. was_passed below n k (next_state below p w e).observed u.time) us ≡ true
   all_still_were w n k e us h = all_more (λ u. was_passed below n k w.observed u.time) (λ u. was_passed below n k (next_state below p w e).observed u.time) (λ u. still_was w n k e u.time) us h
 
   -- the law for turning to held times

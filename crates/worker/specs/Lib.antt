@@ -5,3 +5,8 @@ pub mod Arranging
 pub mod Joining
 pub mod Reducing
 pub mod Working
+pub mod Passes
+pub mod Arrangements
+pub mod Reductions
+pub mod Desks
+pub mod Relays

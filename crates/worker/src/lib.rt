@@ -12,7 +12,10 @@
 //! what it keeps.
 #![tactic(auto)]
 
+mod arrangement;
 mod laws;
+mod reducing;
+mod relay;
 
 pub use laws::arranging::{
     arranged_elsewhere, arranged_holds_back, arranged_in_any_order, arranged_inserts,

@@ -1,0 +1,35 @@
+-- One pass of a worker over the nodes, in the order of their numbers: how far it has come. There is one worker.
+use Rattle.std.specs.Prelude.{◌≡◌, ℕ, ◌<◌, Bool, ◌&&◌, eqb, nat_le, nat_lt, length, None, unwrap_or, IsTrue}
+use Rattle.std.specs.List.{list_all}
+use Rattle.lattice.specs.Frontiers.{all_beyond}
+use Rattle.plan.specs.Widths.{width_of}
+use Rattle.linear.specs.Ports.{is_port}
+use Rattle.linear.specs.Widths.{are_wide}
+use Rattle.machine.specs.declared.histories.event.Site.{Site}
+use Rattle.machine.specs.declared.histories.event.Bundle.{Bundle}
+use Rattle.machine.specs.Histories.Dataflows.{Dataflow, node_of, source_of}
+use Rattle.machine.specs.Histories.States.{State, held_at}
+use Rattle.machine.specs.Histories.Outstanding.{input_frontier}
+
+-- the width of the rows that arrive at a place: that of the node read there, or the input's own
+abbrev pub width_at : Dataflow → Site → ℕ
+width_at p site = width_of p.nodes (unwrap_or (source_of p site.node site.port) site.node)
+
+-- the bundle waits for worker 0, at a port of node n or of a later node, and its rows have the width of the node read
+-- there
+abbrev pub is_due : {T : Type 0} → Dataflow → ℕ → Bundle T → Bool
+is_due p n b = (nat_le n b.place.node && nat_lt b.place.node (length p.nodes))
+    && ((is_port (node_of p b.place.node) b.place.port && eqb b.place.worker 0) && are_wide (width_at p b.place) b.updates)
+
+module _ {T : Type 0} (below : T → T → Bool) (p : Dataflow) (w : State T) (n : ℕ) where
+  -- the pass has come to node n: what is in flight is due there or at later nodes, and each time that is held at an
+  -- earlier node could still receive input
+  pub record IsAtNode : Type 0 where
+    pub alone : p.workers ≡ 1
+    pub due : IsTrue (list_all (is_due p n) w.in_flight)
+    pub settled : (m : ℕ) → m < n → IsTrue (all_beyond below (input_frontier below p w m) (held_at m 0 w.held))
+
+  -- and the worker has nothing in hand
+  pub record IsFreeAtNode : Type 0 where
+    pub at : IsAtNode
+    pub hand : w.hand 0 ≡ None
