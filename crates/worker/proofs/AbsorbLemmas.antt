@@ -1,7 +1,7 @@
 -- A bundle that is taken at an arrange node or at a reduction, and held back.
-use Rattle.std.proofs.Common.{◌≡◌, ℕ, zero, suc, ◌+◌, ◌^◌, ◌<◌, ◌≤◌, Bool, true, false, cond, ◌||◌, eqb, List, [], ◌∷◌, ◌++◌, length, Option, Some, None, IsTrue, sym, refl, ap, ◌∙◌, subst, arith, inl, inr}
-use Rattle.std.specs.List.{slice_get, list_all}
-use Rattle.std.specs.Result.{IfErr, OnOk}
+use Rattle.std.proofs.Common.{◌≡◌, ℕ, suc, Bool, true, false, cond, ◌||◌, List, [], ◌∷◌, ◌++◌, Some, None, IsTrue, sym, refl, ap, ◌∙◌, subst}
+use Rattle.std.specs.List.{slice_get}
+use Rattle.std.specs.Result.{OnOk}
 use Rattle.std.specs.Prelude.{Result, Ok, Err}
 use Rattle.std.proofs.lemmas.Bool.{eq-eqb}
 use Rattle.std.proofs.lemmas.List.Folds.{list_all-map}
@@ -10,8 +10,7 @@ use Rattle.lattice.specs.Frontiers.{is_beyond, all_beyond}
 use Rattle.antichain.proofs.Lists.{all_at, all_from}
 use Rattle.update.specs.declared.change.Update.{Update}
 use Rattle.update.specs.declared.refusal.Refusal.{Refusal}
-use Rattle.plan.specs.declared.node.Kind.{Kind}
-use Rattle.plan.specs.declared.node.Node.TheVariants.{Arrange, Reduce}
+use Rattle.plan.specs.declared.node.Node.TheVariants.{Arrange}
 use Rattle.plan.specs.Widths.{width_of}
 use Rattle.linear.specs.Widths.{are_wide}
 use Rattle.spine.specs.Spines.{Stands as SpineStands}
@@ -28,11 +27,11 @@ use Rattle.machine.specs.Boards.{BoardState, Stands, IsGiveOn, after_take}
 use Rattle.machine.specs.Boards.Loads.{queue_of}
 use Rattle.machine.proofs.HistoryLemmas.HeadlineLemmas.{inputs_lem}
 use Rattle.worker.specs.Gathering.{IsHeldFor, IsStamped}
-use Rattle.worker.specs.Passes.{is_due, IsAtNode}
+use Rattle.worker.specs.Passes.{IsAtNode}
 use Rattle.worker.specs.Arrangements.{ArrangementState, rows_have, times_from}
 use Rattle.worker.specs.Desks.{DeskState, IsDesk, with_arrangement}
-use Rattle.worker.specs.Relays.{IsRunning, IsRunFrom, IsContinuedFrom, waits_at}
-use Rattle.worker.proofs.GatheringLemmas.{no_emission, cut_none}
+use Rattle.worker.specs.Relays.{IsRunning, IsRunFrom, waits_at}
+use Rattle.worker.proofs.GatheringLemmas.{no_emission}
 use Rattle.worker.proofs.ArrangingLemmas.{first_passed, taken_beyond}
 use Rattle.worker.proofs.PassLemmas.{IsDue, at_taken, at_given}
 use Rattle.worker.proofs.SendLemmas.{widened}

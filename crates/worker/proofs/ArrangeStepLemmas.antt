@@ -1,5 +1,5 @@
 -- What the events of a worker at an arrange node make of its desk.
-use Rattle.std.proofs.Common.{◌≡◌, ◌≢◌, ℕ, ◌<◌, Bool, true, false, cond, not, eqb, List, [], ◌∷◌, ◌++◌, length, Option, Some, IsTrue, sym, refl, ap, ◌∙◌, subst, arith}
+use Rattle.std.proofs.Common.{◌≡◌, ◌≢◌, ℕ, ◌<◌, Bool, true, cond, not, List, [], ◌∷◌, ◌++◌, length, Some, IsTrue, sym, refl, ap, ◌∙◌, subst}
 use Rattle.std.specs.List.{slice_get}
 use Rattle.std.specs.Cmp.{IsTotalOrder}
 use Rattle.std.specs.declared.cmp.Ordering.{Ordering}
@@ -10,7 +10,6 @@ use Rattle.lattice.specs.Frontiers.{is_beyond, all_beyond}
 use Rattle.antichain.proofs.Lists.{all_at, all_from}
 use Rattle.update.specs.declared.change.Update.{Update}
 use Rattle.batch.specs.Intervals.{passed_updates, open_updates, is_interval_of}
-use Rattle.plan.specs.Changes.{has_passed}
 use Rattle.plan.specs.declared.node.Node.{Node}
 use Rattle.plan.specs.declared.node.Node.TheVariants.{Arrange}
 use Rattle.linear.specs.Ports.{is_port}
@@ -19,14 +18,13 @@ use Rattle.trace.specs.BatchLists.{end_of}
 use Rattle.spine.specs.Spines.{Stands}
 use Rattle.machine.specs.declared.histories.event.Bundle.{Bundle}
 use Rattle.machine.specs.declared.histories.event.Emission.{Emission}
-use Rattle.machine.specs.declared.histories.event.Event.{Event}
 use Rattle.machine.specs.declared.histories.event.Event.TheVariants.{Take, TakeHeld, Give}
 use Rattle.machine.specs.Histories.Dataflows.{Dataflow, IsDataflow, node_of}
-use Rattle.machine.specs.Histories.States.{State, times, held_at}
+use Rattle.machine.specs.Histories.States.{State, times}
 use Rattle.machine.specs.Histories.Outstanding.{input_frontier}
 use Rattle.machine.specs.Histories.Promises.{NeverGoesBack}
-use Rattle.machine.specs.Histories.{with_at, next_state, give_state, IsAllowed, IsTake, IsTakeHeld, IsGive}
-use Rattle.worker.specs.Gathering.{is_of, IsCut, IsStamped, IsInHand, IsSplit, IsHeldFor}
+use Rattle.machine.specs.Histories.{with_at, next_state, give_state, IsTake, IsTakeHeld, IsGive}
+use Rattle.worker.specs.Gathering.{IsCut, IsStamped, IsInHand, IsSplit, IsHeldFor}
 use Rattle.worker.specs.Arranging.{IsArranging, IsSealOf}
 use Rattle.worker.specs.Arrangements.{ArrangementState}
 use Rattle.worker.specs.Desks.{DeskState, IsArrangedAt, IsDeskAt, IsDesk, with_arrangement}
@@ -97,10 +95,10 @@ module _ {T : Type 0} (below : T → T → Bool) (joined : T → T → T) (minim
   abbrev turned : State T
   turned = next_state below p w (TakeHeld k n)
 
-  held_back : IsArrangedAt below joined minimum p w k n (desk.inserted n) a
+  pub held_back : IsArrangedAt below joined minimum p w k n (desk.inserted n) a
   held_back = arranged_here below joined minimum p w k d desk.inserted n source key (node_of p n) arrange a there (desk.at n turn.within)
 
-  waiting_now : IsArranging below p turned n k (minimum ∷ []) (desk.inserted n) a.waiting
+  pub waiting_now : IsArranging below p turned n k (minimum ∷ []) (desk.inserted n) a.waiting
   waiting_now = same_arranging below o p q w n k (minimum ∷ []) (desk.inserted n) a.waiting held_back.arranging (TakeHeld k n) turn refl
 
   hand_now : IsInHand p turned n k

@@ -1,14 +1,13 @@
 -- The first bundle of a place: it fits its node, and the worker may take it.
-use Rattle.std.proofs.Common.{◌≡◌, ℕ, zero, suc, ◌+◌, ◌^◌, nat_lt, ◌<◌, ◌≤◌, Bool, true, false, cond, ◌||◌, eqb, List, [], ◌∷◌, ◌++◌, length, map, Option, Some, None, IsTrue, sym, refl, ap, ◌∙◌, subst, arith, inl, inr}
+use Rattle.std.proofs.Common.{◌≡◌, ℕ, suc, ◌^◌, nat_lt, ◌<◌, ◌≤◌, Bool, true, false, cond, ◌||◌, eqb, List, [], ◌∷◌, ◌++◌, length, Option, Some, None, IsTrue, sym, refl, ap, ◌∙◌, subst, arith, inl}
 use Rattle.std.specs.List.{slice_get, list_all}
 use Rattle.std.specs.Result.{IfErr, OnOk}
 use Rattle.std.specs.Prelude.{Result, Ok, Err}
 use Rattle.std.specs.declared.cmp.Ordering.{Ordering}
 use Rattle.std.proofs.lemmas.Bool.{eq-eqb, eqb-true}
 use Rattle.lattice.specs.Order.{PartialOrderLaws}
-use Rattle.antichain.proofs.Lists.{Among, all_at}
+use Rattle.antichain.proofs.Lists.{all_at}
 use Rattle.update.specs.Updates.{size}
-use Rattle.update.specs.declared.change.Update.{Update}
 use Rattle.update.specs.declared.refusal.Refusal.{Refusal}
 use Rattle.update.specs.declared.refusal.Refusal.TheVariants.{OutOfMemory}
 use Rattle.plan.specs.Nodes.{arranged_by, is_linear, sources}
@@ -18,22 +17,21 @@ use Rattle.linear.proofs.PortLemmas.{input_at}
 use Rattle.linear.proofs.SizeLemmas.{large_applied}
 use Rattle.linear.specs.Applied.{linear_output, Overflows}
 use Rattle.linear.specs.Ports.{is_port}
-use Rattle.linear.specs.Widths.{takes_rows, are_wide}
-use Rattle.plan.specs.Widths.{width_of}
+use Rattle.linear.specs.Widths.{takes_rows}
 use Rattle.machine.specs.declared.histories.event.Site.{Site}
 use Rattle.machine.specs.declared.histories.event.Bundle.{Bundle}
 use Rattle.machine.specs.declared.histories.event.Emission.{Emission}
 use Rattle.machine.specs.declared.histories.event.Event.{Event}
-use Rattle.machine.specs.declared.histories.event.Event.TheVariants.{Take, TakeHeld, Give}
+use Rattle.machine.specs.declared.histories.event.Event.TheVariants.{Take, Give}
 use Rattle.machine.specs.Histories.Dataflows.{Dataflow, IsDataflow, node_of, source_of}
-use Rattle.machine.specs.Histories.States.{State, place, same_place, queue}
+use Rattle.machine.specs.Histories.States.{State, place, queue}
 use Rattle.machine.specs.Histories.Cuts.{cut}
 use Rattle.machine.specs.Histories.NodeLaws.{received_at}
 use Rattle.machine.specs.Histories.Promises.{changes_in}
 use Rattle.machine.specs.Histories.Actors.{IsSameOfClients}
 use Rattle.machine.specs.Histories.{state_after, without, IsTake, IsLegal}
-use Rattle.machine.specs.Boards.{BoardState, Stands, IsGiveOn, after_look, after_take}
-use Rattle.machine.specs.Boards.Loads.{queue_of, lot_of}
+use Rattle.machine.specs.Boards.{BoardState, Stands, IsGiveOn, after_take}
+use Rattle.machine.specs.Boards.Loads.{queue_of}
 use Rattle.machine.proofs.BoardLemmas.PlacingLemmas.{itself}
 use Rattle.machine.proofs.HistoryLemmas.FlowLemmas.{queued}
 use Rattle.worker.specs.Gathering.{IsCut, IsStamped}
@@ -172,7 +170,7 @@ module _ {T : Type 0} (below : T → T → Bool) (joined : T → T → T) (minim
             at = given;
             hand = ap (λ b. cond b None (v.hand 0)) (eq-eqb 0 site.worker (sym worker));
           }) (subst (λ k. IsDesk below joined minimum p (state_after below minimum p (Give emission [] sent ∷ Take 0 bundle ∷ h)) k d) worker
-          (linear_desk below joined minimum o p q w bundle may_take stamped_bundle linear plain due_bundle.port within d own_desk sent is_cut)),
+              (linear_desk below joined minimum o p q w bundle may_take stamped_bundle linear plain due_bundle.port within d own_desk sent is_cut)),
           subst (λ z. IsSameOfClients w (state_after below minimum z (Give emission [] sent ∷ Take 0 bundle ∷ h))) (sym same) (record { fed = refl; open_times = refl; since = λ v. refl }),
         )
 

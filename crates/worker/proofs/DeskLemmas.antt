@@ -1,12 +1,11 @@
 -- What each event of a worker makes of its desk.
-use Rattle.std.proofs.Common.{◌≡◌, ◌≢◌, ℕ, zero, suc, ◌<◌, Bool, true, false, cond, ◌&&◌, eqb, List, [], ◌∷◌, ◌++◌, length, set, Option, Some, None, IsTrue, sym, refl, ap, ◌∙◌, subst, arith}
+use Rattle.std.proofs.Common.{◌≡◌, ◌≢◌, ℕ, zero, suc, ◌<◌, Bool, true, false, ◌&&◌, eqb, List, [], ◌∷◌, length, set, Some, None, IsTrue, sym, refl, ap, ◌∙◌, subst, arith}
 use Rattle.std.specs.List.{slice_get}
 use Rattle.std.proofs.lemmas.Bool.{eqb-true, eqb-false, ne_eqb}
 use Rattle.std.proofs.lemmas.List.{append-nil}
-use Rattle.std.proofs.lemmas.Option.{same_Some}
 use Rattle.lattice.specs.Order.{PartialOrderLaws}
 use Rattle.update.specs.declared.change.Update.{Update}
-use Rattle.plan.specs.Nodes.{arranged_by, is_linear, is_reduction, key_width}
+use Rattle.plan.specs.Nodes.{arranged_by, is_linear, key_width}
 use Rattle.plan.specs.declared.node.Node.{Node}
 use Rattle.plan.specs.declared.node.Node.TheVariants.{Input, Map, Filter, Concat, Negate, Arrange, Join, Reduce, Output}
 use Rattle.linear.specs.Applied.{linear_output}
@@ -15,15 +14,15 @@ use Rattle.trace.specs.Readings.{Insertion}
 use Rattle.machine.specs.declared.histories.event.Bundle.{Bundle}
 use Rattle.machine.specs.declared.histories.event.Emission.{Emission}
 use Rattle.machine.specs.declared.histories.event.Event.{Event}
-use Rattle.machine.specs.declared.histories.event.Event.TheVariants.{Take, TakeHeld, Give}
+use Rattle.machine.specs.declared.histories.event.Event.TheVariants.{Take, Give}
 use Rattle.machine.specs.Histories.Dataflows.{Dataflow, IsDataflow, node_of}
-use Rattle.machine.specs.Histories.States.{State, times, emitted_by, held_at}
+use Rattle.machine.specs.Histories.States.{State, times, emitted_by}
 use Rattle.machine.specs.Histories.NodeLaws.{received_at}
 use Rattle.machine.specs.Histories.{next_state, give_state, IsAllowed, IsTake, IsGive}
 use Rattle.worker.specs.Gathering.{is_of, IsCut, IsStamped, IsInHand, IsSplit, IsHeldFor, IsGathering}
 use Rattle.worker.specs.Arrangements.{ArrangementState}
 use Rattle.worker.specs.Reductions.{ReducingView, IsReduced, pending_of}
-use Rattle.worker.specs.Desks.{DeskState, IsArrangedAt, IsReducedAt, IsDeskAt, IsDesk, with_arrangement, with_reduction}
+use Rattle.worker.specs.Desks.{DeskState, IsArrangedAt, IsDeskAt, IsDesk, with_arrangement, with_reduction}
 use Rattle.worker.proofs.GatheringLemmas.{IsSameAt, same_after, same_gathering, linear_piece_lem, took_gathering, in_hand_now, may_give, gave_gathering}
 use Rattle.worker.proofs.ArrangingLemmas.{same_arranging, all_given}
 use Rattle.worker.proofs.ReducingLemmas.{same_reducing}
@@ -86,20 +85,28 @@ module _ {T : Type 0} (below : T → T → Bool) (joined : T → T → T) (minim
       step (Negate source) g = gathers g
       step (Output source) g = gathers g
       step (Join left right) g = g
-      step (Arrange source key) (a, there, x) = (a, sa ∙ there, subst (λ i. IsArrangedAt below joined minimum p v k m i a) (sym is) (record {
-        width = x.width;
-        start = x.start;
-        stands = x.stands;
-        arranging = same_arranging below o p q w m k (minimum ∷ []) (inserted m) a.waiting x.arranging e allowed other;
-      }))
-      step (Reduce kind source) (r, there, x) = (r, sr ∙ there, record {
-        kind_is = x.kind_is;
-        key = x.key;
-        width = x.width;
-        reduced = subst (λ us. IsReduced below joined r us (emitted_by m k v.emitted)) (sym (s.received 0)) (subst (λ us. IsReduced below joined r (received_at w m k 0) us) (sym s.emitted) x.reduced);
-        upper = x.upper;
-        reducing = same_reducing below o p q w m k x.upper (pending_of r) x.reducing e allowed other;
-      })
+      step (Arrange source key) (a, there, x) = (
+        a,
+        sa ∙ there,
+        subst (λ i. IsArrangedAt below joined minimum p v k m i a) (sym is) (record {
+          width = x.width;
+          start = x.start;
+          stands = x.stands;
+          arranging = same_arranging below o p q w m k (minimum ∷ []) (inserted m) a.waiting x.arranging e allowed other;
+        }),
+      )
+      step (Reduce kind source) (r, there, x) = (
+        r,
+        sr ∙ there,
+        record {
+          kind_is = x.kind_is;
+          key = x.key;
+          width = x.width;
+          reduced = subst (λ us. IsReduced below joined r us (emitted_by m k v.emitted)) (sym (s.received 0)) (subst (λ us. IsReduced below joined r (received_at w m k 0) us) (sym s.emitted) x.reduced);
+          upper = x.upper;
+          reducing = same_reducing below o p q w m k x.upper (pending_of r) x.reducing e allowed other;
+        },
+      )
 
   -- so it is with all nodes but that of the event
   pub others_after : (next : DeskState T) (after : ℕ → List (Insertion T)) (n : ℕ) → ((m : ℕ) → m ≢ n → is_of m k e ≡ false) → IsSameButAt n d next → ((m : ℕ) → m ≢ n → after m ≡ inserted m)

@@ -25,7 +25,8 @@ use Rattle.machine.specs.Histories.NodeLaws.{received_at}
 use Rattle.machine.specs.Histories.{without, next_state, give_state, IsTake, IsAllowed}
 use Rattle.machine.proofs.HistoryLemmas.FlowLemmas.{sum_at, sum_at-append}
 use Rattle.worker.specs.Gathering.{is_of, IsPiece, IsSplit, IsStamped, IsHeldFor}
-use Rattle.worker.specs.Joining.{IsAnswer, IsJoining, IsQueued, on_top}
+use Rattle.worker.specs.Joining.{IsAnswer, IsJoining, IsQueued}
+use Rattle.worker.specs.Arrangements.{on_top}
 use Rattle.worker.proofs.GatheringLemmas.{size_both, same_after, same_gathering, took_gathering, received_is, gave_gathering}
 
 -- Pieces

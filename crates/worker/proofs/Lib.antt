@@ -16,6 +16,11 @@ pub mod ArrangementLemmas
 pub mod FrontLemmas
 pub mod HoldLemmas
 pub mod TurnLemmas
+pub mod JoinSideLemmas
+pub mod JoinAnswerLemmas
 pub mod AnswerWidthLemmas
 pub mod ReductionLemmas
 pub mod AbsorbLemmas
+pub mod KeepLemmas
+pub mod SettleLemmas
+pub mod ReduceRunLemmas

@@ -1,7 +1,7 @@
 -- A pass over the nodes: no event at a node changes what earlier nodes wait for.
-use Rattle.std.proofs.Common.{◌≡◌, ℕ, zero, suc, ◌<◌, ◌≤◌, Bool, true, false, cond, ◌&&◌, ◌||◌, eqb, nat_lt, nat_le, not, List, [], ◌∷◌, ◌++◌, length, Some, None, IsTrue, sym, refl, ap, ◌∙◌, subst, arith, inl, inr, ⊎_elim, ◌⊎◌}
-use Rattle.std.specs.List.{list_all, filter, slice_get}
-use Rattle.std.proofs.lemmas.Bool.{and_parts, and_from, eqb-true, eqb-false, eq-eqb, ne_eqb, false≢true, false_from_ne_true}
+use Rattle.std.proofs.Common.{◌≡◌, ℕ, zero, suc, ◌<◌, ◌≤◌, Bool, true, false, cond, ◌&&◌, eqb, nat_lt, nat_le, not, List, [], ◌∷◌, ◌++◌, length, None, IsTrue, sym, refl, ap, ◌∙◌, subst, arith, inl, inr, ⊎_elim}
+use Rattle.std.specs.List.{list_all, filter}
+use Rattle.std.proofs.lemmas.Bool.{and_parts, and_from, eqb-true, eqb-false, eq-eqb, ne_eqb, false_from_ne_true}
 use Rattle.std.proofs.lemmas.Bool.Decides.{nat_tests}
 use Rattle.std.proofs.lemmas.List.{append-nil}
 use Rattle.std.proofs.lemmas.List.Concat.{flat_map-append}
@@ -9,7 +9,7 @@ use Rattle.std.proofs.lemmas.List.Folds.{list_all-append}
 use Rattle.lattice.specs.Order.{PartialOrderLaws}
 use Rattle.lattice.specs.Frontiers.{is_beyond, all_beyond}
 use Rattle.antichain.specs.Antichains.{least}
-use Rattle.antichain.proofs.Lists.{Among, all_at, all_from, contains_among, among_contains}
+use Rattle.antichain.proofs.Lists.{Among, all_at, all_from, contains_among}
 use Rattle.plan.proofs.StandLemmas.{above_earlier}
 use Rattle.linear.specs.Ports.{is_port}
 use Rattle.linear.specs.Widths.{are_wide}
@@ -18,14 +18,14 @@ use Rattle.machine.specs.declared.histories.event.Bundle.{Bundle}
 use Rattle.machine.specs.declared.histories.event.Emission.{Emission}
 use Rattle.machine.specs.declared.histories.event.HeldTime.{HeldTime}
 use Rattle.machine.specs.declared.histories.event.Event.{Event}
-use Rattle.machine.specs.declared.histories.event.Event.TheVariants.{Take, TakeHeld, Give}
+use Rattle.machine.specs.declared.histories.event.Event.TheVariants.{Take, TakeHeld}
 use Rattle.machine.specs.Histories.Dataflows.{Dataflow, IsDataflow, node_of, upstream}
-use Rattle.machine.specs.Histories.States.{State, place, same_place, queue, held_at}
-use Rattle.machine.specs.Histories.Outstanding.{stamps, held_where, open_where, counted_times, strictly_upstream, input_frontier}
+use Rattle.machine.specs.Histories.States.{State, same_place, held_at}
+use Rattle.machine.specs.Histories.Outstanding.{stamps, held_where, open_where, strictly_upstream, input_frontier}
 use Rattle.machine.specs.Histories.Readings.{IsQuiet}
 use Rattle.machine.specs.Histories.{without, is_held_by, held_entries, next_state, give_state, state_after, IsLegal}
 use Rattle.machine.proofs.HistoryLemmas.FlowLemmas.{among_left}
-use Rattle.machine.proofs.HistoryLemmas.KeptLemmas.{held_marked, held_unmarked, held_kept}
+use Rattle.machine.proofs.HistoryLemmas.KeptLemmas.{held_unmarked, held_kept}
 use Rattle.machine.proofs.HistoryLemmas.PlaceLemmas.{in_place_lem}
 use Rattle.worker.specs.Passes.{width_at, is_due, IsAtNode, IsFreeAtNode}
 

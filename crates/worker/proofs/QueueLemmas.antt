@@ -24,7 +24,8 @@ use Rattle.machine.specs.Histories.Cuts.{bundled, cut_along, cut}
 use Rattle.machine.proofs.HistoryLemmas.FlowLemmas.{place_same}
 use Rattle.machine.proofs.HistoryLemmas.KeptLemmas.{no_totals}
 use Rattle.machine.proofs.HistoryLemmas.CuttingLemmas.{one_below}
-use Rattle.worker.specs.Joining.{IsQueued, on_top, is_at_port}
+use Rattle.worker.specs.Joining.{IsQueued, is_at_port}
+use Rattle.worker.specs.Arrangements.{on_top}
 
 module _ {T : Type 0} where
   -- what waits at a place, of two lists

@@ -1,46 +1,41 @@
 -- What the events of a worker at a reduction make of its desk.
-use Rattle.std.proofs.Common.{◌≡◌, ◌≢◌, ℕ, ◌<◌, Bool, true, false, cond, not, ◌&&◌, eqb, List, [], ◌∷◌, ◌++◌, length, Option, Some, None, IsTrue, sym, refl, ap, ◌∙◌, subst, arith}
-use Rattle.std.specs.Prelude.{ℤ, pos, ◌+ℤ◌}
-use Rattle.std.specs.List.{slice_get, list_all, flat_map}
-use mathlib.Core.Path.{fun_ext}
-use Rattle.std.proofs.Math.IntN.{+ℤ_idr, +ℤ_idl}
+use Rattle.std.proofs.Common.{◌≡◌, ℕ, ◌<◌, Bool, true, false, cond, not, ◌&&◌, eqb, List, [], ◌++◌, length, Some, IsTrue, sym, refl, ap, ◌∙◌, subst}
+use Rattle.std.specs.Prelude.{pos, ◌+ℤ◌}
+use Rattle.std.specs.List.{slice_get, list_all}
+use Rattle.std.proofs.Math.IntN.{+ℤ_idl}
 use Rattle.std.proofs.lemmas.Bool.{eq-eqb, and_from}
-use Rattle.std.proofs.lemmas.List.{append-nil}
 use Rattle.std.proofs.lemmas.Option.{same_Some}
 use Rattle.lattice.specs.Order.{PartialOrderLaws}
 use Rattle.lattice.specs.Frontiers.{is_beyond, all_beyond}
 use Rattle.antichain.proofs.Lists.{all_at, all_from}
-use Rattle.update.specs.Bags.{Entry, Alike, count_of, total_by}
-use Rattle.update.specs.Updates.{as_of, AreApart}
+use Rattle.update.specs.Bags.{Alike, count_of}
+use Rattle.update.specs.Updates.{as_of}
 use Rattle.update.specs.declared.change.Update.{Update}
 use Rattle.plan.specs.Changes.{has_passed}
-use Rattle.plan.specs.Nodes.{arranged_by, key_width, sources}
+use Rattle.plan.specs.Nodes.{key_width}
 use Rattle.plan.specs.declared.node.Kind.{Kind}
 use Rattle.plan.specs.declared.node.Node.{Node}
 use Rattle.plan.specs.declared.node.Node.TheVariants.{Reduce}
 use Rattle.plan.proofs.OperatorLemmas.{given_alike}
-use Rattle.plan.proofs.StandLemmas.{above_itself}
-use Rattle.trace.specs.Readings.{Insertion, all_updates}
+use Rattle.trace.specs.Readings.{Insertion}
 use Rattle.machine.specs.declared.histories.event.Bundle.{Bundle}
 use Rattle.machine.specs.declared.histories.event.Emission.{Emission}
-use Rattle.machine.specs.declared.histories.event.Event.{Event}
 use Rattle.machine.specs.declared.histories.event.Event.TheVariants.{Take, TakeHeld, Give}
-use Rattle.machine.specs.Histories.Dataflows.{Dataflow, IsDataflow, node_of, node_output}
+use Rattle.machine.specs.Histories.Dataflows.{Dataflow, IsDataflow, node_of}
 use Rattle.machine.specs.Histories.States.{State, place, same_place, times, emitted_by, held_at}
 use Rattle.machine.specs.Histories.Outstanding.{input_frontier}
 use Rattle.machine.specs.Histories.NodeLaws.{received_at, was_passed}
-use Rattle.machine.specs.Histories.Promises.{NeverGoesBack}
-use Rattle.machine.specs.Histories.{next_state, give_state, IsAllowed, IsTake, IsTakeHeld, IsGive}
-use Rattle.machine.proofs.HistoryLemmas.FlowLemmas.{as_of-append, is_passed, not_beyond, sum_at, sum_at-append}
+use Rattle.machine.specs.Histories.{next_state, give_state, IsTake, IsTakeHeld, IsGive}
+use Rattle.machine.proofs.HistoryLemmas.FlowLemmas.{is_passed, not_beyond, sum_at, sum_at-append}
 use Rattle.machine.proofs.HistoryLemmas.StampLemmas.{beyond_passed}
-use Rattle.worker.specs.Gathering.{is_of, IsCut, IsStamped, IsInHand, IsHeldFor}
+use Rattle.worker.specs.Gathering.{IsCut, IsStamped, IsInHand, IsHeldFor}
 use Rattle.worker.specs.Reducing.{IsReducing, IsFound}
 use Rattle.worker.specs.Reductions.{ReducingView, IsReduced, IsPendingAfter, IsAnswerAt, pending_of}
 use Rattle.worker.specs.Desks.{DeskState, IsReducedAt, IsDeskAt, IsDesk, with_reduction}
 use Rattle.worker.proofs.GatheringLemmas.{in_hand_now, no_emission, cut_none, held_beyond, still_held, newly_held}
 use Rattle.worker.proofs.ArrangingLemmas.{taken_beyond, stays_passed}
 use Rattle.worker.proofs.ReducingLemmas.{same_reducing, all_still_were, turned_was, may_answer, gave_reducing, found_none}
-use Rattle.worker.proofs.DeskLemmas.{IsRightBut, get_own, same_desk, same_but_reduction, others_after, desk_from, not_of_take, not_of_give}
+use Rattle.worker.proofs.DeskLemmas.{get_own, same_desk, same_but_reduction, others_after, desk_from, not_of_take, not_of_give}
 
 module _ {T : Type 0} (below : T → T → Bool) (joined : T → T → T) (minimum : T) (p : Dataflow) (w : State T) (k : ℕ) (d : DeskState T) (inserted : ℕ → List (Insertion T)) where
   -- what lies on the desk for a reduction is the reduction there

@@ -1,5 +1,5 @@
 -- What is said of the state of a reduction, in the words of what was received.
-use Rattle.std.proofs.Common.{◌≡◌, ◌≤◌, ◌<◌, ◌+◌, ◌^◌, ℕ, zero, suc, Bool, true, false, cond, not, ◌&&◌, ◌||◌, eqb, List, [], ◌∷◌, ◌++◌, map, take, length, slice_get, Option, Some, None, IsSomeAnd, Result, Ok, Err, IfErr, refl, sym, ap, ◌∙◌, subst, inl, inr, ◌⊎◌, ⊎_elim, arith, w64, FitsSigned, take_all}
+use Rattle.std.proofs.Common.{◌≡◌, ◌≤◌, ◌<◌, ◌+◌, ◌^◌, ℕ, zero, suc, Bool, true, false, cond, ◌&&◌, ◌||◌, eqb, List, [], ◌∷◌, ◌++◌, map, take, length, slice_get, Option, Some, None, IsSomeAnd, Result, Ok, Err, IfErr, refl, sym, ap, ◌∙◌, subst, inl, inr, ◌⊎◌, ⊎_elim, arith, w64, FitsSigned, take_all}
 use Rattle.std.specs.Prelude.{IsTrue, nat_le, ◌↔◌, ◌≢◌, unsigned_abs}
 use Rattle.std.proofs.Math.IntN.{ℤ, pos, ◌+ℤ◌, +ℤ_idl}
 use Rattle.std.specs.List.{AllByRecursion, filter, list_all, list_any, Contains}
@@ -154,49 +154,6 @@ module _ {T : Type 0} (below : T → T → Bool) where
 -- ---- the least of some times
 
 module _ {T : Type 0} {below : T → T → Bool} (o : PartialOrderLaws below) where
-  -- times at or after another one are not missed beside it
-  pub left_same : (F : List T) (time t : T) → (is_beyond below (filter (λ f. not (below time f)) F) t || below time t) ≡ (is_beyond below F t || below time t)
-  left_same [] time t = refl
-  left_same (f ∷ F) time t = step (below time f) refl (below f t) refl (below time t) refl (left_same F time t)
-    where
-      same : (d b x y : Bool) → (x || b) ≡ (y || b) → ((d || x) || b) ≡ ((d || y) || b)
-      same true b x y h = refl
-      same false b x y h = h
-
-      gone : (d b x y : Bool) → (d ≡ true → b ≡ true) → (x || b) ≡ (y || b) → (x || b) ≡ ((d || y) || b)
-      gone true b x y i h = rw (i refl) (all x)
-        where
-          all : (x : Bool) → (x || true) ≡ true
-          all true = refl
-          all false = refl
-      gone false b x y i h = h
-
-      step : (c : Bool) → below time f ≡ c → (d : Bool) → below f t ≡ d → (b : Bool) → below time t ≡ b
-          → (is_beyond below (filter (λ f. not (below time f)) F) t || below time t) ≡ (is_beyond below F t || below time t)
-          → (is_beyond below (cond (not c) (f ∷ filter (λ f. not (below time f)) F) (filter (λ f. not (below time f)) F)) t || below time t) ≡ ((below f t || is_beyond below F t) || below time t)
-      step true e d g b i ih = gone (below f t) (below time t) (is_beyond below (filter (λ f. not (below time f)) F) t) (is_beyond below F t) (λ h. o.transitive time f t e h) ih
-      step false e d g b i ih = same (below f t) (below time t) (is_beyond below (filter (λ f. not (below time f)) F) t) (is_beyond below F t) ih
-
-  -- beyond a time that is beyond a list already nothing is new
-  pub already : (F : List T) (time t : T) → is_beyond below F time ≡ true → is_beyond below F t ≡ (is_beyond below F t || below time t)
-  already F time t h = step (below time t) refl
-    where
-      none : (x : Bool) → x ≡ (x || false)
-      none true = refl
-      none false = refl
-
-      step : (b : Bool) → below time t ≡ b → is_beyond below F t ≡ (is_beyond below F t || below time t)
-      step true e = let x = beyond_up o F time t h e in x ∙ sym (ap (λ y. y || below time t) x)
-      step false e = none (is_beyond below F t) ∙ ap (λ y. is_beyond below F t || y) (sym e)
-
-  -- one more time
-  pub with_one : (F : List T) (s t : T) → is_beyond below (F ++ s ∷ []) t ≡ (is_beyond below F t || below s t)
-  with_one F s t = any_append (λ f. below f t) F (s ∷ []) ∙ ap (λ b. is_beyond below F t || b) (alone (below s t))
-    where
-      alone : (b : Bool) → (b || false) ≡ b
-      alone true = refl
-      alone false = refl
-
   -- ---- what is held
 
   under_pending : (hs : List (HistoryState T)) (t : T) (i : ℕ) → under_in below t (slice_get hs i) ≡ true → is_beyond below (pending_in hs) t ≡ true

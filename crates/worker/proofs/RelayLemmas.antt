@@ -1,20 +1,16 @@
 -- The steps of the worker on the caller's thread: the events on the board, and what it then stands for.
-use Rattle.std.proofs.Common.{◌≡◌, ℕ, suc, ◌+◌, ◌^◌, ◌<◌, ◌≤◌, Bool, true, false, cond, eqb, List, [], ◌∷◌, ◌++◌, length, map, get_or, Option, Some, None, IsTrue, sym, refl, ap, ◌∙◌, subst, arith, inl, inr}
-use Rattle.std.specs.List.{list_all, slice_get}
-use Rattle.std.specs.Result.{IfOk, OnOk, OnErr, IfErr}
-use Rattle.std.specs.Prelude.{Result, Ok, Err}
+use Rattle.std.proofs.Common.{◌≡◌, ℕ, ◌^◌, ◌<◌, ◌≤◌, Bool, false, List, [], ◌∷◌, ◌++◌, length, Some, sym, refl, ap, ◌∙◌, subst, arith}
 use Rattle.std.specs.declared.cmp.Ordering.{Ordering}
 use Rattle.std.proofs.lemmas.List.{append_assoc}
 use Rattle.lattice.specs.Order.{PartialOrderLaws}
-use Rattle.update.specs.declared.refusal.Refusal.{Refusal}
 use Rattle.machine.specs.declared.histories.event.Bundle.{Bundle}
 use Rattle.machine.specs.declared.histories.event.Emission.{Emission}
 use Rattle.machine.specs.declared.histories.event.Event.{Event}
-use Rattle.machine.specs.declared.histories.event.Event.TheVariants.{Take, Give, Look}
+use Rattle.machine.specs.declared.histories.event.Event.TheVariants.{Give}
 use Rattle.machine.specs.Histories.States.{State}
 use Rattle.machine.specs.Histories.{state_after}
 use Rattle.machine.specs.Histories.Actors.{IsSameOfClients}
-use Rattle.machine.specs.Boards.{BoardState, Stands, after_look, after_take, after_give}
+use Rattle.machine.specs.Boards.{BoardState, Stands, after_look, after_give}
 use Rattle.machine.proofs.BoardLemmas.BoardLemmas.{stands_looked}
 use Rattle.update.specs.Updates.{size}
 use Rattle.plan.specs.Bounds.{output_bound}
@@ -26,7 +22,7 @@ use Rattle.machine.specs.Histories.Promises.{changes_in}
 use Rattle.machine.specs.Histories.{IsLegal}
 use Rattle.machine.proofs.HistoryLemmas.BoundLemmas.{takes_lem, loads_lem}
 use Rattle.worker.specs.Desks.{DeskState}
-use Rattle.worker.specs.Relays.{HasNoSmallBound, IsContinuedFrom, IsStopped, IsTooLarge, IsRunning, IsRunFrom}
+use Rattle.worker.specs.Relays.{HasNoSmallBound, IsContinuedFrom, IsRunning, IsRunFrom}
 
 module _ {T : Type 0} where
   pub same_refl : (w : State T) → IsSameOfClients w w

@@ -1,9 +1,8 @@
 -- Which rows a node takes and gives, and that what is sent is due at a later node.
-use Rattle.std.proofs.Common.{◌≡◌, ◌≢◌, ℕ, zero, suc, ◌<◌, ◌≤◌, Bool, true, false, cond, ◌&&◌, ◌||◌, eqb, nat_lt, nat_le, not, List, [], ◌∷◌, ◌++◌, length, take, Option, Some, None, IsTrue, sym, refl, ap, ◌∙◌, subst, arith, inl, inr, ⊎_elim, ◌⊎◌}
+use Rattle.std.proofs.Common.{◌≡◌, ◌≢◌, ℕ, suc, ◌<◌, Bool, true, false, cond, ◌||◌, eqb, nat_lt, not, List, [], ◌∷◌, length, take, Option, Some, None, IsTrue, sym, refl, ap, ◌∙◌, subst, arith, inl, inr, ⊎_elim, ◌⊎◌}
 use Rattle.std.specs.List.{list_all, filter}
 use Rattle.std.specs.Prelude.{unwrap_or}
 use Rattle.std.proofs.lemmas.Bool.{and_parts, and_from, eqb-true, eq-eqb, false≢true}
-use Rattle.std.proofs.lemmas.Bool.Decides.{nat_tests}
 use Rattle.std.proofs.lemmas.List.Folds.{list_all-append}
 use Rattle.antichain.proofs.Lists.{Among, all_at, all_from}
 use Rattle.update.specs.declared.change.Update.{Update}
@@ -130,4 +129,3 @@ module _ {T : Type 0} where
       -- everything that is sent is due at a later node
       pub sent_due : list_all (is_due p (suc g.node)) sent ≡ true
       sent_due = all_from (is_due p (suc g.node)) sent (λ b m. due_from p (suc g.node) b (one_sent b m))
-

@@ -1,7 +1,7 @@
 -- How many bundles wait at a node: one less after a take, and no more after a give.
 use Rattle.std.proofs.Common.{◌≡◌, ℕ, zero, suc, ◌+◌, ◌<◌, ◌≤◌, Bool, true, false, cond, ◌&&◌, ◌||◌, eqb, nat_lt, List, [], ◌∷◌, ◌++◌, length, map, Option, Some, None, IsTrue, sym, refl, ap, ◌∙◌, subst, arith}
 use Rattle.std.specs.List.{list_all, slice_get}
-use Rattle.std.proofs.lemmas.Bool.{and_parts, eqb-true, ne_eqb, eq-eqb, and_from}
+use Rattle.std.proofs.lemmas.Bool.{ne_eqb}
 use Rattle.std.proofs.lemmas.List.{append-nil}
 use Rattle.antichain.proofs.Lists.{Among, all_at}
 use Rattle.machine.specs.declared.histories.event.Site.{Site}
@@ -9,7 +9,7 @@ use Rattle.machine.specs.declared.histories.event.Bundle.{Bundle}
 use Rattle.machine.specs.Histories.Dataflows.{Dataflow}
 use Rattle.machine.specs.Histories.States.{place, same_place, queue}
 use Rattle.machine.specs.Histories.{without}
-use Rattle.machine.specs.Boards.Loads.{Lot, loads_at, lot_of, queue_of, bundle_at}
+use Rattle.machine.specs.Boards.Loads.{Lot, lot_of, queue_of, bundle_at}
 use Rattle.worker.specs.Passes.{is_due}
 use Rattle.worker.specs.Relays.{waits_at}
 use Rattle.worker.proofs.PassLemmas.{due_parts}

@@ -5,7 +5,8 @@ use Rattle.lattice.specs.Frontiers.{is_beyond, all_beyond}
 use Rattle.update.specs.declared.change.Update.{Update}
 use Rattle.batch.specs.Intervals.{all_between}
 use Rattle.trace.specs.Readings.{Insertion, reached}
-use Rattle.trace.specs.BatchLists.{end_of}
+use Rattle.batch.specs.Descriptions.{BatchState}
+use Rattle.trace.specs.BatchLists.{end_of, insertion_of}
 use Rattle.trace.specs.Holds.{HoldState}
 use Rattle.spine.specs.Holding.{AreSameHolds}
 use Rattle.spine.specs.Spines.{SpineState, Stands, boundaries, stored}
@@ -82,3 +83,11 @@ module _ {T : Type 0} (below : T → T → Bool) where
   abbrev pub AreInTurn : List T → List (Insertion T) → Type 0
   AreInTurn start [] = ⊤
   AreInTurn start (i ∷ h) = IsInTurn (reached start h) i × AreInTurn start h
+
+-- the arrangement after it kept a batch: one without updates is not inserted
+pub record IsKeptWith {T : Type 0} (below : T → T → Bool) (a b : ArrangementState T) (batch : BatchState T) : Type 0 where
+  pub width : b.width ≡ a.width
+  pub start : b.spine.list.start ≡ a.spine.list.start
+  pub waiting : b.waiting ≡ a.waiting
+  pub none : batch.updates ≡ [] → (h : List (Insertion T)) → Stands below a.spine h → Stands below b.spine h
+  pub some : batch.updates ≢ [] → (h : List (Insertion T)) → Stands below a.spine h → Stands below b.spine (insertion_of batch ∷ h)

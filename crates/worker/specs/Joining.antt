@@ -1,5 +1,5 @@
 -- What a worker has at a join: of both sources' traces as much as it took, and what it has still to take.
-use Rattle.std.specs.Prelude.{◌≡◌, ℕ, ◌*◌, ◌≤◌, Bool, false, ◌&&◌, eqb, List, [], ◌∷◌, map, IsTrue}
+use Rattle.std.specs.Prelude.{◌≡◌, ℕ, ◌*◌, ◌≤◌, Bool, false, ◌&&◌, eqb, List, map, IsTrue}
 use Rattle.lattice.specs.Frontiers.{all_beyond}
 use Rattle.update.specs.Bags.{Alike}
 use Rattle.update.specs.Updates.{as_of, size}
@@ -13,11 +13,7 @@ use Rattle.machine.specs.Histories.Dataflows.{Dataflow, node_of}
 use Rattle.machine.specs.Histories.States.{State, place, same_place, times, queue}
 use Rattle.machine.specs.Histories.NodeLaws.{received_at}
 use Rattle.worker.specs.Gathering.{IsGathering}
-
--- these insertions on top of some, the oldest of these first
-abbrev pub on_top : {T : Type 0} → List (Insertion T) → List (Insertion T) → List (Insertion T)
-on_top [] taken = taken
-on_top (i ∷ later) taken = on_top later (i ∷ taken)
+use Rattle.worker.specs.Arrangements.{on_top}
 
 -- the event is a take from this port, or a give by the same worker at the node that is read there
 abbrev pub is_at_port : {T : Type 0} → ℕ → ℕ → ℕ → ℕ → Event T → Bool

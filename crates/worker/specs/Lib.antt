@@ -7,6 +7,7 @@ pub mod Reducing
 pub mod Working
 pub mod Passes
 pub mod Arrangements
+pub mod Joins
 pub mod Reductions
 pub mod Desks
 pub mod Relays

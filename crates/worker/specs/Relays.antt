@@ -1,5 +1,5 @@
 -- One worker that runs on the caller's thread, with the board at hand: the board and the desk before and after its steps.
-use Rattle.std.specs.Prelude.{ℕ, ◌+◌, ◌^◌, ◌<◌, ◌≤◌, Bool, List, ◌++◌, length}
+use Rattle.std.specs.Prelude.{ℕ, ◌+◌, ◌^◌, ◌<◌, ◌≤◌, Bool, List, ◌++◌, length, IsTrue}
 use Rattle.std.specs.declared.cmp.Ordering.{Ordering}
 use Rattle.update.specs.Refusals.{IsMemoryOrOverflow}
 use Rattle.update.specs.declared.refusal.Refusal.{Refusal}
@@ -7,6 +7,9 @@ use Rattle.update.specs.declared.change.Update.{Update}
 use Rattle.plan.specs.Bounds.{IsBound}
 use Rattle.plan.specs.declared.node.Node.{Node}
 use Rattle.machine.specs.declared.histories.event.Event.{Event}
+use Rattle.lattice.specs.Frontiers.{all_beyond}
+use Rattle.machine.specs.Histories.States.{held_at}
+use Rattle.machine.specs.Histories.Outstanding.{input_frontier}
 use Rattle.machine.specs.Histories.{state_after}
 use Rattle.machine.specs.Histories.Actors.{IsSameOfClients}
 use Rattle.machine.specs.Histories.Promises.{changes_in}
@@ -52,3 +55,10 @@ module _ {T : Type 0} (below : T → T → Bool) (joined : T → T → T) (minim
   abbrev pub IsRunFrom : List (Event T) → BoardState T → BoardState T → DeskState T → ℕ → Type 0
   IsRunFrom h b c d n = (later : List (Event T)) × IsRunning c d n (later ++ h)
       × IsSameOfClients (state_after below minimum b.dataflow h) (state_after below minimum c.dataflow (later ++ h))
+
+  -- and what the worker holds at the node could still receive input
+  abbrev pub IsSettledFrom : List (Event T) → BoardState T → BoardState T → DeskState T → ℕ → Type 0
+  IsSettledFrom h b c d n = (later : List (Event T)) × IsRunning c d n (later ++ h)
+      × IsSameOfClients (state_after below minimum b.dataflow h) (state_after below minimum c.dataflow (later ++ h))
+      × IsTrue (all_beyond below (input_frontier below c.dataflow (state_after below minimum c.dataflow (later ++ h)) n)
+      (held_at n 0 (state_after below minimum c.dataflow (later ++ h)).held))

@@ -20,13 +20,12 @@ ghost use Rattle.trace.specs.BatchLists.{Continues, insertion_of};
 ghost use Rattle.spine.specs.Spines.{Stands};
 ghost use Rattle.worker.specs.Arrangements.{IsArrangement, IsNew, rows_have, times_from, times_of, upper_of};
 
-mod front;
 mod laws;
 mod waiting;
 
+use crate::front::antichain_of;
 use antichain::Antichain;
 use batch::{Batch, BatchReader};
-use front::antichain_of;
 use lattice::{Lattice, Minimum};
 pub use laws::what_is_taken_is_up_to_a_boundary;
 use spine::Spine;

@@ -1,22 +1,30 @@
 //! Worker: what one worker computes with, between the events of the machine.
 //!
-//! A worker takes bundles, computes, and gives. Between these events it keeps something at each node: updates that it
-//! has computed and not given yet, a trace, the times at which a reduction still has to answer. The machine knows
-//! nothing of this. It sees only what was received, given and held, and it allows a give only if the node law and the
-//! load rule hold afterwards.
+//! A worker takes bundles, computes, and gives. Between these events it keeps something at each node: at an arrange node
+//! an [`Arrangement`], the spine with what waits for it; at a reduction a [`Reducing`], the times at which it still has
+//! to answer; at a join a [`Joining`], up to which boundary each side was taken. The machine knows nothing of this. It
+//! sees only what was received, given and held, and it allows a give only if the node law and the load rule hold
+//! afterwards.
 //!
 //! The laws connect the two. For each sort of node, an invariant relates what the worker keeps there to a state of the
 //! machine. Each law is about one event: if the invariant holds before the event, then it holds afterwards for what the
 //! worker keeps from then on. If the event is the worker's own give, then the law also says that it is allowed. The
 //! laws are functions with empty bodies. They speak of states and events alone, so they do not know how a worker stores
 //! what it keeps.
+//!
+//! The relay is one worker with a board at hand. It has the steps at linear nodes, at arrange nodes and at reductions.
+//! Nothing calls it yet: the steps at joins and the pass over all nodes are still to come.
 #![tactic(auto)]
 
 mod arrangement;
+mod front;
+mod joining;
 mod laws;
 mod reducing;
 mod relay;
 
+pub use arrangement::{Arrangement, what_is_taken_is_up_to_a_boundary};
+pub use joining::Joining;
 pub use laws::arranging::{
     arranged_elsewhere, arranged_holds_back, arranged_in_any_order, arranged_inserts,
     arranged_takes, arranging_begins, may_seal, sealed_splits,
@@ -38,3 +46,4 @@ pub use laws::working::{
     gives_at_one_node, inserts_at_one_node, joins_read_arranged_nodes, quiet_while_it_waits,
     reader_has_all, takes_at_one_node, workers_are_apart, working_begins,
 };
+pub use reducing::Reducing;

@@ -7,8 +7,8 @@
 //!
 //! The invariant: no pending time comes before the least time. So wherever a time is due, a trace whose since is the
 //! least time can be read.
-ghost use Rattle.std.specs.Prelude.{◌≡◌, ◌≢◌, ◌≤◌, ◌^◌, ◌++◌, ◌∷◌, ◌||◌, [], List, Bool, ℤ, pos, not, IfErr, IfOk, OnErr, OnOk, IsTrue};
-ghost use Rattle.std.specs.List.{AllByRecursion, filter, list_all};
+ghost use Rattle.std.specs.Prelude.{◌≡◌, ◌≢◌, ◌≤◌, ◌^◌, ◌++◌, ◌∷◌, [], List, Bool, ℤ, pos, IfErr, IfOk, OnErr, OnOk, IsTrue};
+ghost use Rattle.std.specs.List.{AllByRecursion, list_all};
 ghost use Rattle.lattice.specs.Frontiers.{is_beyond, all_beyond};
 ghost use Rattle.update.specs.Refusals.{IsMemoryOrOverflow};
 ghost use Rattle.update.specs.Updates.{size, total_where, AreApart};
@@ -20,9 +20,10 @@ ghost use Rattle.spine.specs.Spines.{Stands};
 ghost use Rattle.worker.specs.Reducing.{IsPendingWith};
 ghost use Rattle.worker.specs.Reductions.{HasRoom, StandIn, SumsToReceived, IsAnswerAt, IsPendingAfter, IsOverfullWith, IsReduced, pending_of, have_width, output_width};
 
-use antichain::{Antichain, is_beyond};
+use crate::front::put_in_all;
+use antichain::Antichain;
 use batch::{Batch, Builder};
-use lattice::{Lattice, Minimum};
+use lattice::Minimum;
 use plan::Kind;
 use reduce::ReduceState;
 use spine::Spine;
@@ -68,40 +69,6 @@ fn sealed<T: Minimum>(
     Builder::of(0, 0, updates).seal(start, &end)
 }
 
-// Removes the times at or after another one.
-fn remove_after<T: Lattice>(least: &mut Vec<T>, time: T)
-    ensures left { least.new.items
-        ≡ filter (λ other. not (T.below time other)) least.old.items }
-{
-    least.retain(|other| !time.less_equal(other));
-}
-
-// Inserts a time into the least ones.
-fn insert<T: Lattice>(least: &mut Vec<T>, time: T) -> Result<(), Refusal>
-    ensures beyond { OnOk result ((t : T) → is_beyond T.below least.new.items t
-        ≡ (is_beyond T.below least.old.items t || T.below time t)) }
-    ensures only { IfErr result (λ refused. refused ≡ Refusal.OutOfMemory) }
-{
-    if is_beyond(least.as_slice(), &time) {
-        return Ok(());
-    }
-    remove_after(least, time);
-    least.push(time)?;
-    Ok(())
-}
-
-// Inserts all of these times.
-fn insert_all<T: Lattice>(least: &mut Vec<T>, times: &[T]) -> Result<(), Refusal>
-    ensures beyond { OnOk result ((t : T) → is_beyond T.below least.new.items t
-        ≡ (is_beyond T.below least.old.items t || is_beyond T.below times.now t)) }
-    ensures only { IfErr result (λ refused. refused ≡ Refusal.OutOfMemory) }
-{
-    for time in times {
-        insert(least, *time)?;
-    }
-    Ok(())
-}
-
 impl<T: Minimum> Reducing<T> {
     /// A reduction of rows of `width` columns by their first `key` columns, which has received nothing. Takes no memory.
     pub fn new(alloc: Global, key: usize, kind: Kind, width: usize) -> Reducing<T>
@@ -139,7 +106,7 @@ impl<T: Minimum> Reducing<T> {
     {
         let mut held = Vec::new(alloc);
         for place in self.state.waiting() {
-            insert_all(&mut held, self.state.history(*place).due())?;
+            put_in_all(&mut held, self.state.history(*place).due())?;
         }
         Ok(held)
     }

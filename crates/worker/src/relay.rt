@@ -4,6 +4,8 @@
 //! sent to a node that was already visited, and one pass leaves nothing in flight.
 ghost use Rattle.std.specs.Prelude.{◌≡◌};
 
-mod giving;
-mod plain;
 mod arranged;
+mod giving;
+mod keeping;
+mod plain;
+mod reduced;

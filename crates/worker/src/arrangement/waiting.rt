@@ -11,7 +11,7 @@ ghost use Rattle.batch.specs.Batches.{IsSealed};
 ghost use Rattle.batch.specs.Intervals.{all_between, is_interval_of, passed_updates, open_updates};
 ghost use Rattle.worker.specs.Arrangements.{times_of};
 
-use crate::arrangement::front::{antichain_of, front_of_open, front_with};
+use crate::front::{antichain_of, front_of_open, front_with};
 use antichain::{Antichain, is_beyond};
 use batch::{Batch, Builder};
 use lattice::{Lattice, Minimum};

@@ -18,7 +18,7 @@ loop-place-preserved g c =
     let wait = ap (λ v. v.state.waiting) c.self.view_is in
     let lt = rw (c.waiting-place-items.ensures.value, wait) at c.loop-place-test.true in
     let there = rw (c.waiting-place-items.ensures.value, wait, hist) at c.history.ensures.value in
-    held_more g.T.PartialOrder.below c.args.self.now.state.histories c.args.self.now.state.waiting c.loop-place.place-index lt c.history.result.now c.due.result.now c.loop-place.held.items c.insert_all.new.least.items there c.due.ensures c.loop-place.invariant c.in_ok-insert_all.ensures.beyond
+    held_more g.T.PartialOrder.below c.args.self.now.state.histories c.args.self.now.state.waiting c.loop-place.place-index lt c.history.result.now c.due.result.now c.loop-place.held.items c.put_in_all.new.front.items there c.due.ensures c.loop-place.invariant c.in_ok-put_in_all.ensures.beyond
 
 pub returns-clause-covers : goal.returns-clause-covers
 returns-clause-covers g c =

@@ -1,6 +1,5 @@
-use Rattle.std.proofs.Common.{◌≡◌, ◌++◌, ap, sym, subst, ◌∙◌, IsTrue, inl}
+use Rattle.std.proofs.Common.{◌++◌, ap, sym, subst, ◌∙◌, IsTrue, inl}
 use Rattle.std.proofs.lemmas.Result.{err_from_is_err_and}
-use Rattle.machine.specs.Boards.{BoardState}
 use Rattle.worker.specs.Arrangements.{rows_have, times_from}
 use Rattle.worker.specs.Relays.{IsStopped}
 use Rattle.worker.proofs.RelayLemmas.{goes_looked}

@@ -2,7 +2,7 @@ use Rattle.std.proofs.Common.{sym, ap, subst, ◌∙◌}
 use Rattle.machine.specs.Boards.{IsGiveOn}
 use Rattle.machine.specs.Histories.Cuts.{cut}
 use Rattle.worker.specs.Gathering.{IsCut}
-use Rattle.worker.proofs.RelayLemmas.{goes_refl, goes_looked, gave_on}
+use Rattle.worker.proofs.RelayLemmas.{goes_looked, gave_on}
 use Rattle.worker.proofs.relay.giving.give_on.Goals as goal
 
 pub returns-in-Ok-clause-stands : goal.returns-in-Ok-clause-stands

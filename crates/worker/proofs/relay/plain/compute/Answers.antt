@@ -7,7 +7,7 @@ use Rattle.machine.specs.Boards.{BoardState}
 use Rattle.machine.specs.declared.histories.event.Site.{Site}
 use Rattle.worker.specs.Relays.{IsStopped}
 use Rattle.worker.proofs.RelayLemmas.{goes_looked}
-use Rattle.worker.proofs.BundleLemmas.{if_err_at, if_err_back, asked_fits, asked_continued, asked_large}
+use Rattle.worker.proofs.BundleLemmas.{if_err_at, asked_fits, asked_continued, asked_large}
 use Rattle.worker.proofs.relay.plain.compute.Goals as goal
 
 pub returns-in_err-bundle-clause-stopped : goal.returns-in_err-bundle-clause-stopped

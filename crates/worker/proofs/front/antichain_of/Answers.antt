@@ -1,5 +1,5 @@
 use Rattle.antichain.proofs.AntichainLemmas.{frontier_by_beyond}
-use Rattle.worker.proofs.arrangement.front.antichain_of.Goals as goal
+use Rattle.worker.proofs.front.antichain_of.Goals as goal
 
 pub returns-clause-is : goal.returns-clause-is
 returns-clause-is g c =

@@ -1,4 +1,7 @@
-//! The least times of some updates, and the antichain of a frontier that is kept as a list.
+//! The least of some times, as a list, and the antichain of a frontier that is a list.
+//!
+//! What a worker holds at a node is the least of the times that wait there. The list has no time at or after another one
+//! of it, and the same times are beyond it as are at or after one of those that were put in.
 ghost use Rattle.std.specs.Prelude.{◌≡◌, ◌||◌, IfOk, IfErr, OnOk};
 ghost use Rattle.lattice.specs.Frontiers.{is_beyond};
 ghost use Rattle.antichain.specs.Antichains.{IsFrontier};
@@ -42,6 +45,18 @@ fn put_in<T: Lattice>(front: &mut Vec<T>, t: T) -> Result<(), Refusal>
     if !is_beyond(front.as_slice(), &t) {
         drop_later(front, t);
         front.push(t)?;
+    }
+    Ok(())
+}
+
+// Takes in all of these times.
+pub(crate) fn put_in_all<T: Lattice>(front: &mut Vec<T>, times: &[T]) -> Result<(), Refusal>
+    ensures beyond { OnOk result ((t : T) → is_beyond T.below front.new.items t
+        ≡ (is_beyond T.below front.old.items t || is_beyond T.below times.now t)) }
+    ensures only { IfErr result (λ refused. refused ≡ Refusal.OutOfMemory) }
+{
+    for time in times {
+        put_in(front, *time)?;
     }
     Ok(())
 }

@@ -2,7 +2,7 @@ use Rattle.std.proofs.Common.{◌≡◌, true, ◌++◌, ◌∷◌, [], List, �
 use Rattle.lattice.specs.Frontiers.{is_beyond}
 use Rattle.antichain.proofs.InsertionLemmas.{beyond_already}
 use Rattle.worker.proofs.FrontLemmas.{beyond_put}
-use Rattle.worker.proofs.arrangement.front.put_in.Goals as goal
+use Rattle.worker.proofs.front.put_in.Goals as goal
 
 pub returns-in_ok-push-clause-beyond : goal.returns-in_ok-push-clause-beyond
 returns-in_ok-push-clause-beyond g c s =

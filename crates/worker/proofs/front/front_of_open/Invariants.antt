@@ -2,7 +2,7 @@ use Rattle.std.proofs.Common.{◌≡◌, ◌||◌, drop}
 use Rattle.lattice.specs.Frontiers.{is_beyond}
 use Rattle.batch.specs.Intervals.{open_updates}
 use Rattle.worker.specs.Arrangements.{times_of}
-use Rattle.worker.proofs.arrangement.front.front_of_open.Given as goal
+use Rattle.worker.proofs.front.front_of_open.Given as goal
 
 -- a time is beyond the front so far or an open update that is still to come, or else it is beyond none of them
 abbrev pub invariant-loop-update : goal.invariant-loop-update

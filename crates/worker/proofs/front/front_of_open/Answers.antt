@@ -4,8 +4,8 @@ use Rattle.lattice.specs.Frontiers.{is_beyond}
 use Rattle.batch.specs.Intervals.{open_updates}
 use Rattle.worker.specs.Arrangements.{times_of}
 use Rattle.worker.proofs.FrontLemmas.{open_loop, passed_loop}
-use Rattle.worker.proofs.arrangement.front.front_of_open.Goals as goal
-use Rattle.worker.proofs.arrangement.front.front_of_open.Goals.{then-is_beyond+in_ok-put_in, else-is_beyond}
+use Rattle.worker.proofs.front.front_of_open.Goals as goal
+use Rattle.worker.proofs.front.front_of_open.Goals.{then-is_beyond+in_ok-put_in, else-is_beyond}
 
 pub loop-update-preserved : goal.loop-update-preserved
 loop-update-preserved g c t =

@@ -1,6 +1,6 @@
 use Rattle.std.proofs.Common.{not, rules}
 use Rattle.std.proofs.lemmas.Fn.{filter_same}
-use Rattle.worker.proofs.arrangement.front.drop_later.Goals as goal
+use Rattle.worker.proofs.front.drop_later.Goals as goal
 
 pub returns : goal.returns
 returns g c =
