@@ -36,8 +36,8 @@ use Rattle.worker.proofs.ArrangingLemmas.{first_passed, taken_beyond}
 use Rattle.worker.proofs.PassLemmas.{IsDue, at_taken, at_given}
 use Rattle.worker.proofs.SendLemmas.{widened}
 use Rattle.worker.proofs.ArrangeStepLemmas.{arranged_here, absorb_may, absorb_desk}
-use Rattle.worker.proofs.BundleLemmas.{running_from, due_bundle, may_take, stamped_bundle, waits_there, port_few}
-use Rattle.worker.proofs.WaitLemmas.{count_at, waits_are, count_sent, count_taken}
+use Rattle.worker.proofs.BundleLemmas.{running_from, due_bundle, may_take, stamped_bundle, waits_there}
+use Rattle.worker.proofs.WaitLemmas.{port_few, count_at, waits_are, count_sent, count_taken}
 
 module _ {T : Type 0} (below : T → T → Bool) (minimum : T) (o : PartialOrderLaws below) (p : Dataflow) (q : IsDataflow p) (h : List (Event T)) (legal : IsLegal below minimum p h) where
   -- no input frontier goes back before the least time
@@ -91,7 +91,7 @@ module _ {T : Type 0} (below : T → T → Bool) (joined : T → T → T) (minim
         let n = asked.node in
         let v = state_after below minimum p (Take 0 bundle ∷ h) in
         let taken : IsAtNode below p v n = at_taken below p q w n 0 bundle at_node run.free.at in
-        let given = at_given below p q v n (no_emission bundle.place.node bundle.place.worker) held [] at_node refl taken in (
+        let given = at_given below p q v n (no_emission bundle.place.node bundle.place.worker) held [] at_node refl (λ m port source join reads l. refl) taken in (
           Give (no_emission bundle.place.node bundle.place.worker) held [] ∷ Take 0 bundle ∷ [],
           running_from below joined minimum c p same desk n (Give (no_emission bundle.place.node bundle.place.worker) held [] ∷ Take 0 bundle ∷ h) s (record {
             at = given;
@@ -139,13 +139,13 @@ module _ {T : Type 0} (below : T → T → Bool) (joined : T → T → T) (minim
 
       pub absorbed_may : IsGiveOn below minimum (after_take 0 bundle b) (Take 0 bundle ∷ h) (no_emission bundle.place.node bundle.place.worker) held []
       absorbed_may = absorb_may below joined minimum o p q w 0 bundle take stamped source key arrange_there due.port due.within d own_desk a own_there e (same_spine (own_desk.inserted bundle.place.node))
-          (ap (λ (z : ArrangementState T). z.spine.list.start) grown) (ap (λ (z : ArrangementState T). z.width) grown) (ap (λ (z : ArrangementState T). z.waiting) grown) held is_held
+          (ap (λ (z : ArrangementState T). z.spine.list.start) grown) (ap (λ (z : ArrangementState T). z.width) grown) (ap (λ (z : ArrangementState T). z.waiting) grown) (λ number l. ap (λ (z : ArrangementState T). slice_get z.holds number) grown) held is_held
 
       pub absorbed_desk : IsDesk below joined minimum p (state_after below minimum p (Give (no_emission bundle.place.node bundle.place.worker) held [] ∷ Take 0 bundle ∷ h)) bundle.place.worker (with_arrangement asked.node e d)
       absorbed_desk =
           subst (λ n. IsDesk below joined minimum p (state_after below minimum p (Give (no_emission bundle.place.node bundle.place.worker) held [] ∷ Take 0 bundle ∷ h)) bundle.place.worker (with_arrangement n e d)) at_node
           (absorb_desk below joined minimum o p q w 0 bundle take stamped source key arrange_there due.port due.within d own_desk a own_there e (same_spine (own_desk.inserted bundle.place.node))
-          (ap (λ (z : ArrangementState T). z.spine.list.start) grown) (ap (λ (z : ArrangementState T). z.width) grown) (ap (λ (z : ArrangementState T). z.waiting) grown) held is_held)
+          (ap (λ (z : ArrangementState T). z.spine.list.start) grown) (ap (λ (z : ArrangementState T). z.width) grown) (ap (λ (z : ArrangementState T). z.waiting) grown) (λ number l. ap (λ (z : ArrangementState T). slice_get z.holds number) grown) held is_held)
 
       -- what the worker holds back, as the board has it
       module _ (c : BoardState T) (taken : c ≡ after_take 0 bundle b) (stands : Stands below minimum c (c.last ∷ h)) (f : BoardState T) (same : f.dataflow ≡ c.dataflow) (r : Result (Unit {0}) Refusal)

@@ -3,13 +3,14 @@ use Rattle.std.proofs.Common.{◌≡◌, ◌≢◌, ℕ, ◌<◌, Bool, true, co
 use Rattle.std.specs.List.{slice_get}
 use Rattle.std.specs.Cmp.{IsTotalOrder}
 use Rattle.std.specs.declared.cmp.Ordering.{Ordering}
-use Rattle.std.proofs.lemmas.Bool.{eq-eqb}
+use Rattle.std.proofs.lemmas.Bool.{eq-eqb, and_parts}
 use Rattle.std.proofs.lemmas.Option.{same_Some}
 use Rattle.lattice.specs.Order.{PartialOrderLaws}
 use Rattle.lattice.specs.Frontiers.{is_beyond, all_beyond}
 use Rattle.antichain.proofs.Lists.{all_at, all_from}
 use Rattle.update.specs.declared.change.Update.{Update}
-use Rattle.batch.specs.Intervals.{passed_updates, open_updates, is_interval_of}
+use Rattle.batch.specs.Intervals.{passed_updates, open_updates, all_between, is_interval_of}
+use Rattle.plan.specs.Nodes.{is_join}
 use Rattle.plan.specs.declared.node.Node.{Node}
 use Rattle.plan.specs.declared.node.Node.TheVariants.{Arrange}
 use Rattle.linear.specs.Ports.{is_port}
@@ -19,18 +20,19 @@ use Rattle.spine.specs.Spines.{Stands}
 use Rattle.machine.specs.declared.histories.event.Bundle.{Bundle}
 use Rattle.machine.specs.declared.histories.event.Emission.{Emission}
 use Rattle.machine.specs.declared.histories.event.Event.TheVariants.{Take, TakeHeld, Give}
-use Rattle.machine.specs.Histories.Dataflows.{Dataflow, IsDataflow, node_of}
-use Rattle.machine.specs.Histories.States.{State, times}
+use Rattle.machine.specs.Histories.Dataflows.{Dataflow, IsDataflow, node_of, source_of}
+use Rattle.machine.specs.Histories.States.{State, place, queue, times}
 use Rattle.machine.specs.Histories.Outstanding.{input_frontier}
 use Rattle.machine.specs.Histories.Promises.{NeverGoesBack}
 use Rattle.machine.specs.Histories.{with_at, next_state, give_state, IsTake, IsTakeHeld, IsGive}
 use Rattle.worker.specs.Gathering.{IsCut, IsStamped, IsInHand, IsSplit, IsHeldFor}
 use Rattle.worker.specs.Arranging.{IsArranging, IsSealOf}
-use Rattle.worker.specs.Arrangements.{ArrangementState}
-use Rattle.worker.specs.Desks.{DeskState, IsArrangedAt, IsDeskAt, IsDesk, with_arrangement}
+use Rattle.worker.specs.Arrangements.{ArrangementState, AreInTurn}
+use Rattle.worker.specs.Desks.{DeskState, AreSharing, IsArrangedAt, IsDeskAt, IsDesk, with_arrangement}
+use Rattle.worker.proofs.ReadAtLemmas.{AreReadOn, reads_taken, reads_turned, reads_none, reads_inserted}
 use Rattle.worker.proofs.GatheringLemmas.{in_hand_now, no_emission, split_none, cut_none, held_beyond}
 use Rattle.worker.proofs.ArrangingLemmas.{took_arranging, turned_arranging, same_arranging, may_insert, gave_arranging, gave_none, interval, seal_split, open_beyond}
-use Rattle.worker.proofs.DeskLemmas.{IsRightBut, get_own, same_desk, same_but_arrangement, others_after, desk_from, not_of_take, not_of_give}
+use Rattle.worker.proofs.DeskLemmas.{IsRightBut, get_own, same_desk, same_but_arrangement, sharing_arrangement, others_after, desk_from, not_of_take, not_of_give}
 
 module _ {T : Type 0} (below : T → T → Bool) (joined : T → T → T) (minimum : T) (p : Dataflow) (w : State T) (k : ℕ) (d : DeskState T) (inserted : ℕ → List (Insertion T)) where
   -- what lies on the desk for an arrange node is the arrangement there
@@ -69,7 +71,7 @@ module _ {T : Type 0} (below : T → T → Bool) (joined : T → T → T) (minim
   in_hand = record { worker = take.worker; hand = in_hand_now below o p w number bundle }
 
   module _ (b : ArrangementState T) (same_spine : Stands below a.spine (desk.inserted n) → Stands below b.spine (desk.inserted n)) (same_start : b.spine.list.start ≡ a.spine.list.start) (same_width : b.width ≡ a.width) (more : b.waiting ≡ a.waiting ++ bundle.updates)
-      (held : List T) (is_held : IsHeldFor below held (times b.waiting)) where
+      (same_holds : (number : ℕ) → 0 < number → slice_get b.holds number ≡ slice_get a.holds number) (held : List T) (is_held : IsHeldFor below held (times b.waiting)) where
     waits_now : IsArranging below p taken n k (minimum ∷ []) (desk.inserted n) b.waiting
     waits_now = subst (IsArranging below p taken n k (minimum ∷ []) (desk.inserted n)) (sym more) waits
 
@@ -78,15 +80,17 @@ module _ {T : Type 0} (below : T → T → Bool) (joined : T → T → T) (minim
 
     pub absorb_desk : IsDesk below joined minimum p (give_state below p taken (no_emission n k) held []) k (with_arrangement n b d)
     absorb_desk =
-        let first = others_after below joined minimum o p q w k d desk.inserted (Take number bundle) take d desk.inserted n (not_of_take k number bundle) (same_desk n d) (λ m e. refl) (λ m l e. desk.at m l) in
-        let then = others_after below joined minimum o p q taken k d desk.inserted (Give (no_emission n k) held []) absorb_may (with_arrangement n b d) desk.inserted n (not_of_give k (no_emission n k) held []) (same_but_arrangement n b d) (λ m e. refl) first in
+        let first = others_after below joined minimum o p q w k d desk.inserted (Take number bundle) take d desk.inserted n (not_of_take k number bundle) (same_desk below n d) (λ m e. refl) (reads_taken below p q w k desk.inserted number bundle take) (λ m l e. desk.at m l) in
+        let then = others_after below joined minimum o p q taken k d desk.inserted (Give (no_emission n k) held []) absorb_may (with_arrangement n b d) desk.inserted n (not_of_give k (no_emission n k) held []) (same_but_arrangement below n b d) (λ m e. refl) (reads_none below p q taken k desk.inserted (no_emission n k) held [] n refl) first in
         desk_from below joined minimum p (give_state below p taken (no_emission n k) held []) k (with_arrangement n b d) desk.inserted n then
         (arranged_from below joined minimum p (give_state below p taken (no_emission n k) held []) k (with_arrangement n b d) desk.inserted n source key (node_of p n) arrange b (get_own d.arrangements n (Some b) (Some a) there) (record {
           width = same_width ∙ before.width;
           start = same_start ∙ before.start;
           stands = same_spine before.stands;
+          in_turn = before.in_turn;
           arranging = gave_none below o p q taken (no_emission n k) [] (minimum ∷ []) (desk.inserted n) b.waiting b.waiting held waits_now in_hand (split_none below b.waiting) is_held (cut_none below p n k) refl;
         }))
+        (sharing_arrangement minimum p d n a b there same_holds desk.sharing)
 
 -- ---- what the input frontier has passed is given
 
@@ -140,37 +144,73 @@ module _ {T : Type 0} (below : T → T → Bool) (joined : T → T → T) (minim
       pub settle_held : IsTrue (all_beyond below (input_frontier below p turned n) held)
       settle_held = all_from (is_beyond below (input_frontier below p turned n)) held (λ t m. sym (same t) ∙ all_at (is_beyond below front) held t (held_beyond below o front held (times rest) is_held (open_beyond o total front a.waiting)) m)
 
-      module _ (b : ArrangementState T) (same_start : b.spine.list.start ≡ a.spine.list.start) (same_width : b.width ≡ a.width) (less : b.waiting ≡ rest) where
-        others : (after : ℕ → List (Insertion T)) → ((m : ℕ) → m ≢ n → after m ≡ desk.inserted m) → IsRightBut below joined minimum p given k (with_arrangement n b d) after n
-        others after same_inserted =
-            let first = others_after below joined minimum o p q w k d desk.inserted (TakeHeld k n) turn d desk.inserted n (λ m e. refl) (same_desk n d) (λ m e. refl) (λ m l e. desk.at m l) in
-            others_after below joined minimum o p q turned k d desk.inserted (Give emission held sent) settle_may (with_arrangement n b d) after n (not_of_give k emission held sent) (same_but_arrangement n b d) same_inserted first
+      module _ (b : ArrangementState T) (same_start : b.spine.list.start ≡ a.spine.list.start) (same_width : b.width ≡ a.width) (less : b.waiting ≡ rest) (same_holds : (number : ℕ) → 0 < number → slice_get b.holds number ≡ slice_get a.holds number) where
+        others : (after : ℕ → List (Insertion T)) → ((m : ℕ) → m ≢ n → after m ≡ desk.inserted m) → AreReadOn p turned given k n desk.inserted after → IsRightBut below joined minimum p given k (with_arrangement n b d) after n
+        others after same_inserted reads =
+            let first = others_after below joined minimum o p q w k d desk.inserted (TakeHeld k n) turn d desk.inserted n (λ m e. refl) (same_desk below n d) (λ m e. refl) (reads_turned below p q w k desk.inserted n k turn n) (λ m l e. desk.at m l) in
+            others_after below joined minimum o p q turned k d desk.inserted (Give emission held sent) settle_may (with_arrangement n b d) after n (not_of_give k emission held sent) (same_but_arrangement below n b d) same_inserted reads first
+
+        sharing_now : AreSharing minimum p (with_arrangement n b d)
+        sharing_now = sharing_arrangement minimum p d n a b there same_holds desk.sharing
+
+        abbrev insertion : Insertion T
+        insertion = record { upper = front; updates = out }
+
+        -- what was inserted, with the batch on top at this node
+        abbrev inserted_then : ℕ → List (Insertion T)
+        inserted_then = with_at desk.inserted n (insertion ∷ desk.inserted n)
+
+        own_then : inserted_then n ≡ insertion ∷ desk.inserted n
+        own_then = ap (λ b. cond b (insertion ∷ desk.inserted n) (desk.inserted n)) (eq-eqb n n refl)
+
+        others_then : (m : ℕ) → m ≢ n → inserted_then m ≡ desk.inserted m
+        others_then m e = ap (λ b. cond b (insertion ∷ desk.inserted n) (desk.inserted m)) (Rattle.std.proofs.lemmas.Bool.ne_eqb m n e)
+
+        -- the batch goes on from where the spine had come
+        turn_then : out ≢ [] → IsTrue (all_between below (end_of a.spine.list.start a.spine.list.batches) front out) → AreInTurn below (minimum ∷ []) (insertion ∷ desk.inserted n)
+        turn_then some between = (
+          record {
+            forward = (and_parts (all_beyond below (reached (minimum ∷ []) (desk.inserted n)) front) (all_between below (reached (minimum ∷ []) (desk.inserted n)) front (passed_updates below front a.waiting))
+                (interval below o p turned n k (minimum ∷ []) (desk.inserted n) a.waiting front waiting_now reached_it)).0;
+            some = some;
+            between = subst (λ from. IsTrue (all_between below from front out)) ends_there between;
+          },
+          held_back.in_turn,
+        )
 
         -- a batch that is given is inserted
-        pub settle_desk : Stands below b.spine (record { upper = front; updates = out } ∷ desk.inserted n) → IsDesk below joined minimum p given k (with_arrangement n b d)
-        settle_desk stands =
-            let after = with_at desk.inserted n (record { upper = front; updates = out } ∷ desk.inserted n) in
-            let own : after n ≡ record { upper = front; updates = out } ∷ desk.inserted n = ap (λ b. cond b (record { upper = front; updates = out } ∷ desk.inserted n) (desk.inserted n)) (eq-eqb n n refl) in
-            desk_from below joined minimum p given k (with_arrangement n b d) after n (others after (λ m e. ap (λ b. cond b (record { upper = front; updates = out } ∷ desk.inserted n) (desk.inserted m)) (Rattle.std.proofs.lemmas.Bool.ne_eqb m n e)))
-            (arranged_from below joined minimum p given k (with_arrangement n b d) after n source key (node_of p n) arrange b (get_own d.arrangements n (Some b) (Some a) there)
-            (subst (λ i. IsArrangedAt below joined minimum p given k n i b) (sym own) (record {
+        pub settle_desk : Stands below b.spine (insertion ∷ desk.inserted n) → out ≢ [] → IsTrue (all_between below (end_of a.spine.list.start a.spine.list.batches) front out) → sent ≡ Rattle.machine.specs.Histories.Cuts.cut below p emission
+            → ((m port : ℕ) → is_join (node_of p m) ≡ true → source_of p m port ≡ Some n → queue (place m port k) w.in_flight ≡ []) → IsDesk below joined minimum p given k (with_arrangement n b d)
+        settle_desk stands some between as_cut caught =
+            desk_from below joined minimum p given k (with_arrangement n b d) inserted_then n (others inserted_then others_then reads)
+            (arranged_from below joined minimum p given k (with_arrangement n b d) inserted_then n source key (node_of p n) arrange b (get_own d.arrangements n (Some b) (Some a) there)
+            (subst (λ i. IsArrangedAt below joined minimum p given k n i b) (sym own_then) (record {
               width = same_width ∙ held_back.width;
               start = same_start ∙ held_back.start;
               stands = stands;
+              in_turn = turn_then some between;
               arranging =
-                  subst (IsArranging below p given n k (minimum ∷ []) (record { upper = front; updates = out } ∷ desk.inserted n)) (sym less)
+                  subst (IsArranging below p given n k (minimum ∷ []) (insertion ∷ desk.inserted n)) (sym less)
                   (gave_arranging below o p q turned emission sent (minimum ∷ []) (desk.inserted n) a.waiting rest held waiting_now hand_now split is_held cut front came_to_it (open_beyond o total front a.waiting));
             })))
+            sharing_now
+          where
+            reads : AreReadOn p turned given k n desk.inserted inserted_then
+            reads =
+                subst (λ sent. AreReadOn p turned (give_state below p turned emission held sent) k n desk.inserted inserted_then) (sym as_cut)
+                (reads_inserted below p q turned k desk.inserted emission held front inserted_then refl (subst (IsGive below p turned emission held) as_cut settle_may) some own_then others_then caught)
 
         -- an empty one is not
-        pub settle_desk_none : out ≡ [] → (Stands below a.spine (desk.inserted n) → Stands below b.spine (desk.inserted n)) → IsDesk below joined minimum p given k (with_arrangement n b d)
-        settle_desk_none none stands =
-            desk_from below joined minimum p given k (with_arrangement n b d) desk.inserted n (others desk.inserted (λ m e. refl))
+        pub settle_desk_none : out ≡ [] → (Stands below a.spine (desk.inserted n) → Stands below b.spine (desk.inserted n)) → sent ≡ [] → IsDesk below joined minimum p given k (with_arrangement n b d)
+        settle_desk_none none stands nothing =
+            desk_from below joined minimum p given k (with_arrangement n b d) desk.inserted n (others desk.inserted (λ m e. refl) (reads_none below p q turned k desk.inserted emission held sent n nothing))
             (arranged_from below joined minimum p given k (with_arrangement n b d) desk.inserted n source key (node_of p n) arrange b (get_own d.arrangements n (Some b) (Some a) there) (record {
               width = same_width ∙ held_back.width;
               start = same_start ∙ held_back.start;
               stands = stands held_back.stands;
+              in_turn = held_back.in_turn;
               arranging =
                   subst (IsArranging below p given n k (minimum ∷ []) (desk.inserted n)) (sym less)
                   (gave_none below o p q turned emission sent (minimum ∷ []) (desk.inserted n) a.waiting rest held waiting_now hand_now split is_held cut none);
             }))
+            sharing_now

@@ -41,28 +41,11 @@ use Rattle.worker.specs.Relays.{HasNoSmallBound, IsContinuedFrom, IsStopped, IsT
 use Rattle.worker.proofs.GatheringLemmas.{size_both, waiting_is_stamped}
 use Rattle.worker.proofs.PassLemmas.{IsDue, due_parts, lt_from, at_taken, at_given}
 use Rattle.worker.proofs.SendLemmas.{fitting, widened, sent_due}
+use Rattle.worker.proofs.FirstLemmas.{first_there, first_due, first_take, first_stamped, first_fits, large_first, large_made}
 use Rattle.worker.proofs.DeskLemmas.{linear_may, linear_desk}
+use Rattle.worker.proofs.ReadAtLemmas.{taken_plain}
 use Rattle.worker.proofs.RelayLemmas.{goes_further, large_received}
-use Rattle.worker.proofs.WaitLemmas.{count_at, waits_are, count_sent, count_taken}
-
--- no node has more than two ports
-pub port_few : (node : Node) (port : ℕ) → IsTrue (is_port node port) → port < 2
-port_few node port h = step (eqb port 0) refl h
-  where
-    few : (node : Node) → length (sources node) ≤ 2
-    few (Input width) = omega arith
-    few (Map s items) = omega arith
-    few (Filter s test) = omega arith
-    few (Concat l r) = omega arith
-    few (Negate s) = omega arith
-    few (Arrange s key) = omega arith
-    few (Join l r) = omega arith
-    few (Reduce kind s) = omega arith
-    few (Output s) = omega arith
-
-    step : (c : Bool) → eqb port 0 ≡ c → (c || nat_lt port (length (sources node))) ≡ true → port < 2
-    step true e f = let x = eqb-true port 0 e in omega (arith, x)
-    step false e f = let l = lt_from port (length (sources node)) f in let m = few node in omega (arith, l, m)
+use Rattle.worker.proofs.WaitLemmas.{port_few, count_at, waits_are, count_sent, count_taken}
 
 -- a refusal after the board went on
 pub stopped_after : {T : Type 0} (below : T → T → Bool) (minimum : T) (cmp : T → T → Ordering) (h : List (Event T)) (b c f : BoardState T) (r : Result (Unit {0}) Refusal) → (x : IsContinuedFrom below minimum h b c)
@@ -99,51 +82,31 @@ module _ {T : Type 0} (below : T → T → Bool) (joined : T → T → T) (minim
   site = bundle.place
 
   pub waits_there : slice_get (queue site w.in_flight) 0 ≡ Some bundle
-  waits_there = subst (λ bundles. slice_get bundles 0 ≡ Some bundle) (run.stands.queues site) waits
+  waits_there = first_there below minimum b n h run.stands run.free.at run.free.hand bundle at worker waits
 
   -- the bundle is due at the node
   pub due_bundle : IsDue p n bundle
-  due_bundle = due_parts p n bundle (all_at (is_due p n) w.in_flight bundle run.free.at.due (queued site w.in_flight 0 bundle waits_there).0)
+  due_bundle = first_due below minimum b n h run.stands run.free.at run.free.hand bundle at worker waits
 
   -- the worker may take it
   pub may_take : IsTake below p w 0 bundle
-  may_take = record {
-    worker = subst (λ k. k < p.workers) (sym worker) (let a = run.free.at.alone in omega (arith, a));
-    free = ap w.hand worker ∙ run.free.hand;
-    waits = waits_there;
-    turn = λ _. refl;
-  }
+  may_take = first_take below minimum b n h run.stands run.free.at run.free.hand bundle at worker waits
 
   pub stamped_bundle : IsStamped below bundle
-  stamped_bundle = waiting_is_stamped below o minimum p h run.stands.legal 0 bundle may_take
+  stamped_bundle = first_stamped below minimum b n h run.stands run.free.at run.free.hand bundle at worker waits o
 
   -- the node accepts the bundle's rows
   pub fits_bundle : IsTrue (takes_rows (node_of p site.node) bundle.updates)
-  fits_bundle = fitting p q site bundle.updates due_bundle.port due_bundle.wide
-
-  -- what was received at the port is no smaller than the bundle
-  pub received_more : size bundle.updates ≤ size (received_at (state_after below minimum p (Take 0 bundle ∷ h)) site.node site.worker site.port)
-  received_more =
-      let e : received_at (state_after below minimum p (Take 0 bundle ∷ h)) site.node site.worker site.port ≡ bundle.updates ++ received_at w site.node site.worker site.port =
-      ap (λ c. cond c bundle.updates [] ++ received_at w site.node site.worker site.port) (itself site) in
-      let s = ap size e ∙ size_both bundle.updates (received_at w site.node site.worker site.port) in
-      omega (arith, s)
+  fits_bundle = first_fits below minimum b n h run.stands run.free.at run.free.hand bundle at worker waits q
 
   module _ (cmp : T → T → Ordering) (legal : IsLegal below minimum p (Take 0 bundle ∷ h)) where
     -- if the bundle itself is too large, then so is a bound
     pub large_bundle : (s : ℕ) → source_of p site.node site.port ≡ Some s → 2 ^ 63 ≤ size bundle.updates → HasNoSmallBound below cmp p.nodes (changes_in w)
-    large_bundle s e large =
-        let l = may_take.worker in
-        let more = received_more in
-        large_received below minimum o cmp p q (Take 0 bundle ∷ h) legal site.node site.port s site.worker l e (omega (arith, large, more))
+    large_bundle s e large = large_first below minimum b n h run.stands run.free.at run.free.hand bundle at worker waits o q cmp legal s e large
 
     -- a node that cannot say what it makes of the bundle
     pub large_output : Overflows (node_of p site.node) bundle.updates → HasNoSmallBound below cmp p.nodes (changes_in w)
-    large_output over = step (source_of p site.node site.port) refl
-      where
-        step : (x : Option ℕ) → source_of p site.node site.port ≡ x → HasNoSmallBound below cmp p.nodes (changes_in w)
-        step None e = let i = input_at (node_of p site.node) site.port due_bundle.port e in absurd (subst (λ node. Overflows node bundle.updates) i.1 over)
-        step (Some s) e = large_bundle s e (large_applied (node_of p site.node) bundle.updates over)
+    large_output over = large_made below minimum b n h run.stands run.free.at run.free.hand bundle at worker waits o q cmp legal over
 
   module _ (linear : is_linear (node_of p site.node) ≡ true) (plain : arranged_by (node_of p site.node) ≡ None) where
     abbrev emission : Emission T
@@ -164,7 +127,7 @@ module _ {T : Type 0} (below : T → T → Bool) (joined : T → T → T) (minim
         let due = sent_due p q run.free.at.alone emission may_take.worker (widened p q site bundle.updates due_bundle.port due_bundle.wide linear) sent is_cut.whole is_cut.filled in
         let v = state_after below minimum p (Take 0 bundle ∷ h) in
         let taken : IsAtNode below p v n = at_taken below p q w n 0 bundle at run.free.at in
-        let given = at_given below p q v n emission [] sent at due taken in (
+        let given = at_given below p q v n emission [] sent at due (taken_plain below p q emission sent plain is_cut n) taken in (
           Give emission [] sent ∷ Take 0 bundle ∷ [],
           running_from below joined minimum c p same d n (Give emission [] sent ∷ Take 0 bundle ∷ h) s (record {
             at = given;

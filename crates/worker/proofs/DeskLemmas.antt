@@ -1,35 +1,42 @@
 -- What each event of a worker makes of its desk.
 use Rattle.std.proofs.Common.{◌≡◌, ◌≢◌, ℕ, zero, suc, ◌<◌, Bool, true, false, ◌&&◌, eqb, List, [], ◌∷◌, length, set, Some, None, IsTrue, sym, refl, ap, ◌∙◌, subst, arith}
+use Rattle.std.specs.Prelude.{Option}
+use Rattle.std.proofs.lemmas.Option.{same_Some}
 use Rattle.std.specs.List.{slice_get}
 use Rattle.std.proofs.lemmas.Bool.{eqb-true, eqb-false, ne_eqb}
 use Rattle.std.proofs.lemmas.List.{append-nil}
 use Rattle.lattice.specs.Order.{PartialOrderLaws}
 use Rattle.update.specs.declared.change.Update.{Update}
-use Rattle.plan.specs.Nodes.{arranged_by, is_linear, key_width}
+use Rattle.plan.specs.Nodes.{arranged_by, is_linear, is_join, key_width}
 use Rattle.plan.specs.declared.node.Node.{Node}
 use Rattle.plan.specs.declared.node.Node.TheVariants.{Input, Map, Filter, Concat, Negate, Arrange, Join, Reduce, Output}
 use Rattle.linear.specs.Applied.{linear_output}
 use Rattle.linear.specs.Ports.{is_port}
-use Rattle.trace.specs.Readings.{Insertion}
+use Rattle.trace.specs.Readings.{Insertion, reached}
+use Rattle.spine.specs.Spines.{Stands}
 use Rattle.machine.specs.declared.histories.event.Bundle.{Bundle}
 use Rattle.machine.specs.declared.histories.event.Emission.{Emission}
 use Rattle.machine.specs.declared.histories.event.Event.{Event}
 use Rattle.machine.specs.declared.histories.event.Event.TheVariants.{Take, Give}
-use Rattle.machine.specs.Histories.Dataflows.{Dataflow, IsDataflow, node_of}
+use Rattle.machine.specs.Histories.Dataflows.{Dataflow, IsDataflow, node_of, source_of}
 use Rattle.machine.specs.Histories.States.{State, times, emitted_by}
 use Rattle.machine.specs.Histories.NodeLaws.{received_at}
 use Rattle.machine.specs.Histories.{next_state, give_state, IsAllowed, IsTake, IsGive}
 use Rattle.worker.specs.Gathering.{is_of, IsCut, IsStamped, IsInHand, IsSplit, IsHeldFor, IsGathering}
 use Rattle.worker.specs.Arrangements.{ArrangementState}
+use Rattle.worker.specs.Arranging.{IsArranging}
+use Rattle.worker.specs.Joins.{JoiningView}
 use Rattle.worker.specs.Reductions.{ReducingView, IsReduced, pending_of}
-use Rattle.worker.specs.Desks.{DeskState, IsArrangedAt, IsDeskAt, IsDesk, with_arrangement, with_reduction}
+use Rattle.worker.specs.Desks.{DeskState, ReadsAt, HasHold, AreSharing, IsArrangedAt, IsJoinedAt, IsDeskAt, IsDesk, with_arrangement, with_reduction, hold_at, boundary_at}
 use Rattle.worker.proofs.GatheringLemmas.{IsSameAt, same_after, same_gathering, linear_piece_lem, took_gathering, in_hand_now, may_give, gave_gathering}
 use Rattle.worker.proofs.ArrangingLemmas.{same_arranging, all_given}
 use Rattle.worker.proofs.ReducingLemmas.{same_reducing}
+use Rattle.worker.proofs.JoiningLemmas.{same_joining}
+use Rattle.worker.proofs.ReadAtLemmas.{AreReadOn, reads_taken, reads_given}
 
 -- ---- entries by node
 
-get_set : {A : Type 0} (xs : List A) (n m : ℕ) (x : A) → m ≢ n → slice_get (set xs n x) m ≡ slice_get xs m
+pub get_set : {A : Type 0} (xs : List A) (n m : ℕ) (x : A) → m ≢ n → slice_get (set xs n x) m ≡ slice_get xs m
 get_set [] n m x d = refl
 get_set (y ∷ xs) zero zero x d = absurd (d refl)
 get_set (y ∷ xs) zero (suc m) x d = refl
@@ -41,20 +48,69 @@ get_own [] n x y e = cc
 get_own (z ∷ xs) zero x y e = refl
 get_own (z ∷ xs) (suc n) x y e = get_own xs n x y e
 
--- the desks have the same at all nodes but one
-pub record IsSameButAt {T : Type 0} (n : ℕ) (d e : DeskState T) : Type 0 where
-  pub arrangements : (m : ℕ) → m ≢ n → slice_get e.arrangements m ≡ slice_get d.arrangements m
-  pub reductions : (m : ℕ) → m ≢ n → slice_get e.reductions m ≡ slice_get d.reductions m
+module _ {T : Type 0} (below : T → T → Bool) where
+  -- the arrangement b stands for what the arrangement a does. It may have other holds, and its spine may have merged
+  pub record IsAsGood (a b : ArrangementState T) : Type 0 where
+    pub width : b.width ≡ a.width
+    pub start : b.spine.list.start ≡ a.spine.list.start
+    pub waiting : b.waiting ≡ a.waiting
+    pub stands : (i : List (Insertion T)) → Stands below a.spine i → Stands below b.spine i
 
-module _ {T : Type 0} where
+  -- the desks have the same at all nodes but one. Arrangements need only be as good
+  pub record IsSameButAt (n : ℕ) (d e : DeskState T) : Type 0 where
+    pub arrangements : (m : ℕ) → m ≢ n → (a : ArrangementState T) → slice_get d.arrangements m ≡ Some (Some a)
+        → (b : ArrangementState T) × (slice_get e.arrangements m ≡ Some (Some b)) × IsAsGood a b
+    pub reductions : (m : ℕ) → m ≢ n → slice_get e.reductions m ≡ slice_get d.reductions m
+    pub joins : (m : ℕ) → m ≢ n → slice_get e.joins m ≡ slice_get d.joins m
+
+  as_good : (a : ArrangementState T) → IsAsGood a a
+  as_good a = record { width = refl; start = refl; waiting = refl; stands = λ i s. s }
+
   pub same_desk : (n : ℕ) (d : DeskState T) → IsSameButAt n d d
-  same_desk n d = record { arrangements = λ m e. refl; reductions = λ m e. refl }
+  same_desk n d = record { arrangements = λ m e a there. (a, there, as_good a); reductions = λ m e. refl; joins = λ m e. refl }
 
   pub same_but_arrangement : (n : ℕ) (a : ArrangementState T) (d : DeskState T) → IsSameButAt n d (with_arrangement n a d)
-  same_but_arrangement n a d = record { arrangements = λ m e. get_set d.arrangements n m (Some a) e; reductions = λ m e. refl }
+  same_but_arrangement n a d = record { arrangements = λ m e b there. (b, get_set d.arrangements n m (Some a) e ∙ there, as_good b); reductions = λ m e. refl; joins = λ m e. refl }
 
   pub same_but_reduction : (n : ℕ) (r : ReducingView T) (d : DeskState T) → IsSameButAt n d (with_reduction n r d)
-  same_but_reduction n r d = record { arrangements = λ m e. refl; reductions = λ m e. get_set d.reductions n m (Some r) e }
+  same_but_reduction n r d = record { arrangements = λ m e a there. (a, there, as_good a); reductions = λ m e. get_set d.reductions n m (Some r) e; joins = λ m e. refl }
+
+-- ---- the holds of joins
+
+module _ {T : Type 0} (minimum : T) (p : Dataflow) where
+  -- the joins are as they were, and so are the readers' holds at each arrangement
+  pub sharing_kept : (d e : DeskState T) → ((m : ℕ) → slice_get e.joins m ≡ slice_get d.joins m)
+      → ((s : ℕ) (a : ArrangementState T) → slice_get d.arrangements s ≡ Some (Some a) → (b : ArrangementState T) × (slice_get e.arrangements s ≡ Some (Some b)) × ((number : ℕ) → 0 < number → slice_get b.holds number ≡ slice_get a.holds number))
+      → AreSharing minimum p d → AreSharing minimum p e
+  sharing_kept d e same kept x = record {
+    held = λ n port source j r.
+        let h = x.held n port source j (back n port source j r) in
+        let b = kept source h.arrangement h.there in
+        record { arrangement = b.0; there = b.1; other = h.other; hold = b.2 (hold_at port j) h.other ∙ h.hold };
+    apart = λ n port m other source i j r t. x.apart n port m other source i j (back n port source i r) (back m other source j t);
+  }
+    where
+      back : (n port source : ℕ) (j : JoiningView T) → ReadsAt p e n port source j → ReadsAt p d n port source j
+      back n port source j r = record { within = r.within; join = r.join; reads = r.reads; there = sym (same n) ∙ r.there }
+
+  -- one arrangement has changed, and its readers' holds have not
+  pub sharing_arrangement : (d : DeskState T) (n : ℕ) (a b : ArrangementState T) → slice_get d.arrangements n ≡ Some (Some a) → ((number : ℕ) → 0 < number → slice_get b.holds number ≡ slice_get a.holds number)
+      → AreSharing minimum p d → AreSharing minimum p (with_arrangement n b d)
+  sharing_arrangement d n a b there same = sharing_kept d (with_arrangement n b d) (λ m. refl) (λ s c own. step s c own (eqb s n) refl)
+    where
+      step : (s : ℕ) (c : ArrangementState T) → slice_get d.arrangements s ≡ Some (Some c) → (x : Bool) → eqb s n ≡ x
+          → (e : ArrangementState T) × (slice_get (set d.arrangements n (Some b)) s ≡ Some (Some e)) × ((number : ℕ) → 0 < number → slice_get e.holds number ≡ slice_get c.holds number)
+      step s c own true f =
+          let at = eqb-true s n f in
+          let mine = same_Some a c (same_Some (Some a) (Some c) (sym there ∙ (sym (ap (slice_get d.arrangements) at) ∙ own))) in (
+            b,
+            ap (slice_get (set d.arrangements n (Some b))) at ∙ get_own d.arrangements n (Some b) (Some a) there,
+            λ number l. same number l ∙ ap (λ (z : ArrangementState T). slice_get z.holds number) mine,
+          )
+      step s c own false f = (c, get_set d.arrangements n s (Some b) (eqb-false s n f) ∙ own, λ number l. refl)
+
+  pub sharing_reduction : (d : DeskState T) (n : ℕ) (r : ReducingView T) → AreSharing minimum p d → AreSharing minimum p (with_reduction n r d)
+  sharing_reduction d n r = sharing_kept d (with_reduction n r d) (λ m. refl) (λ s a there. (a, there, λ number l. refl))
 
 module _ {T : Type 0} (below : T → T → Bool) (joined : T → T → T) (minimum : T) (p : Dataflow) (w : State T) (k : ℕ) (d : DeskState T) (inserted : ℕ → List (Insertion T)) where
   -- the desk is right for all nodes but one
@@ -66,57 +122,75 @@ module _ {T : Type 0} (below : T → T → Bool) (joined : T → T → T) (minim
   abbrev v : State T
   v = next_state below p w e
 
-  -- an event elsewhere leaves what lies on the desk for a node
-  stays : (next : DeskState T) (after : ℕ → List (Insertion T)) (m : ℕ) → is_of m k e ≡ false → slice_get next.arrangements m ≡ slice_get d.arrangements m → slice_get next.reductions m ≡ slice_get d.reductions m → after m ≡ inserted m
-      → (node : Node) → IsDeskAt below joined minimum p w k d inserted m node → IsDeskAt below joined minimum p v k next after m node
-  stays next after m other sa sr is = step
-    where
-      s : IsSameAt w v m k
-      s = same_after below p w m k e allowed other
+  module _ (next : DeskState T) (after : ℕ → List (Insertion T)) (n : ℕ) (other : (m : ℕ) → m ≢ n → is_of m k e ≡ false) (but : IsSameButAt below n d next) (same : (m : ℕ) → m ≢ n → after m ≡ inserted m) (reads : AreReadOn p w v k n inserted after) where
+    -- an event elsewhere leaves what lies on the desk for a node
+    stays : (m : ℕ) → m ≢ n → (node : Node) → node_of p m ≡ node → IsDeskAt below joined minimum p w k d inserted m node → IsDeskAt below joined minimum p v k next after m node
+    stays m far = step
+      where
+        s : IsSameAt w v m k
+        s = same_after below p w m k e allowed (other m far)
 
-      gathers : IsGathering below p w m k [] → IsGathering below p v m k []
-      gathers g = same_gathering below p w v m k [] s g
+        gathers : IsGathering below p w m k [] → IsGathering below p v m k []
+        gathers g = same_gathering below p w v m k [] s g
 
-      step : (node : Node) → IsDeskAt below joined minimum p w k d inserted m node → IsDeskAt below joined minimum p v k next after m node
-      step (Input width) g = gathers g
-      step (Map source items) g = gathers g
-      step (Filter source test) g = gathers g
-      step (Concat left right) g = gathers g
-      step (Negate source) g = gathers g
-      step (Output source) g = gathers g
-      step (Join left right) g = g
-      step (Arrange source key) (a, there, x) = (
-        a,
-        sa ∙ there,
-        subst (λ i. IsArrangedAt below joined minimum p v k m i a) (sym is) (record {
-          width = x.width;
-          start = x.start;
-          stands = x.stands;
-          arranging = same_arranging below o p q w m k (minimum ∷ []) (inserted m) a.waiting x.arranging e allowed other;
-        }),
-      )
-      step (Reduce kind source) (r, there, x) = (
-        r,
-        sr ∙ there,
-        record {
-          kind_is = x.kind_is;
+        arranged : (a : ArrangementState T) → slice_get d.arrangements m ≡ Some (Some a) → IsArrangedAt below joined minimum p w k m (inserted m) a → (b : ArrangementState T) × (slice_get next.arrangements m ≡ Some (Some b)) × IsArrangedAt below joined minimum p v k m (after m) b
+        arranged a there x =
+            let y = but.arrangements m far a there in (
+              y.0,
+              y.1,
+              subst (λ i. IsArrangedAt below joined minimum p v k m i y.0) (sym (same m far)) (record {
+                width = y.2.width ∙ x.width;
+                start = y.2.start ∙ x.start;
+                stands = y.2.stands (inserted m) x.stands;
+                in_turn = x.in_turn;
+                arranging = subst (IsArranging below p v m k (minimum ∷ []) (inserted m)) (sym y.2.waiting) (same_arranging below o p q w m k (minimum ∷ []) (inserted m) a.waiting x.arranging e allowed (other m far));
+              }),
+            )
+
+        joins : (l r : ℕ) → node_of p m ≡ Join l r → (j : JoiningView T) → IsJoinedAt below joined minimum p w k m l r (inserted l) (inserted r) j → IsJoinedAt below joined minimum p v k m l r (after l) (after r) j
+        joins l r f j x = record {
           key = x.key;
-          width = x.width;
-          reduced = subst (λ us. IsReduced below joined r us (emitted_by m k v.emitted)) (sym (s.received 0)) (subst (λ us. IsReduced below joined r (received_at w m k 0) us) (sym s.emitted) x.reduced);
-          upper = x.upper;
-          reducing = same_reducing below o p q w m k x.upper (pending_of r) x.reducing e allowed other;
-        },
-      )
+          left_width = x.left_width;
+          right_width = x.right_width;
+          left = x.left;
+          right = x.right;
+          joining = same_joining below o p w m k x.left x.right [] x.joining e allowed (other m far);
+          reads_left = reads m 0 l far (ap is_join f) (ap (λ node. slice_get (Rattle.plan.specs.Nodes.sources node) 0) f) x.left x.reads_left;
+          reads_right = reads m 1 r far (ap is_join f) (ap (λ node. slice_get (Rattle.plan.specs.Nodes.sources node) 1) f) x.right x.reads_right;
+          left_boundary = x.left_boundary;
+          right_boundary = x.right_boundary;
+        }
 
-  -- so it is with all nodes but that of the event
-  pub others_after : (next : DeskState T) (after : ℕ → List (Insertion T)) (n : ℕ) → ((m : ℕ) → m ≢ n → is_of m k e ≡ false) → IsSameButAt n d next → ((m : ℕ) → m ≢ n → after m ≡ inserted m)
-      → IsRightBut below joined minimum p w k d inserted n → IsRightBut below joined minimum p v k next after n
-  others_after next after n other but same right m l x = stays next after m (other m x) (but.arrangements m x) (but.reductions m x) (same m x) (node_of p m) (right m l x)
+        step : (node : Node) → node_of p m ≡ node → IsDeskAt below joined minimum p w k d inserted m node → IsDeskAt below joined minimum p v k next after m node
+        step (Input width) f g = gathers g
+        step (Map source items) f g = gathers g
+        step (Filter source test) f g = gathers g
+        step (Concat left right) f g = gathers g
+        step (Negate source) f g = gathers g
+        step (Output source) f g = gathers g
+        step (Join left right) f (j, there, x) = (j, but.joins m far ∙ there, joins left right f j x)
+        step (Arrange source key) f (a, there, x) = arranged a there x
+        step (Reduce kind source) f (r, there, x) = (
+          r,
+          but.reductions m far ∙ there,
+          record {
+            kind_is = x.kind_is;
+            key = x.key;
+            width = x.width;
+            reduced = subst (λ us. IsReduced below joined r us (emitted_by m k v.emitted)) (sym (s.received 0)) (subst (λ us. IsReduced below joined r (received_at w m k 0) us) (sym s.emitted) x.reduced);
+            upper = x.upper;
+            reducing = same_reducing below o p q w m k x.upper (pending_of r) x.reducing e allowed (other m far);
+          },
+        )
+
+    -- so it is with all nodes but that of the event
+    pub others_after : IsRightBut below joined minimum p w k d inserted n → IsRightBut below joined minimum p v k next after n
+    others_after right m l x = stays m x (node_of p m) refl (right m l x)
 
 module _ {T : Type 0} (below : T → T → Bool) (joined : T → T → T) (minimum : T) (p : Dataflow) (w : State T) (k : ℕ) (d : DeskState T) (inserted : ℕ → List (Insertion T)) where
   -- the desk is right if it is so for one node and for all others
-  pub desk_from : (n : ℕ) → IsRightBut below joined minimum p w k d inserted n → IsDeskAt below joined minimum p w k d inserted n (node_of p n) → IsDesk below joined minimum p w k d
-  desk_from n right here = record { inserted = inserted; at = λ m l. step m l (eqb m n) refl }
+  pub desk_from : (n : ℕ) → IsRightBut below joined minimum p w k d inserted n → IsDeskAt below joined minimum p w k d inserted n (node_of p n) → AreSharing minimum p d → IsDesk below joined minimum p w k d
+  desk_from n right here sharing = record { inserted = inserted; at = λ m l. step m l (eqb m n) refl; sharing = sharing }
     where
       step : (m : ℕ) → m < length p.nodes → (b : Bool) → eqb m n ≡ b → IsDeskAt below joined minimum p w k d inserted m (node_of p m)
       step m l true f = subst (λ i. IsDeskAt below joined minimum p w k d inserted i (node_of p i)) (sym (eqb-true m n f)) here
@@ -131,7 +205,7 @@ module _ {T : Type 0} (below : T → T → Bool) (joined : T → T → T) (minim
   plain_gathers n (Negate source) l a g = g
   plain_gathers n (Output source) l a g = g
   plain_gathers n (Arrange source key) l a g = cc
-  plain_gathers n (Join left right) l a g = absurd g
+  plain_gathers n (Join left right) l a g = cc
   plain_gathers n (Reduce kind source) l a g = cc
 
   pub plain_desk : (n : ℕ) (node : Node) → is_linear node ≡ true → arranged_by node ≡ None → IsGathering below p w n k [] → IsDeskAt below joined minimum p w k d inserted n node
@@ -192,8 +266,9 @@ module _ {T : Type 0} (below : T → T → Bool) (joined : T → T → T) (minim
     -- and then nothing has changed on the desk
     pub linear_desk : IsDesk below joined minimum p (give_state below p taken emission [] sent) k d
     linear_desk =
-        let first = others_after below joined minimum o p q w k d desk.inserted (Take 0 bundle) take d desk.inserted n (not_of_take k 0 bundle) (same_desk n d) (λ m e. refl) (λ m l e. desk.at m l) in
-        let then = others_after below joined minimum o p q taken k d desk.inserted (Give emission [] sent) linear_may d desk.inserted n (not_of_give k emission [] sent) (same_desk n d) (λ m e. refl) first in
+        let first = others_after below joined minimum o p q w k d desk.inserted (Take 0 bundle) take d desk.inserted n (not_of_take k 0 bundle) (same_desk below n d) (λ m e. refl) (reads_taken below p q w k desk.inserted 0 bundle take) (λ m l e. desk.at m l) in
+        let then = others_after below joined minimum o p q taken k d desk.inserted (Give emission [] sent) linear_may d desk.inserted n (not_of_give k emission [] sent) (same_desk below n d) (λ m e. refl) (reads_given below p q taken k desk.inserted emission [] sent n plain cut) first in
         desk_from below joined minimum p (give_state below p taken emission [] sent) k d desk.inserted n then
         (plain_desk below joined minimum p (give_state below p taken emission [] sent) k d desk.inserted n (node_of p n) linear plain
         (gave_gathering below o p taken emission out [] [] sent waits split none_held))
+        desk.sharing

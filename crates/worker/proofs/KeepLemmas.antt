@@ -1,5 +1,5 @@
 -- Lists that are copied element by element, and lists without elements.
-use Rattle.std.proofs.Common.{◌≡◌, ℕ, zero, suc, ◌≤◌, List, [], ◌∷◌, ◌++◌, length, take, sym, refl, ap, ◌∙◌, arith}
+use Rattle.std.proofs.Common.{◌≡◌, ℕ, zero, suc, ◌≤◌, ◌<◌, List, [], ◌∷◌, ◌++◌, length, set, take, sym, refl, ap, ◌∙◌, arith}
 use Rattle.std.specs.List.{slice_get}
 use Rattle.std.specs.Option.{IsSomeAnd}
 
@@ -23,3 +23,9 @@ take_all [] i h = none i
     none (suc i) = refl
 take_all (x ∷ xs) zero h = absurd (omega (arith, h))
 take_all (x ∷ xs) (suc i) h = ap (λ ys. x ∷ ys) (take_all xs i (omega (arith, h)))
+
+-- another first entry leaves the others
+pub other_entry : {A : Type 0} (xs : List A) (n : ℕ) (x : A) → 0 < n → slice_get (set xs 0 x) n ≡ slice_get xs n
+other_entry [] n x l = refl
+other_entry (y ∷ xs) zero x l = absurd (omega (arith, l))
+other_entry (y ∷ xs) (suc n) x l = refl

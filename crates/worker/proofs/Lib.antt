@@ -4,12 +4,14 @@ pub mod ReducingLemmas
 pub mod QueueLemmas
 pub mod JoiningLemmas
 pub mod WorkingLemmas
+pub mod ReadAtLemmas
 pub mod PassLemmas
 pub mod SendLemmas
 pub mod DeskLemmas
 pub mod ArrangeStepLemmas
 pub mod ReduceStepLemmas
 pub mod RelayLemmas
+pub mod FirstLemmas
 pub mod BundleLemmas
 pub mod WaitLemmas
 pub mod ArrangementLemmas
@@ -24,3 +26,5 @@ pub mod AbsorbLemmas
 pub mod KeepLemmas
 pub mod SettleLemmas
 pub mod ReduceRunLemmas
+pub mod ClientLemmas
+pub mod GatherRunLemmas

@@ -11,6 +11,7 @@ use Rattle.lattice.specs.Frontiers.{is_beyond, all_beyond}
 use Rattle.antichain.specs.Antichains.{least}
 use Rattle.antichain.proofs.Lists.{Among, all_at, all_from, contains_among}
 use Rattle.plan.proofs.StandLemmas.{above_earlier}
+use Rattle.plan.specs.Nodes.{is_join}
 use Rattle.linear.specs.Ports.{is_port}
 use Rattle.linear.specs.Widths.{are_wide}
 use Rattle.machine.specs.declared.histories.event.Site.{Site}
@@ -20,14 +21,15 @@ use Rattle.machine.specs.declared.histories.event.HeldTime.{HeldTime}
 use Rattle.machine.specs.declared.histories.event.Event.{Event}
 use Rattle.machine.specs.declared.histories.event.Event.TheVariants.{Take, TakeHeld}
 use Rattle.machine.specs.Histories.Dataflows.{Dataflow, IsDataflow, node_of, upstream}
-use Rattle.machine.specs.Histories.States.{State, same_place, held_at}
+use Rattle.machine.specs.Histories.States.{State, place, same_place, queue, held_at}
 use Rattle.machine.specs.Histories.Outstanding.{stamps, held_where, open_where, strictly_upstream, input_frontier}
 use Rattle.machine.specs.Histories.Readings.{IsQuiet}
 use Rattle.machine.specs.Histories.{without, is_held_by, held_entries, next_state, give_state, state_after, IsLegal}
 use Rattle.machine.proofs.HistoryLemmas.FlowLemmas.{among_left}
 use Rattle.machine.proofs.HistoryLemmas.KeptLemmas.{held_unmarked, held_kept}
 use Rattle.machine.proofs.HistoryLemmas.PlaceLemmas.{in_place_lem}
-use Rattle.worker.specs.Passes.{width_at, is_due, IsAtNode, IsFreeAtNode}
+use Rattle.worker.proofs.QueueLemmas.{queue_both}
+use Rattle.worker.specs.Passes.{width_at, is_due, JoinsHaveTaken, IsAtNode, IsFreeAtNode}
 
 le_from : (m n : ℕ) → nat_le m n ≡ true → m ≤ n
 le_from m n h = grind (arith, nat_tests)
@@ -175,6 +177,45 @@ module _ {T : Type 0} where
       ∙ (ap (λ xs. xs ++ held_at m 0 (filter (λ x. not (is_held_by n k x)) held)) (held_unmarked m 0 n k ts (elsewhere m n k l))
       ∙ held_kept m 0 n k held (elsewhere m n k l))
 
+-- ---- what joins have not taken
+
+module _ {T : Type 0} where
+  -- a queue without updates, after one bundle was taken away
+  less_of : (site other : Site) (b : Bundle T) (bundles : List (Bundle T)) → ((number : ℕ) → queue site bundles ≡ [] → queue site (without other bundles number) ≡ []) → (number : ℕ)
+      → (c : Bool) → same_place b.place site ≡ c → cond c (b ∷ []) [] ++ queue site bundles ≡ [] → queue site (without other (b ∷ bundles) number) ≡ []
+  less_of site other b bundles rest number true s h = absurd (some h)
+    where
+      some : b ∷ queue site bundles ≡ [] → ⊥
+      some z = cc
+  less_of site other b bundles rest zero false s h = step (same_place b.place other)
+    where
+      step : (c : Bool) → queue site (cond c bundles (b ∷ without other bundles zero)) ≡ []
+      step true = h
+      step false = ap (λ c. cond c (b ∷ []) [] ++ queue site (without other bundles zero)) s ∙ rest zero h
+  less_of site other b bundles rest (suc number) false s h = ap (λ c. cond c (b ∷ []) [] ++ queue site (left (same_place b.place other))) s ∙ step (same_place b.place other)
+    where
+      left : Bool → List (Bundle T)
+      left c = cond c (without other bundles number) (without other bundles (suc number))
+
+      step : (c : Bool) → queue site (cond c (without other bundles number) (without other bundles (suc number))) ≡ []
+      step true = rest number h
+      step false = rest (suc number) h
+
+  -- if nothing waits at a place, then nothing waits there after any bundle was taken away
+  still_none : (site other : Site) (bundles : List (Bundle T)) (number : ℕ) → queue site bundles ≡ [] → queue site (without other bundles number) ≡ []
+  still_none site other [] number e = refl
+  still_none site other (b ∷ bundles) number e = less_of site other b bundles (still_none site other bundles) number (same_place b.place site) refl e
+
+  pub taken_less : (p : Dataflow) (n : ℕ) (other : Site) (bundles : List (Bundle T)) (number : ℕ) → JoinsHaveTaken p n bundles → JoinsHaveTaken p n (without other bundles number)
+  taken_less p n other bundles number h m port source join reads l = still_none (place m port 0) other bundles number (h m port source join reads l)
+
+  pub taken_both : (p : Dataflow) (n : ℕ) (bundles sent : List (Bundle T)) → JoinsHaveTaken p n bundles → JoinsHaveTaken p n sent → JoinsHaveTaken p n (bundles ++ sent)
+  taken_both p n bundles sent h g m port source join reads l =
+      queue_both (place m port 0) bundles sent ∙ (λ i. h m port source join reads l i ++ g m port source join reads l i)
+
+  pub taken_later : (p : Dataflow) (n : ℕ) (bundles : List (Bundle T)) → JoinsHaveTaken p n bundles → JoinsHaveTaken p (suc n) bundles
+  taken_later p n bundles h m port source join reads l = h m port source join reads (omega (arith, l))
+
 -- ---- the events of a pass
 
 module _ {T : Type 0} (below : T → T → Bool) (p : Dataflow) (q : IsDataflow p) (w : State T) (n : ℕ) where
@@ -185,18 +226,20 @@ module _ {T : Type 0} (below : T → T → Bool) (p : Dataflow) (q : IsDataflow 
     settled = λ m l.
         let later : m < bundle.place.node = subst (λ x. m < x) (sym e) l in
         (λ i. all_beyond below (front_taken p q below w m number bundle later i) (held_taken m w.held bundle.place.node bundle.place.worker bundle.stamp later i)) ∙ a.settled m l;
+    joins = taken_less p n bundle.place w.in_flight number a.joins;
   }
 
   pub at_turned : IsAtNode below p w n → (k m : ℕ) → IsAtNode below p (next_state below p w (TakeHeld k m)) n
-  at_turned a k m = record { alone = a.alone; due = a.due; settled = a.settled }
+  at_turned a k m = record { alone = a.alone; due = a.due; settled = a.settled; joins = a.joins }
 
-  pub at_given : (g : Emission T) (ts : List T) (sent : List (Bundle T)) → g.node ≡ n → list_all (is_due p (suc g.node)) sent ≡ true → IsAtNode below p w n → IsAtNode below p (give_state below p w g ts sent) n
-  at_given g ts sent e due a = record {
+  pub at_given : (g : Emission T) (ts : List T) (sent : List (Bundle T)) → g.node ≡ n → list_all (is_due p (suc g.node)) sent ≡ true → JoinsHaveTaken p n sent → IsAtNode below p w n → IsAtNode below p (give_state below p w g ts sent) n
+  at_given g ts sent e due none a = record {
     alone = a.alone;
     due = list_all-append (is_due p n) w.in_flight sent ∙ and_from (list_all (is_due p n) w.in_flight) (list_all (is_due p n) sent) a.due (due_earlier p n sent (subst (λ x. list_all (is_due p (suc x)) sent ≡ true) e due));
     settled = λ m l.
         let later : m < g.node = subst (λ x. m < x) (sym e) l in
         (λ i. all_beyond below (front_given p q below w m g ts sent (omega arith) due i) (held_given m w.held g.node g.worker ts later i)) ∙ a.settled m l;
+    joins = taken_both p n w.in_flight sent a.joins none;
   }
 
   -- nothing waits at the node, and what is held there could still receive input
@@ -208,6 +251,7 @@ module _ {T : Type 0} (below : T → T → Bool) (p : Dataflow) (q : IsDataflow 
         let l = d.later in
         due_from p (suc n) b (record { later = further b.place.node l (none b m); within = d.within; port = d.port; worker = d.worker; wide = d.wide }));
     settled = λ m l. step (eqb m n) refl l;
+    joins = taken_later p n w.in_flight a.joins;
   }
     where
       further : (m : ℕ) → n ≤ m → (m ≡ n → ⊥) → suc n ≤ m
@@ -220,9 +264,39 @@ module _ {T : Type 0} (below : T → T → Bool) (p : Dataflow) (q : IsDataflow 
       step {m} true e l = subst (λ x. IsTrue (all_beyond below (input_frontier below p w x) (held_at x 0 w.held))) (sym (eqb-true m n e)) settled
       step {m} false e l = a.settled m (earlier m l (eqb-false m n e))
 
+  -- the last give at the node, where nothing waits by then
+  pub at_passed : (g : Emission T) (ts : List T) (sent : List (Bundle T)) → g.node ≡ n → list_all (is_due p (suc g.node)) sent ≡ true → JoinsHaveTaken p (suc n) sent → ((b : Bundle T) → Among b w.in_flight → b.place.node ≡ n → ⊥)
+      → IsTrue (all_beyond below (input_frontier below p (give_state below p w g ts sent) n) (held_at n 0 (give_state below p w g ts sent).held)) → IsAtNode below p w n → IsAtNode below p (give_state below p w g ts sent) (suc n)
+  at_passed g ts sent e due taken none settled a = record {
+    alone = a.alone;
+    due = list_all-append (is_due p (suc n)) w.in_flight sent ∙ and_from (list_all (is_due p (suc n)) w.in_flight) (list_all (is_due p (suc n)) sent) ahead (subst (λ x. list_all (is_due p (suc x)) sent ≡ true) e due);
+    settled = λ m l. step (eqb m n) refl l;
+    joins = taken_both p (suc n) w.in_flight sent (taken_later p n w.in_flight a.joins) taken;
+  }
+    where
+      further : (m : ℕ) → n ≤ m → (m ≡ n → ⊥) → suc n ≤ m
+      further m l d = omega arith
+
+      earlier : (m : ℕ) → m < suc n → (m ≡ n → ⊥) → m < n
+      earlier m l d = omega arith
+
+      ahead : list_all (is_due p (suc n)) w.in_flight ≡ true
+      ahead = all_from (is_due p (suc n)) w.in_flight (λ b m.
+          let d = due_parts p n b (all_at (is_due p n) w.in_flight b a.due m) in
+          due_from p (suc n) b (record { later = further b.place.node d.later (none b m); within = d.within; port = d.port; worker = d.worker; wide = d.wide }))
+
+      before : (m : ℕ) → m < n → IsTrue (all_beyond below (input_frontier below p (give_state below p w g ts sent) m) (held_at m 0 (give_state below p w g ts sent).held))
+      before m l =
+          let later : m < g.node = subst (λ x. m < x) (sym e) l in
+          (λ i. all_beyond below (front_given p q below w m g ts sent (omega arith) due i) (held_given m w.held g.node g.worker ts later i)) ∙ a.settled m l
+
+      step : {m : ℕ} (c : Bool) → eqb m n ≡ c → m < suc n → IsTrue (all_beyond below (input_frontier below p (give_state below p w g ts sent) m) (held_at m 0 (give_state below p w g ts sent).held))
+      step {m} true f l = subst (λ x. IsTrue (all_beyond below (input_frontier below p (give_state below p w g ts sent) x) (held_at x 0 (give_state below p w g ts sent).held))) (sym (eqb-true m n f)) settled
+      step {m} false f l = before m (earlier m l (eqb-false m n f))
+
 -- before the first node nothing is settled yet
-pub at_first : {T : Type 0} (below : T → T → Bool) (p : Dataflow) (w : State T) → p.workers ≡ 1 → IsTrue (list_all (is_due p 0) w.in_flight) → IsAtNode below p w 0
-at_first below p w alone due = record { alone = alone; due = due; settled = λ m l. absurd (omega arith) }
+pub at_first : {T : Type 0} (below : T → T → Bool) (p : Dataflow) (w : State T) → p.workers ≡ 1 → IsTrue (list_all (is_due p 0) w.in_flight) → JoinsHaveTaken p 0 w.in_flight → IsAtNode below p w 0
+at_first below p w alone due joins = record { alone = alone; due = due; settled = λ m l. absurd (omega arith); joins = joins }
 
 module _ {T : Type 0} where
   held_has : (m : HeldTime T) (ms : List (HeldTime T)) → Among m ms → Among m.time (held_at m.node m.worker ms)

@@ -63,6 +63,7 @@ use Rattle.worker.proofs.ReduceStepLemmas.{before, reduced_here, reduce_absorb_m
 use Rattle.worker.proofs.RelayLemmas.{large_received}
 use Rattle.worker.proofs.BundleLemmas.{running_from, due_bundle, may_take, stamped_bundle, large_bundle, asked_stands}
 use Rattle.worker.proofs.WaitLemmas.{waits_are, count_sent}
+use Rattle.worker.proofs.ReadAtLemmas.{taken_plain}
 use Rattle.worker.proofs.AbsorbLemmas.{held_run, held_fewer}
 
 -- the cause of a refusal, from the cause of another one
@@ -357,7 +358,7 @@ module _ {T : Type 0} (below : T → T → Bool) (joined : T → T → T) (minim
         due_then = sent_due p q run.free.at.alone made turn.worker wide sent is_cut.whole is_cut.filled
 
         at_then : IsAtNode below p answered n
-        at_then = at_given below p q turned n made held sent refl due_then (at_turned below p q w n run.free.at 0 n)
+        at_then = at_given below p q turned n made held sent refl due_then (taken_plain below p q made sent stays is_cut n) (at_turned below p q w n run.free.at 0 n)
 
         settled_then : IsTrue (all_beyond below (input_frontier below p answered n) (held_at n 0 answered.held))
         settled_then =

@@ -12,7 +12,7 @@ use Rattle.update.specs.Bags.{Alike, count_of}
 use Rattle.update.specs.Updates.{as_of}
 use Rattle.update.specs.declared.change.Update.{Update}
 use Rattle.plan.specs.Changes.{has_passed}
-use Rattle.plan.specs.Nodes.{key_width}
+use Rattle.plan.specs.Nodes.{arranged_by, key_width}
 use Rattle.plan.specs.declared.node.Kind.{Kind}
 use Rattle.plan.specs.declared.node.Node.{Node}
 use Rattle.plan.specs.declared.node.Node.TheVariants.{Reduce}
@@ -35,7 +35,8 @@ use Rattle.worker.specs.Desks.{DeskState, IsReducedAt, IsDeskAt, IsDesk, with_re
 use Rattle.worker.proofs.GatheringLemmas.{in_hand_now, no_emission, cut_none, held_beyond, still_held, newly_held}
 use Rattle.worker.proofs.ArrangingLemmas.{taken_beyond, stays_passed}
 use Rattle.worker.proofs.ReducingLemmas.{same_reducing, all_still_were, turned_was, may_answer, gave_reducing, found_none}
-use Rattle.worker.proofs.DeskLemmas.{get_own, same_desk, same_but_reduction, others_after, desk_from, not_of_take, not_of_give}
+use Rattle.worker.proofs.DeskLemmas.{get_own, same_desk, same_but_reduction, sharing_reduction, others_after, desk_from, not_of_take, not_of_give}
+use Rattle.worker.proofs.ReadAtLemmas.{reads_taken, reads_turned, reads_none, reads_given}
 
 module _ {T : Type 0} (below : T → T → Bool) (joined : T → T → T) (minimum : T) (p : Dataflow) (w : State T) (k : ℕ) (d : DeskState T) (inserted : ℕ → List (Insertion T)) where
   -- what lies on the desk for a reduction is the reduction there
@@ -123,8 +124,8 @@ module _ {T : Type 0} (below : T → T → Bool) (joined : T → T → T) (minim
 
       pub reduce_absorb_desk : IsDesk below joined minimum p given k (with_reduction n s d)
       reduce_absorb_desk =
-          let first = others_after below joined minimum o p q w k d desk.inserted (Take number bundle) take d desk.inserted n (not_of_take k number bundle) (same_desk n d) (λ m e. refl) (λ m l e. desk.at m l) in
-          let then = others_after below joined minimum o p q taken k d desk.inserted (Give (no_emission n k) held []) reduce_absorb_may (with_reduction n s d) desk.inserted n (not_of_give k (no_emission n k) held []) (same_but_reduction n s d) (λ m e. refl) first in
+          let first = others_after below joined minimum o p q w k d desk.inserted (Take number bundle) take d desk.inserted n (not_of_take k number bundle) (same_desk below n d) (λ m e. refl) (reads_taken below p q w k desk.inserted number bundle take) (λ m l e. desk.at m l) in
+          let then = others_after below joined minimum o p q taken k d desk.inserted (Give (no_emission n k) held []) reduce_absorb_may (with_reduction n s d) desk.inserted n (not_of_give k (no_emission n k) held []) (same_but_reduction below n s d) (λ m e. refl) (reads_none below p q taken k desk.inserted (no_emission n k) held [] n refl) first in
           desk_from below joined minimum p given k (with_reduction n s d) desk.inserted n then
           (reduced_from below joined minimum p given k (with_reduction n s d) desk.inserted n kind source (node_of p n) reduce s (get_own d.reductions n (Some s) (Some r) there) (record {
             kind_is = same_kind ∙ before.kind_is;
@@ -134,6 +135,7 @@ module _ {T : Type 0} (below : T → T → Bool) (joined : T → T → T) (minim
             upper = before.upper;
             reducing = gave_reducing below o p q taken (no_emission n k) before.upper (pending_of s) before.upper (pending_of s) held [] reducing_now in_hand none_found is_held (cut_none below p n k);
           }))
+          (sharing_reduction minimum p d n s desk.sharing)
 
 -- ---- what the input frontier has passed is answered
 
@@ -194,8 +196,8 @@ module _ {T : Type 0} (below : T → T → Bool) (joined : T → T → T) (minim
 
     pub answer_desk : IsDesk below joined minimum p answered k (with_reduction n s d)
     answer_desk =
-        let first = others_after below joined minimum o p q w k d desk.inserted (TakeHeld k n) turn d desk.inserted n (λ m e. refl) (same_desk n d) (λ m e. refl) (λ m l e. desk.at m l) in
-        let then = others_after below joined minimum o p q turned k d desk.inserted (Give emission held sent) answer_may (with_reduction n s d) desk.inserted n (not_of_give k emission held sent) (same_but_reduction n s d) (λ m e. refl) first in
+        let first = others_after below joined minimum o p q w k d desk.inserted (TakeHeld k n) turn d desk.inserted n (λ m e. refl) (same_desk below n d) (λ m e. refl) (reads_turned below p q w k desk.inserted n k turn n) (λ m l e. desk.at m l) in
+        let then = others_after below joined minimum o p q turned k d desk.inserted (Give emission held sent) answer_may (with_reduction n s d) desk.inserted n (not_of_give k emission held sent) (same_but_reduction below n s d) (λ m e. refl) (reads_given below p q turned k desk.inserted emission held sent n (ap arranged_by reduce) cut) first in
         desk_from below joined minimum p answered k (with_reduction n s d) desk.inserted n then
         (reduced_from below joined minimum p answered k (with_reduction n s d) desk.inserted n kind source (node_of p n) reduce s (get_own d.reductions n (Some s) (Some r) there) (record {
           kind_is = same_kind ∙ held_back.kind_is;
@@ -205,3 +207,4 @@ module _ {T : Type 0} (below : T → T → Bool) (joined : T → T → T) (minim
           upper = front;
           reducing = gave_reducing below o p q turned emission held_back.upper (pending_of r) front (pending_of s) held sent pending_now hand_now is_found is_held cut;
         }))
+        (sharing_reduction minimum p d n s desk.sharing)

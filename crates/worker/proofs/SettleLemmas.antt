@@ -1,5 +1,5 @@
 -- What waits at an arrange node and the input frontier has passed is given and kept.
-use Rattle.std.proofs.Common.{◌≡◌, ℕ, ◌+◌, ◌≤◌, Bool, true, false, cond, not, List, [], ◌∷◌, Some, IsTrue, unsigned_abs, sym, refl, ap, ◌∙◌, subst, arith, inl, inr}
+use Rattle.std.proofs.Common.{◌≡◌, ℕ, suc, ◌+◌, ◌≤◌, ◌<◌, Bool, true, false, cond, not, List, [], ◌∷◌, Some, IsTrue, unsigned_abs, sym, refl, ap, ◌∙◌, subst, arith, inl, inr}
 use Rattle.std.specs.List.{slice_get, filter}
 use Rattle.std.specs.Result.{IfErr, OnOk}
 use Rattle.std.specs.Prelude.{Result, Ok, Err}
@@ -15,14 +15,15 @@ use Rattle.update.specs.declared.refusal.Refusal.{Refusal}
 use Rattle.update.specs.declared.refusal.Refusal.TheVariants.{OutOfMemory}
 use Rattle.update.proofs.ConsolidatedLemmas.{summed_size, summed_size_is}
 use Rattle.batch.specs.Descriptions.{BatchState}
-use Rattle.batch.specs.Intervals.{passed_updates, open_updates, is_interval_of}
+use Rattle.batch.specs.Intervals.{passed_updates, open_updates, all_between, is_interval_of}
 use Rattle.join.proofs.LargeLemmas.{large_size}
+use Rattle.plan.specs.Nodes.{is_join}
 use Rattle.plan.specs.declared.node.Node.TheVariants.{Arrange}
 use Rattle.machine.specs.declared.histories.event.Emission.{Emission}
 use Rattle.machine.specs.declared.histories.event.Event.{Event}
 use Rattle.machine.specs.declared.histories.event.Event.TheVariants.{TakeHeld, Give}
-use Rattle.machine.specs.Histories.Dataflows.{Dataflow, IsDataflow, node_of}
-use Rattle.machine.specs.Histories.States.{State, times, held_at}
+use Rattle.machine.specs.Histories.Dataflows.{Dataflow, IsDataflow, node_of, source_of}
+use Rattle.machine.specs.Histories.States.{State, times, place, queue, held_at}
 use Rattle.machine.specs.Histories.Outstanding.{input_frontier}
 use Rattle.machine.specs.Histories.Cuts.{cut}
 use Rattle.machine.specs.Histories.{state_after, give_state, IsTakeHeld}
@@ -32,10 +33,12 @@ use Rattle.worker.specs.Gathering.{IsCut, IsHeldFor}
 use Rattle.worker.specs.Arranging.{IsSealOf}
 use Rattle.worker.specs.Arrangements.{ArrangementState, IsKeptWith, rows_have, upper_of}
 use Rattle.worker.specs.Desks.{DeskState, IsDesk, with_arrangement}
-use Rattle.worker.specs.Relays.{IsRunning, IsSettledFrom, IsContinuedFrom, IsStopped, IsTooLarge}
+use Rattle.worker.specs.Relays.{IsRunning, IsRunFrom, IsContinuedFrom, IsStopped, IsTooLarge, waits_at}
 use Rattle.worker.proofs.GatheringLemmas.{held_now}
-use Rattle.worker.proofs.PassLemmas.{at_turned, at_given, front_given}
+use Rattle.worker.proofs.PassLemmas.{at_turned, at_passed, front_given}
+use Rattle.worker.proofs.ReadAtLemmas.{taken_next}
 use Rattle.worker.proofs.SendLemmas.{sent_due}
+use Rattle.worker.proofs.WaitLemmas.{none_there, nothing_cut}
 use Rattle.worker.proofs.ArrangeStepLemmas.{waiting_now, held_back, settle_interval, settle_may, settle_held, settle_desk, settle_desk_none}
 use Rattle.worker.proofs.BundleLemmas.{running_from}
 use Rattle.worker.proofs.RelayLemmas.{large_load}
@@ -141,34 +144,41 @@ module _ {T : Type 0} (below : T → T → Bool) (joined : T → T → T) (minim
         )
 
         module _ (rows : IsTrue (rows_have a.width out)) (s : ArrangementState T) (r : ArrangementState T) (spine_same : (i : List (Rattle.trace.specs.Readings.Insertion T)) → Rattle.spine.specs.Spines.Stands below a.spine i → Rattle.spine.specs.Spines.Stands below s.spine i)
-            (start_same : s.spine.list.start ≡ a.spine.list.start) (width_same : s.width ≡ a.width) (rest : s.waiting ≡ open_updates below upper a.waiting) (batch : BatchState T) (content : batch.updates ≡ out) (end : batch.description.upper ≡ upper) (kept : IsKeptWith below s r batch) where
+            (start_same : s.spine.list.start ≡ a.spine.list.start) (width_same : s.width ≡ a.width) (rest : s.waiting ≡ open_updates below upper a.waiting) (holds_same : s.holds ≡ a.holds) (between : IsTrue (all_between below (upper_of a.spine) upper out)) (none : waits_at n b.stations ≡ 0) (batch : BatchState T) (content : batch.updates ≡ out) (end : batch.description.upper ≡ upper) (kept : IsKeptWith below s r batch) where
           abbrev sent : List (Rattle.machine.specs.declared.histories.event.Bundle.Bundle T)
           sent = cut below p emission
+
+          readers_same : (number : ℕ) → 0 < number → slice_get r.holds number ≡ slice_get a.holds number
+          readers_same number l = kept.readers number l ∙ ap (λ hs. slice_get hs number) holds_same
+
+          -- each join has taken what the node gave before
+          caught : (m port : ℕ) → is_join (node_of p m) ≡ true → source_of p m port ≡ Some n → queue (place m port 0) w.in_flight ≡ []
+          caught m port join reads = let e : n ≤ n = omega arith in run.free.at.joins m port n join reads e
 
           desk_now : IsDesk below joined minimum p (give_state below p v emission held sent) 0 (with_arrangement n r d)
           desk_now = step out refl
             where
               step : (us : List (Update T)) → out ≡ us → IsDesk below joined minimum p (give_state below p v emission held sent) 0 (with_arrangement n r d)
-              step [] none = settle_desk_none below joined minimum o p q w 0 n turn source key arrange d run.desk a own upper same total out sealed held is_held sent own_cut r (kept.start ∙ start_same) (kept.width ∙ width_same) (kept.waiting ∙ rest) none
-                  (λ x. kept.none (content ∙ none) (run.desk.inserted n) (spine_same (run.desk.inserted n) x))
-              step (u ∷ us) some = settle_desk below joined minimum o p q w 0 n turn source key arrange d run.desk a own upper same total out sealed held is_held sent own_cut r (kept.start ∙ start_same) (kept.width ∙ width_same) (kept.waiting ∙ rest)
+              step [] none = settle_desk_none below joined minimum o p q w 0 n turn source key arrange d run.desk a own upper same total out sealed held is_held sent own_cut r (kept.start ∙ start_same) (kept.width ∙ width_same) (kept.waiting ∙ rest) readers_same none
+                  (λ x. kept.none (content ∙ none) (run.desk.inserted n) (spine_same (run.desk.inserted n) x)) (nothing_cut below p emission sent none own_cut)
+              step (u ∷ us) some = settle_desk below joined minimum o p q w 0 n turn source key arrange d run.desk a own upper same total out sealed held is_held sent own_cut r (kept.start ∙ start_same) (kept.width ∙ width_same) (kept.waiting ∙ rest) readers_same
                   (subst (λ (i : Rattle.trace.specs.Readings.Insertion T). Rattle.spine.specs.Spines.Stands below r.spine (i ∷ run.desk.inserted n)) (λ i. record { upper = end i; updates = content i })
                   (kept.some (λ z. full u us (sym some ∙ (sym content ∙ z))) (run.desk.inserted n) (spine_same (run.desk.inserted n) (held_back below joined minimum o p q w 0 n turn source key arrange d run.desk a own).stands)))
+                  (λ z. full u us (sym some ∙ z)) between refl caught
                 where
                   full : (u : Update T) (us : List (Update T)) → u ∷ us ≡ [] → ⊥
                   full u us z = cc
 
-          pub given_settled : IsSettledFrom below joined minimum h b f (with_arrangement n r d) n
-          given_settled =
-              let alone = run.free.at.alone in
+          -- the pass goes on to the next node
+          pub given_run : IsRunFrom below joined minimum h b f (with_arrangement n r d) (suc n)
+          given_run =
               let wide = subst (λ m. IsTrue (rows_have m out)) (held_back below joined minimum o p q w 0 n turn source key arrange d run.desk a own).width rows in
-              let due = sent_due p q alone emission turn.worker wide sent own_cut.whole own_cut.filled in
-              let at = at_given below p q v n emission held sent refl due (at_turned below p q w n run.free.at 0 n) in
+              let due = sent_due p q run.free.at.alone emission turn.worker wide sent own_cut.whole own_cut.filled in
               let front = front_given p q below v n emission held sent (omega arith) due in
-              let now = held_now below p v emission held sent in (
+              let now = held_now below p v emission held sent in
+              let settled = (λ i. all_beyond below (front i) (now i)) ∙ settle_held below joined minimum o p q w 0 n turn source key arrange d run.desk a own upper same total out sealed held is_held sent own_cut in
+              let at = at_passed below p q v n emission held sent refl due (taken_next below p q emission sent own_cut) (none_there p n b.stations w.in_flight run.stands.queues run.free.at.due none) settled (at_turned below p q w n run.free.at 0 n) in (
                 Give emission held sent ∷ TakeHeld 0 n ∷ [],
-                running_from below joined minimum f p same_flow (with_arrangement n r d) n (Give emission held sent ∷ TakeHeld 0 n ∷ h) own_given (record { at = at; hand = refl }) desk_now,
+                running_from below joined minimum f p same_flow (with_arrangement n r d) (suc n) (Give emission held sent ∷ TakeHeld 0 n ∷ h) own_given (record { at = at; hand = refl }) desk_now,
                 subst (λ z. Rattle.machine.specs.Histories.Actors.IsSameOfClients w (state_after below minimum z (Give emission held sent ∷ TakeHeld 0 n ∷ h))) (sym same_flow) (record { fed = refl; open_times = refl; since = λ v. refl }),
-                subst (λ z. IsTrue (all_beyond below (input_frontier below z (state_after below minimum z (Give emission held sent ∷ TakeHeld 0 n ∷ h)) n) (held_at n 0 (state_after below minimum z (Give emission held sent ∷ TakeHeld 0 n ∷ h)).held))) (sym same_flow)
-                    ((λ i. all_beyond below (front i) (now i)) ∙ settle_held below joined minimum o p q w 0 n turn source key arrange d run.desk a own upper same total out sealed held is_held sent own_cut),
               )

@@ -1,19 +1,47 @@
--- How many bundles wait at a node: one less after a take, and no more after a give.
-use Rattle.std.proofs.Common.{◌≡◌, ℕ, zero, suc, ◌+◌, ◌<◌, ◌≤◌, Bool, true, false, cond, ◌&&◌, ◌||◌, eqb, nat_lt, List, [], ◌∷◌, ◌++◌, length, map, Option, Some, None, IsTrue, sym, refl, ap, ◌∙◌, subst, arith}
-use Rattle.std.specs.List.{list_all, slice_get}
-use Rattle.std.proofs.lemmas.Bool.{ne_eqb}
+-- How many bundles wait at a node, and what is cut of nothing.
+use Rattle.std.proofs.Common.{◌≡◌, ℕ, zero, suc, ◌+◌, ◌<◌, ◌≤◌, Bool, true, false, cond, ◌&&◌, ◌||◌, eqb, nat_lt, not, List, [], ◌∷◌, ◌++◌, map, length, Option, Some, None, IsTrue, sym, refl, ap, ◌∙◌, subst, arith, inl, inr, ⊎_elim}
+use Rattle.std.specs.List.{slice_get, list_all, filter}
+use Rattle.std.proofs.lemmas.Bool.{and_parts, eqb-true, ne_eqb}
 use Rattle.std.proofs.lemmas.List.{append-nil}
 use Rattle.antichain.proofs.Lists.{Among, all_at}
+use Rattle.update.specs.declared.change.Update.{Update}
+use Rattle.plan.specs.Nodes.{sources, arranged_by}
+use Rattle.plan.specs.declared.node.Node.{Node}
+use Rattle.plan.specs.declared.node.Node.TheVariants.{Input, Map, Filter, Concat, Negate, Arrange, Join, Reduce, Output}
+use Rattle.linear.specs.Ports.{is_port}
 use Rattle.machine.specs.declared.histories.event.Site.{Site}
 use Rattle.machine.specs.declared.histories.event.Bundle.{Bundle}
-use Rattle.machine.specs.Histories.Dataflows.{Dataflow}
-use Rattle.machine.specs.Histories.States.{place, same_place, queue}
+use Rattle.machine.specs.declared.histories.event.Emission.{Emission}
+use Rattle.machine.specs.Histories.Dataflows.{Dataflow, node_of, source_of}
+use Rattle.machine.specs.Histories.States.{place, same_place, queue, updates_at}
+use Rattle.machine.specs.Histories.Shares.{are_filled, part, share, share_from}
 use Rattle.machine.specs.Histories.{without}
 use Rattle.machine.specs.Boards.Loads.{Lot, lot_of, queue_of, bundle_at}
+use Rattle.machine.proofs.BoardLemmas.PlacingLemmas.{itself}
+use Rattle.worker.specs.Gathering.{IsCut}
 use Rattle.worker.specs.Passes.{is_due}
 use Rattle.worker.specs.Relays.{waits_at}
-use Rattle.worker.proofs.PassLemmas.{due_parts}
-use Rattle.worker.proofs.QueueLemmas.{queue_both, queue_without}
+use Rattle.worker.proofs.PassLemmas.{due_parts, lt_from}
+use Rattle.worker.proofs.QueueLemmas.{queue_both, queue_without, none_sent}
+
+-- no node has more than two ports
+pub port_few : (node : Node) (port : ℕ) → IsTrue (is_port node port) → port < 2
+port_few node port h = step (eqb port 0) refl h
+  where
+    few : (node : Node) → length (sources node) ≤ 2
+    few (Input width) = omega arith
+    few (Map s items) = omega arith
+    few (Filter s test) = omega arith
+    few (Concat l r) = omega arith
+    few (Negate s) = omega arith
+    few (Arrange s key) = omega arith
+    few (Join l r) = omega arith
+    few (Reduce kind s) = omega arith
+    few (Output s) = omega arith
+
+    step : (c : Bool) → eqb port 0 ≡ c → (c || nat_lt port (length (sources node))) ≡ true → port < 2
+    step true e f = let x = eqb-true port 0 e in omega (arith, x)
+    step false e f = let l = lt_from port (length (sources node)) f in let m = few node in omega (arith, l, m)
 
 port_either : (port : ℕ) → port < 2 → (P : ℕ → Type 0) → P 0 → P 1 → P port
 port_either zero l P a b = a
@@ -83,3 +111,67 @@ module _ {T : Type 0} where
           let x = one_less (place n 1 0) bundles b e in
           let y = ap length (queue_without (place n 0 0) (place n 1 0) (no (eqb n n) (eqb 1 0) refl) bundles 0) in
           omega (arith, x, y)
+
+  -- if nothing waits at a node, then no bundle is there
+  pub none_there : (p : Dataflow) (n : ℕ) (stations : List (List (Lot T))) (bundles : List (Bundle T)) → ((site : Site) → queue_of stations site ≡ queue site bundles) → list_all (is_due p n) bundles ≡ true → waits_at n stations ≡ 0
+      → (b : Bundle T) → Among b bundles → b.place.node ≡ n → ⊥
+  none_there p n stations bundles same due none b m at =
+      let d = due_parts p n b (all_at (is_due p n) bundles b due m) in
+      let few = port_few (node_of p b.place.node) b.place.port d.port in
+      let count = sym (waits_are n stations bundles same) ∙ none in
+      port_either b.place.port few (λ port. b.place.port ≡ port → ⊥) (λ e. some 0 (here 0 e d.worker) count) (λ e. some 1 (here 1 e d.worker) count) refl
+    where
+      here : (port : ℕ) → b.place.port ≡ port → b.place.worker ≡ 0 → same_place b.place (place n port 0) ≡ true
+      here port e w = subst (λ site. same_place b.place site ≡ true) (λ i. record { node = at i; port = e i; worker = w i }) (itself b.place)
+
+      long : (site : Site) (xs : List (Bundle T)) → Among b xs → same_place b.place site ≡ true → 0 < length (queue site xs)
+      long site [] a e = absurd a
+      long site (c ∷ xs) a e = ⊎_elim (λ x. first x) (λ x. later (same_place c.place site) (long site xs x e)) a
+        where
+          first : c ≡ b → 0 < length (queue site (c ∷ xs))
+          first x = subst (λ y. 0 < length (cond y (c ∷ []) [] ++ queue site xs)) (sym (ap (λ (z : Bundle T). same_place z.place site) x ∙ e)) (omega arith)
+
+          later : (y : Bool) → 0 < length (queue site xs) → 0 < length (cond y (c ∷ []) [] ++ queue site xs)
+          later true l = omega arith
+          later false l = l
+
+      some : (port : ℕ) → same_place b.place (place n port 0) ≡ true → count_at n bundles ≡ 0 → ⊥
+      some zero e c = let l = long (place n 0 0) bundles m e in absurd (omega (arith, l, c))
+      some (suc zero) e c = let l = long (place n 1 0) bundles m e in absurd (omega (arith, l, c))
+      some (suc (suc port)) e c = absurd (none_such port e)
+        where
+          none_such : (port : ℕ) → same_place b.place (place n (suc (suc port)) 0) ≡ true → ⊥
+          none_such port e = let few = port_few (node_of p b.place.node) b.place.port (due_parts p n b (all_at (is_due p n) bundles b due m)).port in
+              let x = eqb-true b.place.port (suc (suc port)) (and_parts (eqb b.place.port (suc (suc port))) (eqb b.place.worker 0) (and_parts (eqb b.place.node n) (eqb b.place.port (suc (suc port)) && eqb b.place.worker 0) e).1).0 in
+              omega (arith, few, x)
+
+module _ {T : Type 0} (below : T → T → Bool) (p : Dataflow) (g : Emission T) (sent : List (Bundle T)) where
+  -- of nothing no bundle is cut
+  pub nothing_cut : g.updates ≡ [] → IsCut below p g sent → sent ≡ []
+  nothing_cut none cut = step sent cut.whole cut.filled
+    where
+      part_none : (c : Option ℕ) (giver worker : ℕ) (us : List (Update T)) → us ≡ [] → part p c giver worker us ≡ []
+      part_none None giver worker us e = (λ i. cond (eqb giver worker) (e i) []) ∙ off (eqb giver worker)
+        where
+          off : (b : Bool) → cond {A = List (Update T)} b [] [] ≡ []
+          off true = refl
+          off false = refl
+      part_none (Some columns) giver worker us e = ap (filter (λ u. eqb (Rattle.machine.specs.Histories.Dataflows.route p (Rattle.std.proofs.Common.take columns u.row)) worker)) e
+
+      share_none : (source columns : Option ℕ) (worker : ℕ) → share_from p source columns worker g ≡ []
+      share_none None columns worker = refl
+      share_none (Some s) columns worker = on (eqb g.node s)
+        where
+          on : (b : Bool) → cond b (part p columns g.worker worker g.updates) [] ≡ []
+          on true = part_none columns g.worker worker g.updates none
+          on false = refl
+
+      step : (bs : List (Bundle T)) → ((site : Site) → updates_at site bs ≡ share p site g) → are_filled bs ≡ true → bs ≡ []
+      step [] whole filled = refl
+      step (b ∷ bs) whole filled = absurd (some (none_sent b.place (b ∷ bs) (whole b.place ∙ share_none (source_of p b.place.node b.place.port) (arranged_by (node_of p b.place.node)) b.place.worker) filled))
+        where
+          some : queue b.place (b ∷ bs) ≡ [] → ⊥
+          some e = full (sym (ap (λ c. cond c (b ∷ []) [] ++ queue b.place bs) (itself b.place)) ∙ e)
+            where
+              full : b ∷ queue b.place bs ≡ [] → ⊥
+              full z = cc

@@ -142,7 +142,7 @@ module _ {T : Type 0} (below : T → T → Bool) (o : PartialOrderLaws below) (p
 -- The worker's own events
 
 -- an event at this node is at no other
-elsewhere_node : (n m : ℕ) (b : Bool) → m ≢ n → (eqb n m && b) ≡ false
+pub elsewhere_node : (n m : ℕ) (b : Bool) → m ≢ n → (eqb n m && b) ≡ false
 elsewhere_node n m b d = ap (λ c. c && b) (ne_eqb n m (λ e. d (sym e)))
 
 module _ {T : Type 0} (below : T → T → Bool) (o : PartialOrderLaws below) (p : Dataflow) (q : IsDataflow p) (w : State T) (k : ℕ) (works next : Works T) (is : IsWorking below p w k works) (e : Event T) (allowed : IsAllowed below p w e)
@@ -310,7 +310,7 @@ module _ {T : Type 0} (below : T → T → Bool) (o : PartialOrderLaws below) (p
 
 -- What no join reads
 
-no_join_reads : (p : Dataflow) → IsDataflow p → (n : ℕ) → arranged_by (node_of p n) ≡ None → (m i l r : ℕ) → node_of p m ≡ Join l r → source_of p m i ≡ Some n → ⊥
+pub no_join_reads : (p : Dataflow) → IsDataflow p → (n : ℕ) → arranged_by (node_of p n) ≡ None → (m i l r : ℕ) → node_of p m ≡ Join l r → source_of p m i ≡ Some n → ⊥
 no_join_reads p q n a m i l r f e =
     let key = source_arranged p.nodes q.plan m i n (has_source p.nodes m i n e) (ap is_linear f) e in
     none-some _ (sym a ∙ key)

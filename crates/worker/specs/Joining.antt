@@ -1,5 +1,5 @@
 -- What a worker has at a join: of both sources' traces as much as it took, and what it has still to take.
-use Rattle.std.specs.Prelude.{◌≡◌, ℕ, ◌*◌, ◌≤◌, Bool, false, ◌&&◌, eqb, List, map, IsTrue}
+use Rattle.std.specs.Prelude.{◌≡◌, ℕ, suc, ◌*◌, ◌≤◌, Bool, false, ◌&&◌, eqb, List, map, length, IsTrue}
 use Rattle.lattice.specs.Frontiers.{all_beyond}
 use Rattle.update.specs.Bags.{Alike}
 use Rattle.update.specs.Updates.{as_of, size}
@@ -31,6 +31,11 @@ pub record IsQueued {T : Type 0} (w : State T) (n port k : ℕ) (inserted taken 
   pub all : inserted ≡ on_top later taken
   pub queued : map (λ (b : Bundle T). b.updates) (queue (place n port k) w.in_flight)
       ≡ map (λ (i : Insertion T). i.updates) later
+
+-- all that was inserted at the source was taken at the port, but at most the newest insertion
+pub record IsReadAt {T : Type 0} (w : State T) (n port k : ℕ) (inserted taken : List (Insertion T)) : Type 0 where
+  pub queued : IsQueued w n port k inserted taken
+  pub few : length inserted ≤ suc (length taken)
 
 module _ {T : Type 0} (below : T → T → Bool) where
   -- what a join answers of a bundle: the pairs with what it took at the other port, consolidated or not

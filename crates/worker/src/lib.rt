@@ -43,7 +43,7 @@ pub use laws::reducing::{
     turning_leaves_it,
 };
 pub use laws::working::{
-    gives_at_one_node, inserts_at_one_node, joins_read_arranged_nodes, quiet_while_it_waits,
+    clients_leave_it_ready, gives_at_one_node, inserts_at_one_node, joins_read_arranged_nodes, quiet_while_it_waits,
     reader_has_all, takes_at_one_node, workers_are_apart, working_begins,
 };
 pub use reducing::Reducing;

@@ -16,6 +16,9 @@ ghost use Rattle.machine.specs.Histories.States.{State, emitted_by};
 ghost use Rattle.machine.specs.Histories.NodeLaws.{received_at};
 ghost use Rattle.machine.specs.Histories.Readings.{IsQuiet};
 ghost use Rattle.machine.specs.Histories.{initial_state, next_state, give_state, state_after, input_frontier_after, IsTake, IsGive, IsAllowed, IsLegal};
+ghost use Rattle.machine.specs.Boards.{BoardState, Stands};
+ghost use Rattle.worker.specs.Desks.{DeskState};
+ghost use Rattle.worker.specs.Relays.{IsRunning, is_of_client};
 ghost use Rattle.worker.specs.Gathering.{IsCut};
 ghost use Rattle.worker.specs.Working.{Works, IsWorking, IsWorkingAt, IsSameBut, IsForNoJoin, first_works, is_by, still_to_give};
 
@@ -111,4 +114,13 @@ pub fn joins_read_arranged_nodes<T: Minimum>()
     ensures { (p : Dataflow) → IsDataflow p
         → (g : Emission T) (sent : List (Bundle T)) → arranged_by (node_of p g.node) ≡ None
         → IsCut T.below p g sent → (k : ℕ) → IsForNoJoin p k sent }
+{}
+
+/// What a client does, or a look, leaves the only worker of a plan ready for its next pass.
+pub fn clients_leave_it_ready<T: Minimum>()
+    ensures { (b c : BoardState T) (d : DeskState T) (h : List (Event T)) (e : Event T)
+        → IsDataflow b.dataflow
+        → IsRunning T.below T.joined T.least b d 0 h → c.dataflow ≡ b.dataflow
+        → Stands T.below T.least c (e ∷ h) → IsTrue (is_of_client e)
+        → IsRunning T.below T.joined T.least c d 0 (e ∷ h) }
 {}

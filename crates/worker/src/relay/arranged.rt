@@ -7,7 +7,7 @@ ghost use Rattle.machine.specs.Histories.Dataflows.{node_of};
 ghost use Rattle.machine.specs.Boards.Loads.{queue_of};
 ghost use Rattle.machine.specs.Boards.Reads.{is_ready};
 ghost use Rattle.worker.specs.Desks.{DeskState, with_arrangement};
-ghost use Rattle.worker.specs.Relays.{IsRunning, IsRunFrom, IsSettledFrom, IsStopped, waits_at};
+ghost use Rattle.worker.specs.Relays.{IsRunning, IsRunFrom, IsStopped, waits_at};
 
 use crate::arrangement::Arrangement;
 use crate::relay::giving::{give_on, hold_back};
@@ -55,8 +55,9 @@ pub(crate) fn absorb<T: Minimum>(
     hold_back(alloc, board, place.node, held)
 }
 
-/// Gives what waits at an arrange node and the node's input frontier has passed, in one piece, and keeps it in the
-/// spine. `start` is any antichain.
+/// Gives what waits at an arrange node and the node's input frontier has passed, in one piece, and keeps it in the spine.
+/// It is the last step at the node: no bundle waits there. Afterwards each join that reads the node has one bundle
+/// waiting, or none. `_start` is not used: generic code with a local antichain needs the type in its signature.
 pub(crate) fn settle<T: Minimum>(
     alloc: Global,
     _start: &Antichain<T>,
@@ -72,12 +73,13 @@ pub(crate) fn settle<T: Minimum>(
     requires arrange { (source : ℕ) × (key : ℕ)
         × (node_of board.old.dataflow node ≡ Arrange source key) }
     requires within { node < length board.old.dataflow.nodes }
+    requires none { waits_at node board.old.stations ≡ 0 }
     requires ready { IsTrue (is_ready T.below board.old 0 node) }
     ensures runs { (d : DeskState T) (h : List (Event T))
         → IsRunning T.below T.joined T.least board.old d node h
         → slice_get d.arrangements node ≡ Some (Some arrangement.old)
-        → OnOk result (IsSettledFrom T.below T.joined T.least h board.old board.new
-        (with_arrangement node arrangement.new d) node) }
+        → OnOk result (IsRunFrom T.below T.joined T.least h board.old board.new
+        (with_arrangement node arrangement.new d) (suc node)) }
     ensures stopped { (d : DeskState T) (h : List (Event T))
         → IsRunning T.below T.joined T.least board.old d node h
         → slice_get d.arrangements node ≡ Some (Some arrangement.old)

@@ -2,7 +2,7 @@ use Rattle.std.proofs.Common.{◌≡◌, ◌∷◌, ◌++◌, List, ap, refl, sy
 use Rattle.std.proofs.lemmas.Result.{err_from_is_err_and}
 use Rattle.update.specs.declared.change.Update.{Update}
 use Rattle.update.specs.Updates.{HasLargeTotal}
-use Rattle.batch.specs.Intervals.{is_interval_of, passed_updates, open_updates}
+use Rattle.batch.specs.Intervals.{is_interval_of, all_between, passed_updates, open_updates}
 use Rattle.batch.specs.Descriptions.{DescriptionState}
 use Rattle.trace.specs.BatchLists.{Continues}
 use Rattle.machine.specs.declared.histories.event.Emission.{Emission}
@@ -13,7 +13,7 @@ use Rattle.worker.specs.Arrangements.{ArrangementState, rows_have, upper_of}
 use Rattle.worker.specs.Relays.{IsStopped}
 use Rattle.worker.proofs.RelayLemmas.{goes_further}
 use Rattle.worker.proofs.BundleLemmas.{if_err_at}
-use Rattle.worker.proofs.SettleLemmas.{stands_kept, found_kept, on_ok_by, stopped_for_memory, memory_or, turned_continued, may_seal_it, large_sealed, sealed_may, given_continued, given_settled}
+use Rattle.worker.proofs.SettleLemmas.{stands_kept, found_kept, on_ok_by, stopped_for_memory, memory_or, turned_continued, may_seal_it, large_sealed, sealed_may, given_continued, given_run}
 use Rattle.worker.proofs.relay.arranged.settle.Goals as goal
 
 pub returns-in_err-upper-clause-stopped : goal.returns-in_err-upper-clause-stopped
@@ -204,10 +204,11 @@ returns-clause-runs g c d h run own =
     let given = c.in_ok-give_on.ensures.stands (f.last ∷ h) stands may in
     let given_cut = c.in_ok-give_on.ensures.cut in
     on_ok_by c.keep.result
-    (given_settled below joined least o b q d n h run e.0 e.1 e.2 a own f turned stands upper found total out seal held for c.give_on.new.board c.give_on.ensures.dataflow em made given_cut given
+    (given_run below joined least o b q d n h run e.0 e.1 e.2 a own f turned stands upper found total out seal held for c.give_on.new.board c.give_on.ensures.dataflow em made given_cut given
     (subst (λ (x : ArrangementState g.row.T.Denot). IsTrue (rows_have x.width out)) room sealed.rows) c.seal.new.self c.keep.new.arrangement
     (λ i x. subst (λ (z : ArrangementState g.row.T.Denot). Rattle.spine.specs.Spines.Stands below z.spine i) (sym sealed.rest) (c.in_ok-reserve.ensures.stands i x))
     (ap (λ (x : ArrangementState g.row.T.Denot). x.spine.list.start) is) (ap (λ (x : ArrangementState g.row.T.Denot). x.width) is) (ap (λ (x : ArrangementState g.row.T.Denot). x.waiting) is)
+    (ap (λ (x : ArrangementState g.row.T.Denot). x.holds) is) (subst (λ (x : ArrangementState g.row.T.Denot). IsTrue (all_between below (upper_of x.spine) upper out)) room sealed.between) c.requires.none
     batch refl (ap (λ (x : DescriptionState g.row.T.Denot). x.upper) sealed.described))
     c.keep.ensures.kept
 
