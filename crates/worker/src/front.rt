@@ -61,6 +61,21 @@ pub(crate) fn put_in_all<T: Lattice>(front: &mut Vec<T>, times: &[T]) -> Result<
     Ok(())
 }
 
+// Takes in the times of all of these updates.
+pub(crate) fn put_in_updates<T: Lattice>(
+    front: &mut Vec<T>,
+    updates: &[Update<T>],
+) -> Result<(), Refusal>
+    ensures beyond { OnOk result ((t : T) → is_beyond T.below front.new.items t
+        ≡ (is_beyond T.below front.old.items t || is_beyond T.below (times_of updates.now) t)) }
+    ensures only { IfErr result (λ refused. refused ≡ Refusal.OutOfMemory) }
+{
+    for update in updates {
+        put_in(front, update.time)?;
+    }
+    Ok(())
+}
+
 // The least of some times and of the times of some updates.
 pub(crate) fn front_with<T: Lattice>(
     alloc: Global,
@@ -72,9 +87,7 @@ pub(crate) fn front_with<T: Lattice>(
     ensures only { IfErr result (λ refused. refused ≡ Refusal.OutOfMemory) }
 {
     let mut front = Vec::from_slice(alloc, times)?;
-    for update in updates {
-        put_in(&mut front, update.time)?;
-    }
+    put_in_updates(&mut front, updates)?;
     Ok(front)
 }
 

@@ -1,5 +1,5 @@
 use Rattle.worker.proofs.FrontLemmas.{front_loop}
-use Rattle.worker.proofs.front.front_with.Goals as goal
+use Rattle.worker.proofs.front.put_in_updates.Goals as goal
 
 pub loop-update-preserved : goal.loop-update-preserved
 loop-update-preserved g c t =
