@@ -1,12 +1,8 @@
 -- What the program can be asked for, and what it then writes.
-use Rattle.std.specs.Prelude.{◌≡◌, ℕ, ◌<◌, Bool, true, false, take, List, [], ◌∷◌, ◌++◌, length, codes, decimal}
-use Rattle.plan.specs.Nodes.{node_at, is_linear}
+use Rattle.std.specs.Prelude.{◌≡◌, ℕ, List, [], ◌∷◌, ◌++◌, length, codes, decimal}
 use Rattle.grammar.specs.ScriptModels.{ScriptModel}
-use Rattle.grammar.specs.Scripts.{IsDeclaredOn}
-use Rattle.grammar.specs.Text.{lines_of}
 use Rattle.script.specs.Ends.{IsTextBeforeOverflow}
 use Rattle.script.specs.Text.{text}
-use Rattle.script.specs.Workers.{is_linear_plan}
 use Rattle.bitview.specs.declared.command_line.Action.{Action}
 use Rattle.bitview.specs.declared.command_line.Action.TheVariants.{Run, Plain, Check}
 
@@ -15,18 +11,6 @@ abbrev pub IsInRange : Action → Type 0
 IsInRange (Run file workers) = workers ≡ 1
 IsInRange (Plain file) = Unit {0}
 IsInRange (Check file) = Unit {0}
-
--- the action takes the script: workers do not carry on joins and reductions yet
-abbrev pub takes : Action → ScriptModel → Bool
-takes (Run file workers) t = is_linear_plan t.plan
-takes (Plain file) t = true
-takes (Check file) t = true
-
--- the line with this number declares the first node of the script that is a join or a reduction
-abbrev pub IsFirstNotLinear : List ℕ → ScriptModel → ℕ → Type 0
-IsFirstNotLinear bytes t number =
-    (n : ℕ) × IsDeclaredOn (lines_of bytes) n number × (n < length t.plan)
-    × (is_linear (node_at t.plan n) ≡ false) × (is_linear_plan (take n t.plan) ≡ true)
 
 -- ok NODES COMMANDS
 abbrev pub check_text : ScriptModel → List ℕ

@@ -2,19 +2,17 @@
 //!
 //! If the second output, standard error, fails, nothing else changes: the status alone then says what went
 //! wrong.
-ghost use Rattle.std.specs.Prelude.{◌≡◌, ◌⊎◌, ℕ, List, Ok, Some, IfErr, IfSome, OnOk, is_some, not, option_map};
-ghost use Rattle.grammar.specs.Scripts.{script_of};
+ghost use Rattle.std.specs.Prelude.{◌≡◌, ℕ, List, Some, IfErr, OnOk, option_map};
 ghost use Rattle.script.specs.Engines.{failures};
 ghost use Rattle.script.specs.Outs.{IsBeginning};
 ghost use Rattle.script.specs.declared.fault.RunFault.TheVariants.{Refused};
-ghost use Rattle.bitview.specs.Actions.{IsInRange, IsFirstNotLinear, IsPartBeforeOverflow, asked_text, check_text, takes};
+ghost use Rattle.bitview.specs.Actions.{IsInRange, IsPartBeforeOverflow, asked_text, check_text};
 ghost use Rattle.bitview.specs.Acts.{Acts, IsCarriedOut, status_of, fault_status};
 
 use crate::command_line::Action;
-use grammar::{Fault, Script, line_of_node, parse};
-use script::{Out, RunFault, first_not_linear, plain_script, put_all, run_script};
+use grammar::{Fault, Script, parse};
+use script::{Out, RunFault, plain_script, put_all, run_script};
 use std::alloc::{AllocError, Global};
-use update::Refusal;
 
 /// Carries out the action on the file's bytes, or on `None` if the file was not read. The script's text, or for
 /// `check` the number of its nodes and commands, goes to the first output. One line about what went wrong goes
@@ -23,7 +21,7 @@ use update::Refusal;
 /// | Status | When | The line on the second output |
 /// |---|---|---|
 /// | 0 | done, refused commands included | none |
-/// | 2 | the file is at fault; or workers are to run it, and do not take its plan yet: the fault is then code 31 at the line of its first join or reduction | `fault line L code C` |
+/// | 2 | the file is at fault | `fault line L code C` |
 /// | 3 | memory was refused, or the file or the output failed | `no memory`; `cannot read FILE`; `cannot write` |
 /// | 4 | a number does not fit in 64 bits | `overflow` |
 ///
@@ -40,7 +38,7 @@ pub fn act<W: Out, E: Out>(
 ) -> u8
     requires { IsInRange action }
     ensures { Acts (λ taken failures. W.took out.old taken failures out.new)
-        (takes action.entry) (asked_text action.entry) (IsPartBeforeOverflow action.entry)
+        (asked_text action.entry) (IsPartBeforeOverflow action.entry)
         (option_map (λ b. b.now) bytes.entry) result }
 {
     match bytes {
@@ -63,56 +61,12 @@ fn act_on<W: Out, E: Out>(
 ) -> u8
     requires { IsInRange action }
     ensures { Acts (λ taken failures. W.took out.old taken failures out.new)
-        (takes action.entry) (asked_text action.entry) (IsPartBeforeOverflow action.entry)
+        (asked_text action.entry) (IsPartBeforeOverflow action.entry)
         (Some bytes.now) result }
 {
     match parse(alloc, bytes) {
-        Ok(script) => act_on_script(alloc, action, bytes, &script, out, error),
+        Ok(script) => carry_out(alloc, action, &script, out, error),
         Err(fault) => refuse(alloc, fault, error),
-    }
-}
-
-// Carries out the action on the file's script, if it takes that script.
-fn act_on_script<W: Out, E: Out>(
-    alloc: Global,
-    action: Action<'_>,
-    bytes: &[u8],
-    script: &Script,
-    out: &mut W,
-    error: &mut E,
-) -> u8
-    requires range { IsInRange action }
-    requires script { script_of bytes.now ≡ Ok script.now }
-    ensures { Acts (λ taken failures. W.took out.old taken failures out.new)
-        (takes action.entry) (asked_text action.entry) (IsPartBeforeOverflow action.entry)
-        (Some bytes.now) result }
-{
-    match node_fault(alloc, action, bytes, script) {
-        None => carry_out(alloc, action, script, out, error),
-        Some(fault) => refuse(alloc, fault, error),
-    }
-}
-
-// The fault of a script that the action does not take: the line of its first join or reduction. It also comes
-// with code 1, if memory ran out while that line was looked for.
-fn node_fault(alloc: Global, action: Action<'_>, bytes: &[u8], script: &Script) -> Option<Fault>
-    requires { script_of bytes.now ≡ Ok script.now }
-    ensures taken { is_some result ≡ not (takes action.entry script.now) }
-    ensures line { IfSome result (λ fault. (fault.code ≡ 1)
-        ⊎ ((fault.code ≡ 31) × IsFirstNotLinear bytes.now script.now fault.line)) }
-{
-    match action {
-        Action::Run { .. } => {
-            let node = first_not_linear(script.plan())?;
-            Some(match line_of_node(alloc, bytes, node) {
-                Ok(line) => Fault {
-                    line,
-                    code: Refusal::UnknownCommand.code(),
-                },
-                Err(fault) => fault,
-            })
-        }
-        Action::Plain { .. } | Action::Check { .. } => None,
     }
 }
 
@@ -126,7 +80,7 @@ fn carry_out<W: Out, E: Out>(
 ) -> u8
     requires { IsInRange action }
     ensures { IsCarriedOut (λ taken failures. W.took out.old taken failures out.new)
-        (takes action.entry) (asked_text action.entry) (IsPartBeforeOverflow action.entry)
+        (asked_text action.entry) (IsPartBeforeOverflow action.entry)
         script.now result }
 {
     match write_asked(alloc, action, script, out) {
@@ -172,8 +126,8 @@ fn write_size<W: Out>(alloc: Global, script: &Script, out: &mut W) -> Result<(),
     Ok(())
 }
 
-// Reports why a run ended early. Only codes 1 and 10 occur today: the number of workers is always 1, they take
-// the plan, and there are no threads that might not start.
+// Reports why a run ended early. Only codes 1 and 10 occur today: the number of workers is always 1, and there
+// are no threads that might not start.
 fn end<E: Out>(alloc: Global, fault: RunFault, error: &mut E) -> u8
     ensures { result ≡ status_of fault }
 {

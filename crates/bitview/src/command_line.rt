@@ -40,7 +40,7 @@ Faults: `fault line L code C` on standard error. Nothing is run.
   19  the sources are arranged by different keys
   20  a width that is not 1 to 8
   21  a key of no columns, or of more than the source has
-  31  an unknown command, kind or comparison, or a node that `run` does not take yet
+  31  an unknown command, kind or comparison
   32  too few or too many words
   33  not a number or an item
   34  a line on the wrong side of `start`, a second `start`, or none

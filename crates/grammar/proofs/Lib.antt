@@ -10,7 +10,6 @@ pub mod WordLoopLemmas
 pub mod PlaceLemmas
 pub mod RunLemmas
 pub mod FaultLemmas
-pub mod DeclaredLemmas
 pub mod ScriptLemmas
 pub mod RoundTripLemmas
 pub mod CutLemmas

@@ -49,20 +49,6 @@ IsReached lines n = (before : List (List ℕ)) × (rest : List (List ℕ)) × (k
     × (lines ≡ before ++ rest) × (n ≡ length before + 1)
     × (parse_lines 1 first_parse_state before ≡ Ok k)
 
--- line number `number` is in order, and node n of the plan is the one that it declares
-pub record IsDeclaredOn (lines : List (List ℕ)) (n number : ℕ) : Type 0 where
-  pub before : List (List ℕ)
-  pub line : List ℕ
-  pub rest : List (List ℕ)
-  pub k : ParseState
-  pub next : ParseState
-  pub parts : lines ≡ before ++ line ∷ rest
-  pub counted : number ≡ length before + 1
-  pub in_order : parse_lines 1 first_parse_state before ≡ Ok k
-  pub says : line_of number k line ≡ Ok next
-  pub nodes_before : length k.plan ≡ n
-  pub nodes_behind : length next.plan ≡ n + 1
-
 -- the lines before number n are in order, and line n is not; or all lines are in order, none of them is
 -- `start`, and n is one past the last line
 abbrev pub IsFirstFault : List (List ℕ) → ℕ → Refusal → Type 0

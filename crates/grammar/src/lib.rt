@@ -20,7 +20,6 @@ mod items;
 mod keyword;
 mod kind;
 mod laws;
-mod line_numbers;
 mod lines;
 mod names;
 mod nodes;
@@ -37,6 +36,5 @@ pub use laws::{
     first_faults_decide, joined_texts_are_cut_again, lines_are_spelled, numbers_have_one_form,
     scripts_are_spelled,
 };
-pub use line_numbers::line_of_node;
 pub use parser::parse;
 pub use script::Script;

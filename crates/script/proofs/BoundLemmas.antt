@@ -26,7 +26,6 @@ use Rattle.plan.specs.Queries.{source_value}
 use Rattle.plan.specs.Reductions.{has_key, sum_of_counts}
 use Rattle.plan.specs.Rules.{IsPlan}
 use Rattle.plan.specs.Bounds.{bound_by, output_bound, HasLargeBound}
-use Rattle.plan.specs.declared.node.Kind.{Kind}
 use Rattle.plan.specs.declared.node.Node.{Node}
 use Rattle.plan.specs.declared.node.Node.TheVariants.{Join, Reduce}
 use Rattle.plan.proofs.BoundLemmas.{output_bound-le, own_free}

@@ -2,11 +2,6 @@ pub mod BagLemmas
 pub mod OutLemmas
 pub mod PrinterLemmas
 pub mod TextLemmas
-pub mod GiveLemmas
-pub mod DiffLemmas
-pub mod DueLemmas
-pub mod RelayLemmas
-pub mod FeedLemmas
 pub mod StandingLemmas
 pub mod ReadLemmas
 pub mod OrderLemmas
@@ -17,4 +12,3 @@ pub mod BoundLemmas
 pub mod EveryBoundLemmas
 pub mod LargeLemmas
 pub mod OracleEngineLemmas
-pub mod WorkerLemmas

@@ -1,6 +1,5 @@
 -- The state of the oracle engine is that of its session, and so are its answers.
 use Rattle.std.proofs.Common.{◌≡◌, ℕ, zero, suc, ◌+◌, ◌<◌, ◌≤◌, Bool, true, false, cond, not, ◌||◌, eqb, ltb-true, List, [], ◌∷◌, ◌++◌, ℤ, map, length, get_or, Option, Some, None, Result, Ok, Err, IsTrue, inl, inr, ⊎_elim, refl, sym, ◌∙◌, ap, subst, length-append, nat_le, nat_lt, unsigned_abs, arith}
-use Rattle.std.specs.Int.{w64}
 use Rattle.std.specs.Prelude.{pos, ◌+ℤ◌, set, reverse, IfOk, IfErr, OnOk, OnErr}
 use Rattle.std.specs.Cmp.{IsTotalOrder}
 use Rattle.std.specs.List.{filter, flat_map, list_all}
@@ -36,8 +35,6 @@ use Rattle.plan.specs.Bounds.{HasLargeBound}
 use Rattle.plan.specs.Widths.{width_of}
 use Rattle.plan.specs.declared.node.Node.{Node}
 use Rattle.plan.proofs.PlanLemmas.{no_first, no_fault}
-use Rattle.plan.proofs.StandLemmas.{above_earlier}
-use Rattle.plan.proofs.StepLemmas.{query_by_sources}
 use Rattle.plan.proofs.CountLemmas.{count_of-append}
 use Rattle.machine.specs.declared.histories.event.Fed.{Fed}
 use Rattle.machine.specs.Boards.Inputs.{front_at, feed_faults, advance_faults}

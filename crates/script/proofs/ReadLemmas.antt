@@ -1,5 +1,5 @@
 -- Reading a board on which nothing waits gives the session's answers.
-use Rattle.std.proofs.Common.{◌≡◌, ℕ, ◌<◌, Bool, not, ◌||◌, List, [], ◌∷◌, ◌++◌, length, Option, Some, None, Result, Ok, Err, IsTrue, refl, sym, ◌∙◌, ap, subst, inl, inr, ◌⊎◌}
+use Rattle.std.proofs.Common.{◌≡◌, ℕ, ◌<◌, Bool, true, not, ◌||◌, List, [], ◌∷◌, length, Option, Some, None, Result, Ok, Err, IsTrue, refl, sym, ◌∙◌, ap, subst, inl, inr, ◌⊎◌}
 use Rattle.std.specs.Prelude.{FitsSigned, IfOk, IfErr, OnOk}
 use Rattle.std.specs.Cmp.{IsTotalOrder}
 use Rattle.std.specs.Int.{w64}
@@ -22,7 +22,7 @@ use Rattle.plan.specs.Rules.{first_refusal}
 use Rattle.plan.specs.Bounds.{HasLargeBound}
 use Rattle.plan.proofs.PlanLemmas.{no_first, no_fault}
 use Rattle.machine.specs.declared.histories.event.Fed.{Fed}
-use Rattle.machine.specs.Histories.Dataflows.{Dataflow, node_of}
+use Rattle.machine.specs.Histories.Dataflows.{node_of}
 use Rattle.machine.specs.Histories.States.{fed_to, open_at}
 use Rattle.machine.specs.Histories.{state_after}
 use Rattle.machine.specs.Histories.Outstanding.{frontier}
@@ -31,22 +31,20 @@ use Rattle.machine.specs.Boards.{BoardState, IsBoard}
 use Rattle.machine.specs.Histories.Readings.{is_from_start}
 use Rattle.std.proofs.lemmas.Bool.{or_left, or_right}
 use Rattle.machine.specs.Boards.Reads as reads
-use Rattle.machine.specs.Boards.Reads.{front, captured_of, since_of}
+use Rattle.machine.specs.Boards.Reads.{front, captured_of, since_of, is_quiet_board}
 use Rattle.update.specs.Refusals.{IsRefusalOr, IsMemoryOrOverflow}
 use Rattle.machine.proofs.HistoryLemmas.FlowLemmas.{is_passed, not_beyond}
-use Rattle.machine.proofs.BoardLemmas.FrontLemmas.{front_stands, front_elements}
+use Rattle.machine.proofs.BoardLemmas.FrontLemmas.{front_stands, front_elements, quiet_into}
 use Rattle.machine.proofs.HistoryLemmas.HeadlineLemmas.{headline_lem}
 use Rattle.machine.proofs.HistoryLemmas.PassedLemmas.{passed_down}
 use Rattle.machine.proofs.HistoryLemmas.PlaceLemmas.{in_place_lem}
 use Rattle.machine.proofs.HistoryLemmas.QuietLemmas.{caught_up_lem, beyond_elements}
 use Rattle.script.specs.Bags.{consolidated_bag}
 use Rattle.script.specs.Engines.{IsFound}
-use Rattle.script.specs.Relays.{IsIdle, NothingWaits, IsContinuedBy}
 use Rattle.script.specs.Orders.{in_order}
 use Rattle.script.specs.Sessions.{Session, view_frontier, read_refusal, changes_refusal, rows_at, frontier_at, changes_at}
 use Rattle.script.specs.Standing.{StandsAs}
 use Rattle.script.proofs.BagLemmas.{consolidated_bag-only}
-use Rattle.script.proofs.RelayLemmas.{quiet}
 use Rattle.script.proofs.BoundLemmas.{large_count, large_listed}
 use Rattle.script.proofs.ChangesLemmas.{changes_are, differences_only}
 use Rattle.script.proofs.OrderLemmas.{in_order-sorted, in_order-has, in_order-only}
@@ -58,29 +56,16 @@ refused_alike cause Large None other r e found (inl memory) = inr (inl memory)
 refused_alike cause Large None other r e found (inr large) = inr (inr (large.0, found large.1 refl))
 
 module _ {T : Type 0} (below : T → T → Bool) (minimum : T) where
-  -- what the worker carries on changes nothing for the session
-  pub stands_later : (b c : BoardState T) (s : Session T) → c.dataflow ≡ b.dataflow → IsContinuedBy below minimum b c → StandsAs below minimum b s → StandsAs below minimum c s
-  stands_later b c s same goes a =
-      let on = goes a.history a.stands in
-      record {
-        history = on.0 ++ a.history;
-        stands = on.1;
-        fed = on.2.fed ∙ a.fed;
-        inputs = λ i. ap (open_at i) on.2.open_times ∙ a.inputs i;
-        nodes = a.nodes ∙ ap (λ (p : Dataflow). length p.nodes) (sym same);
-        since = λ v. on.2.since v ∙ a.since v;
-      }
-
   -- a view may be read from the same frontier as in the session
   same_since : (b : BoardState T) (s : Session T) (v : ℕ) → v < length b.dataflow.nodes → StandsAs below minimum b s → since_of b v ≡ s.since v
   same_since b s v within a = a.stands.since v within ∙ a.since v
 
-  module _ (o : PartialOrderLaws below) (b : BoardState T) (s : Session T) (v : ℕ) (t : T) (board : IsBoard b) (within : v < length b.dataflow.nodes) (idle : IsIdle b) (none : NothingWaits b.stations) (a : StandsAs below minimum b s) where
+  module _ (o : PartialOrderLaws below) (b : BoardState T) (s : Session T) (v : ℕ) (t : T) (board : IsBoard b) (within : v < length b.dataflow.nodes) (still : is_quiet_board below b ≡ true) (a : StandsAs below minimum b s) where
     -- the frontier of the view on the board is that of the session
     same_front : is_beyond below (front below b v) t ≡ is_beyond below (view_frontier below b.dataflow.nodes s v) t
     same_front =
         let w = state_after below minimum b.dataflow a.history in
-        let quiet = quiet below minimum b idle none a.history a.stands in
+        let quiet = quiet_into below o minimum b board a.history a.stands still in
         let caught = caught_up_lem below o b.dataflow board.dataflow w v (λ x m. (in_place_lem b.dataflow board.dataflow below minimum a.history a.stands.legal).inputs x (contains_among x w.open_times m)) quiet in
         front_stands below o minimum b board a.history a.stands v t
         ∙ beyond_elements below (frontier below b.dataflow w v) (least below (open_for below b.dataflow.nodes (λ i. open_at i w.open_times) v)) caught t
@@ -128,12 +113,12 @@ module _ {T : Type 0} (below : T → T → Bool) (minimum : T) where
         (λ t h. captured_query t (or_left (is_from_start below minimum (since_of b v)) (is_beyond below (since_of b v) t) kept) h) large
 
   -- answers over all times of a view
-  module _ (o : PartialOrderLaws below) (b : BoardState T) (s : Session T) (v : ℕ) (board : IsBoard b) (within : v < length b.dataflow.nodes) (idle : IsIdle b) (none : NothingWaits b.stations) (a : StandsAs below minimum b s) where
+  module _ (o : PartialOrderLaws below) (b : BoardState T) (s : Session T) (v : ℕ) (board : IsBoard b) (within : v < length b.dataflow.nodes) (still : is_quiet_board below b ≡ true) (a : StandsAs below minimum b s) where
     -- the frontier by the history is that of the session
     same_frontier : SameElements (frontier below b.dataflow (state_after below minimum b.dataflow a.history) v) (view_frontier below b.dataflow.nodes s v)
     same_frontier =
         let w = state_after below minimum b.dataflow a.history in
-        let quiet = quiet below minimum b idle none a.history a.stands in
+        let quiet = quiet_into below o minimum b board a.history a.stands still in
         let caught = caught_up_lem below o b.dataflow board.dataflow w v (λ x m. (in_place_lem b.dataflow board.dataflow below minimum a.history a.stands.legal).inputs x (contains_among x w.open_times m)) quiet in
         subst (λ (fronts : ℕ → List T). SameElements (frontier below b.dataflow w v) (least below (open_for below b.dataflow.nodes fronts v))) (λ j i. a.inputs i j) caught
 

@@ -12,5 +12,3 @@ pub mod Ends
 pub mod Answers
 pub mod Standing
 pub mod OracleStanding
-pub mod Relays
-pub mod Workers

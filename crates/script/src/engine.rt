@@ -88,10 +88,11 @@ pub(crate) trait Engine {
 
 /// An engine that catches up on the caller's thread.
 pub(crate) trait CatchUp: Engine {
-    /// Carries out everything that is still in flight.
+    /// Carries out everything that is still in flight. After a refusal the engine may stand for no session.
     fn catch_up(&mut self, alloc: Global) -> Result<(), Refusal>
         ensures plan { Self.plan self.new ≡ Self.plan self.old }
-        ensures stands { (s : BitemporalSession) → Self.stands self.old s → Self.stands self.new s }
+        ensures stands { (s : BitemporalSession) → Self.stands self.old s
+            → OnOk result (Self.stands self.new s) }
         ensures caught_up { OnOk result (Self.caught_up self.new) }
         ensures refused { (s : BitemporalSession) → Self.stands self.old s
             → IfErr result (Self.ends (Self.plan self.old) s) };

@@ -14,9 +14,9 @@
 //!   session. A command either changes an input or asks about a view. Before a question, the loop lets the
 //!   engine catch up.
 //! - There are two engines. `board_engine` has a board of crate `machine`: commands that change inputs are
-//!   events there, and one worker (`relay`) carries on what is in flight. The theorems about histories then say
-//!   that its views are right. `oracle_engine` keeps the changes and computes each answer from scratch, by crate
-//!   `oracle`. So the text of the first engine can be compared with that of the second.
+//!   events there, and one worker (crate `worker`) carries on what is in flight. The theorems about histories
+//!   then say that its views are right. `oracle_engine` keeps the changes and computes each answer from scratch,
+//!   by crate `oracle`. So the text of the first engine can be compared with that of the second.
 //! - Printed text (`printer`) is collected in an `output_buffer` and goes in large pieces to an [`Out`], whose
 //!   contract says which bytes it took.
 #![tactic(auto)]
@@ -31,9 +31,7 @@ mod oracle_engine;
 mod output_buffer;
 mod outputs;
 mod printer;
-mod relay;
 mod run;
-mod workers;
 
 pub use fault::RunFault;
 pub use laws::{
@@ -44,4 +42,3 @@ pub use memory::MemoryOut;
 pub use oracle_engine::plain_script;
 pub use outputs::{Out, OutFault, put_all};
 pub use run::run_script;
-pub use workers::first_not_linear;

@@ -1,12 +1,11 @@
 //! The loop over the lines of a script, and a run by one worker.
-ghost use Rattle.std.specs.Prelude.{◌≡◌, ◌≢◌, ◌⊎◌, ◌↔◌, ◌++◌, ℕ, List, [], false, IfErr, OnOk, IsErrOf};
+ghost use Rattle.std.specs.Prelude.{◌≡◌, ◌≢◌, ◌⊎◌, ◌↔◌, ◌++◌, ℕ, List, [], IfErr, OnOk, IsErrOf};
 ghost use Rattle.script.specs.Ends.{IsTextBefore, IsTextBeforeOverflow};
 ghost use Rattle.update.specs.declared.refusal.Refusal.TheVariants.{Overflow};
 ghost use Rattle.script.specs.Engines.{IsEnd, IsRunEnd, failures};
 ghost use Rattle.script.specs.Outs.{IsBeginning, Wrote, Broke};
 ghost use Rattle.script.specs.Text.{BitemporalSession, HoldsAlong, lines_text, text};
 ghost use Rattle.script.specs.Bounds.{IsLargeScript};
-ghost use Rattle.script.specs.Workers.{is_linear_plan};
 ghost use Rattle.script.specs.declared.fault.RunFault.TheVariants.{Refused};
 
 use crate::board_engine::BoardEngine;
@@ -15,7 +14,6 @@ use crate::fault::RunFault;
 use crate::line::run_line;
 use crate::output_buffer::OutputBuffer;
 use crate::outputs::Out;
-use crate::workers::first_not_linear;
 use grammar::Script;
 use std::alloc::Global;
 use update::Refusal;
@@ -92,19 +90,19 @@ pub(crate) fn run<E: CatchUp, W: Out>(
 /// | Fault | When |
 /// |---|---|
 /// | `Refused(23)` | the number of workers is not 1; no other number is supported yet |
-/// | `Refused(31)` | the plan has a join or a reduction, which workers do not take yet; [`first_not_linear`] finds it |
 /// | `Refused(1)` | an allocation was refused |
-/// | `Refused(10)` | the count of a row does not fit in 64 bits |
+/// | `Refused(10)` | a number does not fit in 64 bits |
 /// | `Write` | the output failed; after any other fault, no call of the output has failed |
 ///
 /// `Refused(10)` comes only if the accepted changes give some node a bound of 2 to the 63 or more.
 ///
-/// Cost: each line costs what its event costs on the board. A change also costs what it takes to carry it along
-/// every path of the plan. If a node reads another at both of its ports, it gets each change twice, so a tower
-/// of n such nodes passes a change on 2 to the n times. A read costs the size of its view's rows plus the
-/// number of updates captured since the view's last read, if that read was at a time at or before this one.
-/// Otherwise it costs a sort of everything that the view captured up to its time. A question for changes sorts
-/// everything that the view captured at passed times.
+/// Cost: a line that changes an input costs what its event costs on the board. Everything that waits is carried
+/// on at the next question, node by node. A linear node costs its updates. An arrange node merges batches. A join
+/// costs the pairs that it makes, and a reduction what crate `reduce` says. If a node reads another at both of
+/// its ports, it gets each change twice, so a tower of n such nodes passes a change on 2 to the n times. A read
+/// costs the size of its view's rows plus the number of updates captured since the view's last read, if that
+/// read was at a time at or before this one. Otherwise it costs a sort of everything that the view captured up to
+/// its time. A question for changes sorts everything that the view captured at passed times.
 pub fn run_script<W: Out>(
     alloc: Global,
     script: &Script,
@@ -117,18 +115,12 @@ pub fn run_script<W: Out>(
     ensures overflow { IfErr result (λ fault. fault ≡ Refused 10
         → (part : List ℕ) × IsTextBeforeOverflow script.now part × W.took out.old part 0 out.new) }
     ensures workers { IsErrOf result (Refused 23) ↔ (workers ≢ 1) }
-    ensures kinds { IsErrOf result (Refused 31) ↔ ((workers ≡ 1)
-        × (is_linear_plan script.now.plan ≡ false)) }
     ensures known { IfErr result (λ fault. IsRunEnd (IsLargeScript script.now) fault
-        ⊎ ((fault ≡ Refused 23) ⊎ (fault ≡ Refused 31))) }
+        ⊎ (fault ≡ Refused 23)) }
 {
     if workers != 1 {
         return Err(RunFault::from(Refusal::BadWorkers));
     }
-    let plan = script.plan();
-    if first_not_linear(plan).is_some() {
-        return Err(RunFault::from(Refusal::UnknownCommand));
-    }
-    let mut engine = BoardEngine::open(alloc, plan)?;
+    let mut engine = BoardEngine::open(alloc, script.plan())?;
     run(alloc, &mut engine, script, out)
 }
