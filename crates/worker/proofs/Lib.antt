@@ -23,8 +23,13 @@ pub mod JoinAnswerLemmas
 pub mod AnswerWidthLemmas
 pub mod ReductionLemmas
 pub mod AbsorbLemmas
+pub mod JoinStepLemmas
+pub mod JoinRightStepLemmas
+pub mod JoinRunLemmas
+pub mod JoinRightRunLemmas
 pub mod KeepLemmas
 pub mod SettleLemmas
 pub mod ReduceRunLemmas
 pub mod ClientLemmas
 pub mod GatherRunLemmas
+pub mod OpenLemmas

@@ -1,5 +1,5 @@
 -- What a contract sees of an arrangement, and what each one keeps (McSherry et al., Shared Arrangements, VLDB 2020).
-use Rattle.std.specs.Prelude.{◌≡◌, ◌≢◌, ℕ, ◌<◌, Bool, List, [], ◌∷◌, map, length, eqb, slice_get, IsTrue, ⊤}
+use Rattle.std.specs.Prelude.{◌≡◌, ◌≢◌, ℕ, ◌<◌, Bool, List, [], ◌∷◌, ◌++◌, map, length, eqb, slice_get, IsTrue, ⊤}
 use Rattle.std.specs.List.{All, Contains, list_all}
 use Rattle.lattice.specs.Frontiers.{is_beyond, all_beyond}
 use Rattle.update.specs.declared.change.Update.{Update}
@@ -92,3 +92,11 @@ pub record IsKeptWith {T : Type 0} (below : T → T → Bool) (a b : Arrangement
   pub readers : (number : ℕ) → 0 < number → slice_get b.holds number ≡ slice_get a.holds number
   pub none : batch.updates ≡ [] → (h : List (Insertion T)) → Stands below a.spine h → Stands below b.spine h
   pub some : batch.updates ≢ [] → (h : List (Insertion T)) → Stands below a.spine h → Stands below b.spine (insertion_of batch ∷ h)
+
+-- the arrangement with one more hold, from where its spine has come
+pub record IsWithReader {T : Type 0} (below : T → T → Bool) (minimum : T) (a b : ArrangementState T) : Type 0 where
+  pub width : b.width ≡ a.width
+  pub start : b.spine.list.start ≡ a.spine.list.start
+  pub waiting : b.waiting ≡ a.waiting
+  pub holds : b.holds ≡ a.holds ++ record { logical = minimum ∷ []; physical = upper_of a.spine } ∷ []
+  pub stands : (h : List (Insertion T)) → Stands below a.spine h → Stands below b.spine h

@@ -11,3 +11,4 @@ pub mod Joins
 pub mod Reductions
 pub mod Desks
 pub mod Relays
+pub mod Openings

@@ -163,8 +163,11 @@ impl<T: Minimum> Arrangement<T> {
         }
     }
 
-    // One more hold, from the upper frontier of the spine on. If it is refused, then nothing has changed.
-    fn add_reader(&mut self, alloc: Global) -> Result<(), Refusal>
+    /// One more hold, from the upper frontier of the spine on, and its number. If it is refused, then nothing has changed:
+    /// [`Refusal::OutOfMemory`] only.
+    pub fn add_reader(&mut self, alloc: Global) -> Result<usize, Refusal>
+        ensures number { IfOk result
+            (λ number. (number ≡ length self.old.holds) × (0 < number)) }
         ensures held { OnOk result (self.new ≡ record self.old {
           spine = record self.old.spine { holds = self.new.spine.holds };
           holds = self.old.holds ++ record {
@@ -177,10 +180,11 @@ impl<T: Minimum> Arrangement<T> {
         ensures same { OnErr result (self.new ≡ self.old) }
         ensures only { IfErr result (λ refused. refused ≡ Refusal.OutOfMemory) }
     {
+        let number = self.holds.len();
         self.holds.reserve(1)?;
         let hold = self.spine.hold(alloc)?;
         self.holds.push_reserved(hold);
-        Ok(())
+        Ok(number)
     }
 
     /// Keeps updates until the input frontier has passed their times. Their rows have the width of the arrangement, and

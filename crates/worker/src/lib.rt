@@ -17,6 +17,7 @@
 #![tactic(auto)]
 
 mod arrangement;
+mod desk;
 mod front;
 mod joining;
 mod laws;
@@ -24,6 +25,7 @@ mod reducing;
 mod relay;
 
 pub use arrangement::{Arrangement, what_is_taken_is_up_to_a_boundary};
+pub use desk::Desk;
 pub use joining::Joining;
 pub use laws::arranging::{
     arranged_elsewhere, arranged_holds_back, arranged_in_any_order, arranged_inserts,

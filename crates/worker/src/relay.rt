@@ -6,6 +6,7 @@ ghost use Rattle.std.specs.Prelude.{◌≡◌};
 
 mod arranged;
 mod giving;
+mod joined;
 mod keeping;
 mod plain;
 mod reduced;
