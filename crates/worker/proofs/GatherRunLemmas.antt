@@ -316,7 +316,6 @@ stopped_over below minimum cmp h b c (Err y) x only large = record { continued =
 
 module _ {T : Type 0} (below : T → T → Bool) (joined : T → T → T) (minimum : T) (o : PartialOrderLaws below) (b : BoardState T) (q : IsDataflow b.dataflow) (d : DeskState T) (n : ℕ) (h : List (Event T)) (gathered : List (Update T))
     (within : n < length b.dataflow.nodes) (linear : is_linear (node_of b.dataflow n) ≡ true) (plain : arranged_by (node_of b.dataflow n) ≡ None) where
-
   -- after the first bundle of a place was taken
   module _ (g : IsGatheringOn below joined minimum b d n h gathered None) (bundle : Bundle T) (asked : Site) (there : bundle.place ≡ asked) (at_node : asked.node ≡ n) (by_worker : asked.worker ≡ 0) (waits : slice_get (queue_of b.stations asked) 0 ≡ Some bundle)
       (c : BoardState T) (taken : c ≡ after_take 0 bundle b) (stands : Stands below minimum c (c.last ∷ h)) where

@@ -33,3 +33,5 @@ pub mod ReduceRunLemmas
 pub mod ClientLemmas
 pub mod GatherRunLemmas
 pub mod OpenLemmas
+pub mod NodeLemmas
+pub mod VisitLemmas

@@ -12,8 +12,9 @@
 //! laws are functions with empty bodies. They speak of states and events alone, so they do not know how a worker stores
 //! what it keeps.
 //!
-//! The relay is one worker with a board at hand. It has the steps at linear nodes, at arrange nodes and at reductions.
-//! Nothing calls it yet: the steps at joins and the pass over all nodes are still to come.
+//! [`relay`] is one worker with a board at hand. It passes once over all nodes, and afterwards all is quiet. What the
+//! worker keeps between two passes is a [`Desk`]: the arrangement, reduction or join of each node, with a hold for each
+//! side of a join at the spine that it reads.
 #![tactic(auto)]
 
 mod arrangement;
@@ -22,7 +23,7 @@ mod front;
 mod joining;
 mod laws;
 mod reducing;
-mod relay;
+mod relays;
 
 pub use arrangement::{Arrangement, what_is_taken_is_up_to_a_boundary};
 pub use desk::Desk;
@@ -45,7 +46,8 @@ pub use laws::reducing::{
     turning_leaves_it,
 };
 pub use laws::working::{
-    clients_leave_it_ready, gives_at_one_node, inserts_at_one_node, joins_read_arranged_nodes, quiet_while_it_waits,
-    reader_has_all, takes_at_one_node, workers_are_apart, working_begins,
+    clients_leave_it_ready, gives_at_one_node, inserts_at_one_node, joins_read_arranged_nodes,
+    quiet_while_it_waits, reader_has_all, takes_at_one_node, workers_are_apart, working_begins,
 };
 pub use reducing::Reducing;
+pub use relays::relay;

@@ -51,7 +51,7 @@ returns-clause-made g c =
         right = ap (λ (z : JoiningView _). z.state.right) made;
       },
       own_holds g.T.PartialOrder.below g.T.Lattice.joined g.T.Minimum.least c.args.plan.now c.known.ensures.plan c.args.node c.requires.within c.args.left c.args.right c.requires.join
-      c.self.inside.arrangements.items c.self.inside.reductions.items c.self.inside.joins.items (subst (λ d. IsLaidOut g.T.PartialOrder.below g.T.Lattice.joined g.T.Minimum.least c.args.plan.now d c.args.node) (sym c.self.view_is) c.requires.before)
-      c.add_reader_at.new.arrangements.items c.in_ok-left_hold.left_hold c.in_ok-left_hold.ensures.added c.add_reader_at-2.new.arrangements.items c.in_ok-right_hold.right_hold c.in_ok-right_hold.ensures.added
-      j (ap (λ (z : JoiningView _). z.left_hold) made) (ap (λ (z : JoiningView _). z.right_hold) made),
+          c.self.inside.arrangements.items c.self.inside.reductions.items c.self.inside.joins.items (subst (λ d. IsLaidOut g.T.PartialOrder.below g.T.Lattice.joined g.T.Minimum.least c.args.plan.now d c.args.node) (sym c.self.view_is) c.requires.before)
+          c.add_reader_at.new.arrangements.items c.in_ok-left_hold.left_hold c.in_ok-left_hold.ensures.added c.add_reader_at-2.new.arrangements.items c.in_ok-right_hold.right_hold c.in_ok-right_hold.ensures.added
+          j (ap (λ (z : JoiningView _). z.left_hold) made) (ap (λ (z : JoiningView _). z.right_hold) made),
     )) c.new.ensures.made
