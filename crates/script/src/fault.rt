@@ -11,8 +11,8 @@ use update::Refusal;
 #[derive(Clone, Copy, Debug, PartialEq, Eq, Error)]
 pub enum RunFault {
     /// The engine refused, with this code of [`Refusal::code`]: 1 if memory was refused, 10 if a number does
-    /// not fit in 64 bits, 23 if the number of workers is not supported, 31 if workers do not take a node of the
-    /// plan. No run returns 24, which is reserved for a thread that does not start.
+    /// not fit in 64 bits, 23 if the number of workers is not supported. No run returns 24, which is reserved for
+    /// a thread that does not start.
     #[error("refused with {0}")]
     Refused(u8),
     /// A call of the output failed.

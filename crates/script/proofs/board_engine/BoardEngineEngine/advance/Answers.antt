@@ -1,12 +1,13 @@
-use Rattle.std.proofs.Common.{ℕ, IsTrue, sym, subst}
+use Rattle.std.proofs.Common.{ℕ, IsTrue, ap, sym, subst, ◌∙◌}
 use Rattle.lattice.specs.Bitimes.{bitime_below, bitime_join}
 use Rattle.lattice.specs.Naturals.{nat_order}
 use Rattle.lattice.specs.Pairs.{make_pair, pair_order}
 use Rattle.lattice.specs.declared.product.Pair.{Pair}
 use Rattle.grammar.specs.Commands.{is_input_of}
+use Rattle.machine.specs.Histories.Dataflows.{Dataflow}
 use Rattle.script.specs.Answers.{TakesFrontier}
 use Rattle.script.specs.Standing.{EngineState, Serves}
-use Rattle.script.proofs.StandingLemmas.{client_after_frontier, dataflow_after_frontier, frontier_answered, input_there, stays_ready}
+use Rattle.script.proofs.StandingLemmas.{client_after_frontier, dataflow_after_frontier, frontier_answered, input_there, ready_later, stays_ready}
 use Rattle.script.proofs.board_engine.BoardEngineEngine.advance.Goals as goal
 
 pub returns-clause-answered : goal.returns-clause-answered
@@ -22,3 +23,16 @@ returns-clause-answered c s =
     subst (λ (d : EngineState (Pair ℕ ℕ)). Serves d s → TakesFrontier d.board.dataflow.nodes s i ts (Serves (record e { board = new })) c.advance.result) c.self.view_is
     (frontier_answered bitime_below bitime_join (make_pair 0 0) e new _ i ts s c.advance.result (input_there e.board.dataflow i there).0
     c.advance.ensures.advanced c.advance.ensures.accepted c.advance.ensures.refused c.advance.ensures.unchanged stays)
+
+pub invariant_of-self : goal.invariant_of-self
+invariant_of-self c =
+    let b = c.self.inside.board in
+    let d = c.self.inside.desk in
+    let new = c.advance.new.self in
+    let same = dataflow_after_frontier b new _ c.args.input c.args.times c.advance.result c.advance.ensures.advanced c.advance.ensures.unchanged in
+    let client = client_after_frontier b new _ c.args.input c.args.times c.advance.result c.advance.ensures.advanced c.advance.ensures.unchanged in (
+      ready_later bitime_below bitime_join (make_pair 0 0) b new d c.self.inside.stopped
+          (stays_ready bitime_below bitime_join (make_pair 0 0) (pair_order nat_order nat_order) b new c.known.ensures.dataflow d same client c.advance.ensures.stands) c.self.invariant.0,
+      c.self.invariant.1 ∙ sym same,
+      ap (λ (p : Dataflow). p.workers) same ∙ c.self.invariant.2,
+    )
