@@ -1,15 +1,26 @@
-use Rattle.std.proofs.Common.{◌≡◌, ℕ, None, Option, subst}
+use Rattle.std.proofs.Common.{◌≡◌, ℕ, None, Option, ap, sym, subst, ◌∙◌}
 use Rattle.std.proofs.lemmas.Cmp.{then_total, on_total, nat_cmp_total}
 use Rattle.lattice.specs.Bitimes.{bitime_below, bitime_join}
 use Rattle.lattice.specs.Naturals.{nat_order, nat_bounds, nat_extends}
 use Rattle.lattice.specs.Pairs.{make_pair, pair_order, pair_bounds, pair_extends}
 use Rattle.lattice.specs.declared.product.Pair.{Pair}
 use Rattle.update.specs.declared.refusal.Refusal.{Refusal}
-use Rattle.machine.specs.Histories.Dataflows.{IsDataflow}
+use Rattle.machine.specs.Histories.Dataflows.{Dataflow, IsDataflow}
 use Rattle.script.specs.Bounds.{EndsByBound}
 use Rattle.script.specs.Standing.{EngineState, IsReadyUnless, Serves}
-use Rattle.script.proofs.StandingLemmas.{none_from, quiet_relayed, serves_relayed, stopped_by_bound}
+use Rattle.script.proofs.StandingLemmas.{none_from, ready_relayed, quiet_relayed, serves_relayed, stopped_by_bound}
 use Rattle.script.proofs.board_engine.BoardEngine.carry_on.Goals as goal
+
+pub invariant_of-self : goal.invariant_of-self
+invariant_of-self c =
+    let going : c.self.inside.stopped ≡ None = none_from c.self.inside.stopped c.in_default.not-Some in
+    let ready = subst (λ (o : Option Refusal). IsReadyUnless bitime_below bitime_join (make_pair 0 0) o c.self.inside.board c.self.inside.desk) going c.self.invariant.0 in
+    let same = c.relay-relayed.ensures.dataflow in (
+      subst (λ (o : Option Refusal). IsReadyUnless bitime_below bitime_join (make_pair 0 0) o c.relay-relayed.new.board c.relay-relayed.new.desk) (sym going)
+          (ready_relayed bitime_below bitime_join (make_pair 0 0) ready.0 c.self.inside.board c.relay-relayed.new.board c.relay-relayed.new.desk (c.in-Ok.ensures.relayed ready.0 ready.1)),
+      c.self.invariant.1 ∙ sym same,
+      ap (λ (p : Dataflow). p.workers) same ∙ c.self.invariant.2,
+    )
 
 pub returns-in-Ok-clause-caught_up : goal.returns-in-Ok-clause-caught_up
 returns-in-Ok-clause-caught_up c =
