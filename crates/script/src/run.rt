@@ -97,12 +97,12 @@ pub(crate) fn run<E: CatchUp, W: Out>(
 /// `Refused(10)` comes only if the accepted changes give some node a bound of 2 to the 63 or more.
 ///
 /// Cost: a line that changes an input costs what its event costs on the board. Everything that waits is carried
-/// on at the next question, node by node. A linear node costs its updates. An arrange node merges batches. A join
-/// costs the pairs that it makes, and a reduction what crate `reduce` says. If a node reads another at both of
-/// its ports, it gets each change twice, so a tower of n such nodes passes a change on 2 to the n times. A read
-/// costs the size of its view's rows plus the number of updates captured since the view's last read, if that
-/// read was at a time at or before this one. Otherwise it costs a sort of everything that the view captured up to
-/// its time. A question for changes sorts everything that the view captured at passed times.
+/// on at the next question, node by node: a linear node costs its updates, an arrange node merges of batches, a join
+/// the pairs that it makes, and a reduction what crate `reduce` says. A `concat` node with two sources sorts
+/// what it gives, so that equal updates are one from there on. A read costs the size of its view's rows plus the
+/// number of updates captured since the view's last read, if that read was at a time at or before this one.
+/// Otherwise it costs a sort of everything that the view captured up to its time. A question for changes sorts
+/// everything that the view captured at passed times.
 pub fn run_script<W: Out>(
     alloc: Global,
     script: &Script,
