@@ -3,9 +3,9 @@
 //! has, and nothing besides.
 //!
 //! Many pairs may have one row and one time: the join of a late time with any of many early ones is the late time. So
-//! the pairs of one update with one batch are consolidated by themselves. If an update is paired with many others, then
-//! the whole list is consolidated too, each time that it has doubled, and it stays within twice what comes out. If
-//! updates are paired with few, then the pairs are in proportion to the batch, and one consolidation at the end is enough.
+//! where an update is paired with many others, the list is consolidated each time that it has doubled, and it stays
+//! within twice what comes out. Where updates are paired with few, the pairs are in proportion to the batch, and one
+//! consolidation at the end is enough.
 //!
 //! The invariant of every step: what is listed stands in for the pairs formed so far. It has their totals and no other
 //! rows and times, and is no larger.
@@ -29,9 +29,6 @@ use update::{Refusal, Update, Weight, consolidate};
 
 // If each update is paired with fewer others than these, then the list is consolidated at the end alone.
 const MANY: usize = 64;
-
-// If an update is paired with fewer others than these, then its pairs are not consolidated by themselves.
-const FEW: usize = 2;
 
 /// The side of a join on which a new batch is.
 #[derive(Clone, Copy, Drop)]
@@ -154,38 +151,6 @@ fn push_pairs<B: BatchReader>(
     Ok(())
 }
 
-// Pushes what stands in for the pairs of an update of the batch with the updates of its key in a batch of the other side.
-// A row that comes and goes on the other side has many updates before the time of this one, and their pairs have one
-// time. So the pairs are consolidated by themselves first, and most of them cancel before they are in the list.
-fn push_summed<B: BatchReader>(
-    formed: &mut Vec<Update<B::Time>>,
-    side: Side,
-    k: usize,
-    u: &Update<B::Time>,
-    other: &B,
-    found: Range<usize>,
-) -> Result<(), Refusal>
-    requires own { k ≤ length u.now.row }
-    requires ordered { found.start ≤ found.end }
-    requires within { found.end ≤ length (B.content other.now) }
-    requires found { slice_range (B.content other.now) found.start found.end
-        ≡ filter (is_keyed k (take k u.now.row)) (B.content other.now) }
-    requires fits { IsTrue (list_all (formed_fits side k u.now) (B.content other.now)) }
-    ensures pushed { OnOk result (StandsIn formed.new.items
-        (formed.old.items ++ formed_with side B.Time.joined k u.now (B.content other.now))) }
-    ensures refused { IfErr result (IsMemoryOrOverflow
-        (2 ^ 63 ≤ size (formed_with side B.Time.joined k u.now (B.content other.now)))) }
-{
-    if found.end - found.start < FEW {
-        return push_pairs(formed, side, k, u, other, found);
-    }
-    let mut own = Vec::new(*formed.allocator());
-    push_pairs(&mut own, side, k, u, other, found)?;
-    let mut own = consolidate(own)?;
-    formed.append(&mut own)?;
-    Ok(())
-}
-
 impl<T: Lattice> Formed<T> {
     // No pairs yet.
     fn none(alloc: Global, looked: u64) -> Formed<T>
@@ -250,7 +215,7 @@ impl<T: Lattice> Formed<T> {
             (self.old.updates.items ++ formed_with side T.joined k u.now (B.content other.now)))) }
     {
         let end = other.seek_past(start, u.row.key(k));
-        push_summed(&mut self.updates, side, k, u, other, start..end)?;
+        push_pairs(&mut self.updates, side, k, u, other, start..end)?;
         let paired = end - start;
         self.looked = self.looked.saturating_add(paired as u64);
         self.settle(paired)

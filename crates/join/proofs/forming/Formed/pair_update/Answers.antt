@@ -6,8 +6,8 @@ use Rattle.join.proofs.FormingLemmas.{found_long}
 use Rattle.join.proofs.OrderLemmas.{found_is}
 use Rattle.join.proofs.forming.Formed.pair_update.Goals as goal
 
-pub push_summed-requires-clause-found : goal.push_summed-requires-clause-found
-push_summed-requires-clause-found g c =
+pub push_pairs-requires-clause-found : goal.push_pairs-requires-clause-found
+push_pairs-requires-clause-found g c =
     let vs = g.B.BatchReader.content c.args.other.now in
     found_is c.args.k c.args.u.now.row vs c.args.start c.seek_past-end.result c.requires.own c.seek_past-end.ensures.ordered c.seek_past-end.ensures.within c.requires.front c.requires.rest
     (rw c.key.ensures at c.seek_past-end.ensures.before) (rw c.key.ensures at c.seek_past-end.ensures.rest)
