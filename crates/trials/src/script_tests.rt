@@ -3,6 +3,7 @@
 use grammar::{Fault, Script, parse};
 use script::{MemoryOut, RunFault, plain_script, run_script};
 use std::alloc::Global;
+use std::process::Abort;
 use std::test::Fail;
 
 // The text of the script below.
@@ -12,10 +13,55 @@ const TEXT: &str = "refused 5 8\nread v 0 0 1\n1 7\n";
 const SCRIPT: &[u8] =
     b"input a 1\nview v a\nstart\nchange a 0 0 1 7\nread v 0 0\nadvance a 1 1\nread v 0 0\n";
 
-// The script, parsed again if memory was refused the first time.
-fn script(alloc: Global) -> Result<Script, Fault> {
-    match parse(alloc, SCRIPT) {
-        Err(_refused) => parse(alloc, SCRIPT),
+// A script with a node of every kind. The sum `all` has two rows of key 7, and `b` has one.
+const EVERY_KIND: &[u8] = b"input a 2\n\
+    input b 2\n\
+    node f filter a c1 gt =0\n\
+    node m map f c0 c1\n\
+    node n negate b\n\
+    node g negate n\n\
+    node all concat m g\n\
+    node r arrange all 1\n\
+    node s arrange b 1\n\
+    node j join r s\n\
+    node c count r\n\
+    node d distinct r\n\
+    node lo min r\n\
+    node hi max r\n\
+    view vj j\n\
+    view vc c\n\
+    view vd d\n\
+    view vl lo\n\
+    view vh hi\n\
+    start\n\
+    change a 0 0 1 7 5\n\
+    change b 0 0 1 7 3\n\
+    advance a 0 1\n\
+    advance b 0 1\n\
+    read vj 0 0\n\
+    read vc 0 0\n\
+    read vd 0 0\n\
+    read vl 0 0\n\
+    read vh 0 0\n";
+
+// Its text, worked out by hand.
+const EVERY_KIND_TEXT: &str = "read vj 0 0 2\n\
+    1 7 3 3\n\
+    1 7 5 3\n\
+    read vc 0 0 1\n\
+    1 7 2\n\
+    read vd 0 0 2\n\
+    1 7 3\n\
+    1 7 5\n\
+    read vl 0 0 1\n\
+    1 7 3\n\
+    read vh 0 0 1\n\
+    1 7 5\n";
+
+// The script of these bytes, parsed again if memory was refused the first time.
+fn script(alloc: Global, bytes: &[u8]) -> Result<Script, Fault> {
+    match parse(alloc, bytes) {
+        Err(_refused) => parse(alloc, bytes),
         done => done,
     }
 }
@@ -25,22 +71,33 @@ fn run(alloc: Global, script: &Script, out: &mut MemoryOut) -> Result<(), RunFau
     run_script(alloc, script, 1, out)
 }
 
-#[test]
-fn runs_take_memory(rt: HostRuntime) -> Result<(), Fail> {
-    let script = script(rt.alloc())?;
-    let mut out = MemoryOut::new(rt.alloc());
-    if run(rt.alloc(), &script, &mut out).is_err() {
-        assert!(rt; TEXT.as_bytes().starts_with(out.bytes()));
-        out = MemoryOut::new(rt.alloc());
-        run(rt.alloc(), &script, &mut out)?;
+// Runs the script of these bytes, again if memory was refused. The output then has the text, and a refused run leaves a
+// beginning of it.
+fn writes(rt: &impl Abort, alloc: Global, bytes: &[u8], text: &str) -> Result<(), Fail> {
+    let script = script(alloc, bytes)?;
+    let mut out = MemoryOut::new(alloc);
+    if run(alloc, &script, &mut out).is_err() {
+        assert!(rt; text.as_bytes().starts_with(out.bytes()));
+        out = MemoryOut::new(alloc);
+        run(alloc, &script, &mut out)?;
     }
-    assert_eq!(rt; out.bytes(), TEXT.as_bytes());
+    assert_eq!(rt; out.bytes(), text.as_bytes());
     Ok(())
 }
 
 #[test]
+fn runs_take_memory(rt: HostRuntime) -> Result<(), Fail> {
+    writes(&rt, rt.alloc(), SCRIPT, TEXT)
+}
+
+#[test]
+fn runs_of_every_kind_take_memory(rt: HostRuntime) -> Result<(), Fail> {
+    writes(&rt, rt.alloc(), EVERY_KIND, EVERY_KIND_TEXT)
+}
+
+#[test]
 fn plain_runs_take_memory(rt: HostRuntime) -> Result<(), Fail> {
-    let script = script(rt.alloc())?;
+    let script = script(rt.alloc(), SCRIPT)?;
     let mut out = MemoryOut::new(rt.alloc());
     if plain_script(rt.alloc(), &script, &mut out).is_err() {
         assert!(rt; TEXT.as_bytes().starts_with(out.bytes()));
