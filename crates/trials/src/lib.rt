@@ -55,5 +55,7 @@ mod times;
 mod trace_tests;
 #[cfg(test)]
 mod update_tests;
+#[cfg(test)]
+mod worker_tests;
 
 pub use times::at;
