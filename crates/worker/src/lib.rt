@@ -15,6 +15,9 @@
 //! [`relay`] is one worker with a board at hand. It passes once over all nodes, and afterwards all is quiet. What the
 //! worker keeps between two passes is a [`Desk`]: the arrangement, reduction or join of each node, with a hold for each
 //! side of a join at the spine that it reads.
+//!
+//! Who runs a plan calls [`Desk::open`] once and [`relay`] before each question, and cites [`clients_leave_it_ready`] for
+//! what clients do in between. The other names are for whoever writes another worker.
 #![tactic(auto)]
 
 mod arrangement;

@@ -32,7 +32,9 @@ use update::Refusal;
 ///
 /// After a refusal the board stands for some events more, and the desk is of no further use.
 ///
-/// Cost: linear in the nodes, plus what each step costs.
+/// Cost: linear in the nodes, plus what each node costs. A linear node costs its updates, and n log n of them where it is a
+/// `concat` of two sources. An arrange node sorts what has passed, and merges batches. A join costs n log n in the pairs
+/// that it makes, also in those that cancel. A reduction costs what crate `reduce` says.
 pub fn relay<T: Minimum>(
     alloc: Global,
     routing: &Routing,
