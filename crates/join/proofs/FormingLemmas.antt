@@ -38,33 +38,8 @@ module _ {X : Type 0} where
   item_at (y ∷ xs) zero x h e = e
   item_at (y ∷ xs) (suc i) x h e = item_at xs i x (omega (arith, h)) e
 
-  filtered_passes : (p : X → Bool) (xs : List X) (j : ℕ) (d : X) → j < length (filter p xs) → p (get_or (filter p xs) j d) ≡ true
-  filtered_passes p [] j d h = absurd (omega (arith, h))
-  filtered_passes p (x ∷ xs) j d h = step (p x) refl j (λ i. filtered_passes p xs i d) h
-    where
-      step : (b : Bool) → p x ≡ b → (j : ℕ) → ((i : ℕ) → i < length (filter p xs) → p (get_or (filter p xs) i d) ≡ true) → j < length (cond b (x ∷ filter p xs) (filter p xs)) → p (get_or (cond b (x ∷ filter p xs) (filter p xs)) j d) ≡ true
-      step true e zero rest h = e
-      step true e (suc j) rest h = rest j (omega (arith, h))
-      step false e j rest h = rest j h
-
-  -- if a part of a list is what passes a test, then each element of the part passes
-  pub found_passes : (p : X → Bool) (xs : List X) (a b i : ℕ) → slice_range xs a b ≡ filter p xs → b ≤ length xs → a ≤ i → i < b → (d : X) → p (get_or xs i d) ≡ true
-  found_passes p xs a b i found within from to d =
-      let long = length-take (b - a) (drop a xs) in
-      let rest = length-drop a xs in
-      let same : a + (i - a) ≡ i = omega (arith, from) in
-      let inside : i - a < b - a = omega (arith, from, to) in
-      let here : get_or (slice_range xs a b) (i - a) d ≡ get_or xs i d = get_or-take (b - a) (drop a xs) (i - a) d inside ∙ get_or-drop a xs (i - a) d ∙ ap (λ n. get_or xs n d) same in
-      let count : i - a < length (slice_range xs a b) = omega (arith, long, rest, within, from, to) in
-      let there : i - a < length (filter p xs) = subst (λ ys. i - a < length ys) found count in
-      ap p (sym here) ∙ (λ j. p (get_or (found j) (i - a) d)) ∙ filtered_passes p xs (i - a) d there
-
-  -- a part that is what passes a test is as long as it has places
-  pub found_long : {Y : Type 0} (f : X → Y) (p : X → Bool) (xs : List X) (a b : ℕ) → slice_range xs a b ≡ filter p xs → a ≤ b → b ≤ length xs → length (map f (filter p xs)) ≡ b - a
-  found_long f p xs a b found g h =
-      length-map (filter p xs) f ∙ ap length (sym found) ∙ range_long p xs a b g h
-
-  range_more : (xs : List X) (a i : ℕ) (d : X) → a ≤ i → i < length xs → slice_range xs a (i + 1) ≡ slice_range xs a i ++ get_or xs i d ∷ []
+  -- a part of a list with one more element
+  pub range_more : (xs : List X) (a i : ℕ) (d : X) → a ≤ i → i < length xs → slice_range xs a (i + 1) ≡ slice_range xs a i ++ get_or xs i d ∷ []
   range_more xs a i d from within =
       let rest = length-drop a xs in
       let inside : i - a < length (drop a xs) = omega (arith, rest, from, within) in
@@ -74,33 +49,15 @@ module _ {X : Type 0} where
       ∙ take_more (drop a xs) (i - a) d inside
       ∙ ap (λ y. take (i - a) (drop a xs) ++ y ∷ []) (get_or-drop a xs (i - a) d ∙ ap (λ n. get_or xs n d) same)
 
-  -- one more element of a part is pushed
-  pub more_pushed : {Y : Type 0} (f : X → Y) (xs : List X) (a i : ℕ) (before old new : List Y) → a ≤ i → i < length xs → old ≡ before ++ map f (slice_range xs a i) → IsSomeAnd (slice_get xs i) (λ x. new ≡ old ++ f x ∷ []) → new ≡ before ++ map f (slice_range xs a (i + 1))
-  more_pushed f [] a i before old new from within e h = absurd (omega (arith, within))
-  more_pushed f (d ∷ ds) a i before old new from within e h =
-      let xs = d ∷ ds in
-      let x = get_or xs i d in
-      at_some (λ x. new ≡ old ++ f x ∷ []) xs i h d
-      ∙ ap (λ ys. ys ++ f x ∷ []) e
-      ∙ append_assoc before (map f (slice_range xs a i)) (f x ∷ [])
-      ∙ ap (λ ys. before ++ ys) (sym (map-append f (slice_range xs a i) (x ∷ [])))
-      ∙ ap (λ ys. before ++ map f ys) (sym (range_more xs a i d from within))
-
 module _ {T : Type 0} where
-  one_of : (f : Update T → Update T) (p : Update T → Bool) (us : List (Update T)) (i : ℕ) (d : Update T) → i < length us → p (get_or us i d) ≡ true → unsigned_abs (f (get_or us i d)).diff ≤ summed_size (map f (filter p us))
-  one_of f p [] i d h e = absurd (omega (arith, h))
-  one_of f p (u ∷ us) zero d h e = rw e (omega arith)
-  one_of f p (u ∷ us) (suc i) d h e = step (p u) (one_of f p us i d (omega (arith, h)) e)
-    where
-      step : (b : Bool) → unsigned_abs (f (get_or us i d)).diff ≤ summed_size (map f (filter p us)) → unsigned_abs (f (get_or us i d)).diff ≤ summed_size (map f (cond b (u ∷ filter p us) (filter p us)))
-      step true g = omega (arith, g)
-      step false g = g
+  -- one update that is too large makes the list large
+  pub large_one : (us : List (Update T)) (i : ℕ) → IsSomeAnd (slice_get us i) (λ u. 2 ^ 63 ≤ unsigned_abs u.diff) → 2 ^ 63 ≤ summed_size us
+  large_one [] i e = absurd e
+  large_one (u ∷ us) zero e = omega (arith, e)
+  large_one (u ∷ us) (suc i) e = let rest = large_one us i e in omega (arith, rest)
 
-  -- one pair that is too large makes all of them large
-  pub large_one : (f : Update T → Update T) (p : Update T → Bool) (us : List (Update T)) (i : ℕ) → i < length us → ((d : Update T) → p (get_or us i d) ≡ true) → IsSomeAnd (slice_get us i) (λ u. 2 ^ 63 ≤ unsigned_abs (f u).diff) → 2 ^ 63 ≤ size (map f (filter p us))
-  large_one f p [] i h e g = absurd (omega (arith, h))
-  large_one f p (d ∷ ds) i h e g =
-      let large = at_some (λ u. 2 ^ 63 ≤ unsigned_abs (f u).diff) (d ∷ ds) i g d in
-      let within = one_of f p (d ∷ ds) i d h (e d) in
-      let same = summed_size_is (map f (filter p (d ∷ ds))) in
-      omega (arith, large, within, same)
+  -- what is at a place of a list is there in its image
+  pub image_at : {X : Type 0} (f : X → Update T) (P : Update T → Type 0) (xs : List X) (i : ℕ) → IsSomeAnd (slice_get xs i) (λ x. P (f x)) → IsSomeAnd (slice_get (map f xs) i) P
+  image_at f P [] i e = absurd e
+  image_at f P (x ∷ xs) zero e = e
+  image_at f P (x ∷ xs) (suc i) e = image_at f P xs i e

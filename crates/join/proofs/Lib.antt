@@ -7,5 +7,7 @@ pub mod LargeLemmas
 pub mod OrderLemmas
 pub mod StandingLemmas
 pub mod TurnedLemmas
+pub mod LastLemmas
+pub mod RunLemmas
 pub mod DeterminedLemmas
 pub mod AnswerLemmas

@@ -19,7 +19,7 @@ use Rattle.batch.proofs.SeekLemmas.{found_is_filter, front_left_out}
 use Rattle.join.specs.Pairs.{is_keyed, is_wide}
 use Rattle.join.proofs.FormingLemmas.{at_some, passes_at}
 
-rows_total : IsTotalOrder (slice_cmp int_cmp)
+pub rows_total : IsTotalOrder (slice_cmp int_cmp)
 rows_total = lists_total int_cmp_total
 
 upto_or_tied : (o : Ordering) → is_le o ≡ true → (o ≡ Less → ⊥) → o ≡ Equal
@@ -38,7 +38,7 @@ less_upto a b c l e = step (slice_cmp int_cmp b c) refl
 
 module _ {T : Type 0} (cmp : T → T → Ordering) (k : ℕ) where
   -- the keys of a sorted list come in order
-  keys_rise : (us : List (Update T)) (i j : ℕ) (d : Update T) → IsStrictlySortedBy (by_row_then_time cmp) us → k ≤ length (get_or us j d).row → i ≤ j → j < length us → is_le (slice_cmp int_cmp (take k (get_or us i d).row) (take k (get_or us j d).row)) ≡ true
+  pub keys_rise : (us : List (Update T)) (i j : ℕ) (d : Update T) → IsStrictlySortedBy (by_row_then_time cmp) us → k ≤ length (get_or us j d).row → i ≤ j → j < length us → is_le (slice_cmp int_cmp (take k (get_or us i d).row) (take k (get_or us j d).row)) ≡ true
   keys_rise us i j d sorted wide g h =
       let key = take k (get_or us j d).row in
       let long : length key ≡ k = length-take k (get_or us j d).row ∙ omega (arith, wide) in

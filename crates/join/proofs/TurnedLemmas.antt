@@ -55,7 +55,7 @@ module _ {X Y Z : Type 0} (c : X → Y → Bool) (d : Y → X → Bool) (same : 
   no_columns (x ∷ xs) = no_columns xs
 
   -- the columns of the table have the entries of its rows
-  by_columns : (xs : List X) (ys : List Y) → IsPermutation (flat_map (λ x. row_at x ys) xs) (flat_map (λ y. column_at y xs) ys)
+  pub by_columns : (xs : List X) (ys : List Y) → IsPermutation (flat_map (λ x. row_at x ys) xs) (flat_map (λ y. column_at y xs) ys)
   by_columns xs [] = subst (λ l. IsPermutation l []) (sym (no_columns xs)) (IsPermutation-refl [])
   by_columns xs (y ∷ ys) =
       IsPermutation-trans _ (column_at y xs ++ flat_map (λ x. row_at x ys) xs) _

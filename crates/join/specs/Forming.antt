@@ -8,6 +8,11 @@ use Rattle.join.specs.declared.forming.Side.{Side}
 use Rattle.join.specs.declared.forming.Side.TheVariants.{Left, Right}
 use Rattle.join.specs.Pairs.{is_keyed, pair_of, fits}
 
+-- the other side
+abbrev pub turned : Side → Side
+turned Left = Right
+turned Right = Left
+
 module _ {T : Type 0} where
   -- the pair of an update u of the batch with an update v of the other side
   abbrev pub formed_pair : Side → (T → T → T) → ℕ → Update T → Update T → Update T
@@ -18,6 +23,10 @@ module _ {T : Type 0} where
   abbrev pub formed_fits : Side → ℕ → Update T → Update T → Bool
   formed_fits Left k u v = fits k u v
   formed_fits Right k u v = fits k v u
+
+  -- the pairs of each update of us with each update of vs
+  abbrev pub formed_each : Side → (T → T → T) → ℕ → List (Update T) → List (Update T) → List (Update T)
+  formed_each side joined k us vs = flat_map (λ u. map (formed_pair side joined k u) vs) us
 
   -- the pairs of one update of the batch with the updates of its key
   abbrev pub formed_with : Side → (T → T → T) → ℕ → Update T → List (Update T) → List (Update T)

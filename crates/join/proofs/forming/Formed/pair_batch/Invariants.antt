@@ -4,12 +4,18 @@ use Rattle.batch.specs.Batches.{AllBefore}
 use Rattle.join.specs.Forming.{formed_all, StandsIn}
 use Rattle.join.proofs.forming.Formed.pair_batch.Given as goal
 
-abbrev pub invariant-loop-i : goal.invariant-loop-i
-invariant-loop-i g l =
+abbrev pub invariant-loop-at : goal.invariant-loop-at
+invariant-loop-at g l =
+    let us = g.B.BatchReader.content l.batch in
+    let vs = g.C.BatchReader.content l.other in
     record {
-      within : l.place ≤ length (g.C.BatchReader.content l.other);
-      front : (j : ℕ) (d : Update g.row.T.Denot) → l.i ≤ j → j < length (g.B.BatchReader.content l.batch)
-          → AllBefore (take l.k (get_or (g.B.BatchReader.content l.batch) j d).row) (take l.place (g.C.BatchReader.content l.other));
-      formed : StandsIn l.self.updates.items (l.fn.self.updates.items ++ formed_all l.side g.T.Lattice.joined l.k (take l.i (g.B.BatchReader.content l.batch)) (g.C.BatchReader.content l.other));
-      looked : l.self.looked ≡ min (l.fn.self.looked + length (formed_all l.side g.T.Lattice.joined l.k (take l.i (g.B.BatchReader.content l.batch)) (g.C.BatchReader.content l.other))) (2 ^ 64 - 1);
+      upto : l.at.batch ≤ length us;
+      within : l.at.other ≤ length vs;
+      front : (j : ℕ) (d : Update g.row.T.Denot) → l.at.batch ≤ j → j < length us → AllBefore (take l.k (get_or us j d).row) (take l.at.other vs);
+      formed : StandsIn l.self.updates.items (l.fn.self.updates.items ++ formed_all l.side g.T.Lattice.joined l.k (take l.at.batch us) vs);
+      looked : l.self.looked ≡ min (l.fn.self.looked + length (formed_all l.side g.T.Lattice.joined l.k (take l.at.batch us) vs)) (2 ^ 64 - 1);
     }
+
+-- the number of updates of the batch that are still to be paired decreases
+abbrev pub decreases-loop-at : goal.decreases-loop-at
+decreases-loop-at g l = length (g.B.BatchReader.content l.batch) - l.at.batch

@@ -1,0 +1,60 @@
+use Rattle.std.proofs.Common.{rules, ◌≡◌, ◌≤◌, ◌<◌, ◌-◌, length, inr, ◌∙◌, refl}
+use Rattle.std.specs.Prelude.{slice_range}
+use Rattle.std.specs.List.{list_all}
+use Rattle.std.proofs.lemmas.Bool.{leb-true}
+use Rattle.std.proofs.lemmas.Result.{err_from_is_err_and}
+use Rattle.join.specs.Pairs.{is_wide}
+use Rattle.join.specs.Forming.{formed_fits}
+use Rattle.join.proofs.FormingLemmas.{place_passes}
+use Rattle.join.proofs.RunLemmas.{part_at, each_more, each_more_large, one_alone_large, settled_large}
+use Rattle.join.proofs.StandingLemmas.{stands_in_turn}
+use Rattle.join.proofs.LargeLemmas.{refused_more}
+use Rattle.join.proofs.forming.Formed.pair_runs.Goals as goal
+
+pub push_pairs-requires-clause-own : goal.push_pairs-requires-clause-own
+push_pairs-requires-clause-own g c =
+    let us = g.B.BatchReader.content c.args.outer.now in
+    let u = c.update_at-u.result in
+    leb-true c.args.k (length u.row)
+    (place_passes (λ w. is_wide c.args.k w.row) (slice_range us c.args.run.start c.args.run.end) (c.loop-i.i - c.args.run.start) u
+    (part_at (λ w. u ≡ w) us c.args.run.start c.loop-i.i c.args.run.end c.loop-i.auto.i c.loop-i-test.true c.requires.run_within c.update_at-u.ensures)
+    c.requires.run_wide)
+
+pub push_pairs-requires-clause-fits : goal.push_pairs-requires-clause-fits
+push_pairs-requires-clause-fits g c =
+    let us = g.B.BatchReader.content c.args.outer.now in
+    let vs = slice_range (g.C.BatchReader.content c.args.inner.now) c.args.found.start c.args.found.end in
+    let u = c.update_at-u.result in
+    place_passes (λ w. list_all (formed_fits c.args.side c.args.k w) vs) (slice_range us c.args.run.start c.args.run.end) (c.loop-i.i - c.args.run.start) u
+    (part_at (λ w. u ≡ w) us c.args.run.start c.loop-i.i c.args.run.end c.loop-i.auto.i c.loop-i-test.true c.requires.run_within c.update_at-u.ensures)
+    c.requires.fits
+
+pub returns-in_err-push_pairs-clause-refused : goal.returns-in_err-push_pairs-clause-refused
+returns-in_err-push_pairs-clause-refused g c =
+    let us = g.B.BatchReader.content c.args.outer.now in
+    let vs = slice_range (g.C.BatchReader.content c.args.inner.now) c.args.found.start c.args.found.end in
+    let u = c.update_at-u.result in
+    let p = err_from_is_err_and c.from_residual.result c.from_residual.ensures.1 in
+    let alone = one_alone_large g.T.Lattice.joined c.args.k c.args.side us vs c.args.run.start c.loop-i.i c.loop-i.auto.i u c.update_at-u.ensures c.loop-i.self.updates.items in
+    let large = each_more_large g.T.Lattice.joined c.args.k c.args.side us vs c.args.run.start c.loop-i.i c.loop-i.auto.i u c.update_at-u.ensures c.args.run.end c.args.self.now.updates.items c.loop-i.self.updates.items c.loop-i-test.true c.requires.run_within c.loop-i.invariant.formed in
+    rw (p.1, p.2) (refused_more _ _ c.in_err-push_pairs.field-0.0 (λ h. large (alone h)) c.in_err-push_pairs.ensures.refused)
+
+pub returns-in_err-settle-clause-refused : goal.returns-in_err-settle-clause-refused
+returns-in_err-settle-clause-refused g c =
+    let us = g.B.BatchReader.content c.args.outer.now in
+    let vs = slice_range (g.C.BatchReader.content c.args.inner.now) c.args.found.start c.args.found.end in
+    let u = c.update_at-u.result in
+    let p = err_from_is_err_and c.from_residual-in_err-settle.result c.from_residual-in_err-settle.ensures.1 in
+    let large = each_more_large g.T.Lattice.joined c.args.k c.args.side us vs c.args.run.start c.loop-i.i c.loop-i.auto.i u c.update_at-u.ensures c.args.run.end c.args.self.now.updates.items c.loop-i.self.updates.items c.loop-i-test.true c.requires.run_within c.loop-i.invariant.formed in
+    rw (p.1, p.2) (inr (c.in_err-settle.ensures.only, large (settled_large _ _ c.in_ok-push_pairs.ensures.stands (c.in_err-settle.ensures.large refl))))
+
+pub loop-i-preserved : goal.loop-i-preserved
+loop-i-preserved g c =
+    let us = g.B.BatchReader.content c.args.outer.now in
+    let vs = slice_range (g.C.BatchReader.content c.args.inner.now) c.args.found.start c.args.found.end in
+    let u = c.update_at-u.result in
+    record {
+      formed = each_more g.T.Lattice.joined c.args.k c.args.side us vs c.args.run.start c.loop-i.i c.loop-i.auto.i u c.update_at-u.ensures c.args.self.now.updates.items c.loop-i.self.updates.items c.settle.new.self.updates.items (search rules) c.loop-i.invariant.formed
+          (stands_in_turn _ _ _ c.in_ok-settle.ensures.stands c.in_ok-push_pairs.ensures.stands);
+      looked = c.in_ok-settle.ensures.looked ∙ c.loop-i.invariant.looked;
+    }
