@@ -129,8 +129,9 @@ impl<T: Lattice, L: Trace<Time = T>, R: Trace<Time = T>> JoinState<T, L, R> {
     /// - [`Refusal::OutOfMemory`] only if memory was refused, for the boundary or for pairs.
     ///
     /// Cost: each key of the batch is sought in each batch of the right side, from where the last one was found, in the
-    /// logarithm of the distance. Then n log n in the number of pairs. No other update is read. Memory: twice the
-    /// answer, the pairs of one update, and up to 63 pairs for each update of the batch and batch of the right side.
+    /// logarithm of the distance. Each pair is formed, and added to the one before it if both have one row and time. Then
+    /// n log n in the number of the pairs that are left. No other update is read. Memory: twice the answer, the pairs of
+    /// one update, and up to four pairs for each update of the batch, or 4,096.
     pub fn take_left(
         &mut self,
         alloc: Global,
