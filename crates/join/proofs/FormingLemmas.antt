@@ -1,13 +1,11 @@
 -- How pairs are formed, one after the other: what one update of the batch adds, and what stands in for what.
-use Rattle.std.proofs.Common.{◌≡◌, ℕ, zero, suc, ◌+◌, ◌-◌, ◌≤◌, ◌<◌, ◌^◌, Bool, true, false, cond, List, [], ◌∷◌, ◌++◌, map, take, drop, length, get_or, slice_get, IsTrue, IsSomeAnd, refl, sym, ◌∙◌, ap, subst, arith, length-take, length-drop, append_assoc}
+use Rattle.std.proofs.Common.{◌≡◌, ℕ, zero, suc, ◌+◌, ◌-◌, ◌≤◌, ◌<◌, ◌^◌, Bool, List, [], ◌∷◌, ◌++◌, map, take, drop, length, get_or, slice_get, IsTrue, IsSomeAnd, ◌∙◌, ap, arith, length-drop}
 use Rattle.std.specs.Prelude.{slice_range, unsigned_abs}
-use Rattle.std.specs.List.{filter, list_all}
+use Rattle.std.specs.List.{list_all}
 use Rattle.std.proofs.lemmas.Bool.{and_parts}
-use Rattle.std.proofs.lemmas.List.{get_or-take, get_or-drop, take_more, map-append, length-map}
-use Rattle.batch.proofs.SeekLemmas.{range_long}
-use Rattle.update.specs.Updates.{size}
+use Rattle.std.proofs.lemmas.List.{get_or-drop, take_more}
 use Rattle.update.specs.declared.change.Update.{Update}
-use Rattle.update.proofs.ConsolidatedLemmas.{summed_size, summed_size_is}
+use Rattle.update.proofs.ConsolidatedLemmas.{summed_size}
 
 module _ {X : Type 0} where
   -- a test that all elements pass is passed by the one at a place

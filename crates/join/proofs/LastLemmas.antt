@@ -1,6 +1,5 @@
 -- A pair that is added to the last update of a list: what is left stands in for both.
-use Rattle.std.proofs.Common.{◌≡◌, ℕ, suc, ◌+◌, ◌-◌, ◌≤◌, ◌<◌, Bool, true, false, cond, List, [], ◌∷◌, ◌++◌, take, length, get_or, slice_get, set, IsTrue, IsSomeAnd, ℤ, pos, ◌+ℤ◌, refl, sym, ◌∙◌, ap, subst, arith, append_assoc}
-use Rattle.std.specs.Prelude.{unsigned_abs}
+use Rattle.std.proofs.Common.{◌≡◌, ℕ, ◌+◌, ◌-◌, ◌<◌, Bool, true, false, cond, List, [], ◌∷◌, ◌++◌, take, length, get_or, slice_get, set, IsTrue, IsSomeAnd, ℤ, pos, ◌+ℤ◌, refl, sym, ◌∙◌, ap, subst, arith, append_assoc}
 use Rattle.std.proofs.Math.Seq.{take-length}
 use Rattle.std.proofs.lemmas.Bool.{and_parts, and_from}
 use Rattle.std.proofs.lemmas.Int.{ints}
@@ -10,7 +9,6 @@ use Rattle.std.specs.Ordering.{int_eq}
 use Rattle.std.specs.declared.cmp.Ordering.{Ordering}
 use Rattle.std.specs.declared.cmp.Ordering.TheVariants.{Equal}
 use Rattle.update.specs.Groups.{is_same, group_sum}
-use Rattle.update.specs.Updates.{size, total_where}
 use Rattle.update.specs.declared.change.Update.{Update}
 use Rattle.update.proofs.ConsolidatedLemmas.{summed_size_is}
 use Rattle.update.proofs.GroupLemmas.{same_passes}

@@ -1,6 +1,6 @@
 -- Runs: the updates of one key in a batch, and the pairs of two runs. Whichever run the outer loop goes through, the same
 -- pairs are formed, in another order.
-use Rattle.std.proofs.Common.{◌≡◌, ◌≢◌, ℕ, zero, suc, ◌+◌, ◌-◌, ◌*◌, ◌≤◌, ◌<◌, ◌^◌, Bool, true, false, List, [], ◌∷◌, ◌++◌, map, take, drop, length, get_or, slice_get, IsTrue, IsSomeAnd, min, ℤ, refl, sym, ◌∙◌, ap, subst, arith, length-take, length-drop, append_assoc, ⊎_elim}
+use Rattle.std.proofs.Common.{◌≡◌, ◌≢◌, ℕ, zero, suc, ◌+◌, ◌-◌, ◌*◌, ◌≤◌, ◌<◌, ◌^◌, Bool, true, List, [], ◌∷◌, ◌++◌, map, take, drop, length, get_or, slice_get, IsTrue, IsSomeAnd, min, ℤ, refl, sym, ◌∙◌, ap, subst, arith, length-take, length-drop, append_assoc, ⊎_elim}
 use Rattle.std.specs.Prelude.{slice_range, unsigned_abs}
 use Rattle.std.specs.List.{filter, flat_map, list_all}
 use Rattle.std.specs.List.Sorted.{IsPermutation, IsStrictlySortedBy}
@@ -20,7 +20,7 @@ use Rattle.update.specs.Updates.{size}
 use Rattle.update.specs.declared.change.Update.{Update}
 use Rattle.update.proofs.ConsolidatedLemmas.{summed_size, summed_size_is, moved_total, moved_size, moved_among}
 use Rattle.plan.proofs.CountLemmas.{row_same}
-use Rattle.batch.specs.Batches.{by_row_then_time, at_key, AllBefore, NoneAfter, AllAfter}
+use Rattle.batch.specs.Batches.{by_row_then_time, at_key, AllBefore, NoneBefore, NoneAfter, AllAfter}
 use Rattle.batch.proofs.SeekLemmas.{range_long}
 use Rattle.trace.proofs.ReadingLemmas.{size-append}
 use Rattle.join.specs.declared.forming.Side.{Side}
@@ -28,7 +28,7 @@ use Rattle.join.specs.declared.forming.Side.TheVariants.{Left, Right}
 use Rattle.join.specs.Pairs.{is_keyed, is_wide}
 use Rattle.join.specs.Forming.{turned, formed_pair, formed_fits, formed_with, formed_each, formed_all, StandsIn}
 use Rattle.join.proofs.FormingLemmas.{passes_at, some_at, at_some, range_more, large_one, image_at}
-use Rattle.join.proofs.OrderLemmas.{rows_total, keys_rise, front_grows, front_stays}
+use Rattle.join.proofs.OrderLemmas.{rows_total, keys_rise, front_grows, front_stays, found_is}
 use Rattle.join.proofs.StandingLemmas.{pieces_within, stands_before, stands_behind, stands_in_turn}
 use Rattle.join.proofs.TurnedLemmas.{by_columns}
 
@@ -344,6 +344,33 @@ module _ {T : Type 0} where
 -- what is found by a test passes it
 pub found_pass : {X : Type 0} (p : X → Bool) (xs ys : List X) → xs ≡ filter p ys → IsTrue (list_all p xs)
 found_pass p xs ys is = subst (λ zs. IsTrue (list_all p zs)) (sym is) (list_all-from_AllPass p (filter p ys) (filter_passes p ys))
+
+-- ---- what is found of a key
+
+-- the key of u: its run in us lies between two places, and its updates in vs between two others
+pub record IsFound {T : Type 0} (k : ℕ) (us vs : List (Update T)) (u : Update T) (i next start end : ℕ) : Type 0 where
+  pub wide : k ≤ length u.row
+  pub keyed : IsTrue (list_all (is_keyed k (take k u.row)) (slice_range us i next))
+  pub front : AllBefore (take k u.row) (take start vs)
+  pub found : slice_range vs start end ≡ filter (is_keyed k (take k u.row)) vs
+
+-- three searches find it
+pub is_found : {T : Type 0} (cmp : T → T → Ordering) (k : ℕ) (us vs : List (Update T)) → IsStrictlySortedBy (by_row_then_time cmp) us → IsTrue (list_all (λ w. is_wide k w.row) us)
+    → (i from next start end : ℕ) (u : Update T) (key : List ℤ) → IsSomeAnd (slice_get us i) (λ w. u ≡ w) → i < length us → key ≡ take k u.row
+    → IsSomeAnd (slice_get us i) (λ w. AllBefore (take k w.row) (take from vs))
+    → i ≤ next → next ≤ length us → NoneAfter key (slice_range us i next)
+    → from ≤ start → start ≤ length vs → AllBefore key (slice_range vs from start) → NoneBefore key (drop start vs)
+    → start ≤ end → end ≤ length vs → NoneAfter key (slice_range vs start end) → AllAfter key (drop end vs)
+    → IsFound k us vs u i next start end
+is_found cmp k us vs sorted all i from next start end u key e h is before g l none g' l' gone rest g'' l'' inside behind =
+    let wide = own_wide cmp k us sorted all i u e h in
+    let front = front_on cmp k us sorted all i u e h vs from start g' l' before (subst (λ r. AllBefore r (slice_range vs from start)) is gone) in
+    record {
+      wide = wide;
+      keyed = run_keyed cmp k us sorted all i u e h next g l (subst (λ r. NoneAfter r (slice_range us i next)) is none);
+      front = front;
+      found = found_is k u.row vs start end wide g'' l'' front (subst (λ r. NoneBefore r (drop start vs)) is rest) (subst (λ r. NoneAfter r (slice_range vs start end)) is inside) (subst (λ r. AllAfter r (drop end vs)) is behind);
+    }
 
 -- ---- one run of the batch after the other
 

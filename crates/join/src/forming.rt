@@ -36,6 +36,7 @@ use update::{Refusal, Update, Weight, consolidate};
 // The list is first consolidated when it has more pairs than so many for each update of the batch, and than so many at
 // least.
 const FOR_EACH: usize = 4;
+
 const AT_LEAST: usize = 4096;
 
 /// The side of a join on which a new batch is.
@@ -298,7 +299,14 @@ impl<T: Lattice> Formed<T> {
     {
         for i in run.start..run.end {
             let u = update_at(outer, i);
-            push_pairs(&mut self.updates, side, k, &u, inner, found.start..found.end)?;
+            push_pairs(
+                &mut self.updates,
+                side,
+                k,
+                &u,
+                inner,
+                found.start..found.end,
+            )?;
             self.settle()?;
         }
         Ok(())

@@ -90,6 +90,15 @@ fn known_forward<T: Lattice>(batch: &Batch<T>)
     let _lower = batch.description().lower();
 }
 
+// How many updates the batches have together; or the greatest number.
+fn updates_in<B: BatchReader>(batches: &[B]) -> u64 {
+    let mut updates: u64 = 0;
+    for batch in batches {
+        updates = updates.saturating_add(batch.len() as u64);
+    }
+    updates
+}
+
 // Twice the number of updates for each batch and for one more, and what was saved; or the greatest number.
 fn fuel_for(saved: u64, updates: u64, batches: u64) -> u64 {
     let rounds = batches.saturating_add(1).saturating_mul(2);
@@ -303,7 +312,9 @@ impl<T: Minimum> Arrangement<T> {
     }
 
     /// Lets the spine merge batches, with fuel for so many more updates that were inserted, and what earlier calls did
-    /// not spend. No reader notices. If a merge is refused, then it is left out, and may be done by a later call.
+    /// not spend. What is saved is at most a unit for each update of the spine: that is enough for any merge, and with
+    /// more a spine would merge all that it has at each small insertion. No reader notices. If a merge is refused, then
+    /// it is left out, and may be done by a later call.
     ///
     /// Cost: the fuel is twice as many units as there are updates and batches, multiplied. A merge spends one for each
     /// update that it reads, and one more.
@@ -327,7 +338,8 @@ impl<T: Minimum> Arrangement<T> {
         let _done = self.spine.work(fuel);
         let copies = self.spine.copied().saturating_sub(copied);
         let merges = batches.saturating_sub(all_batches(&self.spine).len() as u64);
-        self.saved = fuel.saturating_sub(copies).saturating_sub(merges);
+        let left = fuel.saturating_sub(copies).saturating_sub(merges);
+        self.saved = left.min(updates_in(all_batches(&self.spine)));
     }
 
     /// Tells the spine that a reader, by the number of its hold, has taken all that was inserted, up to the frontier

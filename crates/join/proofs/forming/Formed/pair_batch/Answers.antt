@@ -1,4 +1,4 @@
-use Rattle.std.proofs.Common.{rules, take, min, sym, subst, arith, ◌≡◌, ◌+◌, ◌-◌, ◌^◌, ◌++◌}
+use Rattle.std.proofs.Common.{rules, take, min, sym, subst, arith, ◌≡◌, ◌+◌, ◌-◌, ◌^◌}
 use Rattle.std.proofs.lemmas.List.{append-nil}
 use Rattle.std.proofs.lemmas.Result.{err_from_is_err_and}
 use Rattle.batch.specs.Batches.{AllBefore}

@@ -5,8 +5,7 @@ use Rattle.std.proofs.lemmas.Result.{err_from_is_err_and}
 use Rattle.lattice.proofs.FrontierLemmas.{all_more}
 use Rattle.join.specs.Pairs.{is_keyed}
 use Rattle.join.specs.Forming.{formed_fits, StandsIn}
-use Rattle.join.proofs.OrderLemmas.{found_is}
-use Rattle.join.proofs.RunLemmas.{own_wide, run_keyed, run_onward, front_on, front_there, keyed_wide, found_pass, part_all, run_is, run_large, run_looked}
+use Rattle.join.proofs.RunLemmas.{own_wide, run_onward, front_there, keyed_wide, found_pass, part_all, is_found, run_is, run_large, run_looked}
 use Rattle.join.proofs.LargeLemmas.{refused_more}
 use Rattle.join.proofs.forming.Formed.pair_key.Goals as goal
 
@@ -17,22 +16,30 @@ key-key-requires g c =
 pub pair_found-requires-clause-run_wide : goal.pair_found-requires-clause-run_wide
 pair_found-requires-clause-run_wide g c =
     let us = g.B.BatchReader.content c.args.batch.now in
+    let vs = g.C.BatchReader.content c.args.other.now in
     let u = c.update_at-u.result in
-    let wide = own_wide g.T.Ord.cmp c.args.k us c.requires.ordered.ascending c.requires.wide c.args.at.batch u c.update_at-u.ensures c.requires.here in
-    let keyed = run_keyed g.T.Ord.cmp c.args.k us c.requires.ordered.ascending c.requires.wide c.args.at.batch u c.update_at-u.ensures c.requires.here c.seek_past-next.result c.seek_past-next.ensures.ordered c.seek_past-next.ensures.within (rw c.key-key.ensures at c.seek_past-next.ensures.before) in
-    keyed_wide c.args.k u.row wide (slice_range us c.args.at.batch c.seek_past-next.result) keyed
+    let next = c.seek_past-next.result in
+    let start = c.seek-start.result in
+    let end = c.seek_past-end.result in
+    let f = is_found g.T.Ord.cmp c.args.k us vs c.requires.ordered.ascending c.requires.wide c.args.at.batch c.args.at.other next start end u c.key-key.result.now c.update_at-u.ensures c.requires.here c.key-key.ensures c.requires.front
+    c.seek_past-next.ensures.ordered c.seek_past-next.ensures.within c.seek_past-next.ensures.before
+    c.seek-start.ensures.ordered c.seek-start.ensures.within c.seek-start.ensures.before c.seek-start.ensures.rest
+    c.seek_past-end.ensures.ordered c.seek_past-end.ensures.within c.seek_past-end.ensures.before c.seek_past-end.ensures.rest in
+    keyed_wide c.args.k u.row f.wide (slice_range us c.args.at.batch next) f.keyed
 
 pub pair_found-requires-clause-found_wide : goal.pair_found-requires-clause-found_wide
 pair_found-requires-clause-found_wide g c =
     let us = g.B.BatchReader.content c.args.batch.now in
     let vs = g.C.BatchReader.content c.args.other.now in
     let u = c.update_at-u.result in
+    let next = c.seek_past-next.result in
     let start = c.seek-start.result in
     let end = c.seek_past-end.result in
-    let wide = own_wide g.T.Ord.cmp c.args.k us c.requires.ordered.ascending c.requires.wide c.args.at.batch u c.update_at-u.ensures c.requires.here in
-    let front = front_on g.T.Ord.cmp c.args.k us c.requires.ordered.ascending c.requires.wide c.args.at.batch u c.update_at-u.ensures c.requires.here vs c.args.at.other start c.seek-start.ensures.ordered c.seek-start.ensures.within c.requires.front (rw c.key-key.ensures at c.seek-start.ensures.before) in
-    let found = found_is c.args.k u.row vs start end wide c.seek_past-end.ensures.ordered c.seek_past-end.ensures.within front (rw c.key-key.ensures at c.seek-start.ensures.rest) (rw c.key-key.ensures at c.seek_past-end.ensures.before) (rw c.key-key.ensures at c.seek_past-end.ensures.rest) in
-    keyed_wide c.args.k u.row wide (slice_range vs start end) (found_pass (is_keyed c.args.k (take c.args.k u.row)) (slice_range vs start end) vs found)
+    let f = is_found g.T.Ord.cmp c.args.k us vs c.requires.ordered.ascending c.requires.wide c.args.at.batch c.args.at.other next start end u c.key-key.result.now c.update_at-u.ensures c.requires.here c.key-key.ensures c.requires.front
+    c.seek_past-next.ensures.ordered c.seek_past-next.ensures.within c.seek_past-next.ensures.before
+    c.seek-start.ensures.ordered c.seek-start.ensures.within c.seek-start.ensures.before c.seek-start.ensures.rest
+    c.seek_past-end.ensures.ordered c.seek_past-end.ensures.within c.seek_past-end.ensures.before c.seek_past-end.ensures.rest in
+    keyed_wide c.args.k u.row f.wide (slice_range vs start end) (found_pass (is_keyed c.args.k (take c.args.k u.row)) (slice_range vs start end) vs f.found)
 
 pub pair_found-requires-clause-fits : goal.pair_found-requires-clause-fits
 pair_found-requires-clause-fits g c =
@@ -53,12 +60,12 @@ returns-in_err-pair_found-clause-refused g c =
     let next = c.seek_past-next.result in
     let start = c.seek-start.result in
     let end = c.seek_past-end.result in
-    let wide = own_wide g.T.Ord.cmp c.args.k us c.requires.ordered.ascending c.requires.wide c.args.at.batch u c.update_at-u.ensures c.requires.here in
-    let keyed = run_keyed g.T.Ord.cmp c.args.k us c.requires.ordered.ascending c.requires.wide c.args.at.batch u c.update_at-u.ensures c.requires.here next c.seek_past-next.ensures.ordered c.seek_past-next.ensures.within (rw c.key-key.ensures at c.seek_past-next.ensures.before) in
-    let front = front_on g.T.Ord.cmp c.args.k us c.requires.ordered.ascending c.requires.wide c.args.at.batch u c.update_at-u.ensures c.requires.here vs c.args.at.other start c.seek-start.ensures.ordered c.seek-start.ensures.within c.requires.front (rw c.key-key.ensures at c.seek-start.ensures.before) in
-    let found = found_is c.args.k u.row vs start end wide c.seek_past-end.ensures.ordered c.seek_past-end.ensures.within front (rw c.key-key.ensures at c.seek-start.ensures.rest) (rw c.key-key.ensures at c.seek_past-end.ensures.before) (rw c.key-key.ensures at c.seek_past-end.ensures.rest) in
+    let f = is_found g.T.Ord.cmp c.args.k us vs c.requires.ordered.ascending c.requires.wide c.args.at.batch c.args.at.other next start end u c.key-key.result.now c.update_at-u.ensures c.requires.here c.key-key.ensures c.requires.front
+    c.seek_past-next.ensures.ordered c.seek_past-next.ensures.within c.seek_past-next.ensures.before
+    c.seek-start.ensures.ordered c.seek-start.ensures.within c.seek-start.ensures.before c.seek-start.ensures.rest
+    c.seek_past-end.ensures.ordered c.seek_past-end.ensures.within c.seek_past-end.ensures.before c.seek_past-end.ensures.rest in
     let p = err_from_is_err_and c.from_residual.result c.from_residual.ensures.1 in
-    let large = run_large c.args.side g.T.Lattice.joined c.args.k us vs (take c.args.k u.row) c.args.at.batch next start end keyed found c.args.self.now.updates.items c.seek_past-next.ensures.ordered in
+    let large = run_large c.args.side g.T.Lattice.joined c.args.k us vs (take c.args.k u.row) c.args.at.batch next start end f.keyed f.found c.args.self.now.updates.items c.seek_past-next.ensures.ordered in
     rw (p.1, p.2) (refused_more _ _ c.in_err-pair_found.field-0.0 large c.in_err-pair_found.ensures.refused)
 
 pub returns-clause-onward : goal.returns-clause-onward
@@ -70,9 +77,14 @@ returns-clause-front g c =
     let us = g.B.BatchReader.content c.args.batch.now in
     let vs = g.C.BatchReader.content c.args.other.now in
     let u = c.update_at-u.result in
+    let next = c.seek_past-next.result in
     let start = c.seek-start.result in
-    let front = front_on g.T.Ord.cmp c.args.k us c.requires.ordered.ascending c.requires.wide c.args.at.batch u c.update_at-u.ensures c.requires.here vs c.args.at.other start c.seek-start.ensures.ordered c.seek-start.ensures.within c.requires.front (rw c.key-key.ensures at c.seek-start.ensures.before) in
-    front_there g.T.Ord.cmp c.args.k us c.requires.ordered.ascending c.requires.wide c.args.at.batch u c.update_at-u.ensures c.requires.here (take start vs) front
+    let end = c.seek_past-end.result in
+    let f = is_found g.T.Ord.cmp c.args.k us vs c.requires.ordered.ascending c.requires.wide c.args.at.batch c.args.at.other next start end u c.key-key.result.now c.update_at-u.ensures c.requires.here c.key-key.ensures c.requires.front
+    c.seek_past-next.ensures.ordered c.seek_past-next.ensures.within c.seek_past-next.ensures.before
+    c.seek-start.ensures.ordered c.seek-start.ensures.within c.seek-start.ensures.before c.seek-start.ensures.rest
+    c.seek_past-end.ensures.ordered c.seek_past-end.ensures.within c.seek_past-end.ensures.before c.seek_past-end.ensures.rest in
+    front_there g.T.Ord.cmp c.args.k us c.requires.ordered.ascending c.requires.wide c.args.at.batch u c.update_at-u.ensures c.requires.here (take start vs) f.front
 
 pub returns-clause-formed : goal.returns-clause-formed
 returns-clause-formed g c =
@@ -82,12 +94,11 @@ returns-clause-formed g c =
     let next = c.seek_past-next.result in
     let start = c.seek-start.result in
     let end = c.seek_past-end.result in
-    let wide = own_wide g.T.Ord.cmp c.args.k us c.requires.ordered.ascending c.requires.wide c.args.at.batch u c.update_at-u.ensures c.requires.here in
-    let keyed = run_keyed g.T.Ord.cmp c.args.k us c.requires.ordered.ascending c.requires.wide c.args.at.batch u c.update_at-u.ensures c.requires.here next c.seek_past-next.ensures.ordered c.seek_past-next.ensures.within (rw c.key-key.ensures at c.seek_past-next.ensures.before) in
-    let front = front_on g.T.Ord.cmp c.args.k us c.requires.ordered.ascending c.requires.wide c.args.at.batch u c.update_at-u.ensures c.requires.here vs c.args.at.other start c.seek-start.ensures.ordered c.seek-start.ensures.within c.requires.front (rw c.key-key.ensures at c.seek-start.ensures.before) in
-    let found = found_is c.args.k u.row vs start end wide c.seek_past-end.ensures.ordered c.seek_past-end.ensures.within front (rw c.key-key.ensures at c.seek-start.ensures.rest) (rw c.key-key.ensures at c.seek_past-end.ensures.before) (rw c.key-key.ensures at c.seek_past-end.ensures.rest) in
-    let is = run_is c.args.side g.T.Lattice.joined c.args.k us vs (take c.args.k u.row) c.args.at.batch next start end keyed found in
-    subst (λ ps. StandsIn c.pair_found.new.self.updates.items (c.args.self.now.updates.items ++ ps)) (sym is) c.in_ok-pair_found.ensures.formed
+    let f = is_found g.T.Ord.cmp c.args.k us vs c.requires.ordered.ascending c.requires.wide c.args.at.batch c.args.at.other next start end u c.key-key.result.now c.update_at-u.ensures c.requires.here c.key-key.ensures c.requires.front
+    c.seek_past-next.ensures.ordered c.seek_past-next.ensures.within c.seek_past-next.ensures.before
+    c.seek-start.ensures.ordered c.seek-start.ensures.within c.seek-start.ensures.before c.seek-start.ensures.rest
+    c.seek_past-end.ensures.ordered c.seek_past-end.ensures.within c.seek_past-end.ensures.before c.seek_past-end.ensures.rest in
+    subst (λ ps. StandsIn c.pair_found.new.self.updates.items (c.args.self.now.updates.items ++ ps)) (sym (run_is c.args.side g.T.Lattice.joined c.args.k us vs (take c.args.k u.row) c.args.at.batch next start end f.keyed f.found)) c.in_ok-pair_found.ensures.formed
 
 pub returns-clause-looked : goal.returns-clause-looked
 returns-clause-looked g c =
@@ -97,8 +108,8 @@ returns-clause-looked g c =
     let next = c.seek_past-next.result in
     let start = c.seek-start.result in
     let end = c.seek_past-end.result in
-    let wide = own_wide g.T.Ord.cmp c.args.k us c.requires.ordered.ascending c.requires.wide c.args.at.batch u c.update_at-u.ensures c.requires.here in
-    let keyed = run_keyed g.T.Ord.cmp c.args.k us c.requires.ordered.ascending c.requires.wide c.args.at.batch u c.update_at-u.ensures c.requires.here next c.seek_past-next.ensures.ordered c.seek_past-next.ensures.within (rw c.key-key.ensures at c.seek_past-next.ensures.before) in
-    let front = front_on g.T.Ord.cmp c.args.k us c.requires.ordered.ascending c.requires.wide c.args.at.batch u c.update_at-u.ensures c.requires.here vs c.args.at.other start c.seek-start.ensures.ordered c.seek-start.ensures.within c.requires.front (rw c.key-key.ensures at c.seek-start.ensures.before) in
-    let found = found_is c.args.k u.row vs start end wide c.seek_past-end.ensures.ordered c.seek_past-end.ensures.within front (rw c.key-key.ensures at c.seek-start.ensures.rest) (rw c.key-key.ensures at c.seek_past-end.ensures.before) (rw c.key-key.ensures at c.seek_past-end.ensures.rest) in
-    run_looked c.args.side g.T.Lattice.joined c.args.k us vs (take c.args.k u.row) c.args.at.batch next start end keyed found c.args.self.now.looked c.pair_found.new.self.looked c.seek_past-next.ensures.ordered c.seek_past-next.ensures.within c.seek_past-end.ensures.ordered c.seek_past-end.ensures.within c.in_ok-pair_found.ensures.looked
+    let f = is_found g.T.Ord.cmp c.args.k us vs c.requires.ordered.ascending c.requires.wide c.args.at.batch c.args.at.other next start end u c.key-key.result.now c.update_at-u.ensures c.requires.here c.key-key.ensures c.requires.front
+    c.seek_past-next.ensures.ordered c.seek_past-next.ensures.within c.seek_past-next.ensures.before
+    c.seek-start.ensures.ordered c.seek-start.ensures.within c.seek-start.ensures.before c.seek-start.ensures.rest
+    c.seek_past-end.ensures.ordered c.seek_past-end.ensures.within c.seek_past-end.ensures.before c.seek_past-end.ensures.rest in
+    run_looked c.args.side g.T.Lattice.joined c.args.k us vs (take c.args.k u.row) c.args.at.batch next start end f.keyed f.found c.args.self.now.looked c.pair_found.new.self.looked c.seek_past-next.ensures.ordered c.seek_past-next.ensures.within c.seek_past-end.ensures.ordered c.seek_past-end.ensures.within c.in_ok-pair_found.ensures.looked

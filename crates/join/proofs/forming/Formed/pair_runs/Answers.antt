@@ -1,4 +1,4 @@
-use Rattle.std.proofs.Common.{rules, ◌≡◌, ◌≤◌, ◌<◌, ◌-◌, length, inr, ◌∙◌, refl}
+use Rattle.std.proofs.Common.{rules, ◌≡◌, ◌-◌, length, inr, ◌∙◌, refl}
 use Rattle.std.specs.Prelude.{slice_range}
 use Rattle.std.specs.List.{list_all}
 use Rattle.std.proofs.lemmas.Bool.{leb-true}
