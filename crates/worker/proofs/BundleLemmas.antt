@@ -1,22 +1,16 @@
 -- The first bundle of a place: it fits its node, and the worker may take it.
-use Rattle.std.proofs.Common.{◌≡◌, ℕ, suc, ◌^◌, nat_lt, ◌<◌, ◌≤◌, Bool, true, false, cond, ◌||◌, eqb, List, [], ◌∷◌, ◌++◌, length, Option, Some, None, IsTrue, sym, refl, ap, ◌∙◌, subst, arith, inl}
+use Rattle.std.proofs.Common.{◌≡◌, ℕ, suc, ◌^◌, ◌<◌, ◌≤◌, Bool, true, cond, List, [], ◌∷◌, ◌++◌, length, Some, None, IsTrue, sym, refl, ap, ◌∙◌, subst, inl}
 use Rattle.std.specs.List.{slice_get, list_all}
 use Rattle.std.specs.Result.{IfErr, OnOk}
 use Rattle.std.specs.Prelude.{Result, Ok, Err}
 use Rattle.std.specs.declared.cmp.Ordering.{Ordering}
-use Rattle.std.proofs.lemmas.Bool.{eq-eqb, eqb-true}
+use Rattle.std.proofs.lemmas.Bool.{eq-eqb}
 use Rattle.lattice.specs.Order.{PartialOrderLaws}
-use Rattle.antichain.proofs.Lists.{all_at}
 use Rattle.update.specs.Updates.{size}
 use Rattle.update.specs.declared.refusal.Refusal.{Refusal}
 use Rattle.update.specs.declared.refusal.Refusal.TheVariants.{OutOfMemory}
-use Rattle.plan.specs.Nodes.{arranged_by, is_linear, sources}
-use Rattle.plan.specs.declared.node.Node.{Node}
-use Rattle.plan.specs.declared.node.Node.TheVariants.{Input, Map, Filter, Concat, Negate, Arrange, Join, Reduce, Output}
-use Rattle.linear.proofs.PortLemmas.{input_at}
-use Rattle.linear.proofs.SizeLemmas.{large_applied}
+use Rattle.plan.specs.Nodes.{arranged_by, is_linear}
 use Rattle.linear.specs.Applied.{linear_output, Overflows}
-use Rattle.linear.specs.Ports.{is_port}
 use Rattle.linear.specs.Widths.{takes_rows}
 use Rattle.machine.specs.declared.histories.event.Site.{Site}
 use Rattle.machine.specs.declared.histories.event.Bundle.{Bundle}
@@ -26,25 +20,21 @@ use Rattle.machine.specs.declared.histories.event.Event.TheVariants.{Take, Give}
 use Rattle.machine.specs.Histories.Dataflows.{Dataflow, IsDataflow, node_of, source_of}
 use Rattle.machine.specs.Histories.States.{State, place, queue}
 use Rattle.machine.specs.Histories.Cuts.{cut}
-use Rattle.machine.specs.Histories.NodeLaws.{received_at}
 use Rattle.machine.specs.Histories.Promises.{changes_in}
 use Rattle.machine.specs.Histories.Actors.{IsSameOfClients}
 use Rattle.machine.specs.Histories.{state_after, without, IsTake, IsLegal}
 use Rattle.machine.specs.Boards.{BoardState, Stands, IsGiveOn, after_take}
 use Rattle.machine.specs.Boards.Loads.{queue_of}
-use Rattle.machine.proofs.BoardLemmas.PlacingLemmas.{itself}
-use Rattle.machine.proofs.HistoryLemmas.FlowLemmas.{queued}
 use Rattle.worker.specs.Gathering.{IsCut, IsStamped}
 use Rattle.worker.specs.Passes.{is_due, IsAtNode, IsFreeAtNode}
 use Rattle.worker.specs.Desks.{DeskState, IsDesk}
 use Rattle.worker.specs.Relays.{HasNoSmallBound, IsContinuedFrom, IsStopped, IsTooLarge, IsRunning, IsRunFrom, waits_at}
-use Rattle.worker.proofs.GatheringLemmas.{size_both, waiting_is_stamped}
-use Rattle.worker.proofs.PassLemmas.{IsDue, due_parts, lt_from, at_taken, at_given}
-use Rattle.worker.proofs.SendLemmas.{fitting, widened, sent_due}
+use Rattle.worker.proofs.PassLemmas.{IsDue, at_taken, at_given}
+use Rattle.worker.proofs.SendLemmas.{widened, sent_due}
 use Rattle.worker.proofs.FirstLemmas.{first_there, first_due, first_take, first_stamped, first_fits, large_first, large_made}
 use Rattle.worker.proofs.DeskLemmas.{linear_may, linear_desk}
 use Rattle.worker.proofs.ReadAtLemmas.{taken_plain}
-use Rattle.worker.proofs.RelayLemmas.{goes_further, large_received}
+use Rattle.worker.proofs.RelayLemmas.{goes_further}
 use Rattle.worker.proofs.WaitLemmas.{port_few, count_at, waits_are, count_sent, count_taken}
 
 -- a refusal after the board went on

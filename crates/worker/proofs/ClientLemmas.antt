@@ -1,24 +1,24 @@
 -- What clients do leaves a worker ready for its next pass.
-use Rattle.std.proofs.Common.{◌≡◌, ◌≢◌, ℕ, ◌<◌, Bool, true, false, cond, ◌&&◌, eqb, List, [], ◌∷◌, ◌++◌, length, None, IsTrue, sym, refl, ap, ◌∙◌, subst, arith}
+use Rattle.std.proofs.Common.{◌≡◌, ◌≢◌, ℕ, ◌<◌, Bool, true, false, cond, ◌&&◌, eqb, List, [], ◌∷◌, ◌++◌, length, None, sym, refl, ap, ◌∙◌, subst, arith}
 use Rattle.std.specs.List.{list_all, slice_get}
 use Rattle.std.specs.Prelude.{unwrap_or}
 use Rattle.std.proofs.lemmas.Bool.{and_from, eq-eqb, ne_eqb}
 use Rattle.std.proofs.lemmas.List.Folds.{list_all-append}
 use Rattle.lattice.specs.Order.{PartialOrderLaws}
-use Rattle.plan.specs.Nodes.{sources, is_input, is_join}
+use Rattle.plan.specs.Nodes.{sources, is_input}
 use Rattle.plan.specs.Widths.{width_of}
 use Rattle.plan.proofs.SortLemmas.{input_reads_none, no_source}
 use Rattle.machine.specs.declared.histories.event.Fed.{Fed}
 use Rattle.machine.specs.declared.histories.event.Event.{Event}
 use Rattle.machine.specs.declared.histories.event.Event.TheVariants.{Feed, Advance, Allow, Look, Take, TakeHeld, Give}
-use Rattle.machine.specs.Histories.Dataflows.{Dataflow, IsDataflow, node_of, source_of, route}
+use Rattle.machine.specs.Histories.Dataflows.{Dataflow, IsDataflow, node_of, route}
 use Rattle.machine.specs.Histories.States.{State}
 use Rattle.machine.specs.Histories.{alone, next_state, state_after, IsFeed, IsAllowed}
 use Rattle.machine.specs.Boards.{BoardState, Stands}
 use Rattle.machine.proofs.HistoryLemmas.ClaimLemmas.{routed}
 use Rattle.worker.specs.Gathering.{is_of}
 use Rattle.worker.specs.Joining.{is_at_port}
-use Rattle.worker.specs.Passes.{is_due, JoinsHaveTaken, IsAtNode}
+use Rattle.worker.specs.Passes.{is_due, JoinsHaveTaken}
 use Rattle.worker.specs.Desks.{DeskState, IsDesk}
 use Rattle.worker.specs.Relays.{is_of_client, IsRunning}
 use Rattle.worker.proofs.PassLemmas.{due_from, at_first, taken_both}

@@ -1,6 +1,5 @@
 -- What each event of a worker makes of its desk.
 use Rattle.std.proofs.Common.{◌≡◌, ◌≢◌, ℕ, zero, suc, ◌<◌, Bool, true, false, ◌&&◌, eqb, List, [], ◌∷◌, length, set, Some, None, IsTrue, sym, refl, ap, ◌∙◌, subst, arith}
-use Rattle.std.specs.Prelude.{Option}
 use Rattle.std.proofs.lemmas.Option.{same_Some}
 use Rattle.std.specs.List.{slice_get}
 use Rattle.std.proofs.lemmas.Bool.{eqb-true, eqb-false, ne_eqb}
@@ -12,13 +11,13 @@ use Rattle.plan.specs.declared.node.Node.{Node}
 use Rattle.plan.specs.declared.node.Node.TheVariants.{Input, Map, Filter, Concat, Negate, Arrange, Join, Reduce, Output}
 use Rattle.linear.specs.Applied.{linear_output}
 use Rattle.linear.specs.Ports.{is_port}
-use Rattle.trace.specs.Readings.{Insertion, reached}
+use Rattle.trace.specs.Readings.{Insertion}
 use Rattle.spine.specs.Spines.{Stands}
 use Rattle.machine.specs.declared.histories.event.Bundle.{Bundle}
 use Rattle.machine.specs.declared.histories.event.Emission.{Emission}
 use Rattle.machine.specs.declared.histories.event.Event.{Event}
 use Rattle.machine.specs.declared.histories.event.Event.TheVariants.{Take, Give}
-use Rattle.machine.specs.Histories.Dataflows.{Dataflow, IsDataflow, node_of, source_of}
+use Rattle.machine.specs.Histories.Dataflows.{Dataflow, IsDataflow, node_of}
 use Rattle.machine.specs.Histories.States.{State, times, emitted_by}
 use Rattle.machine.specs.Histories.NodeLaws.{received_at}
 use Rattle.machine.specs.Histories.{next_state, give_state, IsAllowed, IsTake, IsGive}
@@ -27,7 +26,7 @@ use Rattle.worker.specs.Arrangements.{ArrangementState}
 use Rattle.worker.specs.Arranging.{IsArranging}
 use Rattle.worker.specs.Joins.{JoiningView}
 use Rattle.worker.specs.Reductions.{ReducingView, IsReduced, pending_of}
-use Rattle.worker.specs.Desks.{DeskState, ReadsAt, HasHold, AreSharing, IsArrangedAt, IsJoinedAt, IsDeskAt, IsDesk, with_arrangement, with_reduction, hold_at, boundary_at}
+use Rattle.worker.specs.Desks.{DeskState, ReadsAt, AreSharing, IsArrangedAt, IsJoinedAt, IsDeskAt, IsDesk, with_arrangement, with_reduction, hold_at}
 use Rattle.worker.proofs.GatheringLemmas.{IsSameAt, same_after, same_gathering, linear_piece_lem, took_gathering, in_hand_now, may_give, gave_gathering}
 use Rattle.worker.proofs.ArrangingLemmas.{same_arranging, all_given}
 use Rattle.worker.proofs.ReducingLemmas.{same_reducing}

@@ -1,9 +1,9 @@
 -- What is gathered at a linear node: bundle by bundle it is taken and held back, and then all of it is given.
-use Rattle.std.proofs.Common.{◌≡◌, ◌≢◌, ℕ, suc, ◌<◌, Bool, true, false, cond, eqb, List, [], ◌∷◌, ◌++◌, ◌+◌, map, length, Option, Some, None, IsTrue, sym, refl, ap, ◌∙◌, subst, arith, inl, inr}
+use Rattle.std.proofs.Common.{◌≡◌, ℕ, suc, ◌<◌, Bool, true, eqb, List, [], ◌∷◌, ◌++◌, ◌+◌, map, length, Option, Some, None, IsTrue, sym, refl, ap, ◌∙◌, subst, arith, inl, inr}
 use Rattle.std.specs.List.{slice_get, list_all}
 use Rattle.std.specs.Result.{IsErr, IfErr, IfOk, OnOk}
 use Rattle.std.specs.Prelude.{Result, Ok, Err}
-use Rattle.std.proofs.lemmas.Bool.{and_from, and_parts, eq-eqb}
+use Rattle.std.proofs.lemmas.Bool.{and_from, and_parts}
 use Rattle.std.proofs.lemmas.List.{append-nil, append_assoc}
 use Rattle.std.proofs.lemmas.Option.{none-some}
 use Rattle.std.proofs.lemmas.List.Folds.{list_all-append}
@@ -19,7 +19,6 @@ use Rattle.join.proofs.LargeLemmas.{large_size}
 use Rattle.plan.specs.Nodes.{arranged_by, is_linear, key_width}
 use Rattle.plan.specs.Widths.{width_of}
 use Rattle.linear.specs.Applied.{linear_output, Overflows}
-use Rattle.linear.specs.Ports.{is_port}
 use Rattle.linear.specs.Widths.{are_wide, takes_rows}
 use Rattle.machine.specs.declared.histories.event.Site.{Site}
 use Rattle.machine.specs.declared.histories.event.Bundle.{Bundle}
@@ -32,7 +31,7 @@ use Rattle.machine.specs.Histories.Promises.{changes_in}
 use Rattle.machine.specs.Histories.NodeLaws.{received_at}
 use Rattle.machine.specs.Histories.Outstanding.{input_frontier}
 use Rattle.machine.specs.Histories.Cuts.{cut}
-use Rattle.machine.specs.Histories.{state_after, next_state, give_state, without, IsTake, IsGive}
+use Rattle.machine.specs.Histories.{state_after, next_state, give_state, without, IsTake}
 use Rattle.machine.specs.Boards.{BoardState, Stands, IsGiveOn, after_take}
 use Rattle.machine.specs.Boards.Loads.{Lot, lot_of, bundle_at, queue_of}
 use Rattle.worker.specs.Gathering.{IsCut, IsStamped, IsInHand, IsSplit, IsHeldFor, IsGathering}

@@ -1,10 +1,10 @@
 -- One node of a pass: its steps one after another, and the way on to the next node.
-use Rattle.std.proofs.Common.{◌≡◌, ◌≢◌, ℕ, zero, suc, ◌+◌, ◌<◌, Bool, true, false, cond, not, ◌||◌, ◌&&◌, List, [], ◌∷◌, ◌++◌, length, map, set, Option, Some, None, IsTrue, sym, refl, ap, ◌∙◌, subst, arith, inl, inr, ⊎_elim}
+use Rattle.std.proofs.Common.{◌≡◌, ℕ, zero, suc, ◌+◌, ◌<◌, Bool, true, false, cond, not, ◌||◌, ◌&&◌, List, [], ◌∷◌, ◌++◌, length, map, set, Option, Some, None, IsTrue, sym, refl, ap, ◌∙◌, subst, arith, inl, inr, ⊎_elim}
 use Rattle.std.specs.Prelude.{Result, Ok, Err}
 use Rattle.std.specs.List.{slice_get, list_all, list_any}
 use Rattle.std.specs.Result.{IfErr, OnOk}
 use Rattle.std.specs.declared.cmp.Ordering.{Ordering}
-use Rattle.std.proofs.lemmas.Bool.{and_from, false≢true}
+use Rattle.std.proofs.lemmas.Bool.{false≢true}
 use Rattle.std.proofs.lemmas.List.{set-set}
 use Rattle.std.proofs.lemmas.Option.{none-some}
 use Rattle.lattice.specs.Order.{PartialOrderLaws}
@@ -23,9 +23,8 @@ use Rattle.machine.specs.declared.histories.event.Event.{Event}
 use Rattle.machine.specs.Histories.Dataflows.{Dataflow, IsDataflow, node_of}
 use Rattle.machine.specs.Histories.States.{State, place, same_place, queue, held_at, fed_to}
 use Rattle.machine.specs.Histories.Outstanding.{input_frontier}
-use Rattle.machine.specs.Histories.Readings.{IsQuiet}
 use Rattle.machine.specs.Histories.{state_after}
-use Rattle.machine.specs.Boards.{BoardState, Stands}
+use Rattle.machine.specs.Boards.{BoardState}
 use Rattle.machine.specs.Boards.Loads.{Lot, lot_of, queue_of, bundle_at}
 use Rattle.machine.proofs.BoardLemmas.PlacingLemmas.{itself}
 use Rattle.machine.proofs.HistoryLemmas.FlowLemmas.{queued}
@@ -37,7 +36,7 @@ use Rattle.worker.specs.Passes.{is_due, JoinsHaveTaken}
 use Rattle.worker.specs.Desks.{DeskState, IsDeskAt, with_arrangement, with_reduction, with_join}
 use Rattle.worker.specs.Relays.{HasNoSmallBound, IsStopped, IsRunning, IsRunFrom, IsSettledFrom, IsRelayedFrom, waits_at}
 use Rattle.worker.proofs.PassLemmas.{due_parts, at_next, at_first, none_in_flight, quiet_at_end}
-use Rattle.worker.proofs.RelayLemmas.{goes_further, runs_refl, runs_further}
+use Rattle.worker.proofs.RelayLemmas.{goes_further, runs_further}
 use Rattle.worker.proofs.ReduceRunLemmas.{refused_by}
 use Rattle.worker.proofs.WaitLemmas.{port_few, count_at, waits_are}
 

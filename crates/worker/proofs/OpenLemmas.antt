@@ -1,11 +1,11 @@
 -- A worker's desk is laid out node by node, and then it is right for the state before the first event.
-use Rattle.std.proofs.Common.{◌≡◌, ◌≢◌, ℕ, zero, suc, ◌+◌, ◌-◌, ◌<◌, ◌≤◌, Bool, true, false, ◌&&◌, eqb, nat_le, List, [], ◌∷◌, ◌++◌, length, set, Option, Some, None, IsTrue, sym, refl, ap, ◌∙◌, subst, arith, inl, inr, ◌⊎◌, ⊎_elim}
+use Rattle.std.proofs.Common.{◌≡◌, ◌≢◌, ℕ, zero, suc, ◌+◌, ◌-◌, ◌<◌, ◌≤◌, Bool, true, false, ◌&&◌, eqb, nat_le, List, [], ◌∷◌, ◌++◌, length, set, Option, Some, None, sym, refl, ap, ◌∙◌, subst, arith, inl, inr, ◌⊎◌, ⊎_elim}
 use Rattle.std.specs.List.{slice_get}
 use Rattle.std.proofs.lemmas.Bool.{and_parts, eqb-true, eqb-false}
 use Rattle.std.proofs.lemmas.Bool.Decides.{nat_tests}
 use Rattle.std.proofs.lemmas.Option.{same_Some}
 use Rattle.lattice.specs.Order.{PartialOrderLaws}
-use Rattle.plan.specs.Rules.{IsPlan, is_width}
+use Rattle.plan.specs.Rules.{IsPlan}
 use Rattle.plan.specs.Nodes.{node_at, sources, arranged_by, key_width, is_join, is_linear, is_reduction}
 use Rattle.plan.specs.Widths.{width_of, width_from, reduced_width}
 use Rattle.plan.specs.declared.node.Kind.{Kind}
@@ -15,19 +15,17 @@ use Rattle.plan.proofs.KeyLemmas.{key_bounds, source_arranged}
 use Rattle.plan.proofs.PlanLemmas.{source_smaller}
 use Rattle.plan.proofs.StepLemmas.{width_by_sources}
 use Rattle.plan.proofs.WidthLemmas.{width_bounds}
-use Rattle.spine.specs.Spines.{Stands as SpineStands}
-use Rattle.machine.specs.Histories.Dataflows.{Dataflow, node_of, source_of}
+use Rattle.machine.specs.Histories.Dataflows.{Dataflow, node_of}
 use Rattle.machine.specs.Histories.States.{State}
 use Rattle.machine.specs.Histories.{initial_state}
 use Rattle.machine.specs.Boards.{BoardState, Stands}
-use Rattle.trace.specs.Readings.{Insertion}
-use Rattle.worker.specs.Joining.{IsQueued, IsReadAt}
+use Rattle.worker.specs.Joining.{IsReadAt}
 use Rattle.worker.specs.Joins.{JoiningView, IsFitting}
 use Rattle.worker.specs.Arranging.{IsArranging}
 use Rattle.worker.specs.Arrangements.{ArrangementState, IsWithReader, upper_of}
 use Rattle.worker.specs.Reducing.{IsReducing}
-use Rattle.worker.specs.Reductions.{ReducingView, HasRoom, pending_of}
-use Rattle.worker.specs.Desks.{DeskState, ReadsAt, HasHold, AreSharing, IsDeskAt, IsDesk, with_arrangement, hold_at, boundary_at}
+use Rattle.worker.specs.Reductions.{ReducingView, HasRoom}
+use Rattle.worker.specs.Desks.{DeskState, ReadsAt, HasHold, IsDeskAt, IsDesk, with_arrangement, hold_at, boundary_at}
 use Rattle.worker.specs.Openings.{on_one_worker, IsFirstArrangement, IsFirstReduction, IsFirstJoin, HasOwnHolds, IsFirstAt, IsLaidOut}
 use Rattle.worker.specs.Relays.{IsRunning}
 use Rattle.worker.proofs.GatheringLemmas.{first_gathering}

@@ -11,7 +11,6 @@ use Rattle.lattice.specs.Frontiers.{is_beyond, all_beyond}
 use Rattle.antichain.specs.Antichains.{least}
 use Rattle.antichain.proofs.Lists.{Among, all_at, all_from, contains_among}
 use Rattle.plan.proofs.StandLemmas.{above_earlier}
-use Rattle.plan.specs.Nodes.{is_join}
 use Rattle.linear.specs.Ports.{is_port}
 use Rattle.linear.specs.Widths.{are_wide}
 use Rattle.machine.specs.declared.histories.event.Site.{Site}

@@ -23,7 +23,7 @@ use Rattle.machine.specs.declared.histories.event.Emission.{Emission}
 use Rattle.machine.specs.declared.histories.event.Event.{Event}
 use Rattle.machine.specs.declared.histories.event.Event.TheVariants.{TakeHeld, Give}
 use Rattle.machine.specs.Histories.Dataflows.{Dataflow, IsDataflow, node_of, source_of}
-use Rattle.machine.specs.Histories.States.{State, times, place, queue, held_at}
+use Rattle.machine.specs.Histories.States.{State, times, place, queue}
 use Rattle.machine.specs.Histories.Outstanding.{input_frontier}
 use Rattle.machine.specs.Histories.Cuts.{cut}
 use Rattle.machine.specs.Histories.{state_after, give_state, IsTakeHeld}

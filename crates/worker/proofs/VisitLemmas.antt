@@ -1,5 +1,5 @@
 -- What lies on the desk for the node that a pass visits.
-use Rattle.std.proofs.Common.{◌≡◌, ℕ, ◌<◌, Bool, List, Option, length, Some, None, sym, refl, ap, ◌∙◌, subst, arith}
+use Rattle.std.proofs.Common.{◌≡◌, ℕ, ◌<◌, Bool, List, Option, length, Some, None, sym, ap, ◌∙◌, subst, arith}
 use Rattle.std.specs.List.{slice_get}
 use Rattle.std.specs.Prelude.{Result, get_or}
 use Rattle.std.specs.Result.{OnOk, IfErr}
@@ -14,8 +14,7 @@ use Rattle.plan.proofs.KeyLemmas.{source_arranged}
 use Rattle.plan.proofs.PlanLemmas.{source_smaller}
 use Rattle.plan.proofs.SortLemmas.{arranged_is}
 use Rattle.machine.specs.declared.histories.event.Event.{Event}
-use Rattle.machine.specs.Histories.Dataflows.{Dataflow, IsDataflow, node_of, source_of}
-use Rattle.machine.specs.Histories.States.{State}
+use Rattle.machine.specs.Histories.Dataflows.{IsDataflow, node_of, source_of}
 use Rattle.machine.specs.Histories.{state_after}
 use Rattle.machine.specs.Boards.{BoardState}
 use Rattle.worker.specs.Arrangements.{ArrangementState}

@@ -1,5 +1,5 @@
 -- A worker's desk before the first event, and as far as it is laid out node by node.
-use Rattle.std.specs.Prelude.{◌≡◌, ◌≢◌, ℕ, ◌<◌, Bool, List, [], ◌∷◌, length, slice_get, Option, Some, ⊤}
+use Rattle.std.specs.Prelude.{◌≡◌, ◌≢◌, ℕ, ◌<◌, Bool, List, [], ◌∷◌, length, slice_get, Some, ⊤}
 use Rattle.plan.specs.Nodes.{node_at, key_width}
 use Rattle.plan.specs.Widths.{width_of}
 use Rattle.plan.specs.declared.node.Kind.{Kind}

@@ -1,7 +1,7 @@
-use Rattle.std.proofs.Common.{sym, ap, subst, ◌∙◌}
+use Rattle.std.proofs.Common.{sym, subst, ◌∙◌}
 use Rattle.plan.specs.Nodes.{node_at, key_width}
 use Rattle.worker.specs.Reductions.{HasRoom}
-use Rattle.worker.proofs.OpenLemmas.{reduction_fits, reduced_within}
+use Rattle.worker.proofs.OpenLemmas.{reduction_fits}
 use Rattle.worker.proofs.desk.reduction_of.Goals as goal
 
 pub new-requires : goal.new-requires

@@ -1,4 +1,4 @@
-use Rattle.std.proofs.Common.{◌≡◌, suc, ◌+◌, ◌<◌, ap, sym, subst, ◌∙◌, length, ◌++◌, arith, rules}
+use Rattle.std.proofs.Common.{◌≡◌, suc, ◌+◌, ap, sym, subst, ◌∙◌, length, ◌++◌, arith, rules}
 use Rattle.std.proofs.lemmas.Result.{err_from_is_err_and}
 use Rattle.machine.specs.Histories.Dataflows.{Dataflow}
 use Rattle.worker.specs.Relays.{IsRunning, IsRunFrom, IsStopped}

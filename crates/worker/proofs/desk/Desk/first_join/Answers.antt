@@ -1,4 +1,4 @@
-use Rattle.std.proofs.Common.{◌≡◌, ap, refl, sym, subst, ◌∙◌}
+use Rattle.std.proofs.Common.{ap, sym, subst, ◌∙◌}
 use Rattle.plan.specs.Nodes.{node_at, key_width}
 use Rattle.plan.specs.Widths.{width_of}
 use Rattle.worker.specs.Joins.{JoiningView, IsFitting}

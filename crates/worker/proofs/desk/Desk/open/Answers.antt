@@ -1,4 +1,4 @@
-use Rattle.std.proofs.Common.{ap, sym, subst, ◌∙◌, length, arith, ◌≡◌}
+use Rattle.std.proofs.Common.{subst, ◌∙◌, arith, ◌≡◌}
 use Rattle.worker.specs.Openings.{IsLaidOut}
 use Rattle.worker.proofs.OpenLemmas.{opened_running}
 use Rattle.worker.proofs.desk.Desk.open.Goals as goal

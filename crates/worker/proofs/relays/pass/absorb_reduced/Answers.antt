@@ -1,7 +1,7 @@
-use Rattle.std.proofs.Common.{refl, rules, ◌≡◌, ◌<◌, ◌++◌, List, Option, Some, length, slice_get, sym, ap, subst, ◌∙◌, IsTrue}
+use Rattle.std.proofs.Common.{refl, rules, ◌≡◌, ◌++◌, Some, slice_get, sym, subst, ◌∙◌}
 use Rattle.std.proofs.lemmas.Result.{err_from_is_err_and}
-use Rattle.machine.specs.Histories.Dataflows.{Dataflow, node_of}
-use Rattle.worker.specs.Desks.{DeskState, with_reduction}
+use Rattle.machine.specs.Histories.Dataflows.{node_of}
+use Rattle.worker.specs.Desks.{with_reduction}
 use Rattle.worker.specs.Relays.{IsRunning, IsRunFrom, IsStopped}
 use Rattle.worker.proofs.BundleLemmas.{if_err_at}
 use Rattle.worker.proofs.RelayLemmas.{runs_refl}

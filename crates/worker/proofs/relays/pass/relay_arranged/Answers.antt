@@ -1,12 +1,11 @@
-use Rattle.std.proofs.Common.{◌≡◌, ◌<◌, ◌++◌, List, Option, Some, suc, length, slice_get, sym, ap, subst, ◌∙◌, IsTrue, rules, OnOk}
+use Rattle.std.proofs.Common.{◌≡◌, ◌<◌, ◌++◌, Some, suc, length, sym, ap, subst, ◌∙◌, IsTrue, rules, OnOk}
 use Rattle.std.proofs.lemmas.Result.{err_from_is_err_and}
-use Rattle.machine.specs.Histories.Dataflows.{Dataflow, IsDataflow, node_of}
+use Rattle.machine.specs.Histories.Dataflows.{Dataflow, node_of}
 use Rattle.machine.specs.Boards.{BoardState}
 use Rattle.machine.specs.Boards.Reads.{is_ready}
-use Rattle.worker.specs.Desks.{DeskState, with_arrangement, with_reduction, with_join}
+use Rattle.worker.specs.Desks.{with_arrangement}
 use Rattle.worker.specs.Relays.{IsRunning, IsRunFrom, IsStopped, waits_at}
 use Rattle.worker.proofs.BundleLemmas.{if_err_at}
-use Rattle.worker.proofs.RelayLemmas.{runs_refl, runs_further}
 use Rattle.worker.proofs.NodeLemmas.{runs_next, none_passed, last_runs, last_stops, twice_arrangement, set_there}
 use Rattle.worker.proofs.relays.pass.relay_arranged.Goals as goal
 

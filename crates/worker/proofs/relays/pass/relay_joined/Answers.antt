@@ -1,12 +1,9 @@
-use Rattle.std.proofs.Common.{◌≡◌, ◌<◌, ◌++◌, List, Option, Some, suc, length, slice_get, sym, ap, subst, ◌∙◌, IsTrue, rules, OnOk, arith, true, false, refl}
+use Rattle.std.proofs.Common.{◌≡◌, ◌<◌, ◌++◌, Some, length, slice_get, sym, subst, ◌∙◌, rules, refl}
 use Rattle.std.proofs.lemmas.Result.{err_from_is_err_and}
-use Rattle.machine.specs.Histories.Dataflows.{Dataflow, IsDataflow, node_of}
-use Rattle.machine.specs.Boards.{BoardState}
-use Rattle.machine.specs.Boards.Reads.{is_ready}
-use Rattle.worker.specs.Desks.{DeskState, with_arrangement, with_reduction, with_join}
-use Rattle.worker.specs.Relays.{IsRunning, IsRunFrom, IsStopped, waits_at}
+use Rattle.machine.specs.Histories.Dataflows.{Dataflow, node_of}
+use Rattle.worker.specs.Relays.{IsRunning, IsRunFrom, IsStopped}
 use Rattle.worker.proofs.BundleLemmas.{if_err_at}
-use Rattle.worker.proofs.RelayLemmas.{runs_refl, runs_further}
+use Rattle.worker.proofs.RelayLemmas.{runs_refl}
 use Rattle.plan.specs.declared.node.Node.TheVariants.{Join}
 use Rattle.worker.proofs.NodeLemmas.{runs_next, join_settled, step_runs, step_stops, waits_none, none_left, with_both, same_both, twice_both, set_there}
 use Rattle.worker.proofs.relays.pass.relay_joined.Goals as goal

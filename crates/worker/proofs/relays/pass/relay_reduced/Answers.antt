@@ -1,12 +1,12 @@
-use Rattle.std.proofs.Common.{◌≡◌, ◌<◌, ◌++◌, List, Option, Some, suc, length, slice_get, sym, ap, subst, ◌∙◌, IsTrue, rules, OnOk}
+use Rattle.std.proofs.Common.{◌≡◌, ◌<◌, ◌++◌, Some, suc, length, sym, ap, subst, ◌∙◌, IsTrue, rules}
 use Rattle.std.proofs.lemmas.Result.{err_from_is_err_and}
 use Rattle.machine.specs.Histories.Dataflows.{Dataflow, IsDataflow, node_of}
 use Rattle.machine.specs.Boards.{BoardState}
 use Rattle.machine.specs.Boards.Reads.{is_ready}
-use Rattle.worker.specs.Desks.{DeskState, with_arrangement, with_reduction, with_join}
+use Rattle.worker.specs.Desks.{with_reduction}
 use Rattle.worker.specs.Relays.{IsRunning, IsRunFrom, IsStopped, waits_at}
 use Rattle.worker.proofs.BundleLemmas.{if_err_at}
-use Rattle.worker.proofs.RelayLemmas.{runs_refl, runs_further}
+use Rattle.worker.proofs.RelayLemmas.{runs_further}
 use Rattle.worker.proofs.NodeLemmas.{runs_next, none_passed, settled_next, stopped_later, twice_reduction, set_there}
 use Rattle.worker.proofs.relays.pass.relay_reduced.Goals as goal
 

@@ -1,4 +1,4 @@
-use Rattle.std.proofs.Common.{◌≡◌, ◌<◌, ◌++◌, List, Option, Some, suc, length, slice_get, sym, ap, subst, ◌∙◌, IsTrue, rules, OnOk, arith, true, false, refl}
+use Rattle.std.proofs.Common.{rules, arith}
 use Rattle.worker.proofs.NodeLemmas.{at_right}
 use Rattle.worker.proofs.relays.pass.take_at.Goals as goal
 

@@ -1,4 +1,4 @@
-use Rattle.std.proofs.Common.{◌≡◌, Some, set, ap, sym, subst, ◌∙◌, suc, rules, refl}
+use Rattle.std.proofs.Common.{Some, set, ap, ◌∙◌, suc, rules}
 use Rattle.worker.specs.Desks.{DeskState, with_arrangement}
 use Rattle.worker.proofs.VisitLemmas.{arrangement_there, entry_at, entry_some, seen_runs, seen_stops}
 use Rattle.worker.proofs.relays.pass.visit_arranged.Goals.{in-Some, in-None}

@@ -1,4 +1,4 @@
-use Rattle.std.proofs.Common.{◌≡◌, ◌<◌, length, arith, Some, set, ap, sym, subst, ◌∙◌, suc, rules, refl}
+use Rattle.std.proofs.Common.{length, arith, Some, set, ap, sym, ◌∙◌, suc, rules}
 use Rattle.std.proofs.lemmas.Option.{slice_get_within}
 use Rattle.worker.specs.Desks.{DeskState}
 use Rattle.worker.proofs.NodeLemmas.{with_both}

@@ -1,4 +1,4 @@
-use Rattle.std.proofs.Common.{◌≡◌, ◌<◌, length, arith, Some, slice_get, set, ap, sym, subst, ◌∙◌, suc, rules, refl}
+use Rattle.std.proofs.Common.{◌≡◌, length, arith, Some, slice_get, set, ap, sym, subst, ◌∙◌, suc, rules}
 use Rattle.std.proofs.lemmas.Option.{slice_get_within}
 use Rattle.worker.specs.Desks.{DeskState, with_reduction}
 use Rattle.worker.proofs.VisitLemmas.{reduction_there, source_there, entry_at, entry_some, seen_runs, seen_stops}

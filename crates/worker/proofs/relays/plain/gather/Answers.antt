@@ -1,8 +1,6 @@
-use Rattle.std.proofs.Common.{◌≡◌, ◌++◌, [], ap, sym, subst, ◌∙◌, List, Some, inl}
+use Rattle.std.proofs.Common.{◌++◌, [], ap, sym, subst, ◌∙◌, Some, inl}
 use Rattle.std.proofs.lemmas.Result.{err_from_is_err_and}
-use Rattle.machine.specs.declared.histories.event.Event.{Event}
-use Rattle.worker.specs.Desks.{DeskState}
-use Rattle.worker.specs.Relays.{IsStopped, IsRunning, IsGatheredFrom, IsGatheringOn}
+use Rattle.worker.specs.Relays.{IsStopped, IsGatheredFrom, IsGatheringOn}
 use Rattle.worker.proofs.BundleLemmas.{if_err_at}
 use Rattle.worker.proofs.GatherRunLemmas.{none_gathered, stopped_on, gathers_on, gathers_further, gathers_first, none_from, none_wait}
 use Rattle.worker.proofs.relays.plain.gather.Goals as goal

@@ -1,4 +1,4 @@
-use Rattle.std.proofs.Common.{◌≡◌, ◌∷◌, [], ◌++◌, ◌||◌, ◌<◌, ap, refl, sym, subst, ◌∙◌, List, length, Some, None, inl}
+use Rattle.std.proofs.Common.{◌≡◌, ◌∷◌, [], ◌++◌, ◌||◌, ◌<◌, ap, refl, sym, subst, ◌∙◌, List, length, Some, inl}
 use Rattle.std.proofs.lemmas.Result.{err_from_is_err_and}
 use Rattle.lattice.specs.Frontiers.{is_beyond}
 use Rattle.update.specs.declared.change.Update.{Update}
@@ -6,7 +6,7 @@ use Rattle.update.specs.declared.refusal.Refusal.TheVariants.{OutOfMemory}
 use Rattle.machine.specs.declared.histories.event.Event.TheVariants.{Give}
 use Rattle.machine.specs.Histories.States.{times}
 use Rattle.worker.specs.Arrangements.{times_of}
-use Rattle.worker.specs.Relays.{IsStopped, IsGatheredFrom, IsGatheringOn}
+use Rattle.worker.specs.Relays.{IsStopped, IsGatheredFrom}
 use Rattle.worker.proofs.FrontLemmas.{beyond-append}
 use Rattle.worker.proofs.GatheringLemmas.{no_emission}
 use Rattle.worker.proofs.RelayLemmas.{goes_refl, goes_further}

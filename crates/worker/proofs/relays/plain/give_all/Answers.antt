@@ -1,4 +1,4 @@
-use Rattle.std.proofs.Common.{◌≡◌, ap, refl, sym, subst, ◌∙◌, List, inr}
+use Rattle.std.proofs.Common.{ap, List, inr}
 use Rattle.std.proofs.lemmas.Result.{err_from_is_err_and}
 use Rattle.update.specs.declared.change.Update.{Update}
 use Rattle.worker.specs.Relays.{IsStopped}

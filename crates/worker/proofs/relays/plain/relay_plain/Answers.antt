@@ -1,6 +1,6 @@
 use Rattle.std.proofs.Common.{◌≡◌, ◌++◌, suc, ap, sym, subst, ◌∙◌, List, Some}
 use Rattle.std.proofs.lemmas.Result.{err_from_is_err_and}
-use Rattle.worker.specs.Relays.{IsStopped, IsRunning, IsGatheredFrom, IsGatheringOn}
+use Rattle.worker.specs.Relays.{IsStopped, IsRunning, IsGatheringOn}
 use Rattle.worker.proofs.RelayLemmas.{runs_refl}
 use Rattle.worker.proofs.BundleLemmas.{if_err_at}
 use Rattle.worker.proofs.SettleLemmas.{on_ok_by}

@@ -1,4 +1,4 @@
-use Rattle.std.proofs.Common.{◌≡◌, ap, refl, sym, subst, ◌∙◌, IsTrue, inl}
+use Rattle.std.proofs.Common.{ap, refl, sym, subst, ◌∙◌, IsTrue, inl}
 use Rattle.std.proofs.lemmas.Result.{err_from_is_err_and}
 use Rattle.plan.specs.Nodes.{node_at}
 use Rattle.linear.specs.Applied.{Overflows, linear_output}
