@@ -35,3 +35,6 @@ pub mod GatherRunLemmas
 pub mod OpenLemmas
 pub mod NodeLemmas
 pub mod VisitLemmas
+pub mod SharedLemmas
+pub mod SharedReadingLemmas
+pub mod ActorLemmas

@@ -12,3 +12,4 @@ pub mod Reductions
 pub mod Desks
 pub mod Relays
 pub mod Openings
+pub mod Tenures

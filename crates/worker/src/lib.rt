@@ -20,16 +20,23 @@
 //! what clients do in between. The other names are for whoever writes another worker.
 #![tactic(auto)]
 
+mod actor;
 mod arrangement;
+mod boards;
 mod desk;
+mod doing;
 mod front;
 mod joining;
 mod laws;
 mod reducing;
 mod relays;
+mod shared;
 
+pub use actor::Actor;
 pub use arrangement::{Arrangement, what_is_taken_is_up_to_a_boundary};
+pub use boards::Boards;
 pub use desk::Desk;
+pub use doing::Doing;
 pub use joining::Joining;
 pub use laws::arranging::{
     arranged_elsewhere, arranged_holds_back, arranged_in_any_order, arranged_inserts,
@@ -54,3 +61,4 @@ pub use laws::working::{
 };
 pub use reducing::Reducing;
 pub use relays::relay;
+pub use shared::SharedBoard;

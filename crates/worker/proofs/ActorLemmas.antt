@@ -1,0 +1,166 @@
+-- What an actor knows during a tenure, and after it.
+use Rattle.std.proofs.Common.{◌≡◌, ℕ, ◌<◌, Bool, List, [], ◌∷◌, ◌++◌, length, Option, Some, None, sym, refl, ap, ◌∙◌, subst}
+use Rattle.std.specs.Prelude.{Result, Ok, Err, IfOk, IfErr, IfSome, IsSomeAnd, get_or}
+use Rattle.std.specs.declared.cmp.Ordering.{Ordering}
+use Rattle.atomic_table.specs.Seated.{TableId}
+use Rattle.hub.specs.declared.view.Entry.{Entry}
+use Rattle.hub.specs.Histories.{entry, NoneBy}
+use Rattle.hub.specs.Known.{Known}
+use Rattle.hub.specs.Passes.{AgreesWith}
+use Rattle.machine.specs.declared.histories.event.Event.{Event}
+use Rattle.machine.specs.Histories.Dataflows.{Dataflow, IsDataflow}
+use Rattle.machine.specs.Histories.States.{State}
+use Rattle.machine.specs.Histories.Actors.{IsSameOfWorker}
+use Rattle.machine.proofs.HistoryLemmas.ActorLemmas.{worker_apart}
+use Rattle.machine.specs.Histories.{IsGive, IsLegal}
+use Rattle.machine.specs.declared.histories.event.Bundle.{Bundle}
+use Rattle.machine.specs.declared.histories.event.Emission.{Emission}
+use Rattle.worker.specs.declared.doing.Doing.{Doing}
+use Rattle.worker.specs.Tenures.{Terms, SharedState, events, terms_of, terms_of_board, doing, AreOn, left_by, StandsFor, terms_in, AreKnown, found_last, state_found, state_left, Adds, IsActor}
+
+pub is_some_at : {A : Type 0} (o : Option A) (P : A → Type 0) → IsSomeAnd o P → (x : A) → o ≡ Some x → P x
+is_some_at o P h x e = subst (λ (z : Option _). IsSomeAnd z P) e h
+
+pub if_ok_map : {X E : Type 0} (r : Result X E) (P Q : X → Type 0) → ((x : X) → P x → Q x) → IfOk r P → IfOk r Q
+if_ok_map (Ok x) P Q f h = f x h
+if_ok_map (Err e) P Q f h = tt
+
+pub if_err_map : {X E : Type 0} (r : Result X E) (P Q : E → Type 0) → ((e : E) → P e → Q e) → IfErr r P → IfErr r Q
+if_err_map (Ok x) P Q f h = tt
+if_err_map (Err e) P Q f h = f e h
+
+pub if_some_map : {X : Type 0} (o : Option X) (P Q : X → Type 0) → ((x : X) → P x → Q x) → IfSome o P → IfSome o Q
+if_some_map None P Q f h = tt
+if_some_map (Some x) P Q f h = f x h
+
+pub both_ok : {X E : Type 0} (r : Result X E) (P Q R : X → Type 0) → ((x : X) → P x → Q x → R x) → IfOk r P → IfOk r Q → IfOk r R
+both_ok (Ok x) P Q R f h k = f x h k
+both_ok (Err e) P Q R f h k = tt
+
+pub both_some : {X : Type 0} (o : Option X) (P Q R : X → Type 0) → ((x : X) → P x → Q x → R x) → IfSome o P → IfSome o Q → IfSome o R
+both_some None P Q R f h k = tt
+both_some (Some x) P Q R f h k = f x h k
+
+module _ {T : Type 0} where
+  -- whoever has seen an entry knows the terms of the board
+  knows_terms : (t : Terms) (others seen : List (Entry (Doing T))) → AreOn t (others ++ seen) → AreKnown seen → t ≡ terms_in seen
+  knows_terms t [] [] on known = absurd known
+  knows_terms t [] (e ∷ es) on known = sym on.0.terms
+  knows_terms t (x ∷ others) seen on known = knows_terms t others seen on.1 known
+
+  -- what others did changes nothing of a worker
+  pub others_apart : (below : T → T → Bool) (minimum : T) (p : Dataflow) (t : Terms) (k : ℕ) (others seen : List (Entry (Doing T))) → NoneBy k others → AreOn t (others ++ seen) → IsSameOfWorker k (left_by below minimum p seen) (left_by below minimum p (others ++ seen))
+  others_apart below minimum p t k [] seen none on = record { received = λ n port. refl; emitted = λ n. refl; held = λ n. refl; hand = refl; observed = refl }
+  others_apart below minimum p t k (e ∷ others) seen none on =
+      let before = others_apart below minimum p t k others seen none.1 on.1 in
+      let last = worker_apart below p (left_by below minimum p (others ++ seen)) k e.event.event (λ same. none.0 (sym on.0.own ∙ same)) in
+      record {
+        received = λ n port. last.received n port ∙ before.received n port;
+        emitted = λ n. last.emitted n ∙ before.emitted n;
+        held = λ n. last.held n ∙ before.held n;
+        hand = last.hand ∙ before.hand;
+        observed = last.observed ∙ before.observed;
+      }
+
+  -- the actor is in a tenure, and found this board, which stands for these entries
+  pub record IsIn (below : T → T → Bool) (minimum : T) (cmp : T → T → Ordering) (k : Known (Doing T)) (b : SharedState T) (hub : TableId) (number : ℕ) (found : List (Entry (Doing T))) : Type 0 where
+    pub actor : IsActor below minimum k
+    pub its_hub : hub ≡ k.hub
+    pub its_number : number ≡ k.number
+    pub agrees : AgreesWith k found
+    pub stands : StandsFor below minimum cmp b found
+
+  -- what holds of a pass after the tenure
+  pub record IsAfter (below : T → T → Bool) (minimum : T) (k : Known (Doing T)) (found : List (Entry (Doing T))) (event : Event T) (accepted : Option ℕ) (n : Known (Doing T)) : Type 0 where
+    pub same_hub : n.hub ≡ k.hub
+    pub same_number : n.number ≡ k.number
+    pub adds : Adds k event n
+    pub actor : IsActor below minimum n
+    pub counted : (m : ℕ) → accepted ≡ Some m → length (state_left below minimum n).fed ≡ m
+    pub terms : terms_in n.seen ≡ terms_in k.seen
+    pub found_is : found_last n ≡ found
+
+  module _ (below : T → T → Bool) (minimum : T) (cmp : T → T → Ordering) (k : Known (Doing T)) (b : SharedState T) (hub : TableId) (number : ℕ) (found : List (Entry (Doing T))) (t : IsIn below minimum cmp k b hub number found) where
+    -- the board that an actor finds is on the terms that it knows
+    pub terms_found : terms_of_board b ≡ terms_in k.seen
+    terms_found = knows_terms (terms_of_board b) t.agrees.0 k.seen (subst (λ (es : List (Entry (Doing T))). AreOn (terms_of_board b) es) t.agrees.1 t.stands.on) t.actor.known
+
+    -- what is known of the terms holds of the board that a call is made on
+    pub at_board : (F : Terms → Type 0) → F (terms_in k.seen) → (m : SharedState T) → m ≡ b → F (terms_of_board m)
+    at_board F f m same = subst F (sym (ap terms_of_board same ∙ terms_found)) f
+
+    -- what a call says of all entries that the board may stand for holds of those that were found
+    pub of_found : (F : Dataflow → State T → Type 0) → (m : SharedState T) → m ≡ b → ((es : List (Entry (Doing T))) → StandsFor below minimum cmp m es → F m.board.dataflow (left_by below minimum m.board.dataflow es))
+        → {event : Event T} → {accepted : Option ℕ} → (n : Known (Doing T)) → IsAfter below minimum k found event accepted n → F (terms_in k.seen).dataflow (state_found below minimum n)
+    of_found F m same says n after =
+        let here = says found (subst (λ (x : SharedState T). StandsFor below minimum cmp x found) (sym same) t.stands) in
+        let known = subst (λ (x : Terms). F x.dataflow (left_by below minimum x.dataflow found)) (ap terms_of_board same ∙ terms_found) here in
+        subst (λ (x : Terms × List (Entry (Doing T))). F (terms_in k.seen).dataflow (left_by below minimum x.0.dataflow x.1)) (λ i. (sym after.terms i, sym after.found_is i)) known
+
+    -- the board on which the call was made stands for what was found
+    pub stood_at : (m : SharedState T) → m ≡ b → StandsFor below minimum cmp m found
+    stood_at m same = subst (λ (x : SharedState T). StandsFor below minimum cmp x found) (sym same) t.stands
+
+    -- the board may be given back
+    pub leaves_with : (m c : SharedState T) (own : ℕ) → k.number ≡ own → terms_of_board c ≡ terms_of_board m → StandsFor below minimum cmp c (entry own (doing (terms_of_board m) c.board.last) ∷ found) → StandsFor below minimum cmp c (entry number (doing (terms_of_board c) c.board.last) ∷ found)
+    leaves_with m c own e terms next = subst (λ (x : Terms × ℕ). StandsFor below minimum cmp c (entry x.1 (doing x.0 c.board.last) ∷ found)) (λ i. (sym terms i, (sym e ∙ sym t.its_number) i)) next
+
+    pub leaves : (m c : SharedState T) (own : ℕ) → m ≡ b → k.number ≡ own → terms_of_board c ≡ terms_of_board m → ((es : List (Entry (Doing T))) → StandsFor below minimum cmp m es → StandsFor below minimum cmp c (entry own (doing (terms_of_board m) c.board.last) ∷ es))
+        → StandsFor below minimum cmp c (entry number (doing (terms_of_board c) c.board.last) ∷ found)
+    leaves m c own same e terms next = leaves_with m c own e terms (next found (stood_at m same))
+
+    -- the call of the tenure was made on m by this actor, and left c
+    pub after_with : (m c : SharedState T) (own : ℕ) → m ≡ b → k.number ≡ own → terms_of_board c ≡ terms_of_board m → StandsFor below minimum cmp c (entry own (doing (terms_of_board m) c.board.last) ∷ found)
+        → (n : Known (Doing T)) → n ≡ record { hub = hub; number = number; seen = entry number (doing (terms_of_board c) c.board.last) ∷ found } → IsAfter below minimum k found c.board.last c.accepted n
+    after_with m c own same e terms next n is_n =
+        let event = c.board.last in
+        let all : terms_of_board c ≡ terms_in k.seen = terms ∙ (ap terms_of_board same ∙ terms_found) in
+        let known : n ≡ record { hub = k.hub; number = k.number; seen = entry k.number (doing (terms_in k.seen) event) ∷ found } = is_n ∙ (λ i. record { hub = t.its_hub i; number = t.its_number i; seen = entry (t.its_number i) (doing (all i) event) ∷ found }) in
+        let here = subst (λ (x : Terms × ℕ). StandsFor below minimum cmp c (entry x.1 (doing x.0 event) ∷ found)) (λ i. ((ap terms_of_board same ∙ terms_found) i, sym e i)) next in
+        subst (IsAfter below minimum k found event c.accepted) (sym known) (record {
+          same_hub = refl;
+          same_number = refl;
+          adds = record {
+            others = t.agrees.0;
+            apart = t.agrees.2;
+            new_is = λ i. record { hub = k.hub; number = k.number; seen = entry k.number (doing (terms_in k.seen) event) ∷ t.agrees.1 i };
+          };
+          actor = record {
+            known = subst (λ (x : Terms). AreOn x (entry k.number (doing (terms_in k.seen) event) ∷ found)) all here.on;
+            dataflow = subst (λ (x : Terms). IsDataflow x.dataflow) all here.dataflow;
+            legal = subst (λ (x : Terms). IsLegal below minimum x.dataflow (event ∷ events found)) all here.stands.legal;
+            actor = t.actor.actor;
+          };
+          counted = λ j f. ap (λ (x : Terms). length (left_by below minimum x.dataflow (entry k.number (doing (terms_in k.seen) event) ∷ found)).fed) (sym all) ∙ here.counted j f;
+          terms = refl;
+          found_is = refl;
+        })
+
+    pub after_tenure : (m c : SharedState T) (own : ℕ) → m ≡ b → k.number ≡ own → terms_of_board c ≡ terms_of_board m → ((es : List (Entry (Doing T))) → StandsFor below minimum cmp m es → StandsFor below minimum cmp c (entry own (doing (terms_of_board m) c.board.last) ∷ es))
+        → (n : Known (Doing T)) → n ≡ record { hub = hub; number = number; seen = entry number (doing (terms_of_board c) c.board.last) ∷ found } → IsAfter below minimum k found c.board.last c.accepted n
+    after_tenure m c own same e terms next n is_n = after_with m c own same e terms (next found (stood_at m same)) n is_n
+
+    -- the hand of a worker is as it left it
+    pub hand_found : (m : SharedState T) → m ≡ b → (own : ℕ) → k.number ≡ own → own < m.board.dataflow.workers → (state_left below minimum k).hand k.number ≡ None → get_or m.board.hand own None ≡ None
+    hand_found m same own e worker free =
+        let p = m.board.dataflow in
+        let stands = subst (λ (x : SharedState T). StandsFor below minimum cmp x found) (sym same) t.stands in
+        let terms : terms_of_board m ≡ terms_in k.seen = ap terms_of_board same ∙ terms_found in
+        let apart = others_apart below minimum p (terms_of_board m) k.number t.agrees.0 k.seen t.agrees.2 (subst (λ (es : List (Entry (Doing T))). AreOn (terms_of_board m) es) t.agrees.1 stands.on) in
+        stands.stands.hand own worker
+        ∙ (ap (λ (es : List (Entry (Doing T))). (left_by below minimum p es).hand own) t.agrees.1
+        ∙ (ap (λ (n : ℕ). (left_by below minimum p (t.agrees.0 ++ k.seen)).hand n) (sym e) ∙ (apart.hand ∙ (ap (λ (x : Terms). (left_by below minimum x.dataflow k.seen).hand k.number) terms ∙ free))))
+
+    -- a give that is allowed whatever others did is allowed on the board that was found
+    pub give_found : (m : SharedState T) → m ≡ b → (g : Emission T) (ts : List T) (sent : List (Bundle T))
+        → ((others : List (Entry (Doing T))) → NoneBy k.number others → AreOn (terms_in k.seen) (others ++ k.seen) → IsLegal below minimum (terms_in k.seen).dataflow (events (others ++ k.seen))
+        → IsGive below (terms_in k.seen).dataflow (left_by below minimum (terms_in k.seen).dataflow (others ++ k.seen)) g ts sent)
+        → IsGive below m.board.dataflow (left_by below minimum m.board.dataflow found) g ts sent
+    give_found m same g ts sent may =
+        let stands = subst (λ (x : SharedState T). StandsFor below minimum cmp x found) (sym same) t.stands in
+        let terms : terms_of_board m ≡ terms_in k.seen = ap terms_of_board same ∙ terms_found in
+        let whole : found ≡ t.agrees.0 ++ k.seen = t.agrees.1 in
+        subst (λ (x : Terms × List (Entry (Doing T))). IsGive below x.0.dataflow (left_by below minimum x.0.dataflow x.1) g ts sent) (λ i. (sym terms i, sym whole i))
+        (may t.agrees.0 t.agrees.2
+        (subst (λ (x : Terms × List (Entry (Doing T))). AreOn x.0 x.1) (λ i. (terms i, whole i)) stands.on)
+        (subst (λ (x : Terms × List (Entry (Doing T))). IsLegal below minimum x.0.dataflow (events x.1)) (λ i. (terms i, whole i)) stands.stands.legal))

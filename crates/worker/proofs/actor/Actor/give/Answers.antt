@@ -1,0 +1,91 @@
+use Rattle.std.proofs.Common.{rules, ◌≡◌, ◌<◌, ◌≤◌, ◌∷◌, ◌++◌, sym, subst, ap, ◌∙◌, ℕ, List, length, [], None, Some, IsTrue, false, refl}
+use Rattle.std.specs.Prelude.{IfOk, IfErr, IfSome, OnOk, OnErr, get_or}
+use Rattle.std.specs.List.{list_any}
+use Rattle.std.proofs.lemmas.Result.{on_ok_weaker, on_err_weaker}
+use Rattle.hub.specs.declared.view.Entry.{Entry}
+use Rattle.hub.specs.Histories.{entry, NoneBy}
+use Rattle.hub.specs.Known.{Known}
+use Rattle.antichain.specs.Antichains.{SameElements}
+use Rattle.plan.specs.Changes.{has_passed}
+use Rattle.machine.specs.declared.histories.event.Event.{Event}
+use Rattle.machine.specs.declared.histories.event.Event.TheVariants.{Give, Look, Take, TakeHeld}
+use Rattle.machine.specs.Histories.{IsGive, IsLegal}
+use Rattle.machine.specs.Histories.Dataflows.{Dataflow}
+use Rattle.machine.specs.Histories.Outstanding.{input_frontier}
+use Rattle.machine.specs.Histories.Promises.{changes_in}
+use Rattle.machine.specs.Histories.States.{State, held_at, place, queue}
+use Rattle.worker.specs.declared.doing.Doing.{Doing}
+use Rattle.worker.specs.Relays.{HasNoSmallBound}
+use Rattle.worker.specs.Tenures.{Adds, AreOn, SharedState, StandsFor, Terms, doing, events, left_by, state_found, state_left, terms_in, terms_of_board}
+use Rattle.worker.proofs.ActorLemmas.{IsIn, after_with, leaves_with, stood_at, at_board, give_found, hand_found, if_err_map, if_ok_map, if_some_map, is_some_at, leaves, of_found, terms_found}
+use Rattle.worker.proofs.actor.Actor.give.Goals as goal
+
+pub give-answer-requires-clause-worker : goal.give-answer-requires-clause-worker
+give-answer-requires-clause-worker g c =
+    let pass = c.in-Some.pass in
+    let there = is_some_at c.self.inside.pass _ c.self.invariant pass (search rules) in
+    let t = c.enter-tenure.ensures.found in
+    let held = c.enter-tenure.result in
+    let here : IsIn g.T.PartialOrder.below g.T.Minimum.least g.T.Ord.cmp pass held.state.value held.hub held.number held.found = record { actor = there.2; its_hub = t.0.0; its_number = t.0.1; agrees = t.0.2; stands = t.1 } in
+    let same : c.deref_mut.result.now ≡ held.state.value = search rules in
+    let self_is : pass ≡ c.args.self.now = search rules in
+    subst (λ n. n < c.deref_mut.result.now.board.dataflow.workers) (ap (λ (k : Known (Doing g.row.T.Denot)). k.number) self_is ∙ sym c.requires.own) (at_board g.T.PartialOrder.below g.T.Minimum.least g.T.Ord.cmp pass held.state.value held.hub held.number held.found here (λ (x : Terms). pass.number < x.dataflow.workers) (subst (λ (k : Known (Doing g.row.T.Denot)). (λ (x : Terms). pass.number < x.dataflow.workers) (terms_in k.seen)) (sym self_is) (subst (λ n. n < (terms_in c.args.self.now.seen).dataflow.workers) (ap (λ (k : Known (Doing g.row.T.Denot)). k.number) (sym self_is)) c.requires.worker)) c.deref_mut.result.now same)
+
+pub give-answer-requires-clause-within : goal.give-answer-requires-clause-within
+give-answer-requires-clause-within g c =
+    let pass = c.in-Some.pass in
+    let there = is_some_at c.self.inside.pass _ c.self.invariant pass (search rules) in
+    let t = c.enter-tenure.ensures.found in
+    let held = c.enter-tenure.result in
+    let here : IsIn g.T.PartialOrder.below g.T.Minimum.least g.T.Ord.cmp pass held.state.value held.hub held.number held.found = record { actor = there.2; its_hub = t.0.0; its_number = t.0.1; agrees = t.0.2; stands = t.1 } in
+    let same : c.deref_mut.result.now ≡ held.state.value = search rules in
+    let self_is : pass ≡ c.args.self.now = search rules in
+    at_board g.T.PartialOrder.below g.T.Minimum.least g.T.Ord.cmp pass held.state.value held.hub held.number held.found here (λ (x : Terms). c.args.emission.node < length x.dataflow.nodes) (subst (λ (k : Known (Doing g.row.T.Denot)). (λ (x : Terms). c.args.emission.node < length x.dataflow.nodes) (terms_in k.seen)) (sym self_is) c.requires.within) c.deref_mut.result.now same
+
+pub leave-requires : goal.leave-requires
+leave-requires g c =
+    let pass = c.in-Some.pass in
+    let there = is_some_at c.self.inside.pass _ c.self.invariant pass (search rules) in
+    let t = c.enter-tenure.ensures.found in
+    let held = c.enter-tenure.result in
+    let here : IsIn g.T.PartialOrder.below g.T.Minimum.least g.T.Ord.cmp pass held.state.value held.hub held.number held.found = record { actor = there.2; its_hub = t.0.0; its_number = t.0.1; agrees = t.0.2; stands = t.1 } in
+    let same : c.deref_mut.result.now ≡ held.state.value = search rules in
+    let self_is : pass ≡ c.args.self.now = search rules in
+    leaves_with g.T.PartialOrder.below g.T.Minimum.least g.T.Ord.cmp pass held.state.value held.hub held.number held.found here c.deref_mut.result.now c.give-answer.new.self c.args.emission.worker (ap (λ (k : Known (Doing g.row.T.Denot)). k.number) self_is ∙ sym c.requires.own) c.give-answer.ensures.terms (c.give-answer.ensures.stands held.found (stood_at g.T.PartialOrder.below g.T.Minimum.least g.T.Ord.cmp pass held.state.value held.hub held.number held.found here c.deref_mut.result.now same) (give_found g.T.PartialOrder.below g.T.Minimum.least g.T.Ord.cmp pass held.state.value held.hub held.number held.found here c.deref_mut.result.now same c.args.emission c.args.held c.args.sent (subst (λ (k : Known (Doing g.row.T.Denot)). (others : List (Entry (Doing g.row.T.Denot))) → NoneBy k.number others → AreOn (terms_in k.seen) (others ++ k.seen) → IsLegal g.T.PartialOrder.below g.T.Minimum.least (terms_in k.seen).dataflow (events (others ++ k.seen)) → IsGive g.T.PartialOrder.below (terms_in k.seen).dataflow (left_by g.T.PartialOrder.below g.T.Minimum.least (terms_in k.seen).dataflow (others ++ k.seen)) c.args.emission c.args.held c.args.sent) (sym self_is) c.requires.allowed)))
+
+pub invariant_of-self : goal.invariant_of-self
+invariant_of-self g c =
+    let pass = c.in-Some.pass in
+    let there = is_some_at c.self.inside.pass _ c.self.invariant pass (search rules) in
+    let t = c.enter-tenure.ensures.found in
+    let held = c.enter-tenure.result in
+    let here : IsIn g.T.PartialOrder.below g.T.Minimum.least g.T.Ord.cmp pass held.state.value held.hub held.number held.found = record { actor = there.2; its_hub = t.0.0; its_number = t.0.1; agrees = t.0.2; stands = t.1 } in
+    let same : c.deref_mut.result.now ≡ held.state.value = search rules in
+    let self_is : pass ≡ c.args.self.now = search rules in
+    let after = after_with g.T.PartialOrder.below g.T.Minimum.least g.T.Ord.cmp pass held.state.value held.hub held.number held.found here c.deref_mut.result.now c.give-answer.new.self c.args.emission.worker same (ap (λ (k : Known (Doing g.row.T.Denot)). k.number) self_is ∙ sym c.requires.own) c.give-answer.ensures.terms (c.give-answer.ensures.stands held.found (stood_at g.T.PartialOrder.below g.T.Minimum.least g.T.Ord.cmp pass held.state.value held.hub held.number held.found here c.deref_mut.result.now same) (give_found g.T.PartialOrder.below g.T.Minimum.least g.T.Ord.cmp pass held.state.value held.hub held.number held.found here c.deref_mut.result.now same c.args.emission c.args.held c.args.sent (subst (λ (k : Known (Doing g.row.T.Denot)). (others : List (Entry (Doing g.row.T.Denot))) → NoneBy k.number others → AreOn (terms_in k.seen) (others ++ k.seen) → IsLegal g.T.PartialOrder.below g.T.Minimum.least (terms_in k.seen).dataflow (events (others ++ k.seen)) → IsGive g.T.PartialOrder.below (terms_in k.seen).dataflow (left_by g.T.PartialOrder.below g.T.Minimum.least (terms_in k.seen).dataflow (others ++ k.seen)) c.args.emission c.args.held c.args.sent) (sym self_is) c.requires.allowed))) c.leave.result c.leave.ensures in
+    (after.same_hub ∙ there.0, after.same_number ∙ there.1, after.actor, λ n e. after.counted n (sym (c.accepted-self-inside.ensures ∙ search rules) ∙ e))
+
+pub returns-clause-given : goal.returns-clause-given
+returns-clause-given g c =
+    let pass = c.in-Some.pass in
+    let there = is_some_at c.self.inside.pass _ c.self.invariant pass (search rules) in
+    let t = c.enter-tenure.ensures.found in
+    let held = c.enter-tenure.result in
+    let here : IsIn g.T.PartialOrder.below g.T.Minimum.least g.T.Ord.cmp pass held.state.value held.hub held.number held.found = record { actor = there.2; its_hub = t.0.0; its_number = t.0.1; agrees = t.0.2; stands = t.1 } in
+    let same : c.deref_mut.result.now ≡ held.state.value = search rules in
+    let self_is : pass ≡ c.args.self.now = search rules in
+    let after = after_with g.T.PartialOrder.below g.T.Minimum.least g.T.Ord.cmp pass held.state.value held.hub held.number held.found here c.deref_mut.result.now c.give-answer.new.self c.args.emission.worker same (ap (λ (k : Known (Doing g.row.T.Denot)). k.number) self_is ∙ sym c.requires.own) c.give-answer.ensures.terms (c.give-answer.ensures.stands held.found (stood_at g.T.PartialOrder.below g.T.Minimum.least g.T.Ord.cmp pass held.state.value held.hub held.number held.found here c.deref_mut.result.now same) (give_found g.T.PartialOrder.below g.T.Minimum.least g.T.Ord.cmp pass held.state.value held.hub held.number held.found here c.deref_mut.result.now same c.args.emission c.args.held c.args.sent (subst (λ (k : Known (Doing g.row.T.Denot)). (others : List (Entry (Doing g.row.T.Denot))) → NoneBy k.number others → AreOn (terms_in k.seen) (others ++ k.seen) → IsLegal g.T.PartialOrder.below g.T.Minimum.least (terms_in k.seen).dataflow (events (others ++ k.seen)) → IsGive g.T.PartialOrder.below (terms_in k.seen).dataflow (left_by g.T.PartialOrder.below g.T.Minimum.least (terms_in k.seen).dataflow (others ++ k.seen)) c.args.emission c.args.held c.args.sent) (sym self_is) c.requires.allowed))) c.leave.result c.leave.ensures in
+    on_ok_weaker c.give-answer.result (λ e. subst (λ (k : Known (Doing g.row.T.Denot)). Adds k (Give c.args.emission c.args.held c.args.sent) c.leave.result) self_is (subst (λ (e : Event g.row.T.Denot). Adds pass e c.leave.result) (e) after.adds)) c.give-answer.ensures.given
+
+pub returns-clause-returned : goal.returns-clause-returned
+returns-clause-returned g c =
+    let pass = c.in-Some.pass in
+    let there = is_some_at c.self.inside.pass _ c.self.invariant pass (search rules) in
+    let t = c.enter-tenure.ensures.found in
+    let held = c.enter-tenure.result in
+    let here : IsIn g.T.PartialOrder.below g.T.Minimum.least g.T.Ord.cmp pass held.state.value held.hub held.number held.found = record { actor = there.2; its_hub = t.0.0; its_number = t.0.1; agrees = t.0.2; stands = t.1 } in
+    let same : c.deref_mut.result.now ≡ held.state.value = search rules in
+    let self_is : pass ≡ c.args.self.now = search rules in
+    let after = after_with g.T.PartialOrder.below g.T.Minimum.least g.T.Ord.cmp pass held.state.value held.hub held.number held.found here c.deref_mut.result.now c.give-answer.new.self c.args.emission.worker same (ap (λ (k : Known (Doing g.row.T.Denot)). k.number) self_is ∙ sym c.requires.own) c.give-answer.ensures.terms (c.give-answer.ensures.stands held.found (stood_at g.T.PartialOrder.below g.T.Minimum.least g.T.Ord.cmp pass held.state.value held.hub held.number held.found here c.deref_mut.result.now same) (give_found g.T.PartialOrder.below g.T.Minimum.least g.T.Ord.cmp pass held.state.value held.hub held.number held.found here c.deref_mut.result.now same c.args.emission c.args.held c.args.sent (subst (λ (k : Known (Doing g.row.T.Denot)). (others : List (Entry (Doing g.row.T.Denot))) → NoneBy k.number others → AreOn (terms_in k.seen) (others ++ k.seen) → IsLegal g.T.PartialOrder.below g.T.Minimum.least (terms_in k.seen).dataflow (events (others ++ k.seen)) → IsGive g.T.PartialOrder.below (terms_in k.seen).dataflow (left_by g.T.PartialOrder.below g.T.Minimum.least (terms_in k.seen).dataflow (others ++ k.seen)) c.args.emission c.args.held c.args.sent) (sym self_is) c.requires.allowed))) c.leave.result c.leave.ensures in
+    if_err_map c.give-answer.result _ _ (λ r x. (subst (λ (k : Known (Doing g.row.T.Denot)). Adds k (Look k.number) c.leave.result) self_is (subst (λ (e : Event g.row.T.Denot). Adds pass e c.leave.result) (x.0 ∙ ap (λ n. Look n) (sym (ap (λ (k : Known (Doing g.row.T.Denot)). k.number) self_is ∙ sym c.requires.own))) after.adds), x.1)) c.give-answer.ensures.returned
+

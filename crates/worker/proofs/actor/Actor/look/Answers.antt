@@ -1,0 +1,46 @@
+use Rattle.std.proofs.Common.{rules, ◌≡◌, ◌<◌, ◌≤◌, sym, subst, ap, ◌∙◌, ℕ, length, [], None, Some, IsTrue}
+use Rattle.std.specs.Prelude.{IfOk, IfErr, OnOk, OnErr, ◌↔◌}
+use Rattle.std.proofs.lemmas.Result.{on_ok_weaker, on_err_weaker}
+use Rattle.hub.specs.Known.{Known}
+use Rattle.antichain.specs.Antichains.{SameElements}
+use Rattle.update.specs.Bags.{Alike}
+use Rattle.update.specs.Refusals.{IsRefusalBy}
+use Rattle.plan.specs.Changes.{AreDifferences, query_at}
+use Rattle.plan.specs.Nodes.{is_output}
+use Rattle.machine.specs.declared.histories.event.Event.{Event}
+use Rattle.machine.specs.declared.histories.event.Event.TheVariants.{Advance, Feed, Look}
+use Rattle.machine.specs.Histories.{IsInput}
+use Rattle.machine.specs.Histories.Dataflows.{Dataflow, node_of}
+use Rattle.machine.specs.Histories.Outstanding.{frontier}
+use Rattle.machine.specs.Histories.Promises.{changes_in}
+use Rattle.machine.specs.Histories.Readings.{IsQuiet}
+use Rattle.machine.specs.Histories.States.{State, change_to}
+use Rattle.worker.specs.declared.doing.Doing.{Doing}
+use Rattle.worker.specs.Tenures.{Adds, Terms, terms_in, state_found, feed_refusal_in, advance_refusal_in, read_refusal_in, changes_refusal_in, IsReadRefusalIn, IsChangesRefusalIn}
+use Rattle.worker.proofs.ActorLemmas.{IsIn, after_tenure, at_board, is_some_at, leaves, of_found}
+use Rattle.worker.proofs.actor.Actor.look.Goals as goal
+
+pub invariant_of-self : goal.invariant_of-self
+invariant_of-self g c =
+    let pass = c.in-Some.pass in
+    let there = is_some_at c.self.inside.pass _ c.self.invariant pass (search rules) in
+    let t = c.enter-tenure.ensures.found in
+    let held = c.enter-tenure.result in
+    let here : IsIn g.T.PartialOrder.below g.T.Minimum.least g.T.Ord.cmp pass held.state.value held.hub held.number held.found = record { actor = there.2; its_hub = t.0.0; its_number = t.0.1; agrees = t.0.2; stands = t.1 } in
+    let same : c.deref_mut.result.now ≡ held.state.value = search rules in
+    let self_is : pass ≡ c.args.self.now = search rules in
+    let after = after_tenure g.T.PartialOrder.below g.T.Minimum.least g.T.Ord.cmp pass held.state.value held.hub held.number held.found here c.deref_mut.result.now c.look.new.self c.self.inside.number same there.1 c.look.ensures.terms c.look.ensures.stands c.leave.result c.leave.ensures in
+    (after.same_hub ∙ there.0, after.same_number ∙ there.1, after.actor, λ n e. after.counted n (sym (c.accepted-self-inside.ensures ∙ search rules) ∙ e))
+
+pub returns : goal.returns
+returns g c =
+    let pass = c.in-Some.pass in
+    let there = is_some_at c.self.inside.pass _ c.self.invariant pass (search rules) in
+    let t = c.enter-tenure.ensures.found in
+    let held = c.enter-tenure.result in
+    let here : IsIn g.T.PartialOrder.below g.T.Minimum.least g.T.Ord.cmp pass held.state.value held.hub held.number held.found = record { actor = there.2; its_hub = t.0.0; its_number = t.0.1; agrees = t.0.2; stands = t.1 } in
+    let same : c.deref_mut.result.now ≡ held.state.value = search rules in
+    let self_is : pass ≡ c.args.self.now = search rules in
+    let after = after_tenure g.T.PartialOrder.below g.T.Minimum.least g.T.Ord.cmp pass held.state.value held.hub held.number held.found here c.deref_mut.result.now c.look.new.self c.self.inside.number same there.1 c.look.ensures.terms c.look.ensures.stands c.leave.result c.leave.ensures in
+    record { looked = subst (λ (k : Known (Doing g.row.T.Denot)). Adds k (Look k.number) c.leave.result) self_is (subst (λ (e : Event g.row.T.Denot). Adds pass e c.leave.result) (c.look.ensures.looked ∙ ap (λ n. Look n) (sym there.1)) after.adds) }
+

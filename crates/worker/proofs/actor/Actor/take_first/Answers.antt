@@ -1,0 +1,93 @@
+use Rattle.std.proofs.Common.{rules, ◌≡◌, ◌<◌, ◌≤◌, ◌∷◌, ◌++◌, sym, subst, ap, ◌∙◌, ℕ, List, length, [], None, Some, IsTrue, false, refl}
+use Rattle.std.specs.Prelude.{IfOk, IfErr, IfSome, OnOk, OnErr, get_or}
+use Rattle.std.specs.List.{list_any}
+use Rattle.std.proofs.lemmas.Result.{on_ok_weaker, on_err_weaker}
+use Rattle.hub.specs.declared.view.Entry.{Entry}
+use Rattle.hub.specs.Histories.{entry, NoneBy}
+use Rattle.hub.specs.Known.{Known}
+use Rattle.antichain.specs.Antichains.{SameElements}
+use Rattle.plan.specs.Changes.{has_passed}
+use Rattle.machine.specs.declared.histories.event.Event.{Event}
+use Rattle.machine.specs.declared.histories.event.Event.TheVariants.{Give, Look, Take, TakeHeld}
+use Rattle.machine.specs.Histories.{IsGive, IsLegal}
+use Rattle.machine.specs.Histories.Dataflows.{Dataflow}
+use Rattle.machine.specs.Histories.Outstanding.{input_frontier}
+use Rattle.machine.specs.Histories.Promises.{changes_in}
+use Rattle.machine.specs.Histories.States.{State, held_at, place, queue}
+use Rattle.worker.specs.declared.doing.Doing.{Doing}
+use Rattle.worker.specs.Relays.{HasNoSmallBound}
+use Rattle.worker.specs.Tenures.{Adds, AreOn, SharedState, StandsFor, Terms, doing, events, left_by, state_found, state_left, terms_in, terms_of_board}
+use Rattle.worker.proofs.ActorLemmas.{IsIn, after_tenure, both_ok, both_some, at_board, give_found, hand_found, if_err_map, if_ok_map, if_some_map, is_some_at, leaves, of_found, terms_found}
+use Rattle.worker.proofs.actor.Actor.take_first.Goals as goal
+
+pub take_first-answer-requires-clause-worker : goal.take_first-answer-requires-clause-worker
+take_first-answer-requires-clause-worker g c =
+    let pass = c.in-Some.pass in
+    let there = is_some_at c.self.inside.pass _ c.self.invariant pass (search rules) in
+    let t = c.enter-tenure.ensures.found in
+    let held = c.enter-tenure.result in
+    let here : IsIn g.T.PartialOrder.below g.T.Minimum.least g.T.Ord.cmp pass held.state.value held.hub held.number held.found = record { actor = there.2; its_hub = t.0.0; its_number = t.0.1; agrees = t.0.2; stands = t.1 } in
+    let same : c.deref_mut.result.now ≡ held.state.value = search rules in
+    let self_is : pass ≡ c.args.self.now = search rules in
+    subst (λ n. n < c.deref_mut.result.now.board.dataflow.workers) there.1 (at_board g.T.PartialOrder.below g.T.Minimum.least g.T.Ord.cmp pass held.state.value held.hub held.number held.found here (λ (x : Terms). pass.number < x.dataflow.workers) (subst (λ (k : Known (Doing g.row.T.Denot)). (λ (x : Terms). pass.number < x.dataflow.workers) (terms_in k.seen)) (sym self_is) (subst (λ n. n < (terms_in c.args.self.now.seen).dataflow.workers) (ap (λ (k : Known (Doing g.row.T.Denot)). k.number) (sym self_is)) c.requires.worker)) c.deref_mut.result.now same)
+
+pub take_first-answer-requires-clause-free : goal.take_first-answer-requires-clause-free
+take_first-answer-requires-clause-free g c =
+    let pass = c.in-Some.pass in
+    let there = is_some_at c.self.inside.pass _ c.self.invariant pass (search rules) in
+    let t = c.enter-tenure.ensures.found in
+    let held = c.enter-tenure.result in
+    let here : IsIn g.T.PartialOrder.below g.T.Minimum.least g.T.Ord.cmp pass held.state.value held.hub held.number held.found = record { actor = there.2; its_hub = t.0.0; its_number = t.0.1; agrees = t.0.2; stands = t.1 } in
+    let same : c.deref_mut.result.now ≡ held.state.value = search rules in
+    let self_is : pass ≡ c.args.self.now = search rules in
+    hand_found g.T.PartialOrder.below g.T.Minimum.least g.T.Ord.cmp pass held.state.value held.hub held.number held.found here c.deref_mut.result.now same c.self.inside.number there.1 (subst (λ n. n < c.deref_mut.result.now.board.dataflow.workers) there.1 (at_board g.T.PartialOrder.below g.T.Minimum.least g.T.Ord.cmp pass held.state.value held.hub held.number held.found here (λ (x : Terms). pass.number < x.dataflow.workers) (subst (λ (k : Known (Doing g.row.T.Denot)). (λ (x : Terms). pass.number < x.dataflow.workers) (terms_in k.seen)) (sym self_is) (subst (λ n. n < (terms_in c.args.self.now.seen).dataflow.workers) (ap (λ (k : Known (Doing g.row.T.Denot)). k.number) (sym self_is)) c.requires.worker)) c.deref_mut.result.now same)) (subst (λ (k : Known (Doing g.row.T.Denot)). (state_left g.T.PartialOrder.below g.T.Minimum.least k).hand k.number ≡ None) (sym self_is) c.requires.free)
+
+pub invariant_of-self : goal.invariant_of-self
+invariant_of-self g c =
+    let pass = c.in-Some.pass in
+    let there = is_some_at c.self.inside.pass _ c.self.invariant pass (search rules) in
+    let t = c.enter-tenure.ensures.found in
+    let held = c.enter-tenure.result in
+    let here : IsIn g.T.PartialOrder.below g.T.Minimum.least g.T.Ord.cmp pass held.state.value held.hub held.number held.found = record { actor = there.2; its_hub = t.0.0; its_number = t.0.1; agrees = t.0.2; stands = t.1 } in
+    let same : c.deref_mut.result.now ≡ held.state.value = search rules in
+    let self_is : pass ≡ c.args.self.now = search rules in
+    let after = after_tenure g.T.PartialOrder.below g.T.Minimum.least g.T.Ord.cmp pass held.state.value held.hub held.number held.found here c.deref_mut.result.now c.take_first-answer.new.self c.self.inside.number same there.1 c.take_first-answer.ensures.terms c.take_first-answer.ensures.stands c.leave.result c.leave.ensures in
+    (after.same_hub ∙ there.0, after.same_number ∙ there.1, after.actor, λ n e. after.counted n (sym (c.accepted-self-inside.ensures ∙ search rules) ∙ e))
+
+pub returns-clause-taken : goal.returns-clause-taken
+returns-clause-taken g c =
+    let pass = c.in-Some.pass in
+    let there = is_some_at c.self.inside.pass _ c.self.invariant pass (search rules) in
+    let t = c.enter-tenure.ensures.found in
+    let held = c.enter-tenure.result in
+    let here : IsIn g.T.PartialOrder.below g.T.Minimum.least g.T.Ord.cmp pass held.state.value held.hub held.number held.found = record { actor = there.2; its_hub = t.0.0; its_number = t.0.1; agrees = t.0.2; stands = t.1 } in
+    let same : c.deref_mut.result.now ≡ held.state.value = search rules in
+    let self_is : pass ≡ c.args.self.now = search rules in
+    let after = after_tenure g.T.PartialOrder.below g.T.Minimum.least g.T.Ord.cmp pass held.state.value held.hub held.number held.found here c.deref_mut.result.now c.take_first-answer.new.self c.self.inside.number same there.1 c.take_first-answer.ensures.terms c.take_first-answer.ensures.stands c.leave.result c.leave.ensures in
+    if_ok_map c.take_first-answer.result _ _ (λ found h. if_some_map found _ _ (λ bundle x. (x.0, x.1 ∙ (sym there.1 ∙ ap (λ (k : Known (Doing g.row.T.Denot)). k.number) self_is), subst (λ (k : Known (Doing g.row.T.Denot)). Adds k (Take 0 bundle) c.leave.result) self_is (subst (λ (e : Event g.row.T.Denot). Adds pass e c.leave.result) (x.2) after.adds))) h) c.take_first-answer.ensures.taken
+
+pub returns-clause-none : goal.returns-clause-none
+returns-clause-none g c =
+    let pass = c.in-Some.pass in
+    let there = is_some_at c.self.inside.pass _ c.self.invariant pass (search rules) in
+    let t = c.enter-tenure.ensures.found in
+    let held = c.enter-tenure.result in
+    let here : IsIn g.T.PartialOrder.below g.T.Minimum.least g.T.Ord.cmp pass held.state.value held.hub held.number held.found = record { actor = there.2; its_hub = t.0.0; its_number = t.0.1; agrees = t.0.2; stands = t.1 } in
+    let same : c.deref_mut.result.now ≡ held.state.value = search rules in
+    let self_is : pass ≡ c.args.self.now = search rules in
+    let after = after_tenure g.T.PartialOrder.below g.T.Minimum.least g.T.Ord.cmp pass held.state.value held.hub held.number held.found here c.deref_mut.result.now c.take_first-answer.new.self c.self.inside.number same there.1 c.take_first-answer.ensures.terms c.take_first-answer.ensures.stands c.leave.result c.leave.ensures in
+    let queues = subst (λ (k : Known (Doing g.row.T.Denot)). (λ (p : Dataflow) (w : State g.row.T.Denot) (num : ℕ). IfOk c.take_first-answer.result (λ found. found ≡ None → (port : ℕ) → queue (place c.args.node port num) w.in_flight ≡ [])) (terms_in k.seen).dataflow (state_found g.T.PartialOrder.below g.T.Minimum.least c.leave.result) k.number) self_is (subst (λ (num : ℕ). (λ (p : Dataflow) (w : State g.row.T.Denot). IfOk c.take_first-answer.result (λ found. found ≡ None → (port : ℕ) → queue (place c.args.node port num) w.in_flight ≡ [])) (terms_in pass.seen).dataflow (state_found g.T.PartialOrder.below g.T.Minimum.least c.leave.result)) (sym there.1) (of_found g.T.PartialOrder.below g.T.Minimum.least g.T.Ord.cmp pass held.state.value held.hub held.number held.found here (λ (p : Dataflow) (w : State g.row.T.Denot). (λ (num : ℕ). IfOk c.take_first-answer.result (λ found. found ≡ None → (port : ℕ) → queue (place c.args.node port num) w.in_flight ≡ [])) c.self.inside.number) c.deref_mut.result.now same (λ es a. if_ok_map c.take_first-answer.result _ _ (λ found h e. (h e).1 es a) c.take_first-answer.ensures.none) c.leave.result after)) in
+    both_ok c.take_first-answer.result (λ found. found ≡ None → c.take_first-answer.new.self.board.last ≡ Look c.self.inside.number) _ _ (λ found looks none e. (subst (λ (k : Known (Doing g.row.T.Denot)). Adds k (Look k.number) c.leave.result) self_is (subst (λ (e : Event g.row.T.Denot). Adds pass e c.leave.result) (looks e ∙ ap (λ n. Look n) (sym there.1)) after.adds), none e)) (if_ok_map c.take_first-answer.result _ _ (λ found h e. (h e).0) c.take_first-answer.ensures.none) queues
+
+pub returns-clause-refused : goal.returns-clause-refused
+returns-clause-refused g c =
+    let pass = c.in-Some.pass in
+    let there = is_some_at c.self.inside.pass _ c.self.invariant pass (search rules) in
+    let t = c.enter-tenure.ensures.found in
+    let held = c.enter-tenure.result in
+    let here : IsIn g.T.PartialOrder.below g.T.Minimum.least g.T.Ord.cmp pass held.state.value held.hub held.number held.found = record { actor = there.2; its_hub = t.0.0; its_number = t.0.1; agrees = t.0.2; stands = t.1 } in
+    let same : c.deref_mut.result.now ≡ held.state.value = search rules in
+    let self_is : pass ≡ c.args.self.now = search rules in
+    let after = after_tenure g.T.PartialOrder.below g.T.Minimum.least g.T.Ord.cmp pass held.state.value held.hub held.number held.found here c.deref_mut.result.now c.take_first-answer.new.self c.self.inside.number same there.1 c.take_first-answer.ensures.terms c.take_first-answer.ensures.stands c.leave.result c.leave.ensures in
+    if_err_map c.take_first-answer.result _ _ (λ refusal x. (x.0, subst (λ (k : Known (Doing g.row.T.Denot)). Adds k (Look k.number) c.leave.result) self_is (subst (λ (e : Event g.row.T.Denot). Adds pass e c.leave.result) (x.1 ∙ ap (λ n. Look n) (sym there.1)) after.adds))) c.take_first-answer.ensures.refused
+
