@@ -1,6 +1,8 @@
 -- What an actor knows during a tenure, and after it.
-use Rattle.std.proofs.Common.{◌≡◌, ℕ, ◌<◌, Bool, List, [], ◌∷◌, ◌++◌, length, Option, Some, None, sym, refl, ap, ◌∙◌, subst}
-use Rattle.std.specs.Prelude.{Result, Ok, Err, IfOk, IfErr, IfSome, IsSomeAnd, get_or}
+use Rattle.std.proofs.Common.{◌≡◌, ℕ, zero, suc, arith, ◌<◌, Bool, List, [], ◌∷◌, ◌++◌, length, Option, Some, None, sym, refl, ap, ◌∙◌, subst, IsTrue, ◌≤◌}
+use Rattle.std.specs.Prelude.{Result, Ok, Err, IfOk, IfErr, IfSome, IsSomeAnd, get_or, slice_get}
+use Rattle.std.specs.Option.{unwrap_or}
+use Rattle.std.proofs.lemmas.Option.{none-some}
 use Rattle.std.specs.declared.cmp.Ordering.{Ordering}
 use Rattle.atomic_table.specs.Seated.{TableId}
 use Rattle.hub.specs.declared.view.Entry.{Entry}
@@ -8,15 +10,18 @@ use Rattle.hub.specs.Histories.{entry, NoneBy}
 use Rattle.hub.specs.Known.{Known}
 use Rattle.hub.specs.Passes.{AgreesWith}
 use Rattle.machine.specs.declared.histories.event.Event.{Event}
+use Rattle.machine.specs.declared.histories.event.Event.TheVariants.{Feed, Advance, Allow, Look, Take, TakeHeld, Give}
+use Rattle.std.proofs.lemmas.List.{append-nil}
 use Rattle.machine.specs.Histories.Dataflows.{Dataflow, IsDataflow}
 use Rattle.machine.specs.Histories.States.{State}
-use Rattle.machine.specs.Histories.Actors.{IsSameOfWorker}
+use Rattle.machine.specs.Histories.Actors.{IsSameOfWorker, IsSameOfClients}
 use Rattle.machine.proofs.HistoryLemmas.ActorLemmas.{worker_apart}
-use Rattle.machine.specs.Histories.{IsGive, IsLegal}
+use Rattle.machine.specs.Histories.{IsAllowed, IsGive, IsLegal, actor_of, next_state}
 use Rattle.machine.specs.declared.histories.event.Bundle.{Bundle}
 use Rattle.machine.specs.declared.histories.event.Emission.{Emission}
+use Rattle.worker.proofs.ApartLemmas.{give_apart}
 use Rattle.worker.specs.declared.doing.Doing.{Doing}
-use Rattle.worker.specs.Tenures.{Terms, SharedState, events, terms_of, terms_of_board, doing, AreOn, left_by, StandsFor, terms_in, AreKnown, found_last, state_found, state_left, Adds, IsActor}
+use Rattle.worker.specs.Tenures.{Terms, SharedState, events, terms_of, terms_of_board, doing, is_change, AreOn, left_by, StandsFor, terms_in, AreKnown, found_last, state_found, state_left, Adds, IsActor, IsFirst}
 
 pub is_some_at : {A : Type 0} (o : Option A) (P : A → Type 0) → IsSomeAnd o P → (x : A) → o ≡ Some x → P x
 is_some_at o P h x e = subst (λ (z : Option _). IsSomeAnd z P) e h
@@ -61,6 +66,29 @@ module _ {T : Type 0} where
         hand = last.hand ∙ before.hand;
         observed = last.observed ∙ before.observed;
       }
+
+  -- an event of anyone but the only client changes nothing of what clients change
+  module _ (below : T → T → Bool) (p : Dataflow) (w : State T) where
+    not_by_others : (c by k actors : ℕ) → p.workers ≡ k → actors ≡ suc k → p.workers ≤ c → c ≡ by → by < actors → (by ≡ k → ⊥) → ⊥
+    not_by_others c by k actors workers one client own there other = other (omega (arith, workers, one, client, own, there))
+
+    client_apart : (k by actors : ℕ) (e : Event T) → p.workers ≡ k → actors ≡ suc k → actor_of e ≡ by → (IsTrue (is_change e) → by < actors) → (by ≡ k → ⊥) → IsAllowed below p w e → IsSameOfClients w (next_state below p w e)
+    client_apart k by actors (Feed c f) workers one own there other allowed = absurd (not_by_others c by k actors workers one allowed.client own (there refl) other)
+    client_apart k by actors (Advance c i ts) workers one own there other allowed = absurd (not_by_others c by k actors workers one allowed.client own (there refl) other)
+    client_apart k by actors (Allow c v ts) workers one own there other allowed = absurd (not_by_others c by k actors workers one allowed.client own (there refl) other)
+    client_apart k by actors (Look c) workers one own there other allowed = record { fed = refl; open_times = refl; since = λ v. refl }
+    client_apart k by actors (Take number bundle) workers one own there other allowed = record { fed = refl; open_times = refl; since = λ v. refl }
+    client_apart k by actors (TakeHeld c n) workers one own there other allowed = record { fed = refl; open_times = refl; since = λ v. refl }
+    client_apart k by actors (Give g ts sent) workers one own there other allowed = record { fed = refl; open_times = refl; since = λ v. refl }
+
+  -- what anyone but the only client did changes nothing of what clients change
+  pub only_client : (below : T → T → Bool) (minimum : T) (p : Dataflow) (t : Terms) (k : ℕ) (others seen : List (Entry (Doing T))) → p.workers ≡ k → t.actors ≡ suc k → NoneBy k others → AreOn t (others ++ seen) → IsLegal below minimum p (events (others ++ seen))
+      → IsSameOfClients (left_by below minimum p seen) (left_by below minimum p (others ++ seen))
+  only_client below minimum p t k [] seen workers one none on legal = record { fed = refl; open_times = refl; since = λ v. refl }
+  only_client below minimum p t k (e ∷ others) seen workers one none on legal =
+      let before = only_client below minimum p t k others seen workers one none.1 on.1 legal.1 in
+      let last = client_apart below p (left_by below minimum p (others ++ seen)) k e.by t.actors e.event.event workers one on.0.own on.0.actor none.0 legal.0 in
+      record { fed = last.fed ∙ before.fed; open_times = last.open_times ∙ before.open_times; since = λ v. last.since v ∙ before.since v }
 
   -- the actor is in a tenure, and found this board, which stands for these entries
   pub record IsIn (below : T → T → Bool) (minimum : T) (cmp : T → T → Ordering) (k : Known (Doing T)) (b : SharedState T) (hub : TableId) (number : ℕ) (found : List (Entry (Doing T))) : Type 0 where
@@ -151,16 +179,67 @@ module _ {T : Type 0} where
         ∙ (ap (λ (es : List (Entry (Doing T))). (left_by below minimum p es).hand own) t.agrees.1
         ∙ (ap (λ (n : ℕ). (left_by below minimum p (t.agrees.0 ++ k.seen)).hand n) (sym e) ∙ (apart.hand ∙ (ap (λ (x : Terms). (left_by below minimum x.dataflow k.seen).hand k.number) terms ∙ free))))
 
-    -- a give that is allowed whatever others did is allowed on the board that was found
-    pub give_found : (m : SharedState T) → m ≡ b → (g : Emission T) (ts : List T) (sent : List (Bundle T))
-        → ((others : List (Entry (Doing T))) → NoneBy k.number others → AreOn (terms_in k.seen) (others ++ k.seen) → IsLegal below minimum (terms_in k.seen).dataflow (events (others ++ k.seen))
-        → IsGive below (terms_in k.seen).dataflow (left_by below minimum (terms_in k.seen).dataflow (others ++ k.seen)) g ts sent)
-        → IsGive below m.board.dataflow (left_by below minimum m.board.dataflow found) g ts sent
-    give_found m same g ts sent may =
+    -- a give that was allowed when the worker left is allowed on the board that was found
+    pub give_found : (m : SharedState T) → m ≡ b → (g : Emission T) (ts : List T) (sent : List (Bundle T)) → g.worker ≡ k.number
+        → IsGive below (terms_in k.seen).dataflow (state_left below minimum k) g ts sent → IsGive below m.board.dataflow (left_by below minimum m.board.dataflow found) g ts sent
+    give_found m same g ts sent own may =
+        let p = (terms_in k.seen).dataflow in
         let stands = subst (λ (x : SharedState T). StandsFor below minimum cmp x found) (sym same) t.stands in
         let terms : terms_of_board m ≡ terms_in k.seen = ap terms_of_board same ∙ terms_found in
-        let whole : found ≡ t.agrees.0 ++ k.seen = t.agrees.1 in
-        subst (λ (x : Terms × List (Entry (Doing T))). IsGive below x.0.dataflow (left_by below minimum x.0.dataflow x.1) g ts sent) (λ i. (sym terms i, sym whole i))
-        (may t.agrees.0 t.agrees.2
-        (subst (λ (x : Terms × List (Entry (Doing T))). AreOn x.0 x.1) (λ i. (terms i, whole i)) stands.on)
-        (subst (λ (x : Terms × List (Entry (Doing T))). IsLegal below minimum x.0.dataflow (events x.1)) (λ i. (terms i, whole i)) stands.stands.legal))
+        let apart = others_apart below minimum p (terms_of_board m) g.worker t.agrees.0 k.seen (subst (λ n. NoneBy n t.agrees.0) (sym own) t.agrees.2) (subst (λ (es : List (Entry (Doing T))). AreOn (terms_of_board m) es) t.agrees.1 stands.on) in
+        subst (λ (x : Terms × List (Entry (Doing T))). IsGive below x.0.dataflow (left_by below minimum x.0.dataflow x.1) g ts sent) (λ i. (sym terms i, sym t.agrees.1 i))
+        (give_apart below p (state_left below minimum k) (left_by below minimum p (t.agrees.0 ++ k.seen)) g ts sent apart may)
+
+module _ {T : Type 0} (below : T → T → Bool) (minimum : T) (cmp : T → T → Ordering) where
+  -- what holds of a pass after its first tenure
+  pub record IsAfterFirst (t : Terms) (own : ℕ) (hub : TableId) (accepted : Option ℕ) (n : Known (Doing T)) : Type 0 where
+    pub its_hub : n.hub ≡ hub
+    pub its_number : n.number ≡ own
+    pub first : IsFirst t own n
+    pub actor : IsActor below minimum n
+    pub counted : (m : ℕ) → accepted ≡ Some m → length (state_left below minimum n).fed ≡ m
+
+  pub after_first : (t : Terms) (own : ℕ) (k : Known (Doing T)) → k.number ≡ own → k.seen ≡ [] → (b m c : SharedState T) (hub : TableId) (number : ℕ) (found : List (Entry (Doing T)))
+      → hub ≡ k.hub → number ≡ k.number → AgreesWith k found → StandsFor below minimum cmp b found → m ≡ b → terms_of_board m ≡ t → own < t.actors → terms_of_board c ≡ terms_of_board m
+      → ((es : List (Entry (Doing T))) → StandsFor below minimum cmp m es → StandsFor below minimum cmp c (entry own (doing (terms_of_board m) c.board.last) ∷ es)) → c.board.last ≡ Look own
+      → (n : Known (Doing T)) → n ≡ record { hub = hub; number = number; seen = entry number (doing (terms_of_board c) c.board.last) ∷ found } → IsAfterFirst t own k.hub c.accepted n
+  after_first t own k e none b m c hub number found its_hub its_number agrees stands same on there terms next looks n is_n =
+      let here = next found (subst (λ (x : SharedState T). StandsFor below minimum cmp x found) (sym same) stands) in
+      let stood = subst (λ (x : Terms × Event T). StandsFor below minimum cmp c (entry own (doing x.0 x.1) ∷ found)) (λ i. (on i, looks i)) here in
+      let all : terms_of_board c ≡ t = terms ∙ on in
+      let known : n ≡ record { hub = k.hub; number = own; seen = entry own (doing t (Look own)) ∷ found } = is_n ∙ (λ i. record { hub = its_hub i; number = (its_number ∙ e) i; seen = entry ((its_number ∙ e) i) (doing (all i) (looks i)) ∷ found }) in
+      subst (IsAfterFirst t own k.hub c.accepted) (sym known) (record {
+        its_hub = refl;
+        its_number = refl;
+        first = record {
+          others = found;
+          apart = subst (λ (x : ℕ × List (Entry (Doing T))). NoneBy x.0 x.1) (λ i. (e i, (sym (append-nil agrees.0) ∙ (ap (λ (es : List (Entry (Doing T))). agrees.0 ++ es) (sym none) ∙ sym agrees.1)) i)) agrees.2;
+          numbered = refl;
+          seen = refl;
+        };
+        actor = record {
+          known = subst (λ (x : Terms). AreOn x (entry own (doing t (Look own)) ∷ found)) all stood.on;
+          dataflow = subst (λ (x : Terms). IsDataflow x.dataflow) all stood.dataflow;
+          legal = subst (λ (x : Terms). IsLegal below minimum x.dataflow (Look own ∷ events found)) all stood.stands.legal;
+          actor = there;
+        };
+        counted = λ j f. ap (λ (x : Terms). length (left_by below minimum x.dataflow (entry own (doing t (Look own)) ∷ found)).fed) (sym all) ∙ stood.counted j f;
+      })
+
+module _ {A : Type 0} where
+  same_there : (x p : A) → Some x ≡ Some p → x ≡ p
+  same_there x p e = ap (λ o. unwrap_or o x) e
+
+  -- what holds of each element, and of one more behind them, by position
+  pub each_snoc : (P : ℕ → A → Type 0) (xs : List A) (x : A) → ((k : ℕ) (p : A) → slice_get xs k ≡ Some p → P k p) → P (length xs) x → (k : ℕ) (p : A) → slice_get (xs ++ x ∷ []) k ≡ Some p → P k p
+  each_snoc P [] x old new zero p e = subst (λ z. P 0 z) (same_there x p e) new
+  each_snoc P [] x old new (suc k) p e = absurd (none-some p e)
+  each_snoc P (y ∷ xs) x old new zero p e = old zero p e
+  each_snoc P (y ∷ xs) x old new (suc k) p e = let at : P (suc (length xs)) x = subst (λ n. P n x) (omega arith) new in each_snoc (λ n. P (suc n)) xs x (λ n. old (suc n)) at k p e
+
+  -- what holds of each element but the first, by position
+  pub each_behind : (P : ℕ → A → Type 0) (xs ys : List A) (x : A) → xs ≡ x ∷ ys → ((k : ℕ) (p : A) → slice_get xs k ≡ Some p → P k p) → (k : ℕ) (p : A) → slice_get ys k ≡ Some p → P (suc k) p
+  each_behind P xs ys x e all k p there = all (suc k) p (ap (λ l. slice_get l (suc k)) e ∙ there)
+
+  pub first_of : (P : ℕ → A → Type 0) (xs ys : List A) (x : A) → xs ≡ x ∷ ys → ((k : ℕ) (p : A) → slice_get xs k ≡ Some p → P k p) → P 0 x
+  first_of P xs ys x e all = all 0 x (ap (λ l. slice_get l 0) e)

@@ -38,3 +38,4 @@ pub mod VisitLemmas
 pub mod SharedLemmas
 pub mod SharedReadingLemmas
 pub mod ActorLemmas
+pub mod ApartLemmas

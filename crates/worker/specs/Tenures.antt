@@ -1,5 +1,5 @@
 -- A board in a hub: which of them may be handed over after which tenures, and what an actor knows from its own.
-use Rattle.std.specs.Prelude.{◌≡◌, ℕ, ◌<◌, Bool, true, false, not, List, [], ◌∷◌, ◌++◌, map, length, Option, Some, IsTrue, ⊤}
+use Rattle.std.specs.Prelude.{◌≡◌, ℕ, ◌+◌, ◌<◌, Bool, true, false, not, List, [], ◌∷◌, ◌++◌, map, length, Option, Some, IsTrue, ⊤}
 use Rattle.std.specs.List.{filter}
 use Rattle.std.specs.declared.cmp.Ordering.{Ordering}
 use Rattle.update.specs.declared.change.Update.{Update}
@@ -33,6 +33,10 @@ use Rattle.worker.specs.Relays.{HasNoSmallBound}
 pub record Terms : Type 0 where
   pub dataflow : Dataflow
   pub actors : ℕ
+
+-- the terms of a board of this plan, for so many workers and clients
+abbrev pub terms_for : List Node → ℕ → ℕ → Terms
+terms_for p workers clients = record { dataflow = record { nodes = p; workers = workers }; actors = workers + clients }
 
 -- the board, and what its actors tell one another beside it
 pub record SharedState (T : Type 0) : Type 0 where
@@ -153,6 +157,13 @@ module _ {T : Type 0} where
     pub others : List (Entry (Doing T))
     pub apart : NoneBy old.number others
     pub new_is : new ≡ record { hub = old.hub; number = old.number; seen = entry old.number (doing (terms_in old.seen) event) ∷ (others ++ old.seen) }
+
+  -- an actor of this number that has looked once, on a board that was opened on these terms
+  pub record IsFirst (t : Terms) (number : ℕ) (k : Known (Doing T)) : Type 0 where
+    pub others : List (Entry (Doing T))
+    pub apart : NoneBy number others
+    pub numbered : k.number ≡ number
+    pub seen : k.seen ≡ entry number (doing t (Look number)) ∷ others
 
   module _ (below : T → T → Bool) (minimum : T) where
     -- the state that an actor found in its last tenure, and the one that it left

@@ -2,10 +2,12 @@
 //!
 //! Each call is one tenure, and so one event of this actor. What others did since its last tenure lies below that event, and
 //! the answers are right for all that was done by then. Each call waits until the board is at home.
-ghost use Rattle.std.specs.Prelude.{◌≡◌, ◌≤◌, ◌<◌, ◌↔◌, [], ◌∷◌, ◌++◌, false, ℕ, List, None, Some, IfOk, IfErr, IfSome, OnOk, OnErr, IsTrue, length};
+ghost use Rattle.std.specs.Prelude.{◌≡◌, ◌≤◌, ◌<◌, ◌+◌, ◌↔◌, [], ◌∷◌, ◌++◌, false, ℕ, List, None, Some, IfOk, IfErr, IfSome, OnOk, OnErr, IsTrue, length};
 ghost use Rattle.std.specs.List.{list_any};
 ghost use Rattle.hub.specs.declared.view.Entry.{Entry};
+ghost use Rattle.std.specs.Arc.{arc_value};
 ghost use Rattle.hub.specs.Histories.{NoneBy};
+ghost use Rattle.hub.specs.Passes.{hub_id};
 ghost use Rattle.antichain.specs.Antichains.{SameElements};
 ghost use Rattle.update.specs.Bags.{Alike, IsBag};
 ghost use Rattle.update.specs.Refusals.{IsRefusalBy};
@@ -21,14 +23,14 @@ ghost use Rattle.machine.specs.Histories.Readings.{IsQuiet};
 ghost use Rattle.machine.specs.Histories.States.{change_to, held_at, place, queue};
 ghost use Rattle.worker.specs.declared.doing.Doing.{Doing};
 ghost use Rattle.worker.specs.Relays.{HasNoSmallBound};
-ghost use Rattle.worker.specs.Tenures.{Adds, AreOn, events, left_by, terms_in, state_found, state_left, feed_refusal_in, advance_refusal_in, read_refusal_in, changes_refusal_in, IsReadRefusalIn, IsChangesRefusalIn};
+ghost use Rattle.worker.specs.Tenures.{Adds, AreOn, IsFirst, terms_for, events, left_by, terms_in, state_found, state_left, feed_refusal_in, advance_refusal_in, read_refusal_in, changes_refusal_in, IsReadRefusalIn, IsChangesRefusalIn};
 
 use crate::boards::Boards;
 use antichain::Antichain;
 use hub::{Hub, Pass};
 use lattice::Minimum;
 use machine::{Bundle, Bundles, Emission, Ungiven};
-use plan::NodeId;
+use plan::{NodeId, Plan};
 use std::alloc::Global;
 use std::marker::Model;
 use std::sync::{Arc, Wait};
@@ -64,6 +66,41 @@ impl<T: Minimum> Model for Actor<T> {
 }
 
 impl<T: Minimum> Actor<T> {
+    // The actor of a pass that has seen nothing. It looks once, so that it knows the terms of the board. A board on other
+    // terms, which cannot be there, is answered with `OutOfMemory`.
+    pub(crate) fn first<R: Wait>(
+        rt: &R,
+        hub: Arc<Hub<Boards<T>>, Global>,
+        pass: Pass<Boards<T>>,
+        number: usize,
+        plan: &Plan,
+        workers: usize,
+        clients: usize,
+    ) -> Result<Actor<T>, Refusal>
+        requires clients { clients ≤ 16 }
+        requires actor { number < workers + clients }
+        requires pass { pass ≡ record { hub = hub_id (arc_value hub); number = number; seen = [] } }
+        ensures first { IfOk result (λ actor. IsFirst (terms_for plan.now workers clients) number actor) }
+        ensures hub { IfOk result (λ actor. actor.hub ≡ pass.hub) }
+        ensures refused { IfErr result (λ refusal. refusal ≡ OutOfMemory) }
+    {
+        let mut tenure = hub.enter(rt, pass);
+        let board = tenure.state();
+        let right = board.is_on(plan, workers, clients);
+        board.look(number);
+        let accepted = board.accepted();
+        let pass = tenure.leave();
+        if !right {
+            return Err(Refusal::OutOfMemory);
+        }
+        Ok(Actor {
+            number,
+            hub,
+            pass: Some(pass),
+            accepted,
+        })
+    }
+
     /// The actor looks.
     pub fn look<R: Wait>(&mut self, rt: &R)
         ensures looked { Adds self.old (Look self.old.number) self.new }
@@ -102,7 +139,12 @@ impl<T: Minimum> Actor<T> {
 
     /// A client moves an input's frontier forward. Refused as `Board::advance` says; then the event is a look. Takes no
     /// memory.
-    pub fn advance<R: Wait>(&mut self, rt: &R, input: NodeId, times: Times<T>) -> Result<(), Refusal>
+    pub fn advance<R: Wait>(
+        &mut self,
+        rt: &R,
+        input: NodeId,
+        times: Times<T>,
+    ) -> Result<(), Refusal>
         requires client { (terms_in self.old.seen).dataflow.workers ≤ self.old.number }
         requires input { IsInput (terms_in self.old.seen).dataflow input }
         ensures advanced { OnOk result (Adds self.old (Advance self.old.number input times) self.new) }
@@ -218,7 +260,11 @@ impl<T: Minimum> Actor<T> {
 
     /// A worker with nothing in hand takes the first bundle that waits for it at a node. `None` if no bundle waits there.
     /// Refused only with `OutOfMemory`. The event is a take only if there is a bundle in the answer; otherwise it is a look.
-    pub fn take_first<R: Wait>(&mut self, rt: &R, node: NodeId) -> Result<Option<Bundle<T>>, Refusal>
+    pub fn take_first<R: Wait>(
+        &mut self,
+        rt: &R,
+        node: NodeId,
+    ) -> Result<Option<Bundle<T>>, Refusal>
         requires worker { self.old.number < (terms_in self.old.seen).dataflow.workers }
         requires free { (state_left T.below T.least self.old).hand self.old.number ≡ None }
         ensures taken { IfOk result (λ found. IfSome found (λ bundle. (bundle.place.node ≡ node)
@@ -266,8 +312,8 @@ impl<T: Minimum> Actor<T> {
         answer
     }
 
-    /// A worker gives what it computed at the node that it has in hand. The give must be allowed whatever others have done by
-    /// then. Refused only with `OutOfMemory`; then all arguments come back, and the event is a look.
+    /// A worker gives what it computed at the node that it has in hand. The give must be allowed in the state that the worker
+    /// left last; then it is allowed whatever others have done meanwhile. Refused only with `OutOfMemory`; then all arguments come back, and the event is a look.
     pub fn give<R: Wait>(
         &mut self,
         rt: &R,
@@ -278,10 +324,8 @@ impl<T: Minimum> Actor<T> {
         requires own { emission.worker ≡ self.old.number }
         requires worker { self.old.number < (terms_in self.old.seen).dataflow.workers }
         requires within { emission.node < length (terms_in self.old.seen).dataflow.nodes }
-        requires allowed { (others : List (Entry (Doing T))) → NoneBy self.old.number others
-            → AreOn (terms_in self.old.seen) (others ++ self.old.seen)
-            → IsLegal T.below T.least (terms_in self.old.seen).dataflow (events (others ++ self.old.seen))
-            → IsGive T.below (terms_in self.old.seen).dataflow (left_by T.below T.least (terms_in self.old.seen).dataflow (others ++ self.old.seen)) emission held sent }
+        requires allowed { IsGive T.below (terms_in self.old.seen).dataflow
+            (state_left T.below T.least self.old) emission held sent }
         ensures given { OnOk result (Adds self.old (Give emission held sent) self.new) }
         ensures returned { IfErr result (λ r. Adds self.old (Look self.old.number) self.new
             × (r ≡ record { emission = emission; held = held; sent = sent })) }

@@ -5,6 +5,7 @@
 //! - [`joining`] adds how much a join took of its sources' traces, and what is still on its way to it.
 //! - [`reducing`] is about the pending times of a reduction.
 //! - [`working`] is about all nodes of one worker together, and about all workers.
+//! - [`sharing`] is about actors that share a board: what they need not mind of one another.
 //!
 //! Each invariant is of one node and one worker. So the laws named `elsewhere` carry it over all events at other nodes
 //! and by other workers, and a proof about a worker deals with one node at a time.
@@ -13,4 +14,5 @@ pub(crate) mod arranging;
 pub(crate) mod gathering;
 pub(crate) mod joining;
 pub(crate) mod reducing;
+pub(crate) mod sharing;
 pub(crate) mod working;

@@ -28,6 +28,7 @@ mod doing;
 mod front;
 mod joining;
 mod laws;
+mod opening;
 mod reducing;
 mod relays;
 mod shared;
@@ -55,10 +56,14 @@ pub use laws::reducing::{
     reduced_elsewhere, reduced_gives, reduced_holds_back, reduced_takes, reducing_begins,
     turning_leaves_it,
 };
+pub use laws::sharing::{
+    gives_depend_on_their_worker, one_client_makes_all_changes, others_change_nothing_of_a_worker,
+};
 pub use laws::working::{
     clients_leave_it_ready, gives_at_one_node, inserts_at_one_node, joins_read_arranged_nodes,
     quiet_while_it_waits, reader_has_all, takes_at_one_node, workers_are_apart, working_begins,
 };
+pub use opening::open;
 pub use reducing::Reducing;
 pub use relays::relay;
 pub use shared::SharedBoard;

@@ -22,7 +22,7 @@ ghost use Rattle.machine.specs.Histories.Readings.{IsQuiet};
 ghost use Rattle.machine.specs.Histories.States.{change_to, held_at, place, queue};
 ghost use Rattle.worker.specs.declared.doing.Doing.{Doing};
 ghost use Rattle.worker.specs.Relays.{HasNoSmallBound};
-ghost use Rattle.worker.specs.Tenures.{StandsFor, doing, left_by, terms_of_board, feed_refusal_in, advance_refusal_in, read_refusal_in, changes_refusal_in, IsReadRefusalIn, IsChangesRefusalIn};
+ghost use Rattle.worker.specs.Tenures.{StandsFor, doing, left_by, terms_for, terms_of_board, feed_refusal_in, advance_refusal_in, read_refusal_in, changes_refusal_in, IsReadRefusalIn, IsChangesRefusalIn};
 
 use antichain::Antichain;
 use lattice::Minimum;
@@ -74,13 +74,15 @@ fn is_same_count(now: Option<u64>, then: Option<u64>) -> bool
 impl<T: Minimum> SharedBoard<T> {
     /// A board of a plan on which nothing has happened yet, for this many workers and clients. Refused only with
     /// `OutOfMemory`.
-    pub fn open(alloc: Global, plan: Plan, workers: usize, clients: usize) -> Result<SharedBoard<T>, Refusal>
+    pub fn open(
+        alloc: Global,
+        plan: Plan,
+        workers: usize,
+        clients: usize,
+    ) -> Result<SharedBoard<T>, Refusal>
         requires workers { (1 ≤ workers) × (workers ≤ 16) }
         requires clients { clients ≤ 16 }
-        ensures terms { IfOk result (λ b. terms_of_board b ≡ record {
-          dataflow = record { nodes = plan; workers = workers };
-          actors = workers + clients;
-        }) }
+        ensures terms { IfOk result (λ b. terms_of_board b ≡ terms_for plan workers clients) }
         ensures stands { IfOk result (λ b. StandsFor T.below T.least T.cmp b []) }
         ensures refused { IfErr result (λ refusal. refusal ≡ OutOfMemory) }
     {
@@ -92,6 +94,21 @@ impl<T: Minimum> SharedBoard<T> {
             accepted: Some(0),
             too_large: false,
         })
+    }
+
+    /// Whether the board is of this plan, for this many workers and clients. Takes no memory.
+    pub fn is_on(&self, plan: &Plan, workers: usize, clients: usize) -> bool
+        requires { clients ≤ 16 }
+        ensures { IsTrue result → terms_of_board self.now ≡ terms_for plan.now workers clients }
+    {
+        let same_plan = *self.board.plan() == *plan;
+        if !same_plan {
+            return false;
+        }
+        if self.board.workers() != workers || workers > 16 {
+            return false;
+        }
+        self.actors == workers + clients
     }
 
     /// An actor looks. Takes no memory.

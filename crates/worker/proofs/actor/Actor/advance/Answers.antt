@@ -114,4 +114,3 @@ returns-clause-refused g c =
     let after = after_tenure g.T.PartialOrder.below g.T.Minimum.least g.T.Ord.cmp pass held.state.value held.hub held.number held.found here c.deref_mut.result.now c.advance-answer.new.self c.self.inside.number same there.1 c.advance-answer.ensures.terms c.advance-answer.ensures.stands c.leave.result c.leave.ensures in
     subst (λ (k : Known (Doing g.row.T.Denot)). (λ (p : Dataflow) (w : State g.row.T.Denot). IfErr c.advance-answer.result (λ refusal. advance_refusal_in g.T.PartialOrder.below w c.args.input c.args.times ≡ Some refusal)) (terms_in k.seen).dataflow (state_found g.T.PartialOrder.below g.T.Minimum.least c.leave.result)) self_is
     (of_found g.T.PartialOrder.below g.T.Minimum.least g.T.Ord.cmp pass held.state.value held.hub held.number held.found here (λ (p : Dataflow) (w : State g.row.T.Denot). IfErr c.advance-answer.result (λ refusal. advance_refusal_in g.T.PartialOrder.below w c.args.input c.args.times ≡ Some refusal)) c.deref_mut.result.now same c.advance-answer.ensures.refused c.leave.result after)
-

@@ -104,4 +104,3 @@ returns-clause-differences g c =
     let after = after_tenure g.T.PartialOrder.below g.T.Minimum.least g.T.Ord.cmp pass held.state.value held.hub held.number held.found here c.deref_mut.result.now c.changes-answer.new.self c.self.inside.number same there.1 c.changes-answer.ensures.terms c.changes-answer.ensures.stands c.leave.result c.leave.ensures in
     subst (λ (k : Known (Doing g.row.T.Denot)). (λ (p : Dataflow) (w : State g.row.T.Denot). IfOk c.changes-answer.result (λ us. AreDifferences g.T.PartialOrder.below g.T.Ord.cmp p.nodes (changes_in w) (frontier g.T.PartialOrder.below p w c.args.view) c.args.view us.items)) (terms_in k.seen).dataflow (state_found g.T.PartialOrder.below g.T.Minimum.least c.leave.result)) self_is
     (of_found g.T.PartialOrder.below g.T.Minimum.least g.T.Ord.cmp pass held.state.value held.hub held.number held.found here (λ (p : Dataflow) (w : State g.row.T.Denot). IfOk c.changes-answer.result (λ us. AreDifferences g.T.PartialOrder.below g.T.Ord.cmp p.nodes (changes_in w) (frontier g.T.PartialOrder.below p w c.args.view) c.args.view us.items)) c.deref_mut.result.now same c.changes-answer.ensures.differences c.leave.result after)
-

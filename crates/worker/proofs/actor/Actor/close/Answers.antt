@@ -76,4 +76,3 @@ returns g c =
     let self_is : pass ≡ c.args.self.now = search rules in
     let after = after_tenure g.T.PartialOrder.below g.T.Minimum.least g.T.Ord.cmp pass held.state.value held.hub held.number held.found here c.deref_mut.result.now c.close.new.self c.self.inside.number same there.1 c.close.ensures.terms c.close.ensures.stands c.leave.result c.leave.ensures in
     record { closed = subst (λ (k : Known (Doing g.row.T.Denot)). Adds k (Advance k.number c.args.input []) c.leave.result) self_is (subst (λ (e : Event g.row.T.Denot). Adds pass e c.leave.result) (c.close.ensures.closed ∙ ap (λ n. Advance n c.args.input []) (sym there.1)) after.adds) }
-

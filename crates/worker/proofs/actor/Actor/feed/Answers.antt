@@ -114,4 +114,3 @@ returns-clause-refused g c =
     let after = after_tenure g.T.PartialOrder.below g.T.Minimum.least g.T.Ord.cmp pass held.state.value held.hub held.number held.found here c.deref_mut.result.now c.feed-answer.new.self c.self.inside.number same there.1 c.feed-answer.ensures.terms c.feed-answer.ensures.stands c.leave.result c.leave.ensures in
     subst (λ (k : Known (Doing g.row.T.Denot)). (λ (p : Dataflow) (w : State g.row.T.Denot). IfErr c.feed-answer.result (IsRefusalBy (feed_refusal_in g.T.PartialOrder.below p w (change_to c.args.input c.args.update)))) (terms_in k.seen).dataflow (state_found g.T.PartialOrder.below g.T.Minimum.least c.leave.result)) self_is
     (of_found g.T.PartialOrder.below g.T.Minimum.least g.T.Ord.cmp pass held.state.value held.hub held.number held.found here (λ (p : Dataflow) (w : State g.row.T.Denot). IfErr c.feed-answer.result (IsRefusalBy (feed_refusal_in g.T.PartialOrder.below p w (change_to c.args.input c.args.update)))) c.deref_mut.result.now same c.feed-answer.ensures.refused c.leave.result after)
-

@@ -78,4 +78,3 @@ returns-clause-frontier g c =
     let after = after_tenure g.T.PartialOrder.below g.T.Minimum.least g.T.Ord.cmp pass held.state.value held.hub held.number held.found here c.deref_mut.result.now c.frontier-answer.new.self c.self.inside.number same there.1 c.frontier-answer.ensures.terms c.frontier-answer.ensures.stands c.leave.result c.leave.ensures in
     subst (λ (k : Known (Doing g.row.T.Denot)). (λ (p : Dataflow) (w : State g.row.T.Denot). IfOk c.frontier-answer.result (λ found. SameElements found (frontier g.T.PartialOrder.below p w c.args.view))) (terms_in k.seen).dataflow (state_found g.T.PartialOrder.below g.T.Minimum.least c.leave.result)) self_is
     (of_found g.T.PartialOrder.below g.T.Minimum.least g.T.Ord.cmp pass held.state.value held.hub held.number held.found here (λ (p : Dataflow) (w : State g.row.T.Denot). IfOk c.frontier-answer.result (λ found. SameElements found (frontier g.T.PartialOrder.below p w c.args.view))) c.deref_mut.result.now same c.frontier-answer.ensures.frontier c.leave.result after)
-

@@ -51,7 +51,7 @@ leave-requires g c =
     let here : IsIn g.T.PartialOrder.below g.T.Minimum.least g.T.Ord.cmp pass held.state.value held.hub held.number held.found = record { actor = there.2; its_hub = t.0.0; its_number = t.0.1; agrees = t.0.2; stands = t.1 } in
     let same : c.deref_mut.result.now ≡ held.state.value = search rules in
     let self_is : pass ≡ c.args.self.now = search rules in
-    leaves_with g.T.PartialOrder.below g.T.Minimum.least g.T.Ord.cmp pass held.state.value held.hub held.number held.found here c.deref_mut.result.now c.give-answer.new.self c.args.emission.worker (ap (λ (k : Known (Doing g.row.T.Denot)). k.number) self_is ∙ sym c.requires.own) c.give-answer.ensures.terms (c.give-answer.ensures.stands held.found (stood_at g.T.PartialOrder.below g.T.Minimum.least g.T.Ord.cmp pass held.state.value held.hub held.number held.found here c.deref_mut.result.now same) (give_found g.T.PartialOrder.below g.T.Minimum.least g.T.Ord.cmp pass held.state.value held.hub held.number held.found here c.deref_mut.result.now same c.args.emission c.args.held c.args.sent (subst (λ (k : Known (Doing g.row.T.Denot)). (others : List (Entry (Doing g.row.T.Denot))) → NoneBy k.number others → AreOn (terms_in k.seen) (others ++ k.seen) → IsLegal g.T.PartialOrder.below g.T.Minimum.least (terms_in k.seen).dataflow (events (others ++ k.seen)) → IsGive g.T.PartialOrder.below (terms_in k.seen).dataflow (left_by g.T.PartialOrder.below g.T.Minimum.least (terms_in k.seen).dataflow (others ++ k.seen)) c.args.emission c.args.held c.args.sent) (sym self_is) c.requires.allowed)))
+    leaves_with g.T.PartialOrder.below g.T.Minimum.least g.T.Ord.cmp pass held.state.value held.hub held.number held.found here c.deref_mut.result.now c.give-answer.new.self c.args.emission.worker (ap (λ (k : Known (Doing g.row.T.Denot)). k.number) self_is ∙ sym c.requires.own) c.give-answer.ensures.terms (c.give-answer.ensures.stands held.found (stood_at g.T.PartialOrder.below g.T.Minimum.least g.T.Ord.cmp pass held.state.value held.hub held.number held.found here c.deref_mut.result.now same) (give_found g.T.PartialOrder.below g.T.Minimum.least g.T.Ord.cmp pass held.state.value held.hub held.number held.found here c.deref_mut.result.now same c.args.emission c.args.held c.args.sent (c.requires.own ∙ ap (λ (k : Known (Doing g.row.T.Denot)). k.number) (sym self_is)) (subst (λ (k : Known (Doing g.row.T.Denot)). IsGive g.T.PartialOrder.below (terms_in k.seen).dataflow (state_left g.T.PartialOrder.below g.T.Minimum.least k) c.args.emission c.args.held c.args.sent) (sym self_is) c.requires.allowed)))
 
 pub invariant_of-self : goal.invariant_of-self
 invariant_of-self g c =
@@ -62,7 +62,7 @@ invariant_of-self g c =
     let here : IsIn g.T.PartialOrder.below g.T.Minimum.least g.T.Ord.cmp pass held.state.value held.hub held.number held.found = record { actor = there.2; its_hub = t.0.0; its_number = t.0.1; agrees = t.0.2; stands = t.1 } in
     let same : c.deref_mut.result.now ≡ held.state.value = search rules in
     let self_is : pass ≡ c.args.self.now = search rules in
-    let after = after_with g.T.PartialOrder.below g.T.Minimum.least g.T.Ord.cmp pass held.state.value held.hub held.number held.found here c.deref_mut.result.now c.give-answer.new.self c.args.emission.worker same (ap (λ (k : Known (Doing g.row.T.Denot)). k.number) self_is ∙ sym c.requires.own) c.give-answer.ensures.terms (c.give-answer.ensures.stands held.found (stood_at g.T.PartialOrder.below g.T.Minimum.least g.T.Ord.cmp pass held.state.value held.hub held.number held.found here c.deref_mut.result.now same) (give_found g.T.PartialOrder.below g.T.Minimum.least g.T.Ord.cmp pass held.state.value held.hub held.number held.found here c.deref_mut.result.now same c.args.emission c.args.held c.args.sent (subst (λ (k : Known (Doing g.row.T.Denot)). (others : List (Entry (Doing g.row.T.Denot))) → NoneBy k.number others → AreOn (terms_in k.seen) (others ++ k.seen) → IsLegal g.T.PartialOrder.below g.T.Minimum.least (terms_in k.seen).dataflow (events (others ++ k.seen)) → IsGive g.T.PartialOrder.below (terms_in k.seen).dataflow (left_by g.T.PartialOrder.below g.T.Minimum.least (terms_in k.seen).dataflow (others ++ k.seen)) c.args.emission c.args.held c.args.sent) (sym self_is) c.requires.allowed))) c.leave.result c.leave.ensures in
+    let after = after_with g.T.PartialOrder.below g.T.Minimum.least g.T.Ord.cmp pass held.state.value held.hub held.number held.found here c.deref_mut.result.now c.give-answer.new.self c.args.emission.worker same (ap (λ (k : Known (Doing g.row.T.Denot)). k.number) self_is ∙ sym c.requires.own) c.give-answer.ensures.terms (c.give-answer.ensures.stands held.found (stood_at g.T.PartialOrder.below g.T.Minimum.least g.T.Ord.cmp pass held.state.value held.hub held.number held.found here c.deref_mut.result.now same) (give_found g.T.PartialOrder.below g.T.Minimum.least g.T.Ord.cmp pass held.state.value held.hub held.number held.found here c.deref_mut.result.now same c.args.emission c.args.held c.args.sent (c.requires.own ∙ ap (λ (k : Known (Doing g.row.T.Denot)). k.number) (sym self_is)) (subst (λ (k : Known (Doing g.row.T.Denot)). IsGive g.T.PartialOrder.below (terms_in k.seen).dataflow (state_left g.T.PartialOrder.below g.T.Minimum.least k) c.args.emission c.args.held c.args.sent) (sym self_is) c.requires.allowed))) c.leave.result c.leave.ensures in
     (after.same_hub ∙ there.0, after.same_number ∙ there.1, after.actor, λ n e. after.counted n (sym (c.accepted-self-inside.ensures ∙ search rules) ∙ e))
 
 pub returns-clause-given : goal.returns-clause-given
@@ -74,7 +74,7 @@ returns-clause-given g c =
     let here : IsIn g.T.PartialOrder.below g.T.Minimum.least g.T.Ord.cmp pass held.state.value held.hub held.number held.found = record { actor = there.2; its_hub = t.0.0; its_number = t.0.1; agrees = t.0.2; stands = t.1 } in
     let same : c.deref_mut.result.now ≡ held.state.value = search rules in
     let self_is : pass ≡ c.args.self.now = search rules in
-    let after = after_with g.T.PartialOrder.below g.T.Minimum.least g.T.Ord.cmp pass held.state.value held.hub held.number held.found here c.deref_mut.result.now c.give-answer.new.self c.args.emission.worker same (ap (λ (k : Known (Doing g.row.T.Denot)). k.number) self_is ∙ sym c.requires.own) c.give-answer.ensures.terms (c.give-answer.ensures.stands held.found (stood_at g.T.PartialOrder.below g.T.Minimum.least g.T.Ord.cmp pass held.state.value held.hub held.number held.found here c.deref_mut.result.now same) (give_found g.T.PartialOrder.below g.T.Minimum.least g.T.Ord.cmp pass held.state.value held.hub held.number held.found here c.deref_mut.result.now same c.args.emission c.args.held c.args.sent (subst (λ (k : Known (Doing g.row.T.Denot)). (others : List (Entry (Doing g.row.T.Denot))) → NoneBy k.number others → AreOn (terms_in k.seen) (others ++ k.seen) → IsLegal g.T.PartialOrder.below g.T.Minimum.least (terms_in k.seen).dataflow (events (others ++ k.seen)) → IsGive g.T.PartialOrder.below (terms_in k.seen).dataflow (left_by g.T.PartialOrder.below g.T.Minimum.least (terms_in k.seen).dataflow (others ++ k.seen)) c.args.emission c.args.held c.args.sent) (sym self_is) c.requires.allowed))) c.leave.result c.leave.ensures in
+    let after = after_with g.T.PartialOrder.below g.T.Minimum.least g.T.Ord.cmp pass held.state.value held.hub held.number held.found here c.deref_mut.result.now c.give-answer.new.self c.args.emission.worker same (ap (λ (k : Known (Doing g.row.T.Denot)). k.number) self_is ∙ sym c.requires.own) c.give-answer.ensures.terms (c.give-answer.ensures.stands held.found (stood_at g.T.PartialOrder.below g.T.Minimum.least g.T.Ord.cmp pass held.state.value held.hub held.number held.found here c.deref_mut.result.now same) (give_found g.T.PartialOrder.below g.T.Minimum.least g.T.Ord.cmp pass held.state.value held.hub held.number held.found here c.deref_mut.result.now same c.args.emission c.args.held c.args.sent (c.requires.own ∙ ap (λ (k : Known (Doing g.row.T.Denot)). k.number) (sym self_is)) (subst (λ (k : Known (Doing g.row.T.Denot)). IsGive g.T.PartialOrder.below (terms_in k.seen).dataflow (state_left g.T.PartialOrder.below g.T.Minimum.least k) c.args.emission c.args.held c.args.sent) (sym self_is) c.requires.allowed))) c.leave.result c.leave.ensures in
     on_ok_weaker c.give-answer.result (λ e. subst (λ (k : Known (Doing g.row.T.Denot)). Adds k (Give c.args.emission c.args.held c.args.sent) c.leave.result) self_is (subst (λ (e : Event g.row.T.Denot). Adds pass e c.leave.result) (e) after.adds)) c.give-answer.ensures.given
 
 pub returns-clause-returned : goal.returns-clause-returned
@@ -86,6 +86,5 @@ returns-clause-returned g c =
     let here : IsIn g.T.PartialOrder.below g.T.Minimum.least g.T.Ord.cmp pass held.state.value held.hub held.number held.found = record { actor = there.2; its_hub = t.0.0; its_number = t.0.1; agrees = t.0.2; stands = t.1 } in
     let same : c.deref_mut.result.now ≡ held.state.value = search rules in
     let self_is : pass ≡ c.args.self.now = search rules in
-    let after = after_with g.T.PartialOrder.below g.T.Minimum.least g.T.Ord.cmp pass held.state.value held.hub held.number held.found here c.deref_mut.result.now c.give-answer.new.self c.args.emission.worker same (ap (λ (k : Known (Doing g.row.T.Denot)). k.number) self_is ∙ sym c.requires.own) c.give-answer.ensures.terms (c.give-answer.ensures.stands held.found (stood_at g.T.PartialOrder.below g.T.Minimum.least g.T.Ord.cmp pass held.state.value held.hub held.number held.found here c.deref_mut.result.now same) (give_found g.T.PartialOrder.below g.T.Minimum.least g.T.Ord.cmp pass held.state.value held.hub held.number held.found here c.deref_mut.result.now same c.args.emission c.args.held c.args.sent (subst (λ (k : Known (Doing g.row.T.Denot)). (others : List (Entry (Doing g.row.T.Denot))) → NoneBy k.number others → AreOn (terms_in k.seen) (others ++ k.seen) → IsLegal g.T.PartialOrder.below g.T.Minimum.least (terms_in k.seen).dataflow (events (others ++ k.seen)) → IsGive g.T.PartialOrder.below (terms_in k.seen).dataflow (left_by g.T.PartialOrder.below g.T.Minimum.least (terms_in k.seen).dataflow (others ++ k.seen)) c.args.emission c.args.held c.args.sent) (sym self_is) c.requires.allowed))) c.leave.result c.leave.ensures in
+    let after = after_with g.T.PartialOrder.below g.T.Minimum.least g.T.Ord.cmp pass held.state.value held.hub held.number held.found here c.deref_mut.result.now c.give-answer.new.self c.args.emission.worker same (ap (λ (k : Known (Doing g.row.T.Denot)). k.number) self_is ∙ sym c.requires.own) c.give-answer.ensures.terms (c.give-answer.ensures.stands held.found (stood_at g.T.PartialOrder.below g.T.Minimum.least g.T.Ord.cmp pass held.state.value held.hub held.number held.found here c.deref_mut.result.now same) (give_found g.T.PartialOrder.below g.T.Minimum.least g.T.Ord.cmp pass held.state.value held.hub held.number held.found here c.deref_mut.result.now same c.args.emission c.args.held c.args.sent (c.requires.own ∙ ap (λ (k : Known (Doing g.row.T.Denot)). k.number) (sym self_is)) (subst (λ (k : Known (Doing g.row.T.Denot)). IsGive g.T.PartialOrder.below (terms_in k.seen).dataflow (state_left g.T.PartialOrder.below g.T.Minimum.least k) c.args.emission c.args.held c.args.sent) (sym self_is) c.requires.allowed))) c.leave.result c.leave.ensures in
     if_err_map c.give-answer.result _ _ (λ r x. (subst (λ (k : Known (Doing g.row.T.Denot)). Adds k (Look k.number) c.leave.result) self_is (subst (λ (e : Event g.row.T.Denot). Adds pass e c.leave.result) (x.0 ∙ ap (λ n. Look n) (sym (ap (λ (k : Known (Doing g.row.T.Denot)). k.number) self_is ∙ sym c.requires.own))) after.adds), x.1)) c.give-answer.ensures.returned
-

@@ -56,4 +56,3 @@ returns-clause-quiet g c =
     let after = after_tenure g.T.PartialOrder.below g.T.Minimum.least g.T.Ord.cmp pass held.state.value held.hub held.number held.found here c.deref_mut.result.now c.is_quiet-answer.new.self c.self.inside.number same there.1 c.is_quiet-answer.ensures.terms c.is_quiet-answer.ensures.stands c.leave.result c.leave.ensures in
     subst (λ (k : Known (Doing g.row.T.Denot)). (λ (p : Dataflow) (w : State g.row.T.Denot). IsTrue c.is_quiet-answer.result ↔ IsQuiet g.T.PartialOrder.below p w) (terms_in k.seen).dataflow (state_found g.T.PartialOrder.below g.T.Minimum.least c.leave.result)) self_is
     (of_found g.T.PartialOrder.below g.T.Minimum.least g.T.Ord.cmp pass held.state.value held.hub held.number held.found here (λ (p : Dataflow) (w : State g.row.T.Denot). IsTrue c.is_quiet-answer.result ↔ IsQuiet g.T.PartialOrder.below p w) c.deref_mut.result.now same c.is_quiet-answer.ensures.quiet c.leave.result after)
-

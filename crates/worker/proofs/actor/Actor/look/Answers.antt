@@ -43,4 +43,3 @@ returns g c =
     let self_is : pass ≡ c.args.self.now = search rules in
     let after = after_tenure g.T.PartialOrder.below g.T.Minimum.least g.T.Ord.cmp pass held.state.value held.hub held.number held.found here c.deref_mut.result.now c.look.new.self c.self.inside.number same there.1 c.look.ensures.terms c.look.ensures.stands c.leave.result c.leave.ensures in
     record { looked = subst (λ (k : Known (Doing g.row.T.Denot)). Adds k (Look k.number) c.leave.result) self_is (subst (λ (e : Event g.row.T.Denot). Adds pass e c.leave.result) (c.look.ensures.looked ∙ ap (λ n. Look n) (sym there.1)) after.adds) }
-

@@ -104,4 +104,3 @@ returns-clause-query g c =
     let after = after_tenure g.T.PartialOrder.below g.T.Minimum.least g.T.Ord.cmp pass held.state.value held.hub held.number held.found here c.deref_mut.result.now c.read-answer.new.self c.self.inside.number same there.1 c.read-answer.ensures.terms c.read-answer.ensures.stands c.leave.result c.leave.ensures in
     subst (λ (k : Known (Doing g.row.T.Denot)). (λ (p : Dataflow) (w : State g.row.T.Denot). IfOk c.read-answer.result (λ bag. Alike bag (query_at g.T.PartialOrder.below p.nodes (changes_in w) c.args.view c.args.t))) (terms_in k.seen).dataflow (state_found g.T.PartialOrder.below g.T.Minimum.least c.leave.result)) self_is
     (of_found g.T.PartialOrder.below g.T.Minimum.least g.T.Ord.cmp pass held.state.value held.hub held.number held.found here (λ (p : Dataflow) (w : State g.row.T.Denot). IfOk c.read-answer.result (λ bag. Alike bag (query_at g.T.PartialOrder.below p.nodes (changes_in w) c.args.view c.args.t))) c.deref_mut.result.now same c.read-answer.ensures.query c.leave.result after)
-

@@ -91,4 +91,3 @@ returns-clause-refused g c =
     let self_is : pass ≡ c.args.self.now = search rules in
     let after = after_tenure g.T.PartialOrder.below g.T.Minimum.least g.T.Ord.cmp pass held.state.value held.hub held.number held.found here c.deref_mut.result.now c.turn-answer.new.self c.self.inside.number same there.1 c.turn-answer.ensures.terms c.turn-answer.ensures.stands c.leave.result c.leave.ensures in
     if_err_map c.turn-answer.result _ _ (λ refusal x. (x.0, subst (λ (k : Known (Doing g.row.T.Denot)). Adds k (Look k.number) c.leave.result) self_is (subst (λ (e : Event g.row.T.Denot). Adds pass e c.leave.result) (x.1 ∙ ap (λ n. Look n) (sym there.1)) after.adds))) c.turn-answer.ensures.refused
-

@@ -41,4 +41,3 @@ returns-in-None-clause-stands g c =
     let new : SharedState g.row.T.Denot = record old { board = c.look.new.self } in
     subst (λ (b : SharedState g.row.T.Denot). (es : List (Entry (Doing g.row.T.Denot))) → StandsFor below least cmp b es → StandsFor below least cmp new (entry actor (doing (terms_of_board b) c.look.new.self.last) ∷ es)) c.self.view_is
     (looked below least cmp old c.look.new.self actor c.look.ensures.looked c.look.ensures.stands)
-

@@ -35,7 +35,7 @@ returns-then-not-is_ready-clause-none g c e =
     let node = c.args.node in (
       ap (λ (b : BoardState g.row.T.Denot). b.last) c.look.ensures.looked,
       subst (λ (b : SharedState g.row.T.Denot). (es : List (Entry (Doing g.row.T.Denot))) → StandsFor below least cmp b es
-      → list_any (has_passed below (input_frontier below b.board.dataflow (left_by below least b.board.dataflow es) node)) (held_at node worker (left_by below least b.board.dataflow es).held) ≡ false) c.self.view_is
+          → list_any (has_passed below (input_frontier below b.board.dataflow (left_by below least b.board.dataflow es) node)) (held_at node worker (left_by below least b.board.dataflow es).held) ≡ false) c.self.view_is
           (λ es a. sym (c.is_ready.ensures.stands (events es) a.stands) ∙ c.if-not-is_ready.true),
     )
 
@@ -79,4 +79,3 @@ returns-in-Err-clause-stands g c =
     let new : SharedState g.row.T.Denot = record old { board = c.look-in-Err.new.self } in
     subst (λ (b : SharedState g.row.T.Denot). (es : List (Entry (Doing g.row.T.Denot))) → StandsFor below least cmp b es → StandsFor below least cmp new (entry actor (doing (terms_of_board b) c.look-in-Err.new.self.last) ∷ es)) c.self.view_is
     (asked below least cmp old c.input_frontier.new.self c.look-in-Err.new.self actor (c.input_frontier.ensures.kept ∙ c.is_ready.ensures.kept) c.look-in-Err.ensures.looked c.look-in-Err.ensures.stands)
-
