@@ -35,8 +35,6 @@ mod hub;
 mod laws;
 mod protocol;
 mod tenure;
-#[cfg(test)]
-mod tests;
 mod view;
 
 pub use hub::{Hub, Pass};

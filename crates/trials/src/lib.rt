@@ -25,6 +25,8 @@ mod draws;
 #[cfg(test)]
 mod grammar_tests;
 #[cfg(test)]
+mod hub_tests;
+#[cfg(test)]
 mod join_tests;
 #[cfg(test)]
 mod lattice_tests;

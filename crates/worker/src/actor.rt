@@ -2,11 +2,9 @@
 //!
 //! Each call is one tenure, and so one event of this actor. What others did since its last tenure lies below that event, and
 //! the answers are right for all that was done by then. Each call waits until the board is at home.
-ghost use Rattle.std.specs.Prelude.{◌≡◌, ◌≤◌, ◌<◌, ◌+◌, ◌↔◌, [], ◌∷◌, ◌++◌, false, ℕ, List, None, Some, IfOk, IfErr, IfSome, OnOk, OnErr, IsTrue, length};
+ghost use Rattle.std.specs.Prelude.{◌≡◌, ◌≤◌, ◌<◌, ◌+◌, ◌↔◌, [], false, ℕ, None, Some, IfOk, IfErr, IfSome, OnOk, OnErr, IsTrue, length};
 ghost use Rattle.std.specs.List.{list_any};
-ghost use Rattle.hub.specs.declared.view.Entry.{Entry};
 ghost use Rattle.std.specs.Arc.{arc_value};
-ghost use Rattle.hub.specs.Histories.{NoneBy};
 ghost use Rattle.hub.specs.Passes.{hub_id};
 ghost use Rattle.antichain.specs.Antichains.{SameElements};
 ghost use Rattle.update.specs.Bags.{Alike, IsBag};
@@ -15,15 +13,14 @@ ghost use Rattle.update.specs.declared.refusal.Refusal.TheVariants.{OutOfMemory}
 ghost use Rattle.plan.specs.Changes.{AreDifferences, has_passed, query_at};
 ghost use Rattle.plan.specs.Nodes.{is_output};
 ghost use Rattle.machine.specs.declared.histories.event.Event.TheVariants.{Advance, Feed, Give, Look, Take, TakeHeld};
-ghost use Rattle.machine.specs.Histories.{IsGive, IsInput, IsLegal};
+ghost use Rattle.machine.specs.Histories.{IsGive, IsInput};
 ghost use Rattle.machine.specs.Histories.Dataflows.{node_of};
 ghost use Rattle.machine.specs.Histories.Outstanding.{frontier, input_frontier};
 ghost use Rattle.machine.specs.Histories.Promises.{changes_in};
 ghost use Rattle.machine.specs.Histories.Readings.{IsQuiet};
 ghost use Rattle.machine.specs.Histories.States.{change_to, held_at, place, queue};
-ghost use Rattle.worker.specs.declared.doing.Doing.{Doing};
 ghost use Rattle.worker.specs.Relays.{HasNoSmallBound};
-ghost use Rattle.worker.specs.Tenures.{Adds, AreOn, IsFirst, terms_for, events, left_by, terms_in, state_found, state_left, feed_refusal_in, advance_refusal_in, read_refusal_in, changes_refusal_in, IsReadRefusalIn, IsChangesRefusalIn};
+ghost use Rattle.worker.specs.Tenures.{Adds, IsActor, IsFirst, terms_for, terms_in, state_found, state_left, feed_refusal_in, advance_refusal_in, read_refusal_in, changes_refusal_in, IsReadRefusalIn, IsChangesRefusalIn};
 
 use crate::boards::Boards;
 use antichain::Antichain;
@@ -101,7 +98,14 @@ impl<T: Minimum> Actor<T> {
         })
     }
 
-    /// The actor looks.
+    /// Costs nothing. It tells the prover what holds of each actor.
+    pub fn known(&self)
+        ensures { IsActor T.below T.least self.now }
+    {
+        let _ = &self.number;
+    }
+
+    /// The actor looks. Takes no memory.
     pub fn look<R: Wait>(&mut self, rt: &R)
         ensures looked { Adds self.old (Look self.old.number) self.new }
     {

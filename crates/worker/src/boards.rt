@@ -1,4 +1,9 @@
-//! The protocol over boards.
+//! The protocol of a hub that hands a board over.
+//!
+//! A shared board stands for a list of entries if the board stands for their events, if each entry is by the actor of its
+//! event, and if each names the terms on which the board was opened: its dataflow, and how many actors share it. So an actor
+//! that has seen one entry knows the plan for good, although a pass that has seen nothing knows nothing. Which boards stand
+//! for which entries is the record `StandsFor` (`specs/Tenures`).
 use crate::doing::Doing;
 use crate::shared::SharedBoard;
 use hub::Protocol;

@@ -16,6 +16,11 @@
 //! worker keeps between two passes is a [`Desk`]: the arrangement, reduction or join of each node, with a hold for each
 //! side of a join at the spine that it reads.
 //!
+//! Several actors share a board through a hub (crate `hub`). [`Boards`] is its protocol: what the hub hands over is a
+//! [`SharedBoard`], and it stands for the events of all tenures so far. [`open`] makes an [`Actor`] for each worker and each
+//! client. Each of its calls is one tenure and one event, and the answer is right for all that was done by then. The laws of
+//! sharing say what an actor need not mind of the others.
+//!
 //! Who runs a plan calls [`Desk::open`] once and [`relay`] before each question, and cites [`clients_leave_it_ready`] for
 //! what clients do in between. The other names are for whoever writes another worker.
 #![tactic(auto)]

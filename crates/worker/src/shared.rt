@@ -1,8 +1,12 @@
 //! The board that actors share, and what they tell one another beside it.
 //!
-//! Each call is one event of the board, by the actor that is named, and ends one tenure. So each contract has two parts:
-//! after the call the board may stand for one entry more, whatever entries it stood for before; and the answer is right for
-//! each of the latter.
+//! Each call that changes something is one event of the board, by the actor that is named. So each contract has two parts:
+//! whatever entries the board stood for before the call, it stands afterwards for one more; and the answer is right for each
+//! list of entries that it stood for. A tenure of a hub makes just one such call.
+//!
+//! Beside the board lies whether some worker found a number too large. That must be told with care, since a bound may shrink
+//! when a change is accepted. So the board counts the changes that it accepted. A worker tells only if there are as many as
+//! when it last came, for then they are the same; and the next change that is accepted takes the word back.
 ghost use Rattle.std.specs.Prelude.{◌≡◌, ◌<◌, ◌↔◌, ℕ, ◌≤◌, ◌+◌, List, [], ◌∷◌, ◌++◌, false, None, Some, IfOk, IfErr, IfSome, OnOk, OnErr, IsTrue, length, get_or};
 ghost use Rattle.std.specs.List.{list_any};
 ghost use Rattle.hub.specs.declared.view.Entry.{Entry};
@@ -32,13 +36,16 @@ use std::alloc::Global;
 use std::marker::Model;
 use update::{Bag, Refusal, Times, Update};
 
-/// A board, and what its actors tell one another beside it.
+/// A board, and what its actors tell one another beside it. A contract sees all of it as a `SharedState`.
 #[derive(Drop)]
 pub struct SharedBoard<T: Minimum> {
-    pub(crate) board: Board<T>,
-    pub(crate) actors: usize,
-    pub(crate) accepted: Option<u64>,
-    pub(crate) too_large: bool,
+    board: Board<T>,
+    // How many actors share it: the workers, and the clients after them.
+    actors: usize,
+    // How many changes it has accepted. `None` once that does not fit in 64 bits.
+    accepted: Option<u64>,
+    // Whether a worker told that a number is too large with these changes.
+    too_large: bool,
 }
 
 impl<T: Minimum> Model for SharedBoard<T> {

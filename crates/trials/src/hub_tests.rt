@@ -5,8 +5,7 @@ ghost use Rattle.std.specs.Thread.{IsSync};
 ghost use Rattle.std.specs.Arc.{arc_value};
 ghost use Rattle.hub.specs.Passes.{hub_id, AreDealt};
 
-use crate::hub::{Hub, Pass};
-use crate::protocol::Protocol;
+use hub::{Hub, Pass, Protocol};
 use std::alloc::{AllocError, Global};
 use std::process::Abort;
 use std::sync::{Arc, Wait};
