@@ -21,7 +21,7 @@ use Rattle.machine.specs.declared.histories.event.Bundle.{Bundle}
 use Rattle.machine.specs.declared.histories.event.Emission.{Emission}
 use Rattle.worker.proofs.ApartLemmas.{give_apart}
 use Rattle.worker.specs.declared.doing.Doing.{Doing}
-use Rattle.worker.specs.Tenures.{Terms, SharedState, events, terms_of, terms_of_board, doing, is_change, AreOn, left_by, StandsFor, terms_in, AreKnown, found_last, state_found, state_left, Adds, IsActor, IsFirst}
+use Rattle.worker.specs.Tenures.{Terms, SharedState, events, terms_of_board, doing, is_change, AreOn, left_by, StandsFor, terms_in, AreKnown, found_last, state_found, state_left, Adds, IsActor, IsFirst}
 
 pub is_some_at : {A : Type 0} (o : Option A) (P : A → Type 0) → IsSomeAnd o P → (x : A) → o ≡ Some x → P x
 is_some_at o P h x e = subst (λ (z : Option _). IsSomeAnd z P) e h

@@ -1,6 +1,6 @@
 -- What a worker may give depends on nothing but what is its own.
 use Rattle.std.proofs.Common.{◌≡◌, ℕ, ◌≤◌, Bool, true, false, cond, ◌&&◌, ◌||◌, eqb, List, [], ◌∷◌, ◌++◌, IsTrue, sym, refl, ap, ◌∙◌, subst}
-use Rattle.std.specs.List.{filter, list_all, list_any}
+use Rattle.std.specs.List.{list_all}
 use Rattle.lattice.specs.Frontiers.{all_beyond}
 use Rattle.update.specs.Bags.{Alike}
 use Rattle.update.specs.Updates.{as_of, size, AreApart}
@@ -11,7 +11,7 @@ use Rattle.machine.specs.declared.histories.event.Bundle.{Bundle}
 use Rattle.machine.specs.declared.histories.event.Emission.{Emission}
 use Rattle.machine.specs.Histories.Actors.{IsSameOfWorker, observed_by}
 use Rattle.machine.specs.Histories.Dataflows.{Dataflow, node_of, node_output}
-use Rattle.machine.specs.Histories.NodeLaws.{NodeLaw, LoadRule, received_at, was_passed}
+use Rattle.machine.specs.Histories.NodeLaws.{NodeLaw, LoadRule, was_passed}
 use Rattle.machine.specs.Histories.Shares.{are_stamped}
 use Rattle.machine.specs.Histories.States.{State, ObservedFrontier, emitted_by, held_at, times}
 use Rattle.machine.specs.Histories.{IsGive, give_state}

@@ -1,5 +1,5 @@
 -- A shared board stands for one entry more after an event.
-use Rattle.std.proofs.Common.{◌≡◌, ℕ, suc, ◌+◌, ◌<◌, Bool, true, false, ◌||◌, List, [], ◌∷◌, ◌++◌, length, Option, Some, None, Result, Ok, Err, IsTrue, arith, sym, refl, ap, ◌∙◌, subst, ⊎_elim, ◌⊎◌, inl, inr}
+use Rattle.std.proofs.Common.{◌≡◌, ℕ, ◌+◌, ◌<◌, Bool, true, false, ◌||◌, List, [], ◌∷◌, ◌++◌, length, Option, Some, Result, Ok, Err, IsTrue, arith, sym, refl, ap, ◌∙◌, subst, ⊎_elim, ◌⊎◌, inl, inr}
 use Rattle.std.specs.declared.cmp.Ordering.{Ordering}
 use Rattle.std.specs.Prelude.{OnOk, OnErr}
 use Rattle.std.proofs.lemmas.Bool.{false≢true}
@@ -14,7 +14,7 @@ use Rattle.machine.specs.declared.histories.event.Bundle.{Bundle}
 use Rattle.machine.specs.declared.histories.event.Emission.{Emission}
 use Rattle.machine.specs.declared.histories.event.Fed.{Fed}
 use Rattle.machine.specs.Histories.Dataflows.{Dataflow, IsDataflow}
-use Rattle.machine.specs.Histories.States.{State, fed_to, open_at}
+use Rattle.machine.specs.Histories.States.{fed_to}
 use Rattle.machine.specs.Histories.{actor_of, next_state}
 use Rattle.machine.specs.Histories.Promises.{changes_in}
 use Rattle.machine.specs.Boards.Inputs.{feed_faults, advance_faults}
@@ -22,7 +22,7 @@ use Rattle.machine.specs.Boards as boards
 use Rattle.machine.specs.Boards.{BoardState, Stands, after_look, after_feed, after_advance, after_take, after_turn, after_give}
 use Rattle.worker.specs.declared.doing.Doing.{Doing}
 use Rattle.worker.specs.Relays.{HasNoSmallBound}
-use Rattle.worker.specs.Tenures.{Terms, SharedState, events, terms_of_board, doing, is_change, IsOn, AreOn, left_by, StandsFor, feed_refusal_in, advance_refusal_in}
+use Rattle.worker.specs.Tenures.{Terms, SharedState, events, terms_of_board, doing, is_change, AreOn, left_by, StandsFor, feed_refusal_in, advance_refusal_in}
 
 true_among : (a b : Bool) → (a || b) ≡ true → (a ≡ true) ⊎ (b ≡ true)
 true_among true b e = inl refl

@@ -1,6 +1,6 @@
 -- What is read of a shared board is right for the entries that it stands for.
 use Rattle.std.proofs.Common.{◌≡◌, ℕ, ◌<◌, Bool, not, ◌||◌, List, [], ◌∷◌, length, Option, Some, None, IsTrue, refl, sym, ◌∙◌, ap, subst, inl, inr}
-use Rattle.std.specs.Prelude.{FitsSigned, Result, Ok, Err, IfErr, OnOk}
+use Rattle.std.specs.Prelude.{FitsSigned, Result, Ok, Err, IfErr}
 use Rattle.std.specs.Int.{w64}
 use Rattle.std.specs.List.{filter}
 use Rattle.std.specs.declared.cmp.Ordering.{Ordering}
@@ -9,7 +9,7 @@ use Rattle.lattice.specs.Frontiers.{is_beyond}
 use Rattle.lattice.specs.Order.{PartialOrderLaws}
 use Rattle.update.specs.Bags.{Alike, HasLargeCount}
 use Rattle.update.specs.Updates.{as_of, HasLargeTotal}
-use Rattle.update.specs.Refusals.{IsRefusalOr, IsMemoryOrOverflow}
+use Rattle.update.specs.Refusals.{IsRefusalOr}
 use Rattle.update.specs.declared.refusal.Refusal.{Refusal}
 use Rattle.update.specs.declared.refusal.Refusal.TheVariants.{NotPassed, GivenUp}
 use Rattle.plan.specs.Changes.{has_passed, query_at}
@@ -22,7 +22,7 @@ use Rattle.machine.specs.Histories.States.{State}
 use Rattle.machine.specs.Histories.Outstanding.{frontier}
 use Rattle.machine.specs.Histories.Promises.{changes_in}
 use Rattle.machine.specs.Histories.Readings.{is_from_start}
-use Rattle.machine.specs.Boards.{BoardState, IsBoard}
+use Rattle.machine.specs.Boards.{IsBoard}
 use Rattle.machine.specs.Boards.Reads as reads
 use Rattle.machine.specs.Boards.Reads.{front, captured_of, since_of}
 use Rattle.machine.proofs.BoardLemmas.FrontLemmas.{front_stands}

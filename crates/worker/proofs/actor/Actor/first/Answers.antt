@@ -1,4 +1,4 @@
-use Rattle.std.proofs.Common.{rules, ◌≡◌, ◌+◌, sym, subst, ap, ◌∙◌, [], IsTrue}
+use Rattle.std.proofs.Common.{rules, ◌≡◌, sym, ap, ◌∙◌}
 use Rattle.hub.specs.Known.{Known}
 use Rattle.worker.specs.declared.doing.Doing.{Doing}
 use Rattle.worker.specs.Tenures.{terms_for, terms_of_board}

@@ -1,23 +1,10 @@
-use Rattle.std.proofs.Common.{rules, ◌≡◌, ◌<◌, ◌≤◌, sym, subst, ap, ◌∙◌, ℕ, length, [], None, Some, IsTrue}
-use Rattle.std.specs.Prelude.{IfOk, IfErr, OnOk, OnErr, ◌↔◌}
-use Rattle.std.proofs.lemmas.Result.{on_ok_weaker, on_err_weaker}
+use Rattle.std.proofs.Common.{rules, ◌≡◌, sym, subst, ap, ◌∙◌}
 use Rattle.hub.specs.Known.{Known}
-use Rattle.antichain.specs.Antichains.{SameElements}
-use Rattle.update.specs.Bags.{Alike}
-use Rattle.update.specs.Refusals.{IsRefusalBy}
-use Rattle.plan.specs.Changes.{AreDifferences, query_at}
-use Rattle.plan.specs.Nodes.{is_output}
 use Rattle.machine.specs.declared.histories.event.Event.{Event}
-use Rattle.machine.specs.declared.histories.event.Event.TheVariants.{Advance, Feed, Look}
-use Rattle.machine.specs.Histories.{IsInput}
-use Rattle.machine.specs.Histories.Dataflows.{Dataflow, node_of}
-use Rattle.machine.specs.Histories.Outstanding.{frontier}
-use Rattle.machine.specs.Histories.Promises.{changes_in}
-use Rattle.machine.specs.Histories.Readings.{IsQuiet}
-use Rattle.machine.specs.Histories.States.{State, change_to}
+use Rattle.machine.specs.declared.histories.event.Event.TheVariants.{Look}
 use Rattle.worker.specs.declared.doing.Doing.{Doing}
-use Rattle.worker.specs.Tenures.{Adds, Terms, terms_in, state_found, feed_refusal_in, advance_refusal_in, read_refusal_in, changes_refusal_in, IsReadRefusalIn, IsChangesRefusalIn}
-use Rattle.worker.proofs.ActorLemmas.{IsIn, after_tenure, at_board, is_some_at, leaves, of_found}
+use Rattle.worker.specs.Tenures.{Adds}
+use Rattle.worker.proofs.ActorLemmas.{IsIn, after_tenure, is_some_at}
 use Rattle.worker.proofs.actor.Actor.look.Goals as goal
 
 pub invariant_of-self : goal.invariant_of-self

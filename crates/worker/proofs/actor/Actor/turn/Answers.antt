@@ -1,23 +1,17 @@
-use Rattle.std.proofs.Common.{rules, ◌≡◌, ◌<◌, ◌≤◌, ◌∷◌, ◌++◌, sym, subst, ap, ◌∙◌, ℕ, List, length, [], None, Some, IsTrue, false, refl}
-use Rattle.std.specs.Prelude.{IfOk, IfErr, IfSome, OnOk, OnErr, get_or}
+use Rattle.std.proofs.Common.{rules, ◌≡◌, ◌<◌, sym, subst, ap, ◌∙◌, ℕ, length, None, false}
+use Rattle.std.specs.Prelude.{IfOk, IfSome}
 use Rattle.std.specs.List.{list_any}
-use Rattle.std.proofs.lemmas.Result.{on_ok_weaker, on_err_weaker}
-use Rattle.hub.specs.declared.view.Entry.{Entry}
-use Rattle.hub.specs.Histories.{entry, NoneBy}
 use Rattle.hub.specs.Known.{Known}
 use Rattle.antichain.specs.Antichains.{SameElements}
 use Rattle.plan.specs.Changes.{has_passed}
 use Rattle.machine.specs.declared.histories.event.Event.{Event}
-use Rattle.machine.specs.declared.histories.event.Event.TheVariants.{Give, Look, Take, TakeHeld}
-use Rattle.machine.specs.Histories.{IsGive, IsLegal}
+use Rattle.machine.specs.declared.histories.event.Event.TheVariants.{Look, TakeHeld}
 use Rattle.machine.specs.Histories.Dataflows.{Dataflow}
 use Rattle.machine.specs.Histories.Outstanding.{input_frontier}
-use Rattle.machine.specs.Histories.Promises.{changes_in}
-use Rattle.machine.specs.Histories.States.{State, held_at, place, queue}
+use Rattle.machine.specs.Histories.States.{State, held_at}
 use Rattle.worker.specs.declared.doing.Doing.{Doing}
-use Rattle.worker.specs.Relays.{HasNoSmallBound}
-use Rattle.worker.specs.Tenures.{Adds, AreOn, SharedState, StandsFor, Terms, doing, events, left_by, state_found, state_left, terms_in, terms_of_board}
-use Rattle.worker.proofs.ActorLemmas.{IsIn, after_tenure, both_ok, both_some, at_board, give_found, hand_found, if_err_map, if_ok_map, if_some_map, is_some_at, leaves, of_found, terms_found}
+use Rattle.worker.specs.Tenures.{Adds, Terms, state_found, state_left, terms_in}
+use Rattle.worker.proofs.ActorLemmas.{IsIn, after_tenure, both_ok, both_some, at_board, hand_found, if_err_map, if_ok_map, if_some_map, is_some_at, leaves, of_found}
 use Rattle.worker.proofs.actor.Actor.turn.Goals as goal
 
 pub turn-answer-requires : goal.turn-answer-requires

@@ -1,4 +1,4 @@
-use Rattle.std.proofs.Common.{◌≡◌, List, ◌∷◌, sym, subst, ◌<◌}
+use Rattle.std.proofs.Common.{List, ◌∷◌, sym, subst, ◌<◌}
 use Rattle.hub.specs.declared.view.Entry.{Entry}
 use Rattle.hub.specs.Histories.{entry}
 use Rattle.worker.specs.declared.doing.Doing.{Doing}

@@ -1,9 +1,8 @@
-use Rattle.std.proofs.Common.{◌≡◌, List, ◌∷◌, sym, subst, ◌<◌, ◌∙◌, length, IsTrue}
-use Rattle.std.specs.Prelude.{IfOk, IfErr, OnOk, ◌↔◌, None}
+use Rattle.std.proofs.Common.{List, ◌∷◌, sym, subst, ◌<◌}
 use Rattle.hub.specs.declared.view.Entry.{Entry}
 use Rattle.hub.specs.Histories.{entry}
 use Rattle.worker.specs.declared.doing.Doing.{Doing}
-use Rattle.worker.specs.Tenures.{SharedState, StandsFor, doing, events, left_by, terms_of_board}
+use Rattle.worker.specs.Tenures.{SharedState, StandsFor, doing, terms_of_board}
 use Rattle.worker.proofs.SharedLemmas.{closed}
 use Rattle.worker.proofs.shared.SharedBoard.close.Goals as goal
 

@@ -1,4 +1,4 @@
-use Rattle.std.proofs.Common.{◌≡◌, List, ◌∷◌, sym, subst, ◌<◌, false}
+use Rattle.std.proofs.Common.{List, ◌∷◌, sym, subst, ◌<◌, false}
 use Rattle.hub.specs.declared.view.Entry.{Entry}
 use Rattle.hub.specs.Histories.{entry}
 use Rattle.machine.specs.Histories.States.{change_to}

@@ -1,7 +1,5 @@
-use Rattle.std.proofs.Common.{◌≡◌, ◌+◌, ap, sym, subst, ◌∙◌}
+use Rattle.std.proofs.Common.{◌≡◌, ◌+◌, sym, subst, ◌∙◌}
 use Rattle.std.proofs.lemmas.Bool.{eqb-true}
-use Rattle.plan.specs.declared.node.Node.{Node}
-use Rattle.std.specs.Prelude.{List}
 use Rattle.worker.specs.Tenures.{SharedState, terms_for, terms_of_board}
 use Rattle.worker.proofs.shared.SharedBoard.is_on.Goals as goal
 

@@ -1,5 +1,5 @@
-use Rattle.std.proofs.Common.{◌≡◌, List, ◌∷◌, sym, subst, ◌<◌, ◌∙◌, length, IsTrue}
-use Rattle.std.specs.Prelude.{IfOk, IfErr, OnOk, ◌↔◌, None}
+use Rattle.std.proofs.Common.{List, ◌∷◌, subst, IsTrue}
+use Rattle.std.specs.Prelude.{◌↔◌}
 use Rattle.hub.specs.declared.view.Entry.{Entry}
 use Rattle.hub.specs.Histories.{entry}
 use Rattle.worker.specs.declared.doing.Doing.{Doing}

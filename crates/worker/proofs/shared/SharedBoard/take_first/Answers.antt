@@ -1,9 +1,8 @@
-use Rattle.std.proofs.Common.{◌≡◌, List, ◌∷◌, ◌++◌, sym, subst, ◌<◌, ◌∙◌, ap, length, ℕ, IsTrue, false}
-use Rattle.std.specs.Prelude.{IfOk, IfErr, OnOk, ◌↔◌, None, Some}
+use Rattle.std.proofs.Common.{List, ◌∷◌, subst, ◌∙◌, ap}
 use Rattle.hub.specs.declared.view.Entry.{Entry}
 use Rattle.hub.specs.Histories.{entry}
 use Rattle.worker.specs.declared.doing.Doing.{Doing}
-use Rattle.worker.specs.Tenures.{SharedState, StandsFor, doing, events, left_by, terms_of_board}
+use Rattle.worker.specs.Tenures.{SharedState, StandsFor, doing, terms_of_board}
 use Rattle.machine.specs.declared.histories.event.Site.{Site}
 use Rattle.machine.specs.Boards.{after_look}
 use Rattle.worker.proofs.SharedLemmas.{looked, taken}

@@ -1,10 +1,10 @@
-use Rattle.std.proofs.Common.{◌≡◌, List, ◌∷◌, ◌++◌, sym, subst, ◌<◌, ◌∙◌, ap, length, ℕ, IsTrue, false}
-use Rattle.std.specs.Prelude.{IfOk, IfErr, OnOk, ◌↔◌, None, Some}
+use Rattle.std.proofs.Common.{◌≡◌, List, ◌∷◌, ◌++◌, subst, length, ℕ}
+use Rattle.std.specs.Prelude.{Some}
 use Rattle.hub.specs.declared.view.Entry.{Entry}
 use Rattle.hub.specs.Histories.{entry}
 use Rattle.worker.specs.declared.doing.Doing.{Doing}
 use Rattle.worker.specs.Relays.{HasNoSmallBound}
-use Rattle.worker.specs.Tenures.{SharedState, StandsFor, doing, events, left_by, terms_of_board}
+use Rattle.worker.specs.Tenures.{SharedState, StandsFor, doing, left_by, terms_of_board}
 use Rattle.std.proofs.Common.{◌||◌}
 use Rattle.machine.specs.Histories.Promises.{changes_in}
 use Rattle.worker.proofs.SharedLemmas.{told}

@@ -1,5 +1,4 @@
-use Rattle.std.proofs.Common.{◌≡◌, List, ◌∷◌, ◌++◌, sym, subst, ◌<◌, ◌∙◌, ap, length, ℕ, IsTrue, false}
-use Rattle.std.specs.Prelude.{IfOk, IfErr, OnOk, ◌↔◌, None, Some}
+use Rattle.std.proofs.Common.{◌≡◌, List, ◌∷◌, sym, subst, ◌∙◌, ap, IsTrue, false}
 use Rattle.hub.specs.declared.view.Entry.{Entry}
 use Rattle.hub.specs.Histories.{entry}
 use Rattle.worker.specs.declared.doing.Doing.{Doing}
