@@ -15,6 +15,8 @@
 #![tactic(auto)]
 
 #[cfg(test)]
+mod actor_tests;
+#[cfg(test)]
 mod antichain_tests;
 #[cfg(test)]
 mod batch_tests;

@@ -69,7 +69,7 @@ module _ {T : Type 0} where
 
   -- an event of anyone but the only client changes nothing of what clients change
   module _ (below : T → T → Bool) (p : Dataflow) (w : State T) where
-    not_by_others : (c by k actors : ℕ) → p.workers ≡ k → actors ≡ suc k → p.workers ≤ c → c ≡ by → by < actors → (by ≡ k → ⊥) → ⊥
+    pub not_by_others : (c by k actors : ℕ) → p.workers ≡ k → actors ≡ suc k → p.workers ≤ c → c ≡ by → by < actors → (by ≡ k → ⊥) → ⊥
     not_by_others c by k actors workers one client own there other = other (omega (arith, workers, one, client, own, there))
 
     client_apart : (k by actors : ℕ) (e : Event T) → p.workers ≡ k → actors ≡ suc k → actor_of e ≡ by → (IsTrue (is_change e) → by < actors) → (by ≡ k → ⊥) → IsAllowed below p w e → IsSameOfClients w (next_state below p w e)

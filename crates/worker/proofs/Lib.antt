@@ -39,3 +39,4 @@ pub mod SharedLemmas
 pub mod SharedReadingLemmas
 pub mod ActorLemmas
 pub mod ApartLemmas
+pub mod QuietLemmas

@@ -63,6 +63,7 @@ pub use laws::reducing::{
 };
 pub use laws::sharing::{
     gives_depend_on_their_worker, one_client_makes_all_changes, others_change_nothing_of_a_worker,
+    quiet_until_the_client_acts,
 };
 pub use laws::working::{
     clients_leave_it_ready, gives_at_one_node, inserts_at_one_node, joins_read_arranged_nodes,

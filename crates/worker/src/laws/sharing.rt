@@ -6,6 +6,7 @@ ghost use Rattle.machine.specs.declared.histories.event.Bundle.{Bundle};
 ghost use Rattle.machine.specs.declared.histories.event.Emission.{Emission};
 ghost use Rattle.machine.specs.Histories.Actors.{IsSameOfWorker, IsSameOfClients};
 ghost use Rattle.machine.specs.Histories.Dataflows.{Dataflow};
+ghost use Rattle.machine.specs.Histories.Readings.{IsQuiet};
 ghost use Rattle.machine.specs.Histories.States.{State};
 ghost use Rattle.machine.specs.Histories.{IsGive, IsLegal};
 ghost use Rattle.worker.specs.declared.doing.Doing.{Doing};
@@ -37,4 +38,16 @@ pub fn one_client_makes_all_changes<T: Minimum>()
 pub fn gives_depend_on_their_worker<T: Minimum>()
     ensures { (p : Dataflow) (w v : State T) (g : Emission T) (ts : List T) (sent : List (Bundle T))
         → IsSameOfWorker g.worker w v → IsGive T.below p w g ts sent → IsGive T.below p v g ts sent }
+{}
+
+/// If there is one client and it leaves a quiet board, then the board stays as it is until that client changes something:
+/// others can only look. So what the client knows of a quiet board holds on, whatever workers do.
+pub fn quiet_until_the_client_acts<T: Minimum>()
+    ensures { (t : Terms) → t.actors ≡ suc t.dataflow.workers
+        → (others seen : List (Entry (Doing T))) → NoneBy t.dataflow.workers others
+        → AreOn t (others ++ seen)
+        → IsLegal T.below T.least t.dataflow (events (others ++ seen))
+        → IsQuiet T.below t.dataflow (left_by T.below T.least t.dataflow seen)
+        → left_by T.below T.least t.dataflow (others ++ seen)
+        ≡ left_by T.below T.least t.dataflow seen }
 {}

@@ -1,0 +1,275 @@
+//! Actors at a hub: their calls succeed if there is memory, and a worker finds what a client did. The board is that of an
+//! input and a view of it, for one worker, whose number is 0, and one client, whose number is 1.
+ghost use Rattle.std.specs.Prelude.{◌≡◌, ◌∷◌, [], ℕ, None, IfOk};
+ghost use Rattle.plan.specs.declared.node.Node.TheVariants.{Input, Output};
+ghost use Rattle.hub.specs.Known.{Known};
+ghost use Rattle.machine.specs.declared.histories.event.Event.TheVariants.{Look};
+ghost use Rattle.worker.specs.declared.doing.Doing.{Doing};
+ghost use Rattle.worker.specs.Tenures.{Adds, IsActor, IsFirst, Terms, state_left, terms_for, terms_in};
+
+use crate::sketches::at;
+use lattice::{Bitime, Minimum};
+use machine::Bundle;
+use plan::{Node, NodeId, Plan, PlanBuilder};
+use row::Row;
+use std::alloc::Global;
+use std::marker::Model;
+use std::process::Abort;
+use std::sync::Wait;
+use std::test::Fail;
+use update::{Bag, Refusal, Update};
+use worker::{Actor, open, others_change_nothing_of_a_worker};
+
+// The plan of an input of one column and a view of it.
+fn viewed(alloc: Global) -> Result<Plan, Refusal>
+    ensures { IfOk result (λ plan. plan ≡ Input 1 ∷ Output 0 ∷ []) }
+{
+    let mut builder = PlanBuilder::new(alloc);
+    builder.add(Node::Input { width: 1 })?;
+    builder.add(Node::Output {
+        source: NodeId::new(0),
+    })?;
+    Ok(builder.finish())
+}
+
+// The client, who knows the plan.
+#[derive(Drop)]
+struct Client<T: Minimum> {
+    actor: Actor<T>,
+    ghost number: { actor.number ≡ 1 },
+    ghost knows: { terms_in actor.seen ≡ terms_for (Input 1 ∷ Output 0 ∷ []) 1 1 },
+}
+
+impl<T: Minimum> Client<T> {
+    // Feeds the row 7.
+    fn feed<R: Wait>(&mut self, rt: &R, alloc: Global, time: T) -> Result<(), Refusal> {
+        let update = Update {
+            time,
+            row: Row::new(alloc, &[7])?,
+            diff: 1,
+        };
+        self.actor.feed(rt, NodeId::new(0), update)
+    }
+
+    // Moves the frontier of the input to one time.
+    fn advance<R: Wait>(&mut self, rt: &R, alloc: Global, time: T) -> Result<(), Refusal> {
+        let mut times = Vec::new(alloc);
+        times.push(time)?;
+        self.actor.advance(rt, NodeId::new(0), times.into())
+    }
+
+    fn close<R: Wait>(&mut self, rt: &R) {
+        self.actor.close(rt, NodeId::new(0));
+    }
+
+    // Whether the view's frontier is just this time.
+    fn stands_at<R: Wait>(&mut self, rt: &R, time: T) -> Result<bool, Refusal> {
+        let frontier = self.actor.frontier(rt, NodeId::new(1))?;
+        Ok(frontier.len() == 1 && frontier.elements().first() == Some(&time))
+    }
+
+    fn read<R: Wait>(&mut self, rt: &R, time: T) -> Result<Bag, Refusal> {
+        self.actor.read(rt, NodeId::new(1), time)
+    }
+
+    fn changes<R: Wait>(&mut self, rt: &R) -> Result<Vec<Update<T>>, Refusal> {
+        self.actor.changes(rt, NodeId::new(1))
+    }
+
+    fn is_quiet<R: Wait>(&mut self, rt: &R) -> bool {
+        self.actor.is_quiet(rt)
+    }
+
+    fn is_too_large<R: Wait>(&mut self, rt: &R) -> bool {
+        self.actor.is_too_large(rt)
+    }
+}
+
+// A worker that has done nothing but look has nothing in hand. The function does nothing.
+fn looks_take_nothing_in_hand<T: Minimum>()
+    ensures first { (t : Terms) (k : ℕ) (a : Known (Doing T)) → IsFirst t k a → IsActor T.below T.least a
+        → (state_left T.below T.least a).hand a.number ≡ None }
+    ensures again { (a b : Known (Doing T)) → Adds a (Look a.number) b → IsActor T.below T.least b
+        → (state_left T.below T.least a).hand a.number ≡ None
+        → (state_left T.below T.least b).hand b.number ≡ None }
+{
+    others_change_nothing_of_a_worker::<T>();
+}
+
+// The worker, who knows the plan and has nothing in hand.
+#[derive(Drop)]
+struct Idle<T: Minimum> {
+    actor: Actor<T>,
+}
+
+impl<T: Minimum> Model for Idle<T> {
+    ghost use Rattle.std.specs.Prelude.{◌≡◌, ◌∷◌, [], None};
+    ghost use Rattle.plan.specs.declared.node.Node.TheVariants.{Input, Output};
+    ghost use Rattle.hub.specs.Known.{Known};
+    ghost use Rattle.worker.specs.declared.doing.Doing.{Doing};
+    ghost use Rattle.worker.specs.Tenures.{state_left, terms_for, terms_in};
+
+    ghost Value = { Known (Doing T) };
+
+    ghost view = { λ w. w.actor };
+
+    ghost invariant = { λ w. (w.actor.number ≡ 0)
+        × (terms_in w.actor.seen ≡ terms_for (Input 1 ∷ Output 0 ∷ []) 1 1)
+        × ((state_left T.below T.least w.actor).hand w.actor.number ≡ None) };
+}
+
+// What a worker finds: a bundle, which it has in hand from then on, or nothing.
+#[derive(Drop)]
+enum Found<T: Minimum> {
+    Something(Bundle<T>),
+    Nothing(Idle<T>),
+}
+
+impl<T: Minimum> Idle<T> {
+    // Takes the first bundle at the input.
+    fn take<R: Wait>(self, rt: &R) -> Result<Found<T>, Refusal> {
+        looks_take_nothing_in_hand::<T>();
+        let Idle { mut actor } = self;
+        match actor.take_first(rt, NodeId::new(0))? {
+            Some(bundle) => Ok(Found::Something(bundle)),
+            None => {
+                actor.known();
+                Ok(Found::Nothing(Idle { actor }))
+            }
+        }
+    }
+
+    // Turns to what it holds at the input. `None` if there is something to turn to.
+    fn turn<R: Wait>(self, rt: &R) -> Result<Option<Idle<T>>, Refusal> {
+        looks_take_nothing_in_hand::<T>();
+        let Idle { mut actor } = self;
+        if actor.turn(rt, NodeId::new(0))?.is_some() {
+            return Ok(None);
+        }
+        actor.known();
+        Ok(Some(Idle { actor }))
+    }
+}
+
+// Opens the board, and gives the worker and the client.
+fn opened<T: Minimum, R: Wait>(rt: &R, alloc: Global) -> Result<(Idle<T>, Client<T>), Refusal> {
+    looks_take_nothing_in_hand::<T>();
+    let mut actors = open(rt, alloc, &viewed(alloc)?, 1, 1)?;
+    let client = actors.pop().unwrap();
+    let worker = actors.pop().unwrap();
+    worker.known();
+    Ok((Idle { actor: worker }, Client { actor: client }))
+}
+
+// The client feeds a change and moves the input's frontier past it. Then it is too late for such a change.
+fn is_fed<T: Minimum, R: Wait + Abort>(
+    rt: &R,
+    alloc: Global,
+    client: &mut Client<T>,
+    start: T,
+    later: T,
+) -> Result<(), Refusal> {
+    match client.feed(rt, alloc, start) {
+        Err(Refusal::OutOfMemory) => client.feed(rt, alloc, start)?,
+        done => done?,
+    }
+    match client.advance(rt, alloc, later) {
+        Err(Refusal::OutOfMemory) => client.advance(rt, alloc, later)?,
+        done => done?,
+    }
+    let late = match client.feed(rt, alloc, start) {
+        Err(Refusal::OutOfMemory) => client.feed(rt, alloc, start),
+        done => done,
+    };
+    assert_eq!(rt; late, Err(Refusal::TimePassed));
+    Ok(())
+}
+
+// The worker has carried nothing on. So the view still stands at the first time, where nothing can be read, and there is
+// something left to do.
+fn is_answered<T: Minimum, R: Wait + Abort>(
+    rt: &R,
+    client: &mut Client<T>,
+    start: T,
+) -> Result<(), Refusal> {
+    let stands = match client.stands_at(rt, start) {
+        Err(Refusal::OutOfMemory) => client.stands_at(rt, start)?,
+        done => done?,
+    };
+    assert!(rt; stands);
+    let bag = match client.read(rt, start) {
+        Err(Refusal::OutOfMemory) => client.read(rt, start),
+        done => done,
+    };
+    assert!(rt; matches!(bag, Err(Refusal::NotPassed)));
+    let changes = match client.changes(rt) {
+        Err(Refusal::OutOfMemory) => client.changes(rt)?,
+        done => done?,
+    };
+    assert!(rt; changes.is_empty());
+    assert!(rt; !client.is_quiet(rt));
+    assert!(rt; !client.is_too_large(rt));
+    client.close(rt);
+    Ok(())
+}
+
+// A whole life of a client.
+fn is_served<T: Minimum, R: Wait + Abort>(
+    rt: &R,
+    alloc: Global,
+    start: T,
+    later: T,
+) -> Result<(), Refusal> {
+    let (_worker, mut client) = match opened(rt, alloc) {
+        Err(Refusal::OutOfMemory) => opened(rt, alloc)?,
+        done => done?,
+    };
+    is_fed(rt, alloc, &mut client, start, later)?;
+    is_answered(rt, &mut client, start)
+}
+
+// Each call may be refused for want of memory. No clause says that a call is not refused each time, or that it succeeds when
+// it is made again.
+#[test]
+fn actors_take_memory(rt: HostRuntime) -> Result<(), Fail> {
+    is_served(&rt, rt.alloc(), at((0, 0)), at((0, 1)))?;
+    Ok(())
+}
+
+// The worker finds nothing at the input until the client has fed a change.
+fn is_taken<T: Minimum, R: Wait + Abort>(
+    rt: &R,
+    alloc: Global,
+    time: T,
+) -> Result<Bundle<T>, Refusal> {
+    let (worker, mut client) = opened(rt, alloc)?;
+    let Found::Nothing(worker) = worker.take(rt)? else {
+        panic!(rt; "a bundle waits before the client fed anything")
+    };
+    let Some(worker) = worker.turn(rt)? else {
+        panic!(rt; "a time was passed before the worker held one")
+    };
+    client.feed(rt, alloc, time)?;
+    let Found::Something(bundle) = worker.take(rt)? else {
+        panic!(rt; "no bundle waits after the client fed a change")
+    };
+    Ok(bundle)
+}
+
+// The clauses tell what a worker takes from the history that it has seen. No clause says that this history has what the client
+// did: an actor that is refused each time meets its contract.
+#[test]
+fn a_worker_takes_what_a_client_fed(rt: HostRuntime) -> Result<(), Fail> {
+    let bundle = is_taken(&rt, rt.alloc(), at((0, 0)))?;
+    let place = bundle.place;
+    assert_eq!(rt; (place.node.number(), place.port, place.worker), (0, 0, 0));
+    let updates = bundle.updates.as_slice();
+    assert_eq!(rt; updates.len(), 1);
+    let Some(change) = updates.first() else {
+        panic!(rt; "there is one update")
+    };
+    assert!(rt; change.time == at((0, 0)) && change.diff == 1);
+    assert_eq!(rt; change.row.columns(), [7].as_slice());
+    assert!(rt; bundle.stamp.as_slice() == [at((0, 0))].as_slice());
+    Ok(())
+}
