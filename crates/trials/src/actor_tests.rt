@@ -8,6 +8,7 @@ ghost use Rattle.worker.specs.declared.doing.Doing.{Doing};
 ghost use Rattle.worker.specs.Tenures.{Adds, IsActor, IsFirst, Terms, state_left, terms_for, terms_in};
 
 use crate::sketches::at;
+use antichain::Antichain;
 use lattice::{Bitime, Minimum};
 use machine::Bundle;
 use plan::{Node, NodeId, Plan, PlanBuilder};
@@ -62,10 +63,8 @@ impl<T: Minimum> Client<T> {
         self.actor.close(rt, NodeId::new(0));
     }
 
-    // Whether the view's frontier is just this time.
-    fn stands_at<R: Wait>(&mut self, rt: &R, time: T) -> Result<bool, Refusal> {
-        let frontier = self.actor.frontier(rt, NodeId::new(1))?;
-        Ok(frontier.len() == 1 && frontier.elements().first() == Some(&time))
+    fn frontier<R: Wait>(&mut self, rt: &R) -> Result<Antichain<T>, Refusal> {
+        self.actor.frontier(rt, NodeId::new(1))
     }
 
     fn read<R: Wait>(&mut self, rt: &R, time: T) -> Result<Bag, Refusal> {
@@ -139,15 +138,10 @@ impl<T: Minimum> Idle<T> {
         }
     }
 
-    // Turns to what it holds at the input. `None` if there is something to turn to.
-    fn turn<R: Wait>(self, rt: &R) -> Result<Option<Idle<T>>, Refusal> {
-        looks_take_nothing_in_hand::<T>();
+    // Turns to what it holds at the input.
+    fn turn<R: Wait>(self, rt: &R) -> Result<Option<Antichain<T>>, Refusal> {
         let Idle { mut actor } = self;
-        if actor.turn(rt, NodeId::new(0))?.is_some() {
-            return Ok(None);
-        }
-        actor.known();
-        Ok(Some(Idle { actor }))
+        actor.turn(rt, NodeId::new(0))
     }
 }
 
@@ -185,18 +179,13 @@ fn is_fed<T: Minimum, R: Wait + Abort>(
     Ok(())
 }
 
-// The worker has carried nothing on. So the view still stands at the first time, where nothing can be read, and there is
-// something left to do.
+// The worker has carried nothing on. So nothing can be read yet, and there is something left to do. Answers the view's
+// frontier.
 fn is_answered<T: Minimum, R: Wait + Abort>(
     rt: &R,
     client: &mut Client<T>,
     start: T,
-) -> Result<(), Refusal> {
-    let stands = match client.stands_at(rt, start) {
-        Err(Refusal::OutOfMemory) => client.stands_at(rt, start)?,
-        done => done?,
-    };
-    assert!(rt; stands);
+) -> Result<Antichain<T>, Refusal> {
     let bag = match client.read(rt, start) {
         Err(Refusal::OutOfMemory) => client.read(rt, start),
         done => done,
@@ -209,17 +198,21 @@ fn is_answered<T: Minimum, R: Wait + Abort>(
     assert!(rt; changes.is_empty());
     assert!(rt; !client.is_quiet(rt));
     assert!(rt; !client.is_too_large(rt));
+    let frontier = match client.frontier(rt) {
+        Err(Refusal::OutOfMemory) => client.frontier(rt)?,
+        done => done?,
+    };
     client.close(rt);
-    Ok(())
+    Ok(frontier)
 }
 
-// A whole life of a client.
+// A whole life of a client. Answers the view's frontier, as it was before the client closed the input.
 fn is_served<T: Minimum, R: Wait + Abort>(
     rt: &R,
     alloc: Global,
     start: T,
     later: T,
-) -> Result<(), Refusal> {
+) -> Result<Antichain<T>, Refusal> {
     let (_worker, mut client) = match opened(rt, alloc) {
         Err(Refusal::OutOfMemory) => opened(rt, alloc)?,
         done => done?,
@@ -232,8 +225,15 @@ fn is_served<T: Minimum, R: Wait + Abort>(
 // it is made again.
 #[test]
 fn actors_take_memory(rt: HostRuntime) -> Result<(), Fail> {
-    is_served(&rt, rt.alloc(), at((0, 0)), at((0, 1)))?;
+    let frontier = is_served(&rt, rt.alloc(), at((0, 0)), at((0, 1)))?;
+    assert!(rt; frontier.elements() == [at((0, 0))].as_slice());
     Ok(())
+}
+
+// The worker holds nothing before it took something. So there is nothing to turn to.
+fn turned<T: Minimum, R: Wait>(rt: &R, alloc: Global) -> Result<Option<Antichain<T>>, Refusal> {
+    let (worker, _client) = opened(rt, alloc)?;
+    worker.turn(rt)
 }
 
 // The worker finds nothing at the input until the client has fed a change.
@@ -246,9 +246,6 @@ fn is_taken<T: Minimum, R: Wait + Abort>(
     let Found::Nothing(worker) = worker.take(rt)? else {
         panic!(rt; "a bundle waits before the client fed anything")
     };
-    let Some(worker) = worker.turn(rt)? else {
-        panic!(rt; "a time was passed before the worker held one")
-    };
     client.feed(rt, alloc, time)?;
     let Found::Something(bundle) = worker.take(rt)? else {
         panic!(rt; "no bundle waits after the client fed a change")
@@ -260,6 +257,8 @@ fn is_taken<T: Minimum, R: Wait + Abort>(
 // did: an actor that is refused each time meets its contract.
 #[test]
 fn a_worker_takes_what_a_client_fed(rt: HostRuntime) -> Result<(), Fail> {
+    let upper: Option<Antichain<Bitime>> = turned(&rt, rt.alloc())?;
+    assert!(rt; upper.is_none());
     let bundle = is_taken(&rt, rt.alloc(), at((0, 0)))?;
     let place = bundle.place;
     assert_eq!(rt; (place.node.number(), place.port, place.worker), (0, 0, 0));

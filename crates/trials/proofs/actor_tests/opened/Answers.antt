@@ -23,7 +23,7 @@ invariant_of-result g c =
     let f : c.pop.new.self.items ≡ c.pop-2.new.self.items ++ c.unwrap-worker.result ∷ [] = c.pop-2.ensures.items ∙ ap (λ o. c.pop-2.new.self.items ++ option_to_list o) c.unwrap-worker.ensures in
     let there = two_of _ _ _ c.unwrap-worker.result c.unwrap-client.result e f c.in_ok-actors.ensures.count in
     let first = subst (λ (p : List Node). IsFirst (terms_for p 1 1) 0 c.unwrap-worker.result) c.in_ok-viewed.ensures (c.in_ok-actors.ensures.each 0 c.unwrap-worker.result there.0) in
-    (first.numbered, (ap terms_in first.seen, c.looks_take_nothing_in_hand.ensures.first (terms_for (Input 1 ∷ Output 0 ∷ []) 1 1) 0 c.unwrap-worker.result first c.known.ensures))
+    (first.numbered, ap terms_in first.seen, c.looks_take_nothing_in_hand.ensures.first (terms_for (Input 1 ∷ Output 0 ∷ []) 1 1) 0 c.unwrap-worker.result first c.known.ensures)
 
 -- the client is the second
 pub invariant_of-result-2 : goal.invariant_of-result-2
