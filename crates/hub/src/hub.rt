@@ -35,7 +35,11 @@ impl<P: Protocol> Model for Pass<P> {
 
     ghost Value = { Known P.Event };
 
-    ghost view = { λ p. record { hub = p.seat.table_id; number = p.seat.me.0.number; seen = p.seat.me.0.seen } };
+    ghost view = { λ p. record {
+      hub = p.seat.table_id;
+      number = p.seat.me.0.number;
+      seen = p.seat.me.0.seen;
+    } };
 
     ghost invariant = { λ p. (p.seat.me.1 ≡ []) × (p.seat.me.0.away ≡ false) };
 }

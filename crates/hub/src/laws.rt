@@ -18,14 +18,18 @@ pub fn own_events_stay<E>()
 /// What agrees with a pass after a tenure agreed with it before, but for the event of that tenure. So over any two tenures of
 /// one pass, the later one finds a history that ends in the one that the earlier one left.
 pub fn agreeing_goes_on<S, E>()
-    ensures but_for_its_event { (p : Known E) → (t : Tenure S E) → (e : E) → (history : List (Entry E)) → IsTenureOf p t
+    ensures but_for_its_event { (p : Known E) → (t : Tenure S E) → (e : E)
+        → (history : List (Entry E)) → IsTenureOf p t
         → AgreesWith (pass_after t e) history → AgreesBut p e history }
-    ensures ends_in_the_earlier { (t later : Tenure S E) → (e : E) → (between : List (Tenure S E × E)) → (p : Known E)
-        → Leads (pass_after t e) between p → IsTenureOf p later → EndsIn later.found (seen_after t e) }
+    ensures ends_in_the_earlier { (t later : Tenure S E) → (e : E)
+        → (between : List (Tenure S E × E)) → (p : Known E)
+        → Leads (pass_after t e) between p → IsTenureOf p later
+        → EndsIn later.found (seen_after t e) }
 {}
 
 /// If no other pass made an event since a pass left, then its next tenure finds exactly what the pass had seen.
 pub fn nothing_between<S, E>()
-    ensures { (p : Known E) → (t : Tenure S E) → IsTenureOf p t → (since : List (Entry E)) → t.found ≡ since ++ p.seen
+    ensures { (p : Known E) → (t : Tenure S E) → IsTenureOf p t
+        → (since : List (Entry E)) → t.found ≡ since ++ p.seen
         → AllBy p.number since → t.found ≡ p.seen }
 {}

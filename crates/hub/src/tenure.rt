@@ -31,9 +31,15 @@ impl<'a, P: Protocol> Model for Held<'a, P> {
 
     ghost Value = { Tenure P.State P.Event };
 
-    ghost view = { λ h. record { state = h.state; hub = h.seat.table_id; number = h.seat.me.0.number; found = h.seat.me.0.seen } };
+    ghost view = { λ h. record {
+      state = h.state;
+      hub = h.seat.table_id;
+      number = h.seat.me.0.number;
+      found = h.seat.me.0.seen;
+    } };
 
-    ghost invariant = { λ h. (h.seat.table_id ≡ h.hub.now.table.shared.table_id) × (h.seat.me.1 ≡ (0, None) ∷ []) × (h.seat.me.0.away ≡ true) };
+    ghost invariant = { λ h. (h.seat.table_id ≡ h.hub.now.table.shared.table_id)
+        × (h.seat.me.1 ≡ (0, None) ∷ []) × (h.seat.me.0.away ≡ true) };
 }
 
 impl<P: Protocol> Hub<P> {
@@ -42,7 +48,8 @@ impl<P: Protocol> Hub<P> {
     /// One compare-exchange. Never waits and takes no memory.
     pub fn try_enter(&self, pass: Pass<P>) -> Result<Held<'_, P>, Pass<P>>
         requires { pass.hub ≡ hub_id self.now }
-        ensures found { MatchResult result (λ h. IsTenureOf pass h × P.stands h.state h.found) (λ p. p ≡ pass) }
+        ensures found { MatchResult result
+            (λ h. IsTenureOf pass h × P.stands h.state h.found) (λ p. p ≡ pass) }
     {
         let Pass { mut seat } = pass;
         let found = self
@@ -87,7 +94,9 @@ impl<'a, P: Protocol> Held<'a, P> {
 
     /// The state, to read and to write.
     pub fn state(&mut self) -> &mut P::State
-        ensures* writes_back { sem 𝓛 (Lends (the_row (record { mir = named 1; lft = [] }) P.row P.State.row P.Event.row P.Protocol) P.State.row self.entry result (λ w. record self.old { state = w })) }
+        ensures* writes_back { sem 𝓛 (Lends
+            (the_row (record { mir = named 1; lft = [] }) P.row P.State.row P.Event.row P.Protocol)
+            P.State.row self.entry result (λ w. record self.old { state = w })) }
         ensures value { result.now ≡ self.old.state }
     {
         &mut self.state

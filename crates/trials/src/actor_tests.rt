@@ -86,7 +86,8 @@ impl<T: Minimum> Client<T> {
 
 // A worker that has done nothing but look has nothing in hand. The function does nothing.
 fn looks_take_nothing_in_hand<T: Minimum>()
-    ensures first { (t : Terms) (k : ℕ) (a : Known (Doing T)) → IsFirst t k a → IsActor T.below T.least a
+    ensures first { (t : Terms) (k : ℕ) (a : Known (Doing T)) → IsFirst t k a
+        → IsActor T.below T.least a
         → (state_left T.below T.least a).hand a.number ≡ None }
     ensures again { (a b : Known (Doing T)) → Adds a (Look a.number) b → IsActor T.below T.least b
         → (state_left T.below T.least a).hand a.number ≡ None

@@ -59,7 +59,8 @@ fn open(alloc: Global, passes: usize) -> Result<(Hub<Counting>, Vec<Pass<Countin
 fn take_pass(hub: &Hub<Counting>, passes: &mut Vec<Pass<Counting>>) -> Pass<Counting>
     requires { (0 < length passes.old.items) × AreDealt (hub_id hub.now) passes.old.items }
     ensures pass { result.hub ≡ hub_id hub.now }
-    ensures passes { (length passes.new.items + 1 ≡ length passes.old.items) × AreDealt (hub_id hub.now) passes.new.items }
+    ensures passes { (length passes.new.items + 1 ≡ length passes.old.items)
+        × AreDealt (hub_id hub.now) passes.new.items }
 {
     passes.pop().unwrap()
 }

@@ -47,7 +47,7 @@ both_some None P Q R f h k = tt
 both_some (Some x) P Q R f h k = f x h k
 
 module _ {T : Type 0} where
-  -- whoever has seen an entry knows the terms of the board
+  -- an actor that has seen an entry knows the terms of the board
   knows_terms : (t : Terms) (others seen : List (Entry (Doing T))) → AreOn t (others ++ seen) → AreKnown seen → t ≡ terms_in seen
   knows_terms t [] [] on known = absurd known
   knows_terms t [] (e ∷ es) on known = sym on.0.terms

@@ -13,3 +13,4 @@ pub mod Desks
 pub mod Relays
 pub mod Openings
 pub mod Tenures
+pub mod Found

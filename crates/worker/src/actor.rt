@@ -19,6 +19,7 @@ ghost use Rattle.machine.specs.Histories.Outstanding.{frontier, input_frontier};
 ghost use Rattle.machine.specs.Histories.Promises.{changes_in};
 ghost use Rattle.machine.specs.Histories.Readings.{IsQuiet};
 ghost use Rattle.machine.specs.Histories.States.{change_to, held_at, place, queue};
+ghost use Rattle.worker.specs.Found.{AreDifferencesFound, IsChangesRefusalFound, IsReadRefusalFound, WasQuiet, WasTooLarge, changes_refusal_found, feed_refusal_found, frontier_found, input_frontier_found, query_found, read_refusal_found};
 ghost use Rattle.worker.specs.Relays.{HasNoSmallBound};
 ghost use Rattle.worker.specs.Tenures.{Adds, IsActor, IsFirst, terms_for, terms_in, state_found, state_left, feed_refusal_in, advance_refusal_in, read_refusal_in, changes_refusal_in, IsReadRefusalIn, IsChangesRefusalIn};
 
@@ -55,9 +56,11 @@ impl<T: Minimum> Model for Actor<T> {
 
     ghost Value = { Known (Doing T) };
 
-    ghost view = { λ a. unwrap_or a.pass (record { hub = hub_id (arc_value a.hub); number = a.number; seen = [] }) };
+    ghost view = { λ a. unwrap_or a.pass
+        (record { hub = hub_id (arc_value a.hub); number = a.number; seen = [] }) };
 
-    ghost invariant = { λ a. IsSomeAnd a.pass (λ p. (p.hub ≡ hub_id (arc_value a.hub)) × (p.number ≡ a.number)
+    ghost invariant = { λ a. IsSomeAnd a.pass (λ p.
+        (p.hub ≡ hub_id (arc_value a.hub)) × (p.number ≡ a.number)
         × IsActor T.below T.least p
         × ((n : ℕ) → a.accepted ≡ Some n → length (state_left T.below T.least p).fed ≡ n)) };
 }
@@ -77,7 +80,8 @@ impl<T: Minimum> Actor<T> {
         requires clients { clients ≤ 16 }
         requires actor { number < workers + clients }
         requires pass { pass ≡ record { hub = hub_id (arc_value hub); number = number; seen = [] } }
-        ensures first { IfOk result (λ actor. IsFirst (terms_for plan.now workers clients) number actor) }
+        ensures first { IfOk result (λ actor.
+            IsFirst (terms_for plan.now workers clients) number actor) }
         ensures hub { IfOk result (λ actor. actor.hub ≡ pass.hub) }
         ensures refused { IfErr result (λ refusal. refusal ≡ OutOfMemory) }
     {
@@ -123,12 +127,13 @@ impl<T: Minimum> Actor<T> {
     pub fn feed<R: Wait>(&mut self, rt: &R, input: NodeId, update: Update<T>) -> Result<(), Refusal>
         requires client { (terms_in self.old.seen).dataflow.workers ≤ self.old.number }
         requires input { IsInput (terms_in self.old.seen).dataflow input }
-        ensures fed { OnOk result (Adds self.old (Feed self.old.number (change_to input update)) self.new) }
+        ensures fed { OnOk result
+            (Adds self.old (Feed self.old.number (change_to input update)) self.new) }
         ensures unchanged { OnErr result (Adds self.old (Look self.old.number) self.new) }
         ensures accepted { OnOk result
-            (feed_refusal_in T.below (terms_in self.old.seen).dataflow (state_found T.below T.least self.new) (change_to input update) ≡ None) }
+            (feed_refusal_found T.below T.least self.old self.new (change_to input update) ≡ None) }
         ensures refused { IfErr result (IsRefusalBy
-            (feed_refusal_in T.below (terms_in self.old.seen).dataflow (state_found T.below T.least self.new) (change_to input update))) }
+            (feed_refusal_found T.below T.least self.old self.new (change_to input update))) }
     {
         let Some(pass) = self.pass.take() else {
             unreachable!()
@@ -151,11 +156,14 @@ impl<T: Minimum> Actor<T> {
     ) -> Result<(), Refusal>
         requires client { (terms_in self.old.seen).dataflow.workers ≤ self.old.number }
         requires input { IsInput (terms_in self.old.seen).dataflow input }
-        ensures advanced { OnOk result (Adds self.old (Advance self.old.number input times) self.new) }
+        ensures advanced { OnOk result
+            (Adds self.old (Advance self.old.number input times) self.new) }
         ensures unchanged { OnErr result (Adds self.old (Look self.old.number) self.new) }
-        ensures accepted { OnOk result (advance_refusal_in T.below (state_found T.below T.least self.new) input times ≡ None) }
+        ensures accepted { OnOk result
+            (advance_refusal_in T.below (state_found T.below T.least self.new) input times ≡ None) }
         ensures refused { IfErr result (λ refusal.
-            advance_refusal_in T.below (state_found T.below T.least self.new) input times ≡ Some refusal) }
+            advance_refusal_in T.below (state_found T.below T.least self.new) input times
+            ≡ Some refusal) }
     {
         let Some(pass) = self.pass.take() else {
             unreachable!()
@@ -188,7 +196,8 @@ impl<T: Minimum> Actor<T> {
     pub fn frontier<R: Wait>(&mut self, rt: &R, view: NodeId) -> Result<Antichain<T>, Refusal>
         requires within { view < length (terms_in self.old.seen).dataflow.nodes }
         ensures looked { Adds self.old (Look self.old.number) self.new }
-        ensures frontier { IfOk result (λ found. SameElements found (frontier T.below (terms_in self.old.seen).dataflow (state_found T.below T.least self.new) view)) }
+        ensures frontier { IfOk result (λ found.
+            SameElements found (frontier_found T.below T.least self.old self.new view)) }
         ensures refused { IfErr result (λ refusal. refusal ≡ OutOfMemory) }
     {
         let Some(pass) = self.pass.take() else {
@@ -208,11 +217,13 @@ impl<T: Minimum> Actor<T> {
         requires within { view < length (terms_in self.old.seen).dataflow.nodes }
         requires view { IsTrue (is_output (node_of (terms_in self.old.seen).dataflow view)) }
         ensures looked { Adds self.old (Look self.old.number) self.new }
-        ensures accepted { OnOk result (read_refusal_in T.below (terms_in self.old.seen).dataflow (state_found T.below T.least self.new) view t ≡ None) }
-        ensures refused { IfErr result (IsReadRefusalIn T.below (terms_in self.old.seen).dataflow (state_found T.below T.least self.new) view t) }
+        ensures accepted { OnOk result
+            (read_refusal_found T.below T.least self.old self.new view t ≡ None) }
+        ensures refused { IfErr result
+            (IsReadRefusalFound T.below T.least self.old self.new view t) }
         ensures bag { IfOk result IsBag }
         ensures query { IfOk result (λ bag. Alike bag
-            (query_at T.below (terms_in self.old.seen).dataflow.nodes (changes_in (state_found T.below T.least self.new)) view t)) }
+            (query_found T.below T.least self.old self.new view t)) }
     {
         let Some(pass) = self.pass.take() else {
             unreachable!()
@@ -230,10 +241,12 @@ impl<T: Minimum> Actor<T> {
         requires within { view < length (terms_in self.old.seen).dataflow.nodes }
         requires view { IsTrue (is_output (node_of (terms_in self.old.seen).dataflow view)) }
         ensures looked { Adds self.old (Look self.old.number) self.new }
-        ensures accepted { OnOk result (changes_refusal_in T.below T.least (state_found T.below T.least self.new) view ≡ None) }
-        ensures refused { IfErr result (IsChangesRefusalIn T.below T.least (terms_in self.old.seen).dataflow (state_found T.below T.least self.new) view) }
-        ensures differences { IfOk result (λ us. AreDifferences T.below T.cmp (terms_in self.old.seen).dataflow.nodes (changes_in (state_found T.below T.least self.new))
-            (frontier T.below (terms_in self.old.seen).dataflow (state_found T.below T.least self.new) view) view us.items) }
+        ensures accepted { OnOk result
+            (changes_refusal_found T.below T.least self.old self.new view ≡ None) }
+        ensures refused { IfErr result
+            (IsChangesRefusalFound T.below T.least self.old self.new view) }
+        ensures differences { IfOk result (λ us.
+            AreDifferencesFound T.below T.least self.old self.new T.cmp view us.items) }
     {
         let Some(pass) = self.pass.take() else {
             unreachable!()
@@ -249,7 +262,7 @@ impl<T: Minimum> Actor<T> {
     /// Whether the board is quiet. Takes no memory.
     pub fn is_quiet<R: Wait>(&mut self, rt: &R) -> bool
         ensures looked { Adds self.old (Look self.old.number) self.new }
-        ensures quiet { IsTrue result ↔ IsQuiet T.below (terms_in self.old.seen).dataflow (state_found T.below T.least self.new) }
+        ensures quiet { IsTrue result ↔ WasQuiet T.below T.least self.old self.new }
     {
         let Some(pass) = self.pass.take() else {
             unreachable!()
@@ -273,8 +286,10 @@ impl<T: Minimum> Actor<T> {
         requires free { (state_left T.below T.least self.old).hand self.old.number ≡ None }
         ensures taken { IfOk result (λ found. IfSome found (λ bundle. (bundle.place.node ≡ node)
             × (bundle.place.worker ≡ self.old.number) × Adds self.old (Take 0 bundle) self.new)) }
-        ensures none { IfOk result (λ found. found ≡ None → Adds self.old (Look self.old.number) self.new
-            × ((port : ℕ) → queue (place node port self.old.number) (state_found T.below T.least self.new).in_flight ≡ [])) }
+        ensures none { IfOk result (λ found. found ≡ None
+            → Adds self.old (Look self.old.number) self.new
+            × ((port : ℕ) → queue (place node port self.old.number)
+            (state_found T.below T.least self.new).in_flight ≡ [])) }
         ensures refused { IfErr result (λ refusal. (refusal ≡ OutOfMemory)
             × Adds self.old (Look self.old.number) self.new) }
     {
@@ -298,9 +313,11 @@ impl<T: Minimum> Actor<T> {
         requires free { (state_left T.below T.least self.old).hand self.old.number ≡ None }
         ensures turned { IfOk result (λ found. IfSome found (λ upper.
             Adds self.old (TakeHeld self.old.number node) self.new
-            × SameElements upper (input_frontier T.below (terms_in self.old.seen).dataflow (state_found T.below T.least self.new) node))) }
-        ensures none { IfOk result (λ found. found ≡ None → Adds self.old (Look self.old.number) self.new
-            × (list_any (has_passed T.below (input_frontier T.below (terms_in self.old.seen).dataflow (state_found T.below T.least self.new) node))
+            × SameElements upper (input_frontier_found T.below T.least self.old self.new node))) }
+        ensures none { IfOk result (λ found. found ≡ None
+            → Adds self.old (Look self.old.number) self.new
+            × (list_any (has_passed T.below
+            (input_frontier_found T.below T.least self.old self.new node))
             (held_at node self.old.number (state_found T.below T.least self.new).held) ≡ false)) }
         ensures refused { IfErr result (λ refusal. (refusal ≡ OutOfMemory)
             × Adds self.old (Look self.old.number) self.new) }
@@ -348,7 +365,8 @@ impl<T: Minimum> Actor<T> {
     /// A worker tells that a number is too large with the changes that it has seen. The others can see it, unless more changes
     /// were accepted meanwhile. Takes no memory.
     pub fn tell_too_large<R: Wait>(&mut self, rt: &R)
-        requires cause { HasNoSmallBound T.below T.cmp (terms_in self.old.seen).dataflow.nodes (changes_in (state_left T.below T.least self.old)) }
+        requires cause { HasNoSmallBound T.below T.cmp (terms_in self.old.seen).dataflow.nodes
+            (changes_in (state_left T.below T.least self.old)) }
         ensures looked { Adds self.old (Look self.old.number) self.new }
     {
         let Some(pass) = self.pass.take() else {
@@ -364,7 +382,7 @@ impl<T: Minimum> Actor<T> {
     /// Whether a worker told that a number is too large with the changes accepted so far. Takes no memory.
     pub fn is_too_large<R: Wait>(&mut self, rt: &R) -> bool
         ensures looked { Adds self.old (Look self.old.number) self.new }
-        ensures cause { IsTrue result → HasNoSmallBound T.below T.cmp (terms_in self.old.seen).dataflow.nodes (changes_in (state_found T.below T.least self.new)) }
+        ensures cause { IsTrue result → WasTooLarge T.below T.least self.old self.new T.cmp }
     {
         let Some(pass) = self.pass.take() else {
             unreachable!()

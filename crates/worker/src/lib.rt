@@ -22,7 +22,7 @@
 //! sharing say what an actor need not mind of the others.
 //!
 //! Who runs a plan calls [`Desk::open`] once and [`relay`] before each question, and cites [`clients_leave_it_ready`] for
-//! what clients do in between. The other names are for whoever writes another worker.
+//! what clients do in between. The other names are there to write another worker with.
 #![tactic(auto)]
 
 mod actor;

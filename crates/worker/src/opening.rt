@@ -30,9 +30,11 @@ pub fn open<T: Minimum, R: Wait>(
     requires workers { (1 ≤ workers) × (workers ≤ 16) }
     requires clients { clients ≤ 16 }
     ensures count { IfOk result (λ actors. length actors.items ≡ workers + clients) }
-    ensures each { IfOk result (λ actors. (k : ℕ) (a : Known (Doing T)) → slice_get actors.items k ≡ Some a
+    ensures each { IfOk result (λ actors. (k : ℕ) (a : Known (Doing T))
+        → slice_get actors.items k ≡ Some a
         → IsFirst (terms_for plan.now workers clients) k a) }
-    ensures one_hub { IfOk result (λ actors. (k j : ℕ) (a b : Known (Doing T)) → slice_get actors.items k ≡ Some a
+    ensures one_hub { IfOk result (λ actors. (k j : ℕ) (a b : Known (Doing T))
+        → slice_get actors.items k ≡ Some a
         → slice_get actors.items j ≡ Some b → a.hub ≡ b.hub) }
     ensures refused { IfErr result (λ refusal. refusal ≡ OutOfMemory) }
 {

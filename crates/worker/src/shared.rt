@@ -140,10 +140,12 @@ impl<T: Minimum> SharedBoard<T> {
         ensures stands { (es : List (Entry (Doing T))) → StandsFor T.below T.least T.cmp self.old es
             → StandsFor T.below T.least T.cmp self.new
             (entry client (doing (terms_of_board self.old) self.new.board.last) ∷ es) }
-        ensures accepted { (es : List (Entry (Doing T))) → StandsFor T.below T.least T.cmp self.old es
+        ensures accepted { (es : List (Entry (Doing T)))
+            → StandsFor T.below T.least T.cmp self.old es
             → OnOk result (feed_refusal_in T.below self.old.board.dataflow
             (left_by T.below T.least self.old.board.dataflow es) (change_to input update) ≡ None) }
-        ensures refused { (es : List (Entry (Doing T))) → StandsFor T.below T.least T.cmp self.old es
+        ensures refused { (es : List (Entry (Doing T)))
+            → StandsFor T.below T.least T.cmp self.old es
             → IfErr result (IsRefusalBy (feed_refusal_in T.below self.old.board.dataflow
             (left_by T.below T.least self.old.board.dataflow es) (change_to input update))) }
     {
@@ -165,10 +167,12 @@ impl<T: Minimum> SharedBoard<T> {
         ensures stands { (es : List (Entry (Doing T))) → StandsFor T.below T.least T.cmp self.old es
             → StandsFor T.below T.least T.cmp self.new
             (entry client (doing (terms_of_board self.old) self.new.board.last) ∷ es) }
-        ensures accepted { (es : List (Entry (Doing T))) → StandsFor T.below T.least T.cmp self.old es
+        ensures accepted { (es : List (Entry (Doing T)))
+            → StandsFor T.below T.least T.cmp self.old es
             → OnOk result (advance_refusal_in T.below
             (left_by T.below T.least self.old.board.dataflow es) input times ≡ None) }
-        ensures refused { (es : List (Entry (Doing T))) → StandsFor T.below T.least T.cmp self.old es
+        ensures refused { (es : List (Entry (Doing T)))
+            → StandsFor T.below T.least T.cmp self.old es
             → IfErr result (λ refusal. advance_refusal_in T.below
             (left_by T.below T.least self.old.board.dataflow es) input times ≡ Some refusal) }
     {
@@ -197,7 +201,8 @@ impl<T: Minimum> SharedBoard<T> {
         ensures stands { (es : List (Entry (Doing T))) → StandsFor T.below T.least T.cmp self.old es
             → StandsFor T.below T.least T.cmp self.new
             (entry client (doing (terms_of_board self.old) self.new.board.last) ∷ es) }
-        ensures frontier { (es : List (Entry (Doing T))) → StandsFor T.below T.least T.cmp self.old es
+        ensures frontier { (es : List (Entry (Doing T)))
+            → StandsFor T.below T.least T.cmp self.old es
             → IfOk result (λ found. SameElements found (frontier T.below self.old.board.dataflow
             (left_by T.below T.least self.old.board.dataflow es) view)) }
         ensures refused { IfErr result (λ refusal. refusal ≡ OutOfMemory) }
@@ -216,10 +221,12 @@ impl<T: Minimum> SharedBoard<T> {
         ensures stands { (es : List (Entry (Doing T))) → StandsFor T.below T.least T.cmp self.old es
             → StandsFor T.below T.least T.cmp self.new
             (entry client (doing (terms_of_board self.old) self.new.board.last) ∷ es) }
-        ensures accepted { (es : List (Entry (Doing T))) → StandsFor T.below T.least T.cmp self.old es
+        ensures accepted { (es : List (Entry (Doing T)))
+            → StandsFor T.below T.least T.cmp self.old es
             → OnOk result (read_refusal_in T.below self.old.board.dataflow
             (left_by T.below T.least self.old.board.dataflow es) view t ≡ None) }
-        ensures refused { (es : List (Entry (Doing T))) → StandsFor T.below T.least T.cmp self.old es
+        ensures refused { (es : List (Entry (Doing T)))
+            → StandsFor T.below T.least T.cmp self.old es
             → IfErr result (IsReadRefusalIn T.below self.old.board.dataflow
             (left_by T.below T.least self.old.board.dataflow es) view t) }
         ensures bag { IfOk result IsBag }
@@ -242,13 +249,16 @@ impl<T: Minimum> SharedBoard<T> {
         ensures stands { (es : List (Entry (Doing T))) → StandsFor T.below T.least T.cmp self.old es
             → StandsFor T.below T.least T.cmp self.new
             (entry client (doing (terms_of_board self.old) self.new.board.last) ∷ es) }
-        ensures accepted { (es : List (Entry (Doing T))) → StandsFor T.below T.least T.cmp self.old es
+        ensures accepted { (es : List (Entry (Doing T)))
+            → StandsFor T.below T.least T.cmp self.old es
             → OnOk result (changes_refusal_in T.below T.least
             (left_by T.below T.least self.old.board.dataflow es) view ≡ None) }
-        ensures refused { (es : List (Entry (Doing T))) → StandsFor T.below T.least T.cmp self.old es
+        ensures refused { (es : List (Entry (Doing T)))
+            → StandsFor T.below T.least T.cmp self.old es
             → IfErr result (IsChangesRefusalIn T.below T.least self.old.board.dataflow
             (left_by T.below T.least self.old.board.dataflow es) view) }
-        ensures differences { (es : List (Entry (Doing T))) → StandsFor T.below T.least T.cmp self.old es
+        ensures differences { (es : List (Entry (Doing T)))
+            → StandsFor T.below T.least T.cmp self.old es
             → IfOk result (λ us. AreDifferences T.below T.cmp self.old.board.dataflow.nodes
             (changes_in (left_by T.below T.least self.old.board.dataflow es))
             (frontier T.below self.old.board.dataflow
@@ -323,7 +333,8 @@ impl<T: Minimum> SharedBoard<T> {
             × ((es : List (Entry (Doing T))) → StandsFor T.below T.least T.cmp self.old es
             → list_any (has_passed T.below (input_frontier T.below self.old.board.dataflow
             (left_by T.below T.least self.old.board.dataflow es) node))
-            (held_at node worker (left_by T.below T.least self.old.board.dataflow es).held) ≡ false)) }
+            (held_at node worker
+            (left_by T.below T.least self.old.board.dataflow es).held) ≡ false)) }
         ensures refused { IfErr result (λ refusal. (refusal ≡ OutOfMemory)
             × (self.new.board.last ≡ Look worker)) }
         ensures stands { (es : List (Entry (Doing T))) → StandsFor T.below T.least T.cmp self.old es

@@ -37,7 +37,8 @@ pub fn one_client_makes_all_changes<T: Minimum>()
 /// A worker may give in each state that agrees with one in which it may give on all that is its own.
 pub fn gives_depend_on_their_worker<T: Minimum>()
     ensures { (p : Dataflow) (w v : State T) (g : Emission T) (ts : List T) (sent : List (Bundle T))
-        → IsSameOfWorker g.worker w v → IsGive T.below p w g ts sent → IsGive T.below p v g ts sent }
+        → IsSameOfWorker g.worker w v → IsGive T.below p w g ts sent
+        → IsGive T.below p v g ts sent }
 {}
 
 /// If there is one client and it leaves a quiet board, then the board stays as it is until that client changes something:
