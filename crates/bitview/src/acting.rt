@@ -13,6 +13,7 @@ use crate::command_line::Action;
 use grammar::{Fault, Script, parse};
 use script::{Out, RunFault, plain_script, put_all, run_script};
 use std::alloc::{AllocError, Global};
+use std::sync::Wait;
 
 /// Carries out the action on the file's bytes, or on `None` if the file was not read. The script's text, or for
 /// `check` the number of its nodes and commands, goes to the first output. One line about what went wrong goes
@@ -29,7 +30,8 @@ use std::alloc::{AllocError, Global};
 /// the lines before the one that asked for the number was written.
 ///
 /// Cost: that of parsing the script and of running it.
-pub fn act<W: Out, E: Out>(
+pub fn act<R: Wait, W: Out, E: Out>(
+    runtime: &R,
     alloc: Global,
     action: Action<'_>,
     bytes: Option<&[u8]>,
@@ -42,7 +44,7 @@ pub fn act<W: Out, E: Out>(
         (option_map (λ b. b.now) bytes.entry) result }
 {
     match bytes {
-        Some(bytes) => act_on(alloc, action, bytes, out, error),
+        Some(bytes) => act_on(runtime, alloc, action, bytes, out, error),
         None => {
             let file = action.file();
             tell(error, format!(in alloc; "cannot read {file}\n"));
@@ -52,7 +54,8 @@ pub fn act<W: Out, E: Out>(
 }
 
 // Parses the bytes of the file and carries out the action.
-fn act_on<W: Out, E: Out>(
+fn act_on<R: Wait, W: Out, E: Out>(
+    runtime: &R,
     alloc: Global,
     action: Action<'_>,
     bytes: &[u8],
@@ -65,13 +68,14 @@ fn act_on<W: Out, E: Out>(
         (Some bytes.now) result }
 {
     match parse(alloc, bytes) {
-        Ok(script) => carry_out(alloc, action, &script, out, error),
+        Ok(script) => carry_out(runtime, alloc, action, &script, out, error),
         Err(fault) => refuse(alloc, fault, error),
     }
 }
 
 // Carries out the action on a script.
-fn carry_out<W: Out, E: Out>(
+fn carry_out<R: Wait, W: Out, E: Out>(
+    runtime: &R,
     alloc: Global,
     action: Action<'_>,
     script: &Script,
@@ -83,14 +87,15 @@ fn carry_out<W: Out, E: Out>(
         (asked_text action.entry) (IsPartBeforeOverflow action.entry)
         script.now result }
 {
-    match write_asked(alloc, action, script, out) {
+    match write_asked(runtime, alloc, action, script, out) {
         Ok(()) => 0,
         Err(fault) => end(alloc, fault, error),
     }
 }
 
 // Writes the text that the action asks for.
-fn write_asked<W: Out>(
+fn write_asked<R: Wait, W: Out>(
+    runtime: &R,
     alloc: Global,
     action: Action<'_>,
     script: &Script,
@@ -106,7 +111,7 @@ fn write_asked<W: Out>(
         × IsPartBeforeOverflow action.entry script.now part × W.took out.old part 0 out.new) }
 {
     match action {
-        Action::Run { workers, .. } => run_script(alloc, script, workers, out),
+        Action::Run { workers, .. } => run_script(runtime, alloc, script, workers, out),
         Action::Plain { .. } => plain_script(alloc, script, out),
         Action::Check { .. } => write_size(alloc, script, out),
     }

@@ -22,6 +22,7 @@ use std::alloc::{AllocError, Global};
 use std::env::Env;
 use std::fs::Files;
 use std::process::ExitCode;
+use std::sync::Wait;
 use std::{env, fs, io, str};
 
 fn main(rt: HostRuntime) -> ExitCode {
@@ -68,7 +69,11 @@ fn slices<'a>(alloc: Global, given: &'a [String]) -> Result<Vec<&'a str>, AllocE
 }
 
 // Carries out what the arguments ask for, and returns the status.
-fn answer<R: Files + AllocGlobal + Print + Eprint>(rt: &R, alloc: Global, given: &[String]) -> u8 {
+fn answer<R: Files + AllocGlobal + Print + Eprint + Wait>(
+    rt: &R,
+    alloc: Global,
+    given: &[String],
+) -> u8 {
     match slices(alloc, given) {
         Ok(given) => parse_and_perform(rt, alloc, given.as_slice()),
         Err(_refused) => without_memory(rt),
@@ -76,7 +81,7 @@ fn answer<R: Files + AllocGlobal + Print + Eprint>(rt: &R, alloc: Global, given:
 }
 
 // Parses the arguments and performs their action.
-fn parse_and_perform<R: Files + AllocGlobal + Print + Eprint>(
+fn parse_and_perform<R: Files + AllocGlobal + Print + Eprint + Wait>(
     rt: &R,
     alloc: Global,
     given: &[&str],
@@ -88,7 +93,11 @@ fn parse_and_perform<R: Files + AllocGlobal + Print + Eprint>(
 }
 
 // Reads the file and acts on its bytes.
-fn perform<R: Files + AllocGlobal + Print + Eprint>(rt: &R, alloc: Global, action: Action<'_>) -> u8
+fn perform<R: Files + AllocGlobal + Print + Eprint + Wait>(
+    rt: &R,
+    alloc: Global,
+    action: Action<'_>,
+) -> u8
     requires { IsInRange action }
 {
     let mut out = Output {
@@ -96,8 +105,15 @@ fn perform<R: Files + AllocGlobal + Print + Eprint>(rt: &R, alloc: Global, actio
     };
     let mut error = MemoryOut::new(alloc);
     let status = match fs::read(rt, action.file()) {
-        Ok(bytes) => act(alloc, action, Some(bytes.as_slice()), &mut out, &mut error),
-        Err(_unread) => act(alloc, action, None, &mut out, &mut error),
+        Ok(bytes) => act(
+            rt,
+            alloc,
+            action,
+            Some(bytes.as_slice()),
+            &mut out,
+            &mut error,
+        ),
+        Err(_unread) => act(rt, alloc, action, None, &mut out, &mut error),
     };
     if let Ok(line) = str::from_utf8(error.bytes()) {
         let _printed = rt.eprint(line);

@@ -132,3 +132,11 @@ overflow_texts t s lines Took (Err f) e = λ ten. let met = e ten in (met.0, bou
 pub refusal_weaker : {A B : Type 0} → (A → B) → (r : Refusal) → IsMemoryOrOverflow A r → IsMemoryOrOverflow B r
 refusal_weaker h r (inl memory) = inl memory
 refusal_weaker h r (inr large) = inr (large.0, h large.1)
+
+-- a run by one worker is not refused for its number of workers
+not_a_run_end : (L : Type 0) (code : ℕ) → code ≡ 23 → IsRunEnd L (fault.Refused code) → ⊥
+not_a_run_end L code is (inl memory) = let one = sym is ∙ memory in absurd cc
+not_a_run_end L code is (inr large) = let ten = sym is ∙ large.0 in absurd cc
+
+pub not_for_workers : {X : Type 0} (L : Type 0) (r : Result X RunFault) → IfErr r (IsRunEnd L) → r ≡ Err (fault.Refused 23) → ⊥
+not_for_workers {X} L r e is = not_a_run_end L 23 refl (subst (λ (x : Result X RunFault). IfErr x (IsRunEnd L)) is e)

@@ -1,42 +1,47 @@
--- The board engine still serves a session after clients' events, and after its worker carried on what was in flight.
-use Rattle.std.proofs.Common.{◌≡◌, ℕ, ◌<◌, Bool, true, not, eqb, ltb-true, nat_lt, nat_le, unsigned_abs, List, [], ◌∷◌, ◌++◌, length, get_or, Option, Some, None, Result, Ok, Err, IsTrue, refl, sym, ◌∙◌, ap, subst, inl, inr, ◌⊎◌}
+-- The board engine still stands for a session after its client's events, whatever others did in between.
+use Rattle.std.proofs.Common.{◌≡◌, ℕ, suc, ◌++◌, ◌∷◌, ◌<◌, Bool, ltb-true, List, [], length, Option, Some, None, Result, Ok, Err, IsTrue, refl, sym, ◌∙◌, ap, subst, inl, inr, ◌⊎◌}
 use Rattle.std.specs.Cmp.{IsTotalOrder}
 use Rattle.std.specs.Prelude.{IfErr, OnOk, OnErr}
 use Rattle.std.specs.declared.cmp.Ordering.{Ordering}
 use Rattle.std.proofs.lemmas.Bool.{and_parts}
 use Rattle.std.proofs.lemmas.List.{length-map, length-set}
 use Rattle.std.proofs.lemmas.Result.{on_ok_weaker, on_err_weaker}
-use Rattle.std.proofs.Math.IntN.{pos}
-use Rattle.std.specs.Ordering.{int_eq}
-use Rattle.lattice.specs.Frontiers.{is_beyond, all_beyond}
+use Rattle.antichain.proofs.Lists.{contains_among}
+use Rattle.antichain.specs.Antichains.{SameElements, least}
 use Rattle.lattice.specs.Order.{PartialOrderLaws, LatticeLaws, ExtendsLaws}
-use Rattle.update.specs.Refusals.{IsRefusalBy, IsMemoryOrOverflow}
+use Rattle.update.specs.Refusals.{IsRefusalBy}
 use Rattle.update.specs.declared.refusal.Refusal.{Refusal}
-use Rattle.update.specs.declared.refusal.Refusal.TheVariants.{OutOfMemory, WrongWidth, ZeroWeight, WeightTooLarge, TimePassed, NotForward, InputFull}
+use Rattle.update.specs.declared.refusal.Refusal.TheVariants.{OutOfMemory}
 use Rattle.plan.specs.Bounds.{HasLargeBound}
-use Rattle.plan.specs.Widths.{width_of}
+use Rattle.plan.specs.Changes.{open_for}
 use Rattle.plan.specs.Rules.{first_refusal}
 use Rattle.plan.specs.declared.node.Node.{Node}
+use Rattle.hub.specs.Histories.{entry, NoneBy}
+use Rattle.hub.specs.Known.{Known}
+use Rattle.hub.specs.declared.view.Entry.{Entry}
 use Rattle.machine.specs.declared.histories.event.Event.{Event}
 use Rattle.machine.specs.declared.histories.event.Event.TheVariants.{Feed, Advance, Look}
 use Rattle.machine.specs.declared.histories.event.Fed.{Fed}
+use Rattle.machine.specs.Histories.Actors.{IsSameOfClients}
 use Rattle.machine.specs.Histories.Dataflows.{Dataflow, IsDataflow}
-use Rattle.machine.specs.Histories.{IsInput, state_after}
-use Rattle.machine.specs.Histories.States.{fed_to, open_at}
-use Rattle.machine.specs.Boards.Inputs.{first_inputs, front_at}
-use Rattle.machine.specs.Boards.Reads.{is_quiet_board}
-use Rattle.machine.specs.Boards as boards
-use Rattle.machine.specs.Boards.{BoardState, IsBoard, Stands, after_look, after_feed, after_advance}
-use Rattle.machine.proofs.BoardLemmas.FrontLemmas.{quiet_back}
+use Rattle.machine.specs.Histories.Outstanding.{frontier}
+use Rattle.machine.specs.Histories.Readings.{IsQuiet}
+use Rattle.machine.specs.Histories.{IsInput, IsLegal, initial_state, next_state}
+use Rattle.machine.specs.Histories.States.{State, fed_to, open_at}
+use Rattle.machine.specs.Boards.Inputs.{feed_faults, advance_faults}
 use Rattle.machine.proofs.BoardLemmas.OpenLemmas.{first_front, open_set}
 use Rattle.machine.proofs.HistoryLemmas.PlaceLemmas.{in_place_lem}
+use Rattle.machine.proofs.HistoryLemmas.QuietLemmas.{caught_up_lem}
 use Rattle.grammar.specs.Commands.{is_input_of}
-use Rattle.worker.specs.Desks.{DeskState}
-use Rattle.worker.specs.Relays.{HasNoSmallBound, IsRelayedFrom, IsRunning, IsStopped, is_of_client}
-use Rattle.worker.proofs.ClientLemmas.{client_keeps_running}
+use Rattle.worker.specs.declared.doing.Doing.{Doing}
+use Rattle.worker.specs.Found.{dataflow_of}
+use Rattle.worker.specs.Large.{HasNoSmallBound}
+use Rattle.worker.specs.Tenures.{Adds, AreKnown, AreOn, IsActor, IsFirst, Terms, doing, events, feed_refusal_in, advance_refusal_in, left_by, state_found, state_left, terms_for, terms_in}
+use Rattle.worker.proofs.ActorLemmas.{only_client}
+use Rattle.worker.proofs.QuietLemmas.{stays}
 use Rattle.script.specs.Engines.{IsTold}
 use Rattle.script.specs.Sessions.{Session, first_session, with_change, with_frontier, change_refusal, frontier_refusal}
-use Rattle.script.specs.Standing.{EngineState, IsReadyUnless, IsServing, StandsAs}
+use Rattle.script.specs.Standing.{HasSession, StandsAs}
 use Rattle.script.proofs.EveryBoundLemmas.{bound_of}
 
 -- puts an answer together from the cases that the command was accepted and refused
@@ -53,202 +58,161 @@ pub refused_by : {A : Type 0} (o : Option Refusal) (r : Result A Refusal) → If
 refused_by o (Ok x) h = h
 refused_by o (Err e) h = subst (λ (q : Option Refusal). IsRefusalBy q e) (sym h) refl
 
-module _ {T : Type 0} (below : T → T → Bool) (minimum : T) where
-  -- the board refuses a change if and only if the session does
-  pub same_change_refusal : (b : BoardState T) (s : Session T) (f : Fed T) → f.input < length b.dataflow.nodes → StandsAs below minimum b s → boards.feed_refusal below b f ≡ change_refusal below b.dataflow.nodes s f
-  same_change_refusal b s f within a = λ j. first_refusal ((not (eqb (length f.update.row) (width_of b.dataflow.nodes f.input)), WrongWidth)
-      ∷ (int_eq f.update.diff (pos 0), ZeroWeight)
-      ∷ (not (nat_le (unsigned_abs f.update.diff) 2147483647), WeightTooLarge)
-      ∷ (not (is_beyond below (front j) f.update.time), TimePassed)
-      ∷ (not (nat_lt (taken j) 1048576), InputFull)
-      ∷ [])
-    where
-      front : front_at f.input b.inputs ≡ front_at f.input s.inputs
-      front = a.stands.open_times f.input ∙ a.inputs f.input
-
-      taken : get_or b.accepted f.input 0 ≡ length (fed_to f.input s.fed)
-      taken = a.stands.accepted f.input within ∙ ap (λ (fs : List (Fed T)). length (fed_to f.input fs)) a.fed
-
-  -- the board refuses a frontier if and only if the session does
-  pub same_frontier_refusal : (b : BoardState T) (s : Session T) (i : ℕ) (ts : List T) → StandsAs below minimum b s → boards.advance_refusal below b i ts ≡ frontier_refusal below b.dataflow.nodes s i ts
-  same_frontier_refusal b s i ts a = ap (λ (front : List T). first_refusal ((not (all_beyond below front ts), NotForward) ∷ [])) (a.stands.open_times i ∙ a.inputs i)
-
-module _ {T : Type 0} (below : T → T → Bool) (joined : T → T → T) (minimum : T) where
-  -- c stands for each history of b extended by c's last event
-  abbrev pub ExtendsByLast : BoardState T → BoardState T → Type 0
-  ExtendsByLast b c = (h : List (Event T)) → Stands below minimum b h → Stands below minimum c (c.last ∷ h)
-
-  -- a worker that is ready at b is ready at c, one event later
-  abbrev pub StaysReady : BoardState T → BoardState T → DeskState T → Type 0
-  StaysReady b c d = (h : List (Event T)) → IsRunning below joined minimum b d 0 h → IsRunning below joined minimum c d 0 (c.last ∷ h)
-
-  -- the worker stays ready at events of a client
-  pub stays_ready : PartialOrderLaws below → (b c : BoardState T) → IsDataflow b.dataflow → (d : DeskState T) → c.dataflow ≡ b.dataflow → IsTrue (is_of_client c.last) → ExtendsByLast b c → StaysReady b c d
-  stays_ready o b c q d same client extends h run =
-      client_keeps_running below joined minimum o b c q d h c.last run same (extends h run.stands) client
-
-  -- keeps the engine's invariant
-  pub ready_later : (b c : BoardState T) (d : DeskState T) (o : Option Refusal) → StaysReady b c d → IsReadyUnless below joined minimum o b d → IsReadyUnless below joined minimum o c d
-  ready_later b c d None stays ready = (c.last ∷ ready.0, stays ready.0 ready.1)
-  ready_later b c d (Some refusal) stays ready = tt
-
-  -- ---- the session after a client's event
-
-  -- after a look, the engine serves the same session
-  serves_looked : (e : EngineState T) (c : BoardState T) (actor : ℕ) (s : Session T) → c ≡ after_look actor e.board → StaysReady e.board c e.desk → IsServing below joined minimum e s
-      → IsServing below joined minimum (record e { board = c }) s
-  serves_looked e c actor s same stays a =
-      subst (λ (d : BoardState T). StaysReady e.board d e.desk → IsServing below joined minimum (record e { board = d }) s) (sym same)
-      (λ stays.
-      let run = stays a.session.history a.running in
-      record {
-        going = a.going;
-        session = record { history = Look actor ∷ a.session.history; stands = run.stands; fed = a.session.fed; inputs = a.session.inputs; nodes = a.session.nodes; since = a.session.since };
-        running = run;
-      })
-      stays
-
-  -- after a feed, the engine serves the session with the change
-  serves_fed : (e : EngineState T) (c : BoardState T) (client : ℕ) (f : Fed T) (s : Session T) → c ≡ after_feed client f e.board → StaysReady e.board c e.desk → IsServing below joined minimum e s
-      → IsServing below joined minimum (record e { board = c }) (with_change f s)
-  serves_fed e c client f s same stays a =
-      subst (λ (d : BoardState T). StaysReady e.board d e.desk → IsServing below joined minimum (record e { board = d }) (with_change f s)) (sym same)
-      (λ stays.
-      let run = stays a.session.history a.running in
-      record {
-        going = a.going;
-        session = record { history = Feed client f ∷ a.session.history; stands = run.stands; fed = ap (λ (fs : List (Fed T)). f ∷ fs) a.session.fed; inputs = a.session.inputs; nodes = a.session.nodes; since = a.session.since };
-        running = run;
-      })
-      stays
-
-  -- after an advance, the engine serves the session with the new frontier
-  serves_advanced : (e : EngineState T) (c : BoardState T) (client i : ℕ) (ts : List T) (s : Session T) → i < length e.board.dataflow.nodes → c ≡ after_advance client i ts e.board → StaysReady e.board c e.desk
-      → IsServing below joined minimum e s → IsServing below joined minimum (record e { board = c }) (with_frontier i ts s)
-  serves_advanced e c client i ts s within same stays a =
-      subst (λ (d : BoardState T). StaysReady e.board d e.desk → IsServing below joined minimum (record e { board = d }) (with_frontier i ts s)) (sym same)
-      (λ stays.
-      let run = stays a.session.history a.running in
-      let old = a.session in
-      record {
-        going = a.going;
-        session = record {
-          history = Advance client i ts ∷ old.history;
-          stands = run.stands;
-          fed = old.fed;
-          inputs = λ j. sym (open_set s.inputs i ts (state_after below minimum e.board.dataflow old.history).open_times (subst (λ (n : ℕ). i < n) (sym old.nodes) within) (λ k. sym (old.inputs k)) j);
-          nodes = length-set s.inputs i ts ∙ old.nodes;
-          since = old.since;
-        };
-        running = run;
-      })
-      stays
-
-  -- a change is answered as the session says
-  pub change_answered : (e : EngineState T) (c : BoardState T) (client : ℕ) (f : Fed T) (s : Session T) (r : Result (Unit {0}) Refusal) → f.input < length e.board.dataflow.nodes
-      → OnOk r (c ≡ after_feed client f e.board) → OnOk r (boards.feed_refusal below e.board f ≡ None) → IfErr r (IsRefusalBy (boards.feed_refusal below e.board f)) → OnErr r (c ≡ after_look client e.board)
-      → StaysReady e.board c e.desk → IsServing below joined minimum e s
-      → IsTold (change_refusal below e.board.dataflow.nodes s f) (IsServing below joined minimum (record e { board = c }) (with_change f s)) (IsServing below joined minimum (record e { board = c }) s) r
-  change_answered e c client f s r within done accepted refused looks stays a =
-      let Accepted = IsServing below joined minimum (record e { board = c }) (with_change f s) in
-      let Stays = IsServing below joined minimum (record e { board = c }) s in
-      subst (λ (o : Option Refusal). IsTold o Accepted Stays r) (same_change_refusal below minimum e.board s f within a.session)
-      (answered (boards.feed_refusal below e.board f) Accepted Stays r
-      (on_ok_weaker r (λ is. serves_fed e c client f s is stays a) done) accepted refused
-      (on_err_weaker r (λ is. serves_looked e c client s is stays a) looks))
-
-  -- a new frontier is answered as the session says
-  pub frontier_answered : (e : EngineState T) (c : BoardState T) (client i : ℕ) (ts : List T) (s : Session T) (r : Result (Unit {0}) Refusal) → i < length e.board.dataflow.nodes
-      → OnOk r (c ≡ after_advance client i ts e.board) → OnOk r (boards.advance_refusal below e.board i ts ≡ None) → IfErr r (λ refusal. boards.advance_refusal below e.board i ts ≡ Some refusal) → OnErr r (c ≡ after_look client e.board)
-      → StaysReady e.board c e.desk → IsServing below joined minimum e s
-      → IsTold (frontier_refusal below e.board.dataflow.nodes s i ts) (IsServing below joined minimum (record e { board = c }) (with_frontier i ts s)) (IsServing below joined minimum (record e { board = c }) s) r
-  frontier_answered e c client i ts s r within done accepted refused looks stays a =
-      let Accepted = IsServing below joined minimum (record e { board = c }) (with_frontier i ts s) in
-      let Stays = IsServing below joined minimum (record e { board = c }) s in
-      subst (λ (o : Option Refusal). IsTold o Accepted Stays r) (same_frontier_refusal below minimum e.board s i ts a.session)
-      (answered (boards.advance_refusal below e.board i ts) Accepted Stays r
-      (on_ok_weaker r (λ is. serves_advanced e c client i ts s within is stays a) done) accepted (refused_by (boards.advance_refusal below e.board i ts) r refused)
-      (on_err_weaker r (λ is. serves_looked e c client s is stays a) looks))
-
-  -- ---- the worker's run
-
-  -- after its run, the worker is ready again
-  pub ready_relayed : (h : List (Event T)) (b c : BoardState T) (d : DeskState T) → IsRelayedFrom below joined minimum h b c d → IsReadyUnless below joined minimum None c d
-  ready_relayed h b c d on = (on.0 ++ h, on.1)
-
-  -- after the worker's run, the board is found quiet
-  pub quiet_relayed : PartialOrderLaws below → (h : List (Event T)) (b c : BoardState T) (d : DeskState T) → IsBoard c → IsRelayedFrom below joined minimum h b c d → is_quiet_board below c ≡ true
-  quiet_relayed o h b c d board on =
-      let stands = on.1.stands in
-      quiet_back below o minimum c board (on.0 ++ h) stands (in_place_lem c.dataflow board.dataflow below minimum (on.0 ++ h) stands.legal) on.3
-
-  -- the worker's run changes nothing for the session
-  pub serves_relayed : (b c : BoardState T) (d n : DeskState T) (o : Option Refusal) (s : Session T) → c.dataflow ≡ b.dataflow → (a : IsServing below joined minimum (record { board = b; desk = d; stopped = o }) s)
-      → IsRelayedFrom below joined minimum a.session.history b c n → IsServing below joined minimum (record { board = c; desk = n; stopped = o }) s
-  serves_relayed b c d n o s same a on = record {
-    going = a.going;
-    session = record {
-      history = on.0 ++ a.session.history;
-      stands = on.1.stands;
-      fed = on.2.fed ∙ a.session.fed;
-      inputs = λ i. ap (open_at i) on.2.open_times ∙ a.session.inputs i;
-      nodes = a.session.nodes ∙ ap (λ (p : Dataflow). length p.nodes) (sym same);
-      since = λ v. on.2.since v ∙ a.session.since v;
-    };
-    running = on.1;
-  }
-
-  -- a refusal that stopped the worker has its cause in the session
-  pub stopped_by_bound : {met : T → T → T} {cmp : T → T → Ordering} → PartialOrderLaws below → LatticeLaws below joined met → ExtendsLaws below cmp → IsTotalOrder cmp
-      → (b c : BoardState T) (s : Session T) (r : Refusal) → IsDataflow b.dataflow → (a : StandsAs below minimum b s) → IsStopped below minimum cmp a.history b c r
-      → IsMemoryOrOverflow (HasLargeBound below cmp b.dataflow.nodes (λ i. fed_to i s.fed)) r
-  stopped_by_bound {met} {cmp} o l x total b c s r q a stop = by stop.cause
-    where
-      by : IsMemoryOrOverflow (HasNoSmallBound below cmp b.dataflow.nodes (λ i. fed_to i (state_after below minimum b.dataflow a.history).fed)) r → IsMemoryOrOverflow (HasLargeBound below cmp b.dataflow.nodes (λ i. fed_to i s.fed)) r
-      by (inl memory) = inl memory
-      by (inr (large, many)) =
-          let bound = bound_of o l x total b.dataflow.nodes q.plan (λ i. fed_to i (state_after below minimum b.dataflow a.history).fed) many.0 in
-          inr (large, subst (λ (fs : List (Fed T)). HasLargeBound below cmp b.dataflow.nodes (λ i. fed_to i fs)) a.fed (many.0, bound.0, many.1, bound.1, many.2 bound.0 bound.1))
-
 -- an input of the plan is an input in the sense of the board
 pub input_there : (p : Dataflow) (input : ℕ) → IsTrue (is_input_of p.nodes input) → IsInput p input
 input_there p input h = let parts = and_parts _ _ h in (ltb-true _ _ parts.0, parts.1)
-
--- a change, accepted or not, keeps the dataflow, and is an event of a client
-pub dataflow_after_change : {T : Type 0} (b c : BoardState T) (client : ℕ) (f : Fed T) (r : Result (Unit {0}) Refusal) → OnOk r (c ≡ after_feed client f b) → OnErr r (c ≡ after_look client b) → c.dataflow ≡ b.dataflow
-dataflow_after_change {T} b c client f (Ok x) done looks = ap (λ (z : BoardState T). z.dataflow) done
-dataflow_after_change {T} b c client f (Err r) done looks = ap (λ (z : BoardState T). z.dataflow) looks
-
-pub client_after_change : {T : Type 0} (b c : BoardState T) (client : ℕ) (f : Fed T) (r : Result (Unit {0}) Refusal) → OnOk r (c ≡ after_feed client f b) → OnErr r (c ≡ after_look client b) → IsTrue (is_of_client c.last)
-client_after_change {T} b c client f (Ok x) done looks = ap (λ (z : BoardState T). is_of_client z.last) done
-client_after_change {T} b c client f (Err r) done looks = ap (λ (z : BoardState T). is_of_client z.last) looks
-
--- so is a new frontier
-pub dataflow_after_frontier : {T : Type 0} (b c : BoardState T) (client i : ℕ) (ts : List T) (r : Result (Unit {0}) Refusal) → OnOk r (c ≡ after_advance client i ts b) → OnErr r (c ≡ after_look client b) → c.dataflow ≡ b.dataflow
-dataflow_after_frontier {T} b c client i ts (Ok x) done looks = ap (λ (z : BoardState T). z.dataflow) done
-dataflow_after_frontier {T} b c client i ts (Err r) done looks = ap (λ (z : BoardState T). z.dataflow) looks
-
-pub client_after_frontier : {T : Type 0} (b c : BoardState T) (client i : ℕ) (ts : List T) (r : Result (Unit {0}) Refusal) → OnOk r (c ≡ after_advance client i ts b) → OnErr r (c ≡ after_look client b) → IsTrue (is_of_client c.last)
-client_after_frontier {T} b c client i ts (Ok x) done looks = ap (λ (z : BoardState T). is_of_client z.last) done
-client_after_frontier {T} b c client i ts (Err r) done looks = ap (λ (z : BoardState T). is_of_client z.last) looks
 
 -- an option that has no value is none
 pub none_from : {A : Type 0} (o : Option A) → ((x : A) → o ≡ Some x → ⊥) → o ≡ None
 none_from None none = refl
 none_from (Some x) none = absurd (none x refl)
 
--- before the first command the engine serves the first session
-pub serves_first : {T : Type 0} (below : T → T → Bool) (joined : T → T → T) (minimum : T) (nodes : List Node) (b : BoardState T) (d : DeskState T) → b.dataflow ≡ record { nodes = nodes; workers = 1 } → IsRunning below joined minimum b d 0 []
-    → IsServing below joined minimum (record { board = b; desk = d; stopped = None }) (first_session minimum nodes)
-serves_first {T} below joined minimum nodes b d flow run = record {
-  going = refl;
-  session = record {
-    history = [];
-    stands = run.stands;
-    fed = refl;
-    inputs = λ i. subst (λ (p : Dataflow). open_at i (state_after below minimum p []).open_times ≡ front_at i (first_inputs minimum nodes)) (sym flow) (sym (first_front minimum nodes i));
-    nodes = length-map nodes _ ∙ ap (λ (p : Dataflow). length p.nodes) (sym flow);
-    since = λ v. refl;
-  };
-  running = run;
-}
+-- ---- a tenure of the only client
+
+module _ {T : Type 0} (below : T → T → Bool) (minimum : T) (o : PartialOrderLaws below) where
+  -- what a tenure of the only client is: nobody else changed what clients change, and a quiet board has stayed as it was
+  pub record IsClientStep (old new : Known (Doing T)) (event : Event T) : Type 0 where
+    pub number : new.number ≡ old.number
+    pub terms : terms_in new.seen ≡ terms_in old.seen
+    pub clients : IsSameOfClients (state_left below minimum old) (state_found below minimum new)
+    pub quiet : IsQuiet below (dataflow_of old) (state_left below minimum old) → state_found below minimum new ≡ state_left below minimum old
+    pub left : state_left below minimum new ≡ next_state below (dataflow_of old) (state_found below minimum new) event
+    pub dataflow : IsDataflow (dataflow_of old)
+    pub caught : (v : ℕ) → IsQuiet below (dataflow_of old) (state_found below minimum new)
+        → SameElements (frontier below (dataflow_of old) (state_found below minimum new) v) (least below (open_for below (dataflow_of old).nodes (λ i. open_at i (state_found below minimum new).open_times) v))
+
+  pub client_step : (old new : Known (Doing T)) (event : Event T) → old.number ≡ (dataflow_of old).workers → (terms_in old.seen).actors ≡ suc (dataflow_of old).workers → IsActor below minimum new → Adds old event new → IsClientStep old new event
+  client_step old new event number one actor adds = subst (λ k. IsClientStep old k event) (sym adds.new_is) (made (subst (IsActor below minimum) adds.new_is actor))
+    where
+      after : Known (Doing T)
+      after = record { hub = old.hub; number = old.number; seen = entry old.number (doing (terms_in old.seen) event) ∷ (adds.others ++ old.seen) }
+
+      made : IsActor below minimum after → IsClientStep old after event
+      made actor =
+          let t = terms_in old.seen in
+          let p = dataflow_of old in
+          let w = left_by below minimum p (adds.others ++ old.seen) in
+          let apart = subst (λ n. NoneBy n adds.others) number adds.apart in
+          record {
+            number = refl;
+            terms = refl;
+            clients = only_client below minimum p t p.workers adds.others old.seen refl one apart actor.known.1 actor.legal.1;
+            quiet = λ quiet. stays below minimum p t p.workers adds.others old.seen refl one apart actor.known.1 actor.legal.1 quiet;
+            left = refl;
+            dataflow = actor.dataflow;
+            caught = λ v quiet. caught_up_lem below o p actor.dataflow w v (λ x m. (in_place_lem p actor.dataflow below minimum (events (adds.others ++ old.seen)) actor.legal.1).inputs x (contains_among x w.open_times m)) quiet;
+          }
+
+  -- what was found has the session of what the client left
+  pub session_found : (p : Dataflow) (w v : State T) (s : Session T) → IsSameOfClients w v → HasSession p w s → HasSession p v s
+  session_found p w v s same a = record {
+    fed = same.fed ∙ a.fed;
+    inputs = λ i. ap (open_at i) same.open_times ∙ a.inputs i;
+    nodes = a.nodes;
+    since = λ v. same.since v ∙ a.since v;
+  }
+
+  -- the engine's dataflow and what its client left, after a tenure
+  stood : (old new : Known (Doing T)) (event : Event T) (s : Session T) → IsClientStep old new event → HasSession (dataflow_of old) (next_state below (dataflow_of old) (state_found below minimum new) event) s → StandsAs below minimum new s
+  stood old new event s step a =
+      subst (λ p. HasSession p (state_left below minimum new) s) (sym (ap (λ (t : Terms). t.dataflow) step.terms)) (subst (λ w. HasSession (dataflow_of old) w s) (sym step.left) a)
+
+  pub after_looked : (old new : Known (Doing T)) (actor : ℕ) (s : Session T) → IsClientStep old new (Look actor) → StandsAs below minimum old s → StandsAs below minimum new s
+  after_looked old new actor s step a = stood old new (Look actor) s step (session_found (dataflow_of old) (state_left below minimum old) (state_found below minimum new) s step.clients a)
+
+  pub after_fed : (old new : Known (Doing T)) (client : ℕ) (f : Fed T) (s : Session T) → IsClientStep old new (Feed client f) → StandsAs below minimum old s → StandsAs below minimum new (with_change f s)
+  after_fed old new client f s step a =
+      let b = session_found (dataflow_of old) (state_left below minimum old) (state_found below minimum new) s step.clients a in
+      stood old new (Feed client f) (with_change f s) step (record { fed = ap (λ (fs : List (Fed T)). f ∷ fs) b.fed; inputs = b.inputs; nodes = b.nodes; since = b.since })
+
+  pub after_advanced : (old new : Known (Doing T)) (client i : ℕ) (ts : List T) (s : Session T) → i < length (dataflow_of old).nodes → IsClientStep old new (Advance client i ts) → StandsAs below minimum old s → StandsAs below minimum new (with_frontier i ts s)
+  after_advanced old new client i ts s within step a =
+      let b = session_found (dataflow_of old) (state_left below minimum old) (state_found below minimum new) s step.clients a in
+      stood old new (Advance client i ts) (with_frontier i ts s) step (record {
+        fed = b.fed;
+        inputs = λ j. sym (open_set s.inputs i ts (state_found below minimum new).open_times (subst (λ (n : ℕ). i < n) (sym b.nodes) within) (λ k. sym (b.inputs k)) j);
+        nodes = length-set s.inputs i ts ∙ b.nodes;
+        since = b.since;
+      })
+
+  -- ---- commands that change an input
+
+  same_change_refusal : (p : Dataflow) (w : State T) (s : Session T) (f : Fed T) → HasSession p w s → feed_refusal_in below p w f ≡ change_refusal below p.nodes s f
+  same_change_refusal p w s f a = λ j. first_refusal (feed_faults below p.nodes (a.inputs f.input j) (length (fed_to f.input (a.fed j))) f)
+
+  same_frontier_refusal : (p : Dataflow) (w : State T) (s : Session T) (i : ℕ) (ts : List T) → HasSession p w s → advance_refusal_in below w i ts ≡ frontier_refusal below p.nodes s i ts
+  same_frontier_refusal p w s i ts a = λ j. first_refusal (advance_faults below (a.inputs i j) ts)
+
+  module _ (old new : Known (Doing T)) (number : old.number ≡ (dataflow_of old).workers) (one : (terms_in old.seen).actors ≡ suc (dataflow_of old).workers) (actor : IsActor below minimum new) (s : Session T) (r : Result (Unit {0}) Refusal) (a : StandsAs below minimum old s) where
+    abbrev p : Dataflow
+    p = dataflow_of old
+
+    -- what a refused command leaves
+    unchanged : OnErr r (Adds old (Look old.number) new) → OnErr r (StandsAs below minimum new s)
+    unchanged looks = on_err_weaker r (λ adds. after_looked old new old.number s (client_step old new (Look old.number) number one actor adds) a) looks
+
+    some_step : (event : Event T) → OnOk r (Adds old event new) → OnErr r (Adds old (Look old.number) new) → HasSession p (state_found below minimum new) s
+    some_step event done looks = step r done looks
+      where
+        step : (r : Result (Unit {0}) Refusal) → OnOk r (Adds old event new) → OnErr r (Adds old (Look old.number) new) → HasSession p (state_found below minimum new) s
+        step (Ok x) done looks = session_found p (state_left below minimum old) (state_found below minimum new) s (client_step old new event number one actor done).clients a
+        step (Err e) done looks = session_found p (state_left below minimum old) (state_found below minimum new) s (client_step old new (Look old.number) number one actor looks).clients a
+
+    -- a change is answered as the session says
+    pub change_answered : (f : Fed T) → OnOk r (Adds old (Feed old.number f) new) → OnOk r (feed_refusal_in below p (state_found below minimum new) f ≡ None) → IfErr r (IsRefusalBy (feed_refusal_in below p (state_found below minimum new) f)) → OnErr r (Adds old (Look old.number) new)
+        → IsTold (change_refusal below p.nodes s f) (StandsAs below minimum new (with_change f s)) (StandsAs below minimum new s) r
+    change_answered f done accepted refused looks =
+        let Accepted = StandsAs below minimum new (with_change f s) in
+        let Stays = StandsAs below minimum new s in
+        subst (λ (o : Option Refusal). IsTold o Accepted Stays r) (same_change_refusal p (state_found below minimum new) s f (some_step (Feed old.number f) done looks))
+        (answered (feed_refusal_in below p (state_found below minimum new) f) Accepted Stays r
+        (on_ok_weaker r (λ adds. after_fed old new old.number f s (client_step old new (Feed old.number f) number one actor adds) a) done) accepted refused (unchanged looks))
+
+    -- a new frontier is answered as the session says
+    pub frontier_answered : (i : ℕ) (ts : List T) → i < length p.nodes → OnOk r (Adds old (Advance old.number i ts) new) → OnOk r (advance_refusal_in below (state_found below minimum new) i ts ≡ None) → IfErr r (λ refusal. advance_refusal_in below (state_found below minimum new) i ts ≡ Some refusal)
+        → OnErr r (Adds old (Look old.number) new) → IsTold (frontier_refusal below p.nodes s i ts) (StandsAs below minimum new (with_frontier i ts s)) (StandsAs below minimum new s) r
+    frontier_answered i ts within done accepted refused looks =
+        let Accepted = StandsAs below minimum new (with_frontier i ts s) in
+        let Stays = StandsAs below minimum new s in
+        subst (λ (o : Option Refusal). IsTold o Accepted Stays r) (same_frontier_refusal p (state_found below minimum new) s i ts (some_step (Advance old.number i ts) done looks))
+        (answered (advance_refusal_in below (state_found below minimum new) i ts) Accepted Stays r
+        (on_ok_weaker r (λ adds. after_advanced old new old.number i ts s within (client_step old new (Advance old.number i ts) number one actor adds) a) done) accepted
+        (refused_by (advance_refusal_in below (state_found below minimum new) i ts) r refused) (unchanged looks))
+
+  -- ---- before the first command
+
+  -- the client's first look finds nothing but what the worker did
+  pub first_stands : (nodes : List Node) (k : Known (Doing T)) → IsActor below minimum k → IsFirst (terms_for nodes 1 1) 1 k → StandsAs below minimum k (first_session minimum nodes)
+  first_stands nodes k actor first = subst (λ (es : List (Entry (Doing T))). HasSession (terms_in es).dataflow (left_by below minimum (terms_in es).dataflow es) (first_session minimum nodes)) (sym first.seen)
+      (session_found p (initial_state below minimum p) (left_by below minimum p first.others) (first_session minimum nodes) same (record {
+        fed = refl;
+        inputs = λ i. sym (first_front minimum nodes i);
+        nodes = length-map nodes _;
+        since = λ v. refl;
+      }))
+    where
+      t : Terms
+      t = terms_for nodes 1 1
+
+      p : Dataflow
+      p = t.dataflow
+
+      known : AreKnown (entry 1 (doing t (Look 1)) ∷ first.others)
+      known = subst AreKnown first.seen actor.known
+
+      legal : IsLegal below minimum p (Look 1 ∷ events first.others)
+      legal = subst (λ (es : List (Entry (Doing T))). IsLegal below minimum (terms_in es).dataflow (events es)) first.seen actor.legal
+
+      none : first.others ++ [] ≡ first.others
+      none = Rattle.std.proofs.lemmas.List.append-nil first.others
+
+      same : IsSameOfClients (initial_state below minimum p) (left_by below minimum p first.others)
+      same = subst (λ es. IsSameOfClients (initial_state below minimum p) (left_by below minimum p es)) none
+          (only_client below minimum p t 1 first.others [] refl refl first.apart (subst (AreOn t) (sym none) known.1) (subst (λ es. IsLegal below minimum p (events es)) (sym none) legal.1))
+
+-- a number that is too large has its cause in the session
+pub large_session : {T : Type 0} {below : T → T → Bool} {joined met : T → T → T} {cmp : T → T → Ordering} → PartialOrderLaws below → LatticeLaws below joined met → ExtendsLaws below cmp → IsTotalOrder cmp
+    → (p : Dataflow) (w : State T) (s : Session T) → IsDataflow p → HasSession p w s → HasNoSmallBound below cmp p.nodes (λ i. fed_to i w.fed) → HasLargeBound below cmp p.nodes (λ i. fed_to i s.fed)
+large_session {T} {below} {joined} {met} {cmp} o l x total p w s q a many =
+    let bound = bound_of o l x total p.nodes q.plan (λ i. fed_to i w.fed) many.0 in
+    subst (λ (fs : List (Fed T)). HasLargeBound below cmp p.nodes (λ i. fed_to i fs)) a.fed (many.0, bound.0, many.1, bound.1, many.2 bound.0 bound.1)

@@ -1,117 +1,193 @@
-//! The board engine: a board with one worker that runs on the caller's thread. Commands go to the board at
-//! once, as events of its only client. The worker carries on what is in flight only before a question is
-//! answered.
-ghost use Rattle.std.specs.Prelude.{◌≡◌, true, IfErr, IfOk, OnOk};
+//! The board engine: a board that one client and one worker reach through a hub, on the caller's thread. Commands are events
+//! of the client. The worker carries on what is in flight only before a question is answered.
+//!
+//! The engine stands for a session by what its client has seen. The client is the only one who changes inputs, so whatever
+//! others did since its last event, the changes, the inputs' frontiers and the sinces are as it left them. Once it has found the
+//! board quiet, the board stays so until it acts. So the worker does not occur in what a question's answer rests on.
+ghost use Rattle.std.specs.Prelude.{◌≡◌, ◌++◌, ◌∷◌, [], true, Some, IfErr, IfOk, OnOk, length};
 ghost use Rattle.update.specs.declared.refusal.Refusal.TheVariants.{OutOfMemory};
-ghost use Rattle.machine.specs.Boards.Reads.{is_quiet_board};
-ghost use Rattle.script.specs.Standing.{Serves};
+ghost use Rattle.machine.specs.Histories.Readings.{IsQuiet};
+ghost use Rattle.worker.specs.Found.{dataflow_of};
+ghost use Rattle.worker.specs.Tenures.{IsFirst, state_left, terms_for};
+ghost use Rattle.script.specs.Standing.{StandsAs};
 ghost use Rattle.script.specs.Text.{BitemporalSession, opening_session};
 ghost use Rattle.lattice.specs.Bitimes.{bitime_below};
-ghost use Rattle.script.specs.Bounds.{EndsByBound};
+ghost use Rattle.lattice.specs.Pairs.{make_pair};
+ghost use Rattle.script.specs.Bounds.{EndsByBound, IsLarge};
 
 use crate::engine::{CatchUp, Engine};
 use antichain::Antichain;
 use lattice::Bitime;
-use machine::{Board, Routing};
+use machine::Routing;
 use plan::{NodeId, Plan};
 use std::alloc::Global;
 use std::marker::Model;
+use std::sync::Wait;
 use update::{Bag, Refusal, Times, Update, Updates};
-use worker::{Desk, relay};
+use worker::{Actor, BitemporalBoards, Desk, open, relay};
 
-// The number of the only client, after worker 0. Every command that changes an input is an event of this
-// client.
-const CLIENT: usize = 1;
+type BoardActor = Actor<Bitime, BitemporalBoards>;
 
-/// A board and its one worker. A contract sees the board's state, the worker's desk, and the refusal that
-/// stopped the worker.
+/// A client and a worker of one board, who take turns. A contract sees what the client has seen.
 #[derive(Drop)]
-pub(crate) struct BoardEngine {
-    board: Board<Bitime>,
+pub(crate) struct BoardEngine<'a, R: Wait> {
+    runtime: &'a R,
+    client: BoardActor,
+    worker: BoardActor,
     // What the worker keeps at each node.
     desk: Desk<Bitime>,
+    plan: Plan,
     // How the worker's output is cut into bundles for the nodes that read it.
     routing: Routing,
     // The refusal that stopped the worker. It may then have a bundle in hand, so it does not go on.
     stopped: Option<Refusal>,
 }
 
-impl Model for BoardEngine {
+impl<'a, R: Wait> Model for BoardEngine<'a, R> {
     ghost use Rattle.std.specs.Prelude.{◌≡◌, ℕ};
+    ghost use Rattle.hub.specs.Known.{Known};
     ghost use Rattle.lattice.specs.Bitimes.{bitime_below, bitime_join};
     ghost use Rattle.lattice.specs.Pairs.{make_pair};
     ghost use Rattle.lattice.specs.declared.product.Pair.{Pair};
-    ghost use Rattle.script.specs.Standing.{EngineState, IsReadyUnless};
+    ghost use Rattle.worker.specs.Found.{dataflow_of};
+    ghost use Rattle.worker.specs.Tenures.{terms_for, terms_in};
+    ghost use Rattle.worker.specs.declared.doing.Doing.{Doing};
+    ghost use Rattle.script.specs.Standing.{IsReadyUnless};
 
-    ghost Value = { EngineState (Pair ℕ ℕ) };
+    ghost Value = { Known (Doing (Pair ℕ ℕ)) };
 
-    ghost view = { λ engine. record {
-      board = engine.board;
-      desk = engine.desk;
-      stopped = engine.stopped;
-    } };
+    ghost view = { λ engine. engine.client };
 
-    ghost invariant = { λ engine.
-        IsReadyUnless bitime_below bitime_join (make_pair 0 0) engine.stopped engine.board engine.desk
-        × (engine.routing ≡ engine.board.dataflow) × (engine.board.dataflow.workers ≡ 1) };
+    ghost invariant = { λ engine. (engine.client.number ≡ 1)
+        × (terms_in engine.client.seen ≡ terms_for engine.plan 1 1)
+        × (terms_in engine.worker.seen ≡ terms_for engine.plan 1 1)
+        × (engine.routing ≡ dataflow_of engine.worker)
+        × IsReadyUnless bitime_below bitime_join (make_pair 0 0)
+        engine.stopped engine.worker engine.desk };
 }
 
-impl BoardEngine {
+impl<'a, R: Wait> BoardEngine<'a, R> {
     /// A board on which nothing has happened yet. Refused only with `OutOfMemory`.
-    pub(crate) fn open(alloc: Global, plan: &Plan) -> Result<BoardEngine, Refusal>
-        ensures plan { IfOk result (λ engine. engine.board.dataflow.nodes ≡ plan.now) }
-        ensures stands { IfOk result (λ engine. Serves engine (opening_session plan.now)) }
+    pub(crate) fn open(
+        runtime: &'a R,
+        alloc: Global,
+        plan: &Plan,
+    ) -> Result<BoardEngine<'a, R>, Refusal>
+        ensures plan { IfOk result (λ engine. (dataflow_of engine).nodes ≡ plan.now) }
+        ensures stands { IfOk result (λ engine.
+            StandsAs bitime_below (make_pair 0 0) engine (opening_session plan.now)) }
         ensures refused { IfErr result (λ refusal. refusal ≡ OutOfMemory) }
     {
         let routing = Routing::of(alloc, plan, 1)?;
         let desk = Desk::open(alloc, plan)?;
-        let plan = plan.clone()?;
-        let board = Board::open(alloc, plan, 1)?;
+        let own = plan.clone()?;
+        let (worker, client) = pair_of_actors(runtime, alloc, plan)?;
+        worker.known();
+        client.known();
         Ok(BoardEngine {
-            board,
+            runtime,
+            client,
+            worker,
             desk,
+            plan: own,
             routing,
             stopped: None,
         })
     }
 
-    // The worker carries on what is in flight until all is quiet. After a refusal it is stopped, and the same
-    // refusal is returned again.
+    // One pass of the worker. What is too large the worker tells, and the client hears of it. A worker that was stopped does
+    // nothing more.
     fn carry_on(&mut self, alloc: Global) -> Result<(), Refusal>
-        ensures plan { self.new.board.dataflow ≡ self.old.board.dataflow }
-        ensures caught_up { OnOk result (is_quiet_board bitime_below self.new.board ≡ true) }
-        ensures stands { (s : BitemporalSession) → Serves self.old s
-            → OnOk result (Serves self.new s) }
-        ensures refused { (s : BitemporalSession) → Serves self.old s
-            → IfErr result (EndsByBound self.old.board.dataflow.nodes s) }
+        ensures client { self.new ≡ self.old }
+        ensures refused { IfErr result (λ refusal. refusal ≡ OutOfMemory) }
     {
         if let Some(refusal) = self.stopped {
-            return Err(refusal);
+            return match refusal {
+                Refusal::Overflow => Ok(()),
+                _ => Err(Refusal::OutOfMemory),
+            };
         }
-        let relayed = relay(alloc, &self.routing, &mut self.board, &mut self.desk);
-        self.board.known();
-        match relayed {
+        let passed = relay(
+            alloc,
+            self.runtime,
+            &self.plan,
+            &self.routing,
+            &mut self.worker,
+            &mut self.desk,
+        );
+        match passed {
             Ok(()) => Ok(()),
-            Err(refusal) => {
-                self.stopped = Some(refusal);
-                Err(refusal)
+            Err(Refusal::Overflow) => {
+                self.worker.tell_too_large(self.runtime);
+                self.stopped = Some(Refusal::Overflow);
+                Ok(())
+            }
+            Err(_) => {
+                self.stopped = Some(Refusal::OutOfMemory);
+                Err(Refusal::OutOfMemory)
             }
         }
     }
+
+    // Whether the client finds the board quiet.
+    fn is_quiet(&mut self) -> bool
+        ensures plan { dataflow_of self.new ≡ dataflow_of self.old }
+        ensures stands { (s : BitemporalSession) → StandsAs bitime_below (make_pair 0 0) self.old s
+            → StandsAs bitime_below (make_pair 0 0) self.new s }
+        ensures quiet { result ≡ true → IsQuiet bitime_below (dataflow_of self.new)
+            (state_left bitime_below (make_pair 0 0) self.new) }
+    {
+        let quiet = self.client.is_quiet(self.runtime);
+        self.client.known();
+        quiet
+    }
+
+    // Whether the client hears that a number is too large.
+    fn is_too_large(&mut self) -> bool
+        ensures plan { dataflow_of self.new ≡ dataflow_of self.old }
+        ensures stands { (s : BitemporalSession) → StandsAs bitime_below (make_pair 0 0) self.old s
+            → StandsAs bitime_below (make_pair 0 0) self.new s }
+        ensures cause { (s : BitemporalSession) → StandsAs bitime_below (make_pair 0 0) self.old s
+            → result ≡ true → IsLarge (dataflow_of self.old).nodes s }
+    {
+        let large = self.client.is_too_large(self.runtime);
+        self.client.known();
+        large
+    }
 }
 
-impl Engine for BoardEngine {
+// The worker and the client of a new board.
+fn pair_of_actors<R: Wait>(
+    runtime: &R,
+    alloc: Global,
+    plan: &Plan,
+) -> Result<(BoardActor, BoardActor), Refusal>
+    ensures worker { IfOk result (λ both. IsFirst (terms_for plan.now 1 1) 0 both.0) }
+    ensures client { IfOk result (λ both. IsFirst (terms_for plan.now 1 1) 1 both.1) }
+    ensures refused { IfErr result (λ refusal. refusal ≡ OutOfMemory) }
+{
+    let mut actors: Vec<BoardActor> = open(runtime, alloc, plan, 1, 1)?;
+    let client = actors.pop().unwrap();
+    let worker = actors.pop().unwrap();
+    Ok((worker, client))
+}
+
+impl<'a, R: Wait> Engine for BoardEngine<'a, R> {
     ghost use Rattle.std.specs.Prelude.{◌≡◌, true};
     ghost use Rattle.lattice.specs.Bitimes.{bitime_below};
-    ghost use Rattle.machine.specs.Boards.Reads.{is_quiet_board};
-    ghost use Rattle.script.specs.Standing.{Serves};
+    ghost use Rattle.lattice.specs.Pairs.{make_pair};
+    ghost use Rattle.machine.specs.Histories.Readings.{IsQuiet};
+    ghost use Rattle.worker.specs.Found.{dataflow_of};
+    ghost use Rattle.worker.specs.Tenures.{state_left};
+    ghost use Rattle.script.specs.Standing.{StandsAs};
     ghost use Rattle.script.specs.Bounds.{EndsByBound, ends_by_bound};
 
-    ghost plan = { λ e. e.board.dataflow.nodes };
+    ghost plan = { λ e. (dataflow_of e).nodes };
 
-    ghost stands = { λ e s. Serves e s };
+    ghost stands = { λ e s. StandsAs bitime_below (make_pair 0 0) e s };
 
-    ghost caught_up = { λ e. is_quiet_board bitime_below e.board ≡ true };
+    ghost caught_up = { λ e. IsQuiet bitime_below (dataflow_of e)
+        (state_left bitime_below (make_pair 0 0) e) };
 
     ghost ends = { λ p s refusal. EndsByBound p s refusal };
 
@@ -121,31 +197,36 @@ impl Engine for BoardEngine {
         input: NodeId,
         update: Update<Bitime>,
     ) -> Result<(), Refusal> {
-        self.board.known();
-        self.board.feed(CLIENT, input, update)
+        let told = self.client.feed(self.runtime, input, update);
+        self.client.known();
+        told
     }
 
     fn advance(&mut self, input: NodeId, times: Times<Bitime>) -> Result<(), Refusal> {
-        self.board.known();
-        self.board.advance(CLIENT, input, times)
+        let told = self.client.advance(self.runtime, input, times);
+        self.client.known();
+        told
     }
 
     fn read(&mut self, _alloc: Global, view: NodeId, time: Bitime) -> Result<Bag, Refusal> {
-        self.board.known();
-        self.board.read(view, time)
+        let rows = self.client.read(self.runtime, view, time);
+        self.client.known();
+        rows
     }
 
     fn changes(&mut self, _alloc: Global, view: NodeId) -> Result<Updates<Bitime>, Refusal> {
-        self.board.known();
-        match self.board.changes(view) {
+        let changes = self.client.changes(self.runtime, view);
+        self.client.known();
+        match changes {
             Ok(changes) => Ok(Updates::from(changes)),
             Err(refusal) => Err(refusal),
         }
     }
 
     fn frontier(&mut self, _alloc: Global, view: NodeId) -> Result<Antichain<Bitime>, Refusal> {
-        self.board.known();
-        match self.board.frontier(view) {
+        let frontier = self.client.frontier(self.runtime, view);
+        self.client.known();
+        match frontier {
             Ok(frontier) => {
                 frontier.known();
                 Ok(frontier)
@@ -157,8 +238,17 @@ impl Engine for BoardEngine {
     ghost ending = { λ p s refusal ends. ends_by_bound p s refusal ends };
 }
 
-impl CatchUp for BoardEngine {
+impl<'a, R: Wait> CatchUp for BoardEngine<'a, R> {
     fn catch_up(&mut self, alloc: Global) -> Result<(), Refusal> {
-        self.carry_on(alloc)
+        for _ in self.runtime.forever() {
+            if self.is_quiet() {
+                return Ok(());
+            }
+            if self.is_too_large() {
+                return Err(Refusal::Overflow);
+            }
+            self.carry_on(alloc)?;
+        }
+        unreachable!()
     }
 }

@@ -13,10 +13,10 @@
 //! - The loop over the lines (`run`, `line`) talks to an `Engine`, which carries out commands and stands for a
 //!   session. A command either changes an input or asks about a view. Before a question, the loop lets the
 //!   engine catch up.
-//! - There are two engines. `board_engine` has a board of crate `machine`: commands that change inputs are
-//!   events there, and one worker (crate `worker`) carries on what is in flight. The theorems about histories
-//!   then say that its views are right. `oracle_engine` keeps the changes and computes each answer from scratch,
-//!   by crate `oracle`. So the text of the first engine can be compared with that of the second.
+//! - There are two engines. `board_engine` reaches a board of crate `machine` through a hub: commands are events
+//!   of its client there, and its worker (crate `worker`) carries on what is in flight. The theorems about
+//!   histories then say that its views are right. `oracle_engine` keeps the changes and computes each answer from
+//!   scratch, by crate `oracle`. So the text of the first engine can be compared with that of the second.
 //! - Printed text (`printer`) is collected in an `output_buffer` and goes in large pieces to an [`Out`], whose
 //!   contract says which bytes it took.
 #![tactic(auto)]

@@ -16,6 +16,7 @@ use crate::output_buffer::OutputBuffer;
 use crate::outputs::Out;
 use grammar::Script;
 use std::alloc::Global;
+use std::sync::Wait;
 use update::Refusal;
 
 // Carries out all lines in order. The text of the last ones may still wait in the buffer.
@@ -82,7 +83,7 @@ pub(crate) fn run<E: CatchUp, W: Out>(
     Ok(())
 }
 
-/// Runs a script with workers and writes its text.
+/// Runs a script with workers and writes its text. All of it runs on the caller's thread; the runtime is that of the program.
 ///
 /// If the result is Ok, exactly the script's text was taken. After a fault, a beginning of it was. After
 /// `Refused(10)`, that beginning is the whole text of the lines before the one that overflowed:
@@ -103,7 +104,8 @@ pub(crate) fn run<E: CatchUp, W: Out>(
 /// number of updates captured since the view's last read, if that read was at a time at or before this one.
 /// Otherwise it costs a sort of everything that the view captured up to its time. A question for changes sorts
 /// everything that the view captured at passed times.
-pub fn run_script<W: Out>(
+pub fn run_script<R: Wait, W: Out>(
+    runtime: &R,
     alloc: Global,
     script: &Script,
     workers: u64,
@@ -121,6 +123,6 @@ pub fn run_script<W: Out>(
     if workers != 1 {
         return Err(RunFault::from(Refusal::BadWorkers));
     }
-    let mut engine = BoardEngine::open(alloc, script.plan())?;
+    let mut engine = BoardEngine::open(runtime, alloc, script.plan())?;
     run(alloc, &mut engine, script, out)
 }

@@ -19,7 +19,7 @@ use std::process::Abort;
 use std::sync::Wait;
 use std::test::Fail;
 use update::{Bag, Refusal, Update};
-use worker::{Actor, open, others_change_nothing_of_a_worker};
+use worker::{Actor, Boards, open, others_change_nothing_of_a_worker};
 
 // The plan of an input of one column and a view of it.
 fn viewed(alloc: Global) -> Result<Plan, Refusal>
@@ -36,7 +36,7 @@ fn viewed(alloc: Global) -> Result<Plan, Refusal>
 // The client, who knows the plan.
 #[derive(Drop)]
 struct Client<T: Minimum> {
-    actor: Actor<T>,
+    actor: Actor<T, Boards<T>>,
     ghost number: { actor.number ≡ 1 },
     ghost knows: { terms_in actor.seen ≡ terms_for (Input 1 ∷ Output 0 ∷ []) 1 1 },
 }
@@ -99,7 +99,7 @@ fn looks_take_nothing_in_hand<T: Minimum>()
 // The worker, who knows the plan and has nothing in hand.
 #[derive(Drop)]
 struct Idle<T: Minimum> {
-    actor: Actor<T>,
+    actor: Actor<T, Boards<T>>,
 }
 
 impl<T: Minimum> Model for Idle<T> {
@@ -118,10 +118,10 @@ impl<T: Minimum> Model for Idle<T> {
         × ((state_left T.below T.least w.actor).hand w.actor.number ≡ None) };
 }
 
-// What a worker finds: a bundle, which it has in hand from then on, or nothing.
+// What a worker finds: a bundle, which it has in hand from then on, with whether more wait, or nothing.
 #[derive(Drop)]
 enum Found<T: Minimum> {
-    Something(Bundle<T>),
+    Something(Bundle<T>, bool),
     Nothing(Idle<T>),
 }
 
@@ -131,7 +131,7 @@ impl<T: Minimum> Idle<T> {
         looks_take_nothing_in_hand::<T>();
         let Idle { mut actor } = self;
         match actor.take_first(rt, NodeId::new(0))? {
-            Some(bundle) => Ok(Found::Something(bundle)),
+            Some((bundle, more)) => Ok(Found::Something(bundle, more)),
             None => {
                 actor.known();
                 Ok(Found::Nothing(Idle { actor }))
@@ -237,21 +237,24 @@ fn turned<T: Minimum, R: Wait>(rt: &R, alloc: Global) -> Result<Option<Antichain
     worker.turn(rt)
 }
 
-// The worker finds nothing at the input until the client has fed a change.
+// The worker finds nothing at the input until the client has fed changes at these times. Then it takes the first, and hears
+// whether more wait.
 fn is_taken<T: Minimum, R: Wait + Abort>(
     rt: &R,
     alloc: Global,
-    time: T,
-) -> Result<Bundle<T>, Refusal> {
+    times: &[T],
+) -> Result<(Bundle<T>, bool), Refusal> {
     let (worker, mut client) = opened(rt, alloc)?;
     let Found::Nothing(worker) = worker.take(rt)? else {
         panic!(rt; "a bundle waits before the client fed anything")
     };
-    client.feed(rt, alloc, time)?;
-    let Found::Something(bundle) = worker.take(rt)? else {
+    for time in times {
+        client.feed(rt, alloc, *time)?;
+    }
+    let Found::Something(bundle, more) = worker.take(rt)? else {
         panic!(rt; "no bundle waits after the client fed a change")
     };
-    Ok(bundle)
+    Ok((bundle, more))
 }
 
 // The clauses tell what a worker takes from the history that it has seen. No clause says that this history has what the client
@@ -260,7 +263,8 @@ fn is_taken<T: Minimum, R: Wait + Abort>(
 fn a_worker_takes_what_a_client_fed(rt: HostRuntime) -> Result<(), Fail> {
     let upper: Option<Antichain<Bitime>> = turned(&rt, rt.alloc())?;
     assert!(rt; upper.is_none());
-    let bundle = is_taken(&rt, rt.alloc(), at((0, 0)))?;
+    let (bundle, more) = is_taken(&rt, rt.alloc(), &[at((0, 0))])?;
+    assert!(rt; !more);
     let place = bundle.place;
     assert_eq!(rt; (place.node.number(), place.port, place.worker), (0, 0, 0));
     let updates = bundle.updates.as_slice();
@@ -271,5 +275,14 @@ fn a_worker_takes_what_a_client_fed(rt: HostRuntime) -> Result<(), Fail> {
     assert!(rt; change.time == at((0, 0)) && change.diff == 1);
     assert_eq!(rt; change.row.columns(), [7].as_slice());
     assert!(rt; bundle.stamp.as_slice() == [at((0, 0))].as_slice());
+    Ok(())
+}
+
+// No clause says that what was fed waits.
+#[test]
+fn a_worker_hears_that_more_waits(rt: HostRuntime) -> Result<(), Fail> {
+    let (bundle, more) = is_taken(&rt, rt.alloc(), &[at((0, 1)), at((1, 0))])?;
+    assert!(rt; more);
+    assert!(rt; bundle.stamp.as_slice() == [at((0, 1))].as_slice());
     Ok(())
 }

@@ -4,6 +4,7 @@ use grammar::{Fault, Script, parse};
 use script::{MemoryOut, RunFault, plain_script, run_script};
 use std::alloc::Global;
 use std::process::Abort;
+use std::sync::Wait;
 use std::test::Fail;
 
 // The text of the script below.
@@ -67,19 +68,24 @@ fn script(alloc: Global, bytes: &[u8]) -> Result<Script, Fault> {
 }
 
 // A run by one worker. Its contract says no more than the tests use, which keeps their proofs short.
-fn run(alloc: Global, script: &Script, out: &mut MemoryOut) -> Result<(), RunFault> {
-    run_script(alloc, script, 1, out)
+fn run<R: Wait>(
+    rt: &R,
+    alloc: Global,
+    script: &Script,
+    out: &mut MemoryOut,
+) -> Result<(), RunFault> {
+    run_script(rt, alloc, script, 1, out)
 }
 
 // Runs the script of these bytes, again if memory was refused. The output then has the text, and a refused run leaves a
 // beginning of it.
-fn writes(rt: &impl Abort, alloc: Global, bytes: &[u8], text: &str) -> Result<(), Fail> {
+fn writes<R: Wait + Abort>(rt: &R, alloc: Global, bytes: &[u8], text: &str) -> Result<(), Fail> {
     let script = script(alloc, bytes)?;
     let mut out = MemoryOut::new(alloc);
-    if run(alloc, &script, &mut out).is_err() {
+    if run(rt, alloc, &script, &mut out).is_err() {
         assert!(rt; text.as_bytes().starts_with(out.bytes()));
         out = MemoryOut::new(alloc);
-        run(alloc, &script, &mut out)?;
+        run(rt, alloc, &script, &mut out)?;
     }
     assert_eq!(rt; out.bytes(), text.as_bytes());
     Ok(())

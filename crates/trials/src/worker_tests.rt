@@ -1,34 +1,87 @@
-//! A worker with a board at hand: its calls succeed if there is memory. What a pass makes of changes is seen by the runs of
-//! scripts.
-use crate::sketches::reduction;
-use lattice::Bitime;
-use machine::{Board, Routing};
-use plan::{Kind, Plan};
-use std::alloc::Global;
-use std::test::Fail;
-use update::Refusal;
-use worker::{Desk, relay};
+//! A worker and a client of one board: their calls succeed if there is memory, and the client finds all quiet after one pass.
+//! No clause says the first. A clause of `relay` says the second of a pass during which no client changed anything, and no
+//! clause can say that none did. What a pass makes of changes is seen by the runs of scripts.
+ghost use Rattle.std.specs.Prelude.{◌≡◌, ◌∷◌, [], IfOk};
+ghost use Rattle.plan.specs.declared.node.Kind.TheVariants.{Min};
+ghost use Rattle.plan.specs.declared.node.Node.TheVariants.{Arrange, Input, Output, Reduce};
+ghost use Rattle.worker.specs.Tenures.{IsFirst, terms_for};
 
-// Runs a plan by one worker. If nothing was fed, a pass leaves all quiet.
-fn is_carried(alloc: Global, plan: &Plan) -> Result<bool, Refusal> {
-    let routing = Routing::of(alloc, plan, 1)?;
-    let mut desk = Desk::<Bitime>::open(alloc, plan)?;
-    let mut board = Board::open(alloc, plan.clone()?, 1)?;
-    relay(alloc, &routing, &mut board, &mut desk)?;
-    Ok(board.is_quiet())
+use crate::sketches::at;
+use lattice::Bitime;
+use machine::Routing;
+use plan::{Kind, Node, NodeId, Plan, PlanBuilder};
+use row::Row;
+use std::alloc::Global;
+use std::sync::Wait;
+use std::test::Fail;
+use update::{Refusal, Update};
+use worker::{Actor, BitemporalBoards, Desk, open, relay, the_first_pass_may_begin};
+
+type BoardActor = Actor<Bitime, BitemporalBoards>;
+
+// The plan of an input of one column, arranged, its least row by key, and a view of that.
+fn least_rows(alloc: Global) -> Result<Plan, Refusal>
+    ensures { IfOk result (λ plan. plan
+        ≡ Input 1 ∷ Arrange 0 1 ∷ Reduce Min 1 ∷ Output 2 ∷ []) }
+{
+    let mut builder = PlanBuilder::new(alloc);
+    builder.add(Node::Input { width: 1 })?;
+    builder.add(Node::Arrange {
+        source: NodeId::new(0),
+        key: 1,
+    })?;
+    builder.add(Node::Reduce {
+        kind: Kind::Min,
+        source: NodeId::new(1),
+    })?;
+    builder.add(Node::Output {
+        source: NodeId::new(2),
+    })?;
+    Ok(builder.finish())
+}
+
+// The worker and the client of a new board.
+fn worker_and_client<R: Wait>(
+    rt: &R,
+    alloc: Global,
+    plan: &Plan,
+) -> Result<(BoardActor, BoardActor), Refusal>
+    ensures worker { IfOk result (λ both. IsFirst (terms_for plan.now 1 1) 0 both.0) }
+    ensures client { IfOk result (λ both. IsFirst (terms_for plan.now 1 1) 1 both.1) }
+{
+    let mut actors: Vec<BoardActor> = open(rt, alloc, plan, 1, 1)?;
+    let client = actors.pop().unwrap();
+    let worker = actors.pop().unwrap();
+    Ok((worker, client))
+}
+
+// Feeds the row 7 and closes the input. Then one pass goes over the plan. The answers are whether the client found all quiet
+// before the pass, and after it.
+fn is_carried<R: Wait>(rt: &R, alloc: Global) -> Result<(bool, bool), Refusal> {
+    the_first_pass_may_begin::<Bitime>();
+    let plan = least_rows(alloc)?;
+    let routing = Routing::of(alloc, &plan, 1)?;
+    let mut desk = Desk::<Bitime>::open(alloc, &plan)?;
+    let (mut worker, mut client) = worker_and_client(rt, alloc, &plan)?;
+    worker.known();
+    let update = Update {
+        time: at((0, 0)),
+        row: Row::new(alloc, &[7])?,
+        diff: 1,
+    };
+    client.feed(rt, NodeId::new(0), update)?;
+    client.close(rt, NodeId::new(0));
+    let before = client.is_quiet(rt);
+    relay(alloc, rt, &plan, &routing, &mut worker, &mut desk)?;
+    Ok((before, client.is_quiet(rt)))
 }
 
 #[test]
 fn passes_take_memory(rt: HostRuntime) -> Result<(), Fail> {
-    let alloc = rt.alloc();
-    let plan = match reduction(alloc, 1, Kind::Min) {
-        Err(Refusal::OutOfMemory) => reduction(alloc, 1, Kind::Min)?,
+    let quiet = match is_carried(&rt, rt.alloc()) {
+        Err(Refusal::OutOfMemory) => is_carried(&rt, rt.alloc())?,
         done => done?,
     };
-    let carried = match is_carried(alloc, &plan) {
-        Err(Refusal::OutOfMemory) => is_carried(alloc, &plan)?,
-        done => done?,
-    };
-    assert!(rt; carried);
+    assert_eq!(rt; quiet, (false, true));
     Ok(())
 }

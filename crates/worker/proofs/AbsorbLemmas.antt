@@ -1,79 +1,156 @@
--- A bundle that is taken at an arrange node or at a reduction, and held back.
-use Rattle.std.proofs.Common.{◌≡◌, ℕ, suc, Bool, true, false, cond, ◌||◌, List, [], ◌∷◌, ◌++◌, Some, None, IsTrue, sym, refl, ap, ◌∙◌, subst}
-use Rattle.std.specs.List.{slice_get}
-use Rattle.std.specs.Result.{OnOk}
-use Rattle.std.specs.Prelude.{Result, Ok, Err}
-use Rattle.std.proofs.lemmas.Bool.{eq-eqb}
+-- A bundle that is taken at an arrange node or at a reduction, and held back; and a worker from one tenure to the next.
+use Rattle.std.proofs.Common.{◌≡◌, ℕ, suc, Bool, true, false, not, ◌||◌, ◌&&◌, List, [], ◌∷◌, ◌++◌, Some, IsTrue, sym, refl, ap, ◌∙◌, subst, arith}
+use Rattle.std.specs.List.{slice_get, list_any}
+use Rattle.std.proofs.lemmas.Bool.{false≢true}
+use Rattle.std.proofs.lemmas.List.{append-nil}
 use Rattle.std.proofs.lemmas.List.Folds.{list_all-map}
 use Rattle.lattice.specs.Order.{PartialOrderLaws}
 use Rattle.lattice.specs.Frontiers.{is_beyond, all_beyond}
 use Rattle.antichain.proofs.Lists.{all_at, all_from}
 use Rattle.update.specs.declared.change.Update.{Update}
-use Rattle.update.specs.declared.refusal.Refusal.{Refusal}
+use Rattle.plan.specs.Changes.{has_passed}
+use Rattle.plan.specs.Nodes.{is_input, is_linear}
 use Rattle.plan.specs.declared.node.Node.TheVariants.{Arrange}
 use Rattle.plan.specs.Widths.{width_of}
+use Rattle.linear.specs.Applied.{linear_output}
 use Rattle.linear.specs.Widths.{are_wide}
 use Rattle.spine.specs.Spines.{Stands as SpineStands}
-use Rattle.machine.specs.declared.histories.event.Site.{Site}
+use Rattle.trace.specs.Readings.{Insertion}
+use Rattle.hub.specs.Known.{Known}
 use Rattle.machine.specs.declared.histories.event.Bundle.{Bundle}
 use Rattle.machine.specs.declared.histories.event.Event.{Event}
 use Rattle.machine.specs.declared.histories.event.Event.TheVariants.{Take, Give}
 use Rattle.machine.specs.Histories.Dataflows.{Dataflow, IsDataflow, node_of}
-use Rattle.machine.specs.Histories.States.{State, times, place, queue}
+use Rattle.machine.specs.Histories.States.{State, times, place, queue, held_at}
 use Rattle.machine.specs.Histories.Promises.{NeverGoesBack}
 use Rattle.machine.specs.Histories.Outstanding.{input_frontier}
-use Rattle.machine.specs.Histories.{initial_state, state_after, without, IsLegal, IsTake}
-use Rattle.machine.specs.Boards.{BoardState, Stands, IsGiveOn, after_take}
-use Rattle.machine.specs.Boards.Loads.{queue_of}
+use Rattle.machine.specs.Histories.{initial_state, state_after, next_state, IsLegal, IsGive}
 use Rattle.machine.proofs.HistoryLemmas.HeadlineLemmas.{inputs_lem}
+use Rattle.worker.specs.declared.doing.Doing.{Doing}
 use Rattle.worker.specs.Gathering.{IsHeldFor, IsStamped}
 use Rattle.worker.specs.Passes.{IsAtNode}
 use Rattle.worker.specs.Arrangements.{ArrangementState, rows_have, times_from}
+use Rattle.worker.specs.Between.{DoClientsLead, IsLeftBy}
 use Rattle.worker.specs.Desks.{DeskState, IsDesk, with_arrangement}
-use Rattle.worker.specs.Relays.{IsRunning, IsRunFrom, waits_at}
+use Rattle.worker.specs.Found.{dataflow_of}
+use Rattle.worker.specs.Relays.{HasNone, HasTaken, IsReadyAt, IsRunning, IsSameActor, IsSettledTo}
+use Rattle.worker.specs.Tenures.{Terms, IsActor, events, found_last, state_found, state_left}
+use Rattle.worker.proofs.BetweenLemmas.{found_legal, ready_found, ready_left, none_found, none_left}
+use Rattle.worker.proofs.FirstLemmas.{first_due, first_stamped}
 use Rattle.worker.proofs.GatheringLemmas.{no_emission}
 use Rattle.worker.proofs.ArrangingLemmas.{first_passed, taken_beyond}
+use Rattle.worker.proofs.NodeLemmas.{ready_next}
 use Rattle.worker.proofs.PassLemmas.{IsDue, at_taken, at_given}
 use Rattle.worker.proofs.SendLemmas.{widened}
+use Rattle.worker.proofs.SettledLemmas.{settled_taken, settled_given, settled_next}
 use Rattle.worker.proofs.ArrangeStepLemmas.{arranged_here, absorb_may, absorb_desk}
-use Rattle.worker.proofs.BundleLemmas.{running_from, due_bundle, may_take, stamped_bundle, waits_there}
-use Rattle.worker.proofs.WaitLemmas.{port_few, count_at, waits_are, count_sent, count_taken}
+
+-- ---- from one tenure to the next
+
+-- the dataflow stays
+pub same_flow : {T : Type 0} (j k : Known (Doing T)) → IsSameActor j k → dataflow_of k ≡ dataflow_of j
+same_flow j k same = ap (λ (t : Terms). t.dataflow) same.terms
+
+module _ {T : Type 0} (below : T → T → Bool) (joined : T → T → T) (minimum : T) (o : PartialOrderLaws below) (j k : Known (Doing T)) (actor : IsActor below minimum j) (same : IsSameActor j k) where
+  -- a worker that was ready in the state that it left is ready in the one that it found next
+  pub found_ready : (d : DeskState T) (n : ℕ) → DoClientsLead below (dataflow_of j) (state_left below minimum j) (state_found below minimum k) → IsReadyAt below joined minimum (dataflow_of j) (state_left below minimum j) d n
+      → IsReadyAt below joined minimum (dataflow_of k) (state_found below minimum k) d n
+  found_ready d n lead ready =
+      subst (λ p. IsReadyAt below joined minimum p (state_found below minimum k) d n) (sym (same_flow j k same))
+      (ready_found below joined minimum o (dataflow_of j) actor.dataflow (state_left below minimum j) (state_found below minimum k) d n lead ready)
+
+  -- if it found the state that it left, then it runs on
+  pub found_running : (d : DeskState T) (n : ℕ) → IsRunning below joined minimum j d n → DoClientsLead below (dataflow_of j) (state_left below minimum j) (state_found below minimum k) → state_left below minimum k ≡ state_found below minimum k
+      → IsRunning below joined minimum k d n
+  found_running d n run lead left = record {
+    number = same.number ∙ run.number;
+    ready = subst (λ w. IsReadyAt below joined minimum (dataflow_of k) w d n) (sym left) (found_ready d n lead run.ready);
+  }
+
+  -- and if nothing waits at the node, which is no input, then it runs on to the next node
+  pub next_running : (d : DeskState T) (n : ℕ) → is_input (node_of (dataflow_of j) n) ≡ false → HasNone n (state_left below minimum j) → IsRunning below joined minimum j d n → DoClientsLead below (dataflow_of j) (state_left below minimum j) (state_found below minimum k) → state_left below minimum k ≡ state_found below minimum k
+      → IsRunning below joined minimum k d (suc n)
+  next_running d n other none run lead left =
+      let there = subst (HasNone n) (sym left) (none_found below (dataflow_of j) (state_left below minimum j) (state_found below minimum k) n other lead none) in
+      let on = found_running d n run lead left in
+      record { number = on.number; ready = ready_next below joined minimum (dataflow_of k) (state_left below minimum k) d n there on.ready }
+
+  -- it runs on from an event after which it is ready
+  pub left_running : (d : DeskState T) (n : ℕ) (w : State T) → j.number ≡ 0 → IsLeftBy below (dataflow_of j) w (state_left below minimum k) → IsReadyAt below joined minimum (dataflow_of j) w d n → IsRunning below joined minimum k d n
+  left_running d n w number left ready = record {
+    number = same.number ∙ number;
+    ready = subst (λ p. IsReadyAt below joined minimum p (state_left below minimum k) d n) (sym (same_flow j k same)) (ready_left below joined minimum o (dataflow_of j) actor.dataflow w (state_left below minimum k) d n left ready);
+  }
+
+  -- if nothing waits at a node that is no input, then nothing does after a give of nothing
+  pub none_held : (n : ℕ) (held : List T) → is_input (node_of (dataflow_of j) n) ≡ false → IsLeftBy below (dataflow_of j) (next_state below (dataflow_of j) (state_left below minimum j) (Give (no_emission n 0) held [])) (state_left below minimum k)
+      → HasNone n (state_left below minimum j) → HasNone n (state_left below minimum k)
+  none_held n held other left none =
+      none_left below (dataflow_of j) (next_state below (dataflow_of j) (state_left below minimum j) (Give (no_emission n 0) held [])) (state_left below minimum k) n other left
+      (λ port. ap (queue (place n port 0)) (append-nil (state_left below minimum j).in_flight) ∙ none port)
+
+-- ---- from one tenure to the next, where no client acts
+
+-- a later step goes on from what is settled
+pub settled_on : {T : Type 0} (below : T → T → Bool) (j k : Known (Doing T)) → IsSameActor j k → (n m : ℕ) (v w : State T)
+    → (IsSettledTo below (dataflow_of k) v n → IsSettledTo below (dataflow_of k) w m) → IsSettledTo below (dataflow_of j) v n → IsSettledTo below (dataflow_of j) w m
+settled_on below j k same n m v w on = subst (λ p. IsSettledTo below p v n → IsSettledTo below p w m) (same_flow j k same) on
+
+module _ {T : Type 0} (below : T → T → Bool) (minimum : T) (j k : Known (Doing T)) (n : ℕ) where
+  -- if no held time is passed, then each could still receive input
+  none_passed : (front held : List T) → list_any (has_passed below front) held ≡ false → all_beyond below front held ≡ true
+  none_passed front [] e = refl
+  none_passed front (t ∷ held) e = step (is_beyond below front t) (none_passed front held) e
+    where
+      step : (c : Bool) → (list_any (has_passed below front) held ≡ false → all_beyond below front held ≡ true) → (not c || list_any (has_passed below front) held) ≡ false → (c && all_beyond below front held) ≡ true
+      step true ih e = ih e
+      step false ih e = absurd (false≢true (sym e))
+
+  -- if nothing waits at the node and no time that is held there is passed, then the node is settled
+  pub settled_none : IsActor below minimum j → state_found below minimum k ≡ state_left below minimum j → state_left below minimum k ≡ state_found below minimum k
+      → list_any (has_passed below (input_frontier below (dataflow_of j) (state_found below minimum k) n)) (held_at n 0 (state_found below minimum k).held) ≡ false → HasNone n (state_left below minimum j)
+      → IsSettledTo below (dataflow_of j) (state_left below minimum j) n → IsSettledTo below (dataflow_of j) (state_left below minimum k) (suc n)
+  settled_none actor found left passed none settled =
+      let p = dataflow_of j in
+      let w = state_found below minimum k in
+      subst (λ v. IsSettledTo below p v (suc n)) (sym left)
+      (settled_next below p actor.dataflow w n (subst (λ v. IsSettledTo below p v n) (sym found) settled) (subst (HasNone n) (sym found) none) (none_passed (input_frontier below p w n) (held_at n 0 w.held) passed))
+
+-- ---- a bundle is taken, and held back
 
 module _ {T : Type 0} (below : T → T → Bool) (minimum : T) (o : PartialOrderLaws below) (p : Dataflow) (q : IsDataflow p) (h : List (Event T)) (legal : IsLegal below minimum p h) where
   -- no input frontier goes back before the least time
   pub from_start : (n : ℕ) → NeverGoesBack below (minimum ∷ []) (input_frontier below p (state_after below minimum p h) n)
-  from_start n t x = subst (λ k. NeverGoesBack below (input_frontier below p (initial_state below minimum p) n) (input_frontier below p (state_after below minimum p k) n)) (Rattle.std.proofs.lemmas.List.append-nil h)
-      (inputs_lem below minimum o p q [] h (subst (IsLegal below minimum p) (sym (Rattle.std.proofs.lemmas.List.append-nil h)) legal) n) t (first_passed below o p minimum n t x)
+  from_start n t x = subst (λ k. NeverGoesBack below (input_frontier below p (initial_state below minimum p) n) (input_frontier below p (state_after below minimum p k) n)) (append-nil h)
+      (inputs_lem below minimum o p q [] h (subst (IsLegal below minimum p) (sym (append-nil h)) legal) n) t (first_passed below o p minimum n t x)
 
-module _ {T : Type 0} (below : T → T → Bool) (joined : T → T → T) (minimum : T) (o : PartialOrderLaws below) (b : BoardState T) (q : IsDataflow b.dataflow) (d : DeskState T) (h : List (Event T)) (asked : Site) (run : IsRunning below joined minimum b d asked.node h)
-    (worker : asked.worker ≡ 0) (bundle : Bundle T) (there : bundle.place ≡ asked) (waits : slice_get (queue_of b.stations asked) 0 ≡ Some bundle) where
+module _ {T : Type 0} (below : T → T → Bool) (joined : T → T → T) (minimum : T) (o : PartialOrderLaws below) (k : Known (Doing T)) (actor : IsActor below minimum k) (d : DeskState T) (n : ℕ)
+    (ready : IsReadyAt below joined minimum (dataflow_of k) (state_found below minimum k) d n) (bundle : Bundle T) (took : HasTaken below minimum k n bundle) where
   abbrev p : Dataflow
-  p = b.dataflow
+  p = dataflow_of k
 
   abbrev w : State T
-  w = state_after below minimum p h
+  w = state_found below minimum k
 
-  at_node : bundle.place.node ≡ asked.node
-  at_node = ap (λ (z : Site). z.node) there
+  abbrev taken : State T
+  taken = next_state below p w (Take 0 bundle)
 
-  by_worker : bundle.place.worker ≡ 0
-  by_worker = ap (λ (z : Site). z.worker) there ∙ worker
+  legal : IsLegal below minimum p (events (found_last k))
+  legal = found_legal below minimum k actor
 
-  in_turn : slice_get (queue_of b.stations bundle.place) 0 ≡ Some bundle
-  in_turn = subst (λ (z : Site). slice_get (queue_of b.stations z) 0 ≡ Some bundle) (sym there) waits
+  pub absorbed_due : IsDue p n bundle
+  absorbed_due = first_due below minimum p (events (found_last k)) legal n ready.free.at bundle took.node took.take
 
-  take : IsTake below p w 0 bundle
-  take = may_take below joined minimum o b q d asked.node h run bundle at_node by_worker in_turn
+  pub absorbed_stamped : IsStamped below bundle
+  absorbed_stamped = first_stamped below minimum p (events (found_last k)) legal n ready.free.at bundle took.node took.take o
 
-  due : IsDue p asked.node bundle
-  due = due_bundle below joined minimum o b q d asked.node h run bundle at_node by_worker in_turn
-
-  stamped : IsStamped below bundle
-  stamped = stamped_bundle below joined minimum o b q d asked.node h run bundle at_node by_worker in_turn
+  -- the desk is right for the worker of the bundle
+  pub absorbed_before : IsDesk below joined minimum p w bundle.place.worker d
+  absorbed_before = subst (λ j. IsDesk below joined minimum p w j d) (sym took.worker) ready.desk
 
   -- no update comes before the least time
   pub absorbed_later : IsTrue (all_beyond below (minimum ∷ []) (times bundle.updates))
-  absorbed_later = taken_beyond below o p q w 0 bundle stamped take (minimum ∷ []) (from_start below minimum o p q h run.stands.legal bundle.place.node)
+  absorbed_later = taken_beyond below o p actor.dataflow w 0 bundle absorbed_stamped took.take (minimum ∷ []) (from_start below minimum o p actor.dataflow (events (found_last k)) legal bundle.place.node)
 
   pub absorbed_times : IsTrue (times_from below minimum bundle.updates)
   absorbed_times =
@@ -84,91 +161,61 @@ module _ {T : Type 0} (below : T → T → Bool) (joined : T → T → T) (minim
       one true = refl
       one false = refl
 
-  -- a run whose last events are the take and a give of nothing
-  module _ (desk : DeskState T) (held : List T) (right : IsDesk below joined minimum p (state_after below minimum p (Give (no_emission bundle.place.node bundle.place.worker) held [] ∷ Take 0 bundle ∷ h)) bundle.place.worker desk) where
-    pub held_run : (c : BoardState T) → c.dataflow ≡ p → Stands below minimum c (Give (no_emission bundle.place.node bundle.place.worker) held [] ∷ Take 0 bundle ∷ h) → IsRunFrom below joined minimum h b c desk asked.node
-    held_run c same s =
-        let n = asked.node in
-        let v = state_after below minimum p (Take 0 bundle ∷ h) in
-        let taken : IsAtNode below p v n = at_taken below p q w n 0 bundle at_node run.free.at in
-        let given = at_given below p q v n (no_emission bundle.place.node bundle.place.worker) held [] at_node refl (λ m port source join reads l. refl) taken in (
-          Give (no_emission bundle.place.node bundle.place.worker) held [] ∷ Take 0 bundle ∷ [],
-          running_from below joined minimum c p same desk n (Give (no_emission bundle.place.node bundle.place.worker) held [] ∷ Take 0 bundle ∷ h) s (record {
-            at = given;
-            hand = ap (λ b. cond b None (v.hand 0)) (eq-eqb 0 bundle.place.worker (sym by_worker));
-          }) (subst (λ k. IsDesk below joined minimum p (state_after below minimum p (Give (no_emission bundle.place.node bundle.place.worker) held [] ∷ Take 0 bundle ∷ h)) k desk) by_worker right),
-          subst (λ z. Rattle.machine.specs.Histories.Actors.IsSameOfClients w (state_after below minimum z (Give (no_emission bundle.place.node bundle.place.worker) held [] ∷ Take 0 bundle ∷ h))) (sym same) (record { fed = refl; open_times = refl; since = λ v. refl }),
-        )
+  module _ (held : List T) where
+    -- what may be given of nothing after the take may be given in the state that is left
+    pub held_may : IsGive below p taken (no_emission bundle.place.node bundle.place.worker) held [] → IsGive below p (state_left below minimum k) (no_emission n 0) held []
+    held_may may =
+        subst (λ v. IsGive below p v (no_emission n 0) held []) (sym took.left)
+        (subst (λ m. IsGive below p taken (no_emission m 0) held []) took.node (subst (λ j. IsGive below p taken (no_emission bundle.place.node j) held []) took.worker may))
 
-  -- one bundle less waits
-  pub held_fewer : (c : BoardState T) → c.dataflow ≡ p → (held : List T) → Stands below minimum c (Give (no_emission bundle.place.node bundle.place.worker) held [] ∷ Take 0 bundle ∷ h) → suc (waits_at asked.node c.stations) ≡ waits_at asked.node b.stations
-  held_fewer c same held s =
-      let on_same = subst (λ z. (site : Site) → queue_of c.stations site ≡ queue site (state_after below minimum z (Give (no_emission bundle.place.node bundle.place.worker) held [] ∷ Take 0 bundle ∷ h)).in_flight) same s.queues in
-      let here : bundle.place ≡ place asked.node bundle.place.port 0 = (λ i. record { node = at_node i; port = bundle.place.port; worker = by_worker i }) in
-      let few = port_few (node_of p bundle.place.node) bundle.place.port due.port in
-      ap suc (waits_are asked.node c.stations (without bundle.place w.in_flight 0 ++ []) on_same)
-      ∙ (ap suc (count_sent p asked.node (without bundle.place w.in_flight 0) [] refl)
-      ∙ (ap (λ z. suc (count_at asked.node (without z w.in_flight 0))) here
-      ∙ (count_taken asked.node bundle.place.port w.in_flight bundle few (subst (λ z. slice_get (queue z w.in_flight) 0 ≡ Some bundle) here (waits_there below joined minimum o b q d asked.node h run bundle at_node by_worker in_turn))
-      ∙ sym (waits_are asked.node b.stations w.in_flight run.stands.queues))))
+    -- after a give of nothing the worker is ready again
+    pub held_ready : (desk : DeskState T) → IsDesk below joined minimum p (next_state below p taken (Give (no_emission bundle.place.node bundle.place.worker) held [])) bundle.place.worker desk
+        → IsReadyAt below joined minimum p (next_state below p (state_left below minimum k) (Give (no_emission n 0) held [])) desk n
+    held_ready desk right =
+        let came : IsAtNode p taken n = at_taken below p w n 0 bundle ready.free.at in
+        let given = at_given below p taken n (no_emission n 0) held [] refl refl (λ m port source join reads l. refl) came in
+        let there = subst (λ m. IsDesk below joined minimum p (next_state below p taken (Give (no_emission m bundle.place.worker) held [])) bundle.place.worker desk) took.node right in
+        subst (λ v. IsReadyAt below joined minimum p (next_state below p v (Give (no_emission n 0) held [])) desk n) (sym took.left) (record {
+          free = record { at = given; hand = refl };
+          desk = subst (λ j. IsDesk below joined minimum p (next_state below p taken (Give (no_emission n j) held [])) j desk) took.worker there;
+        })
 
-  module _ (source key : ℕ) (arrange : node_of p asked.node ≡ Arrange source key) (a : ArrangementState T) (own : slice_get d.arrangements asked.node ≡ Some (Some a)) where
+    -- what was settled still is
+    pub held_settled : IsSettledTo below p w n → IsSettledTo below p (next_state below p (state_left below minimum k) (Give (no_emission n 0) held [])) n
+    held_settled settled =
+        let at = took.node in
+        subst (λ v. IsSettledTo below p (next_state below p v (Give (no_emission n 0) held [])) n) (sym took.left)
+        (settled_given below p actor.dataflow taken n (settled_taken below p actor.dataflow w n settled 0 bundle (omega (arith, at))) (no_emission n 0) held [] (omega arith) (λ b among. absurd among))
+
+  module _ (source key : ℕ) (arrange : node_of p n ≡ Arrange source key) (a : ArrangementState T) (own : slice_get d.arrangements n ≡ Some (Some a)) where
     arrange_there : node_of p bundle.place.node ≡ Arrange source key
-    arrange_there = ap (node_of p) at_node ∙ arrange
+    arrange_there = ap (node_of p) took.node ∙ arrange
 
     own_there : slice_get d.arrangements bundle.place.node ≡ Some (Some a)
-    own_there = ap (slice_get d.arrangements) at_node ∙ own
-
-    own_desk : IsDesk below joined minimum p w bundle.place.worker d
-    own_desk = subst (λ k. IsDesk below joined minimum p w k d) (sym by_worker) run.desk
+    own_there = ap (slice_get d.arrangements) took.node ∙ own
 
     -- the arrangement takes the bundle's rows
     pub absorbed_rows : IsTrue (rows_have a.width bundle.updates)
     absorbed_rows =
-        let wide = widened p q bundle.place bundle.updates due.port due.wide (ap Rattle.plan.specs.Nodes.is_linear arrange_there) in
-        let here = arranged_here below joined minimum p w bundle.place.worker d own_desk.inserted bundle.place.node source key (node_of p bundle.place.node) arrange_there a own_there (own_desk.at bundle.place.node due.within) in
-        subst (λ n. IsTrue (rows_have n bundle.updates)) (sym here.width)
-        (subst (λ node. IsTrue (are_wide (width_of p.nodes bundle.place.node) (Rattle.linear.specs.Applied.linear_output node bundle.updates))) arrange_there wide)
+        let due = absorbed_due in
+        let wide = widened p actor.dataflow bundle.place bundle.updates due.port due.wide (ap is_linear arrange_there) in
+        let here = arranged_here below joined minimum p w bundle.place.worker d absorbed_before.inserted bundle.place.node source key (node_of p bundle.place.node) arrange_there a own_there (absorbed_before.at bundle.place.node due.within) in
+        subst (λ m. IsTrue (rows_have m bundle.updates)) (sym here.width)
+        (subst (λ node. IsTrue (are_wide (width_of p.nodes bundle.place.node) (linear_output node bundle.updates))) arrange_there wide)
 
-    module _ (e : ArrangementState T) (grown : e ≡ record a { waiting = a.waiting ++ bundle.updates }) (held : List T) (covers : IsTrue (all_beyond below held (times e.waiting))) (tight : IsTrue (all_beyond below (times e.waiting) held)) where
-      is_held : IsHeldFor below held (times e.waiting)
-      is_held = record { covers = covers; tight = tight }
-
-      same_spine : (i : List (Rattle.trace.specs.Readings.Insertion T)) → SpineStands below a.spine i → SpineStands below e.spine i
+    module _ (e : ArrangementState T) (grown : e ≡ record a { waiting = a.waiting ++ bundle.updates }) (held : List T) (is_held : IsHeldFor below held (times e.waiting)) where
+      same_spine : (i : List (Insertion T)) → SpineStands below a.spine i → SpineStands below e.spine i
       same_spine i = subst (λ (z : ArrangementState T). SpineStands below z.spine i) (sym grown)
 
-      pub absorbed_may : IsGiveOn below minimum (after_take 0 bundle b) (Take 0 bundle ∷ h) (no_emission bundle.place.node bundle.place.worker) held []
-      absorbed_may = absorb_may below joined minimum o p q w 0 bundle take stamped source key arrange_there due.port due.within d own_desk a own_there e (same_spine (own_desk.inserted bundle.place.node))
-          (ap (λ (z : ArrangementState T). z.spine.list.start) grown) (ap (λ (z : ArrangementState T). z.width) grown) (ap (λ (z : ArrangementState T). z.waiting) grown) (λ number l. ap (λ (z : ArrangementState T). slice_get z.holds number) grown) held is_held
-
-      pub absorbed_desk : IsDesk below joined minimum p (state_after below minimum p (Give (no_emission bundle.place.node bundle.place.worker) held [] ∷ Take 0 bundle ∷ h)) bundle.place.worker (with_arrangement asked.node e d)
-      absorbed_desk =
-          subst (λ n. IsDesk below joined minimum p (state_after below minimum p (Give (no_emission bundle.place.node bundle.place.worker) held [] ∷ Take 0 bundle ∷ h)) bundle.place.worker (with_arrangement n e d)) at_node
-          (absorb_desk below joined minimum o p q w 0 bundle take stamped source key arrange_there due.port due.within d own_desk a own_there e (same_spine (own_desk.inserted bundle.place.node))
+      -- the worker may hold back what waits then
+      pub absorbed_may : IsGive below p (state_left below minimum k) (no_emission n 0) held []
+      absorbed_may = held_may held
+          (absorb_may below joined minimum o p actor.dataflow w 0 bundle took.take absorbed_stamped source key arrange_there absorbed_due.port absorbed_due.within d absorbed_before a own_there e (same_spine (absorbed_before.inserted bundle.place.node))
           (ap (λ (z : ArrangementState T). z.spine.list.start) grown) (ap (λ (z : ArrangementState T). z.width) grown) (ap (λ (z : ArrangementState T). z.waiting) grown) (λ number l. ap (λ (z : ArrangementState T). slice_get z.holds number) grown) held is_held)
 
-      -- what the worker holds back, as the board has it
-      module _ (c : BoardState T) (taken : c ≡ after_take 0 bundle b) (stands : Stands below minimum c (c.last ∷ h)) (f : BoardState T) (same : f.dataflow ≡ c.dataflow) (r : Result (Unit {0}) Refusal)
-          (holds : (k : List (Event T)) → Stands below minimum c k → IsGiveOn below minimum c k (record { node = bundle.place.node; worker = 0; updates = [] }) held [] → OnOk r (Stands below minimum f (Give (record { node = bundle.place.node; worker = 0; updates = [] }) held [] ∷ k))) where
-        same_there : f.dataflow ≡ p
-        same_there = same ∙ ap (λ (z : BoardState T). z.dataflow) taken
-
-        on_board : OnOk r (Stands below minimum f (Give (no_emission bundle.place.node bundle.place.worker) held [] ∷ Take 0 bundle ∷ h))
-        on_board =
-            subst (λ k. OnOk r (Stands below minimum f (Give (no_emission bundle.place.node k) held [] ∷ Take 0 bundle ∷ h))) (sym by_worker)
-            (subst (λ (z : BoardState T). (z ≡ after_take 0 bundle b) → ((k : List (Event T)) → Stands below minimum z k → IsGiveOn below minimum z k (no_emission bundle.place.node 0) held [] → OnOk r (Stands below minimum f (Give (no_emission bundle.place.node 0) held [] ∷ k))) → OnOk r (Stands below minimum f (Give (no_emission bundle.place.node 0) held [] ∷ Take 0 bundle ∷ h)))
-            (sym taken) (λ e holds. holds (Take 0 bundle ∷ h) (subst (λ (z : BoardState T). Stands below minimum z (z.last ∷ h)) taken stands) (subst (λ k. IsGiveOn below minimum (after_take 0 bundle b) (Take 0 bundle ∷ h) (no_emission bundle.place.node k) held []) by_worker absorbed_may)) taken holds)
-
-        pub absorbed_run : OnOk r (IsRunFrom below joined minimum h b f (with_arrangement asked.node e d) asked.node)
-        absorbed_run = step r on_board
-          where
-            step : (r : Result (Unit {0}) Refusal) → OnOk r (Stands below minimum f (Give (no_emission bundle.place.node bundle.place.worker) held [] ∷ Take 0 bundle ∷ h)) → OnOk r (IsRunFrom below joined minimum h b f (with_arrangement asked.node e d) asked.node)
-            step (Ok x) s = held_run (with_arrangement asked.node e d) held absorbed_desk f same_there s
-            step (Err x) s = tt
-
-        pub absorbed_fewer : OnOk r (suc (waits_at asked.node f.stations) ≡ waits_at asked.node b.stations)
-        absorbed_fewer = step r on_board
-          where
-            step : (r : Result (Unit {0}) Refusal) → OnOk r (Stands below minimum f (Give (no_emission bundle.place.node bundle.place.worker) held [] ∷ Take 0 bundle ∷ h)) → OnOk r (suc (waits_at asked.node f.stations) ≡ waits_at asked.node b.stations)
-            step (Ok x) s = held_fewer f same_there held s
-            step (Err x) s = tt
+      -- and is ready again
+      pub absorbed_ready : IsReadyAt below joined minimum p (next_state below p (state_left below minimum k) (Give (no_emission n 0) held [])) (with_arrangement n e d) n
+      absorbed_ready = held_ready held (with_arrangement n e d)
+          (subst (λ m. IsDesk below joined minimum p (next_state below p taken (Give (no_emission bundle.place.node bundle.place.worker) held [])) bundle.place.worker (with_arrangement m e d)) took.node
+          (absorb_desk below joined minimum o p actor.dataflow w 0 bundle took.take absorbed_stamped source key arrange_there absorbed_due.port absorbed_due.within d absorbed_before a own_there e (same_spine (absorbed_before.inserted bundle.place.node))
+          (ap (λ (z : ArrangementState T). z.spine.list.start) grown) (ap (λ (z : ArrangementState T). z.width) grown) (ap (λ (z : ArrangementState T). z.waiting) grown) (λ number l. ap (λ (z : ArrangementState T). slice_get z.holds number) grown) held is_held))

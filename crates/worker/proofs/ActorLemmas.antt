@@ -13,7 +13,9 @@ use Rattle.machine.specs.declared.histories.event.Event.{Event}
 use Rattle.machine.specs.declared.histories.event.Event.TheVariants.{Feed, Advance, Allow, Look, Take, TakeHeld, Give}
 use Rattle.std.proofs.lemmas.List.{append-nil}
 use Rattle.machine.specs.Histories.Dataflows.{Dataflow, IsDataflow}
-use Rattle.machine.specs.Histories.States.{State}
+use Rattle.machine.specs.declared.histories.event.Site.{Site}
+use Rattle.machine.specs.Histories.States.{State, place, queue}
+use Rattle.machine.specs.Boards.Loads.{queue_of}
 use Rattle.machine.specs.Histories.Actors.{IsSameOfWorker, IsSameOfClients}
 use Rattle.machine.proofs.HistoryLemmas.ActorLemmas.{worker_apart}
 use Rattle.machine.specs.Histories.{IsAllowed, IsGive, IsLegal, actor_of, next_state}
@@ -21,7 +23,7 @@ use Rattle.machine.specs.declared.histories.event.Bundle.{Bundle}
 use Rattle.machine.specs.declared.histories.event.Emission.{Emission}
 use Rattle.worker.proofs.ApartLemmas.{give_apart}
 use Rattle.worker.specs.declared.doing.Doing.{Doing}
-use Rattle.worker.specs.Tenures.{Terms, SharedState, events, terms_of_board, doing, is_change, AreOn, left_by, StandsFor, terms_in, AreKnown, found_last, state_found, state_left, Adds, IsActor, IsFirst}
+use Rattle.worker.specs.Tenures.{WaitsOrNot, WaitsOrNotIn, Terms, SharedState, events, terms_of_board, doing, is_change, AreOn, left_by, StandsFor, terms_in, AreKnown, found_last, state_found, state_left, Adds, IsActor, IsFirst}
 
 pub is_some_at : {A : Type 0} (o : Option A) (P : A → Type 0) → IsSomeAnd o P → (x : A) → o ≡ Some x → P x
 is_some_at o P h x e = subst (λ (z : Option _). IsSomeAnd z P) e h
@@ -167,6 +169,17 @@ module _ {T : Type 0} where
     pub after_tenure : (m c : SharedState T) (own : ℕ) → m ≡ b → k.number ≡ own → terms_of_board c ≡ terms_of_board m → ((es : List (Entry (Doing T))) → StandsFor below minimum cmp m es → StandsFor below minimum cmp c (entry own (doing (terms_of_board m) c.board.last) ∷ es))
         → (n : Known (Doing T)) → n ≡ record { hub = hub; number = number; seen = entry number (doing (terms_of_board c) c.board.last) ∷ found } → IsAfter below minimum k found c.board.last c.accepted n
     after_tenure m c own same e terms next n is_n = after_with m c own same e terms (next found (stood_at m same)) n is_n
+
+    -- what waits on the board that the call left waits in the state that the actor leaves
+    pub waits_left : (m c : SharedState T) (own : ℕ) → m ≡ b → k.number ≡ own → terms_of_board c ≡ terms_of_board m → ((es : List (Entry (Doing T))) → StandsFor below minimum cmp m es → StandsFor below minimum cmp c (entry own (doing (terms_of_board m) c.board.last) ∷ es))
+        → (n : Known (Doing T)) → n ≡ record { hub = hub; number = number; seen = entry number (doing (terms_of_board c) c.board.last) ∷ found } → (more : Bool) (node worker : ℕ) → WaitsOrNot more node worker c.board.stations → WaitsOrNotIn more node worker (state_left below minimum n)
+    waits_left m c own same e terms next n is_n more node worker waits =
+        let here = next found (stood_at m same) in
+        let queues : (site : Site) → queue_of c.board.stations site ≡ queue site (state_left below minimum n).in_flight
+        = λ site. here.stands.queues site ∙ ap (λ (x : Known (Doing T)). queue site (state_left below minimum x).in_flight) (sym is_n) in (
+          λ some. let x = waits.0 some in (x.0, subst (λ bs. 0 < length bs) (queues (place node x.0 worker)) x.1),
+          λ none port. sym (queues (place node port worker)) ∙ waits.1 none port,
+        )
 
     -- the hand of a worker is as it left it
     pub hand_found : (m : SharedState T) → m ≡ b → (own : ℕ) → k.number ≡ own → own < m.board.dataflow.workers → (state_left below minimum k).hand k.number ≡ None → get_or m.board.hand own None ≡ None

@@ -1,6 +1,5 @@
 -- The bundle that waits first at a node to which a pass has come: it fits the node, and the worker may take it.
-use Rattle.std.proofs.Common.{◌≡◌, ℕ, ◌^◌, ◌<◌, ◌≤◌, Bool, cond, List, [], ◌∷◌, ◌++◌, Option, Some, None, IsTrue, sym, refl, ap, ◌∙◌, subst, arith}
-use Rattle.std.specs.List.{slice_get}
+use Rattle.std.proofs.Common.{◌≡◌, ℕ, ◌^◌, ◌≤◌, Bool, cond, List, [], ◌∷◌, ◌++◌, Option, Some, None, IsTrue, refl, ap, ◌∙◌, subst, arith}
 use Rattle.std.specs.declared.cmp.Ordering.{Ordering}
 use Rattle.lattice.specs.Order.{PartialOrderLaws}
 use Rattle.antichain.proofs.Lists.{all_at}
@@ -14,51 +13,34 @@ use Rattle.machine.specs.declared.histories.event.Bundle.{Bundle}
 use Rattle.machine.specs.declared.histories.event.Event.{Event}
 use Rattle.machine.specs.declared.histories.event.Event.TheVariants.{Take}
 use Rattle.machine.specs.Histories.Dataflows.{Dataflow, IsDataflow, node_of, source_of}
-use Rattle.machine.specs.Histories.States.{State, queue}
+use Rattle.machine.specs.Histories.States.{State}
 use Rattle.machine.specs.Histories.NodeLaws.{received_at}
 use Rattle.machine.specs.Histories.Promises.{changes_in}
 use Rattle.machine.specs.Histories.{state_after, IsTake, IsLegal}
-use Rattle.machine.specs.Boards.{BoardState, Stands}
-use Rattle.machine.specs.Boards.Loads.{queue_of}
 use Rattle.machine.proofs.BoardLemmas.PlacingLemmas.{itself}
 use Rattle.machine.proofs.HistoryLemmas.FlowLemmas.{queued}
 use Rattle.worker.specs.Gathering.{IsStamped}
 use Rattle.worker.specs.Passes.{is_due, IsAtNode}
-use Rattle.worker.specs.Relays.{HasNoSmallBound}
+use Rattle.worker.specs.Large.{HasNoSmallBound}
 use Rattle.worker.proofs.GatheringLemmas.{size_both, waiting_is_stamped}
 use Rattle.worker.proofs.PassLemmas.{IsDue, due_parts}
 use Rattle.worker.proofs.SendLemmas.{fitting}
-use Rattle.worker.proofs.RelayLemmas.{large_received}
+use Rattle.worker.proofs.LargeLemmas.{large_received}
 
-module _ {T : Type 0} (below : T → T → Bool) (minimum : T) (b : BoardState T) (n : ℕ) (h : List (Event T)) (stands : Stands below minimum b h) (came : IsAtNode below b.dataflow (state_after below minimum b.dataflow h) n) (free : (state_after below minimum b.dataflow h).hand 0 ≡ None)
-    (bundle : Bundle T) (at : bundle.place.node ≡ n) (worker : bundle.place.worker ≡ 0) (waits : slice_get (queue_of b.stations bundle.place) 0 ≡ Some bundle) where
-  abbrev p : Dataflow
-  p = b.dataflow
-
+module _ {T : Type 0} (below : T → T → Bool) (minimum : T) (p : Dataflow) (h : List (Event T)) (legal : IsLegal below minimum p h) (n : ℕ) (came : IsAtNode p (state_after below minimum p h) n)
+    (bundle : Bundle T) (at : bundle.place.node ≡ n) (take : IsTake below p (state_after below minimum p h) 0 bundle) where
   abbrev w : State T
   w = state_after below minimum p h
 
   abbrev site : Site
   site = bundle.place
 
-  pub first_there : slice_get (queue site w.in_flight) 0 ≡ Some bundle
-  first_there = subst (λ bundles. slice_get bundles 0 ≡ Some bundle) (stands.queues site) waits
-
   -- the bundle is due at the node
   pub first_due : IsDue p n bundle
-  first_due = due_parts p n bundle (all_at (is_due p n) w.in_flight bundle came.due (queued site w.in_flight 0 bundle first_there).0)
-
-  -- the worker may take it
-  pub first_take : IsTake below p w 0 bundle
-  first_take = record {
-    worker = subst (λ k. k < p.workers) (sym worker) (let a = came.alone in omega (arith, a));
-    free = ap w.hand worker ∙ free;
-    waits = first_there;
-    turn = λ _. refl;
-  }
+  first_due = due_parts p n bundle (all_at (is_due p n) w.in_flight bundle came.due (queued site w.in_flight 0 bundle take.waits).0)
 
   pub first_stamped : PartialOrderLaws below → IsStamped below bundle
-  first_stamped o = waiting_is_stamped below o minimum p h stands.legal 0 bundle first_take
+  first_stamped o = waiting_is_stamped below o minimum p h legal 0 bundle take
 
   -- the node accepts the bundle's rows
   pub first_fits : IsDataflow p → IsTrue (takes_rows (node_of p site.node) bundle.updates)
@@ -72,13 +54,13 @@ module _ {T : Type 0} (below : T → T → Bool) (minimum : T) (b : BoardState T
       let s = ap size e ∙ size_both bundle.updates (received_at w site.node site.worker site.port) in
       omega (arith, s)
 
-  module _ (o : PartialOrderLaws below) (q : IsDataflow p) (cmp : T → T → Ordering) (legal : IsLegal below minimum p (Take 0 bundle ∷ h)) where
+  module _ (o : PartialOrderLaws below) (q : IsDataflow p) (cmp : T → T → Ordering) where
     -- if the bundle itself is too large, then so is a bound
     pub large_first : (s : ℕ) → source_of p site.node site.port ≡ Some s → 2 ^ 63 ≤ size bundle.updates → HasNoSmallBound below cmp p.nodes (changes_in w)
     large_first s e large =
-        let l = first_take.worker in
+        let l = take.worker in
         let more = received_more in
-        large_received below minimum o cmp p q (Take 0 bundle ∷ h) legal site.node site.port s site.worker l e (omega (arith, large, more))
+        large_received below minimum o cmp p q (Take 0 bundle ∷ h) (take, legal) site.node site.port s site.worker l e (omega (arith, large, more))
 
     -- a node that cannot say what it makes of the bundle
     pub large_made : Overflows (node_of p site.node) bundle.updates → HasNoSmallBound below cmp p.nodes (changes_in w)

@@ -18,7 +18,6 @@ use Rattle.plan.proofs.WidthLemmas.{width_bounds}
 use Rattle.machine.specs.Histories.Dataflows.{Dataflow, node_of}
 use Rattle.machine.specs.Histories.States.{State}
 use Rattle.machine.specs.Histories.{initial_state}
-use Rattle.machine.specs.Boards.{BoardState, Stands}
 use Rattle.worker.specs.Joining.{IsReadAt}
 use Rattle.worker.specs.Joins.{JoiningView, IsFitting}
 use Rattle.worker.specs.Arranging.{IsArranging}
@@ -27,14 +26,12 @@ use Rattle.worker.specs.Reducing.{IsReducing}
 use Rattle.worker.specs.Reductions.{ReducingView, HasRoom}
 use Rattle.worker.specs.Desks.{DeskState, ReadsAt, HasHold, IsDeskAt, IsDesk, with_arrangement, hold_at, boundary_at}
 use Rattle.worker.specs.Openings.{on_one_worker, IsFirstArrangement, IsFirstReduction, IsFirstJoin, HasOwnHolds, IsFirstAt, IsLaidOut}
-use Rattle.worker.specs.Relays.{IsRunning}
+use Rattle.worker.specs.Relays.{IsReadyAt}
 use Rattle.worker.proofs.GatheringLemmas.{first_gathering}
 use Rattle.worker.proofs.ArrangingLemmas.{first_arranging}
 use Rattle.worker.proofs.ReducingLemmas.{first_reducing}
-use Rattle.worker.proofs.PassLemmas.{at_first}
 use Rattle.worker.proofs.ReadAtLemmas.{join_sources}
 use Rattle.worker.proofs.DeskLemmas.{get_set, get_own}
-use Rattle.worker.proofs.BundleLemmas.{running_from}
 
 -- ---- entries of lists that grow
 
@@ -461,11 +458,11 @@ module _ {T : Type 0} (below : T → T → Bool) (joined : T → T → T) (minim
     sharing = laid.sharing;
   }
 
-  pub opened_running : (b : BoardState T) → b.dataflow ≡ alone_on → Stands below minimum b [] → IsRunning below joined minimum b d 0 []
-  opened_running b e s = running_from below joined minimum b alone_on e d 0 [] s (record {
-    at = at_first below alone_on at_start refl refl (λ m port source join reads l. refl);
-    hand = refl;
-  }) opened_desk
+  pub opened_ready : IsReadyAt below joined minimum alone_on at_start d 0
+  opened_ready = record {
+    free = record { at = record { alone = refl; due = refl; joins = λ m port source join reads l. refl }; hand = refl };
+    desk = opened_desk;
+  }
 
 -- two holds more, one for each side of a join
 module _ {T : Type 0} (below : T → T → Bool) (joined : T → T → T) (minimum : T) (p : List Node) (plan : IsPlan p) (n : ℕ) (within : n < length p) (l r : ℕ) (join : node_at p n ≡ Join l r)

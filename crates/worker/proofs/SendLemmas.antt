@@ -110,7 +110,7 @@ module _ {T : Type 0} where
           let source = read_there b.place there in
           let s = shared p q b.place g worker there in
           record {
-            later = source_smaller p.nodes q.plan b.place.node b.place.port g.node source;
+            later = inl (source_smaller p.nodes q.plan b.place.node b.place.port g.node source);
             within = s.node;
             port = port_from (length (sources (node_of p b.place.node))) s.port;
             worker = let l = s.worker in omega (arith, l, alone);
@@ -129,3 +129,10 @@ module _ {T : Type 0} where
       -- everything that is sent is due at a later node
       pub sent_due : list_all (is_due p (suc g.node)) sent ≡ true
       sent_due = all_from (is_due p (suc g.node)) sent (λ b m. due_from p (suc g.node) b (one_sent b m))
+
+      -- everything that is sent goes to a later node
+      pub sent_later : (b : Bundle T) → Among b sent → g.node < b.place.node
+      sent_later b m =
+          let full = some b.updates (all_at (λ (b : Bundle T). not (eqb (length b.updates) 0)) sent b filled m) in
+          let there : share p b.place g ≢ [] = λ e. there_some sent b m full (whole b.place ∙ e) in
+          source_smaller p.nodes q.plan b.place.node b.place.port g.node (read_there b.place there)

@@ -21,7 +21,7 @@ use Rattle.machine.specs.Boards.Inputs.{feed_faults, advance_faults}
 use Rattle.machine.specs.Boards as boards
 use Rattle.machine.specs.Boards.{BoardState, Stands, after_look, after_feed, after_advance, after_take, after_turn, after_give}
 use Rattle.worker.specs.declared.doing.Doing.{Doing}
-use Rattle.worker.specs.Relays.{HasNoSmallBound}
+use Rattle.worker.specs.Large.{HasNoSmallBound}
 use Rattle.worker.specs.Tenures.{Terms, SharedState, events, terms_of_board, doing, is_change, AreOn, left_by, StandsFor, feed_refusal_in, advance_refusal_in}
 
 true_among : (a b : Bool) → (a || b) ≡ true → (a ≡ true) ⊎ (b ≡ true)

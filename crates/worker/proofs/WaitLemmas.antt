@@ -1,8 +1,7 @@
--- How many bundles wait at a node, and what is cut of nothing.
+-- Where nothing waits no bundle is, and of nothing no bundle is cut.
 use Rattle.std.proofs.Common.{◌≡◌, ℕ, zero, suc, ◌+◌, ◌<◌, ◌≤◌, Bool, true, false, cond, ◌&&◌, ◌||◌, eqb, nat_lt, not, List, [], ◌∷◌, ◌++◌, map, length, Option, Some, None, IsTrue, sym, refl, ap, ◌∙◌, subst, arith, inl, inr, ⊎_elim}
-use Rattle.std.specs.List.{slice_get, list_all, filter}
-use Rattle.std.proofs.lemmas.Bool.{and_parts, eqb-true, ne_eqb}
-use Rattle.std.proofs.lemmas.List.{append-nil}
+use Rattle.std.specs.List.{list_all, filter}
+use Rattle.std.proofs.lemmas.Bool.{eqb-true}
 use Rattle.antichain.proofs.Lists.{Among, all_at}
 use Rattle.update.specs.declared.change.Update.{Update}
 use Rattle.plan.specs.Nodes.{sources, arranged_by}
@@ -13,16 +12,14 @@ use Rattle.machine.specs.declared.histories.event.Site.{Site}
 use Rattle.machine.specs.declared.histories.event.Bundle.{Bundle}
 use Rattle.machine.specs.declared.histories.event.Emission.{Emission}
 use Rattle.machine.specs.Histories.Dataflows.{Dataflow, node_of, source_of}
-use Rattle.machine.specs.Histories.States.{place, same_place, queue, updates_at}
+use Rattle.machine.specs.Histories.States.{State, place, same_place, queue, updates_at}
 use Rattle.machine.specs.Histories.Shares.{are_filled, part, share, share_from}
-use Rattle.machine.specs.Histories.{without}
-use Rattle.machine.specs.Boards.Loads.{Lot, lot_of, queue_of, bundle_at}
 use Rattle.machine.proofs.BoardLemmas.PlacingLemmas.{itself}
 use Rattle.worker.specs.Gathering.{IsCut}
 use Rattle.worker.specs.Passes.{is_due}
-use Rattle.worker.specs.Relays.{waits_at}
+use Rattle.worker.specs.Relays.{HasNone}
 use Rattle.worker.proofs.PassLemmas.{due_parts, lt_from}
-use Rattle.worker.proofs.QueueLemmas.{queue_both, queue_without, none_sent}
+use Rattle.worker.proofs.QueueLemmas.{none_sent}
 
 -- no node has more than two ports
 pub port_few : (node : Node) (port : ℕ) → IsTrue (is_port node port) → port < 2
@@ -43,107 +40,29 @@ port_few node port h = step (eqb port 0) refl h
     step true e f = let x = eqb-true port 0 e in omega (arith, x)
     step false e f = let l = lt_from port (length (sources node)) f in let m = few node in omega (arith, l, m)
 
-port_either : (port : ℕ) → port < 2 → (P : ℕ → Type 0) → P 0 → P 1 → P port
-port_either zero l P a b = a
-port_either (suc zero) l P a b = b
-port_either (suc (suc port)) l P a b = absurd (omega arith)
-
 module _ {T : Type 0} where
-  -- how many of these bundles are at node n, for worker 0
-  abbrev pub count_at : ℕ → List (Bundle T) → ℕ
-  count_at n bundles = length (queue (place n 0 0) bundles) + length (queue (place n 1 0) bundles)
-
-  -- what waits on a board that has the queues of these bundles
-  pub waits_are : (n : ℕ) (stations : List (List (Lot T))) (bundles : List (Bundle T)) → ((site : Site) → queue_of stations site ≡ queue site bundles) → waits_at n stations ≡ count_at n bundles
-  waits_are n stations bundles same =
-      let left = sym (many (bundle_at (place n 0 0)) (lot_of stations n 0).left) ∙ ap length (same (place n 0 0)) in
-      let right = sym (many (bundle_at (place n 1 0)) (lot_of stations n 0).right) ∙ ap length (same (place n 1 0)) in
-      λ i. left i + right i
+  -- a bundle waits at its own place
+  in_queue : (b : Bundle T) (bundles : List (Bundle T)) → Among b bundles → Among b (queue b.place bundles)
+  in_queue b [] m = m
+  in_queue b (c ∷ bundles) m = ⊎_elim (λ e. first e) (λ k. later (same_place c.place b.place) (in_queue b bundles k)) m
     where
-      many : {A B : Type 0} (f : A → B) (xs : List A) → length (map f xs) ≡ length xs
-      many f [] = refl
-      many f (x ∷ xs) = ap suc (many f xs)
+      first : c ≡ b → Among b (queue b.place (c ∷ bundles))
+      first e = subst (λ (y : Bundle T). Among b (cond (same_place y.place b.place) (y ∷ []) [] ++ queue b.place bundles)) (sym e)
+          (subst (λ t. Among b (cond t (b ∷ []) [] ++ queue b.place bundles)) (sym (itself b.place)) (inl refl))
 
-  none_at : (n port : ℕ) (sent : List (Bundle T)) → ((b : Bundle T) → Among b sent → eqb b.place.node n ≡ false) → queue (place n port 0) sent ≡ []
-  none_at n port [] h = refl
-  none_at n port (b ∷ sent) h =
-      ap (λ c. cond (c && (eqb b.place.port port && eqb b.place.worker 0)) (b ∷ []) [] ++ queue (place n port 0) sent) (h b (Rattle.std.proofs.Common.inl refl))
-      ∙ none_at n port sent (λ c m. h c (Rattle.std.proofs.Common.inr m))
+      later : (t : Bool) → Among b (queue b.place bundles) → Among b (cond t (c ∷ []) [] ++ queue b.place bundles)
+      later true k = inr k
+      later false k = k
 
-  -- what is sent to later nodes does not wait here
-  pub count_sent : (p : Dataflow) (n : ℕ) (bundles sent : List (Bundle T)) → list_all (is_due p (suc n)) sent ≡ true → count_at n (bundles ++ sent) ≡ count_at n bundles
-  count_sent p n bundles sent due = λ i. (same 0 i) + (same 1 i)
-    where
-      far : (m : ℕ) → suc n ≤ m → eqb m n ≡ false
-      far m l = ne_eqb m n (λ e. absurd (omega (arith, e, l)))
+  -- if nothing waits at any port of a node, then no bundle is there
+  pub none_at : (p : Dataflow) (n m : ℕ) (w : State T) → HasNone m w → list_all (is_due p n) w.in_flight ≡ true → (b : Bundle T) → Among b w.in_flight → b.place.node ≡ m → ⊥
+  none_at p n m w none due b among at =
+      let d = due_parts p n b (all_at (is_due p n) w.in_flight b due among) in
+      let here : b.place ≡ place m b.place.port 0 = λ i. record { node = at i; port = b.place.port; worker = d.worker i } in
+      subst (Among b) (ap (λ site. queue site w.in_flight) here ∙ none b.place.port) (in_queue b w.in_flight among)
 
-      away : (b : Bundle T) → Among b sent → eqb b.place.node n ≡ false
-      away b m = let d = due_parts p (suc n) b (all_at (is_due p (suc n)) sent b due m) in far b.place.node d.later
-
-      same : (port : ℕ) → length (queue (place n port 0) (bundles ++ sent)) ≡ length (queue (place n port 0) bundles)
-      same port = ap length (queue_both (place n port 0) bundles sent ∙ (ap (λ q. queue (place n port 0) bundles ++ q) (none_at n port sent away) ∙ append-nil (queue (place n port 0) bundles)))
-
-  one_less : (site : Site) (bundles : List (Bundle T)) (b : Bundle T) → slice_get (queue site bundles) 0 ≡ Some b → suc (length (queue site (without site bundles 0))) ≡ length (queue site bundles)
-  one_less site [] b e = cc
-  one_less site (c ∷ bundles) b e = step (same_place c.place site) refl e (one_less site bundles b)
-    where
-      step : (x : Bool) → same_place c.place site ≡ x → slice_get (cond x (c ∷ []) [] ++ queue site bundles) 0 ≡ Some b → (slice_get (queue site bundles) 0 ≡ Some b → suc (length (queue site (without site bundles 0))) ≡ length (queue site bundles))
-          → suc (length (queue site (cond x bundles (c ∷ without site bundles 0)))) ≡ length (cond x (c ∷ []) [] ++ queue site bundles)
-      step true s e ih = refl
-      step false s e ih = ap (λ x. suc (length (cond x (c ∷ []) [] ++ queue site (without site bundles 0)))) s ∙ ih e
-
-  -- a take at the node leaves one less
-  pub count_taken : (n port : ℕ) (bundles : List (Bundle T)) (b : Bundle T) → port < 2 → slice_get (queue (place n port 0) bundles) 0 ≡ Some b → suc (count_at n (without (place n port 0) bundles 0)) ≡ count_at n bundles
-  count_taken n port bundles b few e = port_either port few (λ i. slice_get (queue (place n i 0) bundles) 0 ≡ Some b → suc (count_at n (without (place n i 0) bundles 0)) ≡ count_at n bundles) first second e
-    where
-      no : (a c : Bool) → c ≡ false → (a && (c && true)) ≡ false
-      no true c h = ap (λ z. z && true) h
-      no false c h = refl
-
-      first : slice_get (queue (place n 0 0) bundles) 0 ≡ Some b → suc (count_at n (without (place n 0 0) bundles 0)) ≡ count_at n bundles
-      first e =
-          let x = one_less (place n 0 0) bundles b e in
-          let y = ap length (queue_without (place n 1 0) (place n 0 0) (no (eqb n n) (eqb 0 1) refl) bundles 0) in
-          omega (arith, x, y)
-
-      second : slice_get (queue (place n 1 0) bundles) 0 ≡ Some b → suc (count_at n (without (place n 1 0) bundles 0)) ≡ count_at n bundles
-      second e =
-          let x = one_less (place n 1 0) bundles b e in
-          let y = ap length (queue_without (place n 0 0) (place n 1 0) (no (eqb n n) (eqb 1 0) refl) bundles 0) in
-          omega (arith, x, y)
-
-  -- if nothing waits at a node, then no bundle is there
-  pub none_there : (p : Dataflow) (n : ℕ) (stations : List (List (Lot T))) (bundles : List (Bundle T)) → ((site : Site) → queue_of stations site ≡ queue site bundles) → list_all (is_due p n) bundles ≡ true → waits_at n stations ≡ 0
-      → (b : Bundle T) → Among b bundles → b.place.node ≡ n → ⊥
-  none_there p n stations bundles same due none b m at =
-      let d = due_parts p n b (all_at (is_due p n) bundles b due m) in
-      let few = port_few (node_of p b.place.node) b.place.port d.port in
-      let count = sym (waits_are n stations bundles same) ∙ none in
-      port_either b.place.port few (λ port. b.place.port ≡ port → ⊥) (λ e. some 0 (here 0 e d.worker) count) (λ e. some 1 (here 1 e d.worker) count) refl
-    where
-      here : (port : ℕ) → b.place.port ≡ port → b.place.worker ≡ 0 → same_place b.place (place n port 0) ≡ true
-      here port e w = subst (λ site. same_place b.place site ≡ true) (λ i. record { node = at i; port = e i; worker = w i }) (itself b.place)
-
-      long : (site : Site) (xs : List (Bundle T)) → Among b xs → same_place b.place site ≡ true → 0 < length (queue site xs)
-      long site [] a e = absurd a
-      long site (c ∷ xs) a e = ⊎_elim (λ x. first x) (λ x. later (same_place c.place site) (long site xs x e)) a
-        where
-          first : c ≡ b → 0 < length (queue site (c ∷ xs))
-          first x = subst (λ y. 0 < length (cond y (c ∷ []) [] ++ queue site xs)) (sym (ap (λ (z : Bundle T). same_place z.place site) x ∙ e)) (omega arith)
-
-          later : (y : Bool) → 0 < length (queue site xs) → 0 < length (cond y (c ∷ []) [] ++ queue site xs)
-          later true l = omega arith
-          later false l = l
-
-      some : (port : ℕ) → same_place b.place (place n port 0) ≡ true → count_at n bundles ≡ 0 → ⊥
-      some zero e c = let l = long (place n 0 0) bundles m e in absurd (omega (arith, l, c))
-      some (suc zero) e c = let l = long (place n 1 0) bundles m e in absurd (omega (arith, l, c))
-      some (suc (suc port)) e c = absurd (none_such port e)
-        where
-          none_such : (port : ℕ) → same_place b.place (place n (suc (suc port)) 0) ≡ true → ⊥
-          none_such port e = let few = port_few (node_of p b.place.node) b.place.port (due_parts p n b (all_at (is_due p n) bundles b due m)).port in
-              let x = eqb-true b.place.port (suc (suc port)) (and_parts (eqb b.place.port (suc (suc port))) (eqb b.place.worker 0) (and_parts (eqb b.place.node n) (eqb b.place.port (suc (suc port)) && eqb b.place.worker 0) e).1).0 in
-              omega (arith, few, x)
+  pub none_there : (p : Dataflow) (n : ℕ) (w : State T) → HasNone n w → list_all (is_due p n) w.in_flight ≡ true → (b : Bundle T) → Among b w.in_flight → b.place.node ≡ n → ⊥
+  none_there p n w none due b among at = none_at p n n w none due b among at
 
 module _ {T : Type 0} (below : T → T → Bool) (p : Dataflow) (g : Emission T) (sent : List (Bundle T)) where
   -- of nothing no bundle is cut

@@ -4,7 +4,7 @@ use Rattle.std.specs.declared.cmp.Ordering.{Ordering}
 use Rattle.update.specs.Bags.{Entry}
 use Rattle.update.specs.declared.change.Update.{Update}
 use Rattle.update.specs.declared.refusal.Refusal.{Refusal}
-use Rattle.plan.specs.Changes.{AreDifferences, has_passed, query_at}
+use Rattle.plan.specs.Changes.{AreDifferences, query_at}
 use Rattle.hub.specs.Known.{Known}
 use Rattle.machine.specs.declared.histories.event.Fed.{Fed}
 use Rattle.machine.specs.Histories.Dataflows.{Dataflow}
@@ -12,7 +12,7 @@ use Rattle.machine.specs.Histories.Outstanding.{frontier, input_frontier}
 use Rattle.machine.specs.Histories.Promises.{changes_in}
 use Rattle.machine.specs.Histories.Readings.{IsQuiet}
 use Rattle.worker.specs.declared.doing.Doing.{Doing}
-use Rattle.worker.specs.Relays.{HasNoSmallBound}
+use Rattle.worker.specs.Large.{HasNoSmallBound}
 use Rattle.worker.specs.Tenures.{terms_in, state_found, feed_refusal_in, read_refusal_in, changes_refusal_in, IsReadRefusalIn, IsChangesRefusalIn}
 
 module _ {T : Type 0} where

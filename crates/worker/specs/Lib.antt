@@ -14,3 +14,5 @@ pub mod Relays
 pub mod Openings
 pub mod Tenures
 pub mod Found
+pub mod Large
+pub mod Between

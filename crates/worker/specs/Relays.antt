@@ -1,96 +1,101 @@
--- One worker that runs on the caller's thread, with the board at hand: the board and the desk before and after its steps.
-use Rattle.std.specs.Prelude.{◌≡◌, ℕ, ◌+◌, ◌^◌, ◌<◌, ◌≤◌, Bool, true, false, List, ◌++◌, length, Option, IsTrue}
+-- One worker at a hub, all others being clients: what it has to keep in mind of the board between its steps.
+use Rattle.std.specs.Prelude.{◌≡◌, ◌<◌, ◌≤◌, ℕ, Bool, List, [], length, Option, IsTrue}
+use Rattle.std.specs.List.{filter}
 use Rattle.std.specs.declared.cmp.Ordering.{Ordering}
+use Rattle.lattice.specs.Frontiers.{all_beyond}
+use Rattle.antichain.specs.Antichains.{SameElements}
 use Rattle.update.specs.Refusals.{IsMemoryOrOverflow}
 use Rattle.update.specs.declared.refusal.Refusal.{Refusal}
 use Rattle.update.specs.declared.change.Update.{Update}
-use Rattle.plan.specs.Bounds.{IsBound}
-use Rattle.plan.specs.declared.node.Node.{Node}
-use Rattle.machine.specs.declared.histories.event.Event.{Event}
-use Rattle.machine.specs.declared.histories.event.Event.TheVariants.{Feed, Advance, Allow, Look}
-use Rattle.lattice.specs.Frontiers.{all_beyond}
-use Rattle.machine.specs.Histories.States.{held_at}
-use Rattle.machine.specs.Histories.Outstanding.{input_frontier}
-use Rattle.machine.specs.Histories.{state_after}
-use Rattle.machine.specs.Histories.Actors.{IsSameOfClients}
-use Rattle.machine.specs.Histories.Promises.{changes_in}
-use Rattle.machine.specs.Histories.Readings.{IsQuiet}
-use Rattle.machine.specs.Boards.{BoardState, Stands}
-use Rattle.machine.specs.Boards.Loads.{Lot, lot_of}
-use Rattle.worker.specs.Passes.{IsAtNode, IsFreeAtNode}
-use Rattle.worker.specs.Desks.{DeskState, IsDesk, IsDeskWith}
 use Rattle.linear.specs.Widths.{are_wide}
 use Rattle.plan.specs.Widths.{width_of}
+use Rattle.hub.specs.Known.{Known}
+use Rattle.hub.specs.declared.view.Entry.{Entry}
+use Rattle.machine.specs.declared.histories.event.Bundle.{Bundle}
+use Rattle.machine.specs.declared.histories.event.Event.TheVariants.{Take, TakeHeld}
+use Rattle.machine.specs.Histories.Dataflows.{Dataflow}
+use Rattle.machine.specs.Histories.Outstanding.{input_frontier}
+use Rattle.machine.specs.Histories.Promises.{changes_in}
+use Rattle.machine.specs.Histories.States.{State, held_at, place, queue}
+use Rattle.machine.specs.Histories.{IsTake, IsTakeHeld, next_state}
+use Rattle.worker.specs.declared.doing.Doing.{Doing}
+use Rattle.worker.specs.Desks.{DeskState, IsDesk, IsDeskWith}
+use Rattle.worker.specs.Found.{dataflow_of}
+use Rattle.worker.specs.Large.{HasNoSmallBound}
+use Rattle.worker.specs.Passes.{IsAtNode, IsFreeAtNode}
+use Rattle.worker.specs.Tenures.{is_change, state_found, state_left, terms_in}
 
--- how many bundles wait at node n for worker 0
-abbrev pub waits_at : {T : Type 0} → ℕ → List (List (Lot T)) → ℕ
-waits_at n stations = length (lot_of stations n 0).left + length (lot_of stations n 0).right
+-- nothing waits for worker 0 at any port of a node
+abbrev pub HasNone : {T : Type 0} → ℕ → State T → Type 0
+HasNone n w = (port : ℕ) → queue (place n port 0) w.in_flight ≡ []
 
--- with these changes some node has no bound below 2^63
-abbrev pub HasNoSmallBound : {T : Type 0} → (T → T → Bool) → (T → T → Ordering) → List Node → (ℕ → List (Update T)) → Type 0
-HasNoSmallBound below cmp p changes =
-    (n : ℕ) × (n < length p) × ((bound : ℕ) → IsBound below cmp p changes n bound → 2 ^ 63 ≤ bound)
-
--- a client did this, or somebody looked
-abbrev pub is_of_client : {T : Type 0} → Event T → Bool
-is_of_client (Feed client f) = true
-is_of_client (Advance client i ts) = true
-is_of_client (Allow client v ts) = true
-is_of_client (Look actor) = true
-is_of_client other = false
-
-module _ {T : Type 0} (below : T → T → Bool) (minimum : T) where
-  -- the board c stands for a history that extends h by later events, none of them by a client
-  abbrev pub IsContinuedFrom : List (Event T) → BoardState T → BoardState T → Type 0
-  IsContinuedFrom h b c = (later : List (Event T)) × Stands below minimum c (later ++ h)
-      × IsSameOfClients (state_after below minimum b.dataflow h) (state_after below minimum c.dataflow (later ++ h))
-
-  -- with the changes fed in the history some node has no bound below 2^63
-  abbrev pub IsTooLarge : (T → T → Ordering) → BoardState T → List (Event T) → Type 0
-  IsTooLarge cmp b h = HasNoSmallBound below cmp b.dataflow.nodes (changes_in (state_after below minimum b.dataflow h))
-
-  -- a step was refused: for want of memory, or with a number that is too large, which has its cause in the changes.
-  -- Some events may have happened by then
-  pub record IsStopped (cmp : T → T → Ordering) (h : List (Event T)) (b c : BoardState T) (refusal : Refusal) : Type 0 where
-    pub continued : IsContinuedFrom h b c
-    pub cause : IsMemoryOrOverflow (IsTooLarge cmp b h) refusal
+-- something waits for worker 0 at some port of a node
+abbrev pub HasSome : {T : Type 0} → ℕ → State T → Type 0
+HasSome n w = (port : ℕ) × (0 < length (queue (place n port 0) w.in_flight))
 
 module _ {T : Type 0} (below : T → T → Bool) (joined : T → T → T) (minimum : T) where
-  -- the board stands for the history; after it, the pass has come to node n, the worker has nothing in hand, and its desk
-  -- is right
-  pub record IsRunning (b : BoardState T) (d : DeskState T) (n : ℕ) (h : List (Event T)) : Type 0 where
-    pub stands : Stands below minimum b h
-    pub free : IsFreeAtNode below b.dataflow (state_after below minimum b.dataflow h) n
-    pub desk : IsDesk below joined minimum b.dataflow (state_after below minimum b.dataflow h) 0 d
+  -- in this state the pass of worker 0 has come to node n, the worker has nothing in hand, and its desk is right
+  pub record IsReadyAt (p : Dataflow) (w : State T) (d : DeskState T) (n : ℕ) : Type 0 where
+    pub free : IsFreeAtNode p w n
+    pub desk : IsDesk below joined minimum p w 0 d
 
-  -- the worker ran on from the history until the pass had come to node n
-  abbrev pub IsRunFrom : List (Event T) → BoardState T → BoardState T → DeskState T → ℕ → Type 0
-  IsRunFrom h b c d n = (later : List (Event T)) × IsRunning c d n (later ++ h)
-      × IsSameOfClients (state_after below minimum b.dataflow h) (state_after below minimum c.dataflow (later ++ h))
+  -- in this state the pass of worker 0 has come to node n, the worker has this in hand, and what it made of bundles there
+  -- waits to be given
+  pub record IsGatheringAt (p : Dataflow) (w : State T) (d : DeskState T) (n : ℕ) (gathered : List (Update T)) (hand : Option ℕ) : Type 0 where
+    pub at : IsAtNode p w n
+    pub has : w.hand 0 ≡ hand
+    pub desk : IsDeskWith below joined minimum p w 0 d n gathered
+    pub wide : IsTrue (are_wide (width_of p.nodes n) gathered)
 
-  -- and what the worker holds at the node could still receive input
-  abbrev pub IsSettledFrom : List (Event T) → BoardState T → BoardState T → DeskState T → ℕ → Type 0
-  IsSettledFrom h b c d n = (later : List (Event T)) × IsRunning c d n (later ++ h)
-      × IsSameOfClients (state_after below minimum b.dataflow h) (state_after below minimum c.dataflow (later ++ h))
-      × IsTrue (all_beyond below (input_frontier below c.dataflow (state_after below minimum c.dataflow (later ++ h)) n)
-      (held_at n 0 (state_after below minimum c.dataflow (later ++ h)).held))
+  -- worker 0 is ready in the state that it left
+  pub record IsRunning (k : Known (Doing T)) (d : DeskState T) (n : ℕ) : Type 0 where
+    pub number : k.number ≡ 0
+    pub ready : IsReadyAt (dataflow_of k) (state_left below minimum k) d n
 
-  -- the worker ran through all nodes: all is quiet, and the next pass may begin
-  abbrev pub IsRelayedFrom : List (Event T) → BoardState T → BoardState T → DeskState T → Type 0
-  IsRelayedFrom h b c d = (later : List (Event T)) × IsRunning c d 0 (later ++ h)
-      × IsSameOfClients (state_after below minimum b.dataflow h) (state_after below minimum c.dataflow (later ++ h))
-      × IsQuiet below c.dataflow (state_after below minimum c.dataflow (later ++ h))
+  -- worker 0 is gathering in the state that it left
+  pub record IsGatheringOn (k : Known (Doing T)) (d : DeskState T) (n : ℕ) (gathered : List (Update T)) (hand : Option ℕ) : Type 0 where
+    pub number : k.number ≡ 0
+    pub gathering : IsGatheringAt (dataflow_of k) (state_left below minimum k) d n gathered hand
 
-  -- the board stands for the history; after it, the pass has come to node n, the worker has this in hand, and what it made
-  -- of bundles there waits to be given
-  pub record IsGatheringOn (b : BoardState T) (d : DeskState T) (n : ℕ) (h : List (Event T)) (gathered : List (Update T)) (hand : Option ℕ) : Type 0 where
-    pub stands : Stands below minimum b h
-    pub at : IsAtNode below b.dataflow (state_after below minimum b.dataflow h) n
-    pub has : (state_after below minimum b.dataflow h).hand 0 ≡ hand
-    pub desk : IsDeskWith below joined minimum b.dataflow (state_after below minimum b.dataflow h) 0 d n gathered
-    pub wide : IsTrue (are_wide (width_of b.dataflow.nodes n) gathered)
+module _ {T : Type 0} (below : T → T → Bool) (minimum : T) where
+  -- worker 0 has just taken this bundle at node n
+  pub record HasTaken (k : Known (Doing T)) (n : ℕ) (bundle : Bundle T) : Type 0 where
+    pub node : bundle.place.node ≡ n
+    pub worker : bundle.place.worker ≡ 0
+    pub take : IsTake below (dataflow_of k) (state_found below minimum k) 0 bundle
+    pub left : state_left below minimum k ≡ next_state below (dataflow_of k) (state_found below minimum k) (Take 0 bundle)
 
-  -- the worker ran on from the history until this was gathered at node n
-  abbrev pub IsGatheredFrom : List (Event T) → BoardState T → BoardState T → DeskState T → ℕ → List (Update T) → Option ℕ → Type 0
-  IsGatheredFrom h b c d n gathered hand = (later : List (Event T)) × IsGatheringOn c d n (later ++ h) gathered hand
-      × IsSameOfClients (state_after below minimum b.dataflow h) (state_after below minimum c.dataflow (later ++ h))
+  -- worker 0 has just turned to what it holds at node n, whose input frontier was this
+  pub record HasTurned (k : Known (Doing T)) (n : ℕ) (upper : List T) : Type 0 where
+    pub turn : IsTakeHeld below (dataflow_of k) (state_found below minimum k) 0 n
+    pub left : state_left below minimum k ≡ next_state below (dataflow_of k) (state_found below minimum k) (TakeHeld 0 n)
+    pub frontier : SameElements upper (input_frontier below (dataflow_of k) (state_found below minimum k) n)
+
+  -- with the changes that the worker has seen some node has no bound below 2^63
+  abbrev pub IsTooLarge : (T → T → Ordering) → Known (Doing T) → Type 0
+  IsTooLarge cmp k = HasNoSmallBound below cmp (dataflow_of k).nodes (changes_in (state_left below minimum k))
+
+  -- a step may be refused so: for want of memory, or with a number that is too large, which has its cause in the changes
+  abbrev pub IsStopped : (T → T → Ordering) → Known (Doing T) → Refusal → Type 0
+  IsStopped cmp k refusal = IsMemoryOrOverflow (IsTooLarge cmp k) refusal
+
+module _ {T : Type 0} where
+  -- how many of these entries are changes: only clients make some
+  abbrev pub changes_of : List (Entry (Doing T)) → ℕ
+  changes_of es = length (filter (λ e. is_change e.event.event) es)
+
+  -- the same actor at the same hub, later: it has seen no fewer changes
+  pub record IsSameActor (old new : Known (Doing T)) : Type 0 where
+    pub hub : new.hub ≡ old.hub
+    pub number : new.number ≡ old.number
+    pub terms : terms_in new.seen ≡ terms_in old.seen
+    pub grows : changes_of old.seen ≤ changes_of new.seen
+
+  -- no client changed anything between these two moments of an actor
+  abbrev pub IsCalm : Known (Doing T) → Known (Doing T) → Type 0
+  IsCalm old new = changes_of new.seen ≡ changes_of old.seen
+
+  -- at the nodes before node n nothing waits, and each time that worker 0 holds there could still receive input
+  pub record IsSettledTo (below : T → T → Bool) (p : Dataflow) (w : State T) (n : ℕ) : Type 0 where
+    pub none : (m : ℕ) → m < n → HasNone m w
+    pub held : (m : ℕ) → m < n → IsTrue (all_beyond below (input_frontier below p w m) (held_at m 0 w.held))

@@ -20,14 +20,15 @@ use Rattle.machine.specs.declared.histories.event.Event.TheVariants.{Feed, Advan
 use Rattle.machine.specs.declared.histories.event.Fed.{Fed}
 use Rattle.machine.specs.Boards.Inputs.{feed_faults, advance_faults}
 use Rattle.machine.specs.Histories.Dataflows.{Dataflow, IsDataflow}
-use Rattle.machine.specs.Histories.States.{State, fed_to, open_at}
+use Rattle.machine.specs.Histories.States.{State, place, queue, fed_to, open_at}
 use Rattle.machine.specs.Histories.{actor_of, state_after, IsLegal}
 use Rattle.machine.specs.Histories.Promises.{changes_in}
 use Rattle.machine.specs.Histories.Outstanding.{frontier}
 use Rattle.machine.specs.Histories.Readings.{is_from_start}
 use Rattle.machine.specs.Boards.{BoardState, Stands}
+use Rattle.machine.specs.Boards.Loads.{Lot, queue_of}
 use Rattle.worker.specs.declared.doing.Doing.{Doing}
-use Rattle.worker.specs.Relays.{HasNoSmallBound}
+use Rattle.worker.specs.Large.{HasNoSmallBound}
 
 -- how a board was opened: its dataflow, and how many actors share it. Workers are numbered from 0, and clients follow
 pub record Terms : Type 0 where
@@ -180,3 +181,15 @@ module _ {T : Type 0} where
       pub dataflow : IsDataflow (terms_in k.seen).dataflow
       pub legal : IsLegal below minimum (terms_in k.seen).dataflow (events k.seen)
       pub actor : k.number < (terms_in k.seen).actors
+
+-- whether a bundle waits for a worker at a node: if so then at some port, and if not then at none. First on a board, and
+-- then in a state
+abbrev pub WaitsOrNot : {T : Type 0} → Bool → ℕ → ℕ → List (List (Lot T)) → Type 0
+WaitsOrNot more n k stations =
+    (IsTrue more → (port : ℕ) × (0 < length (queue_of stations (place n port k))))
+    × (more ≡ false → (port : ℕ) → queue_of stations (place n port k) ≡ [])
+
+abbrev pub WaitsOrNotIn : {T : Type 0} → Bool → ℕ → ℕ → State T → Type 0
+WaitsOrNotIn more n k w =
+    (IsTrue more → (port : ℕ) × (0 < length (queue (place n port k) w.in_flight)))
+    × (more ≡ false → (port : ℕ) → queue (place n port k) w.in_flight ≡ [])

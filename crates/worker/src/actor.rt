@@ -20,32 +20,33 @@ ghost use Rattle.machine.specs.Histories.Promises.{changes_in};
 ghost use Rattle.machine.specs.Histories.Readings.{IsQuiet};
 ghost use Rattle.machine.specs.Histories.States.{change_to, held_at, place, queue};
 ghost use Rattle.worker.specs.Found.{AreDifferencesFound, IsChangesRefusalFound, IsReadRefusalFound, WasQuiet, WasTooLarge, changes_refusal_found, feed_refusal_found, frontier_found, input_frontier_found, query_found, read_refusal_found};
-ghost use Rattle.worker.specs.Relays.{HasNoSmallBound};
-ghost use Rattle.worker.specs.Tenures.{Adds, IsActor, IsFirst, terms_for, terms_in, state_found, state_left, feed_refusal_in, advance_refusal_in, read_refusal_in, changes_refusal_in, IsReadRefusalIn, IsChangesRefusalIn};
+ghost use Rattle.worker.specs.Large.{HasNoSmallBound};
+ghost use Rattle.worker.specs.Tenures.{Adds, IsActor, IsFirst, WaitsOrNotIn, terms_for, terms_in, state_found, state_left, feed_refusal_in, advance_refusal_in, read_refusal_in, changes_refusal_in, IsReadRefusalIn, IsChangesRefusalIn};
 
-use crate::boards::Boards;
+use crate::boards::BoardProtocol;
 use antichain::Antichain;
 use hub::{Hub, Pass};
 use lattice::Minimum;
 use machine::{Bundle, Bundles, Emission, Ungiven};
 use plan::{NodeId, Plan};
 use std::alloc::Global;
-use std::marker::Model;
+use std::marker::{Model, PhantomData};
 use std::sync::{Arc, Wait};
 use update::{Bag, Refusal, Times, Update};
 
 /// An actor: a worker or a client, with its pass. A contract sees what its pass has seen.
 #[derive(Drop)]
-pub struct Actor<T: Minimum> {
+pub struct Actor<T: Minimum, P: BoardProtocol<T>> {
     number: usize,
-    hub: Arc<Hub<Boards<T>>, Global>,
+    hub: Arc<Hub<P>, Global>,
     // Always there between two calls.
-    pass: Option<Pass<Boards<T>>>,
+    pass: Option<Pass<P>>,
     // How many changes the board had accepted when the actor left it last.
     accepted: Option<u64>,
+    of: PhantomData<T>,
 }
 
-impl<T: Minimum> Model for Actor<T> {
+impl<T: Minimum, P: BoardProtocol<T>> Model for Actor<T, P> {
     ghost use Rattle.std.specs.Prelude.{◌≡◌, ℕ, [], IsSomeAnd, length, Some};
     ghost use Rattle.std.specs.Arc.{arc_value};
     ghost use Rattle.std.specs.Option.{unwrap_or};
@@ -65,18 +66,18 @@ impl<T: Minimum> Model for Actor<T> {
         × ((n : ℕ) → a.accepted ≡ Some n → length (state_left T.below T.least p).fed ≡ n)) };
 }
 
-impl<T: Minimum> Actor<T> {
+impl<T: Minimum, P: BoardProtocol<T>> Actor<T, P> {
     // The actor of a pass that has seen nothing. It looks once, so that it knows the terms of the board. A board on other
     // terms, which cannot be there, is answered with `OutOfMemory`.
     pub(crate) fn first<R: Wait>(
         rt: &R,
-        hub: Arc<Hub<Boards<T>>, Global>,
-        pass: Pass<Boards<T>>,
+        hub: Arc<Hub<P>, Global>,
+        pass: Pass<P>,
         number: usize,
         plan: &Plan,
         workers: usize,
         clients: usize,
-    ) -> Result<Actor<T>, Refusal>
+    ) -> Result<Actor<T, P>, Refusal>
         requires clients { clients ≤ 16 }
         requires actor { number < workers + clients }
         requires pass { pass ≡ record { hub = hub_id (arc_value hub); number = number; seen = [] } }
@@ -99,6 +100,7 @@ impl<T: Minimum> Actor<T> {
             hub,
             pass: Some(pass),
             accepted,
+            of: PhantomData,
         })
     }
 
@@ -275,17 +277,20 @@ impl<T: Minimum> Actor<T> {
         answer
     }
 
-    /// A worker with nothing in hand takes the first bundle that waits for it at a node. `None` if no bundle waits there.
-    /// Refused only with `OutOfMemory`. The event is a take only if there is a bundle in the answer; otherwise it is a look.
+    /// A worker with nothing in hand takes the first bundle that waits for it at a node. With it comes whether more wait there.
+    /// `None` if no bundle waits. Refused only with `OutOfMemory`. The event is a take only if there is a bundle in the answer;
+    /// otherwise it is a look.
     pub fn take_first<R: Wait>(
         &mut self,
         rt: &R,
         node: NodeId,
-    ) -> Result<Option<Bundle<T>>, Refusal>
+    ) -> Result<Option<(Bundle<T>, bool)>, Refusal>
         requires worker { self.old.number < (terms_in self.old.seen).dataflow.workers }
         requires free { (state_left T.below T.least self.old).hand self.old.number ≡ None }
-        ensures taken { IfOk result (λ found. IfSome found (λ bundle. (bundle.place.node ≡ node)
-            × (bundle.place.worker ≡ self.old.number) × Adds self.old (Take 0 bundle) self.new)) }
+        ensures taken { IfOk result (λ found. IfSome found (λ t. (t.0.place.node ≡ node)
+            × (t.0.place.worker ≡ self.old.number) × Adds self.old (Take 0 t.0) self.new)) }
+        ensures more { IfOk result (λ found. IfSome found (λ t.
+            WaitsOrNotIn t.1 node self.old.number (state_left T.below T.least self.new))) }
         ensures none { IfOk result (λ found. found ≡ None
             → Adds self.old (Look self.old.number) self.new
             × ((port : ℕ) → queue (place node port self.old.number)

@@ -10,12 +10,12 @@ ghost use Rattle.update.specs.declared.refusal.Refusal.{Refusal};
 ghost use Rattle.plan.specs.Nodes.{node_at};
 ghost use Rattle.plan.specs.declared.node.Kind.{Kind};
 ghost use Rattle.plan.specs.declared.node.Node.TheVariants.{Arrange, Join, Reduce};
-ghost use Rattle.machine.specs.Boards.{BoardState, Stands};
+ghost use Rattle.machine.specs.Histories.{initial_state};
 ghost use Rattle.worker.specs.Arrangements.{ArrangementState, IsWithReader};
 ghost use Rattle.worker.specs.Joins.{JoiningView};
 ghost use Rattle.worker.specs.Reductions.{ReducingView};
 ghost use Rattle.worker.specs.Openings.{IsFirstArrangement, IsFirstJoin, IsFirstReduction, HasOwnHolds, IsLaidOut, on_one_worker};
-ghost use Rattle.worker.specs.Relays.{IsRunning};
+ghost use Rattle.worker.specs.Relays.{IsReadyAt};
 
 use crate::arrangement::Arrangement;
 use crate::joining::Joining;
@@ -117,9 +117,9 @@ impl<T: Minimum> Desk<T> {
     ///
     /// Cost: linear in the plan.
     pub fn open(alloc: Global, plan: &Plan) -> Result<Desk<T>, Refusal>
-        ensures ready { (b : BoardState T) → b.dataflow ≡ on_one_worker plan.now
-            → Stands T.below T.least b []
-            → IfOk result (λ desk. IsRunning T.below T.joined T.least b desk 0 []) }
+        ensures ready { IfOk result (λ desk. IsReadyAt T.below T.joined T.least
+            (on_one_worker plan.now)
+            (initial_state T.below T.least (on_one_worker plan.now)) desk 0) }
         ensures only { IfErr result (λ refused. refused ≡ Refusal.OutOfMemory) }
     {
         plan.known();

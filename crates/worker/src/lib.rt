@@ -12,17 +12,18 @@
 //! laws are functions with empty bodies. They speak of states and events alone, so they do not know how a worker stores
 //! what it keeps.
 //!
-//! [`relay`] is one worker with a board at hand. It passes once over all nodes, and afterwards all is quiet. What the
-//! worker keeps between two passes is a [`Desk`]: the arrangement, reduction or join of each node, with a hold for each
-//! side of a join at the spine that it reads.
-//!
-//! Several actors share a board through a hub (crate `hub`). [`Boards`] is its protocol: what the hub hands over is a
+//! Several actors share a board through a hub (crate `hub`). [`BoardProtocol`] is its protocol: what the hub hands over is a
 //! [`SharedBoard`], and it stands for the events of all tenures so far. [`open`] makes an [`Actor`] for each worker and each
 //! client. Each of its calls is one tenure and one event, and the answer is right for all that was done by then. The laws of
 //! sharing say what an actor need not mind of the others.
 //!
-//! Who runs a plan calls [`Desk::open`] once and [`relay`] before each question, and cites [`clients_leave_it_ready`] for
-//! what clients do in between. The other names are there to write another worker with.
+//! [`relay`] is the only worker of a board. It passes once over all nodes, and if no client changed anything meanwhile, then
+//! all is quiet afterwards. What the worker keeps between two passes is a [`Desk`]: the arrangement, reduction or join of each
+//! node, with a hold for each side of a join at the spine that it reads.
+//!
+//! Who runs a plan calls [`open`] and [`Desk::open`] once, and before each question [`relay`] until its client finds all quiet.
+//! [`the_first_pass_may_begin`] says that the first pass may begin, and [`clients_leave_it_ready`] that clients do not hinder
+//! the next one. The other names are there to write another worker with.
 #![tactic(auto)]
 
 mod actor;
@@ -40,7 +41,7 @@ mod shared;
 
 pub use actor::Actor;
 pub use arrangement::{Arrangement, what_is_taken_is_up_to_a_boundary};
-pub use boards::Boards;
+pub use boards::{BitemporalBoards, BoardProtocol, Boards};
 pub use desk::Desk;
 pub use doing::Doing;
 pub use joining::Joining;
@@ -67,7 +68,8 @@ pub use laws::sharing::{
 };
 pub use laws::working::{
     clients_leave_it_ready, gives_at_one_node, inserts_at_one_node, joins_read_arranged_nodes,
-    quiet_while_it_waits, reader_has_all, takes_at_one_node, workers_are_apart, working_begins,
+    quiet_while_it_waits, reader_has_all, takes_at_one_node, the_first_pass_may_begin,
+    workers_are_apart, working_begins,
 };
 pub use opening::open;
 pub use reducing::Reducing;

@@ -6,7 +6,7 @@ ghost use Rattle.worker.specs.declared.doing.Doing.{Doing};
 ghost use Rattle.worker.specs.Tenures.{IsFirst, terms_for};
 
 use crate::actor::Actor;
-use crate::boards::Boards;
+use crate::boards::BoardProtocol;
 use crate::shared::SharedBoard;
 use hub::Hub;
 use lattice::Minimum;
@@ -20,13 +20,13 @@ use update::Refusal;
 /// of their numbers, and then one for each client. Each has looked once, so it knows the plan. Refused only with `OutOfMemory`.
 ///
 /// Cost: that of `Board::open`, and one tenure for each actor.
-pub fn open<T: Minimum, R: Wait>(
+pub fn open<T: Minimum, P: BoardProtocol<T>, R: Wait>(
     rt: &R,
     alloc: Global,
     plan: &Plan,
     workers: usize,
     clients: usize,
-) -> Result<Vec<Actor<T>>, Refusal>
+) -> Result<Vec<Actor<T, P>>, Refusal>
     requires workers { (1 ≤ workers) × (workers ≤ 16) }
     requires clients { clients ≤ 16 }
     ensures count { IfOk result (λ actors. length actors.items ≡ workers + clients) }
@@ -40,7 +40,7 @@ pub fn open<T: Minimum, R: Wait>(
 {
     let board = SharedBoard::open(alloc, plan.clone()?, workers, clients)?;
     let state = Box::new(alloc, board)?;
-    let (hub, passes) = Hub::<Boards<T>>::open(alloc, state, workers + clients)?;
+    let (hub, passes) = Hub::<P>::open(alloc, state, workers + clients)?;
     let hub = Arc::new(alloc, hub)?;
     let mut actors = Vec::new(alloc);
     for pass in passes {

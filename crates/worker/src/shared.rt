@@ -25,8 +25,8 @@ ghost use Rattle.machine.specs.Histories.Promises.{changes_in};
 ghost use Rattle.machine.specs.Histories.Readings.{IsQuiet};
 ghost use Rattle.machine.specs.Histories.States.{change_to, held_at, place, queue};
 ghost use Rattle.worker.specs.declared.doing.Doing.{Doing};
-ghost use Rattle.worker.specs.Relays.{HasNoSmallBound};
-ghost use Rattle.worker.specs.Tenures.{StandsFor, doing, left_by, terms_for, terms_of_board, feed_refusal_in, advance_refusal_in, read_refusal_in, changes_refusal_in, IsReadRefusalIn, IsChangesRefusalIn};
+ghost use Rattle.worker.specs.Large.{HasNoSmallBound};
+ghost use Rattle.worker.specs.Tenures.{StandsFor, WaitsOrNot, doing, left_by, terms_for, terms_of_board, feed_refusal_in, advance_refusal_in, read_refusal_in, changes_refusal_in, IsReadRefusalIn, IsChangesRefusalIn};
 
 use antichain::Antichain;
 use lattice::Minimum;
@@ -286,15 +286,21 @@ impl<T: Minimum> SharedBoard<T> {
         quiet
     }
 
-    /// A worker with nothing in hand takes the first bundle that waits for it at a node. `None` if no bundle waits there; then
-    /// the event is a look. Refused only with `OutOfMemory`; then it is a look too.
-    pub fn take_first(&mut self, worker: usize, node: NodeId) -> Result<Option<Bundle<T>>, Refusal>
+    /// A worker with nothing in hand takes the first bundle that waits for it at a node. With it comes whether more wait there.
+    /// `None` if no bundle waits; then the event is a look. Refused only with `OutOfMemory`; then it is a look too.
+    pub fn take_first(
+        &mut self,
+        worker: usize,
+        node: NodeId,
+    ) -> Result<Option<(Bundle<T>, bool)>, Refusal>
         requires worker { worker < self.old.board.dataflow.workers }
         requires free { get_or self.old.board.hand worker None ≡ None }
         ensures terms { terms_of_board self.new ≡ terms_of_board self.old }
-        ensures taken { IfOk result (λ found. IfSome found (λ bundle.
-            (bundle.place.node ≡ node) × (bundle.place.worker ≡ worker)
-            × (self.new.board.last ≡ Take 0 bundle))) }
+        ensures taken { IfOk result (λ found. IfSome found (λ t.
+            (t.0.place.node ≡ node) × (t.0.place.worker ≡ worker)
+            × (self.new.board.last ≡ Take 0 t.0))) }
+        ensures more { IfOk result (λ found. IfSome found (λ t.
+            WaitsOrNot t.1 node worker self.new.board.stations)) }
         ensures none { IfOk result (λ found. found ≡ None → (self.new.board.last ≡ Look worker)
             × ((es : List (Entry (Doing T))) → StandsFor T.below T.least T.cmp self.old es
             → (port : ℕ) → queue (place node port worker)
@@ -308,13 +314,21 @@ impl<T: Minimum> SharedBoard<T> {
         match self.board.waiting_at(node, worker) {
             Some(site) => {
                 let bundle = self.board.take(site, 0)?;
-                Ok(Some(bundle))
+                let more = self.has_waiting(node, worker);
+                Ok(Some((bundle, more)))
             }
             None => {
                 self.board.look(worker);
                 Ok(None)
             }
         }
+    }
+
+    // Whether a bundle waits for a worker at a node.
+    fn has_waiting(&self, node: NodeId, worker: usize) -> bool
+        ensures { WaitsOrNot result node worker self.now.board.stations }
+    {
+        self.board.waiting_at(node, worker).is_some()
     }
 
     /// A worker with nothing in hand turns to the times that it holds at a node, if the node's input frontier has passed one

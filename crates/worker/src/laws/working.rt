@@ -18,7 +18,11 @@ ghost use Rattle.machine.specs.Histories.Readings.{IsQuiet};
 ghost use Rattle.machine.specs.Histories.{initial_state, next_state, give_state, state_after, input_frontier_after, IsTake, IsGive, IsAllowed, IsLegal};
 ghost use Rattle.machine.specs.Boards.{BoardState, Stands};
 ghost use Rattle.worker.specs.Desks.{DeskState};
-ghost use Rattle.worker.specs.Relays.{IsRunning, is_of_client};
+ghost use Rattle.worker.specs.Between.{DoClientsLead};
+ghost use Rattle.worker.specs.Relays.{IsReadyAt, IsRunning};
+ghost use Rattle.worker.specs.Tenures.{IsActor, IsFirst, Terms};
+ghost use Rattle.worker.specs.declared.doing.Doing.{Doing};
+ghost use Rattle.hub.specs.Known.{Known};
 ghost use Rattle.worker.specs.Gathering.{IsCut};
 ghost use Rattle.worker.specs.Working.{Works, IsWorking, IsWorkingAt, IsSameBut, IsForNoJoin, first_works, is_by, still_to_give};
 
@@ -116,11 +120,18 @@ pub fn joins_read_arranged_nodes<T: Minimum>()
         → IsCut T.below p g sent → (k : ℕ) → IsForNoJoin p k sent }
 {}
 
-/// What a client does, or a look, leaves the only worker of a plan ready for its next pass.
+/// What clients do leaves the only worker of a plan ready for its next step.
 pub fn clients_leave_it_ready<T: Minimum>()
-    ensures { (b c : BoardState T) (d : DeskState T) (h : List (Event T)) (e : Event T)
-        → IsDataflow b.dataflow
-        → IsRunning T.below T.joined T.least b d 0 h → c.dataflow ≡ b.dataflow
-        → Stands T.below T.least c (e ∷ h) → IsTrue (is_of_client e)
-        → IsRunning T.below T.joined T.least c d 0 (e ∷ h) }
+    ensures { (p : Dataflow) → IsDataflow p → (w v : State T) (d : DeskState T) (n : ℕ)
+        → DoClientsLead T.below p w v → IsReadyAt T.below T.joined T.least p w d n
+        → IsReadyAt T.below T.joined T.least p v d n }
+{}
+
+/// The only worker of a plan, whose desk was laid out for it, is ready for its first pass once it has looked.
+pub fn the_first_pass_may_begin<T: Minimum>()
+    ensures { (t : Terms) → t.dataflow.workers ≡ 1 → (k : Known (Doing T)) (d : DeskState T)
+        → IsActor T.below T.least k → IsFirst t 0 k
+        → IsReadyAt T.below T.joined T.least t.dataflow
+        (initial_state T.below T.least t.dataflow) d 0
+        → IsRunning T.below T.joined T.least k d 0 }
 {}

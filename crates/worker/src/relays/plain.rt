@@ -4,126 +4,165 @@
 //!
 //! A node with two sources may get the same updates at both ports. There the piece is consolidated, so a tower of such
 //! nodes does not grow with each floor.
-ghost use Rattle.std.specs.Prelude.{◌≡◌, ◌<◌, ◌++◌, ℕ, suc, [], List, None, Some, IfErr, IfOk, IsTrue, OnOk, length};
+ghost use Rattle.std.specs.Prelude.{◌≡◌, ◌<◌, ◌++◌, ℕ, suc, [], None, Some, IfErr, IfOk, IfSome, IsTrue, OnOk, List, length};
 ghost use Rattle.lattice.specs.Frontiers.{is_beyond};
 ghost use Rattle.update.specs.declared.change.Update.{Update};
 ghost use Rattle.update.specs.declared.refusal.Refusal.{Refusal};
 ghost use Rattle.update.specs.Updates.{HasLargeTotal};
 ghost use Rattle.linear.specs.Widths.{are_wide};
-ghost use Rattle.worker.specs.Gathering.{IsSplit};
 ghost use Rattle.plan.specs.Nodes.{arranged_by, is_linear};
-ghost use Rattle.machine.specs.declared.histories.event.Event.{Event};
 ghost use Rattle.machine.specs.Histories.Dataflows.{node_of};
-ghost use Rattle.machine.specs.Boards.Loads.{queue_of};
 ghost use Rattle.worker.specs.Arrangements.{times_of};
 ghost use Rattle.worker.specs.Desks.{DeskState};
-ghost use Rattle.worker.specs.Relays.{IsRunning, IsRunFrom, IsGatheringOn, IsGatheredFrom, IsStopped, waits_at};
+ghost use Rattle.worker.specs.Found.{dataflow_of};
+ghost use Rattle.worker.specs.Gathering.{IsSplit};
+ghost use Rattle.worker.specs.Relays.{HasNone, HasSome, IsCalm, IsGatheringOn, IsRunning, IsSameActor, IsSettledTo, IsStopped};
+ghost use Rattle.worker.specs.Tenures.{WaitsOrNotIn, state_left};
 
+use crate::actor::Actor;
+use crate::boards::BoardProtocol;
 use crate::front::{front_with, put_in_updates};
-use crate::relays::giving::{give_on, hold_back};
+use crate::relays::steps::{give_on, hold_back, take_at};
 use lattice::Minimum;
-use machine::{Board, Bundle, Emission, Routing, Site};
+use machine::{Bundle, Emission, Routing};
 use plan::{Node, NodeId};
 use std::alloc::Global;
+use std::sync::Wait;
 use update::{Refusal, Update, consolidate};
 
-// Takes the first bundle at a place, and returns what the node makes of it. The worker then has the node in hand.
-fn take_in<T: Minimum>(board: &mut Board<T>, place: Site) -> Result<Vec<Update<T>>, Refusal>
-    requires gathering { (d : DeskState T) × (h : List (Event T)) × (gathered : List (Update T))
-        × IsGatheringOn T.below T.joined T.least board.old d place.node h gathered None }
-    requires within { place.node < length board.old.dataflow.nodes }
-    requires linear { IsTrue (is_linear (node_of board.old.dataflow place.node)) }
-    requires plain { arranged_by (node_of board.old.dataflow place.node) ≡ None }
-    requires worker { place.worker ≡ 0 }
-    requires waits { 0 < length (queue_of board.old.stations place) }
-    ensures taken { (d : DeskState T) (h : List (Event T)) (gathered : List (Update T))
-        → IsGatheringOn T.below T.joined T.least board.old d place.node h gathered None
-        → IfOk result (λ out. IsGatheredFrom T.below T.joined T.least h board.old board.new d
-        place.node (out.items ++ gathered) (Some place.node)) }
-    ensures stopped { (d : DeskState T) (h : List (Event T)) (gathered : List (Update T))
-        → IsGatheringOn T.below T.joined T.least board.old d place.node h gathered None
-        → IfErr result (IsStopped T.below T.least T.cmp h board.old board.new) }
-    ensures fewer { OnOk result
-        (suc (waits_at place.node board.new.stations) ≡ waits_at place.node board.old.stations) }
-    ensures dataflow { board.new.dataflow ≡ board.old.dataflow }
+// Takes the first bundle that waits at a node, and returns what the node makes of it. The worker then has the node in hand. With
+// it comes whether more bundles wait. `None` if no bundle waits.
+fn take_in<T: Minimum, P: BoardProtocol<T>, R: Wait>(
+    rt: &R,
+    worker: &mut Actor<T, P>,
+    operator: &Node,
+    node: NodeId,
+) -> Result<Option<(Vec<Update<T>>, bool)>, Refusal>
+    requires gathering { (d : DeskState T) × (gathered : List (Update T))
+        × IsGatheringOn T.below T.joined T.least worker.old d node gathered None }
+    requires operator { operator.now ≡ node_of (dataflow_of worker.old) node }
+    requires linear { IsTrue (is_linear (node_of (dataflow_of worker.old) node)) }
+    requires plain { arranged_by (node_of (dataflow_of worker.old) node) ≡ None }
+    ensures taken { (d : DeskState T) (gathered : List (Update T))
+        → IsGatheringOn T.below T.joined T.least worker.old d node gathered None
+        → IfOk result (λ found. IfSome found (λ t. IsGatheringOn T.below T.joined T.least
+        worker.new d node (t.0.items ++ gathered) (Some node))) }
+    ensures more { IfOk result (λ found. IfSome found (λ t.
+        WaitsOrNotIn t.1 node 0 (state_left T.below T.least worker.new))) }
+    ensures none { (d : DeskState T) (gathered : List (Update T))
+        → IsGatheringOn T.below T.joined T.least worker.old d node gathered None
+        → IfOk result (λ found. found ≡ None
+        → IsGatheringOn T.below T.joined T.least worker.new d node gathered None
+        × HasNone node (state_left T.below T.least worker.new)) }
+    ensures some { HasSome node (state_left T.below T.least worker.old)
+        → IfOk result (λ found. found ≡ None → ⊥) }
+    ensures stopped { IfErr result (IsStopped T.below T.least T.cmp worker.new) }
+    ensures settled { IsCalm worker.old worker.new
+        → IsSettledTo T.below (dataflow_of worker.old)
+        (state_left T.below T.least worker.old) node
+        → OnOk result (IsSettledTo T.below (dataflow_of worker.old)
+        (state_left T.below T.least worker.new) node) }
+    ensures same { IsSameActor worker.old worker.new }
 {
-    board.known();
-    let bundle = board.take(place, 0)?;
-    let Bundle { place, updates, .. } = bundle;
-    linear::apply(board.plan().node(place.node), updates.into_vec())
+    worker.known();
+    let Some((bundle, more)) = take_at(rt, worker, node)? else {
+        return Ok(None);
+    };
+    worker.known();
+    let Bundle { updates, .. } = bundle;
+    let out = linear::apply(operator, updates.into_vec())?;
+    Ok(Some((out, more)))
 }
 
-// Holds back what is gathered, whose least times are the front, and gathers what the node makes of one bundle more.
-fn gather_more<T: Minimum>(
+// Holds back what is gathered, whose least times are the front, and gathers what the node makes of one bundle more. The answer
+// is whether more bundles wait.
+fn gather_more<T: Minimum, P: BoardProtocol<T>, R: Wait>(
     alloc: Global,
-    board: &mut Board<T>,
-    place: Site,
+    rt: &R,
+    worker: &mut Actor<T, P>,
+    operator: &Node,
+    node: NodeId,
     gathered: &mut Vec<Update<T>>,
     front: &mut Vec<T>,
-) -> Result<(), Refusal>
-    requires gathering { (d : DeskState T) × (h : List (Event T)) × IsGatheringOn T.below T.joined
-        T.least board.old d place.node h gathered.old.items (Some place.node) }
-    requires within { place.node < length board.old.dataflow.nodes }
-    requires linear { IsTrue (is_linear (node_of board.old.dataflow place.node)) }
-    requires plain { arranged_by (node_of board.old.dataflow place.node) ≡ None }
-    requires worker { place.worker ≡ 0 }
-    requires waits { 0 < length (queue_of board.old.stations place) }
+) -> Result<bool, Refusal>
+    requires gathering { (d : DeskState T) × IsGatheringOn T.below T.joined T.least worker.old d
+        node gathered.old.items (Some node) }
+    requires within { node < length (dataflow_of worker.old).nodes }
+    requires operator { operator.now ≡ node_of (dataflow_of worker.old) node }
+    requires linear { IsTrue (is_linear (node_of (dataflow_of worker.old) node)) }
+    requires plain { arranged_by (node_of (dataflow_of worker.old) node) ≡ None }
+    requires some { HasSome node (state_left T.below T.least worker.old) }
     requires front { (t : T) → is_beyond T.below front.old.items t
         ≡ is_beyond T.below (times_of gathered.old.items) t }
-    ensures gathered { (d : DeskState T) (h : List (Event T))
-        → IsGatheringOn T.below T.joined T.least board.old d place.node h gathered.old.items
-        (Some place.node)
-        → OnOk result (IsGatheredFrom T.below T.joined T.least h board.old board.new d
-        place.node gathered.new.items (Some place.node)) }
-    ensures stopped { (d : DeskState T) (h : List (Event T))
-        → IsGatheringOn T.below T.joined T.least board.old d place.node h gathered.old.items
-        (Some place.node)
-        → IfErr result (IsStopped T.below T.least T.cmp h board.old board.new) }
+    ensures gathered { (d : DeskState T)
+        → IsGatheringOn T.below T.joined T.least worker.old d node gathered.old.items (Some node)
+        → OnOk result (IsGatheringOn T.below T.joined T.least worker.new d node
+        gathered.new.items (Some node)) }
+    ensures more { IfOk result (λ more.
+        WaitsOrNotIn more node 0 (state_left T.below T.least worker.new)) }
     ensures front { OnOk result ((t : T) → is_beyond T.below front.new.items t
         ≡ is_beyond T.below (times_of gathered.new.items) t) }
-    ensures fewer { OnOk result
-        (suc (waits_at place.node board.new.stations) ≡ waits_at place.node board.old.stations) }
-    ensures dataflow { board.new.dataflow ≡ board.old.dataflow }
+    ensures stopped { IfErr result (IsStopped T.below T.least T.cmp worker.new) }
+    ensures settled { IsCalm worker.old worker.new
+        → IsSettledTo T.below (dataflow_of worker.old)
+        (state_left T.below T.least worker.old) node
+        → OnOk result (IsSettledTo T.below (dataflow_of worker.old)
+        (state_left T.below T.least worker.new) node) }
+    ensures same { IsSameActor worker.old worker.new }
 {
-    board.known();
+    worker.known();
     let held = Vec::from_slice(alloc, front.as_slice())?;
-    hold_back(alloc, board, place.node, held)?;
-    let mut more = take_in(board, place)?;
-    put_in_updates(front, more.as_slice())?;
-    gathered.append(&mut more)?;
-    Ok(())
+    hold_back(alloc, rt, worker, node, held)?;
+    let Some((mut out, more)) = take_in(rt, worker, operator, node)? else {
+        unreachable!()
+    };
+    put_in_updates(front, out.as_slice())?;
+    gathered.append(&mut out)?;
+    Ok(more)
 }
 
-// Gathers what a linear node makes of all that waits there. One bundle waits at the place.
-fn gather<T: Minimum>(
+// Gathers what a linear node makes of all that waits there. The worker then has the node in hand. `None` if nothing waits.
+fn gather<T: Minimum, P: BoardProtocol<T>, R: Wait>(
     alloc: Global,
-    board: &mut Board<T>,
-    place: Site,
-) -> Result<Vec<Update<T>>, Refusal>
-    requires running { (d : DeskState T) × (h : List (Event T))
-        × IsRunning T.below T.joined T.least board.old d place.node h }
-    requires within { place.node < length board.old.dataflow.nodes }
-    requires linear { IsTrue (is_linear (node_of board.old.dataflow place.node)) }
-    requires plain { arranged_by (node_of board.old.dataflow place.node) ≡ None }
-    requires worker { place.worker ≡ 0 }
-    requires waits { 0 < length (queue_of board.old.stations place) }
-    ensures gathered { (d : DeskState T) (h : List (Event T))
-        → IsRunning T.below T.joined T.least board.old d place.node h
-        → IfOk result (λ gathered. IsGatheredFrom T.below T.joined T.least h board.old board.new d
-        place.node gathered.items (Some place.node)) }
-    ensures stopped { (d : DeskState T) (h : List (Event T))
-        → IsRunning T.below T.joined T.least board.old d place.node h
-        → IfErr result (IsStopped T.below T.least T.cmp h board.old board.new) }
-    ensures all { OnOk result (waits_at place.node board.new.stations ≡ 0) }
-    ensures dataflow { board.new.dataflow ≡ board.old.dataflow }
+    rt: &R,
+    worker: &mut Actor<T, P>,
+    operator: &Node,
+    node: NodeId,
+) -> Result<Option<Vec<Update<T>>>, Refusal>
+    requires running { (d : DeskState T) × IsRunning T.below T.joined T.least worker.old d node }
+    requires within { node < length (dataflow_of worker.old).nodes }
+    requires operator { operator.now ≡ node_of (dataflow_of worker.old) node }
+    requires linear { IsTrue (is_linear (node_of (dataflow_of worker.old) node)) }
+    requires plain { arranged_by (node_of (dataflow_of worker.old) node) ≡ None }
+    ensures gathered { (d : DeskState T)
+        → IsRunning T.below T.joined T.least worker.old d node
+        → IfOk result (λ found. IfSome found (λ gathered.
+        IsGatheringOn T.below T.joined T.least worker.new d node gathered.items (Some node))) }
+    ensures nothing { (d : DeskState T)
+        → IsRunning T.below T.joined T.least worker.old d node
+        → IfOk result (λ found. found ≡ None
+        → IsRunning T.below T.joined T.least worker.new d node) }
+    ensures none { OnOk result (HasNone node (state_left T.below T.least worker.new)) }
+    ensures stopped { IfErr result (IsStopped T.below T.least T.cmp worker.new) }
+    ensures settled { IsCalm worker.old worker.new
+        → IsSettledTo T.below (dataflow_of worker.old)
+        (state_left T.below T.least worker.old) node
+        → OnOk result (IsSettledTo T.below (dataflow_of worker.old)
+        (state_left T.below T.least worker.new) node) }
+    ensures same { IsSameActor worker.old worker.new }
 {
-    let node = place.node;
-    let mut gathered = take_in(board, place)?;
+    let Some((mut gathered, first)) = take_in(rt, worker, operator, node)? else {
+        return Ok(None);
+    };
+    let mut more = first;
     let mut front = front_with(alloc, &[], gathered.as_slice())?;
-    while let Some(next) = board.waiting_at(node, 0) {
-        gather_more(alloc, board, next, &mut gathered, &mut front)?;
+    for _ in rt.forever() {
+        if !more {
+            return Ok(Some(gathered));
+        }
+        more = gather_more(alloc, rt, worker, operator, node, &mut gathered, &mut front)?;
     }
-    Ok(gathered)
+    unreachable!()
 }
 
 // What is gathered, in one piece that may be given: at a node with two sources it is consolidated.
@@ -141,70 +180,79 @@ fn summed<T: Minimum>(node: &Node, gathered: Vec<Update<T>>) -> Result<Vec<Updat
 }
 
 // Gives all that was gathered at a linear node, where nothing waits any more.
-fn give_all<T: Minimum>(
+fn give_all<T: Minimum, P: BoardProtocol<T>, R: Wait>(
     alloc: Global,
+    rt: &R,
     routing: &Routing,
-    board: &mut Board<T>,
+    worker: &mut Actor<T, P>,
+    operator: &Node,
     node: NodeId,
     gathered: Vec<Update<T>>,
 ) -> Result<(), Refusal>
-    requires routing { routing.now ≡ board.old.dataflow }
-    requires gathering { (d : DeskState T) × (h : List (Event T)) × IsGatheringOn T.below T.joined
-        T.least board.old d node h gathered.items (Some node) }
-    requires within { node < length board.old.dataflow.nodes }
-    requires linear { IsTrue (is_linear (node_of board.old.dataflow node)) }
-    requires plain { arranged_by (node_of board.old.dataflow node) ≡ None }
-    requires none { waits_at node board.old.stations ≡ 0 }
-    ensures runs { (d : DeskState T) (h : List (Event T))
-        → IsGatheringOn T.below T.joined T.least board.old d node h gathered.items (Some node)
-        → OnOk result (IsRunFrom T.below T.joined T.least h board.old board.new d (suc node)) }
-    ensures stopped { (d : DeskState T) (h : List (Event T))
-        → IsGatheringOn T.below T.joined T.least board.old d node h gathered.items (Some node)
-        → IfErr result (IsStopped T.below T.least T.cmp h board.old board.new) }
-    ensures dataflow { board.new.dataflow ≡ board.old.dataflow }
+    requires routing { routing.now ≡ dataflow_of worker.old }
+    requires gathering { (d : DeskState T) × IsGatheringOn T.below T.joined T.least worker.old d
+        node gathered.items (Some node) }
+    requires within { node < length (dataflow_of worker.old).nodes }
+    requires linear { IsTrue (is_linear (node_of (dataflow_of worker.old) node)) }
+    requires plain { arranged_by (node_of (dataflow_of worker.old) node) ≡ None }
+    requires none { HasNone node (state_left T.below T.least worker.old) }
+    ensures runs { (d : DeskState T)
+        → IsGatheringOn T.below T.joined T.least worker.old d node gathered.items (Some node)
+        → OnOk result (IsRunning T.below T.joined T.least worker.new d (suc node)) }
+    ensures stopped { IfErr result (IsStopped T.below T.least T.cmp worker.new) }
+    ensures settled { IsCalm worker.old worker.new
+        → IsSettledTo T.below (dataflow_of worker.old)
+        (state_left T.below T.least worker.old) node
+        → OnOk result (IsSettledTo T.below (dataflow_of worker.old)
+        (state_left T.below T.least worker.new) (suc node)) }
+    ensures same { IsSameActor worker.old worker.new }
 {
-    board.known();
-    let updates = summed(board.plan().node(node), gathered)?;
+    worker.known();
+    let updates = summed(operator, gathered)?;
     let emission = Emission {
         node,
         worker: 0,
         updates: updates.into(),
     };
-    give_on(alloc, routing, board, emission, Vec::new(alloc))
+    give_on(alloc, rt, routing, worker, emission, Vec::new(alloc))
 }
 
 /// Carries all that waits at a linear node on, in one piece. Then the pass goes on to the next node. The worker keeps
-/// nothing at this one.
+/// nothing at this one. `operator` is the node.
 ///
-/// - [`Refusal::Overflow`] only if some node has no bound below 2^63 with the changes that were fed.
+/// - [`Refusal::Overflow`] only if some node has no bound below 2^63 with the changes that the worker has seen.
 /// - [`Refusal::OutOfMemory`] only if memory was refused.
 ///
 /// Cost: linear in the updates, and for each bundle the least times of those before it. At a node with two sources n
 /// log n comparisons in the number of updates.
-pub(crate) fn relay_plain<T: Minimum>(
+pub(crate) fn relay_plain<T: Minimum, P: BoardProtocol<T>, R: Wait>(
     alloc: Global,
+    rt: &R,
     routing: &Routing,
-    board: &mut Board<T>,
+    worker: &mut Actor<T, P>,
+    operator: &Node,
     node: NodeId,
 ) -> Result<(), Refusal>
-    requires routing { routing.now ≡ board.old.dataflow }
-    requires running { (d : DeskState T) × (h : List (Event T))
-        × IsRunning T.below T.joined T.least board.old d node h }
-    requires within { node < length board.old.dataflow.nodes }
-    requires linear { IsTrue (is_linear (node_of board.old.dataflow node)) }
-    requires plain { arranged_by (node_of board.old.dataflow node) ≡ None }
-    ensures runs { (d : DeskState T) (h : List (Event T))
-        → IsRunning T.below T.joined T.least board.old d node h
-        → OnOk result (IsRunFrom T.below T.joined T.least h board.old board.new d (suc node)) }
-    ensures stopped { (d : DeskState T) (h : List (Event T))
-        → IsRunning T.below T.joined T.least board.old d node h
-        → IfErr result (IsStopped T.below T.least T.cmp h board.old board.new) }
-    ensures dataflow { board.new.dataflow ≡ board.old.dataflow }
+    requires routing { routing.now ≡ dataflow_of worker.old }
+    requires running { (d : DeskState T) × IsRunning T.below T.joined T.least worker.old d node }
+    requires within { node < length (dataflow_of worker.old).nodes }
+    requires operator { operator.now ≡ node_of (dataflow_of worker.old) node }
+    requires linear { IsTrue (is_linear (node_of (dataflow_of worker.old) node)) }
+    requires plain { arranged_by (node_of (dataflow_of worker.old) node) ≡ None }
+    ensures runs { (d : DeskState T)
+        → IsRunning T.below T.joined T.least worker.old d node
+        → OnOk result (IsRunning T.below T.joined T.least worker.new d (suc node)) }
+    ensures stopped { IfErr result (IsStopped T.below T.least T.cmp worker.new) }
+    ensures settled { IsCalm worker.old worker.new
+        → IsSettledTo T.below (dataflow_of worker.old)
+        (state_left T.below T.least worker.old) node
+        → OnOk result (IsSettledTo T.below (dataflow_of worker.old)
+        (state_left T.below T.least worker.new) (suc node)) }
+    ensures same { IsSameActor worker.old worker.new }
 {
-    board.known();
-    let Some(place) = board.waiting_at(node, 0) else {
-        return Ok(());
-    };
-    let gathered = gather(alloc, board, place)?;
-    give_all(alloc, routing, board, node, gathered)
+    worker.known();
+    match gather(alloc, rt, worker, operator, node)? {
+        Some(gathered) => give_all(alloc, rt, routing, worker, operator, node, gathered),
+        None => Ok(()),
+    }
 }

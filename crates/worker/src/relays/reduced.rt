@@ -1,120 +1,208 @@
-//! Reductions: the times of what comes become pending in the reduction, and the worker holds the least of them. Once the
-//! input frontier has passed some of them, the answers there are found and given.
-ghost use Rattle.std.specs.Prelude.{◌≡◌, ◌<◌, ℕ, suc, [], ◌∷◌, List, Some, IfErr, OnOk, IsTrue, length, slice_get};
+//! Reductions: the times of what comes are pending, and the worker holds the least of them. Once the input frontier has passed
+//! some of them, the answers at these times are computed from the spine of the source, and given in one piece.
+ghost use Rattle.std.specs.Prelude.{◌≡◌, ◌<◌, ℕ, suc, [], ◌∷◌, Some, false, IfErr, IfOk, OnOk, length, slice_get};
 ghost use Rattle.plan.specs.declared.node.Kind.{Kind};
 ghost use Rattle.plan.specs.declared.node.Node.TheVariants.{Reduce};
-ghost use Rattle.machine.specs.declared.histories.event.Event.{Event};
 ghost use Rattle.machine.specs.Histories.Dataflows.{node_of};
-ghost use Rattle.machine.specs.Boards.Loads.{queue_of};
-ghost use Rattle.machine.specs.Boards.Reads.{is_ready};
 ghost use Rattle.worker.specs.Desks.{DeskState, with_reduction};
-ghost use Rattle.worker.specs.Relays.{IsRunning, IsRunFrom, IsSettledFrom, IsStopped, waits_at};
+ghost use Rattle.worker.specs.Found.{dataflow_of};
+ghost use Rattle.worker.specs.Relays.{HasNone, HasTurned, IsCalm, IsReadyAt, IsRunning, IsSameActor, IsSettledTo, IsStopped};
+ghost use Rattle.worker.specs.Tenures.{state_found, state_left};
 
+use crate::actor::Actor;
 use crate::arrangement::Arrangement;
+use crate::boards::BoardProtocol;
 use crate::reducing::Reducing;
-use crate::relays::giving::{give_on, hold_back};
+use crate::relays::steps::{give_on, hold_back, take_at, turn_at};
 use antichain::Antichain;
 use lattice::Minimum;
-use machine::{Board, Bundle, Emission, Routing, Site};
+use machine::{Bundle, Emission, Routing};
 use plan::NodeId;
 use std::alloc::Global;
+use std::sync::Wait;
 use update::Refusal;
 
-/// Takes the first bundle that waits at a reduction. Its times are pending from then on, and the worker holds the least
-/// pending times. `start` is the frontier of the least time.
+/// Takes the first bundle that waits at a reduction, if there is one. Its times are pending from then on, and the worker holds
+/// the least pending times. The answer is whether more bundles wait. `start` is the frontier of the least time.
 ///
-/// - [`Refusal::Overflow`] only if some node has no bound below 2^63 with the changes that were fed.
+/// - [`Refusal::Overflow`] only if some node has no bound below 2^63 with the changes that the worker has seen.
 /// - [`Refusal::OutOfMemory`] only if memory was refused.
 ///
 /// Cost: as for [`Reducing::take`] and [`Reducing::held`].
-pub(crate) fn absorb<T: Minimum>(
+pub(crate) fn absorb<T: Minimum, P: BoardProtocol<T>, R: Wait>(
     alloc: Global,
+    rt: &R,
     start: &Antichain<T>,
-    board: &mut Board<T>,
+    worker: &mut Actor<T, P>,
     reducing: &mut Reducing<T>,
-    place: Site,
-) -> Result<(), Refusal>
+    node: NodeId,
+) -> Result<bool, Refusal>
     requires start { start.now ≡ T.least ∷ [] }
-    requires running { (d : DeskState T) × (h : List (Event T))
-        × IsRunning T.below T.joined T.least board.old d place.node h
-        × (slice_get d.reductions place.node ≡ Some (Some reducing.old)) }
+    requires running { (d : DeskState T)
+        × IsRunning T.below T.joined T.least worker.old d node
+        × (slice_get d.reductions node ≡ Some (Some reducing.old)) }
     requires reduce { (kind : Kind) × (source : ℕ)
-        × (node_of board.old.dataflow place.node ≡ Reduce kind source) }
-    requires worker { place.worker ≡ 0 }
-    requires waits { 0 < length (queue_of board.old.stations place) }
-    ensures runs { (d : DeskState T) (h : List (Event T))
-        → IsRunning T.below T.joined T.least board.old d place.node h
-        → slice_get d.reductions place.node ≡ Some (Some reducing.old)
-        → OnOk result (IsRunFrom T.below T.joined T.least h board.old board.new
-        (with_reduction place.node reducing.new d) place.node) }
-    ensures stopped { (d : DeskState T) (h : List (Event T))
-        → IsRunning T.below T.joined T.least board.old d place.node h
-        → slice_get d.reductions place.node ≡ Some (Some reducing.old)
-        → IfErr result (IsStopped T.below T.least T.cmp h board.old board.new) }
-    ensures fewer { OnOk result
-        (suc (waits_at place.node board.new.stations) ≡ waits_at place.node board.old.stations) }
-    ensures dataflow { board.new.dataflow ≡ board.old.dataflow }
+        × (node_of (dataflow_of worker.old) node ≡ Reduce kind source) }
+    ensures runs { (d : DeskState T)
+        → IsRunning T.below T.joined T.least worker.old d node
+        → slice_get d.reductions node ≡ Some (Some reducing.old)
+        → OnOk result (IsRunning T.below T.joined T.least worker.new
+        (with_reduction node reducing.new d) node) }
+    ensures all { IfOk result (λ more. more ≡ false
+        → HasNone node (state_left T.below T.least worker.new)) }
+    ensures stopped { IfErr result (IsStopped T.below T.least T.cmp worker.new) }
+    ensures settled { IsCalm worker.old worker.new
+        → IsSettledTo T.below (dataflow_of worker.old)
+        (state_left T.below T.least worker.old) node
+        → OnOk result (IsSettledTo T.below (dataflow_of worker.old)
+        (state_left T.below T.least worker.new) node) }
+    ensures same { IsSameActor worker.old worker.new }
 {
-    board.known();
-    let bundle = board.take(place, 0)?;
-    let Bundle { place, updates, .. } = bundle;
+    worker.known();
+    let found = take_at(rt, worker, node)?;
+    worker.known();
+    let Some((bundle, more)) = found else {
+        return Ok(false);
+    };
+    let Bundle { updates, .. } = bundle;
     reducing.take(alloc, start, updates.into_vec())?;
     let held = reducing.held(alloc)?;
-    hold_back(alloc, board, place.node, held)
+    hold_back(alloc, rt, worker, node, held)?;
+    Ok(more)
 }
 
-/// Gives the answers of a reduction at the pending times that the node's input frontier has passed. Afterwards the worker
-/// holds the least of the times that are still pending, and each of them could still receive input. Nothing is sent to
-/// the node itself. `source` is the arrangement of the node that the reduction reads. `_start` is not used: generic code
-/// with a local antichain needs the type in its signature.
+/// Gives the answers of a reduction at the pending times that the node's input frontier has passed. `upper` is that frontier.
+/// Afterwards the worker holds the least of the times that are still pending. Nothing is sent to the node itself. `source` is
+/// the arrangement of the node that the reduction reads.
 ///
-/// - [`Refusal::Overflow`] only if some node has no bound below 2^63 with the changes that were fed.
+/// - [`Refusal::Overflow`] only if some node has no bound below 2^63 with the changes that the worker has seen.
 /// - [`Refusal::OutOfMemory`] only if memory was refused.
 ///
 /// Cost: as for [`Reducing::ready`] and [`Reducing::held`].
-pub(crate) fn settle<T: Minimum>(
+pub(crate) fn settle<T: Minimum, P: BoardProtocol<T>, R: Wait>(
     alloc: Global,
-    _start: &Antichain<T>,
+    rt: &R,
     routing: &Routing,
-    board: &mut Board<T>,
+    worker: &mut Actor<T, P>,
     reducing: &mut Reducing<T>,
     source: &Arrangement<T>,
+    upper: &Antichain<T>,
     node: NodeId,
 ) -> Result<(), Refusal>
-    requires routing { routing.now ≡ board.old.dataflow }
-    requires within { node < length board.old.dataflow.nodes }
-    requires ready { IsTrue (is_ready T.below board.old 0 node) }
-    requires running { (d : DeskState T) × (h : List (Event T)) × (kind : Kind) × (s : ℕ)
-        × IsRunning T.below T.joined T.least board.old d node h
-        × (node_of board.old.dataflow node ≡ Reduce kind s)
+    requires routing { routing.now ≡ dataflow_of worker.old }
+    requires number { worker.old.number ≡ 0 }
+    requires turned { HasTurned T.below T.least worker.old node upper.now }
+    requires ready { (d : DeskState T) × (kind : Kind) × (s : ℕ)
+        × IsReadyAt T.below T.joined T.least (dataflow_of worker.old)
+        (state_found T.below T.least worker.old) d node
+        × (node_of (dataflow_of worker.old) node ≡ Reduce kind s)
         × (slice_get d.reductions node ≡ Some (Some reducing.old))
         × (slice_get d.arrangements s ≡ Some (Some source.now)) }
-    ensures runs { (d : DeskState T) (h : List (Event T)) (kind : Kind) (s : ℕ)
-        → IsRunning T.below T.joined T.least board.old d node h
-        → node_of board.old.dataflow node ≡ Reduce kind s
+    requires within { node < length (dataflow_of worker.old).nodes }
+    requires none { HasNone node (state_found T.below T.least worker.old) }
+    ensures runs { (d : DeskState T) (kind : Kind) (s : ℕ)
+        → IsReadyAt T.below T.joined T.least (dataflow_of worker.old)
+        (state_found T.below T.least worker.old) d node
+        → node_of (dataflow_of worker.old) node ≡ Reduce kind s
         → slice_get d.reductions node ≡ Some (Some reducing.old)
         → slice_get d.arrangements s ≡ Some (Some source.now)
-        → OnOk result (IsSettledFrom T.below T.joined T.least h board.old board.new
-        (with_reduction node reducing.new d) node) }
-    ensures stopped { (d : DeskState T) (h : List (Event T)) (kind : Kind) (s : ℕ)
-        → IsRunning T.below T.joined T.least board.old d node h
-        → node_of board.old.dataflow node ≡ Reduce kind s
-        → slice_get d.reductions node ≡ Some (Some reducing.old)
-        → slice_get d.arrangements s ≡ Some (Some source.now)
-        → IfErr result (IsStopped T.below T.least T.cmp h board.old board.new) }
-    ensures waits { OnOk result
-        (waits_at node board.new.stations ≡ waits_at node board.old.stations) }
-    ensures dataflow { board.new.dataflow ≡ board.old.dataflow }
+        → OnOk result (IsRunning T.below T.joined T.least worker.new
+        (with_reduction node reducing.new d) (suc node)) }
+    ensures stopped { IfErr result (IsStopped T.below T.least T.cmp worker.new) }
+    ensures settled { IsCalm worker.old worker.new
+        → IsSettledTo T.below (dataflow_of worker.old)
+        (state_found T.below T.least worker.old) node
+        → OnOk result (IsSettledTo T.below (dataflow_of worker.old)
+        (state_left T.below T.least worker.new) (suc node)) }
+    ensures same { IsSameActor worker.old worker.new }
 {
-    board.known();
-    board.take_held(0, node);
-    let frontier = board.input_frontier(node)?;
-    let out = reducing.ready(alloc, frontier.elements(), source.trace())?;
+    worker.known();
+    let out = reducing.ready(alloc, upper.elements(), source.trace())?;
     let held = reducing.held(alloc)?;
     let answers = Emission {
         node,
         worker: 0,
         updates: out.into(),
     };
-    give_on(alloc, routing, board, answers, held)
+    give_on(alloc, rt, routing, worker, answers, held)
+}
+
+// Takes all bundles that wait at a reduction. `start` is the frontier of the least time.
+fn absorb_all<T: Minimum, P: BoardProtocol<T>, R: Wait>(
+    alloc: Global,
+    rt: &R,
+    start: &Antichain<T>,
+    worker: &mut Actor<T, P>,
+    reducing: &mut Reducing<T>,
+    node: NodeId,
+) -> Result<(), Refusal>
+    requires start { start.now ≡ T.least ∷ [] }
+    requires running { (d : DeskState T)
+        × IsRunning T.below T.joined T.least worker.old d node
+        × (slice_get d.reductions node ≡ Some (Some reducing.old)) }
+    requires reduce { (kind : Kind) × (source : ℕ)
+        × (node_of (dataflow_of worker.old) node ≡ Reduce kind source) }
+    ensures runs { (d : DeskState T)
+        → IsRunning T.below T.joined T.least worker.old d node
+        → slice_get d.reductions node ≡ Some (Some reducing.old)
+        → OnOk result (IsRunning T.below T.joined T.least worker.new
+        (with_reduction node reducing.new d) node) }
+    ensures none { OnOk result (HasNone node (state_left T.below T.least worker.new)) }
+    ensures stopped { IfErr result (IsStopped T.below T.least T.cmp worker.new) }
+    ensures settled { IsCalm worker.old worker.new
+        → IsSettledTo T.below (dataflow_of worker.old)
+        (state_left T.below T.least worker.old) node
+        → OnOk result (IsSettledTo T.below (dataflow_of worker.old)
+        (state_left T.below T.least worker.new) node) }
+    ensures same { IsSameActor worker.old worker.new }
+{
+    for _ in rt.forever() {
+        if !absorb(alloc, rt, start, worker, reducing, node)? {
+            return Ok(());
+        }
+    }
+    unreachable!()
+}
+
+/// Takes all that waits at a reduction, and gives the answers at the times that the node's input frontier has passed. Then the
+/// pass goes on to the next node. `source` is the arrangement of the node that the reduction reads.
+pub(crate) fn relay_reduced<T: Minimum, P: BoardProtocol<T>, R: Wait>(
+    alloc: Global,
+    rt: &R,
+    start: &Antichain<T>,
+    routing: &Routing,
+    worker: &mut Actor<T, P>,
+    reducing: &mut Reducing<T>,
+    source: &Arrangement<T>,
+    node: NodeId,
+) -> Result<(), Refusal>
+    requires routing { routing.now ≡ dataflow_of worker.old }
+    requires start { start.now ≡ T.least ∷ [] }
+    requires within { node < length (dataflow_of worker.old).nodes }
+    requires running { (d : DeskState T) × (kind : Kind) × (s : ℕ)
+        × IsRunning T.below T.joined T.least worker.old d node
+        × (node_of (dataflow_of worker.old) node ≡ Reduce kind s)
+        × (slice_get d.reductions node ≡ Some (Some reducing.old))
+        × (slice_get d.arrangements s ≡ Some (Some source.now)) }
+    ensures runs { (d : DeskState T) (kind : Kind) (s : ℕ)
+        → IsRunning T.below T.joined T.least worker.old d node
+        → node_of (dataflow_of worker.old) node ≡ Reduce kind s
+        → slice_get d.reductions node ≡ Some (Some reducing.old)
+        → slice_get d.arrangements s ≡ Some (Some source.now)
+        → OnOk result (IsRunning T.below T.joined T.least worker.new
+        (with_reduction node reducing.new d) (suc node)) }
+    ensures stopped { IfErr result (IsStopped T.below T.least T.cmp worker.new) }
+    ensures settled { IsCalm worker.old worker.new
+        → IsSettledTo T.below (dataflow_of worker.old)
+        (state_left T.below T.least worker.old) node
+        → OnOk result (IsSettledTo T.below (dataflow_of worker.old)
+        (state_left T.below T.least worker.new) (suc node)) }
+    ensures same { IsSameActor worker.old worker.new }
+{
+    absorb_all(alloc, rt, start, worker, reducing, node)?;
+    worker.known();
+    match turn_at(rt, worker, node)? {
+        Some(upper) => settle(alloc, rt, routing, worker, reducing, source, &upper, node),
+        None => Ok(()),
+    }
 }

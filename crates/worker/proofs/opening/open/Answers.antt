@@ -5,9 +5,14 @@ use Rattle.std.proofs.lemmas.Option.{none-some}
 use Rattle.hub.specs.Known.{Known}
 use Rattle.hub.specs.Passes.{hub_id}
 use Rattle.worker.specs.declared.doing.Doing.{Doing}
-use Rattle.worker.specs.Tenures.{IsFirst, terms_for}
+use Rattle.worker.specs.Tenures.{IsFirst, SharedState, StandsFor, terms_for}
 use Rattle.worker.proofs.ActorLemmas.{each_snoc, each_behind, first_of}
 use Rattle.worker.proofs.opening.open.Goals as goal
+
+pub open-requires-2-clause-opening : goal.open-requires-2-clause-opening
+open-requires-2-clause-opening g c =
+    let same : c.in_ok-state.state.value ≡ c.in_ok-board.board = search rules in
+    g.met.P.BoardProtocol.may_stand c.in_ok-state.state [] (subst (λ (b : SharedState g.row.T.Denot). StandsFor g.T.PartialOrder.below g.T.Minimum.least g.T.Ord.cmp b []) (sym same) c.in_ok-board.ensures.stands)
 
 pub loop-pass-init : goal.loop-pass-init
 loop-pass-init g c =

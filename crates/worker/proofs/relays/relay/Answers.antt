@@ -1,49 +1,60 @@
-use Rattle.std.proofs.Common.{◌≡◌, suc, ◌+◌, ap, sym, subst, ◌∙◌, length, ◌++◌, arith, rules}
-use Rattle.std.proofs.lemmas.Result.{err_from_is_err_and}
-use Rattle.machine.specs.Histories.Dataflows.{Dataflow}
-use Rattle.worker.specs.Relays.{IsRunning, IsRunFrom, IsStopped}
-use Rattle.worker.proofs.BundleLemmas.{if_err_at}
-use Rattle.worker.proofs.RelayLemmas.{runs_further}
-use Rattle.worker.proofs.NodeLemmas.{relayed, step_stops}
+use Rattle.std.proofs.Common.{◌≡◌, suc, ◌+◌, ap, sym, subst, ◌∙◌, length, arith}
+use Rattle.machine.specs.Histories.Readings.{IsQuiet}
+use Rattle.worker.specs.Found.{dataflow_of}
+use Rattle.worker.specs.Passes.{IsFreeAtNode}
+use Rattle.worker.specs.Relays.{IsRunning, IsSettledTo}
+use Rattle.worker.specs.Tenures.{Terms, events, state_left}
+use Rattle.worker.proofs.NodeLemmas.{ready_at_end}
+use Rattle.worker.proofs.RunningLemmas.{same_actor, same_later, calm_first, calm_then}
+use Rattle.worker.proofs.SettledLemmas.{settled_first, quiet_at_end}
 use Rattle.worker.proofs.relays.relay.Goals as goal
 
-pub relay_node-requires : goal.relay_node-requires
-relay_node-requires g c =
-    let r = c.requires.ready in
-    let x = c.loop-n.invariant.runs r.0 r.1 in
-    let same = c.len-n-end.ensures.len ∙ ap length (c.plan.ensures ∙ ap (λ (p : Dataflow). p.nodes) (sym c.loop-n.invariant.dataflow)) in (
-      search rules,
-      (
-        c.requires.routing ∙ sym c.loop-n.invariant.dataflow,
-        (
-          omega (arith, c.loop-n-test.true, c.new.ensures, same),
-          (x.0 ++ r.0, subst (λ n. IsRunning g.T.PartialOrder.below g.T.Lattice.joined g.T.Minimum.least c.loop-n.board c.loop-n.desk n (x.0 ++ r.0)) (sym c.new.ensures) x.1),
-        ),
-      ),
-    )
-
-pub returns-in_err-relay_node-clause-stopped : goal.returns-in_err-relay_node-clause-stopped
-returns-in_err-relay_node-clause-stopped g c h run =
-    let x = c.loop-n.invariant.runs h run in
-    let p = err_from_is_err_and c.from_residual.result c.from_residual.ensures.1 in
-    if_err_at c.from_residual.result (IsStopped g.T.PartialOrder.below g.T.Minimum.least g.T.Ord.cmp h c.args.board.now c.relay_node.new.board) c.in_err-relay_node.field-0.0 p.0 p.1 (cc p.2)
-    (step_stops g.T.PartialOrder.below g.T.Lattice.joined g.T.Minimum.least g.T.Ord.cmp h c.args.board.now c.loop-n.board c.relay_node.new.board c.loop-n.desk c.new.result c.loop-n.n c.new.ensures c.in_err-relay_node.field-0.0 x c.loop-n.invariant.dataflow
-    (c.in_err-relay_node.ensures.stopped (x.0 ++ h)))
-
-pub loop-n-preserved : goal.loop-n-preserved
-loop-n-preserved g c = record {
-  dataflow = c.relay_node.ensures.dataflow ∙ c.loop-n.invariant.dataflow;
-  runs = λ h run.
-      let x = c.loop-n.invariant.runs h run in
-      let next : suc c.loop-n.n ≡ c.loop-n.n + 1 = omega arith in
-      subst (IsRunFrom g.T.PartialOrder.below g.T.Lattice.joined g.T.Minimum.least h c.args.board.now c.relay_node.new.board c.relay_node.new.desk) next
-      (runs_further g.T.PartialOrder.below g.T.Lattice.joined g.T.Minimum.least h c.args.board.now c.loop-n.board c.relay_node.new.board c.loop-n.desk c.relay_node.new.desk c.loop-n.n (suc c.loop-n.n) x
-      (subst (λ n. IsRunFrom g.T.PartialOrder.below g.T.Lattice.joined g.T.Minimum.least (x.0 ++ h) c.loop-n.board c.relay_node.new.board c.relay_node.new.desk (suc n)) c.new.ensures
-      (c.in_ok-relay_node.ensures.runs (x.0 ++ h) (subst (λ n. IsRunning g.T.PartialOrder.below g.T.Lattice.joined g.T.Minimum.least c.loop-n.board c.loop-n.desk n (x.0 ++ h)) (sym c.new.ensures) x.1))));
+pub loop-n-init : goal.loop-n-init
+loop-n-init g c = record {
+  runs = c.requires.ready;
+  same = same_actor c.args.worker.now;
+  settled = λ calm. settled_first g.T.PartialOrder.below (dataflow_of c.args.worker.now) (state_left g.T.PartialOrder.below g.T.Minimum.least c.args.worker.now);
 }
 
+pub loop-n-preserved : goal.loop-n-preserved
+loop-n-preserved g c =
+    let here : c.loop-n.n ≡ c.new.result = omega (arith, c.new.ensures) in
+    let next : suc c.new.result ≡ c.loop-n.n + 1 = omega (arith, c.new.ensures) in
+    let same = c.loop-n.invariant.same in
+    let after = c.relay_node.ensures.same in
+    let flow = ap (λ (t : Terms). t.dataflow) same.terms in
+    record {
+      runs = subst (IsRunning g.T.PartialOrder.below g.T.Lattice.joined g.T.Minimum.least c.relay_node.new.worker c.relay_node.new.desk) next c.in_ok-relay_node.ensures.runs;
+      same = same_later same after;
+      settled = λ calm.
+          subst (λ p. IsSettledTo g.T.PartialOrder.below p (state_left g.T.PartialOrder.below g.T.Minimum.least c.relay_node.new.worker) (c.loop-n.n + 1)) flow
+          (subst (IsSettledTo g.T.PartialOrder.below (dataflow_of c.loop-n.worker) (state_left g.T.PartialOrder.below g.T.Minimum.least c.relay_node.new.worker)) next
+          (c.in_ok-relay_node.ensures.settled (calm_then same after calm)
+          (subst (λ p. IsSettledTo g.T.PartialOrder.below p (state_left g.T.PartialOrder.below g.T.Minimum.least c.loop-n.worker) c.new.result) (sym flow)
+          (subst (IsSettledTo g.T.PartialOrder.below (dataflow_of c.args.worker.now) (state_left g.T.PartialOrder.below g.T.Minimum.least c.loop-n.worker)) here
+          (c.loop-n.invariant.settled (calm_first same after calm))))));
+    }
+
 pub returns-clause-relayed : goal.returns-clause-relayed
-returns-clause-relayed g c h run =
-    let end : c.loop-n.n ≡ c.len-n-end.result = omega (arith, c.loop-n-test.false, c.loop-n.auto.n-end) in
-    relayed g.T.PartialOrder.below g.T.Lattice.joined g.T.Minimum.least h c.args.board.now c.loop-n.board g.met.T.PartialOrder.order c.known.ensures.dataflow c.loop-n.desk c.loop-n.n
-    (end ∙ (c.len-n-end.ensures.len ∙ ap length (c.plan.ensures ∙ ap (λ (p : Dataflow). p.nodes) (sym c.loop-n.invariant.dataflow)))) (c.loop-n.invariant.runs h run)
+returns-clause-relayed g c =
+    let run = c.loop-n.invariant.runs in
+    let last : c.loop-n.n ≡ c.len-n-end.result = omega (arith, c.loop-n-test.false, c.loop-n.auto.n-end) in
+    let nodes = c.requires.plan ∙ sym (ap (λ (t : Terms). t.dataflow.nodes) c.loop-n.invariant.same.terms) in
+    record {
+      number = run.number;
+      ready = ready_at_end g.T.PartialOrder.below g.T.Lattice.joined g.T.Minimum.least (dataflow_of c.loop-n.worker) (state_left g.T.PartialOrder.below g.T.Minimum.least c.loop-n.worker) c.loop-n.desk c.loop-n.n (last ∙ (c.len-n-end.ensures.len ∙ ap length nodes)) run.ready;
+    }
+
+pub returns-clause-quiet : goal.returns-clause-quiet
+returns-clause-quiet g c calm =
+    let worker = c.loop-n.worker in
+    let last : c.loop-n.n ≡ c.len-n-end.result = omega (arith, c.loop-n-test.false, c.loop-n.auto.n-end) in
+    let end = last ∙ (c.len-n-end.ensures.len ∙ ap length c.requires.plan) in
+    let flow = ap (λ (t : Terms). t.dataflow) c.loop-n.invariant.same.terms in
+    let w = state_left g.T.PartialOrder.below g.T.Minimum.least worker in
+    let settled = subst (IsSettledTo g.T.PartialOrder.below (dataflow_of c.args.worker.now) w) end (c.loop-n.invariant.settled calm) in
+    let free = subst (λ p. IsFreeAtNode p w c.loop-n.n) flow c.loop-n.invariant.runs.ready.free in
+    subst (λ p. IsQuiet g.T.PartialOrder.below p w) flow
+    (quiet_at_end g.T.PartialOrder.below g.T.Minimum.least (dataflow_of worker) c.known.ensures.dataflow (events worker.seen) c.known.ensures.legal
+    (subst (λ p. IsFreeAtNode p w (length p.nodes)) (sym flow) (subst (IsFreeAtNode (dataflow_of c.args.worker.now) w) end free))
+    (subst (λ p. IsSettledTo g.T.PartialOrder.below p w (length p.nodes)) (sym flow) settled))

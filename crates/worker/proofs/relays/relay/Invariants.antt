@@ -1,12 +1,12 @@
-use Rattle.std.proofs.Common.{◌≡◌, List}
-use Rattle.machine.specs.declared.histories.event.Event.{Event}
-use Rattle.worker.specs.Relays.{IsRunning, IsRunFrom}
+use Rattle.worker.specs.Found.{dataflow_of}
+use Rattle.worker.specs.Relays.{IsCalm, IsRunning, IsSameActor, IsSettledTo}
+use Rattle.worker.specs.Tenures.{state_left}
 use Rattle.worker.proofs.relays.relay.Given as goal
 
--- the worker ran on to the node of the loop
+-- the pass has come to the node of the loop, and if no client changed anything then all before that node is settled
 abbrev pub invariant-loop-n : goal.invariant-loop-n
 invariant-loop-n g l = record {
-  dataflow : l.board.dataflow ≡ l.fn.board.dataflow;
-  runs : (h : List (Event g.row.T.Denot)) → IsRunning g.T.PartialOrder.below g.T.Lattice.joined g.T.Minimum.least l.fn.board l.fn.desk 0 h
-      → IsRunFrom g.T.PartialOrder.below g.T.Lattice.joined g.T.Minimum.least h l.fn.board l.board l.desk l.n;
+  runs : IsRunning g.T.PartialOrder.below g.T.Lattice.joined g.T.Minimum.least l.worker l.desk l.n;
+  same : IsSameActor l.fn.worker l.worker;
+  settled : IsCalm l.fn.worker l.worker → IsSettledTo g.T.PartialOrder.below (dataflow_of l.fn.worker) (state_left g.T.PartialOrder.below g.T.Minimum.least l.worker) l.n;
 }

@@ -1,34 +1,59 @@
-use Rattle.std.proofs.Common.{◌≡◌, true, ℕ, ◌<◌, length, IsTrue, ltb-true, sym, subst}
-use Rattle.std.proofs.lemmas.Bool.{and_parts}
+use Rattle.std.proofs.Common.{ℕ, ◌<◌, suc, length, IsTrue, ltb-true, sym, subst, ap, ◌∙◌}
 use Rattle.std.proofs.lemmas.Cmp.{then_total, on_total, nat_cmp_total}
+use Rattle.hub.specs.Known.{Known}
+use Rattle.lattice.specs.Bitimes.{bitime_below}
 use Rattle.lattice.specs.Naturals.{nat_order, nat_bounds, nat_extends}
 use Rattle.lattice.specs.Pairs.{make_pair, pair_order, pair_bounds, pair_extends}
 use Rattle.lattice.specs.declared.product.Pair.{Pair}
-use Rattle.update.specs.Bags.{HasLargeCount}
-use Rattle.update.specs.Updates.{as_of}
+use Rattle.std.proofs.lemmas.Bool.{and_parts}
 use Rattle.grammar.specs.Commands.{is_view_of}
-use Rattle.machine.specs.Boards.Reads.{captured_of, is_quiet_board}
+use Rattle.update.specs.Bags.{HasLargeCount}
+use Rattle.plan.specs.Changes.{query_at}
+use Rattle.machine.specs.declared.histories.event.Event.TheVariants.{Look}
+use Rattle.machine.specs.Histories.Promises.{changes_in}
+use Rattle.machine.specs.Histories.Readings.{IsQuiet}
+use Rattle.worker.specs.Found.{dataflow_of}
+use Rattle.worker.specs.Tenures.{Terms, state_found, state_left}
+use Rattle.worker.specs.declared.doing.Doing.{Doing}
 use Rattle.script.specs.Answers.{FindsRows}
-use Rattle.script.specs.Standing.{EngineState, Serves}
-use Rattle.lattice.specs.Bitimes.{bitime_below}
 use Rattle.script.specs.Bounds.{IsLarge, EndsByBound}
+use Rattle.script.specs.Standing.{HasSession, StandsAs}
 use Rattle.script.proofs.ReadLemmas.{read_answered, large_read}
+use Rattle.script.proofs.StandingLemmas.{after_looked, client_step, session_found}
 use Rattle.script.proofs.board_engine.BoardEngineEngine.read.Goals as goal
 
+pub returns-clause-stands : goal.returns-clause-stands
+returns-clause-stands g c s =
+    let o = pair_order nat_order nat_order in
+    let k = c.self.inside.client in
+    let number = c.self.invariant.0 ∙ sym (ap (λ (t : Terms). t.dataflow.workers) c.self.invariant.1) in
+    let one = ap (λ (t : Terms). t.actors) c.self.invariant.1 ∙ sym (ap (λ (t : Terms). suc t.dataflow.workers) c.self.invariant.1) in
+    let new = c.read-rows.new.self in
+    subst (λ (e : Known (Doing (Pair ℕ ℕ))). StandsAs bitime_below (make_pair 0 0) e s → StandsAs bitime_below (make_pair 0 0) new s) c.self.view_is
+    (λ a. after_looked bitime_below (make_pair 0 0) o k new k.number s (client_step bitime_below (make_pair 0 0) o k new (Look k.number) number one c.known.ensures c.read-rows.ensures.looked) a)
+
 pub returns-clause-answered : goal.returns-clause-answered
-returns-clause-answered c s =
-    let b = c.self.inside.board in
-    let v = c.args.view in
-    let t = c.args.time in
-    let there = subst (λ (d : EngineState (Pair ℕ ℕ)). IsTrue (is_view_of d.board.dataflow.nodes v)) (sym c.self.view_is) c.requires.view in
-    let within : v < length b.dataflow.nodes = ltb-true v (length b.dataflow.nodes) (and_parts _ _ there).0 in
-    let still = subst (λ (d : EngineState (Pair ℕ ℕ)). is_quiet_board bitime_below d.board ≡ true) (sym c.self.view_is) c.requires.caught_up in
+returns-clause-answered g c s =
+    let o = pair_order nat_order nat_order in
+    let k = c.self.inside.client in
+    let number = c.self.invariant.0 ∙ sym (ap (λ (t : Terms). t.dataflow.workers) c.self.invariant.1) in
+    let one = ap (λ (t : Terms). t.actors) c.self.invariant.1 ∙ sym (ap (λ (t : Terms). suc t.dataflow.workers) c.self.invariant.1) in
+    let l = pair_bounds nat_bounds nat_bounds in
+    let x = pair_extends nat_extends nat_extends in
     let total = then_total (on_total (λ (t : Pair ℕ ℕ). t.first) nat_cmp_total) (on_total (λ (t : Pair ℕ ℕ). t.second) nat_cmp_total) in
-    subst
-    (λ (d : EngineState (Pair ℕ ℕ)). Serves d s
-    → FindsRows (EndsByBound d.board.dataflow.nodes s) d.board.dataflow.nodes s v t c.read.result)
-    c.self.view_is
-    (λ a. read_answered bitime_below (make_pair 0 0) (pair_order nat_order nat_order) b s v t c.known.ensures.board within still a.session
-    (HasLargeCount (as_of bitime_below t (captured_of b v))) (IsLarge b.dataflow.nodes s) c.read.result
-    (large_read bitime_below (make_pair 0 0) (pair_order nat_order nat_order) (pair_bounds nat_bounds nat_bounds) (pair_extends nat_extends nat_extends) total b s v c.known.ensures.board within (and_parts _ _ there).1 a.session t)
-    c.read.ensures.accepted c.read.ensures.refused c.read.ensures.bag (c.read.ensures.query a.session.history a.session.stands))
+    let new = c.read-rows.new.self in
+    let v = c.args.view in
+    let p = dataflow_of k in
+    let w = state_found bitime_below (make_pair 0 0) new in
+    let step = client_step bitime_below (make_pair 0 0) o k new (Look k.number) number one c.known.ensures c.read-rows.ensures.looked in
+    let there = subst (λ (e : Known (Doing (Pair ℕ ℕ))). IsTrue (is_view_of (dataflow_of e).nodes v)) (sym c.self.view_is) c.requires.view in
+    let within : v < length p.nodes = ltb-true v (length p.nodes) (and_parts _ _ there).0 in
+    let still = subst (λ (e : Known (Doing (Pair ℕ ℕ))). IsQuiet bitime_below (dataflow_of e) (state_left bitime_below (make_pair 0 0) e)) (sym c.self.view_is) c.requires.caught_up in
+    let caught = step.caught v (subst (IsQuiet bitime_below p) (sym (step.quiet still)) still) in
+    let found : StandsAs bitime_below (make_pair 0 0) k s → HasSession p w s = session_found bitime_below (make_pair 0 0) o p (state_left bitime_below (make_pair 0 0) k) w s step.clients in
+    let t = c.args.time in
+    subst (λ (e : Known (Doing (Pair ℕ ℕ))). StandsAs bitime_below (make_pair 0 0) e s → FindsRows (EndsByBound (dataflow_of e).nodes s) (dataflow_of e).nodes s v t c.read-rows.result) c.self.view_is
+    (λ a. read_answered bitime_below (make_pair 0 0) o p step.dataflow w s (found a) v caught t
+    (HasLargeCount (query_at bitime_below p.nodes (changes_in w) v t)) (IsLarge p.nodes s) c.read-rows.result
+    (large_read o l x total p step.dataflow w s (found a) v within t)
+    c.read-rows.ensures.accepted c.read-rows.ensures.refused c.read-rows.ensures.bag c.read-rows.ensures.query)

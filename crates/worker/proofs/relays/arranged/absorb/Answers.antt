@@ -1,79 +1,129 @@
-use Rattle.std.proofs.Common.{◌++◌, ap, sym, subst, ◌∙◌, IsTrue, inl}
-use Rattle.std.proofs.lemmas.Result.{err_from_is_err_and}
+use Rattle.std.proofs.Common.{◌<◌, ◌++◌, length, ap, sym, subst, ◌∙◌, IsTrue}
+use Rattle.std.specs.Prelude.{IfSome}
+use Rattle.plan.specs.Nodes.{is_input}
+use Rattle.machine.specs.Histories.Dataflows.{node_of}
 use Rattle.worker.specs.Arrangements.{rows_have, times_from}
-use Rattle.worker.specs.Relays.{IsStopped}
-use Rattle.worker.proofs.RelayLemmas.{goes_looked}
-use Rattle.worker.proofs.BundleLemmas.{if_err_at, asked_continued, stopped_after}
-use Rattle.worker.proofs.AbsorbLemmas.{absorbed_rows, absorbed_times, absorbed_run, absorbed_fewer}
+use Rattle.worker.specs.Desks.{with_arrangement}
+use Rattle.worker.specs.Found.{dataflow_of}
+use Rattle.worker.specs.Relays.{HasTaken, IsRunning, IsSettledTo}
+use Rattle.worker.specs.Tenures.{WaitsOrNotIn, state_found, state_left}
+use Rattle.worker.proofs.NodeLemmas.{same_arrangement, none_left}
+use Rattle.worker.proofs.AbsorbLemmas.{same_flow, found_ready, found_running, left_running, none_held, settled_on, held_settled, absorbed_due, absorbed_rows, absorbed_times, absorbed_may, absorbed_ready}
+use Rattle.worker.proofs.RunningLemmas.{calm_first, calm_then}
 use Rattle.worker.proofs.relays.arranged.absorb.Goals as goal
 
-pub returns-in_err-bundle-clause-stopped : goal.returns-in_err-bundle-clause-stopped
-returns-in_err-bundle-clause-stopped g c d h run own =
-    let below = g.T.PartialOrder.below in
-    let least = g.T.Minimum.least in
-    let p = err_from_is_err_and c.from_residual.result c.from_residual.ensures.1 in
-    if_err_at c.from_residual.result (IsStopped below least g.T.Ord.cmp h c.args.board.now c.take.new.self) c.in_err-bundle.field-0.0 p.0 p.1 (cc p.2)
-    (record { continued = goes_looked below least c.args.board.now c.take.new.self c.args.place.worker c.in_err-bundle.ensures.unchanged h run.stands; cause = inl c.in_err-bundle.ensures.refused })
+pub returns-in_default-clause-runs : goal.returns-in_default-clause-runs
+returns-in_default-clause-runs g c d run own =
+    let x = c.in_ok-found.ensures in
+    let left = x.none (none_left c.in_ok-found.found c.in_default.not-Some) in
+    subst (λ e. IsRunning g.T.PartialOrder.below g.T.Lattice.joined g.T.Minimum.least c.take_at.new.worker e c.args.node) (sym (same_arrangement c.args.node c.args.arrangement.now d own))
+    (found_running g.T.PartialOrder.below g.T.Lattice.joined g.T.Minimum.least g.met.T.PartialOrder.order c.args.worker.now c.take_at.new.worker c.known.ensures x.same d c.args.node run x.clients left.0)
 
 pub take_in-requires-clause-rows : goal.take_in-requires-clause-rows
 take_in-requires-clause-rows g c =
+    let below = g.T.PartialOrder.below in
+    let joined = g.T.Lattice.joined in
+    let least = g.T.Minimum.least in
+    let o = g.met.T.PartialOrder.order in
+    let j = c.args.worker.now in
+    let k = c.take_at.new.worker in
+    let n = c.args.node in
+    let x = c.in_ok-found.ensures in
     let r = c.requires.running in
     let e = c.requires.arrange in
+    let ready = found_ready below joined least o j k c.known.ensures x.same r.0 n x.clients r.1.ready in
+    let took = subst (λ f. IfSome f (λ t. HasTaken below least k n t.0)) c.in-Some.is x.taken in
+    let arrange = ap (λ p. node_of p n) (same_flow j k x.same) ∙ e.2 in
     subst (λ us. IsTrue (rows_have c.args.arrangement.now.width us)) (sym c.into_vec.ensures)
-    (absorbed_rows g.T.PartialOrder.below g.T.Lattice.joined g.T.Minimum.least g.met.T.PartialOrder.order c.args.board.now c.known.ensures.dataflow r.0 r.1 c.args.place r.2 c.requires.worker c.in_ok-bundle.bundle c.in_ok-bundle.ensures.place c.in_ok-bundle.ensures.waited e.0 e.1 e.2 c.args.arrangement.now r.3)
+    (absorbed_rows below joined least o k c.known-2.ensures r.0 n ready c.in-Some.bundle took e.0 e.1 arrange c.args.arrangement.now r.2)
 
 pub take_in-requires-clause-times : goal.take_in-requires-clause-times
 take_in-requires-clause-times g c =
+    let below = g.T.PartialOrder.below in
+    let joined = g.T.Lattice.joined in
+    let least = g.T.Minimum.least in
+    let o = g.met.T.PartialOrder.order in
+    let j = c.args.worker.now in
+    let k = c.take_at.new.worker in
+    let n = c.args.node in
+    let x = c.in_ok-found.ensures in
     let r = c.requires.running in
-    subst (λ us. IsTrue (times_from g.T.PartialOrder.below g.T.Minimum.least us)) (sym c.into_vec.ensures)
-    (absorbed_times g.T.PartialOrder.below g.T.Lattice.joined g.T.Minimum.least g.met.T.PartialOrder.order c.args.board.now c.known.ensures.dataflow r.0 r.1 c.args.place r.2 c.requires.worker c.in_ok-bundle.bundle c.in_ok-bundle.ensures.place c.in_ok-bundle.ensures.waited)
+    let ready = found_ready below joined least o j k c.known.ensures x.same r.0 n x.clients r.1.ready in
+    let took = subst (λ f. IfSome f (λ t. HasTaken below least k n t.0)) c.in-Some.is x.taken in
+    subst (λ us. IsTrue (times_from below least us)) (sym c.into_vec.ensures)
+    (absorbed_times below joined least o k c.known-2.ensures r.0 n ready c.in-Some.bundle took)
 
-pub returns-in_err-take_in-clause-stopped : goal.returns-in_err-take_in-clause-stopped
-returns-in_err-take_in-clause-stopped g c d h run own =
+pub hold_back-requires : goal.hold_back-requires
+hold_back-requires g c =
     let below = g.T.PartialOrder.below in
+    let joined = g.T.Lattice.joined in
     let least = g.T.Minimum.least in
-    let x = c.in_ok-bundle in
-    let p = err_from_is_err_and c.from_residual-in_err-take_in.result c.from_residual-in_err-take_in.ensures.1 in
-    if_err_at c.from_residual-in_err-take_in.result (IsStopped below least g.T.Ord.cmp h c.args.board.now c.take.new.self) c.in_err-take_in.field-0.0 p.0 p.1 (cc p.2)
-    (record {
-      continued = asked_continued below g.T.Lattice.joined least g.met.T.PartialOrder.order c.args.board.now c.known.ensures.dataflow d h c.args.place run c.requires.worker x.bundle x.ensures.place x.ensures.waited c.take.new.self x.ensures.taken (c.take.ensures.stands h run.stands);
-      cause = inl c.in_err-take_in.ensures.only;
-    })
-
-pub returns-in_err-held-clause-stopped : goal.returns-in_err-held-clause-stopped
-returns-in_err-held-clause-stopped g c d h run own =
-    let below = g.T.PartialOrder.below in
-    let least = g.T.Minimum.least in
-    let x = c.in_ok-bundle in
-    let p = err_from_is_err_and c.from_residual-in_err-held.result c.from_residual-in_err-held.ensures.1 in
-    if_err_at c.from_residual-in_err-held.result (IsStopped below least g.T.Ord.cmp h c.args.board.now c.take.new.self) c.in_err-held.field-0.0 p.0 p.1 (cc p.2)
-    (record {
-      continued = asked_continued below g.T.Lattice.joined least g.met.T.PartialOrder.order c.args.board.now c.known.ensures.dataflow d h c.args.place run c.requires.worker x.bundle x.ensures.place x.ensures.waited c.take.new.self x.ensures.taken (c.take.ensures.stands h run.stands);
-      cause = inl c.in_err-held.ensures.only;
-    })
+    let o = g.met.T.PartialOrder.order in
+    let j = c.args.worker.now in
+    let k = c.take_at.new.worker in
+    let n = c.args.node in
+    let a = c.args.arrangement.now in
+    let x = c.in_ok-found.ensures in
+    let r = c.requires.running in
+    let e = c.requires.arrange in
+    let ready = found_ready below joined least o j k c.known.ensures x.same r.0 n x.clients r.1.ready in
+    let took = subst (λ f. IfSome f (λ t. HasTaken below least k n t.0)) c.in-Some.is x.taken in
+    let arrange = ap (λ p. node_of p n) (same_flow j k x.same) ∙ e.2 in
+    let grown = c.in_ok-take_in.ensures.waiting ∙ ap (λ us. record a { waiting = a.waiting ++ us }) c.into_vec.ensures in
+    record {
+      number = x.same.number ∙ r.1.number;
+      alone = ready.free.at.alone;
+      within = subst (λ m. m < length (dataflow_of k).nodes) took.node (absorbed_due below joined least o k c.known-2.ensures r.0 n ready c.in-Some.bundle took).within;
+      allowed = absorbed_may below joined least o k c.known-2.ensures r.0 n ready c.in-Some.bundle took e.0 e.1 arrange a r.2 c.take_in.new.self grown c.in_ok-held.held.items (record { covers = c.in_ok-held.ensures.covers; tight = c.in_ok-held.ensures.tight });
+    }
 
 pub returns-clause-runs : goal.returns-clause-runs
-returns-clause-runs g c d h run own =
-    let x = c.in_ok-bundle in
-    let e = c.requires.arrange in
-    absorbed_run g.T.PartialOrder.below g.T.Lattice.joined g.T.Minimum.least g.met.T.PartialOrder.order c.args.board.now c.known.ensures.dataflow d h c.args.place run c.requires.worker x.bundle x.ensures.place x.ensures.waited
-    e.0 e.1 e.2 c.args.arrangement.now own c.take_in.new.self (c.in_ok-take_in.ensures.waiting ∙ ap (λ us. record c.args.arrangement.now { waiting = c.args.arrangement.now.waiting ++ us }) c.into_vec.ensures) c.in_ok-held.held.items c.in_ok-held.ensures.covers c.in_ok-held.ensures.tight
-    c.take.new.self x.ensures.taken (c.take.ensures.stands h run.stands) c.hold_back.new.board c.hold_back.ensures.dataflow c.hold_back.result c.hold_back.ensures.stands
-
-pub returns-clause-stopped : goal.returns-clause-stopped
-returns-clause-stopped g c d h run own =
+returns-clause-runs g c d run own =
     let below = g.T.PartialOrder.below in
+    let joined = g.T.Lattice.joined in
     let least = g.T.Minimum.least in
-    let x = c.in_ok-bundle in
-    stopped_after below least g.T.Ord.cmp h c.args.board.now c.take.new.self c.hold_back.new.board c.hold_back.result
-    (asked_continued below g.T.Lattice.joined least g.met.T.PartialOrder.order c.args.board.now c.known.ensures.dataflow d h c.args.place run c.requires.worker x.bundle x.ensures.place x.ensures.waited c.take.new.self x.ensures.taken (c.take.ensures.stands h run.stands))
-    c.hold_back.ensures.stopped c.hold_back.ensures.refused
-
-pub returns-clause-fewer : goal.returns-clause-fewer
-returns-clause-fewer g c =
-    let x = c.in_ok-bundle in
+    let o = g.met.T.PartialOrder.order in
+    let j = c.args.worker.now in
+    let k = c.take_at.new.worker in
+    let n = c.args.node in
+    let a = c.args.arrangement.now in
+    let x = c.in_ok-found.ensures in
     let e = c.requires.arrange in
+    let ready = found_ready below joined least o j k c.known.ensures x.same d n x.clients run.ready in
+    let took = subst (λ f. IfSome f (λ t. HasTaken below least k n t.0)) c.in-Some.is x.taken in
+    let arrange = ap (λ p. node_of p n) (same_flow j k x.same) ∙ e.2 in
+    let grown = c.in_ok-take_in.ensures.waiting ∙ ap (λ us. record a { waiting = a.waiting ++ us }) c.into_vec.ensures in
+    left_running below joined least o k c.hold_back.new.worker c.known-2.ensures c.hold_back.ensures.same (with_arrangement n c.take_in.new.self d) n _ (x.same.number ∙ run.number) c.in_ok-hold_back.ensures.left
+    (absorbed_ready below joined least o k c.known-2.ensures d n ready c.in-Some.bundle took e.0 e.1 arrange a own c.take_in.new.self grown c.in_ok-held.held.items (record { covers = c.in_ok-held.ensures.covers; tight = c.in_ok-held.ensures.tight }))
+
+pub returns-clause-all : goal.returns-clause-all
+returns-clause-all g c last =
+    let below = g.T.PartialOrder.below in
+    let joined = g.T.Lattice.joined in
+    let least = g.T.Minimum.least in
+    let o = g.met.T.PartialOrder.order in
+    let k = c.take_at.new.worker in
+    let n = c.args.node in
+    let x = c.in_ok-found.ensures in
+    let e = c.requires.arrange in
+    let other = ap is_input (ap (λ p. node_of p n) (same_flow c.args.worker.now k x.same) ∙ e.2) in
+    let more = subst (λ f. IfSome f (λ t. WaitsOrNotIn t.1 n 0 (state_left below least k))) c.in-Some.is x.more in
+    none_held below joined least o k c.hold_back.new.worker c.known-2.ensures c.hold_back.ensures.same n c.in_ok-held.held.items other c.in_ok-hold_back.ensures.left (more.1 last)
+
+pub returns-clause-settled : goal.returns-clause-settled
+returns-clause-settled g c calm settled =
+    let below = g.T.PartialOrder.below in
+    let joined = g.T.Lattice.joined in
+    let least = g.T.Minimum.least in
+    let o = g.met.T.PartialOrder.order in
+    let j = c.args.worker.now in
+    let k = c.take_at.new.worker in
+    let n = c.args.node in
+    let x = c.in_ok-found.ensures in
+    let y = c.in_ok-hold_back.ensures in
     let r = c.requires.running in
-    absorbed_fewer g.T.PartialOrder.below g.T.Lattice.joined g.T.Minimum.least g.met.T.PartialOrder.order c.args.board.now c.known.ensures.dataflow r.0 r.1 c.args.place r.2 c.requires.worker x.bundle x.ensures.place x.ensures.waited
-    e.0 e.1 e.2 c.args.arrangement.now r.3 c.take_in.new.self (c.in_ok-take_in.ensures.waiting ∙ ap (λ us. record c.args.arrangement.now { waiting = c.args.arrangement.now.waiting ++ us }) c.into_vec.ensures) c.in_ok-held.held.items c.in_ok-held.ensures.covers c.in_ok-held.ensures.tight
-    c.take.new.self x.ensures.taken (c.take.ensures.stands r.1 r.2.stands) c.hold_back.new.board c.hold_back.ensures.dataflow c.hold_back.result c.hold_back.ensures.stands
+    let ready = found_ready below joined least o j k c.known.ensures x.same r.0 n x.clients r.1.ready in
+    let took = subst (λ f. IfSome f (λ t. HasTaken below least k n t.0)) c.in-Some.is x.taken in
+    settled_on below j k x.same n n (state_found below least k) (state_left below least c.hold_back.new.worker)
+    (λ found. subst (λ v. IsSettledTo below (dataflow_of k) v n) (sym (y.calm (calm_then x.same y.same calm))) (held_settled below joined least o k c.known-2.ensures r.0 n ready c.in-Some.bundle took c.in_ok-held.held.items found))
+    (subst (λ w. IsSettledTo below (dataflow_of j) w n) (sym (x.calm (calm_first x.same y.same calm))) settled)

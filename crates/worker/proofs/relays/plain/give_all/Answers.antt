@@ -1,34 +1,62 @@
-use Rattle.std.proofs.Common.{ap, List, inr}
+-- What was gathered is given in one piece.
+use Rattle.std.proofs.Common.{suc, sym, subst, IsTrue, [], inr}
 use Rattle.std.proofs.lemmas.Result.{err_from_is_err_and}
-use Rattle.update.specs.declared.change.Update.{Update}
-use Rattle.worker.specs.Relays.{IsStopped}
-use Rattle.worker.proofs.RelayLemmas.{goes_refl}
-use Rattle.worker.proofs.BundleLemmas.{if_err_at}
-use Rattle.worker.proofs.GatherRunLemmas.{gathered_large, gave_from}
+use Rattle.linear.specs.Widths.{are_wide}
+use Rattle.machine.specs.Histories.{IsGive, next_state}
+use Rattle.machine.specs.Histories.Cuts.{cut}
+use Rattle.machine.specs.declared.histories.event.Event.TheVariants.{Give}
+use Rattle.plan.specs.Widths.{width_of}
+use Rattle.worker.specs.Between.{IsLeftBy}
+use Rattle.worker.specs.Gathering.{IsSplit}
+use Rattle.worker.specs.Found.{dataflow_of}
+use Rattle.worker.specs.Relays.{IsSettledTo, IsStopped}
+use Rattle.worker.specs.Tenures.{state_left}
+use Rattle.worker.proofs.ResultLemmas.{if_err_at}
+use Rattle.worker.proofs.RunningLemmas.{calm_on}
+use Rattle.worker.proofs.GatherRunLemmas.{gave_it, made_at, may_give_it, on_ok_both, settled_it, too_large}
 use Rattle.worker.proofs.relays.plain.give_all.Goals as goal
 
 pub returns-in_err-updates-clause-stopped : goal.returns-in_err-updates-clause-stopped
-returns-in_err-updates-clause-stopped g c d h run =
-    let below = g.T.PartialOrder.below in
-    let least = g.T.Minimum.least in
-    let b = c.args.board.now in
+returns-in_err-updates-clause-stopped g c =
+    let r = c.requires.gathering in
     let p = err_from_is_err_and c.from_residual.result c.from_residual.ensures.1 in
-    if_err_at c.from_residual.result (IsStopped below least g.T.Ord.cmp h b b) c.in_err-updates.field-0.0 p.0 p.1 (cc p.2)
-    (record {
-      continued = goes_refl below least b h run.stands;
-      cause = inr (
-        c.in_err-updates.ensures.large.0,
-        gathered_large below g.T.Lattice.joined least g.met.T.PartialOrder.order b c.known.ensures.dataflow d c.args.node h c.args.gathered.items c.requires.within c.requires.linear c.requires.plain run g.T.Ord.cmp c.in_err-updates.ensures.large.1,
-      );
-    })
+    if_err_at c.from_residual.result (IsStopped g.T.PartialOrder.below g.T.Minimum.least g.T.Ord.cmp c.args.worker.now) c.in_err-updates.field-0.0 p.0 p.1 (cc p.2)
+    (inr (
+      c.in_err-updates.ensures.large.0,
+      too_large g.T.PartialOrder.below g.T.Lattice.joined g.T.Minimum.least g.met.T.PartialOrder.order c.args.worker.now c.known.ensures c.args.node c.requires.within c.requires.linear c.requires.plain r.0 c.args.gathered.items r.1 g.T.Ord.cmp c.in_err-updates.ensures.large.1,
+    ))
+
+pub give_on-requires-clause-allowed : goal.give_on-requires-clause-allowed
+give_on-requires-clause-allowed g c is_cut =
+    let r = c.requires.gathering in
+    let p = dataflow_of c.args.worker.now in
+    let made = made_at c.args.node c.into.result in
+    let split = subst (λ us. IsSplit g.T.PartialOrder.below c.args.gathered.items us []) (sym c.into.ensures) c.in_ok-updates.ensures.split in
+    let wide = subst (λ us. IsTrue (are_wide (width_of p.nodes c.args.node) us)) (sym c.into.ensures) (c.in_ok-updates.ensures.wide _ r.1.gathering.wide) in
+    subst (λ ts. IsGive g.T.PartialOrder.below p (state_left g.T.PartialOrder.below g.T.Minimum.least c.args.worker.now) made ts (cut g.T.PartialOrder.below p made)) (sym c.new.ensures.items)
+    (may_give_it g.T.PartialOrder.below g.T.Lattice.joined g.T.Minimum.least g.met.T.PartialOrder.order c.args.worker.now c.known.ensures c.args.node c.requires.within c.requires.linear c.requires.plain r.0 c.args.gathered.items r.1 c.into.result split wide (cut g.T.PartialOrder.below p made) is_cut)
 
 pub returns-clause-runs : goal.returns-clause-runs
-returns-clause-runs g c d h run =
-    let below = g.T.PartialOrder.below in
-    let b = c.args.board.now in
-    let n = c.args.node in
-    let x = c.in_ok-updates in
-    gave_from below g.T.Lattice.joined g.T.Minimum.least g.met.T.PartialOrder.order b c.known.ensures.dataflow d n h c.args.gathered.items c.requires.within c.requires.linear c.requires.plain run
-    x.updates.items x.ensures.split (x.ensures.wide _ run.wide) c.requires.none
-    (record { node = n; worker = 0; updates = c.into.result }) (ap (λ (us : List (Update g.row.T.Denot)). record { node = n; worker = 0; updates = us }) c.into.ensures)
-    c.new.result.items c.new.ensures.items c.give_on.result c.give_on.new.board c.give_on.ensures.dataflow c.give_on.ensures.cut (c.give_on.ensures.stands h run.stands)
+returns-clause-runs g c d run =
+    let p = dataflow_of c.args.worker.now in
+    let w = state_left g.T.PartialOrder.below g.T.Minimum.least c.args.worker.now in
+    let made = made_at c.args.node c.into.result in
+    let sent = cut g.T.PartialOrder.below p made in
+    let split = subst (λ us. IsSplit g.T.PartialOrder.below c.args.gathered.items us []) (sym c.into.ensures) c.in_ok-updates.ensures.split in
+    let wide = subst (λ us. IsTrue (are_wide (width_of p.nodes c.args.node) us)) (sym c.into.ensures) (c.in_ok-updates.ensures.wide _ run.gathering.wide) in
+    on_ok_both c.give_on.result (λ is_cut left.
+    gave_it g.T.PartialOrder.below g.T.Lattice.joined g.T.Minimum.least g.met.T.PartialOrder.order c.args.worker.now c.known.ensures c.args.node c.requires.within c.requires.linear c.requires.plain d c.args.gathered.items run c.into.result split wide c.requires.none c.give_on.new.worker c.give_on.ensures.same sent is_cut
+    (subst (λ ts. IsLeftBy g.T.PartialOrder.below p (next_state g.T.PartialOrder.below p w (Give made ts sent)) (state_left g.T.PartialOrder.below g.T.Minimum.least c.give_on.new.worker)) c.new.ensures.items left)) c.give_on.ensures.cut c.give_on.ensures.left
+
+pub returns-clause-settled : goal.returns-clause-settled
+returns-clause-settled g c calm settled =
+    let r = c.requires.gathering in
+    let p = dataflow_of c.args.worker.now in
+    let w = state_left g.T.PartialOrder.below g.T.Minimum.least c.args.worker.now in
+    let made = made_at c.args.node c.into.result in
+    let sent = cut g.T.PartialOrder.below p made in
+    let split = subst (λ us. IsSplit g.T.PartialOrder.below c.args.gathered.items us []) (sym c.into.ensures) c.in_ok-updates.ensures.split in
+    let wide = subst (λ us. IsTrue (are_wide (width_of p.nodes c.args.node) us)) (sym c.into.ensures) (c.in_ok-updates.ensures.wide _ r.1.gathering.wide) in
+    calm_on c.give_on.result (λ v. IsSettledTo g.T.PartialOrder.below p v (suc c.args.node)) (state_left g.T.PartialOrder.below g.T.Minimum.least c.give_on.new.worker) (next_state g.T.PartialOrder.below p w (Give made c.new.result.items sent)) (λ is_cut.
+    subst (λ ts. IsSettledTo g.T.PartialOrder.below p (next_state g.T.PartialOrder.below p w (Give made ts sent)) (suc c.args.node)) (sym c.new.ensures.items)
+    (settled_it g.T.PartialOrder.below g.T.Lattice.joined g.T.Minimum.least g.met.T.PartialOrder.order c.args.worker.now c.known.ensures c.args.node c.requires.within c.requires.linear c.requires.plain r.0 c.args.gathered.items r.1 c.into.result split wide c.requires.none sent is_cut settled)) c.give_on.ensures.cut (c.give_on.ensures.calm calm)

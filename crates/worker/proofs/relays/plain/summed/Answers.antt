@@ -1,3 +1,4 @@
+-- What was gathered, consolidated where it comes from two sources.
 use Rattle.std.proofs.Common.{eqb, length}
 use Rattle.worker.proofs.ArrangingLemmas.{all_given}
 use Rattle.worker.proofs.GatherRunLemmas.{if_ok_by, if_ok_by3}

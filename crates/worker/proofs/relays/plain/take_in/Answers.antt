@@ -1,62 +1,53 @@
-use Rattle.std.proofs.Common.{ap, refl, sym, subst, ◌∙◌, IsTrue, inl}
+-- One bundle is taken at a linear node.
+use Rattle.std.proofs.Common.{◌++◌, sym, subst, ◌∙◌, IsTrue, Some, inr, rules}
 use Rattle.std.proofs.lemmas.Result.{err_from_is_err_and}
-use Rattle.plan.specs.Nodes.{node_at}
 use Rattle.linear.specs.Applied.{Overflows, linear_output}
 use Rattle.linear.specs.Widths.{takes_rows}
-use Rattle.machine.specs.Boards.{BoardState}
-use Rattle.machine.specs.declared.histories.event.Site.{Site}
-use Rattle.worker.specs.Relays.{IsStopped}
-use Rattle.worker.proofs.RelayLemmas.{goes_looked}
-use Rattle.worker.proofs.BundleLemmas.{if_err_at}
-use Rattle.worker.proofs.GatherRunLemmas.{if_ok_by, on_ok_always, stopped_over, took_fits, took_continued, took_from, took_less, took_too_large}
+use Rattle.worker.specs.Relays.{IsGatheringOn, IsStopped}
+use Rattle.worker.proofs.ResultLemmas.{if_err_at}
+use Rattle.worker.proofs.GatherRunLemmas.{found_none, found_some, took_rows, took_on, took_settled, took_too_large}
 use Rattle.worker.proofs.relays.plain.take_in.Goals as goal
 
-pub returns-in_err-bundle-clause-stopped : goal.returns-in_err-bundle-clause-stopped
-returns-in_err-bundle-clause-stopped g c d h gathered run =
-    let below = g.T.PartialOrder.below in
-    let least = g.T.Minimum.least in
-    let p = err_from_is_err_and c.from_residual.result c.from_residual.ensures.1 in
-    if_err_at c.from_residual.result (IsStopped below least g.T.Ord.cmp h c.args.board.now c.take.new.self) c.in_err-bundle.field-0.0 p.0 p.1 (cc p.2)
-    (record { continued = goes_looked below least c.args.board.now c.take.new.self c.args.place.worker c.in_err-bundle.ensures.unchanged h run.stands; cause = inl c.in_err-bundle.ensures.refused })
+pub returns-in_default-clause-none : goal.returns-in_default-clause-none
+returns-in_default-clause-none g c d gathered run none =
+    let x = c.in_ok-bundle.ensures.none c.in_default.is in (
+      found_none g.T.PartialOrder.below g.T.Lattice.joined g.T.Minimum.least g.met.T.PartialOrder.order c.args.worker.now c.take_at.new.worker c.take_at.ensures.same c.args.node c.requires.linear c.requires.plain c.known.ensures.dataflow c.take_at.ensures.clients d gathered x.0 run,
+      x.1,
+    )
+
+pub returns-in_default-clause-some : goal.returns-in_default-clause-some
+returns-in_default-clause-some g c some none =
+    let x = c.in_ok-bundle.ensures.none c.in_default.is in
+    found_some g.T.PartialOrder.below g.T.Lattice.joined g.T.Minimum.least g.met.T.PartialOrder.order c.args.worker.now c.take_at.new.worker c.take_at.ensures.same c.args.node c.take_at.ensures.clients some x.0 x.1
 
 pub apply-requires-clause-rows : goal.apply-requires-clause-rows
 apply-requires-clause-rows g c =
     let r = c.requires.gathering in
-    let x = c.in_ok-bundle in
-    let node = c.node.ensures ∙ ap (λ (z : Site). node_at c.plan.result.now z.node) x.ensures.place ∙ ap (λ nodes. node_at nodes c.args.place.node) (c.plan.ensures ∙ ap (λ (z : BoardState _). z.dataflow.nodes) x.ensures.taken) in
-    subst (λ us. IsTrue (takes_rows c.node.result.now us)) (sym c.into_vec.ensures)
-    (subst (λ node. IsTrue (takes_rows node x.bundle.updates)) (sym node)
-    (took_fits g.T.PartialOrder.below g.T.Lattice.joined g.T.Minimum.least g.met.T.PartialOrder.order c.args.board.now c.known.ensures.dataflow r.0 c.args.place.node r.1 r.2 c.requires.within c.requires.linear c.requires.plain r.3 x.bundle c.args.place x.ensures.place refl c.requires.worker x.ensures.waited))
+    subst (λ us. IsTrue (takes_rows c.args.operator.now us)) (sym c.into_vec.ensures)
+    (subst (λ node. IsTrue (takes_rows node c.in-Some.bundle.updates)) (sym c.requires.operator)
+    (took_rows g.T.PartialOrder.below g.T.Lattice.joined g.T.Minimum.least g.met.T.PartialOrder.order c.args.worker.now c.take_at.new.worker c.take_at.ensures.same c.args.node c.requires.linear c.requires.plain c.known.ensures.dataflow c.take_at.ensures.clients
+    c.known-2.ensures c.in-Some.bundle (search rules) r.0 r.1 r.2))
+
+pub returns-in_err-out-clause-stopped : goal.returns-in_err-out-clause-stopped
+returns-in_err-out-clause-stopped g c =
+    let r = c.requires.gathering in
+    let p = err_from_is_err_and c.from_residual-in_err-out.result c.from_residual-in_err-out.ensures.1 in
+    if_err_at c.from_residual-in_err-out.result (IsStopped g.T.PartialOrder.below g.T.Minimum.least g.T.Ord.cmp c.take_at.new.worker) c.in_err-out.field-0.0 p.0 p.1 (cc p.2)
+    (inr (
+      c.in_err-out.ensures.only,
+      took_too_large g.T.PartialOrder.below g.T.Lattice.joined g.T.Minimum.least g.met.T.PartialOrder.order c.args.worker.now c.take_at.new.worker c.take_at.ensures.same c.args.node c.requires.linear c.requires.plain c.known.ensures.dataflow c.take_at.ensures.clients
+          c.known-2.ensures c.in-Some.bundle (search rules) r.0 r.1 r.2 g.T.Ord.cmp
+          (subst (λ node. Overflows node c.in-Some.bundle.updates) c.requires.operator (subst (λ us. Overflows c.args.operator.now us) c.into_vec.ensures (c.in_err-out.ensures.overflow.0 (search rules)))),
+    ))
 
 pub returns-clause-taken : goal.returns-clause-taken
-returns-clause-taken g c d h gathered run =
-    let x = c.in_ok-bundle in
-    let node = c.node.ensures ∙ ap (λ (z : Site). node_at c.plan.result.now z.node) x.ensures.place ∙ ap (λ nodes. node_at nodes c.args.place.node) (c.plan.ensures ∙ ap (λ (z : BoardState _). z.dataflow.nodes) x.ensures.taken) in
-    if_ok_by c.apply.result (λ out applied.
-    took_from g.T.PartialOrder.below g.T.Lattice.joined g.T.Minimum.least g.met.T.PartialOrder.order c.args.board.now c.known.ensures.dataflow d c.args.place.node h gathered c.requires.within c.requires.linear c.requires.plain run x.bundle c.args.place x.ensures.place refl c.requires.worker x.ensures.waited
-    c.take.new.self x.ensures.taken (c.take.ensures.stands h run.stands) out.items (applied ∙ (λ i. linear_output (node i) (c.into_vec.ensures i)))) c.apply.ensures.applied
+returns-clause-taken g c d gathered run =
+    subst (λ out. IsGatheringOn g.T.PartialOrder.below g.T.Lattice.joined g.T.Minimum.least c.take_at.new.worker d c.args.node (out ++ gathered) (Some c.args.node))
+    (sym (c.in_ok-out.ensures.applied ∙ (λ i. linear_output (c.requires.operator i) (c.into_vec.ensures i))))
+    (took_on g.T.PartialOrder.below g.T.Lattice.joined g.T.Minimum.least g.met.T.PartialOrder.order c.args.worker.now c.take_at.new.worker c.take_at.ensures.same c.args.node c.requires.linear c.requires.plain c.known.ensures.dataflow c.take_at.ensures.clients
+    c.known-2.ensures c.in-Some.bundle (search rules) d gathered run)
 
-pub returns-clause-stopped : goal.returns-clause-stopped
-returns-clause-stopped g c d h gathered run =
-    let below = g.T.PartialOrder.below in
-    let joined = g.T.Lattice.joined in
-    let least = g.T.Minimum.least in
-    let o = g.met.T.PartialOrder.order in
-    let b = c.args.board.now in
-    let q = c.known.ensures.dataflow in
-    let n = c.args.place.node in
-    let x = c.in_ok-bundle in
-    let node = c.node.ensures ∙ ap (λ (z : Site). node_at c.plan.result.now z.node) x.ensures.place ∙ ap (λ nodes. node_at nodes n) (c.plan.ensures ∙ ap (λ (z : BoardState _). z.dataflow.nodes) x.ensures.taken) in
-    stopped_over below least g.T.Ord.cmp h b c.take.new.self c.apply.result
-    (took_continued below joined least o b q d n h gathered c.requires.within c.requires.linear c.requires.plain run x.bundle c.args.place x.ensures.place refl c.requires.worker x.ensures.waited c.take.new.self x.ensures.taken (c.take.ensures.stands h run.stands))
-    c.apply.ensures.only
-    (λ e. took_too_large below joined least o b q d n h gathered c.requires.within c.requires.linear c.requires.plain run x.bundle c.args.place x.ensures.place refl c.requires.worker x.ensures.waited c.take.new.self x.ensures.taken (c.take.ensures.stands h run.stands) g.T.Ord.cmp
-    (subst (λ n. Overflows n x.bundle.updates) node (subst (λ us. Overflows c.node.result.now us) c.into_vec.ensures (c.apply.ensures.overflow.0 e))))
-
-pub returns-clause-fewer : goal.returns-clause-fewer
-returns-clause-fewer g c =
-    let r = c.requires.gathering in
-    let x = c.in_ok-bundle in
-    on_ok_always c.apply.result
-    (took_less g.T.PartialOrder.below g.T.Lattice.joined g.T.Minimum.least g.met.T.PartialOrder.order c.args.board.now c.known.ensures.dataflow r.0 c.args.place.node r.1 r.2 c.requires.within c.requires.linear c.requires.plain r.3 x.bundle c.args.place x.ensures.place refl c.requires.worker x.ensures.waited
-    c.take.new.self x.ensures.taken (c.take.ensures.stands r.1 r.3.stands))
+pub returns-clause-settled : goal.returns-clause-settled
+returns-clause-settled g c calm settled =
+    let taken = rw c.in-Some.is at c.in_ok-bundle.ensures.taken in
+    took_settled g.T.PartialOrder.below g.T.Lattice.joined g.T.Minimum.least g.met.T.PartialOrder.order c.args.worker.now c.take_at.new.worker c.take_at.ensures.same c.args.node c.known.ensures.dataflow (c.take_at.ensures.calm calm) c.in-Some.bundle taken settled

@@ -1,111 +1,153 @@
-use Rattle.std.proofs.Common.{rules, [], ◌∷◌, ◌++◌, ◌≤◌, ◌^◌, sym, subst, IsTrue, inl}
+use Rattle.std.proofs.Common.{rules, [], ◌∷◌, ◌++◌, ◌<◌, ◌≤◌, ◌^◌, length, ap, sym, subst, ◌∙◌, IsTrue}
+use Rattle.std.specs.Prelude.{IfSome}
 use Rattle.std.proofs.lemmas.Result.{err_from_is_err_and}
 use Rattle.lattice.specs.Frontiers.{all_beyond}
 use Rattle.update.specs.Updates.{size}
 use Rattle.update.specs.Refusals.{IsMemoryOrOverflow}
+use Rattle.plan.specs.Nodes.{is_input}
+use Rattle.machine.specs.Histories.Dataflows.{node_of}
 use Rattle.machine.specs.Histories.States.{times}
+use Rattle.worker.specs.Desks.{with_reduction}
+use Rattle.worker.specs.Found.{dataflow_of}
 use Rattle.worker.specs.Reductions.{have_width, IsReduced, IsPendingAfter, pending_of}
-use Rattle.worker.specs.Relays.{IsStopped}
-use Rattle.worker.proofs.RelayLemmas.{goes_looked}
-use Rattle.worker.proofs.BundleLemmas.{if_err_at, asked_continued, stopped_after}
-use Rattle.worker.proofs.AbsorbLemmas.{absorbed_later}
-use Rattle.worker.proofs.ReduceRunLemmas.{taken_rows, taken_within, taken_large, refused_by, taken_run, taken_fewer}
+use Rattle.worker.specs.Relays.{HasTaken, IsRunning, IsSettledTo, IsStopped}
+use Rattle.worker.specs.Tenures.{WaitsOrNotIn, state_found, state_left}
+use Rattle.worker.proofs.ResultLemmas.{if_err_at, memory_or}
+use Rattle.worker.proofs.NodeLemmas.{same_reduction, none_left}
+use Rattle.worker.proofs.AbsorbLemmas.{same_flow, found_ready, found_running, left_running, none_held, settled_on, held_settled, absorbed_due, absorbed_later}
+use Rattle.worker.proofs.ReduceRunLemmas.{taken_rows, taken_large, taken_may, taken_ready}
+use Rattle.worker.proofs.RunningLemmas.{calm_first, calm_then}
 use Rattle.worker.proofs.relays.reduced.absorb.Goals as goal
 
-pub returns-in_err-bundle-clause-stopped : goal.returns-in_err-bundle-clause-stopped
-returns-in_err-bundle-clause-stopped g c d h run own =
-    let below = g.T.PartialOrder.below in
-    let least = g.T.Minimum.least in
-    let p = err_from_is_err_and c.from_residual.result c.from_residual.ensures.1 in
-    if_err_at c.from_residual.result (IsStopped below least g.T.Ord.cmp h c.args.board.now c.take.new.self) c.in_err-bundle.field-0.0 p.0 p.1 (cc p.2)
-    (record { continued = goes_looked below least c.args.board.now c.take.new.self c.args.place.worker c.in_err-bundle.ensures.unchanged h run.stands; cause = inl c.in_err-bundle.ensures.refused })
+pub returns-in_default-clause-runs : goal.returns-in_default-clause-runs
+returns-in_default-clause-runs g c d run own =
+    let x = c.in_ok-found.ensures in
+    let left = x.none (none_left c.in_ok-found.found c.in_default.not-Some) in
+    subst (λ e. IsRunning g.T.PartialOrder.below g.T.Lattice.joined g.T.Minimum.least c.take_at.new.worker e c.args.node) (sym (same_reduction c.args.node c.args.reducing.now d own))
+    (found_running g.T.PartialOrder.below g.T.Lattice.joined g.T.Minimum.least g.met.T.PartialOrder.order c.args.worker.now c.take_at.new.worker c.known.ensures x.same d c.args.node run x.clients left.0)
 
-pub take-requires-2 : goal.take-requires-2
-take-requires-2 g c =
+pub returns-in_default-clause-all : goal.returns-in_default-clause-all
+returns-in_default-clause-all g c e = (c.in_ok-found.ensures.none (none_left c.in_ok-found.found c.in_default.not-Some)).1
+
+pub take-requires : goal.take-requires
+take-requires g c =
     let below = g.T.PartialOrder.below in
     let joined = g.T.Lattice.joined in
     let least = g.T.Minimum.least in
-    let x = c.in_ok-bundle in
-    let e = c.requires.reduce in
+    let o = g.met.T.PartialOrder.order in
+    let j = c.args.worker.now in
+    let k = c.take_at.new.worker in
+    let n = c.args.node in
+    let x = c.in_ok-found.ensures in
     let r = c.requires.running in
-    let b = c.args.board.now in
-    let later = subst (λ us. IsTrue (all_beyond below (least ∷ []) (times us))) (sym c.into_vec.ensures)
-    (absorbed_later below joined least g.met.T.PartialOrder.order b c.known.ensures.dataflow r.0 r.1 c.args.place r.2 c.requires.worker x.bundle x.ensures.place x.ensures.waited) in
-    let wide = subst (λ us. IsTrue (have_width c.args.reducing.now.width us)) (sym c.into_vec.ensures)
-    (taken_rows below joined least g.met.T.PartialOrder.order b c.known.ensures.dataflow r.0 r.1 c.args.place r.2 c.requires.worker x.bundle x.ensures.place x.ensures.waited e.0 e.1 e.2 c.args.reducing.now r.3) in
+    let e = c.requires.reduce in
+    let ready = found_ready below joined least o j k c.known.ensures x.same r.0 n x.clients r.1.ready in
+    let took = subst (λ f. IfSome f (λ t. HasTaken below least k n t.0)) c.in-Some.is x.taken in
+    let reduce = ap (λ p. node_of p n) (same_flow j k x.same) ∙ e.2 in
+    let later = subst (λ us. IsTrue (all_beyond below (least ∷ []) (times us))) (sym c.into_vec.ensures) (absorbed_later below joined least o k c.known-2.ensures r.0 n ready c.in-Some.bundle took) in
+    let wide = subst (λ us. IsTrue (have_width c.args.reducing.now.width us)) (sym c.into_vec.ensures) (taken_rows below joined least o k c.known-2.ensures r.0 n ready c.in-Some.bundle took e.0 e.1 reduce c.args.reducing.now r.2) in
     (search rules, (c.requires.start, (later, wide)))
 
 pub returns-in_err-take-clause-stopped : goal.returns-in_err-take-clause-stopped
-returns-in_err-take-clause-stopped g c d h run own =
+returns-in_err-take-clause-stopped g c =
     let below = g.T.PartialOrder.below in
+    let joined = g.T.Lattice.joined in
     let least = g.T.Minimum.least in
-    let order = g.met.T.PartialOrder.order in
-    let x = c.in_ok-bundle in
-    let b = c.args.board.now in
-    let e = c.requires.reduce in
-    let p = err_from_is_err_and c.from_residual-in_err-take.result c.from_residual-in_err-take.ensures.1 in
-    let refused : IsMemoryOrOverflow (2 ^ 63 ≤ size x.bundle.updates) c.in_err-take.field-0.0 = subst (λ us. IsMemoryOrOverflow (2 ^ 63 ≤ size us) c.in_err-take.field-0.0) c.into_vec.ensures c.in_err-take.ensures.refused in
-    if_err_at c.from_residual-in_err-take.result (IsStopped below least g.T.Ord.cmp h b c.take.new.self) c.in_err-take.field-0.0 p.0 p.1 (cc p.2)
-    (record {
-      continued = asked_continued below g.T.Lattice.joined least order b c.known.ensures.dataflow d h c.args.place run c.requires.worker x.bundle x.ensures.place x.ensures.waited c.take.new.self x.ensures.taken (c.take.ensures.stands h run.stands);
-      cause = refused_by c.in_err-take.field-0.0 refused (taken_large below g.T.Lattice.joined least order b c.known.ensures.dataflow d h c.args.place run c.requires.worker x.bundle x.ensures.place x.ensures.waited e.0 e.1 e.2 c.args.reducing.now own g.T.Ord.cmp c.take.new.self x.ensures.taken (c.take.ensures.stands h run.stands));
-    })
-
-pub returns-in_err-held-clause-stopped : goal.returns-in_err-held-clause-stopped
-returns-in_err-held-clause-stopped g c d h run own =
-    let below = g.T.PartialOrder.below in
-    let least = g.T.Minimum.least in
-    let x = c.in_ok-bundle in
-    let p = err_from_is_err_and c.from_residual-in_err-held.result c.from_residual-in_err-held.ensures.1 in
-    if_err_at c.from_residual-in_err-held.result (IsStopped below least g.T.Ord.cmp h c.args.board.now c.take.new.self) c.in_err-held.field-0.0 p.0 p.1 (cc p.2)
-    (record {
-      continued = asked_continued below g.T.Lattice.joined least g.met.T.PartialOrder.order c.args.board.now c.known.ensures.dataflow d h c.args.place run c.requires.worker x.bundle x.ensures.place x.ensures.waited c.take.new.self x.ensures.taken (c.take.ensures.stands h run.stands);
-      cause = inl c.in_err-held.ensures.only;
-    })
-
-pub hold_back-requires-clause-within : goal.hold_back-requires-clause-within
-hold_back-requires-clause-within g c =
-    let x = c.in_ok-bundle in
-    let e = c.requires.reduce in
+    let o = g.met.T.PartialOrder.order in
+    let j = c.args.worker.now in
+    let k = c.take_at.new.worker in
+    let n = c.args.node in
+    let x = c.in_ok-found.ensures in
     let r = c.requires.running in
-    taken_within g.T.PartialOrder.below g.T.Lattice.joined g.T.Minimum.least g.met.T.PartialOrder.order c.args.board.now c.known.ensures.dataflow r.0 r.1 c.args.place r.2 c.requires.worker x.bundle x.ensures.place x.ensures.waited e.0 e.1 e.2 c.args.reducing.now r.3 c.take.new.self x.ensures.taken
+    let e = c.requires.reduce in
+    let ready = found_ready below joined least o j k c.known.ensures x.same r.0 n x.clients r.1.ready in
+    let took = subst (λ f. IfSome f (λ t. HasTaken below least k n t.0)) c.in-Some.is x.taken in
+    let reduce = ap (λ p. node_of p n) (same_flow j k x.same) ∙ e.2 in
+    let p = err_from_is_err_and c.from_residual-in_err-take.result c.from_residual-in_err-take.ensures.1 in
+    let refused : IsMemoryOrOverflow (2 ^ 63 ≤ size c.in-Some.bundle.updates) c.in_err-take.field-0.0 = subst (λ us. IsMemoryOrOverflow (2 ^ 63 ≤ size us) c.in_err-take.field-0.0) c.into_vec.ensures c.in_err-take.ensures.refused in
+    if_err_at c.from_residual-in_err-take.result (IsStopped below least g.T.Ord.cmp k) c.in_err-take.field-0.0 p.0 p.1 (cc p.2)
+    (memory_or (taken_large below joined least o k c.known-2.ensures r.0 n ready c.in-Some.bundle took e.0 e.1 reduce c.args.reducing.now r.2 g.T.Ord.cmp) refused)
+
+pub hold_back-requires : goal.hold_back-requires
+hold_back-requires g c =
+    let below = g.T.PartialOrder.below in
+    let joined = g.T.Lattice.joined in
+    let least = g.T.Minimum.least in
+    let o = g.met.T.PartialOrder.order in
+    let j = c.args.worker.now in
+    let k = c.take_at.new.worker in
+    let n = c.args.node in
+    let a = c.args.reducing.now in
+    let b = c.take.new.self in
+    let x = c.in_ok-found.ensures in
+    let y = c.in_ok-take.ensures in
+    let r = c.requires.running in
+    let e = c.requires.reduce in
+    let ready = found_ready below joined least o j k c.known.ensures x.same r.0 n x.clients r.1.ready in
+    let took = subst (λ f. IfSome f (λ t. HasTaken below least k n t.0)) c.in-Some.is x.taken in
+    let reduce = ap (λ p. node_of p n) (same_flow j k x.same) ∙ e.2 in
+    record {
+      number = x.same.number ∙ r.1.number;
+      alone = ready.free.at.alone;
+      within = subst (λ m. m < length (dataflow_of k).nodes) took.node (absorbed_due below joined least o k c.known-2.ensures r.0 n ready c.in-Some.bundle took).within;
+      allowed =
+          taken_may below joined least o k c.known-2.ensures r.0 n ready c.in-Some.bundle took e.0 e.1 reduce a r.2 b y.kept
+          (λ received emitted upper reduced later passed. subst (λ us. IsReduced below joined b (us ++ received) emitted) c.into_vec.ensures (y.stands received emitted upper reduced (subst (λ us. IsTrue (all_beyond below upper (times us))) (sym c.into_vec.ensures) later) passed))
+          (λ received emitted reduced. subst (λ us. IsPendingAfter below (pending_of a) us (pending_of b)) c.into_vec.ensures (y.pending received emitted reduced))
+          c.in_ok-held.held.items (record { covers = c.in_ok-held.ensures.covers; tight = c.in_ok-held.ensures.tight });
+    }
 
 pub returns-clause-runs : goal.returns-clause-runs
-returns-clause-runs g c d h run own =
+returns-clause-runs g c d run own =
     let below = g.T.PartialOrder.below in
     let joined = g.T.Lattice.joined in
-    let x = c.in_ok-bundle in
-    let e = c.requires.reduce in
-    let r = c.args.reducing.now in
-    let s = c.take-2.new.self in
-    taken_run below joined g.T.Minimum.least g.met.T.PartialOrder.order c.args.board.now c.known.ensures.dataflow d h c.args.place run c.requires.worker x.bundle x.ensures.place x.ensures.waited
-    e.0 e.1 e.2 r own s c.in_ok-take.ensures.kept
-    (λ received emitted upper reduced later passed. subst (λ us. IsReduced below joined s (us ++ received) emitted) c.into_vec.ensures (c.in_ok-take.ensures.stands received emitted upper reduced (subst (λ us. IsTrue (all_beyond below upper (times us))) (sym c.into_vec.ensures) later) passed))
-    (λ received emitted reduced. subst (λ us. IsPendingAfter below (pending_of r) us (pending_of s)) c.into_vec.ensures (c.in_ok-take.ensures.pending received emitted reduced))
-    c.in_ok-held.held.items c.in_ok-held.ensures.covers c.in_ok-held.ensures.tight
-    c.take.new.self x.ensures.taken (c.take.ensures.stands h run.stands) c.hold_back.new.board c.hold_back.ensures.dataflow c.hold_back.result c.hold_back.ensures.stands
-
-pub returns-clause-stopped : goal.returns-clause-stopped
-returns-clause-stopped g c d h run own =
-    let below = g.T.PartialOrder.below in
     let least = g.T.Minimum.least in
-    let x = c.in_ok-bundle in
-    stopped_after below least g.T.Ord.cmp h c.args.board.now c.take.new.self c.hold_back.new.board c.hold_back.result
-    (asked_continued below g.T.Lattice.joined least g.met.T.PartialOrder.order c.args.board.now c.known.ensures.dataflow d h c.args.place run c.requires.worker x.bundle x.ensures.place x.ensures.waited c.take.new.self x.ensures.taken (c.take.ensures.stands h run.stands))
-    c.hold_back.ensures.stopped c.hold_back.ensures.refused
+    let o = g.met.T.PartialOrder.order in
+    let j = c.args.worker.now in
+    let k = c.take_at.new.worker in
+    let n = c.args.node in
+    let a = c.args.reducing.now in
+    let b = c.take.new.self in
+    let x = c.in_ok-found.ensures in
+    let y = c.in_ok-take.ensures in
+    let e = c.requires.reduce in
+    let ready = found_ready below joined least o j k c.known.ensures x.same d n x.clients run.ready in
+    let took = subst (λ f. IfSome f (λ t. HasTaken below least k n t.0)) c.in-Some.is x.taken in
+    let reduce = ap (λ p. node_of p n) (same_flow j k x.same) ∙ e.2 in
+    left_running below joined least o k c.hold_back.new.worker c.known-2.ensures c.hold_back.ensures.same (with_reduction n b d) n _ (x.same.number ∙ run.number) c.in_ok-hold_back.ensures.left
+    (taken_ready below joined least o k c.known-2.ensures d n ready c.in-Some.bundle took e.0 e.1 reduce a own b y.kept
+    (λ received emitted upper reduced later passed. subst (λ us. IsReduced below joined b (us ++ received) emitted) c.into_vec.ensures (y.stands received emitted upper reduced (subst (λ us. IsTrue (all_beyond below upper (times us))) (sym c.into_vec.ensures) later) passed))
+    (λ received emitted reduced. subst (λ us. IsPendingAfter below (pending_of a) us (pending_of b)) c.into_vec.ensures (y.pending received emitted reduced))
+    c.in_ok-held.held.items (record { covers = c.in_ok-held.ensures.covers; tight = c.in_ok-held.ensures.tight }))
 
-pub returns-clause-fewer : goal.returns-clause-fewer
-returns-clause-fewer g c =
+pub returns-clause-all : goal.returns-clause-all
+returns-clause-all g c last =
     let below = g.T.PartialOrder.below in
     let joined = g.T.Lattice.joined in
-    let x = c.in_ok-bundle in
+    let least = g.T.Minimum.least in
+    let o = g.met.T.PartialOrder.order in
+    let k = c.take_at.new.worker in
+    let n = c.args.node in
+    let x = c.in_ok-found.ensures in
     let e = c.requires.reduce in
-    let n = c.requires.running in
-    let r = c.args.reducing.now in
-    let s = c.take-2.new.self in
-    taken_fewer below joined g.T.Minimum.least g.met.T.PartialOrder.order c.args.board.now c.known.ensures.dataflow n.0 n.1 c.args.place n.2 c.requires.worker x.bundle x.ensures.place x.ensures.waited
-    e.0 e.1 e.2 r n.3 s c.in_ok-take.ensures.kept
-    (λ received emitted upper reduced later passed. subst (λ us. IsReduced below joined s (us ++ received) emitted) c.into_vec.ensures (c.in_ok-take.ensures.stands received emitted upper reduced (subst (λ us. IsTrue (all_beyond below upper (times us))) (sym c.into_vec.ensures) later) passed))
-    (λ received emitted reduced. subst (λ us. IsPendingAfter below (pending_of r) us (pending_of s)) c.into_vec.ensures (c.in_ok-take.ensures.pending received emitted reduced))
-    c.in_ok-held.held.items c.in_ok-held.ensures.covers c.in_ok-held.ensures.tight
-    c.take.new.self x.ensures.taken (c.take.ensures.stands n.1 n.2.stands) c.hold_back.new.board c.hold_back.ensures.dataflow c.hold_back.result c.hold_back.ensures.stands
+    let other = ap is_input (ap (λ p. node_of p n) (same_flow c.args.worker.now k x.same) ∙ e.2) in
+    let more = subst (λ f. IfSome f (λ t. WaitsOrNotIn t.1 n 0 (state_left below least k))) c.in-Some.is x.more in
+    none_held below joined least o k c.hold_back.new.worker c.known-2.ensures c.hold_back.ensures.same n c.in_ok-held.held.items other c.in_ok-hold_back.ensures.left (more.1 last)
+
+pub returns-clause-settled : goal.returns-clause-settled
+returns-clause-settled g c calm settled =
+    let below = g.T.PartialOrder.below in
+    let joined = g.T.Lattice.joined in
+    let least = g.T.Minimum.least in
+    let o = g.met.T.PartialOrder.order in
+    let j = c.args.worker.now in
+    let k = c.take_at.new.worker in
+    let n = c.args.node in
+    let x = c.in_ok-found.ensures in
+    let y = c.in_ok-hold_back.ensures in
+    let r = c.requires.running in
+    let ready = found_ready below joined least o j k c.known.ensures x.same r.0 n x.clients r.1.ready in
+    let took = subst (λ f. IfSome f (λ t. HasTaken below least k n t.0)) c.in-Some.is x.taken in
+    settled_on below j k x.same n n (state_found below least k) (state_left below least c.hold_back.new.worker)
+    (λ found. subst (λ v. IsSettledTo below (dataflow_of k) v n) (sym (y.calm (calm_then x.same y.same calm))) (held_settled below joined least o k c.known-2.ensures r.0 n ready c.in-Some.bundle took c.in_ok-held.held.items found))
+    (subst (λ w. IsSettledTo below (dataflow_of j) w n) (sym (x.calm (calm_first x.same y.same calm))) settled)

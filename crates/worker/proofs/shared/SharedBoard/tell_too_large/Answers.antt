@@ -3,7 +3,7 @@ use Rattle.std.specs.Prelude.{Some}
 use Rattle.hub.specs.declared.view.Entry.{Entry}
 use Rattle.hub.specs.Histories.{entry}
 use Rattle.worker.specs.declared.doing.Doing.{Doing}
-use Rattle.worker.specs.Relays.{HasNoSmallBound}
+use Rattle.worker.specs.Large.{HasNoSmallBound}
 use Rattle.worker.specs.Tenures.{SharedState, StandsFor, doing, left_by, terms_of_board}
 use Rattle.std.proofs.Common.{◌||◌}
 use Rattle.machine.specs.Histories.Promises.{changes_in}

@@ -1,0 +1,31 @@
+use Rattle.std.proofs.Common.{List, subst, ◌∙◌}
+use Rattle.update.specs.declared.change.Update.{Update}
+use Rattle.machine.specs.declared.histories.event.Bundle.{Bundle}
+use Rattle.machine.specs.declared.histories.event.Event.TheVariants.{Give}
+use Rattle.machine.specs.Histories.{next_state}
+use Rattle.worker.specs.Between.{IsLeftBy}
+use Rattle.worker.specs.Found.{dataflow_of}
+use Rattle.worker.specs.Tenures.{state_left}
+use Rattle.worker.proofs.StepLemmas.{calm_given, left_of}
+use Rattle.worker.proofs.relays.steps.hold_back.Goals as goal
+
+pub returns-in-Ok-clause-left : goal.returns-in-Ok-clause-left
+returns-in-Ok-clause-left g c =
+    let below = g.T.PartialOrder.below in
+    let least = g.T.Minimum.least in
+    let old = c.args.worker.now in
+    let new = c.give-given.new.self in
+    let nothing = c.into.ensures ∙ c.new.ensures.items in
+    let none = c.into-3.ensures ∙ c.new-2.ensures.items in
+    subst (λ (x : List (Update g.row.T.Denot) × List g.row.T.Denot × List (Bundle g.row.T.Denot)). IsLeftBy below (dataflow_of old) (next_state below (dataflow_of old) (state_left below least old) (Give (record { node = c.args.node; worker = 0; updates = x.0 }) x.1 x.2)) (state_left below least new)) (λ i. (nothing i, c.into-2.ensures i, none i))
+    (left_of below least old c.requires.alone c.requires.number (record { node = c.args.node; worker = 0; updates = c.into.result }) c.into-2.result c.into-3.result new c.known-2.ensures c.in-Ok.ensures.given)
+
+pub returns-in-Ok-clause-calm : goal.returns-in-Ok-clause-calm
+returns-in-Ok-clause-calm g c calm =
+    let below = g.T.PartialOrder.below in
+    let least = g.T.Minimum.least in
+    let old = c.args.worker.now in
+    let nothing = c.into.ensures ∙ c.new.ensures.items in
+    let none = c.into-3.ensures ∙ c.new-2.ensures.items in
+    calm_given below least old c.requires.alone c.requires.number (record { node = c.args.node; worker = 0; updates = c.into.result }) c.into-2.result c.into-3.result c.give-given.new.self c.known-2.ensures c.in-Ok.ensures.given calm
+    ∙ (λ i. next_state below (dataflow_of old) (state_left below least old) (Give (record { node = c.args.node; worker = 0; updates = nothing i }) (c.into-2.ensures i) (none i)))
