@@ -1,14 +1,11 @@
 -- When the board engine stands for a session.
-use Rattle.std.specs.Prelude.{◌≡◌, ℕ, Bool, length, Option, Some, None, ⊤}
-use Rattle.update.specs.declared.refusal.Refusal.{Refusal}
+use Rattle.std.specs.Prelude.{◌≡◌, ℕ, Bool, length}
 use Rattle.hub.specs.Known.{Known}
 use Rattle.machine.specs.Boards.Inputs.{front_at}
 use Rattle.machine.specs.Histories.Dataflows.{Dataflow}
 use Rattle.machine.specs.Histories.States.{State, open_at}
 use Rattle.worker.specs.declared.doing.Doing.{Doing}
-use Rattle.worker.specs.Desks.{DeskState}
 use Rattle.worker.specs.Found.{dataflow_of}
-use Rattle.worker.specs.Relays.{IsRunning}
 use Rattle.worker.specs.Tenures.{state_left}
 use Rattle.script.specs.Sessions.{Session}
 
@@ -24,8 +21,3 @@ module _ {T : Type 0} where
   -- the state that a client left has the session
   abbrev pub StandsAs : (T → T → Bool) → T → Known (Doing T) → Session T → Type 0
   StandsAs below minimum client s = HasSession (dataflow_of client) (state_left below minimum client) s
-
-  -- a worker is ready for its next pass, unless it was stopped
-  abbrev pub IsReadyUnless : (T → T → Bool) → (T → T → T) → T → Option Refusal → Known (Doing T) → DeskState T → Type 0
-  IsReadyUnless below joined minimum None worker desk = IsRunning below joined minimum worker desk 0
-  IsReadyUnless below joined minimum (Some refusal) worker desk = ⊤

@@ -16,54 +16,40 @@ ghost use Rattle.lattice.specs.Pairs.{make_pair};
 ghost use Rattle.script.specs.Bounds.{EndsByBound, IsLarge};
 
 use crate::engine::{CatchUp, Engine};
+use crate::sole_worker::SoleWorker;
 use antichain::Antichain;
 use lattice::Bitime;
-use machine::Routing;
 use plan::{NodeId, Plan};
 use std::alloc::Global;
 use std::marker::Model;
 use std::sync::Wait;
 use update::{Bag, Refusal, Times, Update, Updates};
-use worker::{Actor, BitemporalBoards, Desk, open, relay};
+use worker::{Actor, BitemporalBoards, open};
 
-type BoardActor = Actor<Bitime, BitemporalBoards>;
+pub(crate) type BoardActor = Actor<Bitime, BitemporalBoards>;
 
 /// A client and a worker of one board, who take turns. A contract sees what the client has seen.
 #[derive(Drop)]
 pub(crate) struct BoardEngine<'a, R: Wait> {
     runtime: &'a R,
     client: BoardActor,
-    worker: BoardActor,
-    // What the worker keeps at each node.
-    desk: Desk<Bitime>,
-    plan: Plan,
-    // How the worker's output is cut into bundles for the nodes that read it.
-    routing: Routing,
-    // The refusal that stopped the worker. It may then have a bundle in hand, so it does not go on.
-    stopped: Option<Refusal>,
+    worker: SoleWorker<'a, R>,
 }
 
 impl<'a, R: Wait> Model for BoardEngine<'a, R> {
     ghost use Rattle.std.specs.Prelude.{◌≡◌, ℕ};
     ghost use Rattle.hub.specs.Known.{Known};
-    ghost use Rattle.lattice.specs.Bitimes.{bitime_below, bitime_join};
-    ghost use Rattle.lattice.specs.Pairs.{make_pair};
     ghost use Rattle.lattice.specs.declared.product.Pair.{Pair};
     ghost use Rattle.worker.specs.Found.{dataflow_of};
     ghost use Rattle.worker.specs.Tenures.{terms_for, terms_in};
     ghost use Rattle.worker.specs.declared.doing.Doing.{Doing};
-    ghost use Rattle.script.specs.Standing.{IsReadyUnless};
 
     ghost Value = { Known (Doing (Pair ℕ ℕ)) };
 
     ghost view = { λ engine. engine.client };
 
     ghost invariant = { λ engine. (engine.client.number ≡ 1)
-        × (terms_in engine.client.seen ≡ terms_for engine.plan 1 1)
-        × (terms_in engine.worker.seen ≡ terms_for engine.plan 1 1)
-        × (engine.routing ≡ dataflow_of engine.worker)
-        × IsReadyUnless bitime_below bitime_join (make_pair 0 0)
-        engine.stopped engine.worker engine.desk };
+        × (terms_in engine.client.seen ≡ terms_for (dataflow_of engine.client).nodes 1 1) };
 }
 
 impl<'a, R: Wait> BoardEngine<'a, R> {
@@ -78,55 +64,14 @@ impl<'a, R: Wait> BoardEngine<'a, R> {
             StandsAs bitime_below (make_pair 0 0) engine (opening_session plan.now)) }
         ensures refused { IfErr result (λ refusal. refusal ≡ OutOfMemory) }
     {
-        let routing = Routing::of(alloc, plan, 1)?;
-        let desk = Desk::open(alloc, plan)?;
-        let own = plan.clone()?;
-        let (worker, client) = pair_of_actors(runtime, alloc, plan)?;
-        worker.known();
+        let (actor, client) = pair_of_actors(runtime, alloc, plan)?;
+        let worker = SoleWorker::new(runtime, alloc, plan, actor)?;
         client.known();
         Ok(BoardEngine {
             runtime,
             client,
             worker,
-            desk,
-            plan: own,
-            routing,
-            stopped: None,
         })
-    }
-
-    // One pass of the worker. What is too large the worker tells, and the client hears of it. A worker that was stopped does
-    // nothing more.
-    fn carry_on(&mut self, alloc: Global) -> Result<(), Refusal>
-        ensures client { self.new ≡ self.old }
-        ensures refused { IfErr result (λ refusal. refusal ≡ OutOfMemory) }
-    {
-        if let Some(refusal) = self.stopped {
-            return match refusal {
-                Refusal::Overflow => Ok(()),
-                _ => Err(Refusal::OutOfMemory),
-            };
-        }
-        let passed = relay(
-            alloc,
-            self.runtime,
-            &self.plan,
-            &self.routing,
-            &mut self.worker,
-            &mut self.desk,
-        );
-        match passed {
-            Ok(()) => Ok(()),
-            Err(Refusal::Overflow) => {
-                self.worker.tell_too_large(self.runtime);
-                self.stopped = Some(Refusal::Overflow);
-                Ok(())
-            }
-            Err(_) => {
-                self.stopped = Some(Refusal::OutOfMemory);
-                Err(Refusal::OutOfMemory)
-            }
-        }
     }
 
     // Whether the client finds the board quiet.
@@ -247,7 +192,7 @@ impl<'a, R: Wait> CatchUp for BoardEngine<'a, R> {
             if self.is_too_large() {
                 return Err(Refusal::Overflow);
             }
-            self.carry_on(alloc)?;
+            self.worker.carry_on(alloc)?;
         }
         unreachable!()
     }

@@ -14,9 +14,10 @@
 //!   session. A command either changes an input or asks about a view. Before a question, the loop lets the
 //!   engine catch up.
 //! - There are two engines. `board_engine` reaches a board of crate `machine` through a hub: commands are events
-//!   of its client there, and its worker (crate `worker`) carries on what is in flight. The theorems about
-//!   histories then say that its views are right. `oracle_engine` keeps the changes and computes each answer from
-//!   scratch, by crate `oracle`. So the text of the first engine can be compared with that of the second.
+//!   of its client there, and its worker (`sole_worker`, over crate `worker`) carries on what is in flight. The
+//!   theorems about histories then say that its views are right. `oracle_engine` keeps the changes and computes
+//!   each answer from scratch, by crate `oracle`. So the text of the first engine can be compared with that of the
+//!   second.
 //! - Printed text (`printer`) is collected in an `output_buffer` and goes in large pieces to an [`Out`], whose
 //!   contract says which bytes it took.
 #![tactic(auto)]
@@ -32,6 +33,7 @@ mod output_buffer;
 mod outputs;
 mod printer;
 mod run;
+mod sole_worker;
 
 pub use fault::RunFault;
 pub use laws::{

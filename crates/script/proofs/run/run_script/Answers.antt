@@ -1,5 +1,5 @@
-use Rattle.std.proofs.Common.{◌≡◌, ◌⊎◌, ℕ, List, [], inl, subst}
-use Rattle.std.proofs.lemmas.Result.{IfErr-weaker}
+use Rattle.std.proofs.Common.{◌≡◌, ◌⊎◌, ℕ, List, [], inl, refl, subst}
+use Rattle.std.proofs.lemmas.Result.{IfErr-weaker, err_from_is_err_and}
 use Rattle.plan.specs.declared.node.Node.{Node}
 use Rattle.script.specs.Engines.{IsRunEnd, failures}
 use Rattle.script.specs.Outs.{IsBeginning, Broke}
@@ -36,3 +36,9 @@ returns-clause-workers g c =
     let stands = subst (λ (p : List Node). StandsAs bitime_below (make_pair 0 0) c.in_ok-engine.engine (opening_session p)) c.plan.ensures.plan c.in_ok-engine.ensures.stands in
     let ends = bound_ends t.plan (opening_session t.plan) t.commands c.run.result (c.run.ensures.known (opening_session t.plan) stands) in
     (λ is one. not_for_workers (IsLargeScript t) c.run.result ends is, λ other. absurd (other c.if-workers-ne1.false))
+
+-- an engine that is not opened writes nothing
+pub returns-in_err-engine-clause-beginning : goal.returns-in_err-engine-clause-beginning
+returns-in_err-engine-clause-beginning g c =
+    let p = err_from_is_err_and c.from_residual.result c.from_residual.ensures.1 in
+    rw (p.1, p.2) ([], (text c.args.script.now, refl), g.met.W.Out.at_once c.args.out.now)
