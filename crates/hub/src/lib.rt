@@ -5,8 +5,10 @@
 //! one that the thread left behind. Which states may stand after which histories is up to a [`Protocol`]. The hub knows
 //! nothing else of the state.
 //!
-//! A thread enters the hub with a [`Pass`]. If the state is at home, then one thread gets it and holds it for a tenure,
-//! [`Held`]. When it leaves the hub, it gives the state back, and gets its pass back. So there are two kinds of atomic step:
+//! [`Hub::open`] takes the state in and gives out the passes. A thread enters the hub with its [`Pass`], by [`Hub::enter`] or
+//! [`Hub::try_enter`]. If the state is at home, then one thread gets it and holds it for a tenure, [`Held`], in which
+//! [`Held::state`] lends the state. By [`Held::leave`] it gives the state back, and gets its pass back. When all threads have
+//! ended, [`Hub::close`] takes the state out. So there are two kinds of atomic step:
 //!
 //! - *Take home*: a compare-exchange marks the state as away, if it is at home. Only one thread can win it, and the winner
 //!   alone touches the state from then on. Its pass learns all events that others have made since its last tenure.

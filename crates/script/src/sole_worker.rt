@@ -77,6 +77,8 @@ impl<'a, R: Wait> SoleWorker<'a, R> {
 
     /// One pass. What is too large the worker tells, and then the clients hear of it. Refused only with `OutOfMemory`. A worker
     /// that was stopped does nothing more, and is refused again if it was for want of memory.
+    ///
+    /// Cost: that of [`relay`].
     pub(crate) fn carry_on(&mut self, alloc: Global) -> Result<(), Refusal>
         ensures passed { self.old.stopped ≡ None → OnOk result
             (HasPassed bitime_below (make_pair 0 0) bitime_cmp self.old.known self.new) }

@@ -6,7 +6,8 @@
 //! there is memory (the tests with `memory` in their names, which `./refusals` runs); and small worked examples
 //! of what no command file reaches yet. The expected answers were worked out by hand.
 //!
-//! No other crate has tests. The merge gate proves a crate with tests twice, with and without them, and most
+//! No other crate has tests, but for `engine_trials`, which is made like this one and has those of the hub and
+//! all that stands on it. The merge gate proves a crate with tests twice, with and without them, and most
 //! proofs of a large crate do not depend on its tests. Here they are proved once, over finished libraries.
 //! Tests are proved like all other code, and some take half a minute of processor time, so there are few.
 //!
@@ -14,8 +15,6 @@
 //! crates below, and so are its must-fail edits.
 #![tactic(auto)]
 
-#[cfg(test)]
-mod actor_tests;
 #[cfg(test)]
 mod antichain_tests;
 #[cfg(test)]
@@ -26,8 +25,6 @@ mod difference_tests;
 mod draws;
 #[cfg(test)]
 mod grammar_tests;
-#[cfg(test)]
-mod hub_tests;
 #[cfg(test)]
 mod join_tests;
 #[cfg(test)]
@@ -49,8 +46,6 @@ mod reduce_tests;
 #[cfg(test)]
 mod row_tests;
 #[cfg(test)]
-mod script_tests;
-#[cfg(test)]
 mod sketches;
 #[cfg(test)]
 mod spine_tests;
@@ -59,7 +54,5 @@ mod times;
 mod trace_tests;
 #[cfg(test)]
 mod update_tests;
-#[cfg(test)]
-mod worker_tests;
 
 pub use times::at;

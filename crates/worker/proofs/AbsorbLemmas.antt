@@ -1,4 +1,4 @@
--- A bundle that is taken at an arrange node or at a reduction, and held back; and a worker from one tenure to the next.
+-- A bundle that is taken at an arrange node or at a reduction, and held back; and a node that settles without one.
 use Rattle.std.proofs.Common.{◌≡◌, ℕ, suc, Bool, true, false, not, ◌||◌, ◌&&◌, List, [], ◌∷◌, ◌++◌, Some, IsTrue, sym, refl, ap, ◌∙◌, subst, arith}
 use Rattle.std.specs.List.{slice_get, list_any}
 use Rattle.std.proofs.lemmas.Bool.{false≢true}
@@ -45,56 +45,7 @@ use Rattle.worker.proofs.SendLemmas.{widened}
 use Rattle.worker.proofs.SettledLemmas.{settled_taken, settled_given, settled_next}
 use Rattle.worker.proofs.ArrangeStepLemmas.{arranged_here, absorb_may, absorb_desk}
 
--- ---- from one tenure to the next
-
--- the dataflow stays
-pub same_flow : {T : Type 0} (j k : Known (Doing T)) → IsSameActor j k → dataflow_of k ≡ dataflow_of j
-same_flow j k same = ap (λ (t : Terms). t.dataflow) same.terms
-
-module _ {T : Type 0} (below : T → T → Bool) (joined : T → T → T) (minimum : T) (o : PartialOrderLaws below) (j k : Known (Doing T)) (actor : IsActor below minimum j) (same : IsSameActor j k) where
-  -- a worker that was ready in the state that it left is ready in the one that it found next
-  pub found_ready : (d : DeskState T) (n : ℕ) → DoClientsLead below (dataflow_of j) (state_left below minimum j) (state_found below minimum k) → IsReadyAt below joined minimum (dataflow_of j) (state_left below minimum j) d n
-      → IsReadyAt below joined minimum (dataflow_of k) (state_found below minimum k) d n
-  found_ready d n lead ready =
-      subst (λ p. IsReadyAt below joined minimum p (state_found below minimum k) d n) (sym (same_flow j k same))
-      (ready_found below joined minimum o (dataflow_of j) actor.dataflow (state_left below minimum j) (state_found below minimum k) d n lead ready)
-
-  -- if it found the state that it left, then it runs on
-  pub found_running : (d : DeskState T) (n : ℕ) → IsRunning below joined minimum j d n → DoClientsLead below (dataflow_of j) (state_left below minimum j) (state_found below minimum k) → state_left below minimum k ≡ state_found below minimum k
-      → IsRunning below joined minimum k d n
-  found_running d n run lead left = record {
-    number = same.number ∙ run.number;
-    ready = subst (λ w. IsReadyAt below joined minimum (dataflow_of k) w d n) (sym left) (found_ready d n lead run.ready);
-  }
-
-  -- and if nothing waits at the node, which is no input, then it runs on to the next node
-  pub next_running : (d : DeskState T) (n : ℕ) → is_input (node_of (dataflow_of j) n) ≡ false → HasNone n (state_left below minimum j) → IsRunning below joined minimum j d n → DoClientsLead below (dataflow_of j) (state_left below minimum j) (state_found below minimum k) → state_left below minimum k ≡ state_found below minimum k
-      → IsRunning below joined minimum k d (suc n)
-  next_running d n other none run lead left =
-      let there = subst (HasNone n) (sym left) (none_found below (dataflow_of j) (state_left below minimum j) (state_found below minimum k) n other lead none) in
-      let on = found_running d n run lead left in
-      record { number = on.number; ready = ready_next below joined minimum (dataflow_of k) (state_left below minimum k) d n there on.ready }
-
-  -- it runs on from an event after which it is ready
-  pub left_running : (d : DeskState T) (n : ℕ) (w : State T) → j.number ≡ 0 → IsLeftBy below (dataflow_of j) w (state_left below minimum k) → IsReadyAt below joined minimum (dataflow_of j) w d n → IsRunning below joined minimum k d n
-  left_running d n w number left ready = record {
-    number = same.number ∙ number;
-    ready = subst (λ p. IsReadyAt below joined minimum p (state_left below minimum k) d n) (sym (same_flow j k same)) (ready_left below joined minimum o (dataflow_of j) actor.dataflow w (state_left below minimum k) d n left ready);
-  }
-
-  -- if nothing waits at a node that is no input, then nothing does after a give of nothing
-  pub none_held : (n : ℕ) (held : List T) → is_input (node_of (dataflow_of j) n) ≡ false → IsLeftBy below (dataflow_of j) (next_state below (dataflow_of j) (state_left below minimum j) (Give (no_emission n 0) held [])) (state_left below minimum k)
-      → HasNone n (state_left below minimum j) → HasNone n (state_left below minimum k)
-  none_held n held other left none =
-      none_left below (dataflow_of j) (next_state below (dataflow_of j) (state_left below minimum j) (Give (no_emission n 0) held [])) (state_left below minimum k) n other left
-      (λ port. ap (queue (place n port 0)) (append-nil (state_left below minimum j).in_flight) ∙ none port)
-
--- ---- from one tenure to the next, where no client acts
-
--- a later step goes on from what is settled
-pub settled_on : {T : Type 0} (below : T → T → Bool) (j k : Known (Doing T)) → IsSameActor j k → (n m : ℕ) (v w : State T)
-    → (IsSettledTo below (dataflow_of k) v n → IsSettledTo below (dataflow_of k) w m) → IsSettledTo below (dataflow_of j) v n → IsSettledTo below (dataflow_of j) w m
-settled_on below j k same n m v w on = subst (λ p. IsSettledTo below p v n → IsSettledTo below p w m) (same_flow j k same) on
+-- ---- no held time is passed
 
 module _ {T : Type 0} (below : T → T → Bool) (minimum : T) (j k : Known (Doing T)) (n : ℕ) where
   -- if no held time is passed, then each could still receive input

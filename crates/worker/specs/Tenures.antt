@@ -64,6 +64,10 @@ module _ {T : Type 0} where
   abbrev pub doing : Terms → Event T → Doing T
   doing t e = record { plan = t.dataflow.nodes; workers = t.dataflow.workers; actors = t.actors; event = e }
 
+  -- what the actors told one another beside the board is as it was
+  abbrev pub IsKeptBeside : SharedState T → SharedState T → Type 0
+  IsKeptBeside old new = (new.accepted ≡ old.accepted) × (new.too_large ≡ old.too_large)
+
   -- what was done last on a board
   abbrev pub doing_on : SharedState T → Doing T
   doing_on b = doing (terms_of_board b) b.board.last

@@ -78,7 +78,6 @@ impl<T: Minimum, P: BoardProtocol<T>> Actor<T, P> {
         workers: usize,
         clients: usize,
     ) -> Result<Actor<T, P>, Refusal>
-        requires clients { clients ≤ 16 }
         requires actor { number < workers + clients }
         requires pass { pass ≡ record { hub = hub_id (arc_value hub); number = number; seen = [] } }
         ensures first { IfOk result (λ actor.
@@ -262,6 +261,8 @@ impl<T: Minimum, P: BoardProtocol<T>> Actor<T, P> {
     }
 
     /// Whether the board is quiet. Takes no memory.
+    ///
+    /// Cost: linear in the nodes times the workers, and that of `Board::input_has_passed` for each held time.
     pub fn is_quiet<R: Wait>(&mut self, rt: &R) -> bool
         ensures looked { Adds self.old (Look self.old.number) self.new }
         ensures quiet { IsTrue result ↔ WasQuiet T.below T.least self.old self.new }

@@ -7,7 +7,7 @@
 //! Beside the board lies whether some worker found a number too large. That must be told with care, since a bound may shrink
 //! when a change is accepted. So the board counts the changes that it accepted. A worker tells only if there are as many as
 //! when it last came, for then they are the same; and the next change that is accepted takes the word back.
-ghost use Rattle.std.specs.Prelude.{◌≡◌, ◌<◌, ◌↔◌, ℕ, ◌≤◌, ◌+◌, List, [], ◌∷◌, ◌++◌, false, None, Some, IfOk, IfErr, IfSome, OnOk, OnErr, IsTrue, length, get_or};
+ghost use Rattle.std.specs.Prelude.{◌≡◌, ◌<◌, ◌↔◌, ℕ, ◌≤◌, ◌+◌, ◌^◌, List, [], ◌∷◌, ◌++◌, false, None, Some, IfOk, IfErr, IfSome, OnOk, OnErr, IsTrue, length, get_or};
 ghost use Rattle.std.specs.List.{list_any};
 ghost use Rattle.hub.specs.declared.view.Entry.{Entry};
 ghost use Rattle.hub.specs.Histories.{entry};
@@ -26,7 +26,7 @@ ghost use Rattle.machine.specs.Histories.Readings.{IsQuiet};
 ghost use Rattle.machine.specs.Histories.States.{change_to, held_at, place, queue};
 ghost use Rattle.worker.specs.declared.doing.Doing.{Doing};
 ghost use Rattle.worker.specs.Large.{HasNoSmallBound};
-ghost use Rattle.worker.specs.Tenures.{StandsFor, WaitsOrNot, doing, left_by, terms_for, terms_of_board, feed_refusal_in, advance_refusal_in, read_refusal_in, changes_refusal_in, IsReadRefusalIn, IsChangesRefusalIn};
+ghost use Rattle.worker.specs.Tenures.{IsKeptBeside, StandsFor, WaitsOrNot, doing, left_by, terms_for, terms_of_board, feed_refusal_in, advance_refusal_in, read_refusal_in, changes_refusal_in, IsReadRefusalIn, IsChangesRefusalIn};
 
 use antichain::Antichain;
 use lattice::Minimum;
@@ -61,16 +61,18 @@ impl<T: Minimum> Model for SharedBoard<T> {
     } };
 }
 
-// One more than a number, if there is one and the sum fits.
+// One more than a number. `None` only if there is no number or the sum does not fit.
 fn counted_on(number: Option<u64>) -> Option<u64>
-    ensures { (n : ℕ) → result ≡ Some n → (m : ℕ) × (number ≡ Some m) × (n ≡ m + 1) }
+    ensures one_more { (n : ℕ) → result ≡ Some n → (m : ℕ) × (number ≡ Some m) × (n ≡ m + 1) }
+    ensures kept { (m : ℕ) → number ≡ Some m → m + 1 < 2 ^ 64
+        → result ≡ Some (m + 1) }
 {
     number?.checked_add(1)
 }
 
 // Whether both are the same number.
 fn is_same_count(now: Option<u64>, then: Option<u64>) -> bool
-    ensures { IsTrue result → (n : ℕ) × (now ≡ Some n) × (then ≡ Some n) }
+    ensures { IsTrue result ↔ (n : ℕ) × (now ≡ Some n) × (then ≡ Some n) }
 {
     match (now, then) {
         (Some(now), Some(then)) => now == then,
@@ -91,6 +93,7 @@ impl<T: Minimum> SharedBoard<T> {
         requires clients { clients ≤ 16 }
         ensures terms { IfOk result (λ b. terms_of_board b ≡ terms_for plan workers clients) }
         ensures stands { IfOk result (λ b. StandsFor T.below T.least T.cmp b []) }
+        ensures counted { IfOk result (λ b. b.accepted ≡ Some 0) }
         ensures refused { IfErr result (λ refusal. refusal ≡ OutOfMemory) }
     {
         let board = Board::open(alloc, plan, workers)?;
@@ -103,24 +106,20 @@ impl<T: Minimum> SharedBoard<T> {
         })
     }
 
-    /// Whether the board is of this plan, for this many workers and clients. Takes no memory.
+    /// Whether the board is of this plan, for this many workers and clients. Takes no memory. Cost: one comparison of plans.
     pub fn is_on(&self, plan: &Plan, workers: usize, clients: usize) -> bool
-        requires { clients ≤ 16 }
-        ensures { IsTrue result → terms_of_board self.now ≡ terms_for plan.now workers clients }
+        ensures { IsTrue result ↔ (terms_of_board self.now ≡ terms_for plan.now workers clients) }
     {
         let same_plan = *self.board.plan() == *plan;
-        if !same_plan {
-            return false;
-        }
-        if self.board.workers() != workers || workers > 16 {
-            return false;
-        }
-        self.actors == workers + clients
+        let same_workers = self.board.workers() == workers;
+        let same_actors = workers.checked_add(clients) == Some(self.actors);
+        same_plan && same_workers && same_actors
     }
 
     /// An actor looks. Takes no memory.
     pub fn look(&mut self, actor: usize)
         ensures terms { terms_of_board self.new ≡ terms_of_board self.old }
+        ensures beside { IsKeptBeside self.old self.new }
         ensures stands { (es : List (Entry (Doing T))) → StandsFor T.below T.least T.cmp self.old es
             → StandsFor T.below T.least T.cmp self.new
             (entry actor (doing (terms_of_board self.old) self.new.board.last) ∷ es) }
@@ -135,6 +134,7 @@ impl<T: Minimum> SharedBoard<T> {
         requires actor { client < self.old.actors }
         requires input { IsInput self.old.board.dataflow input }
         ensures terms { terms_of_board self.new ≡ terms_of_board self.old }
+        ensures beside { OnErr result (IsKeptBeside self.old self.new) }
         ensures fed { OnOk result (self.new.board.last ≡ Feed client (change_to input update)) }
         ensures unchanged { OnErr result (self.new.board.last ≡ Look client) }
         ensures stands { (es : List (Entry (Doing T))) → StandsFor T.below T.least T.cmp self.old es
@@ -148,6 +148,8 @@ impl<T: Minimum> SharedBoard<T> {
             → StandsFor T.below T.least T.cmp self.old es
             → IfErr result (IsRefusalBy (feed_refusal_in T.below self.old.board.dataflow
             (left_by T.below T.least self.old.board.dataflow es) (change_to input update))) }
+        ensures counted { OnOk result ((n : ℕ) → self.old.accepted ≡ Some n → n + 1 < 2 ^ 64
+            → self.new.accepted ≡ Some (n + 1)) }
     {
         self.board.feed(client, input, update)?;
         self.accepted = counted_on(self.accepted);
@@ -162,6 +164,7 @@ impl<T: Minimum> SharedBoard<T> {
         requires actor { client < self.old.actors }
         requires input { IsInput self.old.board.dataflow input }
         ensures terms { terms_of_board self.new ≡ terms_of_board self.old }
+        ensures beside { IsKeptBeside self.old self.new }
         ensures advanced { OnOk result (self.new.board.last ≡ Advance client input times) }
         ensures unchanged { OnErr result (self.new.board.last ≡ Look client) }
         ensures stands { (es : List (Entry (Doing T))) → StandsFor T.below T.least T.cmp self.old es
@@ -185,6 +188,7 @@ impl<T: Minimum> SharedBoard<T> {
         requires actor { client < self.old.actors }
         requires input { IsInput self.old.board.dataflow input }
         ensures terms { terms_of_board self.new ≡ terms_of_board self.old }
+        ensures beside { IsKeptBeside self.old self.new }
         ensures closed { self.new.board.last ≡ Advance client input [] }
         ensures stands { (es : List (Entry (Doing T))) → StandsFor T.below T.least T.cmp self.old es
             → StandsFor T.below T.least T.cmp self.new
@@ -197,6 +201,7 @@ impl<T: Minimum> SharedBoard<T> {
     pub fn frontier(&mut self, client: usize, view: NodeId) -> Result<Antichain<T>, Refusal>
         requires within { view < length self.old.board.dataflow.nodes }
         ensures terms { terms_of_board self.new ≡ terms_of_board self.old }
+        ensures beside { IsKeptBeside self.old self.new }
         ensures looked { self.new.board.last ≡ Look client }
         ensures stands { (es : List (Entry (Doing T))) → StandsFor T.below T.least T.cmp self.old es
             → StandsFor T.below T.least T.cmp self.new
@@ -217,6 +222,7 @@ impl<T: Minimum> SharedBoard<T> {
         requires within { view < length self.old.board.dataflow.nodes }
         requires view { IsTrue (is_output (node_of self.old.board.dataflow view)) }
         ensures terms { terms_of_board self.new ≡ terms_of_board self.old }
+        ensures beside { IsKeptBeside self.old self.new }
         ensures looked { self.new.board.last ≡ Look client }
         ensures stands { (es : List (Entry (Doing T))) → StandsFor T.below T.least T.cmp self.old es
             → StandsFor T.below T.least T.cmp self.new
@@ -245,6 +251,7 @@ impl<T: Minimum> SharedBoard<T> {
         requires within { view < length self.old.board.dataflow.nodes }
         requires view { IsTrue (is_output (node_of self.old.board.dataflow view)) }
         ensures terms { terms_of_board self.new ≡ terms_of_board self.old }
+        ensures beside { IsKeptBeside self.old self.new }
         ensures looked { self.new.board.last ≡ Look client }
         ensures stands { (es : List (Entry (Doing T))) → StandsFor T.below T.least T.cmp self.old es
             → StandsFor T.below T.least T.cmp self.new
@@ -270,9 +277,10 @@ impl<T: Minimum> SharedBoard<T> {
         found
     }
 
-    /// Whether the board is quiet. The event is a look. Takes no memory.
+    /// Whether the board is quiet. The event is a look. Takes no memory. Cost: that of [`Board::is_quiet`].
     pub fn is_quiet(&mut self, actor: usize) -> bool
         ensures terms { terms_of_board self.new ≡ terms_of_board self.old }
+        ensures beside { IsKeptBeside self.old self.new }
         ensures looked { self.new.board.last ≡ Look actor }
         ensures stands { (es : List (Entry (Doing T))) → StandsFor T.below T.least T.cmp self.old es
             → StandsFor T.below T.least T.cmp self.new
@@ -296,6 +304,7 @@ impl<T: Minimum> SharedBoard<T> {
         requires worker { worker < self.old.board.dataflow.workers }
         requires free { get_or self.old.board.hand worker None ≡ None }
         ensures terms { terms_of_board self.new ≡ terms_of_board self.old }
+        ensures beside { IsKeptBeside self.old self.new }
         ensures taken { IfOk result (λ found. IfSome found (λ t.
             (t.0.place.node ≡ node) × (t.0.place.worker ≡ worker)
             × (self.new.board.last ≡ Take 0 t.0))) }
@@ -338,6 +347,7 @@ impl<T: Minimum> SharedBoard<T> {
         requires within { node < length self.old.board.dataflow.nodes }
         requires free { get_or self.old.board.hand worker None ≡ None }
         ensures terms { terms_of_board self.new ≡ terms_of_board self.old }
+        ensures beside { IsKeptBeside self.old self.new }
         ensures turned { IfOk result (λ found. IfSome found (λ upper.
             (self.new.board.last ≡ TakeHeld worker node)
             × ((es : List (Entry (Doing T))) → StandsFor T.below T.least T.cmp self.old es
@@ -382,6 +392,7 @@ impl<T: Minimum> SharedBoard<T> {
         requires worker { emission.worker < self.old.board.dataflow.workers }
         requires within { emission.node < length self.old.board.dataflow.nodes }
         ensures terms { terms_of_board self.new ≡ terms_of_board self.old }
+        ensures beside { IsKeptBeside self.old self.new }
         ensures given { OnOk result (self.new.board.last ≡ Give emission held sent) }
         ensures returned { IfErr result (λ r. (self.new.board.last ≡ Look emission.worker)
             × (r ≡ record { emission = emission; held = held; sent = sent })) }
@@ -414,6 +425,10 @@ impl<T: Minimum> SharedBoard<T> {
             (changes_in (left_by T.below T.least self.old.board.dataflow earlier))
             → StandsFor T.below T.least T.cmp self.new
             (entry worker (doing (terms_of_board self.old) self.new.board.last) ∷ es) }
+        ensures told { (n : ℕ) → self.old.accepted ≡ Some n → accepted ≡ Some n
+            → IsTrue self.new.too_large }
+        ensures stays { IsTrue self.old.too_large → IsTrue self.new.too_large }
+        ensures counted { self.new.accepted ≡ self.old.accepted }
     {
         let same = is_same_count(self.accepted, accepted);
         self.too_large = self.too_large | same;

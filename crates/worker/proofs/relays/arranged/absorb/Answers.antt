@@ -8,8 +8,8 @@ use Rattle.worker.specs.Found.{dataflow_of}
 use Rattle.worker.specs.Relays.{HasTaken, IsRunning, IsSettledTo}
 use Rattle.worker.specs.Tenures.{WaitsOrNotIn, state_found, state_left}
 use Rattle.worker.proofs.NodeLemmas.{same_arrangement, none_left}
-use Rattle.worker.proofs.AbsorbLemmas.{same_flow, found_ready, found_running, left_running, none_held, settled_on, held_settled, absorbed_due, absorbed_rows, absorbed_times, absorbed_may, absorbed_ready}
-use Rattle.worker.proofs.RunningLemmas.{calm_first, calm_then}
+use Rattle.worker.proofs.AbsorbLemmas.{held_settled, absorbed_due, absorbed_rows, absorbed_times, absorbed_may, absorbed_ready}
+use Rattle.worker.proofs.RunningLemmas.{calm_first, calm_then, same_flow, found_ready, found_running, left_running, none_held, settled_on}
 use Rattle.worker.proofs.relays.arranged.absorb.Goals as goal
 
 pub returns-in_default-clause-runs : goal.returns-in_default-clause-runs

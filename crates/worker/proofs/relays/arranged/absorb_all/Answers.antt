@@ -2,9 +2,8 @@ use Rattle.std.proofs.Common.{Some, sym, subst}
 use Rattle.worker.specs.Desks.{with_arrangement}
 use Rattle.worker.specs.Relays.{IsRunning}
 use Rattle.worker.specs.Tenures.{state_left}
-use Rattle.worker.proofs.AbsorbLemmas.{settled_on}
 use Rattle.worker.proofs.NodeLemmas.{same_arrangement, twice_arrangement, set_there}
-use Rattle.worker.proofs.RunningLemmas.{same_actor, same_later, calm_first, calm_then}
+use Rattle.worker.proofs.RunningLemmas.{same_actor, same_later, calm_first, calm_then, settled_on}
 use Rattle.worker.proofs.relays.arranged.absorb_all.Goals as goal
 
 pub loop-init : goal.loop-init

@@ -6,10 +6,10 @@ use Rattle.worker.specs.Desks.{with_arrangement}
 use Rattle.worker.specs.Found.{dataflow_of}
 use Rattle.worker.specs.Relays.{HasTurned, IsRunning, IsSettledTo}
 use Rattle.worker.specs.Tenures.{state_found, state_left}
-use Rattle.worker.proofs.AbsorbLemmas.{same_flow, found_ready, next_running, settled_on, settled_none}
+use Rattle.worker.proofs.AbsorbLemmas.{settled_none}
 use Rattle.worker.proofs.BetweenLemmas.{none_found}
 use Rattle.worker.proofs.NodeLemmas.{twice_arrangement, set_there}
-use Rattle.worker.proofs.RunningLemmas.{same_later, calm_first, calm_then}
+use Rattle.worker.proofs.RunningLemmas.{same_later, calm_first, calm_then, same_flow, found_ready, passed_running, settled_on}
 use Rattle.worker.proofs.relays.arranged.relay_arranged.Goals as goal
 
 pub settle-requires : goal.settle-requires
@@ -69,7 +69,7 @@ returns-in-None-clause-runs g c d run own =
     let x = c.in_ok-upper.ensures in
     let e = c.requires.arrange in
     let here = ap (λ p. node_of p n) (same_flow c.args.worker.now j c.absorb_all.ensures.same) ∙ e.2 in
-    next_running g.T.PartialOrder.below g.T.Lattice.joined g.T.Minimum.least g.met.T.PartialOrder.order j c.turn_at.new.worker c.known.ensures x.same (with_arrangement n c.absorb_all.new.arrangement d) n (ap is_input here)
+    passed_running g.T.PartialOrder.below g.T.Lattice.joined g.T.Minimum.least g.met.T.PartialOrder.order j c.turn_at.new.worker c.known.ensures x.same (with_arrangement n c.absorb_all.new.arrangement d) n (ap is_input here)
     c.in_ok-absorb_all.ensures.none (c.in_ok-absorb_all.ensures.runs d run own) x.clients (x.none c.in-None.is).0
 
 pub returns-in-Some-clause-settled : goal.returns-in-Some-clause-settled

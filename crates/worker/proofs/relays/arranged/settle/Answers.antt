@@ -20,7 +20,7 @@ use Rattle.worker.specs.Found.{dataflow_of}
 use Rattle.worker.specs.Relays.{IsSettledTo, IsStopped}
 use Rattle.worker.specs.Tenures.{state_left}
 use Rattle.worker.proofs.ResultLemmas.{if_err_at, on_ok_by, on_ok_always, memory_or}
-use Rattle.worker.proofs.AbsorbLemmas.{left_running}
+use Rattle.worker.proofs.RunningLemmas.{left_running}
 use Rattle.worker.proofs.SettleLemmas.{may_seal_it, large_sealed, sealed_may, given_ready, given_settled}
 use Rattle.worker.proofs.relays.arranged.settle.Goals as goal
 

@@ -8,7 +8,7 @@ use Rattle.worker.specs.Tenures.{Terms, state_left}
 use Rattle.worker.proofs.SettledLemmas.{settled_next}
 use Rattle.worker.proofs.HoldingLemmas.{join_settled}
 use Rattle.worker.proofs.NodeLemmas.{with_both, same_both, twice_both, set_there}
-use Rattle.worker.proofs.RunningLemmas.{same_actor, same_later, calm_first, calm_then, still_settled, next_running}
+use Rattle.worker.proofs.RunningLemmas.{same_actor, same_later, calm_first, calm_then, settled_on, next_running}
 use Rattle.worker.proofs.relays.joined.relay_joined.Goals as goal
 
 pub loop-init : goal.loop-init
@@ -32,7 +32,7 @@ loop-preserved g c = record {
   settled = λ calm settled.
       let same = c.loop.invariant.same in
       let next = c.take_one.ensures.same in
-      still_settled g.T.PartialOrder.below g.T.Minimum.least same c.take_one.new.worker c.args.node (c.in_ok-more.ensures.settled (calm_then same next calm)) (c.loop.invariant.settled (calm_first same next calm) settled);
+      settled_on g.T.PartialOrder.below c.args.worker.now c.loop.worker same c.args.node c.args.node (state_left g.T.PartialOrder.below g.T.Minimum.least c.loop.worker) (state_left g.T.PartialOrder.below g.T.Minimum.least c.take_one.new.worker) (c.in_ok-more.ensures.settled (calm_then same next calm)) (c.loop.invariant.settled (calm_first same next calm) settled);
   runs = λ d run lists own.
       let n = c.args.node in
       let e = with_both n c.loop.joining c.loop.arrangements.items d in
@@ -59,7 +59,7 @@ returns-then-not-more-clause-settled g c calm settled =
     let e = with_both n c.loop.joining c.loop.arrangements.items r.0 in
     let d = with_both n c.take_one.new.joining c.take_one.new.arrangements.items e in
     let run = c.in_ok-more.ensures.runs e (c.loop.invariant.runs r.0 r.1 r.2 r.3) refl (set_there r.0.joins n (Some c.args.joining.now) (Some c.loop.joining) r.3) in
-    let now = still_settled g.T.PartialOrder.below g.T.Minimum.least same c.take_one.new.worker n (c.in_ok-more.ensures.settled (calm_then same next calm)) (c.loop.invariant.settled (calm_first same next calm) settled) in
+    let now = settled_on g.T.PartialOrder.below c.args.worker.now c.loop.worker same n n (state_left g.T.PartialOrder.below g.T.Minimum.least c.loop.worker) (state_left g.T.PartialOrder.below g.T.Minimum.least c.take_one.new.worker) (c.in_ok-more.ensures.settled (calm_then same next calm)) (c.loop.invariant.settled (calm_first same next calm) settled) in
     let flow = ap (λ (t : Terms). t.dataflow) (next.terms ∙ same.terms) in
     let w = state_left g.T.PartialOrder.below g.T.Minimum.least c.take_one.new.worker in
     let ready = subst (λ p. IsReadyAt g.T.PartialOrder.below g.T.Lattice.joined g.T.Minimum.least p w d n) flow run.ready in

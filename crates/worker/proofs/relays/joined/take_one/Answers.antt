@@ -11,7 +11,7 @@ use Rattle.worker.proofs.relays.joined.take_one.Goals as goal
 
 pub returns-in_default-clause-runs : goal.returns-in_default-clause-runs
 returns-in_default-clause-runs g c d run arrangements own =
-    let on = found_running g.met.T.PartialOrder.order c.known.ensures c.take_at.ensures.same run c.take_at.ensures.clients (c.in_ok-bundle.ensures.none c.in_default.is).0 in
+    let on = found_running g.T.PartialOrder.below g.T.Lattice.joined g.T.Minimum.least g.met.T.PartialOrder.order c.args.worker.now c.take_at.new.worker c.known.ensures c.take_at.ensures.same d c.args.node run c.take_at.ensures.clients (c.in_ok-bundle.ensures.none c.in_default.is).0 in
     subst (λ d. IsRunning g.T.PartialOrder.below g.T.Lattice.joined g.T.Minimum.least c.take_at.new.worker d c.args.node) (sym (same_both c.args.node c.args.joining.now c.args.arrangements.now.items d arrangements own)) on
 
 pub returns-in_default-clause-all : goal.returns-in_default-clause-all
@@ -22,7 +22,7 @@ take_left-requires g c =
     let r = c.requires.running in
     let same = sym (ap (λ (t : Terms). t.dataflow) c.take_at.ensures.same.terms) in
     let taken = rw c.in-Some.is at c.in_ok-bundle.ensures.taken in
-    let ready = found_ready g.met.T.PartialOrder.order c.known.ensures c.take_at.ensures.same r.1 c.take_at.ensures.clients in
+    let ready = found_ready g.T.PartialOrder.below g.T.Lattice.joined g.T.Minimum.least g.met.T.PartialOrder.order c.args.worker.now c.take_at.new.worker c.known.ensures c.take_at.ensures.same r.0 c.args.node c.take_at.ensures.clients r.1.ready in
     (search rules, (c.requires.routing ∙ same, (c.take_at.ensures.same.number ∙ r.1.number, (taken, (c.if-bundle-eq0.true, ((r.0, ready, r.2, r.3), (subst (λ p. node_of p c.args.node ≡ Join c.args.left c.args.right) same c.requires.join, subst (λ (p : Dataflow). c.args.node < length p.nodes) same c.requires.within)))))))
 
 pub take_right-requires : goal.take_right-requires
@@ -30,18 +30,18 @@ take_right-requires g c =
     let r = c.requires.running in
     let same = sym (ap (λ (t : Terms). t.dataflow) c.take_at.ensures.same.terms) in
     let taken = rw c.in-Some.is at c.in_ok-bundle.ensures.taken in
-    let ready = found_ready g.met.T.PartialOrder.order c.known.ensures c.take_at.ensures.same r.1 c.take_at.ensures.clients in
+    let ready = found_ready g.T.PartialOrder.below g.T.Lattice.joined g.T.Minimum.least g.met.T.PartialOrder.order c.args.worker.now c.take_at.new.worker c.known.ensures c.take_at.ensures.same r.0 c.args.node c.take_at.ensures.clients r.1.ready in
     let later : 0 < c.in-Some.bundle.place.port = omega (arith, c.if-bundle-eq0.false) in
     (search rules, (c.requires.routing ∙ same, (c.take_at.ensures.same.number ∙ r.1.number, (taken, (second_port ready taken later, ((r.0, ready, r.2, r.3), (subst (λ p. node_of p c.args.node ≡ Join c.args.left c.args.right) same c.requires.join, subst (λ (p : Dataflow). c.args.node < length p.nodes) same c.requires.within)))))))
 
 pub returns-in_ok-take_left-clause-runs : goal.returns-in_ok-take_left-clause-runs
-returns-in_ok-take_left-clause-runs g c d run arrangements own = c.in_ok-take_left.ensures.runs d (found_ready g.met.T.PartialOrder.order c.known.ensures c.take_at.ensures.same run c.take_at.ensures.clients) arrangements own
+returns-in_ok-take_left-clause-runs g c d run arrangements own = c.in_ok-take_left.ensures.runs d (found_ready g.T.PartialOrder.below g.T.Lattice.joined g.T.Minimum.least g.met.T.PartialOrder.order c.args.worker.now c.take_at.new.worker c.known.ensures c.take_at.ensures.same d c.args.node c.take_at.ensures.clients run.ready) arrangements own
 
 pub returns-in_ok-take_left-clause-all : goal.returns-in_ok-take_left-clause-all
 returns-in_ok-take_left-clause-all g c last = let more = rw c.in-Some.is at c.in_ok-bundle.ensures.more in c.in_ok-take_left.ensures.none (more.1 last)
 
 pub returns-in_ok-take_right-clause-runs : goal.returns-in_ok-take_right-clause-runs
-returns-in_ok-take_right-clause-runs g c d run arrangements own = c.in_ok-take_right.ensures.runs d (found_ready g.met.T.PartialOrder.order c.known.ensures c.take_at.ensures.same run c.take_at.ensures.clients) arrangements own
+returns-in_ok-take_right-clause-runs g c d run arrangements own = c.in_ok-take_right.ensures.runs d (found_ready g.T.PartialOrder.below g.T.Lattice.joined g.T.Minimum.least g.met.T.PartialOrder.order c.args.worker.now c.take_at.new.worker c.known.ensures c.take_at.ensures.same d c.args.node c.take_at.ensures.clients run.ready) arrangements own
 
 pub returns-in_ok-take_right-clause-all : goal.returns-in_ok-take_right-clause-all
 returns-in_ok-take_right-clause-all g c last = let more = rw c.in-Some.is at c.in_ok-bundle.ensures.more in c.in_ok-take_right.ensures.none (more.1 last)

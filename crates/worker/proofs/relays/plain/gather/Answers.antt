@@ -5,7 +5,7 @@ use Rattle.lattice.specs.Frontiers.{is_beyond}
 use Rattle.worker.specs.Arrangements.{times_of}
 use Rattle.worker.specs.Relays.{IsGatheringOn}
 use Rattle.worker.specs.Tenures.{WaitsOrNotIn, state_left}
-use Rattle.worker.proofs.RunningLemmas.{calm_first, calm_then, same_later, still_settled}
+use Rattle.worker.proofs.RunningLemmas.{calm_first, calm_then, same_later, settled_on}
 use Rattle.worker.proofs.GatherRunLemmas.{begins, ready_again, some_of}
 use Rattle.worker.proofs.relays.plain.gather.Goals as goal
 
@@ -48,7 +48,7 @@ loop-preserved g c = record {
   settled = λ calm settled.
       let same = c.loop.invariant.same in
       let next = c.gather_more.ensures.same in
-      still_settled g.T.PartialOrder.below g.T.Minimum.least same c.gather_more.new.worker c.args.node (c.in_ok-more.ensures.settled (calm_then same next calm)) (c.loop.invariant.settled (calm_first same next calm) settled);
+      settled_on g.T.PartialOrder.below c.args.worker.now c.loop.worker same c.args.node c.args.node (state_left g.T.PartialOrder.below g.T.Minimum.least c.loop.worker) (state_left g.T.PartialOrder.below g.T.Minimum.least c.gather_more.new.worker) (c.in_ok-more.ensures.settled (calm_then same next calm)) (c.loop.invariant.settled (calm_first same next calm) settled);
 }
 
 pub returns-then-not-more-clause-settled : goal.returns-then-not-more-clause-settled

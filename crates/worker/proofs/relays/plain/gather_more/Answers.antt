@@ -4,7 +4,7 @@ use Rattle.lattice.specs.Frontiers.{is_beyond}
 use Rattle.worker.specs.Found.{dataflow_of}
 use Rattle.worker.specs.Relays.{IsGatheringOn, IsSettledTo}
 use Rattle.worker.specs.Tenures.{state_left}
-use Rattle.worker.proofs.RunningLemmas.{calm_first, calm_then, still_settled}
+use Rattle.worker.proofs.RunningLemmas.{calm_first, calm_then, settled_on}
 use Rattle.worker.proofs.GatherRunLemmas.{held_it, held_settled, may_hold_it, some_of, some_waits, turned_on}
 use Rattle.worker.proofs.relays.plain.gather_more.Goals as goal
 
@@ -45,6 +45,6 @@ returns-clause-settled g c calm settled =
     let w = state_left g.T.PartialOrder.below g.T.Minimum.least c.args.worker.now in
     let same = c.hold_back.ensures.same in
     let next = c.take_in.ensures.same in
-    still_settled g.T.PartialOrder.below g.T.Minimum.least same c.take_in.new.worker c.args.node (c.in_ok-out.ensures.settled (calm_then same next calm))
+    settled_on g.T.PartialOrder.below c.args.worker.now c.hold_back.new.worker same c.args.node c.args.node (state_left g.T.PartialOrder.below g.T.Minimum.least c.hold_back.new.worker) (state_left g.T.PartialOrder.below g.T.Minimum.least c.take_in.new.worker) (c.in_ok-out.ensures.settled (calm_then same next calm))
     (subst (λ v. IsSettledTo g.T.PartialOrder.below p v c.args.node) (sym (c.in_ok-hold_back.ensures.calm (calm_first same next calm)))
     (held_settled g.T.PartialOrder.below p c.known.ensures.dataflow w c.args.node c.in_ok-held.held.items settled))

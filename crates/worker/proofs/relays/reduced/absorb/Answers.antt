@@ -14,9 +14,9 @@ use Rattle.worker.specs.Relays.{HasTaken, IsRunning, IsSettledTo, IsStopped}
 use Rattle.worker.specs.Tenures.{WaitsOrNotIn, state_found, state_left}
 use Rattle.worker.proofs.ResultLemmas.{if_err_at, memory_or}
 use Rattle.worker.proofs.NodeLemmas.{same_reduction, none_left}
-use Rattle.worker.proofs.AbsorbLemmas.{same_flow, found_ready, found_running, left_running, none_held, settled_on, held_settled, absorbed_due, absorbed_later}
+use Rattle.worker.proofs.AbsorbLemmas.{held_settled, absorbed_due, absorbed_later}
 use Rattle.worker.proofs.ReduceRunLemmas.{taken_rows, taken_large, taken_may, taken_ready}
-use Rattle.worker.proofs.RunningLemmas.{calm_first, calm_then}
+use Rattle.worker.proofs.RunningLemmas.{calm_first, calm_then, same_flow, found_ready, found_running, left_running, none_held, settled_on}
 use Rattle.worker.proofs.relays.reduced.absorb.Goals as goal
 
 pub returns-in_default-clause-runs : goal.returns-in_default-clause-runs

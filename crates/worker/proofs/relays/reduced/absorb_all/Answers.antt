@@ -3,9 +3,8 @@ use Rattle.machine.specs.Histories.Dataflows.{node_of}
 use Rattle.worker.specs.Desks.{with_reduction}
 use Rattle.worker.specs.Relays.{IsRunning}
 use Rattle.worker.specs.Tenures.{state_left}
-use Rattle.worker.proofs.AbsorbLemmas.{same_flow, settled_on}
 use Rattle.worker.proofs.NodeLemmas.{same_reduction, twice_reduction, set_there}
-use Rattle.worker.proofs.RunningLemmas.{same_actor, same_later, calm_first, calm_then}
+use Rattle.worker.proofs.RunningLemmas.{same_actor, same_later, calm_first, calm_then, same_flow, settled_on}
 use Rattle.worker.proofs.relays.reduced.absorb_all.Goals as goal
 
 pub loop-init : goal.loop-init

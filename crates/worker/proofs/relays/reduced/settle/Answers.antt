@@ -11,7 +11,7 @@ use Rattle.worker.specs.Gathering.{IsCut}
 use Rattle.worker.specs.Relays.{HasTurned, IsSettledTo, IsStopped}
 use Rattle.worker.specs.Tenures.{state_left}
 use Rattle.worker.proofs.ResultLemmas.{if_err_at, memory_or}
-use Rattle.worker.proofs.AbsorbLemmas.{left_running}
+use Rattle.worker.proofs.RunningLemmas.{left_running}
 use Rattle.worker.proofs.ReduceRunLemmas.{on_ok_both, ready_cause, answered_may, answered_ready, answered_settled}
 use Rattle.worker.proofs.relays.reduced.settle.Goals as goal
 

@@ -27,4 +27,4 @@ returns-clause-stands g c =
     let old : SharedState g.row.T.Denot = record { board = c.self.inside.board; actors = c.self.inside.actors; accepted = c.self.inside.accepted; too_large = c.self.inside.too_large } in
     let new : SharedState g.row.T.Denot = record { board = c.feed.new.self; actors = c.self.inside.actors; accepted = c.counted_on-self-inside.result; too_large = false } in
     subst (λ (b : SharedState g.row.T.Denot). (es : List (Entry (Doing g.row.T.Denot))) → StandsFor below least cmp b es → StandsFor below least cmp new (entry client (doing (terms_of_board b) c.feed.new.self.last) ∷ es)) c.self.view_is
-    (accepted below least cmp old c.feed.new.self client (change_to c.args.input c.args.update) c.counted_on-self-inside.result (subst (λ (b : SharedState g.row.T.Denot). client < b.actors) (sym c.self.view_is) c.requires.actor) c.in_ok-feed.ensures.fed c.counted_on-self-inside.ensures c.feed.ensures.stands)
+    (accepted below least cmp old c.feed.new.self client (change_to c.args.input c.args.update) c.counted_on-self-inside.result (subst (λ (b : SharedState g.row.T.Denot). client < b.actors) (sym c.self.view_is) c.requires.actor) c.in_ok-feed.ensures.fed c.counted_on-self-inside.ensures.one_more c.feed.ensures.stands)

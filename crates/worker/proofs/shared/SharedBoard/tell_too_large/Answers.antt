@@ -22,4 +22,4 @@ returns-clause-stands g c =
     → ((n : ℕ) → c.args.accepted ≡ Some n → length (left_by below least b.board.dataflow earlier).fed ≡ n)
     → HasNoSmallBound below cmp b.board.dataflow.nodes (changes_in (left_by below least b.board.dataflow earlier))
     → StandsFor below least cmp new (entry worker (doing (terms_of_board b) c.look.new.self.last) ∷ es)) c.self.view_is
-    (told below least cmp old c.look.new.self worker c.args.accepted c.is_same_count-same.result c.look.ensures.looked c.look.ensures.stands c.is_same_count-same.ensures)
+    (told below least cmp old c.look.new.self worker c.args.accepted c.is_same_count-same.result c.look.ensures.looked c.look.ensures.stands c.is_same_count-same.ensures.0)

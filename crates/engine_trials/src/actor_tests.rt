@@ -7,7 +7,6 @@ ghost use Rattle.machine.specs.declared.histories.event.Event.TheVariants.{Look}
 ghost use Rattle.worker.specs.declared.doing.Doing.{Doing};
 ghost use Rattle.worker.specs.Tenures.{Adds, IsActor, IsFirst, Terms, state_left, terms_for, terms_in};
 
-use crate::sketches::at;
 use antichain::Antichain;
 use lattice::{Bitime, Minimum};
 use machine::Bundle;
@@ -18,6 +17,7 @@ use std::marker::Model;
 use std::process::Abort;
 use std::sync::Wait;
 use std::test::Fail;
+use trials::at;
 use update::{Bag, Refusal, Update};
 use worker::{Actor, Boards, open, others_change_nothing_of_a_worker};
 
@@ -226,8 +226,8 @@ fn is_served<T: Minimum, R: Wait + Abort>(
 // it is made again.
 #[test]
 fn actors_take_memory(rt: HostRuntime) -> Result<(), Fail> {
-    let frontier = is_served(&rt, rt.alloc(), at((0, 0)), at((0, 1)))?;
-    assert!(rt; frontier.elements() == [at((0, 0))].as_slice());
+    let frontier = is_served(&rt, rt.alloc(), at(0, 0), at(0, 1))?;
+    assert!(rt; frontier.elements() == [at(0, 0)].as_slice());
     Ok(())
 }
 
@@ -263,7 +263,7 @@ fn is_taken<T: Minimum, R: Wait + Abort>(
 fn a_worker_takes_what_a_client_fed(rt: HostRuntime) -> Result<(), Fail> {
     let upper: Option<Antichain<Bitime>> = turned(&rt, rt.alloc())?;
     assert!(rt; upper.is_none());
-    let (bundle, more) = is_taken(&rt, rt.alloc(), &[at((0, 0))])?;
+    let (bundle, more) = is_taken(&rt, rt.alloc(), &[at(0, 0)])?;
     assert!(rt; !more);
     let place = bundle.place;
     assert_eq!(rt; (place.node.number(), place.port, place.worker), (0, 0, 0));
@@ -272,17 +272,17 @@ fn a_worker_takes_what_a_client_fed(rt: HostRuntime) -> Result<(), Fail> {
     let Some(change) = updates.first() else {
         panic!(rt; "there is one update")
     };
-    assert!(rt; change.time == at((0, 0)) && change.diff == 1);
+    assert!(rt; change.time == at(0, 0) && change.diff == 1);
     assert_eq!(rt; change.row.columns(), [7].as_slice());
-    assert!(rt; bundle.stamp.as_slice() == [at((0, 0))].as_slice());
+    assert!(rt; bundle.stamp.as_slice() == [at(0, 0)].as_slice());
     Ok(())
 }
 
 // No clause says that what was fed waits.
 #[test]
 fn a_worker_hears_that_more_waits(rt: HostRuntime) -> Result<(), Fail> {
-    let (bundle, more) = is_taken(&rt, rt.alloc(), &[at((0, 1)), at((1, 0))])?;
+    let (bundle, more) = is_taken(&rt, rt.alloc(), &[at(0, 1), at(1, 0)])?;
     assert!(rt; more);
-    assert!(rt; bundle.stamp.as_slice() == [at((0, 1))].as_slice());
+    assert!(rt; bundle.stamp.as_slice() == [at(0, 1)].as_slice());
     Ok(())
 }

@@ -5,7 +5,7 @@ use Rattle.plan.specs.declared.node.Node.{Node}
 use Rattle.plan.specs.declared.node.Node.TheVariants.{Arrange, Input, Output, Reduce}
 use Rattle.machine.specs.Histories.Dataflows.{node_of}
 use Rattle.worker.specs.Tenures.{Terms, terms_for, terms_in}
-use Rattle.trials.proofs.worker_tests.is_carried.Goals as goal
+use Rattle.engine_trials.proofs.worker_tests.is_carried.Goals as goal
 
 abbrev least_rows_plan : List Node
 least_rows_plan = Input 1 ∷ Arrange 0 1 ∷ Reduce Min 1 ∷ Output 2 ∷ []

@@ -6,7 +6,6 @@ ghost use Rattle.plan.specs.declared.node.Kind.TheVariants.{Min};
 ghost use Rattle.plan.specs.declared.node.Node.TheVariants.{Arrange, Input, Output, Reduce};
 ghost use Rattle.worker.specs.Tenures.{IsFirst, terms_for};
 
-use crate::sketches::at;
 use lattice::Bitime;
 use machine::Routing;
 use plan::{Kind, Node, NodeId, Plan, PlanBuilder};
@@ -14,6 +13,7 @@ use row::Row;
 use std::alloc::Global;
 use std::sync::Wait;
 use std::test::Fail;
+use trials::at;
 use update::{Refusal, Update};
 use worker::{Actor, BitemporalBoards, Desk, open, relay, the_first_pass_may_begin};
 
@@ -65,7 +65,7 @@ fn is_carried<R: Wait>(rt: &R, alloc: Global) -> Result<(bool, bool), Refusal> {
     let (mut worker, mut client) = worker_and_client(rt, alloc, &plan)?;
     worker.known();
     let update = Update {
-        time: at((0, 0)),
+        time: at(0, 0),
         row: Row::new(alloc, &[7])?,
         diff: 1,
     };

@@ -4,7 +4,7 @@ use Rattle.hub.specs.declared.view.Entry.{Entry}
 use Rattle.hub.specs.Known.{Known}
 use Rattle.worker.specs.declared.doing.Doing.{Doing}
 use Rattle.worker.specs.Tenures.{AreKnown, AreOn, left_by, state_left, terms_in}
-use Rattle.trials.proofs.actor_tests.looks_take_nothing_in_hand.Goals as goal
+use Rattle.engine_trials.proofs.actor_tests.looks_take_nothing_in_hand.Goals as goal
 
 -- before the worker's own look there is nothing but what others did
 pub returns-clause-first : goal.returns-clause-first

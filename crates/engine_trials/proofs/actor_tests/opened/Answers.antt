@@ -3,7 +3,7 @@ use Rattle.std.specs.Prelude.{option_to_list, slice_get}
 use Rattle.plan.specs.declared.node.Node.{Node}
 use Rattle.plan.specs.declared.node.Node.TheVariants.{Input, Output}
 use Rattle.worker.specs.Tenures.{IsFirst, terms_for, terms_in}
-use Rattle.trials.proofs.actor_tests.opened.Goals as goal
+use Rattle.engine_trials.proofs.actor_tests.opened.Goals as goal
 
 -- a list of two, from its end
 two_of : {A : Type 0} (xs ys zs : List A) (w x : A) → xs ≡ ys ++ x ∷ [] → ys ≡ zs ++ w ∷ [] → length xs ≡ 2 → (slice_get xs 0 ≡ Some w) × (slice_get xs 1 ≡ Some x)
