@@ -3,14 +3,18 @@
 //! They are as crate `trials` says, which has the tests of all below. Two crates of tests are proved side by side, and those
 //! of the lower crates do not wait for the engine. Nor are they proved again when the engine changes.
 //!
-//! This crate exports nothing. The code under test is in the crates below, and so are its must-fail edits.
+//! This crate exports one function, [`worker_and_client`], with which tests open a board for one worker and one client. The
+//! code under test is in the crates below, and so are its must-fail edits.
 #![tactic(auto)]
 
 #[cfg(test)]
 mod actor_tests;
 #[cfg(test)]
 mod hub_tests;
+mod pairs;
 #[cfg(test)]
 mod script_tests;
 #[cfg(test)]
 mod worker_tests;
+
+pub use pairs::{BoardActor, worker_and_client};

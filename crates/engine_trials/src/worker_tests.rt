@@ -4,8 +4,8 @@
 ghost use Rattle.std.specs.Prelude.{◌≡◌, ◌∷◌, [], IfOk};
 ghost use Rattle.plan.specs.declared.node.Kind.TheVariants.{Min};
 ghost use Rattle.plan.specs.declared.node.Node.TheVariants.{Arrange, Input, Output, Reduce};
-ghost use Rattle.worker.specs.Tenures.{IsFirst, terms_for};
 
+use crate::pairs::worker_and_client;
 use lattice::Bitime;
 use machine::Routing;
 use plan::{Kind, Node, NodeId, Plan, PlanBuilder};
@@ -15,9 +15,7 @@ use std::sync::Wait;
 use std::test::Fail;
 use trials::at;
 use update::{Refusal, Update};
-use worker::{Actor, BitemporalBoards, Desk, open, relay, the_first_pass_may_begin};
-
-type BoardActor = Actor<Bitime, BitemporalBoards>;
+use worker::{Desk, relay, the_first_pass_may_begin};
 
 // The plan of an input of one column, arranged, its least row by key, and a view of that.
 fn least_rows(alloc: Global) -> Result<Plan, Refusal>
@@ -38,21 +36,6 @@ fn least_rows(alloc: Global) -> Result<Plan, Refusal>
         source: NodeId::new(2),
     })?;
     Ok(builder.finish())
-}
-
-// The worker and the client of a new board.
-fn worker_and_client<R: Wait>(
-    rt: &R,
-    alloc: Global,
-    plan: &Plan,
-) -> Result<(BoardActor, BoardActor), Refusal>
-    ensures worker { IfOk result (λ both. IsFirst (terms_for plan.now 1 1) 0 both.0) }
-    ensures client { IfOk result (λ both. IsFirst (terms_for plan.now 1 1) 1 both.1) }
-{
-    let mut actors: Vec<BoardActor> = open(rt, alloc, plan, 1, 1)?;
-    let client = actors.pop().unwrap();
-    let worker = actors.pop().unwrap();
-    Ok((worker, client))
 }
 
 // Feeds the row 7 and closes the input. Then one pass goes over the plan. The answers are whether the client found all quiet
