@@ -1,21 +1,19 @@
 -- What a draft has so far, and what it adds up to.
-use Rattle.std.proofs.Common.{◌≡◌, ℕ, zero, suc, ◌+◌, ◌<◌, ◌≤◌, ◌^◌, Bool, true, false, cond, List, [], ◌∷◌, ◌++◌, map, take, drop, get_or, length, sym, refl, ap, ◌∙◌, subst, arith, append_assoc, add-one, w64}
+use Rattle.std.proofs.Common.{◌≡◌, ℕ, zero, suc, ◌+◌, ◌<◌, ◌≤◌, ◌^◌, Bool, true, false, cond, List, [], ◌∷◌, ◌++◌, map, drop, get_or, length, sym, refl, ap, ◌∙◌, subst, arith, append_assoc, add-one, w64}
 use Rattle.std.specs.Prelude.{slice_get, IsSomeAnd, IsTrue, unsigned_abs}
 use mir.Val.{of_z, to_z}
 use lib.Signed.{mag}
 use Rattle.std.proofs.lemmas.Int.{to_z-of_z}
 use Rattle.std.proofs.Math.Dec.{eqb}
 use Rattle.std.proofs.lemmas.Bool.{eqb-true}
-use Rattle.std.specs.List.Sorted.{IsStrictlySortedBy}
 use Rattle.std.specs.Cmp.Lexicographic.{slice_cmp}
 use Rattle.std.specs.Ordering.{int_cmp}
-use Rattle.std.specs.List.{filter}
 use Rattle.std.proofs.lemmas.Int.{ints}
 use Rattle.std.proofs.lemmas.List.{append-nil}
 use Rattle.std.proofs.Math.IntN.{ℤ, pos, ◌+ℤ◌, neg_ℤ}
 use Rattle.lattice.specs.Order.{PartialOrderLaws}
 use Rattle.update.specs.Bags.{Entry, Alike, IsBag, count_of, same_row}
-use Rattle.update.specs.Updates.{entry, as_of, size}
+use Rattle.update.specs.Updates.{entry, as_of}
 use Rattle.update.specs.declared.change.Update.{Update}
 use Rattle.std.specs.declared.cmp.Ordering.TheVariants.{Equal}
 use Rattle.update.proofs.BagLemmas.{count_at, equal_rows}

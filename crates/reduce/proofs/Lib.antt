@@ -23,6 +23,7 @@ pub mod PermutedLemmas
 pub mod ReadingLemmas
 pub mod ReadyLemmas
 pub mod RenewLemmas
+pub mod ReplayLemmas
 pub mod RestLemmas
 pub mod ResultLemmas
 pub mod RowLemmas
@@ -30,6 +31,7 @@ pub mod RunLemmas
 pub mod SettleLemmas
 pub mod StandLemmas
 pub mod StandingLemmas
+pub mod SweepLemmas
 pub mod TakenLemmas
 pub mod TakingLemmas
 pub mod TraceLemmas

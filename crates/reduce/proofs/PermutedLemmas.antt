@@ -1,5 +1,5 @@
 -- What a reduction stands for does not depend on the order of lists.
-use Rattle.std.proofs.Common.{◌≡◌, ◌↔◌, ℕ, ◌+◌, ◌≤◌, Bool, true, false, cond, List, [], ◌∷◌, map, take, length, inl, inr, ⊎_elim, sym, refl, ap, ◌∙◌, subst, arith}
+use Rattle.std.proofs.Common.{◌≡◌, ◌↔◌, ℕ, ◌+◌, ◌≤◌, Bool, true, false, cond, List, [], ◌∷◌, take, length, inl, inr, ⊎_elim, sym, refl, ap, ◌∙◌, subst, arith}
 use Rattle.std.specs.Prelude.{IsTrue, ℤ, pos, nat_le, sum_by, unsigned_abs}
 use Rattle.std.specs.List.{filter, list_all}
 use Rattle.std.specs.List.Sorted.{IsPermutation}
@@ -14,10 +14,10 @@ use Rattle.update.proofs.SumLemmas.{total_by-permutation}
 use Rattle.plan.specs.Reductions.{IsReducer}
 use Rattle.reduce.specs.Joined.{Member, of_key, times_of, IsJoined}
 use Rattle.reduce.specs.Adding.{SameMembers}
-use Rattle.reduce.specs.Histories.{HistoryState, due_of, joined_of, given_of}
-use Rattle.reduce.specs.Standing.{IsRight, KeyStands, Shows, are_wide}
+use Rattle.reduce.specs.Histories.{HistoryState, due_of, given_of}
+use Rattle.reduce.specs.Standing.{IsRight, KeyStands}
 use Rattle.reduce.specs.Reductions.{StandsFor}
-use Rattle.reduce.proofs.MemberLemmas.{member_from_contains, contains_from_member, image_in, image_of, through, back}
+use Rattle.reduce.proofs.MemberLemmas.{member_from_contains, contains_from_member, image_in, image_of, through}
 use Rattle.reduce.proofs.JoinLemmas.{joins_same}
 use Rattle.reduce.proofs.JoinedLemmas.{value, through_is}
 use Rattle.reduce.proofs.CorrectionLemmas.{had-alike, weight, weight_is}

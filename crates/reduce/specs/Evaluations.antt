@@ -1,5 +1,5 @@
 -- From one time of a key to the next: what was evaluated last, and what of it changes.
-use Rattle.std.specs.Prelude.{◌≡◌, ℕ, ◌≤◌, ◌^◌, Bool, ◌&&◌, not, List, ◌++◌, ℤ, ◌+ℤ◌, neg_ℤ, map, unsigned_abs}
+use Rattle.std.specs.Prelude.{◌≡◌, ◌≤◌, ◌^◌, Bool, ◌&&◌, not, List, ◌++◌, ℤ, ◌+ℤ◌, neg_ℤ, map, unsigned_abs}
 use Rattle.std.specs.List.{filter}
 use Rattle.update.specs.Bags.{Entry, Alike, count_of}
 use Rattle.update.specs.Updates.{as_of}

@@ -6,6 +6,8 @@ pub mod Standing
 pub mod Histories
 pub mod Corrections
 pub mod Evaluations
+pub mod Replays
+pub mod Sweeps
 pub mod Kinds
 pub mod Taking
 pub mod Adding

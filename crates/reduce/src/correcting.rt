@@ -55,6 +55,7 @@ pub(crate) fn correct<T: Lattice, R: Reducer>(
         (λ correction. HasLargeTotal T.below correction.given.items → ⊥) }
     ensures evaluation { IfOk result (λ correction. IsEvaluation T.below rows.now
         ((given.now ++ so_far.now) ++ correction.given.items) correction.evaluation) }
+    ensures time { IfOk result (λ correction. correction.evaluation.time ≡ time) }
     ensures refused { IfErr result (IsMemoryOrOverflow ((content : List (Update T))
         → rows.now ≡ filter (of_key (length key.now) key.now) content
         → IsTooMuch T.below (length key.now) (R.reduces reducer.now) content

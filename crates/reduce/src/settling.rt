@@ -1,97 +1,40 @@
-//! The pending times of one key, in `Ord` order. Those that the frontier has passed are corrected, and the others stay
-//! pending. The order extends the partial one, so at each correction all that was given up to that time is there, and no
-//! time that is still pending is at or before it. That is why one pass is enough.
+//! The pending times of one key: those that the frontier has passed are corrected, and the others stay pending.
 //!
-//! Nothing of the key's history is changed here. What is given is gathered aside.
-ghost use Rattle.std.specs.Prelude.{◌≡◌, ◌⊎◌, ◌≤◌, ◌++◌, false, IfOk, IfErr, IfSome, OnOk, IsTrue, List, length};
+//! There are two ways to the same. A scan looks at the whole lists of the key at each time. A sweep replays them in order
+//! of time and folds what no later time tells apart. A sweep has to copy and to sort, which a few times do not pay back.
+//! So a key with few pending times is scanned, and one with many is swept.
+ghost use Rattle.std.specs.Prelude.{◌≡◌, IfOk, IfErr, IsTrue, List, length};
 ghost use Rattle.std.specs.List.{filter, list_all};
 ghost use Rattle.std.specs.List.Sorted.{IsStrictlySortedBy};
-ghost use Rattle.lattice.specs.Frontiers.{is_beyond};
 ghost use Rattle.update.specs.Refusals.{IsMemoryOrOverflow};
 ghost use Rattle.update.specs.declared.change.Update.{Update};
-ghost use Rattle.update.specs.declared.refusal.Refusal.{Refusal};
 ghost use Rattle.reduce.specs.Joined.{of_key};
-ghost use Rattle.reduce.specs.Corrections.{IsTooMuch};
-ghost use Rattle.reduce.specs.Evaluations.{IsEvaluation};
-ghost use Rattle.reduce.specs.Settling.{Steps, Settling, IsOverfullFor};
+ghost use Rattle.reduce.specs.Settling.{Settling, IsOverfullFor};
 
-use crate::correcting::{Correction, correct};
-use crate::evaluation::Evaluation;
+use crate::scan::scan_key;
+use crate::sweep::sweep_key;
 use crate::{KeyHistory, Reducer};
-use antichain::is_beyond;
 use lattice::Lattice;
 use std::alloc::Global;
 use update::{Refusal, Update};
 
-/// What is given of a key, which of its times are still pending, and what was evaluated at the last time that was not.
+/// What is given of a key, and which of its times are still pending.
 #[derive(Drop)]
 pub(crate) struct Settled<T> {
     pub(crate) given: Vec<Update<T>>,
     pub(crate) due: Vec<T>,
-    pub(crate) last: Option<Evaluation<T>>,
 }
 
-// One pending time: it stays, or it is corrected.
-fn settle_time<T: Lattice, R: Reducer>(
-    alloc: Global,
-    reducer: &R,
-    history: &KeyHistory<T>,
-    frontier: &[T],
-    rows: &[Update<T>],
-    time: T,
-    settled: &mut Settled<T>,
-) -> Result<(), Refusal>
-    requires rows { IsTrue (list_all (of_key (length history.now.key) history.now.key) rows.now) }
-    requires given { IsTrue
-        (list_all (of_key (length history.now.key) history.now.key) history.now.given) }
-    requires settled { IsTrue (list_all (of_key (length history.now.key) history.now.key)
-        settled.old.given.items) }
-    requires last { IfSome settled.old.last
-        (IsEvaluation T.below rows.now (history.now.given ++ settled.old.given.items)) }
-    ensures last { OnOk result (IfSome settled.new.last
-        (IsEvaluation T.below rows.now (history.now.given ++ settled.new.given.items))) }
-    ensures steps { OnOk result ((content : List (Update T))
-        → rows.now ≡ filter (of_key (length history.now.key) history.now.key) content
-        → Steps T.below T.joined (length history.now.key) (R.reduces reducer.now) history.now.key
-        content history.now.given frontier.now time settled.old.given.items
-        settled.new.given.items settled.old.due.items settled.new.due.items) }
-    ensures refused { IfErr result (IsMemoryOrOverflow
-        ((is_beyond T.below frontier.now time ≡ false) × ((content : List (Update T))
-        → rows.now ≡ filter (of_key (length history.now.key) history.now.key) content
-        → IsTooMuch T.below (length history.now.key) (R.reduces reducer.now) content
-        (history.now.given ++ settled.old.given.items) history.now.key time))) }
-{
-    if is_beyond(frontier, &time) {
-        settled.due.push(time)?;
-        return Ok(());
-    }
-    let key = history.key().columns();
-    let given = settled.given.as_slice();
-    let last = &settled.last;
-    let correction = correct(
-        alloc,
-        reducer,
-        key,
-        time,
-        rows,
-        history.given(),
-        given,
-        last,
-    )?;
-    let Correction {
-        given: mut more,
-        evaluation,
-    } = correction;
-    settled.given.append(&mut more)?;
-    settled.last = Some(evaluation);
-    Ok(())
-}
+/// A key with fewer pending times is scanned. By the figures of `bench/README.md` a sweep begins to pay back here.
+const MANY_TIMES: usize = 4;
 
 /// What is given of a key at those of its pending times that the frontier has passed, if `rows` are the updates of its
 /// rows.
 ///
-/// Cost: one comparison with the frontier for each pending time. For each one that has passed, that of [`correct`] with
-/// all rows and with all that was given of the key.
+/// - [`Refusal::Overflow`] only if what the key is owed is too large.
+/// - [`Refusal::OutOfMemory`] only if memory was refused.
+///
+/// Cost: for fewer than four pending times that of [`scan_key`], for more that of [`sweep_key`].
 pub(crate) fn settle_key<T: Lattice, R: Reducer>(
     alloc: Global,
     reducer: &R,
@@ -113,13 +56,9 @@ pub(crate) fn settle_key<T: Lattice, R: Reducer>(
         → IsOverfullFor T.below T.joined (length history.now.key) (R.reduces reducer.now)
         history.now.key content history.now.given frontier.now history.now.due)) }
 {
-    let mut settled = Settled {
-        given: Vec::new(alloc),
-        due: Vec::new(alloc),
-        last: None,
-    };
-    for time in history.due() {
-        settle_time(alloc, reducer, history, frontier, rows, *time, &mut settled)?;
+    if history.due().len() < MANY_TIMES {
+        scan_key(alloc, reducer, history, frontier, rows)
+    } else {
+        sweep_key(alloc, reducer, history, frontier, rows)
     }
-    Ok(settled)
 }

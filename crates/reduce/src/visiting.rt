@@ -54,8 +54,11 @@ fn is_due<T: Lattice>(frontier: &[T], due: &[T]) -> bool
     false
 }
 
-// Appends copies of updates.
-fn push_copies<T: Lattice>(list: &mut Vec<Update<T>>, more: &[Update<T>]) -> Result<(), Refusal>
+/// Appends copies of updates.
+pub(crate) fn push_copies<T: Lattice>(
+    list: &mut Vec<Update<T>>,
+    more: &[Update<T>],
+) -> Result<(), Refusal>
     ensures pushed { OnOk result (list.new.items ≡ list.old.items ++ more.now) }
     ensures only { IfErr result (λ refused. refused ≡ Refusal.OutOfMemory) }
 {
@@ -132,7 +135,6 @@ impl<T: Lattice> Gathered<T> {
         let Settled {
             given: mut more,
             due,
-            last: _,
         } = settled;
         if !due.is_empty() {
             self.waiting.push(place)?;

@@ -1,5 +1,4 @@
-use Rattle.std.proofs.Common.{◌&&◌, FitsSigned, w64, ◌≡◌, ◌++◌, length, sym, ◌∙◌, ap, refl, subst, inl, inr, ⊎_elim}
-use Rattle.std.specs.Prelude.{IsTrue}
+use Rattle.std.proofs.Common.{◌&&◌, FitsSigned, w64, ◌++◌, length, sym, refl, subst, inl, inr, ⊎_elim}
 use Rattle.std.proofs.lemmas.Bool.{false≢true}
 use Rattle.update.specs.Bags.{Alike, same_row}
 use Rattle.update.specs.Updates.{as_of}

@@ -1,6 +1,5 @@
 use Rattle.std.proofs.Common.{◌++◌, inl, inr, ⊎_elim}
 use Rattle.reduce.proofs.ResultLemmas.{passed_on}
-use Rattle.reduce.proofs.CorrectionLemmas.{size_left, size_right}
 use Rattle.reduce.proofs.EvaluationLemmas.{great_count}
 use Rattle.reduce.proofs.DraftLemmas.{since_last}
 use Rattle.reduce.proofs.draft.draft_since.Goals as goal

@@ -1,4 +1,4 @@
-use Rattle.std.proofs.Common.{◌≤◌, ◌^◌, ◌∙◌, inl, inr, ⊎_elim, subst, arith}
+use Rattle.std.proofs.Common.{◌≤◌, ◌^◌, ◌∙◌, inl, inr, ⊎_elim, subst}
 use Rattle.std.proofs.lemmas.Result.{IfErr-weaker}
 use Rattle.update.specs.Updates.{size}
 use Rattle.reduce.proofs.EvaluationLemmas.{part_large}

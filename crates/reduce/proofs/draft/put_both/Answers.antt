@@ -1,5 +1,4 @@
-use Rattle.std.proofs.Common.{◌≡◌, ◌++◌, ◌≤◌, [], drop, length, sym, append-nil, arith, zero}
-use Rattle.reduce.specs.Corrections.{put}
+use Rattle.std.proofs.Common.{◌++◌, [], drop, sym, append-nil, arith}
 use Rattle.reduce.proofs.DraftLemmas.{put_then, moves_none, moves_then}
 use Rattle.reduce.proofs.draft.put_both.Goals as goal
 

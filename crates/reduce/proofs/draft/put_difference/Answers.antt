@@ -1,5 +1,4 @@
 use Rattle.std.proofs.Common.{[], ◌∷◌, ◌++◌, ◌≡◌, append-nil, sym}
-use Rattle.update.specs.Bags.{Entry}
 use Rattle.plan.specs.Operators.{negated_entry}
 use Rattle.reduce.proofs.ResultLemmas.{on_ok}
 use Rattle.reduce.proofs.DraftLemmas.{entry_at, entries_at, pair_both, put_then, moves_both, moves_neither}

@@ -1,5 +1,4 @@
 use Rattle.std.proofs.Common.{length, ◌∙◌, inl, inr, ⊎_elim}
-use Rattle.std.proofs.lemmas.Result.{IfOk-weaker, IfErr-weaker}
 use Rattle.update.specs.Updates.{as_of}
 use Rattle.reduce.proofs.ResultLemmas.{passed_on}
 use Rattle.reduce.proofs.KeyedLemmas.{bag_keyed}

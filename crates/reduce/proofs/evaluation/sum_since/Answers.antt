@@ -1,8 +1,7 @@
-use Rattle.std.proofs.Common.{◌≡◌, ◌++◌, ◌∙◌, ap, sym, map, subst, inl, inr, ⊎_elim}
+use Rattle.std.proofs.Common.{◌++◌, ◌∙◌, ap, map, subst, inl, inr, ⊎_elim}
 use Rattle.std.proofs.lemmas.Result.{IfOk-weaker, IfErr-weaker}
 use Rattle.update.specs.Bags.{HasLargeCount, count_of}
 use Rattle.update.specs.Updates.{entry}
-use Rattle.reduce.specs.Evaluations.{between}
 use Rattle.reduce.proofs.EvaluationLemmas.{rows_since, large_since}
 use Rattle.reduce.proofs.evaluation.sum_since.Goals as goal
 

@@ -1,0 +1,31 @@
+-- A sweep over the times of a key: its replayed rows, and what was given of it, stand in for the whole lists.
+use Rattle.std.specs.Prelude.{◌≡◌, Bool, List, ◌∷◌, IsTrue, Option, Some, None, IfSome}
+use Rattle.std.specs.declared.cmp.Ordering.{Ordering}
+use Rattle.update.specs.Updates.{as_of}
+use Rattle.update.specs.declared.change.Update.{Update}
+use Rattle.reduce.specs.declared.evaluation.Evaluation.{Evaluation}
+use Rattle.reduce.specs.declared.sweep.Sweep.{Sweep}
+use Rattle.reduce.specs.Evaluations.{IsEvaluation}
+use Rattle.reduce.specs.Replays.{Ascends, StandsOn, on_the_way}
+
+module _ {T : Type 0} where
+  -- the time of the last evaluation, if there was one, and those to do
+  abbrev pub from_last : Option (Evaluation T) → List T → List T
+  from_last None todo = todo
+  from_last (Some e) todo = e.time ∷ todo
+
+module _ {T : Type 0} (below : T → T → Bool) (cmp : T → T → Ordering) where
+  -- at the times to do, and at that of the last evaluation, both replays sum to what the whole lists sum to
+  pub record IsSweep (todo : List T) (rows given : List (Update T)) (s : Sweep T) : Type 0 where
+    pub rows_ascend : Ascends cmp s.rows.later.items
+    pub had_ascend : Ascends cmp s.had.later.items
+    pub rows_stand : StandsOn below (from_last s.last todo) rows (on_the_way s.rows.near.items s.rows.later.items s.rows.entered)
+    pub had_stand : StandsOn below (from_last s.last todo) given (on_the_way s.had.near.items s.had.later.items s.had.entered)
+    pub last : IfSome s.last (IsEvaluation below rows given)
+
+  -- all that matters at the time has come in
+  pub record IsLed (time : T) (todo : List T) (rows given : List (Update T)) (s : Sweep T) : Type 0 where
+    pub sweeps : IsSweep todo rows given s
+    pub before : IfSome s.last (λ e. IsTrue (below e.time time))
+    pub rows_in : (t : T) → IsTrue (below t time) → as_of below t s.rows.near.items ≡ as_of below t (on_the_way s.rows.near.items s.rows.later.items s.rows.entered)
+    pub had_in : (t : T) → IsTrue (below t time) → as_of below t s.had.near.items ≡ as_of below t (on_the_way s.had.near.items s.had.later.items s.had.entered)

@@ -1,0 +1,221 @@
+//! The updates of a key, replayed in order of time: each comes in once the time is reached after which it may matter.
+//!
+//! The times of a key come in `Ord` order, and each time to come is at or after the meet of all that are to come. By the
+//! laws of a lattice, no time at or after that meet tells an update from the same update at the join of its time with the
+//! meet. So what has come in is moved there, and what falls on one time is added up. A long history becomes a short list,
+//! and a sum at the next time looks at that list alone.
+//!
+//! The invariant: what has come in, with what comes in later, sums at each time to come to what the whole list sums to
+//! (`StandsOn` in `specs/Replays.antt`).
+ghost use Rattle.std.specs.Prelude.{◌≡◌, ◌⊎◌, ◌≤◌, ◌<◌, ◌+◌, ◌++◌, ◌∷◌, [], List, ℤ, Bool, IsTrue, IfOk, IfErr, OnOk, IsSomeAnd, drop, length, slice_get, false};
+ghost use Rattle.std.specs.List.{list_all};
+ghost use Rattle.update.specs.Bags.{Alike};
+ghost use Rattle.update.specs.Updates.{as_of, size};
+ghost use Rattle.update.specs.declared.change.Update.{Update};
+ghost use Rattle.update.specs.declared.refusal.Refusal.{Refusal};
+ghost use Rattle.std.specs.declared.cmp.Ordering.{Ordering};
+ghost use Rattle.reduce.specs.Replays.{Ascends, StandsEver, StandsFrom, StandsOn, moved_to, on_the_way};
+ghost use Rattle.reduce.specs.Joined.{Member};
+
+use crate::visiting::push_copies;
+use lattice::Lattice;
+use std::alloc::Global;
+use std::cmp::Ordering;
+use std::mem;
+use update::{Refusal, Update, consolidate};
+
+// Copies of updates, each at the join of its time with `meet`.
+fn moved<T: Lattice>(
+    alloc: Global,
+    updates: &[Update<T>],
+    meet: T,
+) -> Result<Vec<Update<T>>, Refusal>
+    ensures moved { IfOk result (λ out. out.items ≡ moved_to T.joined meet updates.now) }
+    ensures only { IfErr result (λ refused. refused ≡ Refusal.OutOfMemory) }
+{
+    let mut out = Vec::with_capacity(alloc, updates.len())?;
+    for update in updates {
+        out.push(Update {
+            time: update.time.join(meet),
+            row: update.row.copy(),
+            diff: update.diff,
+        })?;
+    }
+    Ok(out)
+}
+
+/// The updates as of the times at or after `meet`: moved there, and added up. A total that is too large there need be none
+/// at the times to come, so it is no cause to refuse: the updates then stay as they are.
+///
+/// Cost: a copy of the updates, and n log n in their number.
+pub(crate) fn nearer<T: Lattice>(
+    alloc: Global,
+    updates: Vec<Update<T>>,
+    meet: T,
+) -> Result<Vec<Update<T>>, Refusal>
+    ensures stands { IfOk result (λ out. StandsFrom T.below meet updates.items out.items) }
+    ensures only { IfErr result (λ refused. refused ≡ Refusal.OutOfMemory) }
+{
+    let list = moved(alloc, updates.as_slice(), meet)?;
+    match consolidate(list) {
+        Ok(near) => Ok(near),
+        Err(_) => Ok(updates),
+    }
+}
+
+// The meet of a time with all of these.
+fn meet_all<T: Lattice>(first: T, times: &[T]) -> T
+    ensures first { IsTrue (T.below result first) }
+    ensures each { (t : T) → Member t times.now → IsTrue (T.below result t) }
+{
+    let mut meet = first;
+    for time in times {
+        meet = meet.meet(*time);
+    }
+    meet
+}
+
+// How many updates more than twice those that were left by the last move may come in before the next one.
+const SLACK: usize = 8;
+
+// How many updates may have come in before they are moved, if so many are left now.
+fn limit_after(left: usize) -> usize {
+    left.saturating_mul(2).saturating_add(SLACK)
+}
+
+/// The updates of a key on the way through its times.
+#[derive(Drop)]
+pub(crate) struct Replay<T> {
+    /// Those that have come in, moved forward.
+    pub(crate) near: Vec<Update<T>>,
+    /// In order of time those that come in later, from place `entered` on.
+    pub(crate) later: Vec<Update<T>>,
+    /// How many of `later` have come in.
+    pub(crate) entered: usize,
+    /// How many may have come in before they are moved again. At least twice as many as were left by the last move, so
+    /// that all moves together cost n log n.
+    pub(crate) limit: usize,
+}
+
+impl<T: Lattice> Replay<T> {
+    // Puts an update with those that have come in, unless its time comes after the first one.
+    fn put(&mut self, update: &Update<T>, first: T) -> Result<(), Refusal>
+        ensures put { OnOk result
+            (((self.new.near.items ≡ self.old.near.items ++ update.now ∷ [])
+            × (self.new.later.items ≡ self.old.later.items))
+            ⊎ ((self.new.near.items ≡ self.old.near.items)
+            × (self.new.later.items ≡ self.old.later.items ++ update.now ∷ []))) }
+        ensures entered { self.new.entered ≡ self.old.entered }
+        ensures only { IfErr result (λ refused. refused ≡ Refusal.OutOfMemory) }
+    {
+        if update.time.cmp(&first) == Ordering::Greater {
+            self.later.push(update.copy())?;
+        } else {
+            self.near.push(update.copy())?;
+        }
+        Ok(())
+    }
+
+    /// The updates on the way to a first time. Those whose time does not come after it have come in.
+    ///
+    /// Cost: a copy of the updates, and n log n in the number of those whose time comes after the first one.
+    pub(crate) fn of(alloc: Global, updates: &[Update<T>], first: T) -> Result<Replay<T>, Refusal>
+        ensures stands { IfOk result (λ p. StandsEver T.below updates.now
+            (on_the_way p.near.items p.later.items p.entered)) }
+        ensures ascending { IfOk result (λ p. Ascends T.cmp p.later.items) }
+        ensures only { IfErr result (λ refused. refused ≡ Refusal.OutOfMemory) }
+    {
+        let mut replay = Replay {
+            near: Vec::new(alloc),
+            later: Vec::new(alloc),
+            entered: 0,
+            limit: SLACK,
+        };
+        for update in updates {
+            replay.put(update, first)?;
+        }
+        replay.later.sort_unstable();
+        replay.limit = limit_after(replay.near.len());
+        Ok(replay)
+    }
+
+    // Whether the next update is to come in: its time does not come after this one.
+    fn is_next(&self, time: T) -> bool
+        ensures within { IsTrue result → self.now.entered < length self.now.later.items }
+        ensures none { result ≡ false → self.now.entered < length self.now.later.items
+            → IsSomeAnd (slice_get self.now.later.items self.now.entered)
+            (λ u. T.cmp u.time time ≡ Ordering.Greater) }
+    {
+        self.entered < self.later.len()
+            && self.later[self.entered].time.cmp(&time) != Ordering::Greater
+    }
+
+    // Lets one more update come in.
+    fn enter(&mut self) -> Result<(), Refusal>
+        requires { self.old.entered < length self.old.later.items }
+        ensures same { OnOk result
+            (on_the_way self.new.near.items self.new.later.items self.new.entered
+            ≡ on_the_way self.old.near.items self.old.later.items self.old.entered) }
+        ensures later { self.new.later ≡ self.old.later }
+        ensures limit { self.new.limit ≡ self.old.limit }
+        ensures forward { OnOk result (self.new.entered ≡ self.old.entered + 1) }
+        ensures only { IfErr result (λ refused. refused ≡ Refusal.OutOfMemory) }
+    {
+        self.near.push(self.later[self.entered].copy())?;
+        self.entered += 1;
+        Ok(())
+    }
+
+    /// Lets the updates come in whose time does not come after this one. Those that have come in then sum to what all sum
+    /// to, at the time and at each one before it.
+    ///
+    /// Cost: a copy of each update that comes in.
+    pub(crate) fn reach(&mut self, time: T) -> Result<(), Refusal>
+        requires { Ascends T.cmp self.old.later.items }
+        ensures same { OnOk result
+            (on_the_way self.new.near.items self.new.later.items self.new.entered
+            ≡ on_the_way self.old.near.items self.old.later.items self.old.entered) }
+        ensures later { self.new.later ≡ self.old.later }
+        ensures reached { OnOk result ((t : T) → IsTrue (T.below t time)
+            → as_of T.below t self.new.near.items
+            ≡ as_of T.below t
+            (on_the_way self.new.near.items self.new.later.items self.new.entered)) }
+        ensures only { IfErr result (λ refused. refused ≡ Refusal.OutOfMemory) }
+    {
+        while self.is_next(time) {
+            self.enter()?;
+        }
+        Ok(())
+    }
+
+    /// Moves those that have come in to the meet of these times, if they are more than twice as many as the last move left.
+    ///
+    /// Cost: a move finds the meet of all of these times, and costs as [`nearer`]. All moves of one way together cost
+    /// n log n in the number of updates that come in, and a pass over the times for each doubling.
+    pub(crate) fn advance(&mut self, alloc: Global, first: T, times: &[T]) -> Result<(), Refusal>
+        ensures stands { OnOk result (StandsOn T.below (first ∷ times.now)
+            (on_the_way self.old.near.items self.old.later.items self.old.entered)
+            (on_the_way self.new.near.items self.new.later.items self.new.entered)) }
+        ensures later { self.new.later ≡ self.old.later }
+        ensures only { IfErr result (λ refused. refused ≡ Refusal.OutOfMemory) }
+    {
+        if self.near.len() <= self.limit {
+            return Ok(());
+        }
+        let meet = meet_all(first, times);
+        let near = mem::replace(&mut self.near, Vec::new(alloc));
+        self.near = nearer(alloc, near, meet)?;
+        self.limit = limit_after(self.near.len());
+        Ok(())
+    }
+
+    /// Appends copies of updates to those that have come in.
+    pub(crate) fn push_copies(&mut self, more: &[Update<T>]) -> Result<(), Refusal>
+        ensures pushed { OnOk result (self.new.near.items ≡ self.old.near.items ++ more.now) }
+        ensures later { self.new.later ≡ self.old.later }
+        ensures entered { self.new.entered ≡ self.old.entered }
+        ensures only { IfErr result (λ refused. refused ≡ Refusal.OutOfMemory) }
+    {
+        push_copies(&mut self.near, more)
+    }
+}
