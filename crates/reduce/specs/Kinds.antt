@@ -1,11 +1,14 @@
 -- What the reducers of the four reductions of a plan answer, with the laws of a reducer, and the rows that they look for.
 use Rattle.std.specs.Prelude.{◌≡◌, ℕ, Bool, true, false, if◌then◌else◌, List, [], ℤ, pos, int_lt, length, map, nat_le, refl}
 use Rattle.std.specs.List.{filter}
+use Rattle.std.proofs.Common.{ap}
+use Rattle.std.proofs.lemmas.Bool.{true≢false}
 use Rattle.update.specs.Bags.{Entry, Alike, count_of}
-use Rattle.plan.specs.Reductions.{IsReducer, single, reduction_answer, has_key}
+use Rattle.plan.specs.Reductions.{IsReducer, single, count_answer, reduction_answer, has_key}
 use Rattle.plan.specs.declared.node.Kind.{Kind}
 use Rattle.plan.specs.declared.node.Kind.TheVariants.{Count, Distinct, Min, Max}
 use Rattle.plan.proofs.ReducerLemmas.{all_reduce}
+use Rattle.reduce.specs.Blind.{IsBlind}
 
 -- ---- rows
 
@@ -41,6 +44,13 @@ kind_answer Count = count_within
 kind_answer Distinct = distinct_answer
 kind_answer Min = min_answer
 kind_answer Max = max_answer
+
+-- each kind but count looks at rows
+abbrev pub kind_sees_rows : Kind → Bool
+kind_sees_rows Count = false
+kind_sees_rows Distinct = true
+kind_sees_rows Min = true
+kind_sees_rows Max = true
 
 -- ---- laws
 
@@ -88,3 +98,19 @@ kind_reduces Count = count_reduces
 kind_reduces Distinct = distinct_reduces
 kind_reduces Min = min_reduces
 kind_reduces Max = max_reduces
+
+-- count does not look at rows
+pub count_is_blind : (k : ℕ) → IsBlind k count_within
+count_is_blind k key a b _ _ _ same row =
+    ap (λ n. count_of (if nat_le (length key) 7 then count_answer key n else []) row) same
+
+-- a reducer that looks at rows need not be blind
+pub none_is_blind : (reduce : List ℤ → List Entry → List Entry) (k : ℕ) → true ≡ false → IsBlind k reduce
+none_is_blind reduce k h = absurd (true≢false h)
+
+-- a kind that does not look at rows is blind
+pub kind_is_blind : (kind : Kind) (k : ℕ) → kind_sees_rows kind ≡ false → IsBlind k (kind_answer kind)
+kind_is_blind Count k h = count_is_blind k
+kind_is_blind Distinct k h = none_is_blind distinct_answer k h
+kind_is_blind Min k h = none_is_blind min_answer k h
+kind_is_blind Max k h = none_is_blind max_answer k h

@@ -2,6 +2,7 @@
 pub use Rattle.lattice.specs.Order
 pub use Rattle.lattice.specs.Frontiers
 pub mod Joined
+pub mod Blind
 pub mod Standing
 pub mod Histories
 pub mod Corrections

@@ -42,9 +42,12 @@ fn sum_of_counts(rows: &Bag) -> Result<i64, Refusal>
 }
 
 impl Reducer for Count {
-    ghost use Rattle.reduce.specs.Kinds.{count_within, count_reduces};
+    ghost use Rattle.std.specs.Prelude.{false};
+    ghost use Rattle.reduce.specs.Kinds.{count_within, count_reduces, count_is_blind};
 
     ghost reduces = { λ _. count_within };
+
+    ghost sees_rows = { λ _. false };
 
     fn reduce(&self, alloc: Global, key: &[i64], rows: &Bag) -> Result<Bag, Refusal> {
         if key.len() >= MAX_WIDTH {
@@ -57,5 +60,11 @@ impl Reducer for Count {
         one_row(alloc, Row::of(alloc, key).followed_by(&[sum]))
     }
 
+    fn sees_rows(&self) -> bool {
+        false
+    }
+
     ghost laws = { λ _. count_reduces };
+
+    ghost blind = { λ _ k _. count_is_blind k };
 }

@@ -28,9 +28,12 @@ fn put_positive(entries: &mut Entries, rows: &Bag) -> Result<(), Refusal>
 }
 
 impl Reducer for Distinct {
-    ghost use Rattle.reduce.specs.Kinds.{distinct_answer, distinct_reduces};
+    ghost use Rattle.std.specs.Prelude.{true};
+    ghost use Rattle.reduce.specs.Kinds.{distinct_answer, distinct_reduces, none_is_blind};
 
     ghost reduces = { λ _. distinct_answer };
+
+    ghost sees_rows = { λ _. true };
 
     fn reduce(&self, alloc: Global, _key: &[i64], rows: &Bag) -> Result<Bag, Refusal> {
         let mut entries = Entries::new(alloc);
@@ -39,5 +42,11 @@ impl Reducer for Distinct {
         entries.into_bag()
     }
 
+    fn sees_rows(&self) -> bool {
+        true
+    }
+
     ghost laws = { λ _. distinct_reduces };
+
+    ghost blind = { λ _. none_is_blind distinct_answer };
 }

@@ -58,9 +58,12 @@ fn last_positive(rows: &Bag) -> Option<usize>
 }
 
 impl Reducer for Min {
-    ghost use Rattle.reduce.specs.Kinds.{min_answer, min_reduces};
+    ghost use Rattle.std.specs.Prelude.{true};
+    ghost use Rattle.reduce.specs.Kinds.{min_answer, min_reduces, none_is_blind};
 
     ghost reduces = { λ _. min_answer };
+
+    ghost sees_rows = { λ _. true };
 
     fn reduce(&self, alloc: Global, _key: &[i64], rows: &Bag) -> Result<Bag, Refusal> {
         rows.known();
@@ -70,13 +73,22 @@ impl Reducer for Min {
         }
     }
 
+    fn sees_rows(&self) -> bool {
+        true
+    }
+
     ghost laws = { λ _. min_reduces };
+
+    ghost blind = { λ _. none_is_blind min_answer };
 }
 
 impl Reducer for Max {
-    ghost use Rattle.reduce.specs.Kinds.{max_answer, max_reduces};
+    ghost use Rattle.std.specs.Prelude.{true};
+    ghost use Rattle.reduce.specs.Kinds.{max_answer, max_reduces, none_is_blind};
 
     ghost reduces = { λ _. max_answer };
+
+    ghost sees_rows = { λ _. true };
 
     fn reduce(&self, alloc: Global, _key: &[i64], rows: &Bag) -> Result<Bag, Refusal> {
         rows.known();
@@ -86,5 +98,11 @@ impl Reducer for Max {
         }
     }
 
+    fn sees_rows(&self) -> bool {
+        true
+    }
+
     ghost laws = { λ _. max_reduces };
+
+    ghost blind = { λ _. none_is_blind max_answer };
 }

@@ -17,9 +17,11 @@ use update::{Bag, Refusal};
 /// The reduction of a plan's node, by its kind. It answers what the reducer of that kind answers, and refuses when that
 /// one does.
 impl Reducer for Kind {
-    ghost use Rattle.reduce.specs.Kinds.{kind_answer, kind_reduces};
+    ghost use Rattle.reduce.specs.Kinds.{kind_answer, kind_sees_rows, kind_reduces, kind_is_blind};
 
     ghost reduces = { kind_answer };
+
+    ghost sees_rows = { kind_sees_rows };
 
     fn reduce(&self, alloc: Global, key: &[i64], rows: &Bag) -> Result<Bag, Refusal> {
         match self {
@@ -30,7 +32,18 @@ impl Reducer for Kind {
         }
     }
 
+    fn sees_rows(&self) -> bool {
+        match self {
+            Kind::Count => Count.sees_rows(),
+            Kind::Distinct => Distinct.sees_rows(),
+            Kind::Min => Min.sees_rows(),
+            Kind::Max => Max.sees_rows(),
+        }
+    }
+
     ghost laws = { kind_reduces };
+
+    ghost blind = { kind_is_blind };
 }
 
 /// Each of the four reducers answers what the reduction of its kind answers. For count the key has at most 7 columns, as

@@ -1,6 +1,6 @@
 //! What a reduction answers for a key. A reducer sees the rows of one key as a bag, at one time, and knows of no times.
 //! Its meaning is a function of the key and the bag. So whatever updates sum to the bag, the answer is the same.
-ghost use Rattle.std.specs.Prelude.{◌≤◌, IfOk, IfErr, IsTrue, length};
+ghost use Rattle.std.specs.Prelude.{◌≡◌, ◌≤◌, IfOk, IfErr, IsTrue, length};
 ghost use Rattle.std.specs.List.{list_all};
 ghost use Rattle.update.specs.Bags.{Alike, IsBag};
 ghost use Rattle.update.specs.Refusals.{IsMemoryOrOverflow};
@@ -15,11 +15,14 @@ use update::{Bag, Refusal};
 /// The ghost member `reduces` says which function it is. Its laws are those of every reduction of a plan: alike bags get
 /// alike answers, an empty bag gets an empty answer, and each row of an answer begins with the key.
 pub trait Reducer {
-    ghost use Rattle.std.specs.Prelude.{ℕ, ℤ, List};
+    ghost use Rattle.std.specs.Prelude.{◌≡◌, ℕ, ℤ, Bool, false, List};
     ghost use Rattle.update.specs.Bags.{Entry};
     ghost use Rattle.plan.specs.Reductions.{IsReducer};
+    ghost use Rattle.reduce.specs.Blind.{IsBlind};
 
     ghost reduces: { Self → List ℤ → List Entry → List Entry };
+
+    ghost sees_rows: { Self → Bool };
 
     /// The answer for a key of 1 to 8 columns from its rows, each of which begins with the key; so does each row of the
     /// answer.
@@ -36,5 +39,12 @@ pub trait Reducer {
             (λ bag. IsTrue (list_all (has_key (length key.now) key.now) bag)) }
         ensures refused { IfErr result (IsMemoryOrOverflow (IsTooLarge rows.now)) };
 
+    /// Whether the answer depends on which rows of the key there are. If not, then it depends on the sum of their counts
+    /// alone. Takes no memory.
+    fn sees_rows(&self) -> bool
+        ensures { result ≡ sees_rows self.now };
+
     ghost laws: { (self : Self) (k : ℕ) → IsReducer k (reduces self) };
+
+    ghost blind: { (self : Self) (k : ℕ) → sees_rows self ≡ false → IsBlind k (reduces self) };
 }

@@ -180,7 +180,7 @@ fn visit<T: Lattice, R: Reducer, B: BatchReader<Time = T>>(
         gathered.waiting.push(place)?;
         return Ok(());
     }
-    let rows = rows_of(alloc, batches, history.key().columns())?;
+    let rows = rows_of(alloc, reducer, batches, history.key())?;
     let settled = settle_key(alloc, reducer, history, frontier, rows.as_slice())?;
     gathered.looked = gathered.looked.saturating_add(rows.len() as u64);
     gathered.put(alloc, place, history, settled)?;
