@@ -1,5 +1,5 @@
 -- A reducer that does not look at rows answers the same where the key stands in place of each of its rows.
-use Rattle.std.proofs.Common.{◌≡◌, ℕ, ◌+◌, ◌≤◌, ◌^◌, Bool, true, false, cond, not, List, [], ◌∷◌, ◌++◌, map, take, drop, length, IsTrue, inl, inr, ⊎_elim, refl, sym, ap, subst, ◌∙◌, arith}
+use Rattle.std.proofs.Common.{◌≡◌, ℕ, ◌+◌, ◌≤◌, ◌^◌, Bool, true, false, cond, not, List, [], ◌∷◌, ◌++◌, map, take, drop, length, IsTrue, inl, inr, ⊎_elim, refl, sym, ap, subst, ◌∙◌}
 use Rattle.std.specs.Prelude.{ℤ, pos, unsigned_abs}
 use Rattle.std.specs.List.{filter, list_all}
 use Rattle.std.proofs.lemmas.Bool.{and_from}
@@ -15,7 +15,6 @@ use Rattle.plan.proofs.CountLemmas.{row_same, row_itself, weigh_alike, when_add}
 use Rattle.reduce.specs.Blind.{IsBlind, as_seen, without_rows}
 use Rattle.reduce.specs.Joined.{Member, of_key, times_of, IsJoined}
 use Rattle.reduce.specs.Standing.{IsRight, KeyStands}
-use Rattle.reduce.specs.Owing.{IsOverfull}
 use Rattle.reduce.specs.Settling.{Settling, ReadsAs, IsOverfullFor}
 use Rattle.reduce.proofs.CorrectionLemmas.{weight, weight_is}
 

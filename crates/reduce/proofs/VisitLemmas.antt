@@ -1,9 +1,9 @@
 -- Visits to the keys that wait, one after the other.
-use Rattle.std.proofs.Common.{◌≡◌, ◌≢◌, ℕ, zero, suc, ◌+◌, ◌-◌, ◌^◌, ◌<◌, ◌≤◌, min, Bool, true, false, cond, not, List, [], ◌∷◌, ◌++◌, map, take, drop, length, get_or, slice_get, Some, IsSomeAnd, IsTrue, refl, sym, ap, subst, ◌∙◌, arith, append_assoc}
+use Rattle.std.proofs.Common.{◌≡◌, ◌≢◌, ℕ, zero, suc, ◌+◌, ◌-◌, ◌^◌, ◌<◌, ◌≤◌, min, Bool, true, false, cond, not, List, [], ◌∷◌, ◌++◌, map, take, drop, length, get_or, slice_get, Some, IsSomeAnd, refl, sym, ap, subst, ◌∙◌, arith, append_assoc}
 use Rattle.std.specs.Prelude.{nat_eq, flat_map, sum_by, ℤ}
-use Rattle.std.specs.List.{filter, list_any, list_all}
+use Rattle.std.specs.List.{filter, list_any}
 use Rattle.std.specs.declared.cmp.Ordering.{Ordering}
-use Rattle.std.proofs.lemmas.Bool.{and_from, or_parts, true≢false, eqb-true}
+use Rattle.std.proofs.lemmas.Bool.{or_parts, true≢false, eqb-true}
 use Rattle.std.proofs.lemmas.List.{append-nil, take_more}
 use Rattle.std.proofs.lemmas.List.Recursion.{is_sum_by}
 use Rattle.lattice.specs.Frontiers.{is_beyond}
@@ -54,14 +54,6 @@ module _ {T : Type 0} where
   history_at cmp k [] i h a e = absurd e
   history_at cmp k (x ∷ hs) zero h a e = subst (IsHistory cmp k) (sym e) a.0
   history_at cmp k (x ∷ hs) (suc i) h a e = history_at cmp k hs i h a.1 e
-
-  pub all_of_key : (k : ℕ) (key : List ℤ) (us : List (Update T)) → IsTrue (list_all (of_key k key) (filter (of_key k key) us))
-  all_of_key k key [] = refl
-  all_of_key k key (u ∷ us) = step (of_key k key u) refl (all_of_key k key us)
-    where
-      step : (b : Bool) → of_key k key u ≡ b → IsTrue (list_all (of_key k key) (filter (of_key k key) us)) → IsTrue (list_all (of_key k key) (cond b (u ∷ filter (of_key k key) us) (filter (of_key k key) us)))
-      step true e h = and_from (of_key k key u) (list_all (of_key k key) (filter (of_key k key) us)) e h
-      step false e h = h
 
 module _ {T : Type 0} (below : T → T → Bool) (joined : T → T → T) (k : ℕ) (reduce : List ℤ → List Entry → List Entry) (key : List ℤ) (content stored : List (Update T)) (front : List T) where
   all_late : (ts : List T) → list_any (λ t. not (is_beyond below front t)) ts ≡ false → filter (λ t. is_beyond below front t) ts ≡ ts

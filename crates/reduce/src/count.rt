@@ -1,6 +1,6 @@
 //! Count: the key followed by the sum of all counts. The counts are added up in 128 bits, and only the sum is converted
 //! to 64 bits. So no sum on the way is refused. If the last one is, then the counts are too large however the bag is
-//! written, because alike bags have the same sum.
+//! written, because alike bags have the same sum. Nothing but the sum matters, so count does not look at rows.
 ghost use Rattle.std.specs.Prelude.{◌≡◌, IfOk, IfErr};
 ghost use Rattle.plan.specs.Reductions.{sum_of_counts};
 ghost use Rattle.reduce.specs.Corrections.{IsTooLarge};

@@ -63,7 +63,8 @@ fn read_range<B: BatchReader>(
 /// Copies of the updates of a key's rows in all batches, with the key in the place of each row if the reducer sees no
 /// rows.
 ///
-/// Cost: two binary searches in each batch, and one step for each update that is read.
+/// Cost: two binary searches in each batch, and one step for each update that is read. Its row is read only if the
+/// reducer sees rows.
 pub(crate) fn rows_of<R: Reducer, B: BatchReader>(
     alloc: Global,
     reducer: &R,

@@ -1,5 +1,8 @@
 //! What a reduction answers for a key. A reducer sees the rows of one key as a bag, at one time, and knows of no times.
 //! Its meaning is a function of the key and the bag. So whatever updates sum to the bag, the answer is the same.
+//!
+//! A reducer that does not look at rows says so. It is then given the key in place of each row: its bag has one entry at
+//! most, and a key with many different rows costs no more than a key that has the same row as often.
 ghost use Rattle.std.specs.Prelude.{◌≡◌, ◌≤◌, IfOk, IfErr, IsTrue, length};
 ghost use Rattle.std.specs.List.{list_all};
 ghost use Rattle.update.specs.Bags.{Alike, IsBag};
@@ -13,7 +16,8 @@ use update::{Bag, Refusal};
 /// A function from a key and the bag of its rows to the bag that is answered for the key.
 ///
 /// The ghost member `reduces` says which function it is. Its laws are those of every reduction of a plan: alike bags get
-/// alike answers, an empty bag gets an empty answer, and each row of an answer begins with the key.
+/// alike answers, an empty bag gets an empty answer, and each row of an answer begins with the key. A reducer whose
+/// `sees_rows` is false owes one law more, `blind`: bags of one key with the same sum of counts get alike answers.
 pub trait Reducer {
     ghost use Rattle.std.specs.Prelude.{◌≡◌, ℕ, ℤ, Bool, false, List};
     ghost use Rattle.update.specs.Bags.{Entry};
@@ -40,7 +44,7 @@ pub trait Reducer {
         ensures refused { IfErr result (IsMemoryOrOverflow (IsTooLarge rows.now)) };
 
     /// Whether the answer depends on which rows of the key there are. If not, then it depends on the sum of their counts
-    /// alone. Takes no memory.
+    /// alone, and `reduce` may be given the key in place of each row. Takes no memory.
     fn sees_rows(&self) -> bool
         ensures { result ≡ sees_rows self.now };
 

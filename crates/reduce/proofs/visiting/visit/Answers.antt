@@ -1,4 +1,4 @@
-use Rattle.std.proofs.Common.{◌≢◌, ◌∙◌, [], length, sym, ap, subst, inl, inr, ⊎_elim, IsTrue}
+use Rattle.std.proofs.Common.{◌≢◌, ◌∙◌, [], length, sym, subst, inl, inr, ⊎_elim, IsTrue}
 use Rattle.std.specs.List.{list_all}
 use Rattle.trace.specs.Readings.{all_content}
 use Rattle.reduce.specs.Joined.{of_key}
@@ -50,7 +50,7 @@ returns-clause-visited g c =
     let sees = g.R.Reducer.sees_rows c.args.reducer.now in
     settled_there g.T.PartialOrder.below c.args.frontier.now g.T.Lattice.joined (g.R.Reducer.reduces c.args.reducer.now) (all_content g.B.BatchReader.content c.args.batches.now) c.args.histories.now.items
     c.args.place h (there c.args.histories.now.items c.args.place h c.get-history.ensures)
-    (sym (rw c.due.ensures at c.is_due.ensures) ∙ c.if-not-is_due.false) c.in_ok-settled.settled.given.items c.in_ok-settled.settled.due.items 
+    (sym (rw c.due.ensures at c.is_due.ensures) ∙ c.if-not-is_due.false) c.in_ok-settled.settled.given.items c.in_ok-settled.settled.due.items
     (seen_settles sees h.key content c.as_slice.result.now rows g.T.PartialOrder.below g.T.Lattice.joined (g.R.Reducer.reduces c.args.reducer.now) (g.met.R.Reducer.blind c.args.reducer.now (length h.key)) h.given c.args.frontier.now h.due (length h.due) c.in_ok-settled.settled.given.items c.in_ok-settled.settled.due.items c.in_ok-settled.ensures.settled)
     c.args.gathered.now.out.items c.put.new.self.out.items c.args.gathered.now.changes.items c.put.new.self.changes.items c.args.gathered.now.waiting.items c.put.new.self.waiting.items c.args.gathered.now.looked c.put.new.self.looked c.len.result
     c.in_ok-put.ensures.out c.in_ok-put.ensures.changes c.in_ok-put.ensures.waiting
