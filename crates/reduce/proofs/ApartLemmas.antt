@@ -1,5 +1,5 @@
 -- Lists that have no row twice at one time.
-use Rattle.std.proofs.Common.{◌≡◌, ◌≤◌, ◌<◌, ◌^◌, Bool, true, false, cond, ◌&&◌, ◌||◌, List, [], ◌∷◌, ◌++◌, refl, sym, ap, ◌∙◌, subst, inl, inr, ◌⊎◌, ⊎_elim, arith, w64, FitsSigned}
+use Rattle.std.proofs.Common.{◌≡◌, ◌≤◌, ◌<◌, ◌^◌, Bool, true, false, cond, ◌&&◌, ◌||◌, List, [], ◌∷◌, ◌++◌, refl, sym, ap, ◌∙◌, subst, inl, inr, arith, w64, FitsSigned}
 use Rattle.std.specs.Prelude.{ℤ, pos, ◌+ℤ◌}
 use Rattle.std.specs.List.{filter, list_any}
 use Rattle.std.proofs.lemmas.Bool.{and_parts, and_from, or_parts, true≢false}
@@ -12,7 +12,6 @@ use Rattle.lattice.specs.Order.{PartialOrderLaws}
 use Rattle.update.specs.Bags.{same_row}
 use Rattle.update.specs.Updates.{total_at, AreApart, is_doubled, HasLargeTotal}
 use Rattle.update.specs.declared.change.Update.{Update}
-use Rattle.update.proofs.TotalLemmas.{fits_zero}
 use Rattle.plan.proofs.CountLemmas.{row_same, row_itself}
 use Rattle.reduce.specs.Joined.{Member}
 
@@ -52,27 +51,6 @@ module _ {T : Type 0} {below : T → T → Bool} (o : PartialOrderLaws below) wh
       step : (b : Bool) → is_at row t v ≡ b → is_doubled below u v ≡ false → total_at below row t us ≡ pos 0 → cond b v.diff (pos 0) +ℤ total_at below row t us ≡ pos 0
       step false f d ih = +ℤ_idl (total_at below row t us) ∙ ih
       step true f d ih = let w = at_is row t v f in absurd (true≢false (sym (doubled u v (r ∙ sym w.0) (e ∙ sym w.1)) ∙ d))
-
-  -- a total at one row and time is nothing, or the diff of the one update there
-  pub one_there : (row : List ℤ) (t : T) (us : List (Update T)) → AreApart below us → (total_at below row t us ≡ pos 0) ⊎ ((u : Update T) × Member u us × (total_at below row t us ≡ u.diff))
-  one_there row t [] a = inl refl
-  one_there row t (u ∷ us) a = step (is_at row t u) refl (one_there row t us a.1)
-    where
-      step : (b : Bool) → is_at row t u ≡ b → (total_at below row t us ≡ pos 0) ⊎ ((v : Update T) × Member v us × (total_at below row t us ≡ v.diff))
-          → (cond b u.diff (pos 0) +ℤ total_at below row t us ≡ pos 0) ⊎ ((v : Update T) × Member v (u ∷ us) × (cond b u.diff (pos 0) +ℤ total_at below row t us ≡ v.diff))
-      step false f (inl z) = inl (+ℤ_idl (total_at below row t us) ∙ z)
-      step false f (inr z) = inr (z.0, inr z.1, +ℤ_idl (total_at below row t us) ∙ z.2)
-      step true f z =
-          let w = at_is row t u f in
-          inr (u, inl refl, ap (λ n. u.diff +ℤ n) (none_there row t u w.0 w.1 us a.0) ∙ +ℤ_idr u.diff)
-
-  -- so where each diff is a 64-bit number, each total is
-  pub apart_fits : (us : List (Update T)) → AreApart below us → ((u : Update T) → Member u us → FitsSigned w64 u.diff) → HasLargeTotal below us → ⊥
-  apart_fits us a f h =
-      ⊎_elim
-      (λ z. h.2 (subst (FitsSigned w64) (sym z) fits_zero))
-      (λ z. h.2 (subst (FitsSigned w64) (sym z.2) (f z.0 z.1)))
-      (one_there h.0 h.1 us a)
 
   -- the diff of each update is the total at its row and time
   pub own_total : (us : List (Update T)) → AreApart below us → (u : Update T) → Member u us → total_at below u.row u.time us ≡ u.diff

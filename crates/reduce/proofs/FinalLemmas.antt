@@ -1,13 +1,13 @@
 -- What holds once all visits are put in place: of the histories as they were and as they are, and of what is given.
-use Rattle.std.proofs.Common.{◌≡◌, ℕ, Bool, false, List, [], ◌++◌, map, take, length, slice_get, IsSomeAnd, IsTrue, sym, ap, subst, ◌∙◌}
-use Rattle.std.specs.Prelude.{flat_map, ℤ}
-use Rattle.std.specs.List.{filter, list_all}
+use Rattle.std.proofs.Common.{◌≡◌, ◌≢◌, ℕ, Bool, false, List, [], ◌++◌, map, take, length, slice_get, IsSomeAnd, IsTrue, sym, ap, subst, ◌∙◌}
+use Rattle.std.specs.Prelude.{flat_map, ℤ, pos}
+use Rattle.std.specs.List.{filter, AllByRecursion}
 use Rattle.std.specs.Cmp.{IsTotalOrder}
 use Rattle.std.specs.declared.cmp.Ordering.{Ordering}
 use Rattle.lattice.specs.Order.{PartialOrderLaws, LatticeLaws}
 use Rattle.lattice.specs.Frontiers.{is_beyond}
 use Rattle.update.specs.Bags.{Entry, Alike}
-use Rattle.update.specs.Updates.{as_of, total_where, AreApart, HasLargeTotal, IsConsolidated}
+use Rattle.update.specs.Updates.{as_of, AreApart}
 use Rattle.update.specs.declared.change.Update.{Update}
 use Rattle.plan.specs.Changes.{has_passed}
 use Rattle.plan.specs.Operators.{reduction_output}
@@ -23,11 +23,9 @@ use Rattle.reduce.specs.Reductions.{StandsFor, IsOpenTo, IsQuietAt, SumsToTaken,
 use Rattle.reduce.specs.Settling.{ReadsAs, IsOverfullFor}
 use Rattle.reduce.specs.Taking.{HaveJoins}
 use Rattle.reduce.specs.Visiting.{Visit, Gathers, AreChanges, all_renewed, all_replaced}
-use Rattle.reduce.proofs.ApartLemmas.{apart_fits}
-use Rattle.reduce.proofs.CorrectLemmas.{apart_consolidated}
 use Rattle.reduce.proofs.HistoryLemmas.{at_place, of_there}
-use Rattle.reduce.proofs.ReadyLemmas.{times_stay, apart_raw, out_at, stands_after, rest_is, quiet, apart_after}
-use Rattle.reduce.proofs.RenewLemmas.{replaced_is, changes_fit, from_visit, visit_in}
+use Rattle.reduce.proofs.ReadyLemmas.{times_stay, apart_raw, raw_at, raw_nonzero, stands_after, rest_is, quiet, apart_after}
+use Rattle.reduce.proofs.RenewLemmas.{replaced_is, changes_fit}
 use Rattle.reduce.proofs.RestLemmas.{waiting_after, histories_after, history_there, reads_are_all}
 use Rattle.reduce.proofs.StandingLemmas.{law}
 
@@ -61,10 +59,16 @@ module _ {T : Type 0} {below : T → T → Bool} {joined met : T → T → T} (c
     all : (i : ℕ) → IsSomeAnd (slice_get hs i) (λ h. h.due ≡ [] → ⊥) → Member i (map (λ v. v.place) visits)
     all i s = subst (Member i) (sym g.places_are) ((waits.exact i).1 s)
 
-    pub fits : HasLargeTotal below gathered → ⊥
-    fits h =
-        apart_fits o gathered (subst (AreApart below) (sym g.out_is) (apart_raw cmp o l k reduce content front hs known apart visits g.visits_are once))
-        (λ u m. let r = from_visit below front joined reduce content visits u (subst (Member u) g.out_is m) in (visit_in below front joined reduce content hs visits g.visits_are r.0 r.1).settled.fits u r.2) h
+    -- what is gathered has no row twice at one time, and no difference 0, and is at pending times that the frontier has
+    -- passed
+    pub final_once : AreApart below gathered
+    final_once = subst (AreApart below) (sym g.out_is) (apart_raw cmp o l k reduce content front hs known apart visits g.visits_are once)
+
+    pub final_nonzero : AllByRecursion (λ u. u.diff ≢ pos 0) gathered
+    final_nonzero = subst (AllByRecursion (λ u. u.diff ≢ pos 0)) (sym g.out_is) (raw_nonzero cmp o l k reduce content front hs known apart visits g.visits_are once)
+
+    pub final_at : (u : Update T) → Member u gathered → Member u.time (due_of (take k u.row) hs) × (is_beyond below front u.time ≡ false)
+    final_at u m = raw_at cmp o l k reduce content front hs known apart visits g.visits_are once u (subst (Member u) g.out_is m)
 
     pub changes_are_fit : AreChanges changes hs
     changes_are_fit = subst (λ z. AreChanges z hs) (sym g.changes_are) (changes_fit below front joined reduce content visits hs once g.visits_are)
@@ -93,34 +97,21 @@ module _ {T : Type 0} {below : T → T → Bool} {joined met : T → T → T} (c
       pub reads_are : reads ≡ all_reads below front content hs places
       reads_are = g.reads_are ∙ (reads_are_all below front joined reduce content visits hs g.visits_are ∙ ap (all_reads below front content hs) g.places_are)
 
-      module _ (out : List (Update T)) (consolidated : IsConsolidated cmp out) (sums : (t : T) → Alike (as_of below t out) (as_of below t gathered)) (totals : (p : List ℤ → T → Bool) → total_where p out ≡ total_where p gathered)
-          (among : (p : List ℤ → T → Bool) → IsTrue (list_all (λ u. p u.row u.time) gathered) → IsTrue (list_all (λ u. p u.row u.time) out)) where
-        sums2 : (t : T) → Alike (as_of below t out) (as_of below t (flat_map (λ v. v.more) visits))
-        sums2 t = subst (λ z. Alike (as_of below t out) (as_of below t z)) g.out_is (sums t)
+      pub final_stands : (taken given : List (Update T)) → ((key : List ℤ) → ReadsAs below front (due_of key hs) content taken) → StandsFor below joined k reduce hs taken given → StandsFor below joined k reduce new taken (given ++ gathered)
+      final_stands taken given rd st =
+          subst (λ z. StandsFor below joined k reduce new taken (given ++ z)) (sym g.out_is)
+          (subst (λ z. StandsFor below joined k reduce z taken (given ++ flat_map (λ v. v.more) visits)) (sym renewed_is) (stands_after cmp o l k reduce content front hs known apart visits g.visits_are once taken given rd st))
 
-        totals2 : (p : List ℤ → T → Bool) → total_where p out ≡ total_where p (flat_map (λ v. v.more) visits)
-        totals2 p = totals p ∙ ap (total_where p) g.out_is
+      pub final_law : (taken given : List (Update T)) → ((key : List ℤ) → ReadsAs below front (due_of key hs) content taken) → StandsFor below joined k reduce hs taken given
+          → (t : T) → IsQuietAt below new t → Alike (as_of below t (given ++ gathered)) (reduction_output k reduce (as_of below t taken))
+      final_law taken given rd st t none =
+          let s = final_stands taken given rd st in
+          law o l k reduce q taken (given ++ gathered) (λ key. due_of key new) s.wide s.keys t none
 
-        among2 : (p : List ℤ → T → Bool) → IsTrue (list_all (λ u. p u.row u.time) (flat_map (λ v. v.more) visits)) → IsTrue (list_all (λ u. p u.row u.time) out)
-        among2 p h = among p (subst (λ z. IsTrue (list_all (λ u. p u.row u.time) z)) (sym g.out_is) h)
+      pub final_quiet : (t : T) → IsTrue (has_passed below front t) → IsQuietAt below new t
+      final_quiet = subst (λ z. (t : T) → IsTrue (has_passed below front t) → IsQuietAt below z t) (sym renewed_is) (quiet cmp o l k reduce content front hs known apart visits g.visits_are once all)
 
-        pub final_stands : (taken given : List (Update T)) → ((key : List ℤ) → ReadsAs below front (due_of key hs) content taken) → StandsFor below joined k reduce hs taken given → StandsFor below joined k reduce new taken (given ++ out)
-        final_stands taken given rd st = subst (λ z. StandsFor below joined k reduce z taken (given ++ out)) (sym renewed_is) (stands_after cmp o l k reduce content front hs known apart visits g.visits_are once out sums2 totals2 among2 taken given rd st)
-
-        pub final_law : (taken given : List (Update T)) → ((key : List ℤ) → ReadsAs below front (due_of key hs) content taken) → StandsFor below joined k reduce hs taken given
-            → (t : T) → IsQuietAt below new t → Alike (as_of below t (given ++ out)) (reduction_output k reduce (as_of below t taken))
-        final_law taken given rd st t none =
-            let s = final_stands taken given rd st in
-            law o l k reduce q taken (given ++ out) (λ key. due_of key new) s.wide s.keys t none
-
-        pub final_at : (u : Update T) → Member u out → Member u.time (due_of (take k u.row) hs) × (is_beyond below front u.time ≡ false)
-        final_at = out_at cmp o l k reduce content front hs known apart visits g.visits_are once out sums2 totals2 among2
-
-        pub final_quiet : (t : T) → IsTrue (has_passed below front t) → IsQuietAt below new t
-        final_quiet = subst (λ z. (t : T) → IsTrue (has_passed below front t) → IsQuietAt below z t) (sym renewed_is) (quiet cmp o l k reduce content front hs known apart visits g.visits_are once out sums2 totals2 among2 all)
-
-        pub final_apart : (given : List (Update T)) → AreApart below given → IsOpenTo below k given hs → AreApart below (given ++ out) × IsOpenTo below k (given ++ out) new
-        final_apart given ag op =
-            let one = apart_consolidated o total out consolidated.ascending in
-            let r = apart_after cmp o l k reduce content front hs known apart visits g.visits_are once out sums2 totals2 among2 all one given ag op in
-            (r.0, subst (IsOpenTo below k (given ++ out)) (sym renewed_is) r.1)
+      pub final_apart : (given : List (Update T)) → AreApart below given → IsOpenTo below k given hs → AreApart below (given ++ gathered) × IsOpenTo below k (given ++ gathered) new
+      final_apart given ag op =
+          let r = apart_after cmp o l k reduce content front hs known apart visits g.visits_are once all given ag op in
+          subst (λ z. AreApart below (given ++ z) × IsOpenTo below k (given ++ z) new) (sym g.out_is) (r.0, subst (IsOpenTo below k (given ++ flat_map (λ v. v.more) visits)) (sym renewed_is) r.1)

@@ -1,6 +1,6 @@
 -- Members of lists: of the parts of a list, of images, and of lists with the same members.
-use Rattle.std.proofs.Common.{◌≡◌, ◌↔◌, ℕ, zero, suc, ◌-◌, ◌<◌, List, [], ◌∷◌, ◌++◌, map, length, get_or, ◌⊎◌, inl, inr, ⊎_elim, refl, sym, ap, arith}
-use Rattle.std.specs.List.{Contains}
+use Rattle.std.proofs.Common.{◌≡◌, ◌↔◌, ℕ, zero, suc, ◌-◌, ◌<◌, List, [], ◌∷◌, ◌++◌, map, length, get_or, ◌⊎◌, inl, inr, ⊎_elim, refl, sym, ap, subst, arith}
+use Rattle.std.specs.List.{AllByRecursion, Contains}
 use Rattle.reduce.specs.Joined.{Member}
 use Rattle.reduce.specs.Adding.{SameMembers}
 
@@ -56,6 +56,16 @@ module _ {X : Type 0} where
       (λ e. inl (inl e))
       (λ k. ⊎_elim (λ l. inl (inr l)) (λ r. inr r) (in_either x xs ys k))
       m
+
+  -- what holds of each member holds of one of them
+  pub each_member : (P : X → Type 0) (xs : List X) → AllByRecursion P xs → (x : X) → Member x xs → P x
+  each_member P [] all x m = absurd m
+  each_member P (y ∷ xs) all x m = ⊎_elim (λ e. subst P (sym e) all.0) (λ n. each_member P xs all.1 x n) m
+
+  -- and what holds of one after the other holds of each
+  pub all_members : (P : X → Type 0) (xs : List X) → ((x : X) → Member x xs → P x) → AllByRecursion P xs
+  all_members P [] h = tt
+  all_members P (y ∷ xs) h = (h y (inl refl), all_members P xs (λ x m. h x (inr m)))
 
   -- the only member of a list of one
   pub only_one : (x y : X) → Member x (y ∷ []) → x ≡ y

@@ -1,5 +1,5 @@
 -- Over the pending times of one key.
-use Rattle.std.proofs.Common.{◌≡◌, ℕ, zero, suc, ◌+◌, ◌<◌, ◌≤◌, ◌^◌, Bool, true, false, cond, not, List, [], ◌∷◌, ◌++◌, take, drop, get_or, length, sym, refl, ap, ◌∙◌, subst, inl, inr, ◌⊎◌, ⊎_elim, arith, append_assoc, add-one, drop-cons}
+use Rattle.std.proofs.Common.{◌≡◌, ◌≢◌, ℕ, zero, suc, ◌+◌, ◌<◌, ◌≤◌, ◌^◌, Bool, true, false, cond, not, List, [], ◌∷◌, ◌++◌, take, drop, get_or, length, sym, refl, ap, ◌∙◌, subst, inl, inr, ◌⊎◌, ⊎_elim, arith, append_assoc, add-one, drop-cons}
 use Rattle.std.specs.Prelude.{IsTrue, ℤ}
 use Rattle.std.specs.List.{filter, list_all, AllByRecursion}
 use Rattle.std.specs.List.Sorted.{IsStrictlySortedBy}
@@ -11,7 +11,7 @@ use Rattle.std.proofs.lemmas.Bool.{and_parts, and_from, false≢true, true≢fal
 use Rattle.std.proofs.lemmas.List.{take_more, append-nil}
 use Rattle.std.proofs.lemmas.List.Elements.{filter-append}
 use Rattle.std.proofs.lemmas.Map.Keys.{sorted_head, sorted_tail}
-use Rattle.std.proofs.Math.IntN.{◌+ℤ◌}
+use Rattle.std.proofs.Math.IntN.{pos, ◌+ℤ◌}
 use Rattle.lattice.specs.Order.{PartialOrderLaws, LatticeLaws, ExtendsLaws}
 use Rattle.lattice.specs.Frontiers.{is_beyond}
 use Rattle.lattice.proofs.FrontierLemmas.{beyond_up}
@@ -27,7 +27,7 @@ use Rattle.reduce.specs.Corrections.{AllAt, Corrects, IsTooMuch}
 use Rattle.reduce.specs.Owing.{IsOwed}
 use Rattle.reduce.specs.Settling.{ReadsAs, Steps, Settling, IsOverfullFor}
 use Rattle.reduce.proofs.JoinedLemmas.{sum_at, sum_at-append}
-use Rattle.reduce.proofs.MemberLemmas.{in_either, in_left, in_right}
+use Rattle.reduce.proofs.MemberLemmas.{each_member, in_either, in_left, in_right}
 use Rattle.reduce.proofs.StandingLemmas.{corrects_one, key_right}
 use Rattle.reduce.proofs.ApartLemmas.{apart_both, apart_filter, doubled_is, fits_each}
 use Rattle.reduce.proofs.CorrectionLemmas.{as_of-keyed, count-had, size_right, weight, weight_is, weight-append}
@@ -213,6 +213,7 @@ module _ {T : Type 0} {below : T → T → Bool} {joined met : T → T → T} (o
       apart = tt;
       at = λ u m. absurd m;
       fits = λ u m. absurd m;
+      nonzero = λ u m. absurd m;
     }
 
     module _ (i : ℕ) (t : T) (lt : i < length due) (e : t ≡ get_or due i t) (more : List (Update T)) (rest : List T) (s : Settling below joined k reduce key content stored front due i more rest) where
@@ -262,6 +263,7 @@ module _ {T : Type 0} {below : T → T → Bool} {joined met : T → T → T} (o
         apart = subst (AreApart below) (sym w.1) s.apart;
         at = λ u m. still u (subst (Member u) w.1 m);
         fits = λ u m. s.fits u (subst (Member u) w.1 m);
+        nonzero = λ u m. s.nonzero u (subst (Member u) w.1 m);
       }
         where
           stays : filter (λ t. is_beyond below front t) (t ∷ []) ≡ t ∷ []
@@ -277,13 +279,14 @@ module _ {T : Type 0} {below : T → T → Bool} {joined met : T → T → T} (o
         apart = subst (AreApart below) (sym w.2.1) (apart_new new c.at c.apart);
         at = λ u m. ⊎_elim (still u) (λ n. let a = all_at_is new t c.at u n in (a.0, subst (λ z. Member z (take (i + 1) due)) (sym a.1) here, ap (λ z. is_beyond below front z) a.1 ∙ w.0)) (in_either u more new (subst (Member u) w.2.1 m));
         fits = λ u m. ⊎_elim (s.fits u) (λ n. fits_each o new c.apart w.2.2 u n) (in_either u more new (subst (Member u) w.2.1 m));
+        nonzero = λ u m. ⊎_elim (s.nonzero u) (λ n. each_member (λ u. u.diff ≢ pos 0) new w.2.3 u n) (in_either u more new (subst (Member u) w.2.1 m));
       }
         where
           new : List (Update T)
           new = w.2.0
 
           c : Corrects below k reduce content (stored ++ more) key t new
-          c = w.2.3
+          c = w.2.4
 
           here : Member t (take (i + 1) due)
           here = subst (Member t) (sym (more_taken due i t lt e)) (in_right t (take i due) (t ∷ []) (inl refl))

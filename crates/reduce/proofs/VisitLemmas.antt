@@ -76,6 +76,7 @@ module _ {T : Type 0} (below : T → T → Bool) (joined : T → T → T) (k : �
     apart = tt;
     at = λ u m. absurd m;
     fits = λ u m. absurd m;
+    nonzero = λ u m. absurd m;
   }
 
 abbrev summed : {X : Type 0} → (X → ℕ) → List X → ℕ

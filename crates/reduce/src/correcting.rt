@@ -2,8 +2,8 @@
 //! for the bag of the key's rows at the time. Both are put down at that one time, the second with the other sign, and
 //! consolidated once. So a total is refused only where the change itself is too large, and what stays the same leaves no
 //! update.
-ghost use Rattle.std.specs.Prelude.{◌≤◌, ◌≡◌, ◌++◌, IfOk, IfErr, IfSome, IsTrue, List, length};
-ghost use Rattle.std.specs.List.{list_all, filter};
+ghost use Rattle.std.specs.Prelude.{◌≤◌, ◌≡◌, ◌≢◌, ◌++◌, IfOk, IfErr, IfSome, IsTrue, List, length, pos};
+ghost use Rattle.std.specs.List.{AllByRecursion, list_all, filter};
 ghost use Rattle.update.specs.Refusals.{IsMemoryOrOverflow};
 ghost use Rattle.update.specs.Updates.{HasLargeTotal};
 ghost use Rattle.update.specs.declared.change.Update.{Update};
@@ -53,6 +53,8 @@ pub(crate) fn correct<T: Lattice, R: Reducer>(
         (given.now ++ so_far.now) key.now time correction.given.items) }
     ensures exact { IfOk result
         (λ correction. HasLargeTotal T.below correction.given.items → ⊥) }
+    ensures nonzero { IfOk result
+        (λ correction. AllByRecursion (λ u. u.diff ≢ pos 0) correction.given.items) }
     ensures evaluation { IfOk result (λ correction. IsEvaluation T.below rows.now
         ((given.now ++ so_far.now) ++ correction.given.items) correction.evaluation) }
     ensures time { IfOk result (λ correction. correction.evaluation.time ≡ time) }

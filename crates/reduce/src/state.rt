@@ -7,12 +7,12 @@
 //! is given at each of them once, whichever way it alters the answers.
 //!
 //! A call gathers all that it changes aside, and puts it in place at its end. So a refusal leaves the state as it was.
-ghost use Rattle.std.specs.Prelude.{◌≡◌, ◌↔◌, ◌⊎◌, ◌≤◌, ◌<◌, ◌+◌, ◌-◌, ◌^◌, ◌++◌, ◌||◌, [], ℕ, ℤ, List, false, true, length, min, take, slice_get, IfErr, IfOk, IsSomeAnd, OnErr, OnOk, IsTrue};
-ghost use Rattle.std.specs.List.{filter};
+ghost use Rattle.std.specs.Prelude.{◌≡◌, ◌≢◌, ◌↔◌, ◌⊎◌, ◌≤◌, ◌<◌, ◌+◌, ◌-◌, ◌^◌, ◌++◌, ◌||◌, [], ℕ, ℤ, List, false, true, length, min, pos, take, slice_get, IfErr, IfOk, IsSomeAnd, OnErr, OnOk, IsTrue};
+ghost use Rattle.std.specs.List.{AllByRecursion, filter};
 ghost use Rattle.lattice.specs.Frontiers.{is_beyond};
 ghost use Rattle.update.specs.Bags.{Alike};
 ghost use Rattle.update.specs.Refusals.{IsMemoryOrOverflow};
-ghost use Rattle.update.specs.Updates.{as_of, AreApart, IsConsolidated};
+ghost use Rattle.update.specs.Updates.{as_of, AreApart};
 ghost use Rattle.update.specs.declared.change.Update.{Update};
 ghost use Rattle.plan.specs.Changes.{has_passed};
 ghost use Rattle.plan.specs.Operators.{reduction_output};
@@ -34,7 +34,7 @@ use lattice::Lattice;
 use std::alloc::Global;
 use std::marker::Model;
 use trace::Trace;
-use update::{Refusal, Update, consolidate};
+use update::{Refusal, Update};
 
 /// A reduction by a reducer `R` of rows by their first columns, at times `T`. A contract sees the number of these
 /// columns, the reducer, the history of each key, the places of the keys that wait, and how many updates were read.
@@ -207,9 +207,10 @@ impl<T: Lattice, R: Reducer> ReduceState<T, R> {
         Ok(())
     }
 
-    /// Gives the differences at the pending times that the frontier has passed, consolidated: at each of these times
-    /// what the reducer makes of the rows of the key, less what was given up to it. These times are pending no longer.
-    /// After the call, what was given sums at each time that the frontier has passed to the reduction of what was taken.
+    /// Gives the differences at the pending times that the frontier has passed: at each of these times what the reducer
+    /// makes of the rows of the key, less what was given up to it. These times are pending no longer. After the call,
+    /// what was given sums at each time that the frontier has passed to the reduction of what was taken. No row is given
+    /// twice at one time, and none with difference 0. The list comes key by key, and is in no order that is promised.
     ///
     /// The frontier is the slice of its elements. The trace is read whole, and may have moved times together, as of its
     /// since: the pending times that the frontier has passed are to be beyond it. That the trace sums, at the times that
@@ -232,7 +233,8 @@ impl<T: Lattice, R: Reducer> ReduceState<T, R> {
         requires held { (key : List ℤ) (t : T) → Member t (due_of key self.old.histories)
             → is_beyond T.below frontier.now t ≡ false
             → IsTrue (is_beyond T.below (S.held trace.now) t) }
-        ensures consolidated { IfOk result (λ out. IsConsolidated T.cmp out.items) }
+        ensures once { IfOk result (λ out. AreApart T.below out.items) }
+        ensures nonzero { IfOk result (λ out. AllByRecursion (λ u. u.diff ≢ pos 0) out.items) }
         ensures stands { IfOk result (λ out. (h : List (Insertion T)) (taken given : List (Update T))
             → S.stands trace.now h
             → SumsToTaken T.below (S.held trace.now) frontier.now (all_updates h) taken
@@ -297,7 +299,6 @@ impl<T: Lattice, R: Reducer> ReduceState<T, R> {
             batches,
             self.looked,
         )?;
-        let out = consolidate(out)?;
         replace_all(&mut self.histories, changes);
         self.waiting = Places::from(waiting);
         self.looked = looked;

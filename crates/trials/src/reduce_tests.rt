@@ -20,7 +20,7 @@ use std::alloc::Global;
 use std::process::Abort;
 use std::test::Fail;
 use trace::{BatchList, Trace};
-use update::{Refusal, Update};
+use update::{Refusal, Update, consolidate};
 
 // A reduction by the first column, of some kind.
 pub(crate) type Reduced = ReduceState<Bitime, Kind>;
@@ -116,7 +116,7 @@ pub(crate) fn taken(alloc: Global, kind: Kind, changes: &[Change]) -> Result<Red
     Ok(reduction)
 }
 
-// Checks what is ready as of this frontier.
+// Checks what is ready as of this frontier. It comes in no order that is promised, so it is consolidated first.
 pub(crate) fn assert_ready(
     rt: &impl Abort,
     alloc: Global,
@@ -124,7 +124,7 @@ pub(crate) fn assert_ready(
     frontier: &[Bitime],
     want: &[Change],
 ) -> Result<(), Refusal> {
-    let out = reduction.ready(alloc, frontier)?;
+    let out = consolidate(reduction.ready(alloc, frontier)?)?;
     assert!(rt; out.as_slice() == list(alloc, want)?.as_slice());
     Ok(())
 }

@@ -1,4 +1,4 @@
-use Rattle.std.proofs.Common.{◌≡◌, ◌∙◌, List, sym, ap, subst, inl, inr, ⊎_elim, arith, refl}
+use Rattle.std.proofs.Common.{◌≡◌, ◌∙◌, List, sym, ap, subst, inl, inr, ⊎_elim, arith}
 use Rattle.std.specs.Prelude.{ℤ, IsTrue}
 use Rattle.update.specs.Updates.{AreApart}
 use Rattle.plan.specs.Changes.{has_passed}
@@ -9,7 +9,7 @@ use Rattle.reduce.specs.Joined.{Member}
 use Rattle.reduce.specs.Histories.{HistoryState, ReduceView, IsWaiting, due_of}
 use Rattle.reduce.specs.Reductions.{StandsFor, IsOpenTo, SumsToTaken, all_reads}
 use Rattle.reduce.specs.Settling.{ReadsAs}
-use Rattle.reduce.proofs.FinalLemmas.{reads_as, overfull_of, fits, changes_are_fit, known_after, waits_after, joins_after, reads_are, final_rest, final_stands, final_law, final_at, final_quiet, final_apart}
+use Rattle.reduce.proofs.FinalLemmas.{reads_as, overfull_of, changes_are_fit, known_after, waits_after, joins_after, reads_are, final_rest, final_stands, final_law, final_once, final_nonzero, final_at, final_quiet, final_apart}
 use Rattle.reduce.proofs.ResultLemmas.{passed_on}
 use Rattle.reduce.proofs.TraceLemmas.{whole_is_readable}
 use Rattle.reduce.proofs.state.ReduceState.ready.Given.{Over}
@@ -52,32 +52,6 @@ returns-in_err-out-clause-refused g c =
           c.self.view_is
           (λ h taken given s sums st ag op ps. overfull_of g.T.Ord.cmp g.met.T.Ord.total g.met.T.PartialOrder.order g.met.T.Lattice.bounds c.self.inside.key (g.R.Reducer.reduces c.self.inside.reducer) (g.met.R.Reducer.laws c.self.inside.reducer c.self.inside.key) (content-1 g c) c.args.frontier.now (hs-1 g c) c.self.invariant.2 c.known.ensures c.as_slice.result.now (waits-1 g c) y.1.0 y.1.1 taken given (reading-1 g c h taken s sums) st ag op ps),
     )) c.in_err-out.ensures.refused)
-
-module _ (g : Over) (c : goal.After-drop-changes g) where
-  abbrev hs-2 : List (HistoryState g.row.T.Denot)
-  hs-2 = c.self.inside.histories.items
-
-  abbrev content-2 : List (Update g.row.T.Denot)
-  content-2 = all_content g.S.Batch.BatchReader.content c.unwrap-batches.result.now
-
-  waits-2 : IsWaiting c.self.inside.histories.items c.as_slice.result.now
-  waits-2 = subst (IsWaiting c.self.inside.histories.items) (sym c.as_slice.ensures) c.self.invariant.3
-
-  readable-2 : (h : List (Insertion g.row.T.Denot)) → g.S.Trace.stands c.args.trace.now h → IsReadable g.T.PartialOrder.below (g.S.Trace.held c.args.trace.now) (all_content g.S.Batch.BatchReader.content c.unwrap-batches.result.now) (all_updates h)
-  readable-2 h s =
-      whole_is_readable g.T.PartialOrder.below (g.S.Trace.held c.args.trace.now) (g.S.Trace.start c.args.trace.now) c.upper.result.now (g.S.Trace.stands c.args.trace.now) (all_content g.S.Batch.BatchReader.content c.unwrap-batches.result.now)
-      (rw c.unwrap-batches.ensures at c.through.ensures.reads) h s (c.upper.ensures.newest h s)
-
-  reading-2 : (h : List (Insertion g.row.T.Denot)) (taken : List (Update g.row.T.Denot)) → g.S.Trace.stands c.args.trace.now h
-      → SumsToTaken g.T.PartialOrder.below (g.S.Trace.held c.args.trace.now) c.args.frontier.now (all_updates h) taken
-      → (key : List ℤ) → ReadsAs g.T.PartialOrder.below c.args.frontier.now (due_of key c.self.inside.histories.items) (all_content g.S.Batch.BatchReader.content c.unwrap-batches.result.now) taken
-  reading-2 h taken s sums key =
-      reads_as g.T.PartialOrder.below (g.S.Trace.held c.args.trace.now) c.args.frontier.now (due_of key c.self.inside.histories.items) (all_content g.S.Batch.BatchReader.content c.unwrap-batches.result.now) (all_updates h) taken
-      (λ t m p. c.requires.held key t (subst (λ z. Member t (due_of key z)) (ap (λ s. s.histories) c.self.view_is) m) p) (readable-2 h s) sums
-
-pub returns-in_err-out-2-clause-refused : goal.returns-in_err-out-2-clause-refused
-returns-in_err-out-2-clause-refused g c =
-    absurd (fits g.T.Ord.cmp g.met.T.Ord.total g.met.T.PartialOrder.order g.met.T.Lattice.bounds c.self.inside.key (g.R.Reducer.reduces c.self.inside.reducer) (g.met.R.Reducer.laws c.self.inside.reducer c.self.inside.key) (content-2 g c) c.args.frontier.now (hs-2 g c) c.self.invariant.2 c.known.ensures c.as_slice.result.now (waits-2 g c) c.in_ok-out.ensures.visited.0 c.in_ok-out.field-0.out.items c.in_ok-out.field-0.changes.items c.in_ok-out.field-0.waiting.items c.in_ok-out.ensures.visited.1 c.in_ok-out.ensures.visited.2 (c.in_err-out-2.ensures.overflow.0 refl))
 
 module _ (g : Over) (c : goal.After-replace_all-arg-1 g) where
   abbrev hs-3 : List (HistoryState g.row.T.Denot)
@@ -138,27 +112,33 @@ invariant_of-self g c = (
 pub returns-clause-stands : goal.returns-clause-stands
 returns-clause-stands g c =
     rw (← ap (λ s. s.key) c.self.view_is, ← ap (λ s. s.histories) c.self.view_is, ← ap (λ s. s.reducer) c.self.view_is)
-    (λ h taken given s sums st. final_stands g.T.Ord.cmp g.met.T.Ord.total g.met.T.PartialOrder.order g.met.T.Lattice.bounds c.self.inside.key (g.R.Reducer.reduces c.self.inside.reducer) (g.met.R.Reducer.laws c.self.inside.reducer c.self.inside.key) (content g c) c.args.frontier.now (hs g c) c.self.invariant.2 c.known.ensures c.as_slice.result.now (waits g c) c.in_ok-out.ensures.visited.0 c.in_ok-out.field-0.out.items c.in_ok-out.field-0.changes.items c.in_ok-out.field-0.waiting.items c.in_ok-out.ensures.visited.1 c.in_ok-out.ensures.visited.2 c.replace_all.new.histories.items c.replace_all.ensures c.in_ok-out-2.out.items c.in_ok-out-2.ensures.consolidated c.in_ok-out-2.ensures.sums c.in_ok-out-2.ensures.totals c.in_ok-out-2.ensures.among taken given (reading g c h taken s sums) st)
+    (λ h taken given s sums st. final_stands g.T.Ord.cmp g.met.T.Ord.total g.met.T.PartialOrder.order g.met.T.Lattice.bounds c.self.inside.key (g.R.Reducer.reduces c.self.inside.reducer) (g.met.R.Reducer.laws c.self.inside.reducer c.self.inside.key) (content g c) c.args.frontier.now (hs g c) c.self.invariant.2 c.known.ensures c.as_slice.result.now (waits g c) c.in_ok-out.ensures.visited.0 c.in_ok-out.field-0.out.items c.in_ok-out.field-0.changes.items c.in_ok-out.field-0.waiting.items c.in_ok-out.ensures.visited.1 c.in_ok-out.ensures.visited.2 c.replace_all.new.histories.items c.replace_all.ensures taken given (reading g c h taken s sums) st)
 
 pub returns-clause-law : goal.returns-clause-law
 returns-clause-law g c =
     rw (← ap (λ s. s.key) c.self.view_is, ← ap (λ s. s.histories) c.self.view_is, ← ap (λ s. s.reducer) c.self.view_is)
-    (λ h taken given s sums st. final_law g.T.Ord.cmp g.met.T.Ord.total g.met.T.PartialOrder.order g.met.T.Lattice.bounds c.self.inside.key (g.R.Reducer.reduces c.self.inside.reducer) (g.met.R.Reducer.laws c.self.inside.reducer c.self.inside.key) (content g c) c.args.frontier.now (hs g c) c.self.invariant.2 c.known.ensures c.as_slice.result.now (waits g c) c.in_ok-out.ensures.visited.0 c.in_ok-out.field-0.out.items c.in_ok-out.field-0.changes.items c.in_ok-out.field-0.waiting.items c.in_ok-out.ensures.visited.1 c.in_ok-out.ensures.visited.2 c.replace_all.new.histories.items c.replace_all.ensures c.in_ok-out-2.out.items c.in_ok-out-2.ensures.consolidated c.in_ok-out-2.ensures.sums c.in_ok-out-2.ensures.totals c.in_ok-out-2.ensures.among taken given (reading g c h taken s sums) st)
+    (λ h taken given s sums st. final_law g.T.Ord.cmp g.met.T.Ord.total g.met.T.PartialOrder.order g.met.T.Lattice.bounds c.self.inside.key (g.R.Reducer.reduces c.self.inside.reducer) (g.met.R.Reducer.laws c.self.inside.reducer c.self.inside.key) (content g c) c.args.frontier.now (hs g c) c.self.invariant.2 c.known.ensures c.as_slice.result.now (waits g c) c.in_ok-out.ensures.visited.0 c.in_ok-out.field-0.out.items c.in_ok-out.field-0.changes.items c.in_ok-out.field-0.waiting.items c.in_ok-out.ensures.visited.1 c.in_ok-out.ensures.visited.2 c.replace_all.new.histories.items c.replace_all.ensures taken given (reading g c h taken s sums) st)
 
 pub returns-clause-rest : goal.returns-clause-rest
 returns-clause-rest g c =
     rw (← ap (λ s. s.histories) c.self.view_is) (final_rest g.T.Ord.cmp g.met.T.Ord.total g.met.T.PartialOrder.order g.met.T.Lattice.bounds c.self.inside.key (g.R.Reducer.reduces c.self.inside.reducer) (g.met.R.Reducer.laws c.self.inside.reducer c.self.inside.key) (content g c) c.args.frontier.now (hs g c) c.self.invariant.2 c.known.ensures c.as_slice.result.now (waits g c) c.in_ok-out.ensures.visited.0 c.in_ok-out.field-0.out.items c.in_ok-out.field-0.changes.items c.in_ok-out.field-0.waiting.items c.in_ok-out.ensures.visited.1 c.in_ok-out.ensures.visited.2 c.replace_all.new.histories.items c.replace_all.ensures)
 
 pub returns-clause-quiet : goal.returns-clause-quiet
-returns-clause-quiet g c = final_quiet g.T.Ord.cmp g.met.T.Ord.total g.met.T.PartialOrder.order g.met.T.Lattice.bounds c.self.inside.key (g.R.Reducer.reduces c.self.inside.reducer) (g.met.R.Reducer.laws c.self.inside.reducer c.self.inside.key) (content g c) c.args.frontier.now (hs g c) c.self.invariant.2 c.known.ensures c.as_slice.result.now (waits g c) c.in_ok-out.ensures.visited.0 c.in_ok-out.field-0.out.items c.in_ok-out.field-0.changes.items c.in_ok-out.field-0.waiting.items c.in_ok-out.ensures.visited.1 c.in_ok-out.ensures.visited.2 c.replace_all.new.histories.items c.replace_all.ensures c.in_ok-out-2.out.items c.in_ok-out-2.ensures.consolidated c.in_ok-out-2.ensures.sums c.in_ok-out-2.ensures.totals c.in_ok-out-2.ensures.among
+returns-clause-quiet g c = final_quiet g.T.Ord.cmp g.met.T.Ord.total g.met.T.PartialOrder.order g.met.T.Lattice.bounds c.self.inside.key (g.R.Reducer.reduces c.self.inside.reducer) (g.met.R.Reducer.laws c.self.inside.reducer c.self.inside.key) (content g c) c.args.frontier.now (hs g c) c.self.invariant.2 c.known.ensures c.as_slice.result.now (waits g c) c.in_ok-out.ensures.visited.0 c.in_ok-out.field-0.out.items c.in_ok-out.field-0.changes.items c.in_ok-out.field-0.waiting.items c.in_ok-out.ensures.visited.1 c.in_ok-out.ensures.visited.2 c.replace_all.new.histories.items c.replace_all.ensures
+
+pub returns-clause-once : goal.returns-clause-once
+returns-clause-once g c = final_once g.T.Ord.cmp g.met.T.Ord.total g.met.T.PartialOrder.order g.met.T.Lattice.bounds c.self.inside.key (g.R.Reducer.reduces c.self.inside.reducer) (g.met.R.Reducer.laws c.self.inside.reducer c.self.inside.key) (content g c) c.args.frontier.now (hs g c) c.self.invariant.2 c.known.ensures c.as_slice.result.now (waits g c) c.in_ok-out.ensures.visited.0 c.in_ok-out.field-0.out.items c.in_ok-out.field-0.changes.items c.in_ok-out.field-0.waiting.items c.in_ok-out.ensures.visited.1 c.in_ok-out.ensures.visited.2
+
+pub returns-clause-nonzero : goal.returns-clause-nonzero
+returns-clause-nonzero g c = final_nonzero g.T.Ord.cmp g.met.T.Ord.total g.met.T.PartialOrder.order g.met.T.Lattice.bounds c.self.inside.key (g.R.Reducer.reduces c.self.inside.reducer) (g.met.R.Reducer.laws c.self.inside.reducer c.self.inside.key) (content g c) c.args.frontier.now (hs g c) c.self.invariant.2 c.known.ensures c.as_slice.result.now (waits g c) c.in_ok-out.ensures.visited.0 c.in_ok-out.field-0.out.items c.in_ok-out.field-0.changes.items c.in_ok-out.field-0.waiting.items c.in_ok-out.ensures.visited.1 c.in_ok-out.ensures.visited.2
 
 pub returns-clause-at : goal.returns-clause-at
 returns-clause-at g c =
-    rw (← ap (λ s. s.key) c.self.view_is, ← ap (λ s. s.histories) c.self.view_is) (final_at g.T.Ord.cmp g.met.T.Ord.total g.met.T.PartialOrder.order g.met.T.Lattice.bounds c.self.inside.key (g.R.Reducer.reduces c.self.inside.reducer) (g.met.R.Reducer.laws c.self.inside.reducer c.self.inside.key) (content g c) c.args.frontier.now (hs g c) c.self.invariant.2 c.known.ensures c.as_slice.result.now (waits g c) c.in_ok-out.ensures.visited.0 c.in_ok-out.field-0.out.items c.in_ok-out.field-0.changes.items c.in_ok-out.field-0.waiting.items c.in_ok-out.ensures.visited.1 c.in_ok-out.ensures.visited.2 c.replace_all.new.histories.items c.replace_all.ensures c.in_ok-out-2.out.items c.in_ok-out-2.ensures.consolidated c.in_ok-out-2.ensures.sums c.in_ok-out-2.ensures.totals c.in_ok-out-2.ensures.among)
+    rw (← ap (λ s. s.key) c.self.view_is, ← ap (λ s. s.histories) c.self.view_is) (final_at g.T.Ord.cmp g.met.T.Ord.total g.met.T.PartialOrder.order g.met.T.Lattice.bounds c.self.inside.key (g.R.Reducer.reduces c.self.inside.reducer) (g.met.R.Reducer.laws c.self.inside.reducer c.self.inside.key) (content g c) c.args.frontier.now (hs g c) c.self.invariant.2 c.known.ensures c.as_slice.result.now (waits g c) c.in_ok-out.ensures.visited.0 c.in_ok-out.field-0.out.items c.in_ok-out.field-0.changes.items c.in_ok-out.field-0.waiting.items c.in_ok-out.ensures.visited.1 c.in_ok-out.ensures.visited.2)
 
 pub returns-clause-apart : goal.returns-clause-apart
 returns-clause-apart g c =
-    rw (← ap (λ s. s.key) c.self.view_is, ← ap (λ s. s.histories) c.self.view_is) (final_apart g.T.Ord.cmp g.met.T.Ord.total g.met.T.PartialOrder.order g.met.T.Lattice.bounds c.self.inside.key (g.R.Reducer.reduces c.self.inside.reducer) (g.met.R.Reducer.laws c.self.inside.reducer c.self.inside.key) (content g c) c.args.frontier.now (hs g c) c.self.invariant.2 c.known.ensures c.as_slice.result.now (waits g c) c.in_ok-out.ensures.visited.0 c.in_ok-out.field-0.out.items c.in_ok-out.field-0.changes.items c.in_ok-out.field-0.waiting.items c.in_ok-out.ensures.visited.1 c.in_ok-out.ensures.visited.2 c.replace_all.new.histories.items c.replace_all.ensures c.in_ok-out-2.out.items c.in_ok-out-2.ensures.consolidated c.in_ok-out-2.ensures.sums c.in_ok-out-2.ensures.totals c.in_ok-out-2.ensures.among)
+    rw (← ap (λ s. s.key) c.self.view_is, ← ap (λ s. s.histories) c.self.view_is) (final_apart g.T.Ord.cmp g.met.T.Ord.total g.met.T.PartialOrder.order g.met.T.Lattice.bounds c.self.inside.key (g.R.Reducer.reduces c.self.inside.reducer) (g.met.R.Reducer.laws c.self.inside.reducer c.self.inside.key) (content g c) c.args.frontier.now (hs g c) c.self.invariant.2 c.known.ensures c.as_slice.result.now (waits g c) c.in_ok-out.ensures.visited.0 c.in_ok-out.field-0.out.items c.in_ok-out.field-0.changes.items c.in_ok-out.field-0.waiting.items c.in_ok-out.ensures.visited.1 c.in_ok-out.ensures.visited.2 c.replace_all.new.histories.items c.replace_all.ensures)
 
 module _ (g : Over) (c : goal.After-self-1 g) where
   whole : all_content g.S.Batch.BatchReader.content c.unwrap-batches.result.now ≡ g.S.Trace.content c.args.trace.now
