@@ -195,6 +195,7 @@ module _ (key : List ℤ) where
             apart = s.apart;
             at = s.at;
             fits = s.fits;
+            nonzero = s.nonzero;
           }
 
           overfull_with : IsOverfullFor below joined k reduce key (without_rows k key content) stored front due → IsOverfullFor below joined k reduce key content stored front due

@@ -8,8 +8,8 @@
 //! if its time is at or before the next one; its time is then one of those that updates may not be moved past.
 //!
 //! Nothing of the key's history is changed here. What is given is gathered aside.
-ghost use Rattle.std.specs.Prelude.{◌≡◌, ◌⊎◌, ◌≤◌, ◌++◌, ◌∷◌, drop, None, false, IfOk, IfErr, IfSome, OnOk, IsTrue, List, length};
-ghost use Rattle.std.specs.List.{filter, list_all};
+ghost use Rattle.std.specs.Prelude.{◌≡◌, ◌≢◌, ◌⊎◌, ◌≤◌, ◌++◌, ◌∷◌, drop, None, false, IfOk, IfErr, IfSome, OnOk, IsTrue, List, length, pos};
+ghost use Rattle.std.specs.List.{AllByRecursion, filter, list_all};
 ghost use Rattle.std.specs.List.Sorted.{IsStrictlySortedBy};
 ghost use Rattle.lattice.specs.Frontiers.{is_beyond};
 ghost use Rattle.update.specs.Refusals.{IsMemoryOrOverflow};
@@ -114,6 +114,8 @@ fn correct_here<T: Lattice, R: Reducer>(
         sweep.now.had.near.items key.now time correction.given.items) }
     ensures exact { IfOk result
         (λ correction. HasLargeTotal T.below correction.given.items → ⊥) }
+    ensures nonzero { IfOk result
+        (λ correction. AllByRecursion (λ u. u.diff ≢ pos 0) correction.given.items) }
     ensures evaluation { IfOk result (λ correction.
         IsEvaluation T.below sweep.now.rows.near.items
         (sweep.now.had.near.items ++ correction.given.items) correction.evaluation) }
