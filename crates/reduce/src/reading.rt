@@ -50,8 +50,8 @@ fn read_range<B: BatchReader>(
 ) -> Result<(), Refusal>
     requires ordered { range.start ≤ range.end }
     requires within { range.end ≤ length (B.content batch.now) }
-    ensures read { OnOk result (rows.new.items ≡ rows.old.items
-        ++ map (as_seen sees_rows key.now) (slice_range (B.content batch.now) range.start range.end)) }
+    ensures read { OnOk result (rows.new.items ≡ rows.old.items ++ map (as_seen sees_rows key.now)
+        (slice_range (B.content batch.now) range.start range.end)) }
     ensures only { IfErr result (λ refused. refused ≡ Refusal.OutOfMemory) }
 {
     for i in range.start..range.end {
