@@ -1,22 +1,54 @@
--- Adding times to the joined times of a key: what the loops keep from one new time to the next.
-use Rattle.std.proofs.Common.{◌≡◌, ◌↔◌, ℕ, ◌<◌, ◌≤◌, ◌+◌, Bool, List, [], ◌∷◌, ◌++◌, length, get_or, take, ◌⊎◌, inl, ⊎_elim, sym, ap, subst, ◌∙◌}
-use Rattle.std.proofs.lemmas.List.{map-append, take_more, take_all}
+-- Adding new times to the joined times of a key: what the loops keep from one time to the next, and what the lists are at
+-- the end.
+use Rattle.std.proofs.Common.{◌≡◌, ◌↔◌, ℕ, ◌<◌, ◌≤◌, ◌+◌, ◌-◌, Bool, true, List, [], ◌∷◌, ◌++◌, map, length, get_or, take, drop, ◌⊎◌, inl, inr, ⊎_elim, refl, sym, ap, subst, ◌∙◌, append_assoc, length-append, arith}
+use Rattle.std.proofs.lemmas.List.{map-append, take-append-drop, take_more, take_all, take_rest, drop_at, get_or-append_right}
 use Rattle.lattice.specs.Order.{PartialOrderLaws, LatticeLaws}
 use Rattle.update.specs.Joins.{joins_of}
 use Rattle.reduce.specs.Joined.{Member, IsFresh}
-use Rattle.reduce.specs.Adding.{SameMembers, joins_with}
-use Rattle.reduce.proofs.MemberLemmas.{pushed_members, itself, through, back, in_each, regrouped, same_pushed, same_append}
-use Rattle.reduce.proofs.JoinLemmas.{joins_step, joins_with_same, joins_same, fresh_same, fresh_more}
+use Rattle.reduce.specs.Adding.{SameMembers, joins_with, IsLast, Appends, IsFreshBy, AreBetween}
+use Rattle.reduce.proofs.MemberLemmas.{member_at, member_last, pushed_members, append_members, itself, through, back, in_each, regrouped, exchanged}
+use Rattle.reduce.proofs.JoinLemmas.{joins_append, joins_same, fresh_same}
+use Rattle.reduce.proofs.FreshLemmas.{near_same, one_fresh, fresh_parted, fresh_halves}
+
+-- one of three facts, with the last two exchanged
+last_exchanged : (A B C : Type 0) → ((A ⊎ B) ⊎ C) ↔ ((A ⊎ C) ⊎ B)
+last_exchanged A B C =
+    through (regrouped A B C) (through (in_each itself (exchanged B C)) (back (regrouped A C B)))
 
 module _ {T : Type 0} where
   -- a step of a loop over a list: one element more is read
   one_more : (xs : List T) (i : ℕ) (x : T) → i < length xs → x ≡ get_or xs i x → take (i + 1) xs ≡ take i xs ++ x ∷ []
   one_more xs i x l e = take_more xs i x l ∙ ap (λ y. take i xs ++ (y ∷ [])) (sym e)
 
-  -- a list that was merged with a copy of one that has the members of a third
-  pub merged_with : (xs copy ys zs out : List T) → copy ≡ ys → SameMembers ys zs → ((t : T) → Member t out ↔ (Member t xs ⊎ Member t copy)) → (t : T) → Member t out ↔ (Member t xs ⊎ Member t zs)
-  merged_with xs copy ys zs out e same merged t =
-      through (merged t) (in_each itself (subst (λ us. Member t us ↔ Member t zs) (sym e) (same t)))
+  -- what was pushed unless it was the last already
+  abbrev pub PushedOnce : T → List T → List T → Type 0
+  PushedOnce t old new = (new ≡ old ++ t ∷ []) ⊎ ((new ≡ old) × IsLast t old)
+
+  -- either way it is a member from then on
+  pub pushed_once : (t : T) (old new : List T) → PushedOnce t old new → (s : T) → Member s new ↔ (Member s old ⊎ (s ≡ t))
+  pushed_once t old new pushed s =
+      ⊎_elim
+      (λ e. subst (λ ts. Member s ts ↔ (Member s old ⊎ (s ≡ t))) (sym e) (pushed_members s t old))
+      (λ l. subst (λ ts. Member s ts ↔ (Member s old ⊎ (s ≡ t))) (sym l.0)
+      ((λ m. inl m), (λ m. ⊎_elim (λ k. k) (λ d. subst (λ r. Member r old) (sym d) (member_last old t l.1.0 l.1.1)) m)))
+      pushed
+
+  -- if something is appended, then the last of the whole is the last of this
+  last_appended : (before added : List T) (t s : T) → Member s added → IsLast t (before ++ added) → IsLast t added
+  last_appended before [] t s m l = absurd m
+  last_appended before (a ∷ added) t s m l =
+      let both = length-append before (a ∷ added) in
+      let at : length before ≤ length (before ++ a ∷ added) - 1 = omega (arith, both) in
+      let same : (length (before ++ a ∷ added) - 1) - length before ≡ length (a ∷ added) - 1 = omega (arith, both) in
+      (omega arith, l.1 ∙ (get_or-append_right before (a ∷ added) (length before) (length (before ++ a ∷ added) - 1) t refl at ∙ ap (λ i. get_or (a ∷ added) i t) same))
+
+  -- what was appended is what comes after the times before
+  pub rest_appended : (before now : List T) (P : T → Type 0) → (a : Appends before now P) → (n : ℕ) → n ≡ length before → take (length now - n) (drop n now) ≡ a.0
+  rest_appended before now P a n e = take_rest now n ∙ (ap (drop n) a.1 ∙ drop_at before a.0 n (sym e))
+
+  -- nothing is appended
+  pub appends_none : (before : List T) (P : T → Type 0) → ((t : T) → P t → ⊥) → (now : List T) → now ≡ before ++ [] → Appends before now P
+  appends_none before P none now e = ([], e, (λ t. ((λ m. absurd m), (λ p. absurd (none t p)))))
 
 module _ {T : Type 0} (joined : T → T → T) where
   -- a step of the loop that joins a time with each of a list
@@ -28,67 +60,111 @@ module _ {T : Type 0} (joined : T → T → T) where
       subst (λ rs. Member t new ↔ Member t rs) (sym images)
       (through (more t) (through (in_each (so t) itself) (back (pushed_members t join before))))
 
-  -- the end of that loop
-  pub joins_with_all : (n : T) (ts : List T) (i : ℕ) (old new : List T) → length ts ≤ i → SameMembers old (joins_with joined n (take i ts)) → SameMembers old new → SameMembers new (joins_with joined n ts)
-  joins_with_all n ts i old new l so same t =
-      subst (λ rs. Member t new ↔ Member t (joins_with joined n rs)) (take_all i ts l) (through (back (same t)) (so t))
+  module _ (n : T) (ts before : List T) (i : ℕ) where
+    -- the same where the joins are appended to others
+    pub appends_more : (s join : T) (old new : List T) → i < length ts → s ≡ get_or ts i s → join ≡ joined s n → PushedOnce join old new → Appends before old (λ t. Member t (joins_with joined n (take i ts))) → Appends before new (λ t. Member t (joins_with joined n (take (i + 1) ts)))
+    appends_more s join old new l e d pushed a =
+        let added = a.0 in
+        ⊎_elim
+        (λ p. (added ++ join ∷ [], p ∙ (ap (λ xs. xs ++ join ∷ []) a.1 ∙ append_assoc before added (join ∷ [])),
+        joins_with_more n s join ts i added (added ++ join ∷ []) l e d a.2 (λ t. pushed_members t join added)))
+        (λ p.
+        let last = last_appended before added join n ((a.2 n).1 (inl refl)) (subst (IsLast join) a.1 p.1) in
+        (added, p.0 ∙ a.1, joins_with_more n s join ts i added added l e d a.2 (pushed_once join added added (inr (refl, last)))))
+        pushed
 
-  -- if `first` has the joins of some old times, then `now` has the joins of what was added and the old times
-  abbrev pub AddsJoins : List T → List T → List T → Type 0
-  AddsJoins first added now = (old : List T) → SameMembers first (joins_of joined old) → SameMembers now (joins_of joined (added ++ old))
+    -- the end of that loop
+    pub appends_all : (now : List T) → length ts ≤ i → Appends before now (λ t. Member t (joins_with joined n (take i ts))) → Appends before now (λ t. Member t (joins_with joined n ts))
+    appends_all now l a = subst (λ rs. Appends before now (λ t. Member t (joins_with joined n rs))) (take_all i ts l) a
 
-  -- if `first` has the joins of some old times, then `now` has what was due before and what is fresh by what was added
-  abbrev pub AddsFresh : List T → List T → List T → List T → Type 0
-  AddsFresh first before added now =
-      (old : List T) → SameMembers first (joins_of joined old) → (t : T) → Member t now ↔ (Member t before ⊎ IsFresh joined added old t)
+-- ---- near times in two parts
 
-  -- at the beginning nothing is added
-  pub adds_none : (first : List T) → AddsJoins first [] first
-  adds_none first old same = same
+module _ {T : Type 0} where
+  -- both parts begin empty
+  pub none_before : (t : T) (within beyond : List T) (A : Type 0) → within ≡ [] → beyond ≡ [] → ((Member t within ⊎ Member t beyond) ⊎ A) ↔ A
+  none_before t within beyond A e d =
+      let none : Member t within ⊎ Member t beyond → ⊥ =
+      λ m. ⊎_elim (λ k. subst (Member t) e k) (λ k. subst (Member t) d k) m in
+      ((λ m. ⊎_elim (λ k. absurd (none k)) (λ a. a) m), (λ a. inr a))
 
-  -- at the beginning nothing is fresh
-  pub fresh_none : (first before : List T) → AddsFresh first before [] before
-  fresh_none first before old same t = ((λ m. inl m), (λ m. ⊎_elim (λ k. k) (λ f. absurd (none f)) m))
-    where
-      none : IsFresh joined [] old t → ⊥
-      none f = ⊎_elim (λ n. n) (λ r. r.2) f
+  -- a time was pushed to the part within the bounds
+  pub pushed_within : (t s : T) (within beyond now : List T) → PushedOnce t within now → (Member s now ⊎ Member s beyond) ↔ ((Member s within ⊎ Member s beyond) ⊎ (s ≡ t))
+  pushed_within t s within beyond now p =
+      through (in_each (pushed_once t within now p s) itself) (last_exchanged (Member s within) (s ≡ t) (Member s beyond))
+
+  -- a time was pushed to the part beyond the bounds
+  pub pushed_beyond : (t s : T) (within beyond now : List T) → PushedOnce t beyond now → (Member s within ⊎ Member s now) ↔ ((Member s within ⊎ Member s beyond) ⊎ (s ≡ t))
+  pushed_beyond t s within beyond now p =
+      through (in_each itself (pushed_once t beyond now p s)) (back (regrouped (Member s within) (Member s beyond) (s ≡ t)))
+
+  -- a time that was pushed there is at or after the bound
+  pub pushed_late : (late : T → Type 0) (t : T) (beyond now : List T) → PushedOnce t beyond now → late t → (s : T) → Member s now → Member s beyond ⊎ late s
+  pushed_late late t beyond now p l s m =
+      ⊎_elim (λ k. inl k) (λ e. inr (subst late (sym e) l)) ((pushed_once t beyond now p s).0 m)
+
+  -- a step of the loop that moves each near time
+  pub moved_more : (f : T → T) (near : List T) (i : ℕ) (s moved t : T) (A B C : Type 0) → i < length near → s ≡ get_or near i s → moved ≡ f s → (B ↔ (A ⊎ Member t (map f (take i near)))) → (C ↔ (B ⊎ (t ≡ moved))) → C ↔ (A ⊎ Member t (map f (take (i + 1) near)))
+  moved_more f near i s moved t A B C l e d so more =
+      let next : map f (take (i + 1) near) ≡ map f (take i near) ++ moved ∷ [] = ap (map f) (one_more near i s l e) ∙ (map-append f (take i near) (s ∷ []) ∙ ap (λ r. map f (take i near) ++ r ∷ []) (sym d)) in
+      subst (λ rs. C ↔ (A ⊎ Member t rs)) (sym next)
+      (through more (through (in_each so itself) (through (regrouped A (Member t (map f (take i near))) (t ≡ moved))
+      (in_each itself (back (pushed_members t moved (map f (take i near))))))))
+
+-- ---- all new times
 
 module _ {T : Type 0} {below : T → T → Bool} {joined met : T → T → T} (o : PartialOrderLaws below) (b : LatticeLaws below joined met) where
-  -- one time more is added; `copy` and `copied` are what the step reads of `kept` and `due`
-  module _ (first before xs : List T) (i : ℕ) (n : T) (inside : i < length xs) (at : n ≡ get_or xs i n) (kept copy : List T) (e : copy ≡ kept) (adds : AddsJoins joined first (take i xs) kept) where
-    -- the step reads the joins of all times so far
-    so_far : (old : List T) → SameMembers first (joins_of joined old) → SameMembers copy (joins_of joined (take i xs ++ old))
-    so_far old same = subst (λ ks. SameMembers ks (joins_of joined (take i xs ++ old))) (sym e) (adds old same)
+  -- a step of the loop that takes the bounds of a list
+  pub between_more : (first low high t low_now high_now : T) (ts : List T) (i : ℕ) → i < length ts → t ≡ get_or ts i t → low_now ≡ met low t → high_now ≡ joined high t → AreBetween below low high (first ∷ take i ts) → AreBetween below low_now high_now (first ∷ take (i + 1) ts)
+  between_more first low high t low_now high_now ts i l e d f between s m =
+      let so_far = first ∷ take i ts in
+      let more : first ∷ take (i + 1) ts ≡ so_far ++ t ∷ [] = ap (λ rs. first ∷ rs) (one_more ts i t l e) in
+      subst (λ r. (below r s ≡ true) × (below s high_now ≡ true)) (sym d)
+      (subst (λ r. (below (met low t) s ≡ true) × (below s r ≡ true)) (sym f)
+      (⊎_elim
+      (λ k. let was = between s k in (o.transitive _ _ _ (b.meet_left low t) was.0, o.transitive _ _ _ was.1 (b.join_left high t)))
+      (λ k. subst (λ r. (below (met low t) r ≡ true) × (below r (joined high t) ≡ true)) (sym k) (b.meet_right low t, b.join_right high t))
+      ((pushed_members s t so_far).0 (subst (Member s) more m))))
 
-    pub adds_more : (now : List T) → ((t : T) → Member t now ↔ (Member t copy ⊎ Member t (joins_with joined n copy))) → AddsJoins joined first (take (i + 1) xs) now
-    adds_more now more old same t =
-        let all = take i xs ++ old in
-        let so = so_far old same in
-        let last = same_append (n ∷ take i xs) (take i xs ++ n ∷ []) old (same_pushed n (take i xs)) in
-        subst (λ ys. Member t now ↔ Member t (joins_of joined (ys ++ old))) (sym (one_more xs i n inside at))
-        (through (more t)
-        (through (in_each (so t) (joins_with_same joined n copy (joins_of joined all) so t))
-        (through (back (joins_step joined n all t)) (joins_same o b (n ∷ all) ((take i xs ++ n ∷ []) ++ old) last t))))
+  -- one new time
+  pub appends_one : (new near before now : List T) (n : T) → new ≡ n ∷ [] → Appends before now (λ t. Member t (joins_with joined n near)) → Appends before now (IsFreshBy joined new near)
+  appends_one new near before now n e a =
+      (a.0, a.1, λ t. subst (λ ts. Member t a.0 ↔ IsFreshBy joined ts near t) (sym e) (through (a.2 t) (one_fresh o b n near t)))
 
-    pub fresh_adds : (due copied now : List T) → copied ≡ due → ((t : T) → Member t now ↔ (Member t copied ⊎ Member t (joins_with joined n copy))) → AddsFresh joined first before (take i xs) due → AddsFresh joined first before (take (i + 1) xs) now
-    fresh_adds due copied now d more fresh old same t =
-        let all = take i xs ++ old in
-        let was : Member t copied ↔ (Member t before ⊎ IsFresh joined (take i xs) old t) = subst (λ ds. Member t ds ↔ (Member t before ⊎ IsFresh joined (take i xs) old t)) (sym d) (fresh old same t) in
-        let last = fresh_same o b (n ∷ take i xs) (take i xs ++ n ∷ []) old old (same_pushed n (take i xs)) (λ s. itself) t in
-        subst (λ ys. Member t now ↔ (Member t before ⊎ IsFresh joined ys old t)) (sym (one_more xs i n inside at))
-        (through (more t)
-        (through (in_each was (joins_with_same joined n copy (joins_of joined all) (so_far old same) t))
-        (through (regrouped (Member t before) (IsFresh joined (take i xs) old t) (Member t (joins_with joined n (joins_of joined all))))
-        (in_each itself (through (back (fresh_more o b n (take i xs) old t)) last)))))
+  -- more new times, half by half
+  module _ (new near within beyond : List T) (low high n : T) (n_first : n ≡ get_or new 0 n) (some : 0 < length new) (between : AreBetween below low high new) (parts : (t : T) → (Member t within ⊎ Member t beyond) ↔ Member t (map (λ s. joined s low) near)) (late : (t : T) → Member t beyond → below high t ≡ true) where
+    pub appends_halves : (left right : List T) → left ++ right ≡ new → (before start middle now : List T) → start ≡ before ++ beyond → (first : Appends start middle (IsFreshBy joined left within)) → Appends middle now (IsFreshBy joined right (within ++ first.0)) → Appends before now (IsFreshBy joined new near)
+    appends_halves left right halves before start middle now e first second =
+        let added = first.0 in
+        let more = second.0 in
+        let whole : now ≡ before ++ (beyond ++ (added ++ more)) =
+        second.1 ∙ (ap (λ xs. xs ++ more) (first.1 ∙ ap (λ xs. xs ++ added) e) ∙ (append_assoc (before ++ beyond) added more ∙ append_assoc before beyond (added ++ more))) in
+        (beyond ++ (added ++ more), whole, λ t.
+        let by_halves : IsFreshBy joined new within t ↔ (IsFreshBy joined left within t ⊎ IsFreshBy joined right (within ++ added) t) =
+        subst (λ ts. IsFreshBy joined ts within t ↔ (IsFreshBy joined left within t ⊎ IsFreshBy joined right (within ++ added) t)) halves (fresh_halves o b left right within added first.2 t) in
+        through (append_members t beyond (added ++ more))
+        (through (in_each itself (through (append_members t added more) (in_each (first.2 t) (second.2 t))))
+        (through (in_each itself (back by_halves))
+        (back (fresh_parted o b near new within beyond low high between parts late n (member_at new 0 n some n_first) t)))))
 
-  -- at the end all are added, in whatever order they came
-  pub adds_all : (first xs new now : List T) (i : ℕ) → length xs ≤ i → SameMembers new xs → AddsJoins joined first (take i xs) now → AddsJoins joined first new now
-  adds_all first xs new now i l same adds old so t =
-      let all : AddsJoins joined first xs now = subst (λ ys. AddsJoins joined first ys now) (take_all i xs l) adds in
-      through (all old so t) (back (joins_same o b (new ++ old) (xs ++ old) (same_append new xs old same) t))
+    -- the same, as the code slices the lists: what was appended is read back from `middle`
+    pub appends_slices : (half n_start : ℕ) (before start middle now copy more : List T) → start ≡ before ++ beyond → n_start ≡ length start → copy ≡ within → Appends start middle (IsFreshBy joined (take half new) copy) → more ≡ within ++ take (length middle - n_start) (drop n_start middle) → Appends middle now (IsFreshBy joined (take (length new - half) (drop half new)) more) → Appends before now (IsFreshBy joined new near)
+    appends_slices half n_start before start middle now copy more e l d first f second =
+        let left = take half new in
+        let right = take (length new - half) (drop half new) in
+        let both : left ++ right ≡ new = ap (λ xs. left ++ xs) (take_rest new half) ∙ take-append-drop half new in
+        let first_in : Appends start middle (IsFreshBy joined left within) = subst (λ xs. Appends start middle (IsFreshBy joined left xs)) d first in
+        let near_right : more ≡ within ++ first_in.0 = f ∙ ap (λ xs. within ++ xs) (rest_appended start middle (IsFreshBy joined left within) first_in n_start l) in
+        appends_halves left right both before start middle now e first_in (subst (λ xs. Appends middle now (IsFreshBy joined right xs)) near_right second)
 
-  -- and what is fresh by them is due
-  pub fresh_all : (first before xs new now : List T) (i : ℕ) → length xs ≤ i → SameMembers new xs → AddsFresh joined first before (take i xs) now → AddsFresh joined first before new now
-  fresh_all first before xs new now i l same adds old so t =
-      let all : AddsFresh joined first before xs now = subst (λ ys. AddsFresh joined first before ys now) (take_all i xs l) adds in
-      through (all old so t) (in_each itself (back (fresh_same o b new xs old old same (λ s. itself) t)))
+  -- what was appended to an empty list are the fresh times
+  pub fresh_all : (times distinct new before fresh now : List T) → SameMembers new distinct → before ≡ [] → Appends before fresh (IsFreshBy joined distinct times) → SameMembers fresh now → (old : List T) → SameMembers times (joins_of joined old) → (t : T) → Member t now ↔ IsFresh joined new old t
+  fresh_all times distinct new before fresh now same e a once old so t =
+      let appended : fresh ≡ a.0 = a.1 ∙ ap (λ xs. xs ++ a.0) e in
+      let is : Member t fresh ↔ IsFreshBy joined distinct times t = subst (λ xs. Member t xs ↔ IsFreshBy joined distinct times t) (sym appended) (a.2 t) in
+      through (back (once t)) (through is (through (near_same joined distinct times (joins_of joined old) so t)
+      (back (fresh_same o b new distinct old old same (λ s. itself) t))))
+
+  -- so the joined times of all are the kept ones and the fresh ones
+  pub joins_all : (times new fresh now old : List T) → SameMembers times (joins_of joined old) → ((t : T) → Member t fresh ↔ IsFresh joined new old t) → ((t : T) → Member t now ↔ (Member t times ⊎ Member t fresh)) → SameMembers now (joins_of joined (new ++ old))
+  joins_all times new fresh now old so is merged t =
+      through (merged t) (through (in_each (so t) (is t)) (through (exchanged (Member t (joins_of joined old)) (IsFresh joined new old t)) (back (joins_append o b new old t))))

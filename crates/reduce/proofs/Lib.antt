@@ -11,6 +11,7 @@ pub mod DraftLemmas
 pub mod EvaluationLemmas
 pub mod ExtremeLemmas
 pub mod FinalLemmas
+pub mod FreshLemmas
 pub mod HeldLemmas
 pub mod HistoryLemmas
 pub mod JoinLemmas

@@ -1,19 +1,22 @@
-//! The joined times of a key, in two ascending lists: all of them, and the pending ones. A new time adds itself and its
-//! join with each time that is kept, and all of these are pending from then on.
+//! The joined times of a key, in two ascending lists: all of them, and the pending ones. New times add the joins that
+//! they take part in, among themselves and with the times that are kept. All of these are pending from then on.
 //!
-//! The invariant after each new time: the kept times are the joins of all times so far, and the pending ones are those
-//! that were pending before and the joins that a new time takes part in.
+//! The joins are found half by half. The joins of a list of new times are those of its first half, and those of its
+//! second half with the kept times and the joins of the first. In each half, near times stand for the kept ones: only
+//! the joins with them have to be right. So a near time may be moved to its join with the meet of all times of the half,
+//! which changes none of its joins. And if it is then at or after their join, it is itself all that it joins to, so it is
+//! written once and left behind. What goes on to smaller halves is only what lies between two bounds, and these are close
+//! to each other, because the new times are sorted. So few near times remain, and most pairs are never joined.
 //!
-//! A late time joins with many early ones to itself. So a join is not written if it is equal to the one written last.
-//! The list of new joins stays short, and no other list is sorted: the kept times are merged with it in one pass.
+//! The invariant: what is appended are exactly the joins of the new times read so far, and of these with near times.
 //!
 //! Each call makes new lists, so a call that is refused has changed nothing.
-ghost use Rattle.std.specs.Prelude.{◌≡◌, ◌↔◌, ◌⊎◌, ◌≤◌, ◌<◌, ◌+◌, ◌++◌, List, drop, length, IfOk, IfErr, OnOk};
+ghost use Rattle.std.specs.Prelude.{◌≡◌, ◌↔◌, ◌⊎◌, ◌≤◌, ◌<◌, ◌+◌, ◌++◌, List, [], ◌∷◌, drop, length, map, IsTrue, IfOk, IfErr, OnOk};
 ghost use Rattle.std.specs.List.Sorted.{IsStrictlySortedBy};
 ghost use Rattle.update.specs.Joins.{joins_of};
 ghost use Rattle.update.specs.declared.refusal.Refusal.{Refusal};
 ghost use Rattle.reduce.specs.Joined.{Member, IsFresh};
-ghost use Rattle.reduce.specs.Adding.{SameMembers, joins_with, IsMerging};
+ghost use Rattle.reduce.specs.Adding.{SameMembers, joins_with, IsLast, Appends, AreBetween, IsFreshBy, IsMerging};
 
 use lattice::Lattice;
 use std::alloc::Global;
@@ -34,6 +37,20 @@ struct MergeCursors {
     right: usize,
 }
 
+// Two bounds of some times: each of them is at or after `meet` and at or before `join`.
+#[derive(Clone, Copy)]
+struct Bounds<T> {
+    meet: T,
+    join: T,
+}
+
+// Near times, moved: those at or after an upper bound of the new times, and the others.
+#[derive(Drop)]
+struct Parted<T> {
+    within: Vec<T>,
+    beyond: Vec<T>,
+}
+
 // Sorts the times and drops duplicates.
 fn keep_once<T: Lattice>(times: &mut Vec<T>)
     ensures members { SameMembers times.old.items times.new.items }
@@ -45,8 +62,8 @@ fn keep_once<T: Lattice>(times: &mut Vec<T>)
 
 // Appends the time, unless it is the last one already.
 fn push_unless_last<T: Lattice>(times: &mut Vec<T>, t: T) -> Result<(), Refusal>
-    ensures members { OnOk result
-        ((s : T) → Member s times.new.items ↔ (Member s times.old.items ⊎ (s ≡ t))) }
+    ensures appended { OnOk result ((times.new.items ≡ times.old.items ++ t ∷ [])
+        ⊎ ((times.new.items ≡ times.old.items) × IsLast t times.old.items)) }
     ensures only { IfErr result (λ refused. refused ≡ Refusal.OutOfMemory) }
 {
     if let Some(last) = times.last()
@@ -58,20 +75,126 @@ fn push_unless_last<T: Lattice>(times: &mut Vec<T>, t: T) -> Result<(), Refusal>
     Ok(())
 }
 
-// The time and its join with each of these times, each once and in order.
-fn joins_with<T: Lattice>(alloc: Global, t: T, times: &[T]) -> Result<Vec<T>, Refusal>
-    ensures members { IfOk result
-        (λ joins. SameMembers joins.items (joins_with T.joined t times.now)) }
-    ensures ascending { IfOk result (λ joins. IsStrictlySortedBy T.cmp joins.items) }
+// Appends the time and its join with each near time.
+fn push_joins<T: Lattice>(fresh: &mut Vec<T>, t: T, near: &[T]) -> Result<(), Refusal>
+    ensures appended { OnOk result (Appends fresh.old.items fresh.new.items
+        (λ s. Member s (joins_with T.joined t near.now))) }
     ensures only { IfErr result (λ refused. refused ≡ Refusal.OutOfMemory) }
 {
-    let mut joins = Vec::new(alloc);
-    joins.push(t)?;
-    for s in times {
-        push_unless_last(&mut joins, s.join(t))?;
+    fresh.push(t)?;
+    for s in near {
+        push_unless_last(fresh, s.join(t))?;
     }
-    keep_once(&mut joins);
-    Ok(joins)
+    Ok(())
+}
+
+// The meet and the join of a list of times.
+fn bounds_of<T: Lattice>(first: T, rest: &[T]) -> Bounds<T>
+    ensures { AreBetween T.below result.meet result.join (first ∷ rest.now) }
+{
+    let mut bounds = Bounds {
+        meet: first,
+        join: first,
+    };
+    for t in rest {
+        bounds = Bounds {
+            meet: bounds.meet.meet(*t),
+            join: bounds.join.join(*t),
+        };
+    }
+    bounds
+}
+
+// Appends a time to `beyond` if it is at or after the upper bound, and otherwise to `within`.
+fn push_to_part<T: Lattice>(
+    within: &mut Vec<T>,
+    beyond: &mut Vec<T>,
+    t: T,
+    join: T,
+) -> Result<(), Refusal>
+    ensures members { OnOk result ((s : T)
+        → (Member s within.new.items ⊎ Member s beyond.new.items)
+        ↔ ((Member s within.old.items ⊎ Member s beyond.old.items) ⊎ (s ≡ t))) }
+    ensures beyond { OnOk result ((s : T) → Member s beyond.new.items
+        → Member s beyond.old.items ⊎ IsTrue (T.below join s)) }
+    ensures only { IfErr result (λ refused. refused ≡ Refusal.OutOfMemory) }
+{
+    if join.less_equal(&t) {
+        push_unless_last(beyond, t)?;
+        Ok(())
+    } else {
+        push_unless_last(within, t)?;
+        Ok(())
+    }
+}
+
+// Moves each near time to its join with the lower bound, and appends it to the part that it belongs to.
+fn push_parts<T: Lattice>(
+    within: &mut Vec<T>,
+    beyond: &mut Vec<T>,
+    near: &[T],
+    bounds: Bounds<T>,
+) -> Result<(), Refusal>
+    ensures members { OnOk result ((s : T)
+        → (Member s within.new.items ⊎ Member s beyond.new.items)
+        ↔ ((Member s within.old.items ⊎ Member s beyond.old.items)
+        ⊎ Member s (map (λ r. T.joined r bounds.meet) near.now))) }
+    ensures beyond { OnOk result ((s : T) → Member s beyond.new.items
+        → Member s beyond.old.items ⊎ IsTrue (T.below bounds.join s)) }
+    ensures only { IfErr result (λ refused. refused ≡ Refusal.OutOfMemory) }
+{
+    let Bounds { meet, join } = bounds;
+    for s in near {
+        push_to_part(within, beyond, s.join(meet), join)?;
+    }
+    Ok(())
+}
+
+// Moves each near time to its join with the lower bound, and parts those that are then at or after the upper bound from
+// the others. The others are each once and in order.
+fn parts_of<T: Lattice>(alloc: Global, near: &[T], bounds: Bounds<T>) -> Result<Parted<T>, Refusal>
+    ensures members { IfOk result (λ parted. (s : T)
+        → (Member s parted.within.items ⊎ Member s parted.beyond.items)
+        ↔ Member s (map (λ r. T.joined r bounds.meet) near.now)) }
+    ensures beyond { IfOk result (λ parted. (s : T) → Member s parted.beyond.items
+        → IsTrue (T.below bounds.join s)) }
+    ensures only { IfErr result (λ refused. refused ≡ Refusal.OutOfMemory) }
+{
+    let mut within = Vec::new(alloc);
+    let mut beyond = Vec::new(alloc);
+    push_parts(&mut within, &mut beyond, near, bounds)?;
+    keep_once(&mut within);
+    Ok(Parted { within, beyond })
+}
+
+// Appends the joins of the new times among themselves and with near times.
+fn push_fresh<T: Lattice>(
+    alloc: Global,
+    fresh: &mut Vec<T>,
+    near: &[T],
+    new: &[T],
+) -> Result<(), Refusal>
+    ensures appended { OnOk result
+        (Appends fresh.old.items fresh.new.items (IsFreshBy T.joined new.now near.now)) }
+    ensures only { IfErr result (λ refused. refused ≡ Refusal.OutOfMemory) }
+{
+    match new {
+        [] => Ok(()),
+        [t] => {
+            push_joins(fresh, *t, near)?;
+            Ok(())
+        }
+        [first, rest @ ..] => {
+            let mut parted = parts_of(alloc, near, bounds_of(*first, rest))?;
+            fresh.extend_from_slice(&parted.beyond)?;
+            let half = new.len() / 2;
+            let start = fresh.len();
+            push_fresh(alloc, fresh, &parted.within, &new[..half])?;
+            parted.within.extend_from_slice(&fresh[start..])?;
+            push_fresh(alloc, fresh, &parted.within, &new[half..])?;
+            Ok(())
+        }
+    }
 }
 
 // Appends the lesser of the two times at the cursors, or the one time that both are.
@@ -154,30 +277,6 @@ fn merged<T: Lattice>(alloc: Global, xs: &[T], ys: &[T]) -> Result<Vec<T>, Refus
     Ok(out)
 }
 
-// Adds one new time to the joined times of a key.
-fn with_time<T: Lattice>(
-    alloc: Global,
-    times: &[T],
-    due: &[T],
-    t: T,
-) -> Result<JoinedTimes<T>, Refusal>
-    requires times { IsStrictlySortedBy T.cmp times.now }
-    requires due { IsStrictlySortedBy T.cmp due.now }
-    ensures times { IfOk result (λ out. (s : T) → Member s out.times.items
-        ↔ (Member s times.now ⊎ Member s (joins_with T.joined t times.now))) }
-    ensures due { IfOk result (λ out. (s : T) → Member s out.due.items
-        ↔ (Member s due.now ⊎ Member s (joins_with T.joined t times.now))) }
-    ensures ordered_times { IfOk result (λ out. IsStrictlySortedBy T.cmp out.times.items) }
-    ensures ordered_due { IfOk result (λ out. IsStrictlySortedBy T.cmp out.due.items) }
-    ensures only { IfErr result (λ refused. refused ≡ Refusal.OutOfMemory) }
-{
-    let fresh = joins_with(alloc, t, times)?;
-    Ok(JoinedTimes {
-        times: merged(alloc, times, &fresh)?,
-        due: merged(alloc, due, &fresh)?,
-    })
-}
-
 /// Adds new times to the joined times of a key. If `times` are the joins of some old times, then the result has the
 /// joins of the old and new times, and the fresh ones among them become due. `new` may be in any order and have a time
 /// more than once.
@@ -206,12 +305,11 @@ pub(crate) fn with_times<T: Lattice>(
 {
     let mut distinct = Vec::from_slice(alloc, new)?;
     keep_once(&mut distinct);
-    let mut joined = JoinedTimes {
-        times: Vec::from_slice(alloc, times)?,
-        due: Vec::from_slice(alloc, due)?,
-    };
-    for t in &distinct {
-        joined = with_time(alloc, &joined.times, &joined.due, *t)?;
-    }
-    Ok(joined)
+    let mut fresh = Vec::new(alloc);
+    push_fresh(alloc, &mut fresh, times, &distinct)?;
+    keep_once(&mut fresh);
+    Ok(JoinedTimes {
+        times: merged(alloc, times, &fresh)?,
+        due: merged(alloc, due, &fresh)?,
+    })
 }

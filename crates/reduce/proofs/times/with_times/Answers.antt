@@ -1,51 +1,30 @@
-use Rattle.std.proofs.Common.{[], sym, subst, arith}
-use Rattle.std.specs.List.Sorted.{IsStrictlySortedBy}
+use Rattle.std.proofs.Common.{◌↔◌, List, subst, sym}
+use Rattle.update.specs.Joins.{joins_of}
+use Rattle.reduce.specs.Joined.{Member, IsFresh}
 use Rattle.reduce.specs.Adding.{SameMembers}
-use Rattle.reduce.proofs.AddingLemmas.{AddsJoins, AddsFresh, adds_none, fresh_none, adds_more, fresh_adds, adds_all, fresh_all}
+use Rattle.reduce.proofs.MemberLemmas.{through, in_each, itself}
+use Rattle.reduce.proofs.AddingLemmas.{fresh_all, joins_all}
 use Rattle.reduce.proofs.times.with_times.Given.{Over}
 use Rattle.reduce.proofs.times.with_times.Goals as goal
 
-pub loop-t-init : goal.loop-t-init
-loop-t-init g c =
-    let times = c.args.times.now in
-    let due = c.args.due.now in
-    let copied = sym c.in_ok-from_slice.ensures.items in
-    let copied_due = sym c.in_ok-from_slice-2.ensures.items in
-    record {
-      times = subst (AddsJoins g.T.Lattice.joined times []) copied (adds_none g.T.Lattice.joined times);
-      due = subst (AddsFresh g.T.Lattice.joined times due []) copied_due (fresh_none g.T.Lattice.joined times due);
-      ordered_times = subst (IsStrictlySortedBy g.T.Ord.cmp) copied c.requires.times;
-      ordered_due = subst (IsStrictlySortedBy g.T.Ord.cmp) copied_due c.requires.due;
-    }
-
-pub loop-t-preserved : goal.loop-t-preserved
-loop-t-preserved g c =
-    let times = c.args.times.now in
-    let due = c.args.due.now in
-    let order = g.met.T.PartialOrder.order in
-    let bounds = g.met.T.Lattice.bounds in
-    let items = c.deref-t-items.result.now in
-    let i = c.loop-t.t-index in
-    let t = c.t-item.result in
-    let kept = c.loop-t.joined.times.items in
-    let invariant = c.loop-t.invariant in
-    record {
-      times = adds_more order bounds times due items i t c.loop-t-test.true c.t-item.is kept c.deref.result.now c.deref.ensures.value invariant.times c.in_ok-joined.joined.times.items c.in_ok-joined.ensures.times;
-      due = fresh_adds order bounds times due items i t c.loop-t-test.true c.t-item.is kept c.deref.result.now c.deref.ensures.value invariant.times c.loop-t.joined.due.items c.deref-in-loop-t.result.now c.in_ok-joined.joined.due.items c.deref-in-loop-t.ensures.value c.in_ok-joined.ensures.due invariant.due;
-      ordered_times = c.in_ok-joined.ensures.ordered_times;
-      ordered_due = c.in_ok-joined.ensures.ordered_due;
-    }
-
--- the loop goes over the new times, each once
-same_new : (g : Over) (c : goal.After-drop-distinct-2 g) → SameMembers c.args.new.now c.deref-t-items.result.now
+-- the new times, each once, as they were passed
+same_new : (g : Over) (c : goal.After-drop-distinct-2 g) → SameMembers c.args.new.now c.deref.result.now
 same_new g c =
     let sorted : SameMembers c.args.new.now c.keep_once.new.times.items = subst (λ ts. SameMembers ts c.keep_once.new.times.items) c.in_ok-distinct.ensures.items c.keep_once.ensures.members in
-    subst (SameMembers c.args.new.now) (sym c.deref-t-items.ensures.value) sorted
+    subst (SameMembers c.args.new.now) (sym c.deref.ensures.value) sorted
+
+-- what was appended, each once, are the fresh times
+fresh : (g : Over) (c : goal.After-drop-distinct-2 g) (old : List _) → SameMembers c.args.times.now (joins_of g.T.Lattice.joined old) → (t : _) → Member t c.keep_once-2.new.times.items ↔ IsFresh g.T.Lattice.joined c.args.new.now old t
+fresh g c =
+    fresh_all g.met.T.PartialOrder.order g.met.T.Lattice.bounds c.args.times.now c.deref.result.now c.args.new.now c.new-fresh.result.items c.push_fresh.new.fresh.items c.keep_once-2.new.times.items
+    (same_new g c) c.new-fresh.ensures.items c.in_ok-push_fresh.ensures.appended c.keep_once-2.ensures.members
 
 pub returns-clause-times : goal.returns-clause-times
-returns-clause-times g c =
-    adds_all g.met.T.PartialOrder.order g.met.T.Lattice.bounds c.args.times.now c.deref-t-items.result.now c.args.new.now c.loop-t.joined.times.items c.loop-t.t-index (omega arith) (same_new g c) c.loop-t.invariant.times
+returns-clause-times g c old same =
+    let is : (t : _) → Member t c.deref-2.result.now ↔ IsFresh g.T.Lattice.joined c.args.new.now old t = subst (λ xs. (t : _) → Member t xs ↔ IsFresh g.T.Lattice.joined c.args.new.now old t) (sym c.deref-2.ensures.value) (fresh g c old same) in
+    joins_all g.met.T.PartialOrder.order g.met.T.Lattice.bounds c.args.times.now c.args.new.now c.deref-2.result.now c.in_ok-merged.field-0.items old same is c.in_ok-merged.ensures.members
 
 pub returns-clause-due : goal.returns-clause-due
-returns-clause-due g c =
-    fresh_all g.met.T.PartialOrder.order g.met.T.Lattice.bounds c.args.times.now c.args.due.now c.deref-t-items.result.now c.args.new.now c.loop-t.joined.due.items c.loop-t.t-index (omega arith) (same_new g c) c.loop-t.invariant.due
+returns-clause-due g c old same t =
+    let is : Member t c.deref-3.result.now ↔ IsFresh g.T.Lattice.joined c.args.new.now old t = subst (λ xs. Member t xs ↔ IsFresh g.T.Lattice.joined c.args.new.now old t) (sym c.deref-3.ensures.value) (fresh g c old same t) in
+    through (c.in_ok-merged-2.ensures.members t) (in_each itself is)
