@@ -65,7 +65,7 @@ module _ {T : Type 0} {below : T → T → Bool} {cmp : T → T → Ordering} (o
       had_ascend = rw hl p.had_ascend;
       rows_stand = on rows (on_the_way s.rows.near.items s.rows.later.items s.rows.entered) mid_rows (on_the_way s2.rows.near.items s2.rows.later.items s2.rows.entered) p.rows_stand a ra;
       had_stand = on given (on_the_way s.had.near.items s.had.later.items s.had.entered) mid_had (on_the_way s2.had.near.items s2.had.later.items s2.had.entered) p.had_stand b ha;
-      last = kept_fact (IsEvaluation below rows given) s2.last s.last kept p.last;
+      last = kept_fact (IsEvaluation below given) s2.last s.last kept p.last;
     };
     before = before;
     rows_in = ri;
@@ -115,18 +115,14 @@ module _ {T : Type 0} {below : T → T → Bool} {cmp : T → T → Ordering} (o
     had_here : Alike (as_of below time s.had.near.items) (as_of below time given)
     had_here row = ap (λ z. count_of z row) (d.had_in time (o.reflexive time)) ∙ p.had_stand.sums time (here_among s.last time rest) row
 
-    pub last_here : IfSome s.last (IsEvaluation below s.rows.near.items s.had.near.items)
-    last_here = step s.last d.before p.last p.rows_stand p.had_stand
+    pub last_here : IfSome s.last (IsEvaluation below s.had.near.items)
+    last_here = step s.last d.before p.last p.had_stand
       where
-        step : (l : Option (Evaluation T)) → IfSome l (λ e. IsTrue (below e.time time)) → IfSome l (IsEvaluation below rows given)
-            → StandsOn below (from_last l (time ∷ rest)) rows (on_the_way s.rows.near.items s.rows.later.items s.rows.entered)
+        step : (l : Option (Evaluation T)) → IfSome l (λ e. IsTrue (below e.time time)) → IfSome l (IsEvaluation below given)
             → StandsOn below (from_last l (time ∷ rest)) given (on_the_way s.had.near.items s.had.later.items s.had.entered)
-            → IfSome l (IsEvaluation below s.rows.near.items s.had.near.items)
-        step None b e x y = tt
-        step (Some e) b v x y = record {
-          rows_are = λ row. v.rows_are row ∙ sym (ap (λ z. count_of z row) (d.rows_in e.time b) ∙ x.sums e.time (inl refl) row);
-          answer_is = λ row. v.answer_is row ∙ sym (ap (λ z. count_of z row) (d.had_in e.time b) ∙ y.sums e.time (inl refl) row);
-        }
+            → IfSome l (IsEvaluation below s.had.near.items)
+        step None b e y = tt
+        step (Some e) b v y = λ row. v row ∙ sym (ap (λ z. count_of z row) (d.had_in e.time b) ∙ y.sums e.time (inl refl) row)
 
     module _ (content : List (Update T)) (is : rows ≡ filter (of_key k key) content) where
       -- the rows of the key that were taken sum at the time to those that came in
@@ -180,7 +176,7 @@ module _ {T : Type 0} {below : T → T → Bool} {cmp : T → T → Ordering} (o
           subst (λ z. 2 ^ 63 ≤ size z) (sym (own_kept k key given own_given)) (omega (arith, x, a, b, c, e))))
       too_much_too (inr (inr h)) = inr (inr (h.0, h.1, λ f. h.2 (subst (FitsSigned w64) (sym (ap (λ z. z +ℤ neg_ℤ (count_of (as_of below time s.had.near.items) h.0)) (wanted_same h.0) ∙ ap (λ z. count_of (reduce key (had below k key time content)) h.0 +ℤ neg_ℤ z) (had_here h.0))) f)))
 
-    pub passed : (new : List (Update T)) (e : Evaluation T) (s2 : Sweep T) → e.time ≡ time → IsEvaluation below s.rows.near.items (s.had.near.items ++ new) e
+    pub passed : (new : List (Update T)) (e : Evaluation T) (s2 : Sweep T) → e.time ≡ time → IsEvaluation below (s.had.near.items ++ new) e
         → s2.last ≡ Some e → s2.rows ≡ s.rows → s2.had.near.items ≡ s.had.near.items ++ new → s2.had.later ≡ s.had.later → s2.had.entered ≡ s.had.entered
         → IsSweep below cmp rest rows (given ++ new) s2
     passed new e s2 et v l r hn hl he = record {
@@ -188,13 +184,10 @@ module _ {T : Type 0} {below : T → T → Bool} {cmp : T → T → Ordering} (o
       had_ascend = rw hl p.had_ascend;
       rows_stand = rw (r, l) (fewer_times below (from_last s.last (time ∷ rest)) (e.time ∷ rest) rows _ times p.rows_stand);
       had_stand = rw (l, hn, hl, he) (stands_more below (e.time ∷ rest) given s.had.near.items (drop s.had.entered s.had.later.items) new (fewer_times below (from_last s.last (time ∷ rest)) (e.time ∷ rest) given _ times p.had_stand));
-      last = rw l (record {
-        rows_are = λ row. v.rows_are row ∙ at_time row;
-        answer_is = λ row.
-            v.answer_is row
-            ∙ (sum_at-append below e.time s.had.near.items new row
-            ∙ (ap (λ z. z +ℤ sum_at below e.time new row) (at_time_had row) ∙ sym (sum_at-append below e.time given new row)));
-      });
+      last = rw l (λ row.
+          v row
+          ∙ (sum_at-append below e.time s.had.near.items new row
+          ∙ (ap (λ z. z +ℤ sum_at below e.time new row) (at_time_had row) ∙ sym (sum_at-append below e.time given new row))));
     }
       where
         times : (t : T) → Member t (e.time ∷ rest) → Member t (from_last s.last (time ∷ rest))
@@ -204,9 +197,6 @@ module _ {T : Type 0} {below : T → T → Bool} {cmp : T → T → Ordering} (o
             behind : (l : Option (Evaluation T)) → Member t rest → Member t (from_last l (time ∷ rest))
             behind None m = inr m
             behind (Some f) m = inr (inr m)
-
-        at_time : Alike (as_of below e.time s.rows.near.items) (as_of below e.time rows)
-        at_time row = subst (λ z. count_of (as_of below z s.rows.near.items) row ≡ count_of (as_of below z rows) row) (sym et) (rows_here row)
 
         at_time_had : Alike (as_of below e.time s.had.near.items) (as_of below e.time given)
         at_time_had row = subst (λ z. count_of (as_of below z s.had.near.items) row ≡ count_of (as_of below z given) row) (sym et) (had_here row)

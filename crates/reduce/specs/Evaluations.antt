@@ -23,10 +23,14 @@ module _ {T : Type 0} (below : T → T → Bool) where
   abbrev pub between : T → T → List (Update T) → List (Update T)
   between after upto us = filter (λ u. below u.time upto && not (below u.time after)) us
 
-  -- at its time the rows of the evaluation are the sum of the key's updates, and its answer is the sum of what was given
-  pub record IsEvaluation (updates given : List (Update T)) (e : Evaluation T) : Type 0 where
-    pub rows_are : Alike e.rows (as_of below e.time updates)
-    pub answer_is : Alike e.answer (as_of below e.time given)
+  -- at its time the answer of the evaluation is the sum of what was given
+  abbrev pub IsEvaluation : List (Update T) → Evaluation T → Type 0
+  IsEvaluation given e = Alike e.answer (as_of below e.time given)
+
+  -- at the time this is what the reducer makes of the updates of a key's rows
+  abbrev pub IsAnswer : (List ℤ → List Entry → List Entry) → List ℤ → List (Update T) → T → List Entry → Type 0
+  IsAnswer reduce key rows t answer =
+      (entries : List Entry) → Alike (as_of below t rows) entries → Alike answer (reduce key entries)
 
   -- the draft has entries at the time, which add up to what is wanted less what was given up to it
   pub record IsDraft (t : T) (want : List Entry) (given draft : List (Update T)) : Type 0 where

@@ -21,7 +21,7 @@ module _ {T : Type 0} (below : T → T → Bool) (cmp : T → T → Ordering) wh
     pub had_ascend : Ascends cmp s.had.later.items
     pub rows_stand : StandsOn below (from_last s.last todo) rows (on_the_way s.rows.near.items s.rows.later.items s.rows.entered)
     pub had_stand : StandsOn below (from_last s.last todo) given (on_the_way s.had.near.items s.had.later.items s.had.entered)
-    pub last : IfSome s.last (IsEvaluation below rows given)
+    pub last : IfSome s.last (IsEvaluation below given)
 
   -- all that matters at the time has come in
   pub record IsLed (time : T) (todo : List T) (rows given : List (Update T)) (s : Sweep T) : Type 0 where

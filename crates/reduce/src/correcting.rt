@@ -2,18 +2,19 @@
 //! for the bag of the key's rows at the time. Both are put down at that one time, the second with the other sign, and
 //! consolidated once. So a total is refused only where the change itself is too large, and what stays the same leaves no
 //! update.
-ghost use Rattle.std.specs.Prelude.{◌≤◌, ◌≡◌, ◌≢◌, ◌++◌, IfOk, IfErr, IfSome, IsTrue, List, length, pos};
+ghost use Rattle.std.specs.Prelude.{◌≡◌, ◌≢◌, ◌++◌, IfOk, IfErr, IfSome, IsTrue, List, ℤ, length, pos};
 ghost use Rattle.std.specs.List.{AllByRecursion, list_all, filter};
+ghost use Rattle.update.specs.Bags.{Entry};
 ghost use Rattle.update.specs.Refusals.{IsMemoryOrOverflow};
 ghost use Rattle.update.specs.Updates.{HasLargeTotal};
 ghost use Rattle.update.specs.declared.change.Update.{Update};
+ghost use Rattle.plan.specs.Reductions.{has_key};
 ghost use Rattle.reduce.specs.Joined.{of_key};
 ghost use Rattle.reduce.specs.Corrections.{Corrects, IsTooMuch};
-ghost use Rattle.reduce.specs.Evaluations.{IsEvaluation};
+ghost use Rattle.reduce.specs.Evaluations.{IsAnswer, IsEvaluation};
 
-use crate::Reducer;
 use crate::draft::draft_of;
-use crate::evaluation::{Evaluation, evaluate};
+use crate::evaluation::Evaluation;
 use lattice::Lattice;
 use std::alloc::Global;
 use update::{Refusal, Update, consolidate};
@@ -25,46 +26,52 @@ pub(crate) struct Correction<T> {
     pub(crate) evaluation: Evaluation<T>,
 }
 
-/// What is to be given of a key at a time, if `rows` are the updates of its rows and what was given of it before is in
-/// two lists. `last` is what was evaluated at the time before, if there was one.
+/// What is to be given of a key at the time of an evaluation, if what was given of it before is in two lists. `last` is
+/// what was evaluated at the time before, if there was one. What the answer is, the clauses leave to the caller: they hold
+/// for each reducer and each list of rows of which it is the answer.
 ///
-/// Cost: each update of the three lists is compared with the time. Beside that what [`evaluate`] and [`draft_of`] take,
-/// and n log n in the length of the draft.
-pub(crate) fn correct<T: Lattice, R: Reducer>(
+/// Cost: that of [`draft_of`], and n log n in the length of the draft.
+pub(crate) fn correct<T: Lattice>(
     alloc: Global,
-    reducer: &R,
     key: &[i64],
-    time: T,
-    rows: &[Update<T>],
+    evaluation: Evaluation<T>,
     given: &[Update<T>],
     so_far: &[Update<T>],
     last: &Option<Evaluation<T>>,
 ) -> Result<Correction<T>, Refusal>
-    requires some { 1 ≤ length key.now }
-    requires few { length key.now ≤ 8 }
-    requires rows { IsTrue (list_all (of_key (length key.now) key.now) rows.now) }
+    requires keyed { IsTrue (list_all (has_key (length key.now) key.now) evaluation.answer) }
     requires given { IsTrue (list_all (of_key (length key.now) key.now) given.now) }
     requires so_far { IsTrue (list_all (of_key (length key.now) key.now) so_far.now) }
-    requires last { IfSome last.now
-        (IsEvaluation T.below rows.now (given.now ++ so_far.now)) }
-    ensures corrects { IfOk result (λ correction. (content : List (Update T))
-        → rows.now ≡ filter (of_key (length key.now) key.now) content
-        → Corrects T.below (length key.now) (R.reduces reducer.now) content
-        (given.now ++ so_far.now) key.now time correction.given.items) }
+    requires last { IfSome last.now (IsEvaluation T.below (given.now ++ so_far.now)) }
+    ensures corrects { IfOk result
+        (λ correction. (reduce : List ℤ → List Entry → List Entry) (content rows : List (Update T))
+        → rows ≡ filter (of_key (length key.now) key.now) content
+        → IsAnswer T.below reduce key.now rows evaluation.time evaluation.answer
+        → Corrects T.below (length key.now) reduce content (given.now ++ so_far.now) key.now
+        evaluation.time correction.given.items) }
     ensures exact { IfOk result
         (λ correction. HasLargeTotal T.below correction.given.items → ⊥) }
     ensures nonzero { IfOk result
         (λ correction. AllByRecursion (λ u. u.diff ≢ pos 0) correction.given.items) }
-    ensures evaluation { IfOk result (λ correction. IsEvaluation T.below rows.now
-        ((given.now ++ so_far.now) ++ correction.given.items) correction.evaluation) }
-    ensures time { IfOk result (λ correction. correction.evaluation.time ≡ time) }
-    ensures refused { IfErr result (IsMemoryOrOverflow ((content : List (Update T))
-        → rows.now ≡ filter (of_key (length key.now) key.now) content
-        → IsTooMuch T.below (length key.now) (R.reduces reducer.now) content
-        (given.now ++ so_far.now) key.now time)) }
+    ensures evaluation { IfOk result (λ correction.
+        IsEvaluation T.below ((given.now ++ so_far.now) ++ correction.given.items)
+        correction.evaluation) }
+    ensures time { IfOk result (λ correction. correction.evaluation.time ≡ evaluation.time) }
+    ensures refused { IfErr result (IsMemoryOrOverflow
+        ((reduce : List ℤ → List Entry → List Entry) (content rows : List (Update T))
+        → rows ≡ filter (of_key (length key.now) key.now) content
+        → IsAnswer T.below reduce key.now rows evaluation.time evaluation.answer
+        → IsTooMuch T.below (length key.now) reduce content (given.now ++ so_far.now) key.now
+        evaluation.time)) }
 {
-    let evaluation = evaluate(alloc, reducer, key, rows, time, last)?;
-    let draft = draft_of(alloc, time, &evaluation.answer, given, so_far, last)?;
+    let draft = draft_of(
+        alloc,
+        evaluation.time,
+        &evaluation.answer,
+        given,
+        so_far,
+        last,
+    )?;
     let given = consolidate(draft)?;
     Ok(Correction { given, evaluation })
 }

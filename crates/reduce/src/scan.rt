@@ -19,7 +19,7 @@ ghost use Rattle.reduce.specs.Evaluations.{IsEvaluation};
 ghost use Rattle.reduce.specs.Settling.{Steps, Settling, IsOverfullFor};
 
 use crate::correcting::{Correction, correct};
-use crate::evaluation::Evaluation;
+use crate::evaluation::{Evaluation, evaluate};
 use crate::settling::Settled;
 use crate::{KeyHistory, Reducer};
 use antichain::is_beyond;
@@ -52,9 +52,9 @@ fn scan_time<T: Lattice, R: Reducer>(
     requires settled { IsTrue (list_all (of_key (length history.now.key) history.now.key)
         scan.old.given.items) }
     requires last { IfSome scan.old.last
-        (IsEvaluation T.below rows.now (history.now.given ++ scan.old.given.items)) }
+        (IsEvaluation T.below (history.now.given ++ scan.old.given.items)) }
     ensures last { OnOk result (IfSome scan.new.last
-        (IsEvaluation T.below rows.now (history.now.given ++ scan.new.given.items))) }
+        (IsEvaluation T.below (history.now.given ++ scan.new.given.items))) }
     ensures steps { OnOk result ((content : List (Update T))
         → rows.now ≡ filter (of_key (length history.now.key) history.now.key) content
         → Steps T.below T.joined (length history.now.key) (R.reduces reducer.now) history.now.key
@@ -71,18 +71,10 @@ fn scan_time<T: Lattice, R: Reducer>(
         return Ok(());
     }
     let key = history.key().columns();
-    let given = scan.given.as_slice();
+    let evaluation = evaluate(alloc, reducer, key, rows, time)?;
+    let so_far = scan.given.as_slice();
     let last = &scan.last;
-    let correction = correct(
-        alloc,
-        reducer,
-        key,
-        time,
-        rows,
-        history.given(),
-        given,
-        last,
-    )?;
+    let correction = correct(alloc, key, evaluation, history.given(), so_far, last)?;
     let Correction {
         given: mut more,
         evaluation,

@@ -24,7 +24,7 @@ ghost use Rattle.reduce.specs.Evaluations.{IsEvaluation};
 ghost use Rattle.reduce.specs.Settling.{Steps, Settling, IsOverfullFor};
 
 use crate::correcting::{Correction, correct};
-use crate::evaluation::Evaluation;
+use crate::evaluation::{Evaluation, evaluate};
 use crate::replay::Replay;
 use crate::settling::Settled;
 use crate::{KeyHistory, Reducer};
@@ -107,8 +107,7 @@ fn correct_here<T: Lattice, R: Reducer>(
         (list_all (of_key (length key.now) key.now) sweep.now.rows.near.items) }
     requires had { IsTrue
         (list_all (of_key (length key.now) key.now) sweep.now.had.near.items) }
-    requires last { IfSome sweep.now.last
-        (IsEvaluation T.below sweep.now.rows.near.items sweep.now.had.near.items) }
+    requires last { IfSome sweep.now.last (IsEvaluation T.below sweep.now.had.near.items) }
     ensures corrects { IfOk result (λ correction.
         Corrects T.below (length key.now) (R.reduces reducer.now) sweep.now.rows.near.items
         sweep.now.had.near.items key.now time correction.given.items) }
@@ -117,24 +116,17 @@ fn correct_here<T: Lattice, R: Reducer>(
     ensures nonzero { IfOk result
         (λ correction. AllByRecursion (λ u. u.diff ≢ pos 0) correction.given.items) }
     ensures evaluation { IfOk result (λ correction.
-        IsEvaluation T.below sweep.now.rows.near.items
-        (sweep.now.had.near.items ++ correction.given.items) correction.evaluation) }
+        IsEvaluation T.below (sweep.now.had.near.items ++ correction.given.items)
+        correction.evaluation) }
     ensures time { IfOk result (λ correction. correction.evaluation.time ≡ time) }
     ensures refused { IfErr result (IsMemoryOrOverflow
         (IsTooMuch T.below (length key.now) (R.reduces reducer.now) sweep.now.rows.near.items
         sweep.now.had.near.items key.now time)) }
 {
+    let evaluation = evaluate(alloc, reducer, key, sweep.rows.near.as_slice(), time)?;
+    let had = sweep.had.near.as_slice();
     let none = Vec::new(alloc);
-    correct(
-        alloc,
-        reducer,
-        key,
-        time,
-        sweep.rows.near.as_slice(),
-        sweep.had.near.as_slice(),
-        none.as_slice(),
-        &sweep.last,
-    )
+    correct(alloc, key, evaluation, had, none.as_slice(), &sweep.last)
 }
 
 // One pending time, the first of those to do: it stays, or it is corrected.

@@ -1,29 +1,17 @@
-use Rattle.std.proofs.Common.{◌&&◌, FitsSigned, w64, ◌++◌, length, sym, refl, subst, inl, inr, ⊎_elim}
+use Rattle.std.proofs.Common.{◌&&◌, FitsSigned, w64, ◌++◌, length, sym, subst, inl, inr, ⊎_elim, refl}
 use Rattle.std.proofs.lemmas.Bool.{false≢true}
-use Rattle.update.specs.Bags.{Alike, same_row}
-use Rattle.update.specs.Updates.{as_of}
+use Rattle.update.specs.Bags.{same_row}
 use Rattle.reduce.proofs.ResultLemmas.{passed_on}
 use Rattle.reduce.proofs.KeyedLemmas.{own_kept, both_own}
-use Rattle.reduce.proofs.CorrectLemmas.{corrects, wanted_there, too_large, too_far}
+use Rattle.reduce.proofs.CorrectLemmas.{corrects, wanted_there, too_far}
 use Rattle.reduce.proofs.correcting.correct.Goals as goal
-
-pub returns-in_err-evaluation-clause-refused : goal.returns-in_err-evaluation-clause-refused
-returns-in_err-evaluation-clause-refused g c =
-    let key = c.args.key.now in
-    let given = c.args.given.now ++ c.args.so_far.now in
-    passed_on c.from_residual.result c.in_err-evaluation.field-0.0 _ c.from_residual.ensures.1
-    (⊎_elim inl (λ h. inr (
-      h.0,
-      λ content rows.
-          too_large g.met.T.PartialOrder.order (length key) key c.args.time (g.R.Reducer.reduces c.args.reducer.now) content given c.args.rows.now rows h.1,
-    )) c.in_err-evaluation.ensures.refused)
 
 pub returns-in_err-draft-clause-refused : goal.returns-in_err-draft-clause-refused
 returns-in_err-draft-clause-refused g c =
     let key = c.args.key.now in
     let given = c.args.given.now ++ c.args.so_far.now in
-    passed_on c.from_residual-in_err-draft.result c.in_err-draft.field-0.0 _ c.from_residual-in_err-draft.ensures.1
-    (⊎_elim inl (λ h. inr (h.0, λ content rows. inr (inl (rw (own_kept (length key) key given (both_own (length key) key c.args.given.now c.args.so_far.now c.requires.given c.requires.so_far)) h.1)))) c.in_err-draft.ensures.refused)
+    passed_on c.from_residual.result c.in_err-draft.field-0.0 _ c.from_residual.ensures.1
+    (⊎_elim inl (λ h. inr (h.0, λ reduce content rows own answer. inr (inl (rw (own_kept (length key) key given (both_own (length key) key c.args.given.now c.args.so_far.now c.requires.given c.requires.so_far)) h.1)))) c.in_err-draft.ensures.refused)
 
 pub returns-in_err-given-clause-refused : goal.returns-in_err-given-clause-refused
 returns-in_err-given-clause-refused g c =
@@ -34,20 +22,20 @@ returns-in_err-given-clause-refused g c =
     passed_on c.from_residual-in_err-given.result c.in_err-given.field-0.0 _ c.from_residual-in_err-given.ensures.1
     (inr (
       c.in_err-given.ensures.only,
-      λ content rows.
-          too_far g.met.T.PartialOrder.order k key c.args.time (g.R.Reducer.reduces c.args.reducer.now) content given c.args.rows.now c.in_ok-evaluation.evaluation.answer own c.in_ok-draft.draft.items c.in_ok-draft.ensures.draft
-          rows c.in_ok-evaluation.ensures.value c.in_ok-evaluation.ensures.keyed (c.in_err-given.ensures.overflow.0 refl),
+      λ reduce content rows is answer.
+          too_far g.met.T.PartialOrder.order k key c.args.evaluation.time reduce content given rows c.args.evaluation.answer own c.in_ok-draft.draft.items c.in_ok-draft.ensures.draft
+          is answer c.requires.keyed (c.in_err-given.ensures.overflow.0 refl),
     ))
 
 pub returns-clause-corrects : goal.returns-clause-corrects
-returns-clause-corrects g c content rows =
+returns-clause-corrects g c reduce content rows is answer =
     let key = c.args.key.now in
     let k = length key in
     let given = c.args.given.now ++ c.args.so_far.now in
     let own = both_own k key c.args.given.now c.args.so_far.now c.requires.given c.requires.so_far in
-    corrects g.met.T.PartialOrder.order k key c.args.time (g.R.Reducer.reduces c.args.reducer.now) content given c.args.rows.now c.in_ok-evaluation.evaluation.answer own c.in_ok-draft.draft.items c.in_ok-draft.ensures.draft
+    corrects g.met.T.PartialOrder.order k key c.args.evaluation.time reduce content given rows c.args.evaluation.answer own c.in_ok-draft.draft.items c.in_ok-draft.ensures.draft
     g.met.T.Ord.total c.in_ok-given.given.items c.in_ok-given.ensures.consolidated c.in_ok-given.ensures.among c.in_ok-given.ensures.sums
-    rows c.in_ok-evaluation.ensures.value c.in_ok-evaluation.ensures.keyed
+    is answer c.requires.keyed
 
 pub returns-clause-exact : goal.returns-clause-exact
 returns-clause-exact g c h =
@@ -59,10 +47,5 @@ returns-clause-evaluation g c =
     let k = length key in
     let given = c.args.given.now ++ c.args.so_far.now in
     let own = both_own k key c.args.given.now c.args.so_far.now c.requires.given c.requires.so_far in
-    let at = c.in_ok-evaluation.ensures.time in
-    record {
-      rows_are = subst (λ z. Alike c.in_ok-evaluation.evaluation.rows (as_of g.T.PartialOrder.below z c.args.rows.now)) (sym at) c.in_ok-evaluation.ensures.rows;
-      answer_is = subst (λ z. Alike c.in_ok-evaluation.evaluation.answer (as_of g.T.PartialOrder.below z (given ++ c.in_ok-given.given.items))) (sym at)
-          (wanted_there g.met.T.PartialOrder.order k key c.args.time (g.R.Reducer.reduces c.args.reducer.now) c.args.rows.now given c.args.rows.now c.in_ok-evaluation.evaluation.answer own c.in_ok-draft.draft.items c.in_ok-draft.ensures.draft
-          g.met.T.Ord.total c.in_ok-given.given.items c.in_ok-given.ensures.consolidated c.in_ok-given.ensures.among c.in_ok-given.ensures.sums);
-    }
+    wanted_there g.met.T.PartialOrder.order k key c.args.evaluation.time (λ _ entries. entries) given given given c.args.evaluation.answer own c.in_ok-draft.draft.items c.in_ok-draft.ensures.draft
+    g.met.T.Ord.total c.in_ok-given.given.items c.in_ok-given.ensures.consolidated c.in_ok-given.ensures.among c.in_ok-given.ensures.sums

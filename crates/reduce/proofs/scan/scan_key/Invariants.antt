@@ -12,4 +12,4 @@ invariant-loop-time g l =
     IsTrue (list_all (of_key (length l.history.key) l.history.key) l.scan.given.items)
     × ((content : List (Update g.row.T.Denot)) → l.rows ≡ filter (of_key (length l.history.key) l.history.key) content
     → Settling g.T.PartialOrder.below g.T.Lattice.joined (length l.history.key) (g.R.Reducer.reduces l.reducer) l.history.key content l.history.given l.frontier l.history.due l.time-index l.scan.given.items l.scan.due.items)
-    × IfSome l.scan.last (IsEvaluation g.T.PartialOrder.below l.rows (l.history.given ++ l.scan.given.items))
+    × IfSome l.scan.last (IsEvaluation g.T.PartialOrder.below (l.history.given ++ l.scan.given.items))
