@@ -6,10 +6,11 @@ use Rattle.reduce.proofs.MemberLemmas.{in_either}
 use Rattle.std.specs.List.{filter, list_all}
 use Rattle.std.proofs.lemmas.Bool.{true≢false, and_parts, and_from}
 use Rattle.lattice.specs.Order.{PartialOrderLaws, LatticeLaws, ExtendsLaws}
-use Rattle.update.specs.Bags.{Alike, count_of}
+use Rattle.update.specs.Bags.{Entry, Alike, count_of}
 use Rattle.update.specs.Updates.{as_of, entry, size}
 use Rattle.update.specs.declared.change.Update.{Update}
-use Rattle.reduce.specs.Replays.{Ascends, StandsEver, StandsFrom, StandsOn, moved_to}
+use Rattle.reduce.specs.Replays.{Ascends, Settles, StandsEver, StandsFrom, StandsOn, moved_to}
+use Rattle.plan.proofs.CountLemmas.{count_of-append}
 use Rattle.std.specs.List.Sorted.{IsPermutation}
 use Rattle.update.proofs.ConsolidatedLemmas.{moved_among, moved_size}
 use Rattle.update.proofs.ConsolidatedLemmas as moving
@@ -85,7 +86,7 @@ append_rows p (u ∷ us) vs a =
     let r = append_rows p us vs h.1 in
     (and_from (p u.row) (list_all (λ u. p u.row) us) h.0 r.0, r.1)
 
-rows_append : {T : Type 0} (p : List ℤ → Bool) (us vs : List (Update T)) → IsTrue (list_all (λ u. p u.row) us) → IsTrue (list_all (λ u. p u.row) vs) → IsTrue (list_all (λ u. p u.row) (us ++ vs))
+pub rows_append : {T : Type 0} (p : List ℤ → Bool) (us vs : List (Update T)) → IsTrue (list_all (λ u. p u.row) us) → IsTrue (list_all (λ u. p u.row) vs) → IsTrue (list_all (λ u. p u.row) (us ++ vs))
 rows_append p [] vs a b = b
 rows_append p (u ∷ us) vs a b =
     let h = and_parts (p u.row) (list_all (λ u. p u.row) us) a in
@@ -173,13 +174,6 @@ module _ {T : Type 0} {below : T → T → Bool} {cmp : T → T → Ordering} (o
       sym (as_of-append t near (drop i later) ∙ (ap (λ z. as_of below t near ++ z) none ∙ append-nil (as_of below t near)))
 
 module _ {T : Type 0} (below : T → T → Bool) where
-  pub stands_on : (m first : T) (times : List T) → IsTrue (below m first) → ((t : T) → Member t times → IsTrue (below m t)) → (us vs : List (Update T)) → StandsFrom below m us vs → StandsOn below (first ∷ times) us vs
-  stands_on m first times f e us vs s = record {
-    sums = λ t i row. s.sums t (⊎_elim (λ d. subst (λ z. IsTrue (below m z)) (sym d) f) (e t) i) row;
-    smaller = s.smaller;
-    among = s.among;
-  }
-
   pub fewer_times : (ts ss : List T) (us vs : List (Update T)) → ((t : T) → Member t ss → Member t ts) → StandsOn below ts us vs → StandsOn below ss us vs
   fewer_times ts ss us vs h s = record { sums = λ t i row. s.sums t (h t i) row; smaller = s.smaller; among = s.among }
 
@@ -219,18 +213,6 @@ module _ {T : Type 0} (below : T → T → Bool) where
     where
       turned : (all front rest near more longer us short : ℤ) → all ≡ front +ℤ rest → front ≡ near +ℤ more → longer ≡ us +ℤ more → short ≡ near +ℤ rest → short ≡ us → all ≡ longer
       turned all front rest near more longer us short a b c d e = omega (arith, ints, a, b, c, d, e)
-
-module _ {T : Type 0} {below : T → T → Bool} {joined met : T → T → T} (o : PartialOrderLaws below) (l : LatticeLaws below joined met) where
-  pub met_more : (first meet t : T) (times : List T) (i : ℕ) → i < length times → t ≡ get_or times i t
-      → IsTrue (below meet first) × ((s : T) → Member s (take i times) → IsTrue (below meet s))
-      → IsTrue (below (met meet t) first) × ((s : T) → Member s (take (i + 1) times) → IsTrue (below (met meet t) s))
-  met_more first meet t times i lt e h = (
-    o.transitive (met meet t) meet first (l.meet_left meet t) h.0,
-    λ s m. ⊎_elim
-        (λ x. o.transitive (met meet t) meet s (l.meet_left meet t) (h.1 s x))
-        (λ x. ⊎_elim (λ d. subst (λ z. IsTrue (below (met meet t) z)) (sym d) (l.meet_right meet t)) (λ y. absurd y) x)
-        (in_either s (take i times) (t ∷ []) (subst (Member s) (take_more times i t lt ∙ ap (λ y. take i times ++ (y ∷ [])) (sym e)) m)),
-  )
 
 module _ {T : Type 0} (below : T → T → Bool) where
   pub ever_none : (us vs : List (Update T)) → us ≡ [] → vs ≡ [] → StandsEver below us vs
@@ -291,6 +273,65 @@ module _ {T : Type 0} (below : T → T → Bool) where
         omega (arith, a, b, c, d, e, f, g, h);
     among = λ p a. let r = append_rows p near later (s.among p a) in rows_append p near sorted r.0 (moved_among later sorted q (λ x t. p x) r.1);
   }
+
+-- ---- a base beside a list
+
+-- a base, and two lists behind one another
+pub base_sum : {T : Type 0} (below : T → T → Bool) (t : T) (base : List Entry) (near rest : List (Update T)) (row : List ℤ)
+    → count_of (base ++ as_of below t (near ++ rest)) row ≡ count_of (base ++ as_of below t near) row +ℤ sum_at below t rest row
+base_sum below t base near rest row =
+    let a = count_of-append base (as_of below t (near ++ rest)) row in
+    let b = count_of-append base (as_of below t near) row in
+    let c = sum_at-append below t near rest row in
+    add (count_of (base ++ as_of below t (near ++ rest)) row) (count_of base row) (sum_at below t (near ++ rest) row) (count_of (base ++ as_of below t near) row) (sum_at below t near row) (sum_at below t rest row) a b c
+  where
+    add : (whole base both front near rest : ℤ) → whole ≡ base +ℤ both → front ≡ base +ℤ near → both ≡ near +ℤ rest → whole ≡ front +ℤ rest
+    add whole base both front near rest a b c = omega (arith, ints, a, b, c)
+
+-- a base, and two lists that sum to the same
+pub base_same : {T : Type 0} (below : T → T → Bool) (t : T) (base : List Entry) (us vs : List (Update T)) (row : List ℤ)
+    → sum_at below t us row ≡ sum_at below t vs row → count_of (base ++ as_of below t us) row ≡ count_of (base ++ as_of below t vs) row
+base_same below t base us vs row e =
+    count_of-append base (as_of below t us) row ∙ (ap (λ z. count_of base row +ℤ z) e ∙ sym (count_of-append base (as_of below t vs) row))
+
+module _ {T : Type 0} (below : T → T → Bool) (m : T) where
+  -- nothing has settled
+  pub settles_none : (base : List Entry) (us : List (Update T)) → Settles below m base us base us
+  settles_none base us = record { sums = λ t h row. refl; among = λ p a b. (a, b) }
+
+  -- more settles
+  pub settles_more : (base base2 base3 : List Entry) (us us2 us3 : List (Update T)) (u : Update T)
+      → Settles below m base us base2 us2 → Settles below m base2 (us2 ++ u ∷ []) base3 us3 → Settles below m base (us ++ u ∷ []) base3 us3
+  settles_more base base2 base3 us us2 us3 u a b = record {
+    sums = λ t h row.
+        b.sums t h row
+        ∙ (base_sum below t base2 us2 (u ∷ []) row
+        ∙ (ap (λ z. z +ℤ sum_at below t (u ∷ []) row) (a.sums t h row) ∙ sym (base_sum below t base us (u ∷ []) row)));
+    among = λ p x y.
+        let q = append_rows p us (u ∷ []) y in
+        let r = a.among p x q.0 in
+        b.among p r.0 (rows_append p us2 (u ∷ []) r.1 q.1);
+  }
+
+  -- one update settles: it is at or before m, and its count is added to the base
+  pub settles_one : PartialOrderLaws below → (base base2 : List Entry) (us : List (Update T)) (u : Update T) → below u.time m ≡ true
+      → Alike base2 (base ++ entry u ∷ []) → ((p : List ℤ → Bool) → IsTrue (list_all (λ e. p e.row) base) → IsTrue (list_all (λ e. p e.row) base2))
+      → Settles below m base (us ++ u ∷ []) base2 us
+  settles_one o base base2 us u early added among = record {
+    sums = λ t h row.
+        let here : as_of below t (u ∷ []) ≡ entry u ∷ [] = rw (o.transitive u.time m t early h) refl in
+        let a = count_of-append base2 (as_of below t us) row in
+        let b = added row in
+        let c = count_of-append base (entry u ∷ []) row in
+        let d = base_sum below t base us (u ∷ []) row in
+        let e = count_of-append base (as_of below t us) row in
+        let f : sum_at below t (u ∷ []) row ≡ count_of (entry u ∷ []) row = ap (λ z. count_of z row) here in
+        add (count_of (base2 ++ as_of below t us) row) (count_of base2 row) (sum_at below t us row) (count_of (base ++ entry u ∷ []) row) (count_of base row) (count_of (entry u ∷ []) row) (count_of (base ++ as_of below t (us ++ u ∷ [])) row) (count_of (base ++ as_of below t us) row) (sum_at below t (u ∷ []) row) a b c d e f;
+    among = λ p x y. (among p x, (append_rows p us (u ∷ []) y).0);
+  }
+    where
+      add : (left base2 us more base one right front last : ℤ) → left ≡ base2 +ℤ us → base2 ≡ more → more ≡ base +ℤ one → right ≡ front +ℤ last → front ≡ base +ℤ us → last ≡ one → left ≡ right
+      add left base2 us more base one right front last a b c d e f = omega (arith, ints, a, b, c, d, e, f)
 
 pub more_taken : {X : Type 0} (xs : List X) (i : ℕ) (x : X) → i < length xs → x ≡ get_or xs i x → take i xs ++ x ∷ [] ≡ take (i + 1) xs
 more_taken xs i x h e = sym (take_more xs i x h ∙ ap (λ y. take i xs ++ (y ∷ [])) (sym e))

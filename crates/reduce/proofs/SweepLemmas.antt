@@ -1,29 +1,76 @@
--- A key on the way through its times: one time after the other.
-use Rattle.std.proofs.Common.{◌≡◌, ℕ, zero, suc, add-one, length, ◌-◌, ◌+◌, cond, false, ◌≤◌, ◌^◌, Bool, true, List, [], ◌∷◌, ◌++◌, take, drop, sym, refl, ap, ◌∙◌, subst, arith, inl, inr, ◌⊎◌, w64}
+-- A sweep over the times of a key: one time after the other.
+use Rattle.std.proofs.Common.{◌≡◌, ◌≢◌, ℕ, zero, suc, add-one, drop-cons, nat_eq, true, false, ⊎_elim, length, get_or, ◌-◌, ◌+◌, ◌<◌, ◌≤◌, ◌^◌, Bool, List, [], ◌∷◌, ◌++◌, take, drop, sym, refl, ap, ◌∙◌, subst, arith, inl, inr, ◌⊎◌, w64, append_assoc}
 use Rattle.std.specs.Prelude.{IsTrue, IfSome, Option, Some, None, FitsSigned}
 use Rattle.std.specs.List.{filter, list_all}
 use Rattle.std.specs.declared.cmp.Ordering.{Ordering}
-use Rattle.std.proofs.lemmas.Bool.{and_from}
-use Rattle.std.proofs.Math.IntN.{ℤ, ◌+ℤ◌, neg_ℤ}
+use Rattle.std.proofs.Math.IntN.{ℤ, ◌+ℤ◌, neg_ℤ, pos}
+use Rattle.std.proofs.lemmas.Int.{ints}
+use Rattle.std.proofs.lemmas.List.{length-drop}
 use Rattle.lattice.specs.Order.{PartialOrderLaws}
 use Rattle.update.specs.Bags.{Alike, Entry, count_of, same_row}
 use Rattle.update.specs.Updates.{as_of, size}
 use Rattle.update.specs.declared.change.Update.{Update}
-use Rattle.plan.specs.Reductions.{IsReducer}
+use Rattle.plan.specs.Reductions.{has_key}
+use Rattle.plan.proofs.CountLemmas.{count_of-append}
 use Rattle.reduce.specs.declared.evaluation.Evaluation.{Evaluation}
 use Rattle.reduce.specs.declared.sweep.Sweep.{Sweep}
 use Rattle.reduce.specs.Joined.{Member, of_key}
-use Rattle.reduce.specs.Corrections.{Corrects, IsTooMuch, had}
+use Rattle.reduce.specs.Corrections.{Corrects, IsTooMuch}
 use Rattle.reduce.specs.Evaluations.{IsEvaluation}
-use Rattle.reduce.specs.Replays.{Ascends, StandsEver, StandsOn, on_the_way}
-use Rattle.reduce.specs.Sweeps.{IsLed, IsSweep, from_last}
+use Rattle.reduce.specs.Replays.{Ascends, Settles, StandsEver, StandsFrom, StandsOn, on_the_way}
+use Rattle.reduce.specs.Sweeps.{IsLed, IsSweep, StandsWith, from_last}
 use Rattle.reduce.proofs.JoinedLemmas.{sum_at, sum_at-append}
 use Rattle.reduce.proofs.KeyedLemmas.{own_kept}
-use Rattle.reduce.proofs.EvaluationLemmas.{part_small}
-use Rattle.reduce.proofs.CorrectionLemmas.{as_of-keyed, had-alike, weight_is, weight-append}
-use Rattle.std.proofs.lemmas.List.{length-drop}
+use Rattle.reduce.proofs.CorrectionLemmas.{weight_is, weight-append}
 use Rattle.reduce.proofs.SettleLemmas.{take_whole}
-use Rattle.reduce.proofs.ReplayLemmas.{append_rows, fewer_times, stands_then, stands_more}
+use Rattle.reduce.proofs.ReplayLemmas.{append_rows, base_same, base_sum, rows_append, fewer_times, stands_then, stands_more}
+
+-- ---- meets
+
+some : {X : Type 0} (xs : List X) (n : ℕ) (s : X) → Member s (drop n xs) → n < length xs
+some [] zero s m = absurd m
+some [] (suc n) s m = absurd m
+some (x ∷ xs) zero s m = omega arith
+some (x ∷ xs) (suc n) s m = let h = some xs n s m in omega (arith, h)
+
+module _ {T : Type 0} {below : T → T → Bool} (o : PartialOrderLaws below) where
+  -- one more time, from behind, is moved to its meet with the next one
+  pub meets_more : (times meets meets2 : List T) (i : ℕ) → i < length times → length meets ≡ length times
+      → ((j : ℕ) (s d : T) → i + 1 ≤ j → j < length times → Member s (drop j times) → IsTrue (below (get_or meets j d) s))
+      → ((d : T) → get_or meets i d ≡ get_or times i d)
+      → ((j : ℕ) (d : T) → j ≢ i → get_or meets2 j d ≡ get_or meets j d)
+      → ((d : T) → IsTrue (below (get_or meets2 i d) (get_or meets i d)))
+      → ((d : T) → i + 1 < length meets → IsTrue (below (get_or meets2 i d) (get_or meets (i + 1) d)))
+      → (j : ℕ) (s d : T) → i ≤ j → j < length times → Member s (drop j times) → IsTrue (below (get_or meets2 j d) s)
+  meets_more times meets meets2 i lt many before same others here next j s d le l m =
+      ⊎_elim (λ e. at_i e) (λ more. rw (others j d (λ e. absurd (omega (arith, e, more)))) (before j s d (omega (arith, more)) l m)) (split i j le)
+    where
+      split : (i j : ℕ) → i ≤ j → (j ≡ i) ⊎ (i + 1 ≤ j)
+      split zero zero le = inl refl
+      split zero (suc j) le = inr (omega arith)
+      split (suc i) zero le = absurd (omega (arith, le))
+      split (suc i) (suc j) le = ⊎_elim (λ e. inl (ap suc e)) (λ h. inr (omega (arith, h))) (split i j (omega (arith, le)))
+
+      at_i : j ≡ i → IsTrue (below (get_or meets2 j d) s)
+      at_i e = subst (λ n. IsTrue (below (get_or meets2 n d) s)) (sym e) (first (subst (λ n. Member s (drop n times)) e m))
+        where
+          first : Member s (drop i times) → IsTrue (below (get_or meets2 i d) s)
+          first m =
+              ⊎_elim
+              (λ x. subst (λ z. IsTrue (below (get_or meets2 i d) z)) (same d ∙ sym x) (here d))
+              (λ y. o.transitive (get_or meets2 i d) (get_or meets (i + 1) d) s
+                  (next d (rw many (some times (i + 1) s y)))
+                  (before (i + 1) s d (omega arith) (some times (i + 1) s y) y))
+              (subst (Member s) (drop-cons times i d lt ∙ ap (λ n. get_or times i d ∷ drop n times) (sym (add-one i))) m)
+
+-- ---- what stands with a base
+
+module _ {T : Type 0} (below : T → T → Bool) where
+  fewer_with : (ts ss : List T) (us vs : List (Update T)) (base : List Entry) → ((t : T) → Member t ss → Member t ts) → StandsWith below ts us base vs → StandsWith below ss us base vs
+  fewer_with ts ss us vs base h s = record { sums = λ t i. s.sums t (h t i); among = s.among }
+
+  from_on : (m : T) (ts : List T) (us vs : List (Update T)) → ((t : T) → Member t ts → IsTrue (below m t)) → StandsFrom below m us vs → StandsOn below ts us vs
+  from_on m ts us vs h s = record { sums = λ t i. s.sums t (h t i); smaller = s.smaller; among = s.among }
 
 module _ {T : Type 0} where
   kept_times : (last2 last : Option (Evaluation T)) → ((last2 ≡ None) ⊎ (last2 ≡ last)) → (todo : List T) (t : T) → Member t (from_last last2 todo) → Member t (from_last last todo)
@@ -38,54 +85,88 @@ module _ {T : Type 0} where
   kept_fact P last2 last (inl e) h = subst (λ z. IfSome z P) (sym e) tt
   kept_fact P last2 last (inr e) h = subst (λ z. IfSome z P) (sym e) h
 
-  led_times : (last2 : Option (Evaluation T)) (first : T) → IfSome last2 (λ e. first ≡ e.time) → (todo : List T) (t : T) → Member t (from_last last2 todo) → Member t (first ∷ todo)
-  led_times None first h todo t m = inr m
-  led_times (Some e) first h todo t (inl d) = inl (d ∙ sym h)
-  led_times (Some e) first h todo t (inr m) = inr m
-
   here_among : (last : Option (Evaluation T)) (time : T) (rest : List T) → Member time (from_last last (time ∷ rest))
   here_among None time rest = inl refl
   here_among (Some e) time rest = inr (inl refl)
 
+module _ {T : Type 0} {below : T → T → Bool} (o : PartialOrderLaws below) where
+  times_below : (last2 : Option (Evaluation T)) (meet behind : T) (todo : List T) → ((t : T) → Member t todo → IsTrue (below meet t))
+      → IsTrue (below behind meet) → IfSome last2 (λ e. IsTrue (below behind e.time)) → (t : T) → Member t (from_last last2 todo) → IsTrue (below behind t)
+  times_below None meet behind todo low b h t m = o.transitive behind meet t b (low t m)
+  times_below (Some e) meet behind todo low b h t (inl d) = subst (λ z. IsTrue (below behind z)) (sym d) h
+  times_below (Some e) meet behind todo low b h t (inr m) = o.transitive behind meet t b (low t m)
+
 module _ {T : Type 0} {below : T → T → Bool} {cmp : T → T → Ordering} (o : PartialOrderLaws below) where
-  pub led : (time first : T) (todo : List T) (rows given mid_rows mid_had : List (Update T)) (s s2 : Sweep T)
+  -- both replays have been led up to a time, and what all times to come see was added to the base
+  pub led : (time meet behind : T) (todo : List T) (rows given near later mid_rows mid_had : List (Update T)) (entered : ℕ) (s s2 : Sweep T)
       → IsSweep below cmp todo rows given s
-      → ((s2.last ≡ None) ⊎ (s2.last ≡ s.last)) → IfSome s2.last (λ e. IsTrue (below e.time time)) → IfSome s2.last (λ e. first ≡ e.time)
-      → StandsOn below (first ∷ todo) (on_the_way s.rows.near.items s.rows.later.items s.rows.entered) mid_rows
-      → StandsOn below (first ∷ todo) (on_the_way s.had.near.items s.had.later.items s.had.entered) mid_had
-      → on_the_way s2.rows.near.items s2.rows.later.items s2.rows.entered ≡ mid_rows
+      → Member time todo → ((t : T) → Member t todo → IsTrue (below meet t))
+      → ((s2.last ≡ None) ⊎ (s2.last ≡ s.last)) → IfSome s2.last (λ e. IsTrue (below e.time time))
+      → IsTrue (below behind meet) → IfSome s2.last (λ e. IsTrue (below behind e.time))
+      → StandsFrom below meet (on_the_way s.rows.near.items s.rows.later.items s.rows.entered) mid_rows
+      → StandsFrom below behind (on_the_way s.had.near.items s.had.later.items s.had.entered) mid_had
+      → on_the_way near later entered ≡ mid_rows
       → on_the_way s2.had.near.items s2.had.later.items s2.had.entered ≡ mid_had
-      → s2.rows.later ≡ s.rows.later → s2.had.later ≡ s.had.later
-      → ((t : T) → IsTrue (below t time) → as_of below t s2.rows.near.items ≡ as_of below t (on_the_way s2.rows.near.items s2.rows.later.items s2.rows.entered))
+      → Settles below meet s.base near s2.base s2.rows.near.items
+      → later ≡ s.rows.later.items → s2.rows.later.items ≡ later → s2.rows.entered ≡ entered
+      → s2.had.later.items ≡ s.had.later.items
+      → ((t : T) → IsTrue (below t time) → as_of below t near ≡ as_of below t (on_the_way near later entered))
       → ((t : T) → IsTrue (below t time) → as_of below t s2.had.near.items ≡ as_of below t (on_the_way s2.had.near.items s2.had.later.items s2.had.entered))
       → IsLed below cmp time todo rows given s2
-  led time first todo rows given mid_rows mid_had s s2 p kept before f a b ra ha rl hl ri hi = record {
+  led time meet behind todo rows given near later mid_rows mid_had entered s s2 p here low kept before bm bl a b r ha moved l1 l2 en hl ri hi = record {
     sweeps = record {
-      rows_ascend = rw rl p.rows_ascend;
+      rows_ascend = rw (l2, l1) p.rows_ascend;
       had_ascend = rw hl p.had_ascend;
-      rows_stand = on rows (on_the_way s.rows.near.items s.rows.later.items s.rows.entered) mid_rows (on_the_way s2.rows.near.items s2.rows.later.items s2.rows.entered) p.rows_stand a ra;
-      had_stand = on given (on_the_way s.had.near.items s.had.later.items s.had.entered) mid_had (on_the_way s2.had.near.items s2.had.later.items s2.had.entered) p.had_stand b ha;
+      rows_stand = rw (l2, en) (record { sums = λ t i row. whole t i row; among = λ q h. passes q h });
+      had_stand =
+          subst (StandsOn below (from_last s2.last todo) given) (sym ha)
+          (stands_then below (from_last s2.last todo) given had mid_had
+          (fewer_times below (from_last s.last todo) (from_last s2.last todo) given had (kept_times s2.last s.last kept todo) p.had_stand)
+          (from_on below behind (from_last s2.last todo) had mid_had (times_below o s2.last meet behind todo low bm bl) b));
       last = kept_fact (IsEvaluation below given) s2.last s.last kept p.last;
     };
     before = before;
-    rows_in = ri;
+    rows_in = λ row.
+        moved.sums time (low time here) row
+        ∙ (base_same below time s.base near (on_the_way near later entered) row (ap (λ z. count_of z row) (ri time (o.reflexive time)))
+        ∙ first time here row);
     had_in = hi;
   }
     where
-      on : (us vs mid ws : List (Update T)) → StandsOn below (from_last s.last todo) us vs → StandsOn below (first ∷ todo) vs mid → ws ≡ mid → StandsOn below (from_last s2.last todo) us ws
-      on us vs mid ws x y e =
-          subst (StandsOn below (from_last s2.last todo) us) (sym e)
-          (stands_then below (from_last s2.last todo) us vs mid
-          (fewer_times below (from_last s.last todo) (from_last s2.last todo) us vs (kept_times s2.last s.last kept todo) x)
-          (fewer_times below (first ∷ todo) (from_last s2.last todo) vs mid (led_times s2.last first f todo) y))
+      way : List (Update T)
+      way = on_the_way s.rows.near.items s.rows.later.items s.rows.entered
+
+      had : List (Update T)
+      had = on_the_way s.had.near.items s.had.later.items s.had.entered
+
+      rest : List (Update T)
+      rest = drop entered later
+
+      first : (t : T) → Member t todo → (row : List ℤ) → count_of (s.base ++ as_of below t (on_the_way near later entered)) row ≡ count_of (as_of below t rows) row
+      first t i row =
+          ap (λ z. count_of (s.base ++ as_of below t z) row) r
+          ∙ (base_same below t s.base mid_rows way row (a.sums t (low t i) row) ∙ p.rows_stand.sums t i row)
+
+      whole : (t : T) → Member t todo → (row : List ℤ) → count_of (s2.base ++ as_of below t (s2.rows.near.items ++ rest)) row ≡ count_of (as_of below t rows) row
+      whole t i row =
+          base_sum below t s2.base s2.rows.near.items rest row
+          ∙ (ap (λ z. z +ℤ sum_at below t rest row) (moved.sums t (low t i) row)
+          ∙ (sym (base_sum below t s.base near rest row) ∙ first t i row))
+
+      passes : (q : List ℤ → Bool) → IsTrue (list_all (λ u. q u.row) rows) → IsTrue (list_all (λ e. q e.row) s2.base) × IsTrue (list_all (λ u. q u.row) (s2.rows.near.items ++ rest))
+      passes q h =
+          let x = p.rows_stand.among q h in
+          let y = append_rows q near rest (subst (λ z. IsTrue (list_all (λ u. q u.row) z)) (sym r) (a.among q x.1)) in
+          let z = moved.among q x.0 y.0 in
+          (z.0, rows_append q s2.rows.near.items rest z.1 y.1)
 
   -- a time that stays
-  pub skipped : (time : T) (rest : List T) (rows given : List (Update T)) (s s2 : Sweep T) → IsSweep below cmp (time ∷ rest) rows given s → s2.last ≡ None → s2.rows ≡ s.rows → s2.had ≡ s.had
+  pub skipped : (time : T) (rest : List T) (rows given : List (Update T)) (s s2 : Sweep T) → IsSweep below cmp (time ∷ rest) rows given s → s2.last ≡ None → s2.base ≡ s.base → s2.rows ≡ s.rows → s2.had ≡ s.had
       → IsSweep below cmp rest rows given s2
-  skipped time rest rows given s s2 p l r h = record {
+  skipped time rest rows given s s2 p l b r h = record {
     rows_ascend = rw r p.rows_ascend;
     had_ascend = rw h p.had_ascend;
-    rows_stand = rw (r, l) (fewer_times below (from_last s.last (time ∷ rest)) rest rows _ (λ t m. less s.last t m) p.rows_stand);
+    rows_stand = rw (r, b) (fewer_with below (time ∷ rest) rest rows _ s.base (λ t m. inr m) p.rows_stand);
     had_stand = rw (h, l) (fewer_times below (from_last s.last (time ∷ rest)) rest given _ (λ t m. less s.last t m) p.had_stand);
     last = rw l tt;
   }
@@ -94,23 +175,20 @@ module _ {T : Type 0} {below : T → T → Bool} {cmp : T → T → Ordering} (o
       less None t m = inr m
       less (Some e) t m = inr (inr m)
 
-  module _ (k : ℕ) (reduce : List ℤ → List Entry → List Entry) (q : IsReducer k reduce) (key : List ℤ) (time : T) (rest : List T) (rows given : List (Update T)) (s : Sweep T)
+  module _ (k : ℕ) (reduce : List ℤ → List Entry → List Entry) (key : List ℤ) (time : T) (rest : List T) (rows given : List (Update T)) (s : Sweep T)
       (d : IsLed below cmp time (time ∷ rest) rows given s)
       (own_rows : IsTrue (list_all (of_key k key) rows)) (own_given : IsTrue (list_all (of_key k key) given)) where
-    near : List (Update T)
-    near = s.rows.near.items
-
     abbrev p : IsSweep below cmp (time ∷ rest) rows given s
     p = d.sweeps
 
+    pub base_own : IsTrue (list_all (has_key k key) s.base)
+    base_own = (p.rows_stand.among (λ r. same_row (take k r) key) own_rows).0
+
     pub near_own : IsTrue (list_all (of_key k key) s.rows.near.items)
-    near_own = (append_rows (λ r. same_row (take k r) key) s.rows.near.items (drop s.rows.entered s.rows.later.items) (p.rows_stand.among (λ r. same_row (take k r) key) own_rows)).0
+    near_own = (append_rows (λ r. same_row (take k r) key) s.rows.near.items (drop s.rows.entered s.rows.later.items) (p.rows_stand.among (λ r. same_row (take k r) key) own_rows).1).0
 
     pub had_own : IsTrue (list_all (of_key k key) s.had.near.items)
     had_own = (append_rows (λ r. same_row (take k r) key) s.had.near.items (drop s.had.entered s.had.later.items) (p.had_stand.among (λ r. same_row (take k r) key) own_given)).0
-
-    rows_here : Alike (as_of below time s.rows.near.items) (as_of below time rows)
-    rows_here row = ap (λ z. count_of z row) (d.rows_in time (o.reflexive time)) ∙ p.rows_stand.sums time (here_among s.last time rest) row
 
     had_here : Alike (as_of below time s.had.near.items) (as_of below time given)
     had_here row = ap (λ z. count_of z row) (d.had_in time (o.reflexive time)) ∙ p.had_stand.sums time (here_among s.last time rest) row
@@ -124,49 +202,21 @@ module _ {T : Type 0} {below : T → T → Bool} {cmp : T → T → Ordering} (o
         step None b e y = tt
         step (Some e) b v y = λ row. v row ∙ sym (ap (λ z. count_of z row) (d.had_in e.time b) ∙ y.sums e.time (inl refl) row)
 
-    module _ (content : List (Update T)) (is : rows ≡ filter (of_key k key) content) where
-      -- the rows of the key that were taken sum at the time to those that came in
-      near_taken : (taken : List (Update T)) → Alike (as_of below time content) (as_of below time taken) → Alike (as_of below time s.rows.near.items) (as_of below time (filter (of_key k key) taken))
-      near_taken taken a row =
-          rows_here row
-          ∙ (ap (λ z. count_of z row) (ap (as_of below time) is ∙ as_of-keyed below k key time content)
-          ∙ (had-alike below k key time content taken a row ∙ sym (ap (λ z. count_of z row) (as_of-keyed below k key time taken))))
-
-      own_taken : (taken : List (Update T)) → filter (of_key k key) (filter (of_key k key) taken) ≡ filter (of_key k key) taken
-      own_taken taken = own_kept k key (filter (of_key k key) taken) (passes taken)
-        where
-          passes : (us : List (Update T)) → IsTrue (list_all (of_key k key) (filter (of_key k key) us))
-          passes [] = refl
-          passes (u ∷ us) = step (of_key k key u) refl (passes us)
-            where
-              step : (b : Bool) → of_key k key u ≡ b → IsTrue (list_all (of_key k key) (filter (of_key k key) us)) → IsTrue (list_all (of_key k key) (cond b (u ∷ filter (of_key k key) us) (filter (of_key k key) us)))
-              step true e h = and_from (of_key k key u) (list_all (of_key k key) (filter (of_key k key) us)) e h
-              step false e h = h
-
-      same_had : (taken : List (Update T)) → had below k key time (filter (of_key k key) taken) ≡ had below k key time taken
-      same_had taken = sym (as_of-keyed below k key time (filter (of_key k key) taken)) ∙ (ap (as_of below time) (own_taken taken) ∙ as_of-keyed below k key time taken)
-
-      pub corrects_too : (new : List (Update T)) → Corrects below k reduce s.rows.near.items s.had.near.items key time new → Corrects below k reduce content given key time new
+    module _ (content : List (Update T)) where
+      -- what corrects what has come in of what was given corrects all of it
+      pub corrects_too : (new : List (Update T)) → Corrects below k reduce content s.had.near.items key time new → Corrects below k reduce content given key time new
       corrects_too new c = record {
         at = c.at;
         apart = c.apart;
         right = λ taken a row n.
             sum_at-append below time given new row
             ∙ (ap (λ z. z +ℤ sum_at below time new row) (sym (had_here row))
-            ∙ (sym (sum_at-append below time s.had.near.items new row)
-            ∙ (c.right (filter (of_key k key) taken) (near_taken taken a) row n ∙ ap (λ z. count_of (reduce key z) row) (same_had taken))));
+            ∙ (sym (sum_at-append below time s.had.near.items new row) ∙ c.right taken a row n));
       }
 
-      same : Alike (had below k key time s.rows.near.items) (had below k key time content)
-      same r =
-          let a : had below k key time s.rows.near.items ≡ as_of below time s.rows.near.items = sym (as_of-keyed below k key time s.rows.near.items) ∙ ap (as_of below time) (own_kept k key s.rows.near.items near_own) in
-          ap (λ z. count_of z r) a ∙ (rows_here r ∙ ap (λ z. count_of z r) (ap (as_of below time) is ∙ as_of-keyed below k key time content))
-
-      wanted_same : (row : List ℤ) → count_of (reduce key (had below k key time s.rows.near.items)) row ≡ count_of (reduce key (had below k key time content)) row
-      wanted_same row = q.alike key (had below k key time s.rows.near.items) (had below k key time content) same row
-
-      pub too_much_too : IsTooMuch below k reduce s.rows.near.items s.had.near.items key time → IsTooMuch below k reduce content given key time
-      too_much_too (inl h) = inl (λ taken a. let x = h (filter (of_key k key) taken) (near_taken taken a) in let y = part_small (of_key k key) taken in omega (arith, x, y))
+      -- and what is too much of it is too much
+      pub too_much_too : IsTooMuch below k reduce content s.had.near.items key time → IsTooMuch below k reduce content given key time
+      too_much_too (inl h) = inl h
       too_much_too (inr (inl h)) = inr (inl (
           let x = p.had_stand.smaller in
           let a = weight-append s.had.near.items (drop s.had.entered s.had.later.items) in
@@ -174,15 +224,16 @@ module _ {T : Type 0} {below : T → T → Bool} {cmp : T → T → Ordering} (o
           let c = weight_is s.had.near.items in
           let e : 2 ^ 63 ≤ size s.had.near.items = subst (λ z. 2 ^ 63 ≤ size z) (own_kept k key s.had.near.items had_own) h in
           subst (λ z. 2 ^ 63 ≤ size z) (sym (own_kept k key given own_given)) (omega (arith, x, a, b, c, e))))
-      too_much_too (inr (inr h)) = inr (inr (h.0, h.1, λ f. h.2 (subst (FitsSigned w64) (sym (ap (λ z. z +ℤ neg_ℤ (count_of (as_of below time s.had.near.items) h.0)) (wanted_same h.0) ∙ ap (λ z. count_of (reduce key (had below k key time content)) h.0 +ℤ neg_ℤ z) (had_here h.0))) f)))
+      too_much_too (inr (inr h)) = inr (inr (h.0, h.1, λ f. h.2 (subst (λ z. FitsSigned w64 (count_of (reduce key (filter (has_key k key) (as_of below time content))) h.0 +ℤ neg_ℤ z)) (sym (had_here h.0)) f)))
 
+    -- the time was corrected
     pub passed : (new : List (Update T)) (e : Evaluation T) (s2 : Sweep T) → e.time ≡ time → IsEvaluation below (s.had.near.items ++ new) e
-        → s2.last ≡ Some e → s2.rows ≡ s.rows → s2.had.near.items ≡ s.had.near.items ++ new → s2.had.later ≡ s.had.later → s2.had.entered ≡ s.had.entered
+        → s2.last ≡ Some e → s2.base ≡ s.base → s2.rows ≡ s.rows → s2.had.near.items ≡ s.had.near.items ++ new → s2.had.later ≡ s.had.later → s2.had.entered ≡ s.had.entered
         → IsSweep below cmp rest rows (given ++ new) s2
-    passed new e s2 et v l r hn hl he = record {
+    passed new e s2 et v l b r hn hl he = record {
       rows_ascend = rw r p.rows_ascend;
       had_ascend = rw hl p.had_ascend;
-      rows_stand = rw (r, l) (fewer_times below (from_last s.last (time ∷ rest)) (e.time ∷ rest) rows _ times p.rows_stand);
+      rows_stand = rw (r, b) (fewer_with below (time ∷ rest) rest rows _ s.base (λ t m. inr m) p.rows_stand);
       had_stand = rw (l, hn, hl, he) (stands_more below (e.time ∷ rest) given s.had.near.items (drop s.had.entered s.had.later.items) new (fewer_times below (from_last s.last (time ∷ rest)) (e.time ∷ rest) given _ times p.had_stand));
       last = rw l (λ row.
           v row
@@ -201,19 +252,28 @@ module _ {T : Type 0} {below : T → T → Bool} {cmp : T → T → Ordering} (o
         at_time_had : Alike (as_of below e.time s.had.near.items) (as_of below e.time given)
         at_time_had row = subst (λ z. count_of (as_of below z s.had.near.items) row ≡ count_of (as_of below z given) row) (sym et) (had_here row)
 
-  -- at the outset
+  -- at the outset no time sees anything
   pub begun : (todo : List T) (rows given : List (Update T)) (s : Sweep T) → s.last ≡ None
+      → Alike s.base [] → ((p : List ℤ → Bool) → IsTrue (list_all (λ u. p u.row) rows) → IsTrue (list_all (λ e. p e.row) s.base))
       → Ascends cmp s.rows.later.items → Ascends cmp s.had.later.items
       → StandsEver below rows (on_the_way s.rows.near.items s.rows.later.items s.rows.entered)
       → StandsEver below given (on_the_way s.had.near.items s.had.later.items s.had.entered)
       → IsSweep below cmp todo rows given s
-  begun todo rows given s l ra ha r h = record {
+  begun todo rows given s l none among ra ha r h = record {
     rows_ascend = ra;
     had_ascend = ha;
-    rows_stand = rw l (record { sums = λ t i. r.sums t; smaller = r.smaller; among = r.among });
+    rows_stand = record {
+      sums = λ t i row.
+          let a = count_of-append s.base (as_of below t (on_the_way s.rows.near.items s.rows.later.items s.rows.entered)) row in
+          a ∙ (ap (λ z. z +ℤ sum_at below t (on_the_way s.rows.near.items s.rows.later.items s.rows.entered) row) (none row) ∙ (zero_more (sum_at below t (on_the_way s.rows.near.items s.rows.later.items s.rows.entered) row) ∙ r.sums t row));
+      among = λ p a. (among p a, r.among p a);
+    };
     had_stand = rw l (record { sums = λ t i. h.sums t; smaller = h.smaller; among = h.among });
     last = rw l tt;
   }
+    where
+      zero_more : (x : ℤ) → pos 0 +ℤ x ≡ x
+      zero_more x = omega (arith, ints)
 
 drop_suc : {X : Type 0} (xs : List X) (i : ℕ) → drop 1 (drop i xs) ≡ drop (suc i) xs
 drop_suc xs zero = refl

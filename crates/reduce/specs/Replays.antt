@@ -4,7 +4,7 @@ use Rattle.std.specs.List.{list_all}
 use Rattle.std.specs.List.Sorted.{IsSortedBy}
 use Rattle.std.specs.Ordering.{is_lt}
 use Rattle.std.specs.declared.cmp.Ordering.{Ordering}
-use Rattle.update.specs.Bags.{Alike}
+use Rattle.update.specs.Bags.{Alike, Entry}
 use Rattle.update.specs.Updates.{as_of, size, by_time_then_row}
 use Rattle.reduce.specs.Joined.{Member}
 use Rattle.update.specs.declared.change.Update.{Update}
@@ -34,6 +34,13 @@ module _ {T : Type 0} (below : T → T → Bool) where
     pub sums : (t : T) → Alike (as_of below t vs) (as_of below t us)
     pub smaller : size vs ≤ size us
     pub among : (p : List ℤ → Bool) → IsTrue (list_all (λ u. p u.row) us) → IsTrue (list_all (λ u. p u.row) vs)
+
+module _ {T : Type 0} (below : T → T → Bool) where
+  -- some updates went from a list into a base that all times from `m` on see
+  pub record Settles (m : T) (base : List Entry) (us : List (Update T)) (base2 : List Entry) (us2 : List (Update T)) : Type 0 where
+    pub sums : (t : T) → IsTrue (below m t) → Alike (base2 ++ as_of below t us2) (base ++ as_of below t us)
+    pub among : (p : List ℤ → Bool) → IsTrue (list_all (λ e. p e.row) base) → IsTrue (list_all (λ u. p u.row) us)
+        → IsTrue (list_all (λ e. p e.row) base2) × IsTrue (list_all (λ u. p u.row) us2)
 
 module _ {T : Type 0} where
   -- all updates on the way: those that came in, and those that come in later

@@ -7,22 +7,35 @@
 //!
 //! The invariant: what has come in, with what comes in later, sums at each time to come to what the whole list sums to
 //! (`StandsOn` in `specs/Replays.antt`).
-ghost use Rattle.std.specs.Prelude.{◌≡◌, ◌⊎◌, ◌≤◌, ◌<◌, ◌+◌, ◌++◌, ◌∷◌, [], List, ℤ, Bool, IsTrue, IfOk, IfErr, OnOk, IsSomeAnd, drop, length, slice_get, false};
+ghost use Rattle.std.specs.Prelude.{◌≡◌, ◌⊎◌, ◌≤◌, ◌<◌, ◌+◌, ◌++◌, ◌∷◌, [], List, ℤ, Bool, true, IsTrue, IfOk, IfErr, OnOk, IsSomeAnd, drop, length, slice_get, false};
 ghost use Rattle.std.specs.List.{list_all};
 ghost use Rattle.update.specs.Bags.{Alike};
-ghost use Rattle.update.specs.Updates.{as_of, size};
+ghost use Rattle.update.specs.Updates.{as_of, entry, size};
 ghost use Rattle.update.specs.declared.change.Update.{Update};
 ghost use Rattle.update.specs.declared.refusal.Refusal.{Refusal};
 ghost use Rattle.std.specs.declared.cmp.Ordering.{Ordering};
-ghost use Rattle.reduce.specs.Replays.{Ascends, StandsEver, StandsFrom, StandsOn, moved_to, on_the_way};
-ghost use Rattle.reduce.specs.Joined.{Member};
+ghost use Rattle.reduce.specs.Replays.{Ascends, Settles, StandsEver, StandsFrom, moved_to, on_the_way};
 
-use crate::visiting::push_copies;
+use crate::tally::Tally;
 use lattice::Lattice;
 use std::alloc::Global;
 use std::cmp::Ordering;
 use std::mem;
 use update::{Refusal, Update, consolidate};
+
+// Appends copies of updates.
+fn append_copies<T: Lattice>(
+    list: &mut Vec<Update<T>>,
+    more: &[Update<T>],
+) -> Result<(), Refusal>
+    ensures pushed { OnOk result (list.new.items ≡ list.old.items ++ more.now) }
+    ensures only { IfErr result (λ refused. refused ≡ Refusal.OutOfMemory) }
+{
+    for update in more {
+        list.push(update.copy())?;
+    }
+    Ok(())
+}
 
 // Copies of updates, each at the join of its time with `meet`.
 fn moved<T: Lattice>(
@@ -63,24 +76,23 @@ pub(crate) fn nearer<T: Lattice>(
     }
 }
 
-// The meet of a time with all of these.
-fn meet_all<T: Lattice>(first: T, times: &[T]) -> T
-    ensures first { IsTrue (T.below result first) }
-    ensures each { (t : T) → Member t times.now → IsTrue (T.below result t) }
-{
-    let mut meet = first;
-    for time in times {
-        meet = meet.meet(*time);
-    }
-    meet
-}
-
 // How many updates more than twice those that were left by the last move may come in before the next one.
 const SLACK: usize = 8;
 
 // How many updates may have come in before they are moved, if so many are left now.
 fn limit_after(left: usize) -> usize {
     left.saturating_mul(2).saturating_add(SLACK)
+}
+
+// Adds an update to a tally if it is at or before a time, and if its count fits.
+fn add_early<T: Lattice>(base: &mut Tally, update: &Update<T>, meet: T) -> bool
+    ensures early { IsTrue result → T.below update.now.time meet ≡ true }
+    ensures added { IsTrue result → Alike base.new (base.old ++ entry update.now ∷ []) }
+    ensures among { (p : List ℤ → Bool) → IsTrue (list_all (λ e. p e.row) base.old)
+        → IsTrue (list_all (λ e. p e.row) base.new) }
+    ensures kept { result ≡ false → base.new ≡ base.old }
+{
+    update.time.less_equal(&meet) && base.add(&update.row, update.diff)
 }
 
 /// The updates of a key on the way through its times.
@@ -188,12 +200,12 @@ impl<T: Lattice> Replay<T> {
         Ok(())
     }
 
-    /// Moves those that have come in to the meet of these times, if they are more than twice as many as the last move left.
+    /// Moves those that have come in to a time that is at or before all times to come, if they are more than twice as many
+    /// as the last move left.
     ///
-    /// Cost: a move finds the meet of all of these times, and costs as [`nearer`]. All moves of one way together cost
-    /// n log n in the number of updates that come in, and a pass over the times for each doubling.
-    pub(crate) fn advance(&mut self, alloc: Global, first: T, times: &[T]) -> Result<(), Refusal>
-        ensures stands { OnOk result (StandsOn T.below (first ∷ times.now)
+    /// Cost: that of [`nearer`]. All moves of one way together cost n log n in the number of updates that come in.
+    pub(crate) fn advance(&mut self, alloc: Global, meet: T) -> Result<(), Refusal>
+        ensures stands { OnOk result (StandsFrom T.below meet
             (on_the_way self.old.near.items self.old.later.items self.old.entered)
             (on_the_way self.new.near.items self.new.later.items self.new.entered)) }
         ensures later { self.new.later ≡ self.old.later }
@@ -202,10 +214,62 @@ impl<T: Lattice> Replay<T> {
         if self.near.len() <= self.limit {
             return Ok(());
         }
-        let meet = meet_all(first, times);
         let near = mem::replace(&mut self.near, Vec::new(alloc));
         self.near = nearer(alloc, near, meet)?;
         self.limit = limit_after(self.near.len());
+        Ok(())
+    }
+
+    // Whether one that has come in is at or before a time.
+    fn has_settled(&self, meet: T) -> bool {
+        for update in &self.near {
+            if update.time.less_equal(&meet) {
+                return true;
+            }
+        }
+        false
+    }
+
+    // Adds an update to a tally if it is at or before `meet`, and else puts it with those that have come in.
+    fn settle(&mut self, update: Update<T>, base: &mut Tally, meet: T) -> Result<(), Refusal>
+        ensures settles { OnOk result (Settles T.below meet base.old
+            (self.old.near.items ++ update ∷ []) base.new self.new.near.items) }
+        ensures later { self.new.later ≡ self.old.later }
+        ensures entered { self.new.entered ≡ self.old.entered }
+        ensures only { IfErr result (λ refused. refused ≡ Refusal.OutOfMemory) }
+    {
+        if add_early(base, &update, meet) {
+            return Ok(());
+        }
+        self.near.push(update)?;
+        Ok(())
+    }
+
+    /// Adds those that have come in to a tally, if they are at or before `meet`, a time that is at or before all times to
+    /// come: each of these times sees them. One that would make a count too large stays as it is, since others may take
+    /// from the count again.
+    ///
+    /// Cost: a look at each of those that have come in; if some are added, a binary search in the tally for each of these,
+    /// and a move of the others.
+    pub(crate) fn settle_into(
+        &mut self,
+        alloc: Global,
+        base: &mut Tally,
+        meet: T,
+    ) -> Result<(), Refusal>
+        ensures settles { OnOk result (Settles T.below meet base.old self.old.near.items
+            base.new self.new.near.items) }
+        ensures later { self.new.later ≡ self.old.later }
+        ensures entered { OnOk result (self.new.entered ≡ self.old.entered) }
+        ensures only { IfErr result (λ refused. refused ≡ Refusal.OutOfMemory) }
+    {
+        if !self.has_settled(meet) {
+            return Ok(());
+        }
+        let near = mem::replace(&mut self.near, Vec::new(alloc));
+        for update in near {
+            self.settle(update, base, meet)?;
+        }
         Ok(())
     }
 
@@ -216,6 +280,6 @@ impl<T: Lattice> Replay<T> {
         ensures entered { self.new.entered ≡ self.old.entered }
         ensures only { IfErr result (λ refused. refused ≡ Refusal.OutOfMemory) }
     {
-        push_copies(&mut self.near, more)
+        append_copies(&mut self.near, more)
     }
 }

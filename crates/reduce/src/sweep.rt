@@ -8,7 +8,7 @@
 //! if its time is at or before the next one; its time is then one of those that updates may not be moved past.
 //!
 //! Nothing of the key's history is changed here. What is given is gathered aside.
-ghost use Rattle.std.specs.Prelude.{◌≡◌, ◌≢◌, ◌⊎◌, ◌≤◌, ◌++◌, ◌∷◌, drop, None, false, IfOk, IfErr, IfSome, OnOk, IsTrue, List, length, pos};
+ghost use Rattle.std.specs.Prelude.{ℕ, ◌<◌, ◌+◌, get_or, ◌≡◌, ◌≢◌, ◌⊎◌, ◌≤◌, ◌++◌, ◌∷◌, drop, None, false, IfOk, IfErr, IfSome, OnOk, IsTrue, List, length, pos};
 ghost use Rattle.std.specs.List.{AllByRecursion, filter, list_all};
 ghost use Rattle.std.specs.List.Sorted.{IsStrictlySortedBy};
 ghost use Rattle.lattice.specs.Frontiers.{is_beyond};
@@ -18,15 +18,21 @@ ghost use Rattle.update.specs.declared.refusal.Refusal.{Refusal};
 ghost use Rattle.reduce.specs.Joined.{of_key};
 ghost use Rattle.reduce.specs.Corrections.{Corrects, IsTooMuch};
 ghost use Rattle.reduce.specs.Replays.{Ascends};
-ghost use Rattle.reduce.specs.Sweeps.{IsLed, IsSweep};
+ghost use Rattle.reduce.specs.Joined.{Member};
+ghost use Rattle.reduce.specs.Sweeps.{AreMeets, IsLed, IsSweep};
+ghost use Rattle.update.specs.Bags.{Alike};
+ghost use Rattle.update.specs.Updates.{as_of};
+ghost use Rattle.plan.specs.Reductions.{has_key};
 ghost use Rattle.update.specs.Updates.{HasLargeTotal};
 ghost use Rattle.reduce.specs.Evaluations.{IsEvaluation};
 ghost use Rattle.reduce.specs.Settling.{Steps, Settling, IsOverfullFor};
 
 use crate::correcting::{Correction, correct};
-use crate::evaluation::{Evaluation, evaluate};
+use crate::evaluation::Evaluation;
 use crate::replay::Replay;
 use crate::settling::Settled;
+use crate::tally::Tally;
+use crate::tallied::answer_at;
 use crate::{KeyHistory, Reducer};
 use antichain::is_beyond;
 use lattice::Lattice;
@@ -42,7 +48,9 @@ pub(crate) struct Sweep<T> {
     pub(crate) due: Vec<T>,
     /// What was evaluated at the time before, if that was corrected.
     pub(crate) last: Option<Evaluation<T>>,
-    /// The updates of the key's rows.
+    /// What the times to do all see of the key's rows.
+    pub(crate) base: Tally,
+    /// The other updates of the key's rows.
     pub(crate) rows: Replay<T>,
     /// What was given of the key, before and by this sweep.
     pub(crate) had: Replay<T>,
@@ -62,34 +70,70 @@ fn forget_unless_before<T: Lattice>(last: &mut Option<Evaluation<T>>, time: T)
     }
 }
 
-// The time of the last evaluation, or this one if there is none.
-fn first_of<T: Lattice>(last: &Option<Evaluation<T>>, time: T) -> T
-    ensures some { IfSome last.now (λ e. result ≡ e.time) }
-    ensures none { last.now ≡ None → result ≡ time }
+// A time at or before this one and that of the last evaluation.
+fn meet_with_last<T: Lattice>(last: &Option<Evaluation<T>>, time: T) -> T
+    ensures time { IsTrue (T.below result time) }
+    ensures last { IfSome last.now (λ e. IsTrue (T.below result e.time)) }
 {
     match last {
-        Some(e) => e.time,
+        Some(e) => e.time.meet(time),
         None => time,
     }
 }
 
-// Leads both replays up to a time, the first of those to do.
-fn lead<T: Lattice>(alloc: Global, time: T, todo: &[T], sweep: &mut Sweep<T>) -> Result<(), Refusal>
+// Moves a time of a list to its meet with the next one.
+fn meet_with_next<T: Lattice>(meets: &mut Vec<T>, i: usize)
+    requires { i < length meets.old.items }
+    ensures length { length meets.new.items ≡ length meets.old.items }
+    ensures others { (j : ℕ) (d : T) → j ≢ i
+        → get_or meets.new.items j d ≡ get_or meets.old.items j d }
+    ensures here { (d : T) → IsTrue (T.below (get_or meets.new.items i d)
+        (get_or meets.old.items i d)) }
+    ensures next { (d : T) → i + 1 < length meets.old.items
+        → IsTrue (T.below (get_or meets.new.items i d) (get_or meets.old.items (i + 1) d)) }
+{
+    let next = i + 1;
+    if next < meets.len() {
+        meets[i] = meets[i].meet(meets[next]);
+    }
+}
+
+// The meet of each of these times with all behind it.
+fn meets_of<T: Lattice>(alloc: Global, times: &[T]) -> Result<Vec<T>, Refusal>
+    ensures meets { IfOk result (λ meets. AreMeets T.below times.now meets.items) }
+    ensures only { IfErr result (λ refused. refused ≡ Refusal.OutOfMemory) }
+{
+    let mut meets = Vec::from_slice(alloc, times)?;
+    for i in (0..times.len()).rev() {
+        meet_with_next(&mut meets, i);
+    }
+    Ok(meets)
+}
+
+// Leads both replays up to a time, the first of those to do. `meet` is at or before all of these.
+fn lead<T: Lattice>(
+    alloc: Global,
+    time: T,
+    meet: T,
+    sweep: &mut Sweep<T>,
+) -> Result<(), Refusal>
     requires rows { Ascends T.cmp sweep.old.rows.later.items }
     requires had { Ascends T.cmp sweep.old.had.later.items }
-    ensures passes { OnOk result ((rows given : List (Update T))
-        → IsSweep T.below T.cmp todo.now rows given sweep.old
-        → IsLed T.below T.cmp time todo.now rows given sweep.new) }
+    ensures led { OnOk result ((todo : List T) (rows given : List (Update T))
+        → Member time todo → ((t : T) → Member t todo → IsTrue (T.below meet t))
+        → IsSweep T.below T.cmp todo rows given sweep.old
+        → IsLed T.below T.cmp time todo rows given sweep.new) }
     ensures given { sweep.new.given ≡ sweep.old.given }
     ensures due { sweep.new.due ≡ sweep.old.due }
     ensures only { IfErr result (λ refused. refused ≡ Refusal.OutOfMemory) }
 {
     forget_unless_before(&mut sweep.last, time);
-    let first = first_of(&sweep.last, time);
-    sweep.rows.advance(alloc, first, todo)?;
-    sweep.had.advance(alloc, first, todo)?;
+    let behind = meet_with_last(&sweep.last, meet);
+    sweep.rows.advance(alloc, meet)?;
+    sweep.had.advance(alloc, behind)?;
     sweep.rows.reach(time)?;
     sweep.had.reach(time)?;
+    sweep.rows.settle_into(alloc, &mut sweep.base, meet)?;
     Ok(())
 }
 
@@ -99,33 +143,43 @@ fn correct_here<T: Lattice, R: Reducer>(
     reducer: &R,
     key: &[i64],
     time: T,
-    sweep: &Sweep<T>,
+    sweep: &mut Sweep<T>,
 ) -> Result<Correction<T>, Refusal>
     requires some { 1 ≤ length key.now }
     requires few { length key.now ≤ 8 }
+    requires base { IsTrue (list_all (has_key (length key.now) key.now) sweep.old.base) }
     requires rows { IsTrue
-        (list_all (of_key (length key.now) key.now) sweep.now.rows.near.items) }
+        (list_all (of_key (length key.now) key.now) sweep.old.rows.near.items) }
     requires had { IsTrue
-        (list_all (of_key (length key.now) key.now) sweep.now.had.near.items) }
-    requires last { IfSome sweep.now.last (IsEvaluation T.below sweep.now.had.near.items) }
-    ensures corrects { IfOk result (λ correction.
-        Corrects T.below (length key.now) (R.reduces reducer.now) sweep.now.rows.near.items
-        sweep.now.had.near.items key.now time correction.given.items) }
+        (list_all (of_key (length key.now) key.now) sweep.old.had.near.items) }
+    requires last { IfSome sweep.old.last (IsEvaluation T.below sweep.old.had.near.items) }
+    ensures corrects { IfOk result (λ correction. (content rows : List (Update T))
+        → rows ≡ filter (of_key (length key.now) key.now) content
+        → Alike (sweep.old.base ++ as_of T.below time sweep.old.rows.near.items)
+        (as_of T.below time rows)
+        → Corrects T.below (length key.now) (R.reduces reducer.now) content
+        sweep.old.had.near.items key.now time correction.given.items) }
     ensures exact { IfOk result
         (λ correction. HasLargeTotal T.below correction.given.items → ⊥) }
     ensures nonzero { IfOk result
         (λ correction. AllByRecursion (λ u. u.diff ≢ pos 0) correction.given.items) }
     ensures evaluation { IfOk result (λ correction.
-        IsEvaluation T.below (sweep.now.had.near.items ++ correction.given.items)
+        IsEvaluation T.below (sweep.old.had.near.items ++ correction.given.items)
         correction.evaluation) }
     ensures time { IfOk result (λ correction. correction.evaluation.time ≡ time) }
-    ensures refused { IfErr result (IsMemoryOrOverflow
-        (IsTooMuch T.below (length key.now) (R.reduces reducer.now) sweep.now.rows.near.items
-        sweep.now.had.near.items key.now time)) }
+    ensures same { sweep.new ≡ sweep.old }
+    ensures refused { IfErr result (IsMemoryOrOverflow ((content rows : List (Update T))
+        → rows ≡ filter (of_key (length key.now) key.now) content
+        → Alike (sweep.old.base ++ as_of T.below time sweep.old.rows.near.items)
+        (as_of T.below time rows)
+        → IsTooMuch T.below (length key.now) (R.reduces reducer.now) content
+        sweep.old.had.near.items key.now time)) }
 {
-    let evaluation = evaluate(alloc, reducer, key, sweep.rows.near.as_slice(), time)?;
+    let near = sweep.rows.near.as_slice();
+    let answer = answer_at(alloc, reducer, key, &mut sweep.base, near, time)?;
     let had = sweep.had.near.as_slice();
     let none = Vec::new(alloc);
+    let evaluation = Evaluation { time, answer };
     correct(alloc, key, evaluation, had, none.as_slice(), &sweep.last)
 }
 
@@ -138,9 +192,11 @@ fn sweep_time<T: Lattice, R: Reducer>(
     rows: &[Update<T>],
     time: T,
     todo: &[T],
+    meet: T,
     sweep: &mut Sweep<T>,
 ) -> Result<(), Refusal>
     requires first { todo.now ≡ time ∷ drop 1 todo.now }
+    requires meet { (t : T) → Member t todo.now → IsTrue (T.below meet t) }
     requires rows { IsTrue (list_all (of_key (length history.now.key) history.now.key) rows.now) }
     requires given { IsTrue
         (list_all (of_key (length history.now.key) history.now.key) history.now.given) }
@@ -167,7 +223,7 @@ fn sweep_time<T: Lattice, R: Reducer>(
         return Ok(());
     }
     let key = history.key().columns();
-    lead(alloc, time, todo, sweep)?;
+    lead(alloc, time, meet, sweep)?;
     let Correction {
         given: mut more,
         evaluation,
@@ -189,9 +245,10 @@ fn first_due<T: Lattice>(due: &[T]) -> T {
 /// What is given of a key at those of its pending times that the frontier has passed, if `rows` are the updates of its
 /// rows.
 ///
-/// Cost: a copy of the key's rows and of what was given of it, and a sort of those updates that come after the first
-/// pending time. For each pending time one comparison with the frontier. For each one that has passed, that of
-/// [`correct`] with the replayed updates: those times and rows alone that differ as of the times to come.
+/// Cost: a copy of the key's rows and of what was given of it, a sort of the rows, and one of those updates that come after
+/// the first pending time. For each pending time one comparison with the frontier. For each one that has passed, that of
+/// [`answer_at`] and [`correct`] with the replayed updates: those that not all times to come see, each once for all that
+/// these times do not tell apart.
 pub(crate) fn sweep_key<T: Lattice, R: Reducer>(
     alloc: Global,
     reducer: &R,
@@ -219,9 +276,11 @@ pub(crate) fn sweep_key<T: Lattice, R: Reducer>(
         given: Vec::new(alloc),
         due: Vec::new(alloc),
         last: None,
+        base: Tally::of(alloc, rows)?,
         rows: Replay::of(alloc, rows, first)?,
         had: Replay::of(alloc, history.given(), first)?,
     };
+    let meets = meets_of(alloc, due)?;
     for i in 0..due.len() {
         sweep_time(
             alloc,
@@ -231,6 +290,7 @@ pub(crate) fn sweep_key<T: Lattice, R: Reducer>(
             rows,
             due[i],
             &due[i..],
+            meets[i],
             &mut sweep,
         )?;
     }

@@ -1,18 +1,17 @@
-use Rattle.std.proofs.Common.{◌∙◌}
-use Rattle.reduce.specs.Replays.{on_the_way}
+use Rattle.std.proofs.Common.{◌≡◌, ◌∙◌, ap}
 use Rattle.reduce.proofs.SweepLemmas.{led}
 use Rattle.reduce.proofs.sweep.lead.Goals as goal
 
-pub returns-clause-passes : goal.returns-clause-passes
-returns-clause-passes g c rows given p =
+pub returns-clause-led : goal.returns-clause-led
+returns-clause-led g c todo rows given here low p =
     let s = c.args.sweep.now in
-    let r = c.advance.new.self in
-    let h = c.advance-2.new.self in
-    let rl = c.in_ok-advance.ensures.later in
-    let hl = c.in_ok-advance-2.ensures.later in
-    led g.met.T.PartialOrder.order c.args.time c.first_of-first.result c.args.todo.now rows given
-    (on_the_way r.near.items r.later.items r.entered) (on_the_way h.near.items h.later.items h.entered) s _ p
-    c.forget_unless_before.ensures.kept c.forget_unless_before.ensures.before c.first_of-first.ensures.some
+    let r = c.reach.new.self in
+    led g.met.T.PartialOrder.order c.args.time c.args.meet c.meet_with_last-behind.result todo rows given r.near.items r.later.items
+    _ _ r.entered s _ p here low
+    c.forget_unless_before.ensures.kept c.forget_unless_before.ensures.before c.meet_with_last-behind.ensures.time c.meet_with_last-behind.ensures.last
     c.in_ok-advance.ensures.stands c.in_ok-advance-2.ensures.stands c.in_ok-reach.ensures.same c.in_ok-reach-2.ensures.same
-    (c.in_ok-reach.ensures.later ∙ rl) (c.in_ok-reach-2.ensures.later ∙ hl)
+    c.in_ok-settle_into.ensures.settles
+    (ap (λ v. v.items) (c.in_ok-reach.ensures.later ∙ c.in_ok-advance.ensures.later))
+    (ap (λ v. v.items) c.settle_into.ensures.later) c.in_ok-settle_into.ensures.entered
+    (ap (λ v. v.items) (c.in_ok-reach-2.ensures.later ∙ c.in_ok-advance-2.ensures.later))
     c.in_ok-reach.ensures.reached c.in_ok-reach-2.ensures.reached

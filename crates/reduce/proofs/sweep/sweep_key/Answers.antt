@@ -4,7 +4,7 @@ use Rattle.std.specs.List.{filter}
 use Rattle.std.proofs.lemmas.List.{append-nil}
 use Rattle.update.specs.declared.change.Update.{Update}
 use Rattle.reduce.specs.declared.sweep.Sweep.{Sweep}
-use Rattle.reduce.specs.Joined.{of_key}
+use Rattle.reduce.specs.Joined.{Member, of_key}
 use Rattle.reduce.specs.Sweeps.{IsSweep}
 use Rattle.reduce.specs.Settling.{Settling}
 use Rattle.reduce.proofs.KeyedLemmas.{own_kept}
@@ -16,13 +16,13 @@ use Rattle.reduce.proofs.sweep.sweep_key.Goals as goal
 pub loop-i-init : goal.loop-i-init
 loop-i-init g c =
     let h = c.args.history.now in
-    let s : Sweep g.row.T.Denot = record { given = c.new.result; due = c.new-2.result; last = None; rows = c.in_ok-of.field-0; had = c.in_ok-of-2.field-0 } in
+    let s : Sweep g.row.T.Denot = record { given = c.new.result; due = c.new-2.result; last = None; base = c.in_ok-of.field-0; rows = c.in_ok-of-2.field-0; had = c.in_ok-of-3.field-0 } in
     let none : h.given ++ c.new.result.items ≡ h.given = ap (λ z. h.given ++ z) c.new.ensures.items ∙ append-nil h.given in (
       rw c.new.ensures.items refl,
       rw (c.new.ensures.items, c.new-2.ensures.items) (λ content rows. first_of g.met.T.PartialOrder.order g.met.T.Lattice.bounds (length h.key) (g.R.Reducer.reduces c.args.reducer.now) h.key content h.given c.args.frontier.now g.met.T.Lattice.extends g.met.T.Ord.total h.due c.requires.ascending),
       subst (λ z. IsSweep g.T.PartialOrder.below g.T.Ord.cmp h.due c.args.rows.now z s) (sym none)
-          (begun g.met.T.PartialOrder.order h.due c.args.rows.now h.given s refl c.in_ok-of.ensures.ascending c.in_ok-of-2.ensures.ascending
-          c.in_ok-of.ensures.stands (rw c.given.ensures at c.in_ok-of-2.ensures.stands)),
+          (begun g.met.T.PartialOrder.order h.due c.args.rows.now h.given s refl c.in_ok-of.ensures.nothing c.in_ok-of.ensures.among c.in_ok-of-2.ensures.ascending c.in_ok-of-3.ensures.ascending
+          c.in_ok-of-2.ensures.stands (rw c.given.ensures at c.in_ok-of-3.ensures.stands)),
     )
 
 pub returns-in_err-sweep_time-clause-refused : goal.returns-in_err-sweep_time-clause-refused
@@ -62,3 +62,10 @@ returns-clause-settled g c content rows =
     let all : c.loop-i.i ≡ length h.due = omega (arith, lengths) in
     subst (λ i. Settling g.T.PartialOrder.below g.T.Lattice.joined (length h.key) (g.R.Reducer.reduces c.args.reducer.now) h.key content h.given c.args.frontier.now h.due i c.loop-i.sweep.given.items c.loop-i.sweep.due.items) all
     (c.loop-i.invariant.1 content rows)
+
+-- the meet is at or before each time to do
+pub sweep_time-requires-clause-meet : goal.sweep_time-requires-clause-meet
+sweep_time-requires-clause-meet g c t m =
+    let due = c.due-due.result.now in
+    let i = c.loop-i.i in
+    rw c.index.ensures (c.in_ok-meets.ensures.meets.before i t c.index.result.now c.loop-i-test.true (subst (Member t) (slice_whole due i) m))
