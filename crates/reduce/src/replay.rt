@@ -17,12 +17,25 @@ ghost use Rattle.std.specs.declared.cmp.Ordering.{Ordering};
 ghost use Rattle.reduce.specs.Replays.{Ascends, StandsEver, StandsFrom, StandsOn, moved_to, on_the_way};
 ghost use Rattle.reduce.specs.Joined.{Member};
 
-use crate::visiting::push_copies;
 use lattice::Lattice;
 use std::alloc::Global;
 use std::cmp::Ordering;
 use std::mem;
 use update::{Refusal, Update, consolidate};
+
+// Appends copies of updates.
+fn append_copies<T: Lattice>(
+    list: &mut Vec<Update<T>>,
+    more: &[Update<T>],
+) -> Result<(), Refusal>
+    ensures pushed { OnOk result (list.new.items ≡ list.old.items ++ more.now) }
+    ensures only { IfErr result (λ refused. refused ≡ Refusal.OutOfMemory) }
+{
+    for update in more {
+        list.push(update.copy())?;
+    }
+    Ok(())
+}
 
 // Copies of updates, each at the join of its time with `meet`.
 fn moved<T: Lattice>(
@@ -216,6 +229,6 @@ impl<T: Lattice> Replay<T> {
         ensures entered { self.new.entered ≡ self.old.entered }
         ensures only { IfErr result (λ refused. refused ≡ Refusal.OutOfMemory) }
     {
-        push_copies(&mut self.near, more)
+        append_copies(&mut self.near, more)
     }
 }
