@@ -78,19 +78,19 @@ module _ {T : Type 0} where
   changed_at zero f (h ∷ hs) = f h ∷ hs
   changed_at (suc i) f (h ∷ hs) = h ∷ changed_at i f hs
 
-  -- a history after more was given
+  -- a history after more was given of its key
   abbrev pub given_more : List (Update T) → HistoryState T → HistoryState T
   given_more more h = record h { given = h.given ++ more }
 
-  -- without the last updates that were given, so many
+  -- a history without the last `many` updates that were given
   abbrev pub given_less : ℕ → HistoryState T → HistoryState T
   given_less many h = record h { given = take (length h.given - many) h.given }
 
-  -- with these pending times left
+  -- a history of which these times are still pending
   abbrev pub due_left : List T → HistoryState T → HistoryState T
   due_left due h = record h { due = due }
 
-  -- with these joined times, and these pending ones
+  -- a history with other joined times and pending ones
   abbrev pub times_put : List T → List T → HistoryState T → HistoryState T
   times_put times due h = record h { times = times; due = due }
 

@@ -29,7 +29,7 @@ module _ {T : Type 0} where
   abbrev pub waiting_at : ℕ → List T → List ℕ
   waiting_at place rest = if nat_eq (length rest) 0 then [] else place ∷ []
 
-  -- whether it does so after a visit
+  -- the key waits on after a visit
   abbrev pub waits_on : Visit T → List ℕ
   waits_on v = waiting_at v.place v.rest
 
@@ -54,7 +54,7 @@ module _ {T : Type 0} where
   all_given [] out hs = hs
   all_given (c ∷ cs) out hs = all_given cs (drop c.many out) (changed_at c.place (given_more (take c.many out)) hs)
 
-  -- and taken back again, the last first
+  -- the histories with what was appended taken back, the last first
   abbrev pub all_taken_back : List (ChangeState T) → List (HistoryState T) → List (HistoryState T)
   all_taken_back [] hs = hs
   all_taken_back (c ∷ cs) hs = changed_at c.place (given_less c.many) (all_taken_back cs hs)
@@ -64,7 +64,7 @@ module _ {T : Type 0} where
   all_left [] hs = hs
   all_left (c ∷ cs) hs = all_left cs (changed_at c.place (due_left c.rest) hs)
 
-  -- the histories with both
+  -- the histories with both: what is given is appended, and the times that are still pending are put in place
   abbrev pub all_changed : List (ChangeState T) → List (Update T) → List (HistoryState T) → List (HistoryState T)
   all_changed [] out hs = hs
   all_changed (c ∷ cs) out hs = all_changed cs (drop c.many out) (changed_at c.place (λ h. due_left c.rest (given_more (take c.many out) h)) hs)

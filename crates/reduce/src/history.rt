@@ -105,6 +105,8 @@ impl<T: Lattice> KeyHistory<T> {
 
     /// Appends copies of updates to what was given. If the call is refused, then nothing has changed.
     ///
+    /// [`Refusal::OutOfMemory`] only if memory for the copies was refused.
+    ///
     /// Cost: a copy of `more`. If there is no room for it, then the list of what was given moves to one of twice the room.
     pub(crate) fn give(&mut self, more: &[Update<T>]) -> Result<(), Refusal>
         ensures given { OnOk result (self.new ≡ given_more more.now self.old) }
@@ -116,12 +118,20 @@ impl<T: Lattice> KeyHistory<T> {
         Ok(())
     }
 
-    /// Takes back the last updates that were given, so many. Takes no memory.
+    /// Takes back the last `many` updates that were given. Takes no memory.
     pub(crate) fn take_back(&mut self, many: usize)
         ensures { self.new ≡ given_less many self.old }
     {
         let left = self.given.len().saturating_sub(many);
         self.given.truncate(left);
+    }
+
+    /// Puts other joined times in place, and the pending ones among them. Takes no memory.
+    pub(crate) fn put_times(&mut self, times: Vec<T>, due: Vec<T>)
+        ensures { self.new ≡ times_put times.items due.items self.old }
+    {
+        self.times = times;
+        self.due = due;
     }
 
     /// Leaves these times pending. Takes no memory.

@@ -165,8 +165,8 @@ impl<T: Lattice, R: Reducer> ReduceState<T, R> {
     /// Each row of the batch has at least as many columns as the key. [`Refusal::OutOfMemory`] only if memory for the
     /// times, or for the histories of the keys, was refused.
     ///
-    /// Cost: for each key of the batch one look-up of a hash and a copy of its history; for each new time of a key a
-    /// join with each joined time that the key has.
+    /// Cost: for each key of the batch one look-up of a hash and a copy of its times; for each new time of a key a join with
+    /// each joined time that the key has. What was given of a key is not touched.
     pub fn take<B: BatchReader<Time = T>>(
         &mut self,
         alloc: Global,
@@ -204,7 +204,7 @@ impl<T: Lattice, R: Reducer> ReduceState<T, R> {
         let made = renewed_by(alloc, self.key, &self.histories, batch)?;
         self.histories.reserve(made.len())?;
         self.waiting.reserve(made.len())?;
-        put_all(&mut self.histories, &mut self.waiting, made);
+        put_all(alloc, &mut self.histories, &mut self.waiting, made);
         Ok(())
     }
 
