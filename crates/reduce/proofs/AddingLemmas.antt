@@ -1,14 +1,14 @@
 -- Adding new times to the joined times of a key: what the loops keep from one time to the next, and what the lists are at
 -- the end.
 use Rattle.std.proofs.Common.{◌≡◌, ◌↔◌, ℕ, ◌<◌, ◌≤◌, ◌+◌, ◌-◌, Bool, true, List, [], ◌∷◌, ◌++◌, map, length, get_or, take, drop, ◌⊎◌, inl, inr, ⊎_elim, refl, sym, ap, subst, ◌∙◌, append_assoc, length-append, arith}
-use Rattle.std.proofs.lemmas.List.{map-append, take-append-drop, take_more, take_all, take_rest, drop_at, get_or-append_right}
+use Rattle.std.proofs.lemmas.List.{append-nil, map-append, take-append-drop, take_more, take_all, take_rest, drop_at, drop_all, drop_more, get_or-append_right}
 use Rattle.lattice.specs.Order.{PartialOrderLaws, LatticeLaws}
 use Rattle.update.specs.Joins.{joins_of}
 use Rattle.reduce.specs.Joined.{Member, IsFresh}
 use Rattle.reduce.specs.Adding.{SameMembers, joins_with, IsLast, Appends, IsFreshBy, AreBetween}
 use Rattle.reduce.proofs.MemberLemmas.{member_at, member_last, pushed_members, append_members, itself, through, back, in_each, regrouped, exchanged}
-use Rattle.reduce.proofs.JoinLemmas.{joins_append, joins_same, fresh_same}
-use Rattle.reduce.proofs.FreshLemmas.{near_same, one_fresh, fresh_parted, fresh_halves}
+use Rattle.reduce.proofs.JoinLemmas.{joins_append, fresh_same}
+use Rattle.reduce.proofs.FreshLemmas.{none_fresh, near_same, one_fresh, fresh_parted, fresh_halves}
 
 -- one of three facts, with the last two exchanged
 last_exchanged : (A B C : Type 0) → ((A ⊎ B) ⊎ C) ↔ ((A ⊎ C) ⊎ B)
@@ -46,11 +46,13 @@ module _ {T : Type 0} where
   pub rest_appended : (before now : List T) (P : T → Type 0) → (a : Appends before now P) → (n : ℕ) → n ≡ length before → take (length now - n) (drop n now) ≡ a.0
   rest_appended before now P a n e = take_rest now n ∙ (ap (drop n) a.1 ∙ drop_at before a.0 n (sym e))
 
-  -- nothing is appended
-  pub appends_none : (before : List T) (P : T → Type 0) → ((t : T) → P t → ⊥) → (now : List T) → now ≡ before ++ [] → Appends before now P
-  appends_none before P none now e = ([], e, (λ t. ((λ m. absurd m), (λ p. absurd (none t p)))))
-
 module _ {T : Type 0} (joined : T → T → T) where
+  -- without new times nothing is appended
+  pub appends_none : (new near before : List T) → length new ≡ 0 → Appends before before (IsFreshBy joined new near)
+  appends_none new near before l =
+      let none : [] ≡ new = sym (drop_all 0 new (omega (arith, l))) in
+      ([], sym (append-nil before), λ t. subst (λ ts. Member t [] ↔ IsFreshBy joined ts near t) none ((λ m. absurd m), (λ f. absurd (none_fresh joined near t f))))
+
   -- a step of the loop that joins a time with each of a list
   pub joins_with_more : (n s join : T) (ts : List T) (i : ℕ) (old new : List T) → i < length ts → s ≡ get_or ts i s → join ≡ joined s n → SameMembers old (joins_with joined n (take i ts)) → ((t : T) → Member t new ↔ (Member t old ⊎ (t ≡ join))) → SameMembers new (joins_with joined n (take (i + 1) ts))
   joins_with_more n s join ts i old new l e d so more t =
@@ -66,8 +68,11 @@ module _ {T : Type 0} (joined : T → T → T) where
     appends_more s join old new l e d pushed a =
         let added = a.0 in
         ⊎_elim
-        (λ p. (added ++ join ∷ [], p ∙ (ap (λ xs. xs ++ join ∷ []) a.1 ∙ append_assoc before added (join ∷ [])),
-        joins_with_more n s join ts i added (added ++ join ∷ []) l e d a.2 (λ t. pushed_members t join added)))
+        (λ p. (
+          added ++ join ∷ [],
+          p ∙ (ap (λ xs. xs ++ join ∷ []) a.1 ∙ append_assoc before added (join ∷ [])),
+          joins_with_more n s join ts i added (added ++ join ∷ []) l e d a.2 (λ t. pushed_members t join added),
+        ))
         (λ p.
         let last = last_appended before added join n ((a.2 n).1 (inl refl)) (subst (IsLast join) a.1 p.1) in
         (added, p.0 ∙ a.1, joins_with_more n s join ts i added added l e d a.2 (pushed_once join added added (inr (refl, last)))))
@@ -81,8 +86,8 @@ module _ {T : Type 0} (joined : T → T → T) where
 
 module _ {T : Type 0} where
   -- both parts begin empty
-  pub none_before : (t : T) (within beyond : List T) (A : Type 0) → within ≡ [] → beyond ≡ [] → ((Member t within ⊎ Member t beyond) ⊎ A) ↔ A
-  none_before t within beyond A e d =
+  pub empty_parts : (t : T) (within beyond : List T) (A : Type 0) → within ≡ [] → beyond ≡ [] → ((Member t within ⊎ Member t beyond) ⊎ A) ↔ A
+  empty_parts t within beyond A e d =
       let none : Member t within ⊎ Member t beyond → ⊥ =
       λ m. ⊎_elim (λ k. subst (Member t) e k) (λ k. subst (Member t) d k) m in
       ((λ m. ⊎_elim (λ k. absurd (none k)) (λ a. a) m), (λ a. inr a))
@@ -110,6 +115,10 @@ module _ {T : Type 0} where
       (through more (through (in_each so itself) (through (regrouped A (Member t (map f (take i near))) (t ≡ moved))
       (in_each itself (back (pushed_members t moved (map f (take i near))))))))
 
+-- the same step, for those beyond the bounds: each was there before the loop, or is late
+pub late_more : (before so_far now late : Type 0) → (so_far → before ⊎ late) → (now → so_far ⊎ late) → now → before ⊎ late
+late_more before so_far now late was more m = ⊎_elim (λ k. was k) (λ l. inr l) (more m)
+
 -- ---- all new times
 
 module _ {T : Type 0} {below : T → T → Bool} {joined met : T → T → T} (o : PartialOrderLaws below) (b : LatticeLaws below joined met) where
@@ -126,35 +135,46 @@ module _ {T : Type 0} {below : T → T → Bool} {joined met : T → T → T} (o
       ((pushed_members s t so_far).0 (subst (Member s) more m))))
 
   -- one new time
-  pub appends_one : (new near before now : List T) (n : T) → new ≡ n ∷ [] → Appends before now (λ t. Member t (joins_with joined n near)) → Appends before now (IsFreshBy joined new near)
-  appends_one new near before now n e a =
-      (a.0, a.1, λ t. subst (λ ts. Member t a.0 ↔ IsFreshBy joined ts near t) (sym e) (through (a.2 t) (one_fresh o b n near t)))
+  pub appends_one : (new near before now : List T) (n : T) → length new ≡ 1 → n ≡ get_or new 0 n → Appends before now (λ t. Member t (joins_with joined n near)) → Appends before now (IsFreshBy joined new near)
+  appends_one new near before now n l e a =
+      let none : drop 1 new ≡ [] = drop_all 1 new (omega (arith, l)) in
+      let one : n ∷ [] ≡ new = ap (λ ts. n ∷ ts) (sym none) ∙ (ap (λ s. s ∷ drop 1 new) e ∙ sym (drop_more new 0 n (omega (arith, l)))) in
+      (a.0, a.1, λ t. subst (λ ts. Member t a.0 ↔ IsFreshBy joined ts near t) one (through (a.2 t) (one_fresh o b n near t)))
 
-  -- more new times, half by half
-  module _ (new near within beyond : List T) (low high n : T) (n_first : n ≡ get_or new 0 n) (some : 0 < length new) (between : AreBetween below low high new) (parts : (t : T) → (Member t within ⊎ Member t beyond) ↔ Member t (map (λ s. joined s low) near)) (late : (t : T) → Member t beyond → below high t ≡ true) where
-    pub appends_halves : (left right : List T) → left ++ right ≡ new → (before start middle now : List T) → start ≡ before ++ beyond → (first : Appends start middle (IsFreshBy joined left within)) → Appends middle now (IsFreshBy joined right (within ++ first.0)) → Appends before now (IsFreshBy joined new near)
+  -- more new times, half by half: `within` and `beyond` are the parts of the near times
+  module _ (new near within beyond : List T) (low high n : T) (some : 0 < length new) (first_is : n ≡ get_or new 0 n) (bounds : AreBetween below low high (n ∷ take (length new - 1) (drop 1 new))) (parts : (t : T) → (Member t within ⊎ Member t beyond) ↔ Member t (map (λ s. joined s low) near)) (late : (t : T) → Member t beyond → below high t ≡ true) where
+    between : AreBetween below low high new
+    between =
+        subst (AreBetween below low high) (ap (λ ts. n ∷ ts) (take_rest new 1) ∙ (ap (λ s. s ∷ drop 1 new) first_is ∙ sym (drop_more new 0 n some))) bounds
+
+    appends_halves : (left right : List T) → left ++ right ≡ new → (before start middle now : List T) → start ≡ before ++ beyond → (first : Appends start middle (IsFreshBy joined left within)) → Appends middle now (IsFreshBy joined right (within ++ first.0)) → Appends before now (IsFreshBy joined new near)
     appends_halves left right halves before start middle now e first second =
         let added = first.0 in
         let more = second.0 in
         let whole : now ≡ before ++ (beyond ++ (added ++ more)) =
-        second.1 ∙ (ap (λ xs. xs ++ more) (first.1 ∙ ap (λ xs. xs ++ added) e) ∙ (append_assoc (before ++ beyond) added more ∙ append_assoc before beyond (added ++ more))) in
-        (beyond ++ (added ++ more), whole, λ t.
-        let by_halves : IsFreshBy joined new within t ↔ (IsFreshBy joined left within t ⊎ IsFreshBy joined right (within ++ added) t) =
-        subst (λ ts. IsFreshBy joined ts within t ↔ (IsFreshBy joined left within t ⊎ IsFreshBy joined right (within ++ added) t)) halves (fresh_halves o b left right within added first.2 t) in
-        through (append_members t beyond (added ++ more))
-        (through (in_each itself (through (append_members t added more) (in_each (first.2 t) (second.2 t))))
-        (through (in_each itself (back by_halves))
-        (back (fresh_parted o b near new within beyond low high between parts late n (member_at new 0 n some n_first) t)))))
+        second.1 ∙ (ap (λ xs. xs ++ more) (first.1 ∙ ap (λ xs. xs ++ added) e) ∙ (append_assoc (before ++ beyond) added more ∙ append_assoc before beyond (added ++ more))) in (
+          beyond ++ (added ++ more),
+          whole,
+          λ t.
+              let by_halves : IsFreshBy joined new within t ↔ (IsFreshBy joined left within t ⊎ IsFreshBy joined right (within ++ added) t) =
+              subst (λ ts. IsFreshBy joined ts within t ↔ (IsFreshBy joined left within t ⊎ IsFreshBy joined right (within ++ added) t)) halves (fresh_halves o b left right within added first.2 t) in
+              through (append_members t beyond (added ++ more))
+              (through (in_each itself (through (append_members t added more) (in_each (first.2 t) (second.2 t))))
+              (through (in_each itself (back by_halves))
+              (back (fresh_parted o b near new within beyond low high between parts late n (member_at new 0 n some first_is) t)))),
+        )
 
-    -- the same, as the code slices the lists: what was appended is read back from `middle`
-    pub appends_slices : (half n_start : ℕ) (before start middle now copy more : List T) → start ≡ before ++ beyond → n_start ≡ length start → copy ≡ within → Appends start middle (IsFreshBy joined (take half new) copy) → more ≡ within ++ take (length middle - n_start) (drop n_start middle) → Appends middle now (IsFreshBy joined (take (length new - half) (drop half new)) more) → Appends before now (IsFreshBy joined new near)
-    appends_slices half n_start before start middle now copy more e l d first f second =
+    -- the same as the code slices its lists: each `read` is what a list is when it is passed on, and what the first half
+    -- appended is read back from `middle`
+    pub appends_slices : (half at : ℕ) (before start middle now : List T) (beyond_read within_read middle_read more more_read : List T) → beyond_read ≡ beyond → start ≡ before ++ beyond_read → at ≡ length start → within_read ≡ within → Appends start middle (IsFreshBy joined (take half new) within_read) → middle_read ≡ middle → more ≡ within ++ take (length middle_read - at) (drop at middle_read) → more_read ≡ more → Appends middle now (IsFreshBy joined (take (length new - half) (drop half new)) more_read) → Appends before now (IsFreshBy joined new near)
+    appends_slices half at before start middle now beyond_read within_read middle_read more more_read b_read e l w_read first m_read f more_is second =
         let left = take half new in
         let right = take (length new - half) (drop half new) in
         let both : left ++ right ≡ new = ap (λ xs. left ++ xs) (take_rest new half) ∙ take-append-drop half new in
-        let first_in : Appends start middle (IsFreshBy joined left within) = subst (λ xs. Appends start middle (IsFreshBy joined left xs)) d first in
-        let near_right : more ≡ within ++ first_in.0 = f ∙ ap (λ xs. within ++ xs) (rest_appended start middle (IsFreshBy joined left within) first_in n_start l) in
-        appends_halves left right both before start middle now e first_in (subst (λ xs. Appends middle now (IsFreshBy joined right xs)) near_right second)
+        let by_left : Appends start middle (IsFreshBy joined left within) = subst (λ xs. Appends start middle (IsFreshBy joined left xs)) w_read first in
+        let added : take (length middle_read - at) (drop at middle_read) ≡ by_left.0 = ap (λ xs. take (length xs - at) (drop at xs)) m_read ∙ rest_appended start middle (IsFreshBy joined left within) by_left at l in
+        let near_right : more_read ≡ within ++ by_left.0 = more_is ∙ (f ∙ ap (λ xs. within ++ xs) added) in
+        appends_halves left right both before start middle now (e ∙ ap (λ xs. before ++ xs) b_read) by_left (subst (λ xs. Appends middle now (IsFreshBy joined right xs)) near_right second)
 
   -- what was appended to an empty list are the fresh times
   pub fresh_all : (times distinct new before fresh now : List T) → SameMembers new distinct → before ≡ [] → Appends before fresh (IsFreshBy joined distinct times) → SameMembers fresh now → (old : List T) → SameMembers times (joins_of joined old) → (t : T) → Member t now ↔ IsFresh joined new old t

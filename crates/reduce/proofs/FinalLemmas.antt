@@ -14,7 +14,6 @@ use Rattle.plan.specs.Operators.{reduction_output}
 use Rattle.plan.specs.Reductions.{IsReducer}
 use Rattle.plan.proofs.CountLemmas.{row_same}
 use Rattle.trace.specs.Readings.{IsReadable}
-use Rattle.reduce.specs.declared.visiting.Change.{Change}
 use Rattle.reduce.specs.Joined.{Member, AreOnce}
 use Rattle.reduce.specs.Histories.{HistoryState, AreHistories, AreKeysApart, IsWaiting, due_of, joined_of}
 use Rattle.reduce.specs.Standing.{KeyStands, Shows}
@@ -22,10 +21,10 @@ use Rattle.reduce.specs.Owing.{IsOverfull}
 use Rattle.reduce.specs.Reductions.{StandsFor, IsOpenTo, IsQuietAt, SumsToTaken, all_reads}
 use Rattle.reduce.specs.Settling.{ReadsAs, IsOverfullFor}
 use Rattle.reduce.specs.Taking.{HaveJoins}
-use Rattle.reduce.specs.Visiting.{Visit, Gathers, AreChanges, all_renewed, all_replaced}
+use Rattle.reduce.specs.Visiting.{Visit, ChangeState, Gathers, AreWithin, AreCut, all_renewed, all_changed, changes_of}
 use Rattle.reduce.proofs.HistoryLemmas.{at_place, of_there}
 use Rattle.reduce.proofs.ReadyLemmas.{times_stay, apart_raw, raw_at, raw_nonzero, stands_after, rest_is, quiet, apart_after}
-use Rattle.reduce.proofs.RenewLemmas.{replaced_is, changes_fit}
+use Rattle.reduce.proofs.RenewLemmas.{changed_is_renewed, changes_within, changes_cut, changes_once}
 use Rattle.reduce.proofs.RestLemmas.{waiting_after, histories_after, history_there, reads_are_all}
 use Rattle.reduce.proofs.StandingLemmas.{law}
 
@@ -52,7 +51,7 @@ module _ {T : Type 0} {below : T → T → Bool} {joined met : T → T → T} (c
       (subst (KeyStands below joined k reduce taken given key) due (st.keys key)) ag
       (λ g m e v n b. op g m v (subst (Member v) (sym (ap (λ z. due_of z hs) (row_same (take k g.row) key e) ∙ due)) n) b) ps
 
-  module _ (visits : List (Visit T)) (gathered : List (Update T)) (changes : List (Change T)) (waiting : List ℕ) (reads : ℕ) (g : Gathers below front joined reduce content hs places visits gathered changes waiting reads) where
+  module _ (visits : List (Visit T)) (gathered : List (Update T)) (changes : List (ChangeState T)) (waiting : List ℕ) (reads : ℕ) (g : Gathers below front joined reduce content hs places visits gathered changes waiting reads) where
     once : AreOnce (map (λ v. v.place) visits)
     once = subst AreOnce (sym g.places_are) waits.once
 
@@ -70,12 +69,23 @@ module _ {T : Type 0} {below : T → T → Bool} {joined met : T → T → T} (c
     pub final_at : (u : Update T) → Member u gathered → Member u.time (due_of (take k u.row) hs) × (is_beyond below front u.time ≡ false)
     final_at u m = raw_at cmp o l k reduce content front hs known apart visits g.visits_are once u (subst (Member u) g.out_is m)
 
-    pub changes_are_fit : AreChanges changes hs
-    changes_are_fit = subst (λ z. AreChanges z hs) (sym g.changes_are) (changes_fit below front joined reduce content visits hs once g.visits_are)
+    -- each change is of one history, no two are of the same, and they cut what is given
+    pub within : AreWithin (length hs) changes
+    within = subst (AreWithin (length hs)) (sym g.changes_are) (changes_within below front joined reduce content hs visits g.visits_are)
 
-    module _ (new : List (HistoryState T)) (is : new ≡ all_replaced changes hs) where
+    pub cut : AreCut changes gathered
+    cut = subst (λ z. AreCut z gathered) (sym g.changes_are) (subst (AreCut (flat_map (changes_of below front) visits)) (sym g.out_is) (changes_cut below front joined reduce content hs visits g.visits_are))
+
+    pub changed_once : AreOnce (map (λ c. c.place) changes)
+    changed_once = subst (λ z. AreOnce (map (λ c. c.place) z)) (sym g.changes_are) (changes_once below front joined reduce content visits once)
+
+    module _ (new : List (HistoryState T)) (is : new ≡ all_changed changes gathered hs) where
       renewed_is : new ≡ all_renewed visits hs
-      renewed_is = is ∙ (ap (λ z. all_replaced z hs) g.changes_are ∙ replaced_is below front joined reduce content visits hs once g.visits_are)
+      renewed_is =
+          is
+          ∙ (ap (λ z. all_changed z gathered hs) g.changes_are
+          ∙ (ap (λ z. all_changed (flat_map (changes_of below front) visits) z hs) g.out_is
+          ∙ changed_is_renewed below front joined reduce content visits hs once g.visits_are))
 
       pub known_after : AreHistories cmp k new
       known_after = subst (AreHistories cmp k) (sym renewed_is) (histories_after below front joined reduce content cmp k visits hs once g.visits_are known)

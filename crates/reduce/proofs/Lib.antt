@@ -3,6 +3,7 @@ pub mod AddingLemmas
 pub mod AnswerLemmas
 pub mod ApartLemmas
 pub mod BlindLemmas
+pub mod CommitLemmas
 pub mod CorrectLemmas
 pub mod CorrectionLemmas
 pub mod CountLemmas

@@ -62,6 +62,11 @@ module _ {X : Type 0} where
   each_member P [] all x m = absurd m
   each_member P (y ∷ xs) all x m = ⊎_elim (λ e. subst P (sym e) all.0) (λ n. each_member P xs all.1 x n) m
 
+  -- one more of which it holds
+  pub all_pushed : (P : X → Type 0) (xs : List X) (x : X) → AllByRecursion P xs → P x → AllByRecursion P (xs ++ x ∷ [])
+  all_pushed P [] x all p = (p, tt)
+  all_pushed P (y ∷ xs) x all p = (all.0, all_pushed P xs x all.1 p)
+
   -- and what holds of one after the other holds of each
   pub all_members : (P : X → Type 0) (xs : List X) → ((x : X) → Member x xs → P x) → AllByRecursion P xs
   all_members P [] h = tt

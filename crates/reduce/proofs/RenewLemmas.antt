@@ -1,10 +1,10 @@
 -- The histories after all visits, and what was given at them, key by key.
-use Rattle.std.proofs.Common.{◌≡◌, ℕ, zero, suc, Bool, true, false, cond, not, ◌||◌, List, [], ◌∷◌, ◌++◌, map, set, take, length, slice_get, Some, IsSomeAnd, refl, sym, ap, subst, ◌∙◌, ◌⊎◌, inl, inr, ⊎_elim}
+use Rattle.std.proofs.Common.{◌≡◌, ℕ, zero, suc, ◌<◌, Bool, true, false, cond, not, ◌||◌, List, [], ◌∷◌, ◌++◌, map, set, take, length, slice_get, Some, IsSomeAnd, refl, sym, ap, subst, ◌∙◌, ◌⊎◌, inl, inr, ⊎_elim, arith}
 use Rattle.std.specs.Prelude.{flat_map, ℤ}
 use Rattle.std.specs.List.{filter, list_any}
 use Rattle.std.specs.declared.cmp.Ordering.{Ordering}
 use Rattle.std.proofs.lemmas.Bool.{or_parts, true≢false}
-use Rattle.std.proofs.lemmas.List.{append-nil}
+use Rattle.std.proofs.lemmas.List.{append-nil, length-append}
 use Rattle.std.proofs.lemmas.List.Elements.{filter-append}
 use Rattle.std.proofs.lemmas.Option.{none-some, same_Some}
 use Rattle.lattice.specs.Order.{PartialOrderLaws}
@@ -14,11 +14,12 @@ use Rattle.update.specs.Updates.{AreApart, is_doubled}
 use Rattle.update.specs.declared.change.Update.{Update}
 use Rattle.plan.proofs.CountLemmas.{row_same, row_itself}
 use Rattle.reduce.specs.Joined.{Member, AreOnce, of_key}
-use Rattle.reduce.specs.Histories.{HistoryState, IsHistory, AreHistories, AreKeysApart, of_history, due_of, joined_of, given_of}
-use Rattle.reduce.specs.Visiting.{Visit, IsVisit, AreVisits, AreChanges, renewed, all_renewed, all_replaced, changes_of, is_due}
+use Rattle.reduce.specs.Histories.{HistoryState, IsHistory, AreHistories, AreKeysApart, of_history, due_of, joined_of, given_of, changed_at, given_more, due_left}
+use Rattle.reduce.specs.Visiting.{Visit, IsVisit, AreVisits, ChangeState, AreWithin, AreCut, renewed, all_renewed, all_changed, changes_of, is_due}
 use Rattle.reduce.proofs.ApartLemmas.{apart_both, doubled_is}
+use Rattle.reduce.proofs.CommitLemmas.{front_of, behind_front, changed_is}
 use Rattle.reduce.proofs.HistoryLemmas.{of_replaced, of_there, apart_replaced}
-use Rattle.reduce.proofs.MemberLemmas.{in_either, image_in}
+use Rattle.reduce.proofs.MemberLemmas.{in_either, image_in, image_of}
 use Rattle.reduce.proofs.SettleLemmas.{take_whole}
 
 module _ {X : Type 0} where
@@ -83,26 +84,87 @@ module _ {T : Type 0} (below : T → T → Bool) (front : List T) (joined : T �
     visits_after hs v vs (λ m. n (inr m)) a.1,
   )
 
-  -- what is replaced is what the visits renew
-  pub replaced_is : (vs : List (Visit T)) (hs : List (HistoryState T)) → AreOnce (map (λ v. v.place) vs) → AreVisits below front joined reduce content hs vs
-      → all_replaced (flat_map (changes_of below front) vs) hs ≡ all_renewed vs hs
-  replaced_is [] hs o a = refl
-  replaced_is (v ∷ vs) hs o a = step (is_due below front v.history) refl (replaced_is vs (set hs v.place (renewed v)) o.1 (visits_after hs v vs o.0 a.1))
-    where
-      step : (b : Bool) → is_due below front v.history ≡ b → all_replaced (flat_map (changes_of below front) vs) (set hs v.place (renewed v)) ≡ all_renewed vs (set hs v.place (renewed v))
-          → all_replaced ((cond b (record { place = v.place; history = renewed v } ∷ []) []) ++ flat_map (changes_of below front) vs) hs ≡ all_renewed vs (set hs v.place (renewed v))
-      step true e ih = ih
-      step false e ih = subst (λ z. all_replaced (flat_map (changes_of below front) vs) z ≡ all_renewed vs (set hs v.place (renewed v)))
-          (ap (set hs v.place) (renewed_same hs v a.0 e) ∙ set_same hs v.place v.history a.0.there) ih
+  pub visit_in : (hs : List (HistoryState T)) (vs : List (Visit T)) → AreVisits below front joined reduce content hs vs → (v : Visit T) → Member v vs → IsVisit below front joined reduce content hs v
+  visit_in hs (w ∷ vs) a v (inl e) = subst (IsVisit below front joined reduce content hs) (sym e) a.0
+  visit_in hs (w ∷ vs) a v (inr m) = visit_in hs vs a.1 v m
+  visit_in hs [] a v m = absurd m
 
-  pub changes_fit : (vs : List (Visit T)) (hs : List (HistoryState T)) → AreOnce (map (λ v. v.place) vs) → AreVisits below front joined reduce content hs vs → AreChanges (flat_map (changes_of below front) vs) hs
-  changes_fit [] hs o a = tt
-  changes_fit (v ∷ vs) hs o a = step (is_due below front v.history) refl (changes_fit vs (set hs v.place (renewed v)) o.1 (visits_after hs v vs o.0 a.1))
+  -- what is changed is what the visits renew
+  pub changed_is_renewed : (vs : List (Visit T)) (hs : List (HistoryState T)) → AreOnce (map (λ v. v.place) vs) → AreVisits below front joined reduce content hs vs
+      → all_changed (flat_map (changes_of below front) vs) (flat_map (λ v. v.more) vs) hs ≡ all_renewed vs hs
+  changed_is_renewed [] hs o a = refl
+  changed_is_renewed (v ∷ vs) hs o a = step (is_due below front v.history) refl (changed_is_renewed vs (set hs v.place (renewed v)) o.1 (visits_after hs v vs o.0 a.1))
     where
-      step : (b : Bool) → is_due below front v.history ≡ b → AreChanges (flat_map (changes_of below front) vs) (set hs v.place (renewed v))
-          → AreChanges ((cond b (record { place = v.place; history = renewed v } ∷ []) []) ++ flat_map (changes_of below front) vs) hs
-      step true e ih = (some_there (λ h. h.key ≡ v.history.key) hs v.place v.history a.0.there refl, ih)
-      step false e ih = subst (AreChanges (flat_map (changes_of below front) vs)) (ap (set hs v.place) (renewed_same hs v a.0 e) ∙ set_same hs v.place v.history a.0.there) ih
+      changes : List (ChangeState T)
+      changes = flat_map (changes_of below front) vs
+
+      more : List (Update T)
+      more = flat_map (λ v. v.more) vs
+
+      step : (b : Bool) → is_due below front v.history ≡ b → all_changed changes more (set hs v.place (renewed v)) ≡ all_renewed vs (set hs v.place (renewed v))
+          → all_changed (cond b (record { place = v.place; many = length v.more; rest = v.rest } ∷ []) [] ++ changes) (v.more ++ more) hs ≡ all_renewed vs (set hs v.place (renewed v))
+      step true e ih =
+          ap (λ z. all_changed changes z (changed_at v.place (λ h. due_left v.rest (given_more (take (length v.more) (v.more ++ more)) h)) hs)) (behind_front v.more more)
+          ∙ (ap (λ z. all_changed changes more (changed_at v.place (λ h. due_left v.rest (given_more z h)) hs)) (front_of v.more more)
+          ∙ (ap (all_changed changes more) (changed_is v.place (λ h. due_left v.rest (given_more v.more h)) hs v.history a.0.there) ∙ ih))
+      step false e ih =
+          ap (λ z. all_changed changes (z ++ more) hs) (nothing_more hs v a.0 e)
+          ∙ (ap (all_changed changes more) (sym (ap (set hs v.place) (renewed_same hs v a.0 e) ∙ set_same hs v.place v.history a.0.there)) ∙ ih)
+
+  -- the updates that are given are cut as the changes say
+  pub changes_cut : (hs : List (HistoryState T)) (vs : List (Visit T)) → AreVisits below front joined reduce content hs vs → AreCut (flat_map (changes_of below front) vs) (flat_map (λ v. v.more) vs)
+  changes_cut hs [] a = tt
+  changes_cut hs (v ∷ vs) a = step (is_due below front v.history) refl (changes_cut hs vs a.1)
+    where
+      changes : List (ChangeState T)
+      changes = flat_map (changes_of below front) vs
+
+      more : List (Update T)
+      more = flat_map (λ v. v.more) vs
+
+      step : (b : Bool) → is_due below front v.history ≡ b → AreCut changes more → AreCut (cond b (record { place = v.place; many = length v.more; rest = v.rest } ∷ []) [] ++ changes) (v.more ++ more)
+      step true e ih = ((let l = length-append v.more more in omega (arith, l)), subst (AreCut changes) (sym (behind_front v.more more)) ih)
+      step false e ih = subst (λ z. AreCut changes (z ++ more)) (sym (nothing_more hs v a.0 e)) ih
+
+  -- each change is at the place of a visit
+  change_from : (vs : List (Visit T)) (c : ChangeState T) → Member c (flat_map (changes_of below front) vs) → (v : Visit T) × Member v vs × (v.place ≡ c.place)
+  change_from [] c m = absurd m
+  change_from (v ∷ vs) c m =
+      ⊎_elim (λ a. (v, inl refl, own (is_due below front v.history) a)) (λ b. let r = change_from vs c b in (r.0, inr r.1, r.2)) (in_either c (changes_of below front v) (flat_map (changes_of below front) vs) m)
+    where
+      own : (b : Bool) → Member c (cond b (record { place = v.place; many = length v.more; rest = v.rest } ∷ []) []) → v.place ≡ c.place
+      own true (inl e) = ap (λ (z : ChangeState T). z.place) (sym e)
+      own true (inr m) = absurd m
+      own false m = absurd m
+
+  pub changes_within : (hs : List (HistoryState T)) (vs : List (Visit T)) → AreVisits below front joined reduce content hs vs → AreWithin (length hs) (flat_map (changes_of below front) vs)
+  changes_within hs vs a c m =
+      let r = change_from vs c m in
+      let is = visit_in hs vs a r.0 r.1 in
+      subst (λ i. i < length hs) r.2 (there_within hs r.0.place r.0.history is.there)
+    where
+      there_within : (hs : List (HistoryState T)) (i : ℕ) (h : HistoryState T) → slice_get hs i ≡ Some h → i < length hs
+      there_within [] i h e = absurd (none-some h e)
+      there_within (x ∷ hs) zero h e = omega arith
+      there_within (x ∷ hs) (suc i) h e = let l = there_within hs i h e in omega (arith, l)
+
+  -- no place is changed twice
+  pub changes_once : (vs : List (Visit T)) → AreOnce (map (λ v. v.place) vs) → AreOnce (map (λ c. c.place) (flat_map (changes_of below front) vs))
+  changes_once [] o = tt
+  changes_once (v ∷ vs) o = step (is_due below front v.history) (changes_once vs o.1)
+    where
+      changes : List (ChangeState T)
+      changes = flat_map (changes_of below front) vs
+
+      elsewhere : Member v.place (map (λ c. c.place) (flat_map (changes_of below front) vs)) → ⊥
+      elsewhere m =
+          let at = image_of (λ (c : ChangeState T). c.place) v.place (flat_map (changes_of below front) vs) m in
+          let r = change_from vs at.0 at.1 in
+          o.0 (subst (λ p. Member p (map (λ v. v.place) vs)) (r.2 ∙ sym at.2) (image_in (λ (v : Visit T). v.place) r.0 vs r.1))
+
+      step : (b : Bool) → AreOnce (map (λ c. c.place) changes) → AreOnce (map (λ c. c.place) (cond b (record { place = v.place; many = length v.more; rest = v.rest } ∷ []) [] ++ changes))
+      step true ih = (elsewhere, ih)
+      step false ih = ih
 
   -- ---- key by key
 
@@ -157,11 +219,6 @@ module _ {T : Type 0} (below : T → T → Bool) (front : List T) (joined : T �
   one_place (x ∷ hs) apart (suc i) zero a b e f k =
       absurd (true≢false (sym (key_at x.key hs i a e (k ∙ ap (λ (z : HistoryState T). z.key) (sym (same_Some x b f)))) ∙ apart.0))
   one_place (x ∷ hs) apart (suc i) (suc j) a b e f k = ap suc (one_place hs apart.1 i j a b e f k)
-
-  pub visit_in : (hs : List (HistoryState T)) (vs : List (Visit T)) → AreVisits below front joined reduce content hs vs → (v : Visit T) → Member v vs → IsVisit below front joined reduce content hs v
-  visit_in hs (w ∷ vs) a v (inl e) = subst (IsVisit below front joined reduce content hs) (sym e) a.0
-  visit_in hs (w ∷ vs) a v (inr m) = visit_in hs vs a.1 v m
-  visit_in hs [] a v m = absurd m
 
   pub own_more : (k : ℕ) (cmp : T → T → Ordering) (hs : List (HistoryState T)) → AreHistories cmp k hs → (v : Visit T) → IsVisit below front joined reduce content hs v → (length v.history.key ≡ k) × ((u : Update T) → Member u v.more → of_key k v.history.key u ≡ true)
   own_more k cmp hs a v is =

@@ -1,28 +1,26 @@
 -- The new histories of the keys of a batch, made run by run.
-use Rattle.std.proofs.Common.{◌≡◌, ◌≢◌, ◌↔◌, ℕ, zero, suc, ◌≤◌, ◌<◌, Bool, true, false, cond, List, [], ◌∷◌, ◌++◌, ℤ, map, take, drop, length, slice_get, Some, Result, Ok, Err, IsTrue, flat_map, ◌⊎◌, inl, inr, ⊎_elim, refl, sym, ap, ◌∙◌, subst, arith}
+use Rattle.std.proofs.Common.{◌≡◌, ◌≢◌, ◌↔◌, ℕ, zero, suc, ◌≤◌, ◌<◌, Bool, true, false, cond, List, [], ◌∷◌, ◌++◌, ℤ, map, take, drop, length, slice_get, Some, IsTrue, flat_map, ◌⊎◌, inl, inr, ⊎_elim, refl, sym, ap, ◌∙◌, subst, arith}
 use Rattle.std.specs.Prelude.{slice_range}
 use Rattle.std.specs.List.{list_any, list_all, filter}
 use Rattle.std.specs.List.Sorted.{IsStrictlySortedBy}
 use Rattle.std.specs.Option.{IsSomeAnd}
-use Rattle.std.specs.Result.{IfOk}
 use Rattle.std.specs.declared.cmp.Ordering.{Ordering}
-use Rattle.std.proofs.lemmas.Bool.{or_from}
-use Rattle.std.proofs.lemmas.List.{append-nil, map-append, length-map}
+use Rattle.std.proofs.lemmas.List.{append-nil, map-append, map_push, length-map}
 use Rattle.std.proofs.lemmas.List.Elements.{filter-append}
 use Rattle.update.specs.Bags.{same_row}
 use Rattle.update.specs.Joins.{joins_of}
 use Rattle.update.specs.declared.change.Update.{Update}
 use Rattle.plan.proofs.CountLemmas.{row_same, row_itself}
-use Rattle.plan.proofs.ReductionLemmas.{row_differs}
+use Rattle.reduce.specs.declared.taking.Renewal.{Renewal}
 use Rattle.reduce.specs.Joined.{Member, IsFresh, of_key, times_of}
 use Rattle.reduce.specs.Adding.{SameMembers}
 use Rattle.reduce.specs.Histories.{HistoryState, AreKeysApart, AreHistories, ArePending, IsHistory, of_history, history_of, joined_of, due_of, given_of}
-use Rattle.reduce.specs.Taking.{HasTaken, HaveJoins, IsRenewed, AreRenewed, or_else}
+use Rattle.reduce.specs.Taking.{HasTaken, HaveJoins, IsRenewed, AreRenewed, made_from, or_else}
 use Rattle.reduce.proofs.HistoryLemmas.{at_place, of_absent, of_there, of_pushed, of_its_history, apart_pushed}
 use Rattle.reduce.proofs.KeyedLemmas.{own_kept}
 use Rattle.reduce.proofs.MemberLemmas.{in_right}
 use Rattle.reduce.proofs.RunLemmas.{IsRun, IsBorder, others_none, front_longer, run_first, run_some}
-use Rattle.reduce.proofs.TakingLemmas.{histories_behind}
+use Rattle.reduce.proofs.TakingLemmas.{absent_from, histories_behind}
 
 module _ {T : Type 0} where
   abbrev alone : HistoryState T → List (HistoryState T)
@@ -59,7 +57,7 @@ module _ {T : Type 0} where
     given_is = given ∙ sym (of_absent (λ h. h.given) key hs none);
   }
 
-  nothing_sorted : (cmp : T → T → Ordering) → IsStrictlySortedBy cmp []
+  pub nothing_sorted : (cmp : T → T → Ordering) → IsStrictlySortedBy cmp []
   unfolding IsStrictlySortedBy
   nothing_sorted cmp = tt
 
@@ -78,38 +76,33 @@ module _ {T : Type 0} where
   history_at cmp k (g ∷ gs) zero h all is = subst (IsHistory cmp k) (sym is) all.0
   history_at cmp k (g ∷ gs) (suc i) h all is = history_at cmp k gs i h all.1 is
 
-  -- a history of new times that were made from those of another one has taken the new ones
-  pub taken_from : (joined : T → T → T) (old : HistoryState T) (times due new : List T) (h : HistoryState T) (times2 due2 : List T) → times ≡ old.times → due ≡ old.due → h.times ≡ times2 → h.due ≡ due2
-      → ((before : List T) → SameMembers times (joins_of joined before) → SameMembers times2 (joins_of joined (new ++ before)))
-      → ((before : List T) → SameMembers times (joins_of joined before) → (t : T) → Member t due2 ↔ (Member t due ⊎ IsFresh joined new before t))
-      → HasTaken joined old.times old.due new h
-  taken_from joined old times due new h times2 due2 e f g i timely pending = record {
-    times_are = λ before same t. rw g (timely before (rw e same) t);
-    due_are = λ before same t. rw (i, ← f) (pending before (rw e same) t);
-  }
-
-  -- what is made from the history that stands for a key is the key's new history
-  pub renewed_from : {E : Type 0} (joined : T → T → T) (cmp : T → T → Ordering) (hs : List (HistoryState T)) (key : List ℤ) (old : HistoryState T) (read new : List T) (r : Result (HistoryState T) E) → StandsFor hs key old → read ≡ new
-      → IfOk r (λ h. h.key ≡ old.key) → IfOk r (λ h. IsHistory cmp (length old.key) h) → IfOk r (λ h. h.given ≡ old.given) → IfOk r (λ h. HasTaken joined old.times old.due read h)
-      → IfOk r (λ h. IsRenewed joined cmp (length key) hs key new h)
-  renewed_from joined cmp hs key old read new (Err e) stands same own history given taken = tt
-  renewed_from joined cmp hs key old read new (Ok h) stands same own history given taken = record {
-    key_is = own ∙ stands.key_is;
-    history = subst (λ r. IsHistory cmp (length r) h) stands.key_is history;
-    given_is = given ∙ stands.given_is;
-    taken = rw (← stands.times_are, ← stands.due_are, ← same) taken;
-  }
+  -- new times that were made from those of the history that stands for a key make the key's new history
+  pub renewed_from : (joined : T → T → T) (cmp : T → T → Ordering) (hs : List (HistoryState T)) (key : List ℤ) (old : HistoryState T) (new : List T) (r : Renewal T) → StandsFor hs key old → IsHistory cmp (length old.key) old → r.key ≡ key
+      → IsStrictlySortedBy cmp r.times.items → IsStrictlySortedBy cmp r.due.items
+      → ((before : List T) → SameMembers old.times (joins_of joined before) → SameMembers r.times.items (joins_of joined (new ++ before)))
+      → ((before : List T) → SameMembers old.times (joins_of joined before) → (t : T) → Member t r.due.items ↔ (Member t old.due ⊎ IsFresh joined new before t))
+      → IsRenewed joined cmp (length key) hs key new (made_from hs r)
+  renewed_from joined cmp hs key old new r stands is own sorted waits timely pending =
+      let a = subst (λ z. IsTrue (list_all (of_key (length z) z) old.given)) stands.key_is is.keyed in
+      let b = subst (λ us. IsTrue (list_all (of_key (length key) key) us)) stands.given_is a in
+      record {
+        key_is = own;
+        history = record {
+          width = ap length own;
+          times = sorted;
+          due = waits;
+          keyed = subst (λ z. IsTrue (list_all (of_key (length key) z) (given_of z hs))) (sym own) b;
+        };
+        given_is = ap (λ z. given_of z hs) own;
+        taken = record {
+          times_are = λ before same. timely before (λ t. subst (λ z. Member t z ↔ Member t (joins_of joined before)) (sym stands.times_are) (same t));
+          due_are = λ before same t.
+              subst (λ z. Member t r.due.items ↔ (Member t z ⊎ IsFresh joined new before t)) stands.due_are
+              (pending before (λ s. subst (λ z. Member s z ↔ Member s (joins_of joined before)) (sym stands.times_are) (same s)) t);
+        };
+      }
 
   -- ---- all of them
-
-  -- a key of which nothing is found has no history
-  absent_from : (key : List ℤ) (hs : List (HistoryState T)) → history_of key hs ≡ [] → list_any (λ g. same_row key g.key) hs ≡ false
-  absent_from key [] e = refl
-  absent_from key (h ∷ hs) e = step (same_row h.key key) refl e (absent_from key hs)
-    where
-      step : (b : Bool) → same_row h.key key ≡ b → cond b (h ∷ []) [] ++ history_of key hs ≡ [] → (history_of key hs ≡ [] → list_any (λ g. same_row key g.key) hs ≡ false) → list_any (λ g. same_row key g.key) (h ∷ hs) ≡ false
-      step true i e ih = absurd (let long : length (h ∷ history_of key hs) ≡ 0 = ap length e in omega (arith, long))
-      step false i e ih = or_from (same_row key h.key) (list_any (λ g. same_row key g.key) hs) (row_differs h.key key i) (ih e)
 
   -- the times of a key in both parts of a list
   times_parts : (k : ℕ) (key : List ℤ) (us vs : List (Update T)) → times_of k key (us ++ vs) ≡ times_of k key us ++ times_of k key vs
@@ -184,11 +177,11 @@ module _ {T : Type 0} (joined : T → T → T) (cmp : T → T → Ordering) (k :
           (was.0, other_history other d ∙ was.1, was.2, subst (λ ts. HasTaken joined (joined_of other hs) (due_of other hs) ts was.0) (sym (other_times other d)) was.3)
 
   -- one more run makes one more
-  pub renewed_step : (us : List (Update T)) (start end : ℕ) (key : List ℤ) (made new : List (HistoryState T)) (h : HistoryState T) → start ≤ end → end ≤ length us → IsRun k key us start end → IsBorder k (take start us) (drop start us)
-      → IsRenewed joined cmp k hs key (map (λ u. u.time) (slice_range us start end)) h → AreRenewed joined cmp k (take start us) hs made → new ≡ made ++ h ∷ [] → AreRenewed joined cmp k (take end us) hs new
-  renewed_step us start end key made new h g l run border one so_far push =
-      rw (push, front_longer us start end g)
-      (renewed_more (take start us) (slice_range us start end) key made h (run_first k key us start end g l run border) run.own (run_some k key us start end l run) one so_far)
+  pub renewed_step : (us : List (Update T)) (start end : ℕ) (key : List ℤ) (made new : List (Renewal T)) (r : Renewal T) → start ≤ end → end ≤ length us → IsRun k key us start end → IsBorder k (take start us) (drop start us)
+      → IsRenewed joined cmp k hs key (map (λ u. u.time) (slice_range us start end)) (made_from hs r) → AreRenewed joined cmp k (take start us) hs (map (made_from hs) made) → new ≡ made ++ r ∷ [] → AreRenewed joined cmp k (take end us) hs (map (made_from hs) new)
+  renewed_step us start end key made new r g l run border one so_far push =
+      rw (ap (map (made_from hs)) push ∙ map_push (made_from hs) made r, front_longer us start end g)
+      (renewed_more (take start us) (slice_range us start end) key (map (made_from hs) made) (made_from hs r) (run_first k key us start end g l run border) run.own (run_some k key us start end l run) one so_far)
 
   -- ---- pending times
 

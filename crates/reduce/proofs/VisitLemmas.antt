@@ -9,12 +9,11 @@ use Rattle.std.proofs.lemmas.List.Recursion.{is_sum_by}
 use Rattle.lattice.specs.Frontiers.{is_beyond}
 use Rattle.update.specs.Bags.{Entry}
 use Rattle.update.specs.declared.change.Update.{Update}
-use Rattle.reduce.specs.declared.visiting.Change.{Change}
 use Rattle.reduce.specs.Joined.{of_key}
 use Rattle.reduce.specs.Standing.{KeyStands}
 use Rattle.reduce.specs.Histories.{HistoryState, IsHistory, AreHistories}
 use Rattle.reduce.specs.Settling.{Settling}
-use Rattle.reduce.specs.Visiting.{Visit, IsVisit, AreVisits, Gathers, changes_of, waits_on, reads_of}
+use Rattle.reduce.specs.Visiting.{Visit, IsVisit, AreVisits, ChangeState, Gathers, changes_of, waits_on, waiting_at, reads_of}
 use Rattle.reduce.proofs.HistoryLemmas.{at_place}
 use Rattle.reduce.proofs.SettleLemmas.{drop_whole, take_whole}
 
@@ -117,7 +116,7 @@ module _ {T : Type 0} (below : T → T → Bool) (front : List T) (joined : T �
   gathers_none = record { places_are = refl; visits_are = tt; out_is = refl; changes_are = refl; waiting_is = refl; reads_are = refl }
 
   -- one more visit
-  pub gathers_more : (places : List ℕ) (i place : ℕ) → i < length places → place ≡ get_or places i place → (vs : List (Visit T)) (v : Visit T) (out out2 : List (Update T)) (changes changes2 : List (Change T)) (waiting waiting2 : List ℕ) (reads : ℕ)
+  pub gathers_more : (places : List ℕ) (i place : ℕ) → i < length places → place ≡ get_or places i place → (vs : List (Visit T)) (v : Visit T) (out out2 : List (Update T)) (changes changes2 : List (ChangeState T)) (waiting waiting2 : List ℕ) (reads : ℕ)
       → Gathers below front joined reduce content hs (take i places) vs out changes waiting reads
       → v.place ≡ place → IsVisit below front joined reduce content hs v → out2 ≡ out ++ v.more → changes2 ≡ changes ++ changes_of below front v → waiting2 ≡ waiting ++ waits_on v
       → Gathers below front joined reduce content hs (take (i + 1) places) (vs ++ v ∷ []) out2 changes2 waiting2 (sum_by (reads_of below front content) (vs ++ v ∷ []))
@@ -132,7 +131,7 @@ module _ {T : Type 0} (below : T → T → Bool) (front : List T) (joined : T �
 
   -- a visit that leaves all as it was: none of the pending times has passed
   pub left_alone : (place : ℕ) (h : HistoryState T) → slice_get hs place ≡ Some h → h.due ≢ [] → list_any (λ t. not (is_beyond below front t)) h.due ≡ false
-      → (out : List (Update T)) (changes : List (Change T)) (waiting waiting2 : List ℕ) (looked : ℕ) → waiting2 ≡ waiting ++ place ∷ []
+      → (out : List (Update T)) (changes : List (ChangeState T)) (waiting waiting2 : List ℕ) (looked : ℕ) → waiting2 ≡ waiting ++ place ∷ []
       → (v : Visit T) × (v.place ≡ place) × IsVisit below front joined reduce content hs v × (out ≡ out ++ v.more) × (changes ≡ changes ++ changes_of below front v) × (waiting2 ≡ waiting ++ waits_on v)
       × (looked ≤ looked + reads_of below front content v) × (min (looked + reads_of below front content v) (2 ^ 64 - 1) ≤ looked)
   left_alone place h here some none out changes waiting waiting2 looked w = (
@@ -155,9 +154,9 @@ module _ {T : Type 0} (below : T → T → Bool) (front : List T) (joined : T �
   -- a visit at which times are settled
   pub settled_there : (place : ℕ) (h : HistoryState T) → slice_get hs place ≡ Some h → list_any (λ t. not (is_beyond below front t)) h.due ≡ true
       → (more : List (Update T)) (rest : List T) → Settling below joined (length h.key) reduce h.key content h.given front h.due (length h.due) more rest
-      → (out out2 : List (Update T)) (changes changes2 : List (Change T)) (waiting waiting2 : List ℕ) (looked looked2 n : ℕ)
-      → out2 ≡ out ++ more → changes2 ≡ changes ++ record { place = place; history = record h { due = rest; given = h.given ++ more } } ∷ []
-      → waiting2 ≡ waiting ++ waits_on (record { place = place; history = h; more = more; rest = rest })
+      → (out out2 : List (Update T)) (changes changes2 : List (ChangeState T)) (waiting waiting2 : List ℕ) (looked looked2 n : ℕ)
+      → out2 ≡ out ++ more → changes2 ≡ changes ++ record { place = place; many = length more; rest = rest } ∷ []
+      → waiting2 ≡ waiting ++ waiting_at place rest
       → n ≡ length (filter (of_key (length h.key) h.key) content) → looked2 ≡ min (looked + n) (2 ^ 64 - 1)
       → (v : Visit T) × (v.place ≡ place) × IsVisit below front joined reduce content hs v × (out2 ≡ out ++ v.more) × (changes2 ≡ changes ++ changes_of below front v) × (waiting2 ≡ waiting ++ waits_on v)
       × (looked2 ≤ looked + reads_of below front content v) × (min (looked + reads_of below front content v) (2 ^ 64 - 1) ≤ looked2)

@@ -1,10 +1,27 @@
 -- What taking a batch makes of the histories of its keys.
-use Rattle.std.specs.Prelude.{◌≡◌, ◌↔◌, ◌⊎◌, ℕ, List, [], ◌∷◌, ◌++◌, ℤ}
+use Rattle.std.specs.Prelude.{◌≡◌, ◌↔◌, ◌⊎◌, ℕ, false, List, [], ◌∷◌, ◌++◌, ℤ, Option, Some, None, IsSomeAnd, slice_get}
+use Rattle.std.specs.List.{list_any}
 use Rattle.std.specs.declared.cmp.Ordering.{Ordering}
+use Rattle.update.specs.Bags.{same_row}
 use Rattle.update.specs.Joins.{joins_of}
 use Rattle.update.specs.declared.change.Update.{Update}
+use Rattle.reduce.specs.declared.taking.Renewal.{Renewal}
 use Rattle.reduce.specs.Joined.{Member, times_of, IsFresh}
 use Rattle.reduce.specs.Histories.{HistoryState, IsHistory, AreHistories, AreKeysApart, history_of, due_of, joined_of, given_of}
+
+module _ {T : Type 0} where
+  -- the history that is made of a key: what was given of it stays
+  abbrev pub made_from : List (HistoryState T) → Renewal T → HistoryState T
+  made_from hs r = record { key = r.key; times = r.times.items; due = r.due.items; given = given_of r.key hs }
+
+  -- the place of the history of a key, or none if the key has no history
+  abbrev pub IsPlaceOf : List (HistoryState T) → List ℤ → Option ℕ → Type 0
+  IsPlaceOf hs key (Some i) = IsSomeAnd (slice_get hs i) (λ h. h.key ≡ key)
+  IsPlaceOf hs key None = list_any (λ h. same_row key h.key) hs ≡ false
+
+  -- what is made of a key has the place of the key's history
+  abbrev pub IsPlaced : List (HistoryState T) → Renewal T → Type 0
+  IsPlaced hs r = IsPlaceOf hs r.key r.place
 
 module _ {T : Type 0} (joined : T → T → T) where
   -- these times and pending times are those of a key that had `times` and `due`, with new ones

@@ -1,12 +1,11 @@
--- How a reduction goes through the keys that wait: each is visited once, and its history is renewed.
-use Rattle.std.specs.Prelude.{◌≡◌, ℕ, Bool, not, List, [], ◌∷◌, ◌++◌, map, set, slice_get, Some, IsSomeAnd, if◌then◌else◌, flat_map, length, sum_by, nat_eq, ℤ}
+-- How a reduction goes through the keys that wait: each is visited once, and then its history is changed in place.
+use Rattle.std.specs.Prelude.{◌≡◌, ◌<◌, ◌≤◌, ℕ, Bool, not, List, [], ◌∷◌, ◌++◌, map, set, take, drop, slice_get, Some, if◌then◌else◌, flat_map, length, sum_by, nat_eq, ℤ}
 use Rattle.std.specs.List.{filter, list_any}
 use Rattle.lattice.specs.Frontiers.{is_beyond}
 use Rattle.update.specs.Bags.{Entry}
 use Rattle.update.specs.declared.change.Update.{Update}
-use Rattle.reduce.specs.declared.visiting.Change.{Change}
-use Rattle.reduce.specs.Joined.{of_key}
-use Rattle.reduce.specs.Histories.{HistoryState}
+use Rattle.reduce.specs.Joined.{Member, of_key}
+use Rattle.reduce.specs.Histories.{HistoryState, changed_at, given_more, given_less, due_left}
 use Rattle.reduce.specs.Settling.{Settling}
 
 -- the place of a history, the history as it was, what is given of its key, and the times that are still pending
@@ -26,29 +25,58 @@ module _ {T : Type 0} where
   all_renewed [] hs = hs
   all_renewed (v ∷ vs) hs = all_renewed vs (set hs v.place (renewed v))
 
-  -- all histories after some of them were replaced
-  abbrev pub all_replaced : List (Change T) → List (HistoryState T) → List (HistoryState T)
-  all_replaced [] hs = hs
-  all_replaced (c ∷ cs) hs = all_replaced cs (set hs c.place c.history)
+  -- the key at a place waits on if some of its times are still pending
+  abbrev pub waiting_at : ℕ → List T → List ℕ
+  waiting_at place rest = if nat_eq (length rest) 0 then [] else place ∷ []
 
-  -- each of them is of the key that has a history at its place
-  abbrev pub AreChanges : List (Change T) → List (HistoryState T) → Type 0
-  AreChanges [] hs = Unit {0}
-  AreChanges (c ∷ cs) hs =
-      IsSomeAnd (slice_get hs c.place) (λ h. h.key ≡ c.history.key) × AreChanges cs (set hs c.place c.history)
-
-  -- a key waits on if some of its times are still pending
+  -- the key waits on after a visit
   abbrev pub waits_on : Visit T → List ℕ
-  waits_on v = if nat_eq (length v.rest) 0 then [] else v.place ∷ []
+  waits_on v = waiting_at v.place v.rest
+
+-- what is new of a key: the place of its history, how many updates are given of it, and the times that are still pending
+pub record ChangeState (T : Type 0) : Type 0 where
+  pub place : ℕ
+  pub many : ℕ
+  pub rest : List T
+
+module _ {T : Type 0} where
+  -- each of them is of one of so many histories
+  abbrev pub AreWithin : ℕ → List (ChangeState T) → Type 0
+  AreWithin many cs = (c : ChangeState T) → Member c cs → c.place < many
+
+  -- the updates are given one key after the other
+  abbrev pub AreCut : List (ChangeState T) → List (Update T) → Type 0
+  AreCut [] out = Unit {0}
+  AreCut (c ∷ cs) out = (c.many ≤ length out) × AreCut cs (drop c.many out)
+
+  -- the histories with what is given of each key appended
+  abbrev pub all_given : List (ChangeState T) → List (Update T) → List (HistoryState T) → List (HistoryState T)
+  all_given [] out hs = hs
+  all_given (c ∷ cs) out hs = all_given cs (drop c.many out) (changed_at c.place (given_more (take c.many out)) hs)
+
+  -- the histories with what was appended taken back, the last first
+  abbrev pub all_taken_back : List (ChangeState T) → List (HistoryState T) → List (HistoryState T)
+  all_taken_back [] hs = hs
+  all_taken_back (c ∷ cs) hs = changed_at c.place (given_less c.many) (all_taken_back cs hs)
+
+  -- the histories with the times of each key that are still pending
+  abbrev pub all_left : List (ChangeState T) → List (HistoryState T) → List (HistoryState T)
+  all_left [] hs = hs
+  all_left (c ∷ cs) hs = all_left cs (changed_at c.place (due_left c.rest) hs)
+
+  -- the histories with both: what is given is appended, and the times that are still pending are put in place
+  abbrev pub all_changed : List (ChangeState T) → List (Update T) → List (HistoryState T) → List (HistoryState T)
+  all_changed [] out hs = hs
+  all_changed (c ∷ cs) out hs = all_changed cs (drop c.many out) (changed_at c.place (λ h. due_left c.rest (given_more (take c.many out) h)) hs)
 
 module _ {T : Type 0} (below : T → T → Bool) (front : List T) where
   -- the frontier has passed some pending time of the key
   abbrev pub is_due : HistoryState T → Bool
   is_due h = list_any (λ t. not (is_beyond below front t)) h.due
 
-  -- what is replaced at a visit
-  abbrev pub changes_of : Visit T → List (Change T)
-  changes_of v = if is_due v.history then record { place = v.place; history = renewed v } ∷ [] else []
+  -- what is new after a visit
+  abbrev pub changes_of : Visit T → List (ChangeState T)
+  changes_of v = if is_due v.history then record { place = v.place; many = length v.more; rest = v.rest } ∷ [] else []
 
   -- how many updates are read at a visit
   abbrev pub reads_of : List (Update T) → Visit T → ℕ
@@ -66,7 +94,7 @@ module _ {T : Type 0} (below : T → T → Bool) (front : List T) where
     AreVisits (v ∷ vs) = IsVisit v × AreVisits vs
 
     -- what is gathered at visits to these places
-    pub record Gathers (places : List ℕ) (visits : List (Visit T)) (out : List (Update T)) (changes : List (Change T)) (waiting : List ℕ) (reads : ℕ) : Type 0 where
+    pub record Gathers (places : List ℕ) (visits : List (Visit T)) (out : List (Update T)) (changes : List (ChangeState T)) (waiting : List ℕ) (reads : ℕ) : Type 0 where
       pub places_are : map (λ v. v.place) visits ≡ places
       pub visits_are : AreVisits visits
       pub out_is : out ≡ flat_map (λ v. v.more) visits

@@ -5,12 +5,14 @@
 //! no key occurs twice. No history is ever removed. So the index of a history never changes, and other tables can refer
 //! to a history by its index.
 //!
-//! Only [`Histories::reserve`] takes memory. A caller reserves room first, and then no later step can be refused.
-ghost use Rattle.std.specs.Prelude.{◌≡◌, ◌≤◌, ◌<◌, ◌+◌, ◌++◌, ◌∷◌, [], None, false, IfErr, IfSome, IsSomeAnd, OnOk, length, set, slice_get};
+//! A history is changed at its index, and keeps its key. Only [`Histories::reserve`] and [`Histories::give`] take memory. A
+//! caller that pushes histories reserves room first, and then no later step can be refused. What was given can be taken
+//! back.
+ghost use Rattle.std.specs.Prelude.{◌≡◌, ◌≤◌, ◌<◌, ◌+◌, ◌++◌, ◌∷◌, [], None, false, IfErr, IfSome, IsSomeAnd, OnErr, OnOk, length, slice_get};
 ghost use Rattle.std.specs.List.{list_any};
 ghost use Rattle.update.specs.Bags.{same_row};
 ghost use Rattle.update.specs.declared.refusal.Refusal.{Refusal};
-ghost use Rattle.reduce.specs.Histories.{AreKeysApart};
+ghost use Rattle.reduce.specs.Histories.{AreKeysApart, changed_at, given_more, given_less, due_left, times_put};
 
 use crate::history::KeyHistory;
 use indexmap::IndexSet;
@@ -18,7 +20,7 @@ use lattice::Lattice;
 use row::Row;
 use std::alloc::Global;
 use std::marker::Model;
-use update::Refusal;
+use update::{Refusal, Update};
 
 /// The histories of all keys, each key once. A contract sees the histories in order of arrival, and how many more there
 /// is room for.
@@ -120,13 +122,51 @@ impl<T: Lattice> Histories<T> {
         self.histories.push(history).unwrap();
     }
 
-    /// Replaces the history at an index by a new history of the same key. Takes no memory.
-    pub(crate) fn replace(&mut self, i: usize, history: KeyHistory<T>)
-        requires within { i < length self.old.items }
-        requires same { IsSomeAnd (slice_get self.old.items i) (λ h. h.key ≡ history.key) }
-        ensures items { self.new.items ≡ set self.old.items i history }
+    /// Puts other joined times of the key at an index in place, and the pending ones among them. What was given of the key
+    /// stays. Takes no memory.
+    pub(crate) fn put_times(&mut self, i: usize, times: Vec<T>, due: Vec<T>)
+        requires { i < length self.old.items }
+        ensures items { self.new.items
+            ≡ changed_at i (times_put times.items due.items) self.old.items }
         ensures room { self.new.spare ≡ self.old.spare }
     {
-        self.histories[i] = history;
+        let history = &mut self.histories[i];
+        history.put_times(times, due);
+    }
+
+    /// Appends copies of updates to what was given of the key at an index. If the call is refused, then no history has
+    /// changed.
+    ///
+    /// [`Refusal::OutOfMemory`] only if memory for the copies was refused.
+    ///
+    /// Cost: that of [`KeyHistory::give`].
+    pub(crate) fn give(&mut self, i: usize, more: &[Update<T>]) -> Result<(), Refusal>
+        requires { i < length self.old.items }
+        ensures items { OnOk result
+            (self.new.items ≡ changed_at i (given_more more.now) self.old.items) }
+        ensures same { OnErr result (self.new.items ≡ self.old.items) }
+        ensures only { IfErr result (λ refused. refused ≡ Refusal.OutOfMemory) }
+    {
+        let history = &mut self.histories[i];
+        history.give(more)?;
+        Ok(())
+    }
+
+    /// Takes back the last `many` updates that were given of the key at an index. Takes no memory.
+    pub(crate) fn take_back(&mut self, i: usize, many: usize)
+        requires { i < length self.old.items }
+        ensures { self.new.items ≡ changed_at i (given_less many) self.old.items }
+    {
+        let history = &mut self.histories[i];
+        history.take_back(many);
+    }
+
+    /// Leaves these times of the key at an index pending. Takes no memory.
+    pub(crate) fn leave(&mut self, i: usize, due: Vec<T>)
+        requires { i < length self.old.items }
+        ensures { self.new.items ≡ changed_at i (due_left due.items) self.old.items }
+    {
+        let history = &mut self.histories[i];
+        history.leave(due);
     }
 }

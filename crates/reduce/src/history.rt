@@ -1,14 +1,15 @@
-//! The history of one key: its joined times, which of them are pending, and what was given of it. Whatever changes a
-//! history makes a new one and puts it in the place of the old one. So a call that is refused on its way has changed
-//! none.
-ghost use Rattle.std.specs.Prelude.{◌≡◌, List, [], ℤ};
-ghost use Rattle.reduce.specs.Histories.{HistoryState};
+//! The history of one key: its joined times, which of them are pending, and what was given of it. A history is changed in
+//! place, so a change costs what is new and not what the key has been through. Only [`KeyHistory::give`] takes memory, and
+//! what it appends can be taken back. So a call that is refused on its way can leave each history as it was.
+ghost use Rattle.std.specs.Prelude.{◌≡◌, ◌≤◌, ◌+◌, ◌++◌, List, [], ℤ, IfErr, OnErr, OnOk, length, vec_capacity, vec_len};
+ghost use Rattle.update.specs.declared.refusal.Refusal.{Refusal};
+ghost use Rattle.reduce.specs.Histories.{HistoryState, given_more, given_less, due_left, times_put};
 
 use lattice::Lattice;
 use row::Row;
 use std::alloc::Global;
 use std::marker::Model;
-use update::Update;
+use update::{Refusal, Update};
 
 /// A key with its joined times, the pending ones among them, and what was given of it, as a contract sees it.
 #[derive(Drop)]
@@ -30,6 +31,30 @@ impl<T> Model for KeyHistory<T> {
       due = h.due.items;
       given = h.given.items;
     } };
+}
+
+// Makes room for so many more updates. A first list gets no more room than that, since many keys get no second one.
+fn make_room<T: Lattice>(list: &mut Vec<Update<T>>, more: usize) -> Result<(), Refusal>
+    ensures items { list.new.items ≡ list.old.items }
+    ensures room { OnOk result (vec_len list.new + more ≤ vec_capacity list.new) }
+    ensures only { IfErr result (λ refused. refused ≡ Refusal.OutOfMemory) }
+{
+    if list.is_empty() {
+        list.reserve_exact(more)?;
+        return Ok(());
+    }
+    list.reserve(more)?;
+    Ok(())
+}
+
+// Appends copies of updates to a list that has room for them. Takes no memory.
+fn push_copies<T: Lattice>(list: &mut Vec<Update<T>>, more: &[Update<T>])
+    requires room { vec_len list.old + length more.now ≤ vec_capacity list.old }
+    ensures pushed { list.new.items ≡ list.old.items ++ more.now }
+{
+    for update in more {
+        list.push(update.copy()).unwrap();
+    }
 }
 
 impl<T: Lattice> KeyHistory<T> {
@@ -76,5 +101,43 @@ impl<T: Lattice> KeyHistory<T> {
         ensures { result.now ≡ self.now.given }
     {
         self.given.as_slice()
+    }
+
+    /// Appends copies of updates to what was given. If the call is refused, then nothing has changed.
+    ///
+    /// [`Refusal::OutOfMemory`] only if memory for the copies was refused.
+    ///
+    /// Cost: a copy of `more`. If there is no room for it, then the list of what was given moves to one of twice the room.
+    pub(crate) fn give(&mut self, more: &[Update<T>]) -> Result<(), Refusal>
+        ensures given { OnOk result (self.new ≡ given_more more.now self.old) }
+        ensures same { OnErr result (self.new ≡ self.old) }
+        ensures only { IfErr result (λ refused. refused ≡ Refusal.OutOfMemory) }
+    {
+        make_room(&mut self.given, more.len())?;
+        push_copies(&mut self.given, more);
+        Ok(())
+    }
+
+    /// Takes back the last `many` updates that were given. Takes no memory.
+    pub(crate) fn take_back(&mut self, many: usize)
+        ensures { self.new ≡ given_less many self.old }
+    {
+        let left = self.given.len().saturating_sub(many);
+        self.given.truncate(left);
+    }
+
+    /// Puts other joined times in place, and the pending ones among them. Takes no memory.
+    pub(crate) fn put_times(&mut self, times: Vec<T>, due: Vec<T>)
+        ensures { self.new ≡ times_put times.items due.items self.old }
+    {
+        self.times = times;
+        self.due = due;
+    }
+
+    /// Leaves these times pending. Takes no memory.
+    pub(crate) fn leave(&mut self, due: Vec<T>)
+        ensures { self.new ≡ due_left due.items self.old }
+    {
+        self.due = due;
     }
 }

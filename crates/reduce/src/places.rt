@@ -1,8 +1,7 @@
 //! A list of places: the indices of the histories that have pending times, so that a reduction visits these and no
 //! others.
 //!
-//! Only [`Places::reserve`] takes memory, as for [`Histories`](crate::histories::Histories). A caller reserves room first,
-//! and then no later step can be refused.
+//! Only [`Places::reserve`] takes memory. A caller reserves room first, and then no later step can be refused.
 ghost use Rattle.std.specs.Prelude.{◌≡◌, ◌≤◌, ◌+◌, ◌++◌, ◌∷◌, [], IfErr, OnOk};
 ghost use Rattle.update.specs.declared.refusal.Refusal.{Refusal};
 

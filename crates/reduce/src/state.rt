@@ -6,7 +6,8 @@
 //! time what was given is right. So a correction of the past, which makes its time and all later joined times pending,
 //! is given at each of them once, whichever way it alters the answers.
 //!
-//! A call gathers all that it changes aside, and puts it in place at its end. So a refusal leaves the state as it was.
+//! A call gathers all that it changes aside, and changes the histories in place at its end. What it has appended by then is
+//! taken back if memory for more is refused. So a refusal leaves the state as it was.
 ghost use Rattle.std.specs.Prelude.{◌≡◌, ◌≢◌, ◌↔◌, ◌⊎◌, ◌≤◌, ◌<◌, ◌+◌, ◌-◌, ◌^◌, ◌++◌, ◌||◌, [], ℕ, ℤ, List, false, true, length, min, pos, take, slice_get, IfErr, IfOk, IsSomeAnd, OnErr, OnOk, IsTrue};
 ghost use Rattle.std.specs.List.{AllByRecursion, filter};
 ghost use Rattle.lattice.specs.Frontiers.{is_beyond};
@@ -26,7 +27,7 @@ ghost use Rattle.reduce.specs.Reductions.{StandsFor, IsOpenTo, IsQuietAt, SumsTo
 use crate::histories::Histories;
 use crate::places::Places;
 use crate::taking::{put_all, renewed_by};
-use crate::visiting::{Gathered, replace_all, visit_all};
+use crate::visiting::{Gathered, change_all, visit_all};
 use crate::{KeyHistory, Reducer};
 use antichain::Antichain;
 use batch::BatchReader;
@@ -164,8 +165,8 @@ impl<T: Lattice, R: Reducer> ReduceState<T, R> {
     /// Each row of the batch has at least as many columns as the key. [`Refusal::OutOfMemory`] only if memory for the
     /// times, or for the histories of the keys, was refused.
     ///
-    /// Cost: for each key of the batch one look-up of a hash and a copy of its history; for each new time of a key a
-    /// join with each joined time that the key has.
+    /// Cost: for each key of the batch one look-up of a hash and a copy of its times; for each new time of a key a join with
+    /// each joined time that the key has. What was given of a key is not touched.
     pub fn take<B: BatchReader<Time = T>>(
         &mut self,
         alloc: Global,
@@ -203,7 +204,7 @@ impl<T: Lattice, R: Reducer> ReduceState<T, R> {
         let made = renewed_by(alloc, self.key, &self.histories, batch)?;
         self.histories.reserve(made.len())?;
         self.waiting.reserve(made.len())?;
-        put_all(&mut self.histories, &mut self.waiting, made);
+        put_all(alloc, &mut self.histories, &mut self.waiting, made);
         Ok(())
     }
 
@@ -222,8 +223,9 @@ impl<T: Lattice, R: Reducer> ReduceState<T, R> {
     /// - [`Refusal::OutOfMemory`] only if memory was refused.
     ///
     /// Cost: a comparison with the frontier for each pending time. For each key of which some time is due two binary
-    /// searches in each batch, and a copy of its history. For each due time one pass over the rows of the key and over
-    /// what was given of it, and n log n in the number of rows at or before the time. No other key is read.
+    /// searches in each batch. For each due time one pass over the rows of the key and over what was given of it, and
+    /// n log n in the number of rows at or before the time. What is given is copied once, into the histories of its keys;
+    /// what was given before is not. No other key is read.
     pub fn ready<S: Trace<Time = T>>(
         &mut self,
         alloc: Global,
@@ -299,7 +301,7 @@ impl<T: Lattice, R: Reducer> ReduceState<T, R> {
             batches,
             self.looked,
         )?;
-        replace_all(&mut self.histories, changes);
+        change_all(&mut self.histories, changes, out.as_slice())?;
         self.waiting = Places::from(waiting);
         self.looked = looked;
         Ok(out)

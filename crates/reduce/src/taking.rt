@@ -1,16 +1,17 @@
 //! Taking a batch: what it makes of the histories of its keys.
 //!
 //! A batch is in order of row, so the updates of one key are neighbours: a run. The batch is read run by run, and each
-//! run makes one new history. The invariant: the new histories are those of the keys of the runs that were read, and no
-//! later run has one of these keys.
+//! run makes the new times of one key. The invariant: the keys that have new times are those of the runs that were read,
+//! and no later run has one of these keys.
 //!
-//! All new histories are made before any of them is put in place. If making them is refused, nothing has changed. Putting
-//! them in place takes no memory, so a batch is never taken in part.
+//! All new times are made before any of them is put in place. If making them is refused, nothing has changed. Putting
+//! them in place takes no memory, so a batch is never taken in part. What was given of a key stays where it is.
 ghost use Rattle.std.specs.Prelude.{◌≡◌, ◌≢◌, ◌≤◌, ◌<◌, ◌+◌, ◌∷◌, [], ℕ, ℤ, List, IsTrue, IsSomeAnd, IfOk, IfErr, length, map, slice_get, slice_range, take};
+ghost use Rattle.std.specs.List.{AllByRecursion};
 ghost use Rattle.update.specs.declared.refusal.Refusal.{Refusal};
 ghost use Rattle.reduce.specs.Standing.{are_wide};
 ghost use Rattle.reduce.specs.Histories.{AreHistories, AreKeysApart, ArePending, IsHistory, IsWaiting, history_of};
-ghost use Rattle.reduce.specs.Taking.{AreRenewed, HasTaken, HaveJoins, IsRenewed, or_else};
+ghost use Rattle.reduce.specs.Taking.{AreRenewed, HaveJoins, IsPlaced, IsRenewed, made_from, or_else};
 
 use crate::histories::Histories;
 use crate::history::KeyHistory;
@@ -21,18 +22,16 @@ use lattice::Lattice;
 use row::Row;
 use std::alloc::Global;
 use std::ops::Range;
-use update::{Refusal, Update};
+use update::Refusal;
 
-// Copies of updates. One allocation.
-fn copied<T: Lattice>(alloc: Global, updates: &[Update<T>]) -> Result<Vec<Update<T>>, Refusal>
-    ensures copied { IfOk result (λ copies. copies.items ≡ updates.now) }
-    ensures only { IfErr result (λ refused. refused ≡ Refusal.OutOfMemory) }
-{
-    let mut copies = Vec::with_capacity(alloc, updates.len())?;
-    for update in updates {
-        copies.push(update.copy())?;
-    }
-    Ok(copies)
+/// What a batch makes of a key: its joined times, and which of them are pending. `place` is that of its history, if it
+/// has one.
+#[derive(Drop)]
+pub(crate) struct Renewal<T> {
+    key: Row,
+    place: Option<usize>,
+    times: Vec<T>,
+    due: Vec<T>,
 }
 
 // The key of update `i` of a batch: the first `k` columns of its row.
@@ -66,74 +65,76 @@ fn times_in<B: BatchReader>(
     Ok(times)
 }
 
-// The history of a key after new times. What was given of the key stays the same.
-fn renewed<T: Lattice>(
-    alloc: Global,
-    history: &KeyHistory<T>,
-    new: &[T],
-) -> Result<KeyHistory<T>, Refusal>
-    requires history { IsHistory T.cmp (length history.now.key) history.now }
-    ensures key { IfOk result (λ h. h.key ≡ history.now.key) }
-    ensures history { IfOk result (λ h. IsHistory T.cmp (length history.now.key) h) }
-    ensures given { IfOk result (λ h. h.given ≡ history.now.given) }
-    ensures taken { IfOk result
-        (λ h. HasTaken T.joined history.now.times history.now.due new.now h) }
-    ensures only { IfErr result (λ refused. refused ≡ Refusal.OutOfMemory) }
-{
-    let JoinedTimes { times, due } = with_times(alloc, history.times(), history.due(), new)?;
-    let given = copied(alloc, history.given())?;
-    Ok(KeyHistory::of(history.key().copy(), times, due, given))
-}
-
-// The new history of a key whose updates in the batch are those of this run. If the key has no history yet, it begins
-// with an empty one.
+// What the run of a key's updates in the batch makes of the key. If the key has no history yet, it begins with no times.
 fn renewed_run<T: Lattice, B: BatchReader<Time = T>>(
     alloc: Global,
     key: Row,
     histories: &Histories<T>,
     batch: &B,
     run: Range<usize>,
-) -> Result<KeyHistory<T>, Refusal>
+) -> Result<Renewal<T>, Refusal>
     requires ordered { run.start ≤ run.end }
     requires within { run.end ≤ length (B.content batch.now) }
     requires known { AreHistories T.cmp (length key) histories.now.items }
-    ensures renewed { IfOk result (λ h.
+    ensures renewed { IfOk result (λ r.
         IsRenewed T.joined T.cmp (length key) histories.now.items key
-        (map (λ u. u.time) (slice_range (B.content batch.now) run.start run.end)) h) }
+        (map (λ u. u.time) (slice_range (B.content batch.now) run.start run.end))
+        (made_from histories.now.items r)) }
+    ensures placed { IfOk result (λ r. IsPlaced histories.now.items r) }
     ensures only { IfErr result (λ refused. refused ≡ Refusal.OutOfMemory) }
 {
     histories.known();
     let new = times_in(alloc, batch, run)?;
     match histories.find(&key) {
-        Some(i) => renewed(alloc, histories.get(i), &new),
+        Some(i) => {
+            let history = histories.get(i);
+            let made = with_times(alloc, history.times(), history.due(), &new)?;
+            let JoinedTimes { times, due } = made;
+            Ok(Renewal {
+                key,
+                place: Some(i),
+                times,
+                due,
+            })
+        }
         None => {
-            let none = KeyHistory::of(key, Vec::new(alloc), Vec::new(alloc), Vec::new(alloc));
-            renewed(alloc, &none, &new)
+            let none = Vec::new(alloc);
+            let made = with_times(alloc, &none, &none, &new)?;
+            let JoinedTimes { times, due } = made;
+            Ok(Renewal {
+                key,
+                place: None,
+                times,
+                due,
+            })
         }
     }
 }
 
-/// The new histories of the keys of a batch, one for each key. A new history has the old times and pending times of the
-/// key with the new ones added, and what was given of the key. None is put in place yet.
+/// What a batch makes of its keys, one renewal for each. It has the old joined and pending times of the key with the new
+/// ones added. None is put in place yet.
 ///
-/// [`Refusal::OutOfMemory`] only if memory for the new histories was refused.
+/// [`Refusal::OutOfMemory`] only if memory for the new times was refused.
 ///
-/// Cost: for each key of the batch one look-up of a hash, a seek for the end of its run, the cost of [`with_times`] for
-/// its times in the batch, and a copy of what was given of it.
+/// Cost: for each key of the batch one look-up of a hash, a seek for the end of its run, and the cost of [`with_times`] for
+/// its times in the batch.
 pub(crate) fn renewed_by<T: Lattice, B: BatchReader<Time = T>>(
     alloc: Global,
     k: usize,
     histories: &Histories<T>,
     batch: &B,
-) -> Result<Vec<KeyHistory<T>>, Refusal>
+) -> Result<Vec<Renewal<T>>, Refusal>
     requires some { 1 ≤ k }
     requires few { k ≤ 8 }
     requires wide { IsTrue (are_wide k (B.content batch.now)) }
     requires known { AreHistories T.cmp k histories.now.items }
     ensures made { IfOk result (λ made.
-        AreRenewed T.joined T.cmp k (B.content batch.now) histories.now.items made.items) }
-    ensures due { IfOk result
-        (λ made. HaveJoins T.joined histories.now.items → ArePending made.items) }
+        AreRenewed T.joined T.cmp k (B.content batch.now) histories.now.items
+        (map (made_from histories.now.items) made.items)) }
+    ensures placed { IfOk result
+        (λ made. AllByRecursion (IsPlaced histories.now.items) made.items) }
+    ensures due { IfOk result (λ made. HaveJoins T.joined histories.now.items
+        → ArePending (map (made_from histories.now.items) made.items)) }
     ensures only { IfErr result (λ refused. refused ≡ Refusal.OutOfMemory) }
 {
     let mut made = Vec::new(alloc);
@@ -147,56 +148,77 @@ pub(crate) fn renewed_by<T: Lattice, B: BatchReader<Time = T>>(
     Ok(made)
 }
 
-// Puts a new history in the place of the old one of its key, or behind all.
-fn put_one<T: Lattice>(histories: &mut Histories<T>, waiting: &mut Places, history: KeyHistory<T>)
+// Puts the new times of a key in the place of the old ones, or a history with them behind all.
+fn put_one<T: Lattice>(
+    alloc: Global,
+    histories: &mut Histories<T>,
+    waiting: &mut Places,
+    renewal: Renewal<T>,
+)
     requires room { 1 ≤ histories.old.spare }
     requires place { 1 ≤ waiting.old.spare }
-    requires due { history.due ≢ [] }
+    requires placed { IsPlaced histories.old.items renewal }
+    requires due { renewal.due.items ≢ [] }
     requires waiting { IsWaiting histories.old.items waiting.old.items }
     ensures room { histories.old.spare ≤ histories.new.spare + 1 }
     ensures place { waiting.old.spare ≤ waiting.new.spare + 1 }
     ensures found { (key : List ℤ) → history_of key histories.new.items
-        ≡ or_else (history_of key (history ∷ [])) (history_of key histories.old.items) }
+        ≡ or_else (history_of key (made_from histories.old.items renewal ∷ []))
+        (history_of key histories.old.items) }
     ensures waiting { IsWaiting histories.new.items waiting.new.items }
     ensures known { (k : ℕ) → AreHistories T.cmp k histories.old.items
-        → IsHistory T.cmp k history → AreHistories T.cmp k histories.new.items }
+        → IsHistory T.cmp k (made_from histories.old.items renewal)
+        → AreHistories T.cmp k histories.new.items }
+    ensures kept { (i : ℕ) (key : List ℤ)
+        → IsSomeAnd (slice_get histories.old.items i) (λ h. h.key ≡ key)
+        → IsSomeAnd (slice_get histories.new.items i) (λ h. h.key ≡ key) }
 {
     let end = histories.len();
-    match histories.find(history.key()) {
+    let Renewal {
+        key,
+        place,
+        times,
+        due,
+    } = renewal;
+    match place {
         Some(i) => {
             if histories.get(i).due().is_empty() {
                 waiting.push(i);
             }
-            histories.replace(i, history);
+            histories.put_times(i, times, due);
         }
         None => {
             waiting.push(end);
-            histories.push(history);
+            histories.push(KeyHistory::of(key, times, due, Vec::new(alloc)));
         }
     }
 }
 
-/// Puts the new histories in the place of the old ones of their keys, or behind all. Takes no memory, so nothing here
+/// Puts the new times of keys in place: in their histories, or in new ones behind all. Takes no memory, so nothing here
 /// can be refused.
 ///
-/// Cost: one look-up of a hash for each history, and another one for each new key.
+/// Cost: one look-up of a hash for each new key. A history that is there already keeps what was given of its key.
 pub(crate) fn put_all<T: Lattice>(
+    alloc: Global,
     histories: &mut Histories<T>,
     waiting: &mut Places,
-    made: Vec<KeyHistory<T>>,
+    made: Vec<Renewal<T>>,
 )
     requires room { length made.items ≤ histories.old.spare }
     requires places { length made.items ≤ waiting.old.spare }
-    requires apart { AreKeysApart made.items }
-    requires due { ArePending made.items }
+    requires placed { AllByRecursion (IsPlaced histories.old.items) made.items }
+    requires apart { AreKeysApart (map (made_from histories.old.items) made.items) }
+    requires due { ArePending (map (made_from histories.old.items) made.items) }
     requires waiting { IsWaiting histories.old.items waiting.old.items }
     ensures found { (key : List ℤ) → history_of key histories.new.items
-        ≡ or_else (history_of key made.items) (history_of key histories.old.items) }
+        ≡ or_else (history_of key (map (made_from histories.old.items) made.items))
+        (history_of key histories.old.items) }
     ensures waiting { IsWaiting histories.new.items waiting.new.items }
     ensures known { (k : ℕ) → AreHistories T.cmp k histories.old.items
-        → AreHistories T.cmp k made.items → AreHistories T.cmp k histories.new.items }
+        → AreHistories T.cmp k (map (made_from histories.old.items) made.items)
+        → AreHistories T.cmp k histories.new.items }
 {
-    for history in made {
-        put_one(histories, waiting, history);
+    for renewal in made {
+        put_one(alloc, histories, waiting, renewal);
     }
 }

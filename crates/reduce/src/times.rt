@@ -1,14 +1,15 @@
 //! The joined times of a key, in two ascending lists: all of them, and the pending ones. New times add the joins that
-//! they take part in, among themselves and with the times that are kept. All of these are pending from then on.
+//! they take part in, among themselves and with the kept times. All of these are fresh: they are pending from then on.
 //!
-//! The joins are found half by half. The joins of a list of new times are those of its first half, and those of its
-//! second half with the kept times and the joins of the first. In each half, near times stand for the kept ones: only
-//! the joins with them have to be right. So a near time may be moved to its join with the meet of all times of the half,
-//! which changes none of its joins. And if it is then at or after their join, it is itself all that it joins to, so it is
-//! written once and left behind. What goes on to smaller halves is only what lies between two bounds, and these are close
-//! to each other, because the new times are sorted. So few near times remain, and most pairs are never joined.
+//! The fresh joins are found half by half. Those of a list of new times are those of its first half, and those of its
+//! second half with the kept times and with what the first half added. On the way to smaller halves, near times stand for
+//! the kept ones: only their joins with the new times of the half have to be right. So each near time is moved to its join
+//! with the meet of the half, which changes none of these joins. If it is then at or after the join of the half, too, then
+//! each of these joins is the moved time itself: it is fresh, and it is left behind. So what goes on to smaller halves
+//! lies between the two bounds. The new times are sorted, so the bounds are close together, and many near times fall
+//! together or are left behind.
 //!
-//! The invariant: what is appended are exactly the joins of the new times read so far, and of these with near times.
+//! The invariant: a half appends exactly the joins of its new times, among themselves and with its near times.
 //!
 //! Each call makes new lists, so a call that is refused has changed nothing.
 ghost use Rattle.std.specs.Prelude.{◌≡◌, ◌↔◌, ◌⊎◌, ◌≤◌, ◌<◌, ◌+◌, ◌++◌, List, [], ◌∷◌, drop, length, map, IsTrue, IfOk, IfErr, OnOk};
@@ -44,7 +45,7 @@ struct Bounds<T> {
     join: T,
 }
 
-// Near times, moved: those at or after an upper bound of the new times, and the others.
+// Near times that were moved: those at or after the upper bound of the new times are `beyond`, and the others `within`.
 #[derive(Drop)]
 struct Parted<T> {
     within: Vec<T>,
@@ -283,8 +284,10 @@ fn merged<T: Lattice>(alloc: Global, xs: &[T], ys: &[T]) -> Result<Vec<T>, Refus
 ///
 /// - [`Refusal::OutOfMemory`] only if memory for the new lists was refused.
 ///
-/// Cost: a sort of `new`. Then for each distinct time of it a join with each time that is kept, a sort of the joins
-/// that differ from the one before, and a pass over both lists.
+/// Cost: a sort of `new`, a sort of the joins that are found, and one pass over both lists. One new time is joined with
+/// each kept time. More new times are halved until each is alone. A half takes a pass over its new times, two lists, and
+/// a join and a part in a sort for each of its near times. If times have two axes, and all new ones are equal along one of
+/// them, then halves of the same size have together about as many near times as there are kept, new and fresh times.
 pub(crate) fn with_times<T: Lattice>(
     alloc: Global,
     times: &[T],

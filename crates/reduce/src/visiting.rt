@@ -1,40 +1,59 @@
 //! The keys that wait, one after the other. The pending times of each are settled, and what comes of it is gathered
-//! aside: what is given, the new histories, and the keys that still wait. The histories themselves stay as they are
-//! until all is gathered. A key of which no time is due is not read.
-ghost use Rattle.std.specs.Prelude.{◌≡◌, ◌≢◌, ◌≤◌, ◌+◌, ◌-◌, ◌^◌, ◌++◌, ◌∷◌, ℕ, List, [], not, min, IfErr, IfOk, IfSome, IsSomeAnd, IsTrue, OnOk, Some, length, slice_get};
+//! aside: what is given, which times of a key are still pending, and which keys still wait. The histories themselves
+//! stay as they are until all is gathered. A key of which no time is due is not read.
+//!
+//! Then the histories are changed in place. What is given of a key is appended to its history, which may want memory. If
+//! it is refused, then what was appended so far is taken back, so the histories are as they were. The times that are
+//! still pending are put in place after that, which takes no memory.
+ghost use Rattle.std.specs.Prelude.{◌≡◌, ◌≢◌, ◌≤◌, ◌+◌, ◌-◌, ◌^◌, ◌++◌, ◌∷◌, ℕ, List, [], not, min, IfErr, IfOk, IsSomeAnd, IsTrue, OnErr, OnOk, length, map, slice_get};
 ghost use Rattle.std.specs.List.{list_any, filter};
 ghost use Rattle.lattice.specs.Frontiers.{is_beyond};
 ghost use Rattle.update.specs.Refusals.{IsMemoryOrOverflow};
 ghost use Rattle.update.specs.declared.refusal.Refusal.{Refusal};
 ghost use Rattle.trace.specs.Readings.{all_content};
-ghost use Rattle.reduce.specs.Joined.{of_key, Member};
-ghost use Rattle.reduce.specs.Histories.{HistoryState, AreHistories};
+ghost use Rattle.reduce.specs.Joined.{of_key, AreOnce, Member};
+ghost use Rattle.reduce.specs.Histories.{AreHistories};
 ghost use Rattle.reduce.specs.Settling.{IsOverfullFor};
-ghost use Rattle.reduce.specs.Visiting.{Visit, IsVisit, Gathers, AreChanges, all_replaced, changes_of, waits_on, reads_of};
+ghost use Rattle.reduce.specs.Visiting.{Visit, IsVisit, Gathers, AreWithin, AreCut, all_given, all_taken_back, all_left, all_changed, changes_of, waits_on, waiting_at, reads_of};
 
+use crate::Reducer;
 use crate::histories::Histories;
 use crate::reading::rows_of;
 use crate::settling::{Settled, settle_key};
-use crate::{KeyHistory, Reducer};
 use antichain::is_beyond;
 use batch::BatchReader;
 use lattice::Lattice;
 use std::alloc::Global;
+use std::marker::Model;
 use update::{Refusal, Update};
 
-/// The new history of the key at a place.
+/// What is new of the key at a place. A contract sees the place, how many of the updates that are given are the key's,
+/// and the times that are still pending.
 #[derive(Drop)]
 pub(crate) struct Change<T> {
-    pub(crate) place: usize,
-    pub(crate) history: KeyHistory<T>,
+    place: usize,
+    many: usize,
+    rest: Vec<T>,
+}
+
+impl<T> Model for Change<T> {
+    ghost use Rattle.reduce.specs.Visiting.{ChangeState};
+
+    ghost Value = { ChangeState T };
+
+    ghost view = { λ c. record {
+      place = c.place;
+      many = c.many;
+      rest = c.rest.items;
+    } };
 }
 
 /// What was gathered so far.
 #[derive(Drop)]
 pub(crate) struct Gathered<T> {
-    /// What is given, key by key.
+    /// What is given, key by key, in the order of the changes.
     pub(crate) out: Vec<Update<T>>,
-    /// The new histories.
+    /// What is new of the keys of which some time was due.
     pub(crate) changes: Vec<Change<T>>,
     /// The places of the keys that still wait.
     pub(crate) waiting: Vec<usize>,
@@ -54,41 +73,6 @@ fn is_due<T: Lattice>(frontier: &[T], due: &[T]) -> bool
     false
 }
 
-/// Appends copies of updates.
-pub(crate) fn push_copies<T: Lattice>(
-    list: &mut Vec<Update<T>>,
-    more: &[Update<T>],
-) -> Result<(), Refusal>
-    ensures pushed { OnOk result (list.new.items ≡ list.old.items ++ more.now) }
-    ensures only { IfErr result (λ refused. refused ≡ Refusal.OutOfMemory) }
-{
-    for update in more {
-        list.push(update.copy())?;
-    }
-    Ok(())
-}
-
-// The history of a key of which this was given besides, and these times are still pending.
-fn renewed<T: Lattice>(
-    alloc: Global,
-    history: &KeyHistory<T>,
-    more: &[Update<T>],
-    due: Vec<T>,
-) -> Result<KeyHistory<T>, Refusal>
-    ensures made { IfOk result (λ made. made ≡ record history.now {
-      due = due.items;
-      given = history.now.given ++ more.now;
-    }) }
-    ensures only { IfErr result (λ refused. refused ≡ Refusal.OutOfMemory) }
-{
-    let times = Vec::from_slice(alloc, history.times())?;
-    let room = history.given().len().saturating_add(more.len());
-    let mut given = Vec::with_capacity(alloc, room)?;
-    push_copies(&mut given, history.given())?;
-    push_copies(&mut given, more)?;
-    Ok(KeyHistory::of(history.key().copy(), times, due, given))
-}
-
 impl<T: Lattice> Gathered<T> {
     // Nothing yet.
     fn none(alloc: Global, looked: u64) -> Gathered<T>
@@ -106,29 +90,16 @@ impl<T: Lattice> Gathered<T> {
     }
 
     // Gathers what settling the key at a place gave.
-    fn put(
-        &mut self,
-        alloc: Global,
-        place: usize,
-        history: &KeyHistory<T>,
-        settled: Settled<T>,
-    ) -> Result<(), Refusal>
+    fn put(&mut self, place: usize, settled: Settled<T>) -> Result<(), Refusal>
         ensures out { OnOk result (self.new.out.items ≡ self.old.out.items ++ settled.given.items) }
         ensures changes { OnOk result (self.new.changes.items
             ≡ self.old.changes.items ++ record {
               place = place;
-              history = record history.now {
-                due = settled.due.items;
-                given = history.now.given ++ settled.given.items;
-              };
-            } ∷ []) }
-        ensures waiting { OnOk result (self.new.waiting.items ≡ self.old.waiting.items
-            ++ waits_on (record {
-              place = place;
-              history = history.now;
-              more = settled.given.items;
+              many = length settled.given.items;
               rest = settled.due.items;
-            })) }
+            } ∷ []) }
+        ensures waiting { OnOk result (self.new.waiting.items
+            ≡ self.old.waiting.items ++ waiting_at place settled.due.items) }
         ensures looked { self.new.looked ≡ self.old.looked }
         ensures only { IfErr result (λ refused. refused ≡ Refusal.OutOfMemory) }
     {
@@ -139,8 +110,11 @@ impl<T: Lattice> Gathered<T> {
         if !due.is_empty() {
             self.waiting.push(place)?;
         }
-        let history = renewed(alloc, history, more.as_slice(), due)?;
-        self.changes.push(Change { place, history })?;
+        self.changes.push(Change {
+            place,
+            many: more.len(),
+            rest: due,
+        })?;
         self.out.append(&mut more)?;
         Ok(())
     }
@@ -183,14 +157,14 @@ fn visit<T: Lattice, R: Reducer, B: BatchReader<Time = T>>(
     let rows = rows_of(alloc, reducer, batches, history.key())?;
     let settled = settle_key(alloc, reducer, history, frontier, rows.as_slice())?;
     gathered.looked = gathered.looked.saturating_add(rows.len() as u64);
-    gathered.put(alloc, place, history, settled)?;
+    gathered.put(place, settled)?;
     Ok(())
 }
 
 /// Visits the keys at these places. `looked` is how many updates had been read before.
 ///
 /// Cost: one comparison with the frontier for each pending time. Each key of which some time is due is read once, as for
-/// [`rows_of`], and settled, as for [`settle_key`]; its joined times and what was given of it are copied.
+/// [`rows_of`], and settled, as for [`settle_key`].
 pub(crate) fn visit_all<T: Lattice, R: Reducer, B: BatchReader<Time = T>>(
     alloc: Global,
     reducer: &R,
@@ -229,12 +203,82 @@ pub(crate) fn visit_all<T: Lattice, R: Reducer, B: BatchReader<Time = T>>(
     Ok(gathered)
 }
 
-/// Puts the new histories in the place of the old ones. Takes no memory.
-pub(crate) fn replace_all<T: Lattice>(histories: &mut Histories<T>, changes: Vec<Change<T>>)
-    requires { AreChanges changes.items histories.old.items }
-    ensures { histories.new.items ≡ all_replaced changes.items histories.old.items }
+// Takes back what was appended to the histories of these changes, the last first. Takes no memory.
+fn take_back<T: Lattice>(histories: &mut Histories<T>, changes: &[Change<T>])
+    requires { AreWithin (length histories.old.items) changes.now }
+    ensures { histories.new.items ≡ all_taken_back changes.now histories.old.items }
+{
+    let mut i = changes.len();
+    while i > 0 {
+        i -= 1;
+        let change = &changes[i];
+        histories.take_back(change.place, change.many);
+    }
+}
+
+// Appends what is given at each change to its history. `out` has what is given, key by key. If the call is refused, then
+// the histories are as they were.
+fn give_all<T: Lattice>(
+    histories: &mut Histories<T>,
+    changes: &[Change<T>],
+    out: &[Update<T>],
+) -> Result<(), Refusal>
+    requires within { AreWithin (length histories.old.items) changes.now }
+    requires cut { AreCut changes.now out.now }
+    ensures given { OnOk result
+        (histories.new.items ≡ all_given changes.now out.now histories.old.items) }
+    ensures same { OnErr result (histories.new.items ≡ histories.old.items) }
+    ensures only { IfErr result (λ refused. refused ≡ Refusal.OutOfMemory) }
+{
+    let mut left = out;
+    for i in 0..changes.len() {
+        let change = &changes[i];
+        let (own, others) = left.split_at(change.many);
+        if let Err(refused) = histories.give(change.place, own) {
+            take_back(histories, &changes[..i]);
+            return Err(refused);
+        }
+        left = others;
+    }
+    Ok(())
+}
+
+// Puts the times that are still pending at each change in place. Takes no memory.
+fn leave_all<T: Lattice>(histories: &mut Histories<T>, changes: Vec<Change<T>>)
+    requires { AreWithin (length histories.old.items) changes.items }
+    ensures { histories.new.items ≡ all_left changes.items histories.old.items }
 {
     for change in changes {
-        histories.replace(change.place, change.history);
+        let Change {
+            place,
+            many: _,
+            rest,
+        } = change;
+        histories.leave(place, rest);
     }
+}
+
+/// Changes the histories in place. `out` has what is given, key by key, in the order of the changes. If the call is
+/// refused, then the histories are as they were.
+///
+/// - [`Refusal::OutOfMemory`] only if memory for what is given was refused.
+///
+/// Cost: a copy of what is given. What was given before stays where it is, but in a history that has no room for more: its
+/// list moves to one of twice the room.
+pub(crate) fn change_all<T: Lattice>(
+    histories: &mut Histories<T>,
+    changes: Vec<Change<T>>,
+    out: &[Update<T>],
+) -> Result<(), Refusal>
+    requires within { AreWithin (length histories.old.items) changes.items }
+    requires cut { AreCut changes.items out.now }
+    requires once { AreOnce (map (λ c. c.place) changes.items) }
+    ensures changed { OnOk result
+        (histories.new.items ≡ all_changed changes.items out.now histories.old.items) }
+    ensures same { OnErr result (histories.new.items ≡ histories.old.items) }
+    ensures only { IfErr result (λ refused. refused ≡ Refusal.OutOfMemory) }
+{
+    give_all(histories, changes.as_slice(), out)?;
+    leave_all(histories, changes);
+    Ok(())
 }

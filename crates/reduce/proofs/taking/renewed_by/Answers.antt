@@ -1,6 +1,7 @@
 use Rattle.std.proofs.Common.{map, subst, arith}
 use Rattle.std.specs.Prelude.{slice_range}
-use Rattle.reduce.specs.Taking.{IsRenewed}
+use Rattle.reduce.specs.Taking.{IsPlaced, IsRenewed, made_from}
+use Rattle.reduce.proofs.MemberLemmas.{all_pushed}
 use Rattle.reduce.proofs.RunLemmas.{IsRun, run_found, run_ends}
 use Rattle.reduce.proofs.TakenLemmas.{renewed_step, renewed_pending}
 use Rattle.reduce.proofs.taking.renewed_by.Given.{Over}
@@ -31,10 +32,11 @@ loop-start-preserved g c =
       within = c.seek_past-end.ensures.within;
       border = run_ends c.args.k key us start end c.seek_past-end.ensures.ordered run c.loop-start.invariant.border;
       made = renewed_step g.T.Lattice.joined g.T.Ord.cmp c.args.k c.args.histories.now.items us start end key c.loop-start.made.items c.push.new.self.items c.in_ok-renewed_run.field-0 c.seek_past-end.ensures.ordered c.seek_past-end.ensures.within run c.loop-start.invariant.border
-          (subst (λ n. IsRenewed g.T.Lattice.joined g.T.Ord.cmp n c.args.histories.now.items key (map (λ u. u.time) (slice_range us start end)) c.in_ok-renewed_run.field-0) c.key_at-key.ensures.width c.in_ok-renewed_run.ensures.renewed)
+          (subst (λ n. IsRenewed g.T.Lattice.joined g.T.Ord.cmp n c.args.histories.now.items key (map (λ u. u.time) (slice_range us start end)) (made_from c.args.histories.now.items c.in_ok-renewed_run.field-0)) c.key_at-key.ensures.width c.in_ok-renewed_run.ensures.renewed)
           c.loop-start.invariant.made c.in_ok-push.ensures.items;
+      placed = rw c.in_ok-push.ensures.items (all_pushed (IsPlaced c.args.histories.now.items) c.loop-start.made.items c.in_ok-renewed_run.field-0 c.loop-start.invariant.placed c.in_ok-renewed_run.ensures.placed);
     }
 
 pub returns-clause-due : goal.returns-clause-due
 returns-clause-due g c joins =
-    renewed_pending g.T.Lattice.joined g.T.Ord.cmp c.args.k c.args.histories.now.items _ c.loop-start.made.items c.loop-start.invariant.made joins
+    renewed_pending g.T.Lattice.joined g.T.Ord.cmp c.args.k c.args.histories.now.items _ (map (made_from c.args.histories.now.items) c.loop-start.made.items) c.loop-start.invariant.made joins

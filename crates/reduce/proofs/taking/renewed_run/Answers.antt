@@ -1,47 +1,50 @@
-use Rattle.std.proofs.Common.{length, sym, ◌∙◌, ap, subst}
+use Rattle.std.proofs.Common.{[], Some, None, length, sym, ◌∙◌, refl, subst}
+use Rattle.reduce.specs.declared.taking.Renewal.{Renewal}
 use Rattle.reduce.specs.Histories.{HistoryState, IsHistory}
-use Rattle.reduce.proofs.TakenLemmas.{stands_found, stands_none, empty_history, history_at, renewed_from}
+use Rattle.reduce.proofs.TakenLemmas.{stands_found, stands_none, nothing_sorted, empty_history, history_at, renewed_from}
 use Rattle.reduce.proofs.taking.renewed_run.Goals as goal
 
--- the history that is found is one
-pub renewed-requires : goal.renewed-requires
-renewed-requires g c =
-    let hs = c.args.histories.now.items in
-    let old = c.get.result.now in
-    let is = history_at g.T.Ord.cmp (length c.args.key) hs c.in-Some.i old c.requires.known c.get.ensures in
-    record { history = subst (λ n. IsHistory g.T.Ord.cmp n old) (sym is.width) is }
+-- the times of the history that is found are in order
+pub with_times-requires-clause-times : goal.with_times-requires-clause-times
+with_times-requires-clause-times g c =
+    rw c.times.ensures (history_at g.T.Ord.cmp (length c.args.key) c.args.histories.now.items c.in-Some.i c.get-history.result.now c.requires.known c.get-history.ensures).times
 
--- and so is an empty one
-pub renewed-requires-in-None : goal.renewed-requires-in-None
-renewed-requires-in-None g c =
-    let is = c.of-none.ensures in
-    record {
-      history = empty_history g.T.Ord.cmp c.of-none.result
-          (ap (λ (h : HistoryState g.row.T.Denot). h.times) is ∙ c.new.ensures.items)
-          (ap (λ (h : HistoryState g.row.T.Denot). h.due) is ∙ c.new-in-None.ensures.items)
-          (ap (λ (h : HistoryState g.row.T.Denot). h.given) is ∙ c.new-in-None-2.ensures.items);
-    }
+pub with_times-requires-clause-due : goal.with_times-requires-clause-due
+with_times-requires-clause-due g c =
+    rw c.due.ensures (history_at g.T.Ord.cmp (length c.args.key) c.args.histories.now.items c.in-Some.i c.get-history.result.now c.requires.known c.get-history.ensures).due
+
+-- and so are no times
+pub with_times-requires-in-None-clause-times : goal.with_times-requires-in-None-clause-times
+with_times-requires-in-None-clause-times g c = rw (c.deref-in-None.ensures.value, c.new-none.ensures.items) (nothing_sorted g.T.Ord.cmp)
+
+pub with_times-requires-in-None-clause-due : goal.with_times-requires-in-None-clause-due
+with_times-requires-in-None-clause-due g c = rw (c.deref-in-None-2.ensures.value, c.new-none.ensures.items) (nothing_sorted g.T.Ord.cmp)
 
 pub returns-in-Some-clause-renewed : goal.returns-in-Some-clause-renewed
 returns-in-Some-clause-renewed g c =
     let hs = c.args.histories.now.items in
-    let old = c.get.result.now in
-    let r = c.renewed.ensures in
-    renewed_from g.T.Lattice.joined g.T.Ord.cmp hs c.args.key old c.deref.result.now _ c.renewed.result
-    (stands_found hs c.args.key c.in-Some.i old c.known.ensures c.in-Some.ensures.found c.get.ensures)
-    (c.deref.ensures.value ∙ c.in_ok-new.ensures.times)
-    r.key r.history r.given r.taken
+    let old = c.get-history.result.now in
+    let is = history_at g.T.Ord.cmp (length c.args.key) hs c.in-Some.i old c.requires.known c.get-history.ensures in
+    let made : Renewal g.row.T.Denot = record { key = c.args.key; place = Some c.in-Some.i; times = c.in_ok-made-in-Some.made.times; due = c.in_ok-made-in-Some.made.due } in
+    let new = c.deref.ensures.value ∙ c.in_ok-new.ensures.times in
+    renewed_from g.T.Lattice.joined g.T.Ord.cmp hs c.args.key old _ made
+    (stands_found hs c.args.key c.in-Some.i old c.known.ensures c.in-Some.ensures.found c.get-history.ensures)
+    (subst (λ n. IsHistory g.T.Ord.cmp n old) (sym is.width) is) refl
+    c.in_ok-made-in-Some.ensures.ordered_times c.in_ok-made-in-Some.ensures.ordered_due
+    (rw (c.times.ensures, new) at c.in_ok-made-in-Some.ensures.times)
+    (rw (c.times.ensures, c.due.ensures, new) at c.in_ok-made-in-Some.ensures.due)
 
-pub returns-in-None-clause-renewed : goal.returns-in-None-clause-renewed
-returns-in-None-clause-renewed g c =
+pub returns-clause-renewed : goal.returns-clause-renewed
+returns-clause-renewed g c =
     let hs = c.args.histories.now.items in
-    let is = c.of-none.ensures in
-    let r = c.renewed-in-None.ensures in
-    renewed_from g.T.Lattice.joined g.T.Ord.cmp hs c.args.key c.of-none.result c.deref-in-None.result.now _ c.renewed-in-None.result
-    (stands_none hs c.args.key c.of-none.result (c.find.ensures.absent c.in-None.is)
-    (ap (λ (h : HistoryState g.row.T.Denot). h.key) is)
-    (ap (λ (h : HistoryState g.row.T.Denot). h.times) is ∙ c.new.ensures.items)
-    (ap (λ (h : HistoryState g.row.T.Denot). h.due) is ∙ c.new-in-None.ensures.items)
-    (ap (λ (h : HistoryState g.row.T.Denot). h.given) is ∙ c.new-in-None-2.ensures.items))
-    (c.deref-in-None.ensures.value ∙ c.in_ok-new.ensures.times)
-    r.key r.history r.given r.taken
+    let old : HistoryState g.row.T.Denot = record { key = c.args.key; times = []; due = []; given = [] } in
+    let made : Renewal g.row.T.Denot = record { key = c.args.key; place = None; times = c.in_ok-made-in-None.made.times; due = c.in_ok-made-in-None.made.due } in
+    let new = c.deref-in-None-3.ensures.value ∙ c.in_ok-new.ensures.times in
+    let times = c.deref-in-None.ensures.value ∙ c.new-none.ensures.items in
+    let due = c.deref-in-None-2.ensures.value ∙ c.new-none.ensures.items in
+    renewed_from g.T.Lattice.joined g.T.Ord.cmp hs c.args.key old _ made
+    (stands_none hs c.args.key old (c.find.ensures.absent c.in-None.is) refl refl refl refl)
+    (empty_history g.T.Ord.cmp old refl refl refl) refl
+    c.in_ok-made-in-None.ensures.ordered_times c.in_ok-made-in-None.ensures.ordered_due
+    (rw (times, new) at c.in_ok-made-in-None.ensures.times)
+    (rw (times, due, new) at c.in_ok-made-in-None.ensures.due)

@@ -1,7 +1,7 @@
-use Rattle.std.proofs.Common.{◌↔◌, ◌⊎◌, ⊎_elim, inl, inr, map, subst, arith}
+use Rattle.std.proofs.Common.{◌↔◌, ◌⊎◌, IsTrue, map, subst, arith}
 use Rattle.std.proofs.lemmas.List.{take_all}
 use Rattle.reduce.specs.Joined.{Member}
-use Rattle.reduce.proofs.AddingLemmas.{moved_more}
+use Rattle.reduce.proofs.AddingLemmas.{moved_more, late_more}
 use Rattle.reduce.proofs.times.push_parts.Goals as goal
 
 pub loop-s-preserved : goal.loop-s-preserved
@@ -14,7 +14,9 @@ loop-s-preserved g c =
           moved_more (λ r. g.T.Lattice.joined r c.args.bounds.meet) c.args.near.now c.loop-s.s-index c.s-item.result c.join.result s (Member s within ⊎ Member s beyond)
           (Member s c.loop-s.within.items ⊎ Member s c.loop-s.beyond.items) (Member s c.push_to_part.new.within.items ⊎ Member s c.push_to_part.new.beyond.items)
           c.loop-s-test.true c.s-item.is c.join.ensures (c.loop-s.invariant.members s) (to_part.members s);
-      beyond = λ s m. ⊎_elim (λ k. c.loop-s.invariant.beyond s k) (λ k. inr k) (to_part.beyond s m);
+      beyond = λ s.
+          late_more (Member s beyond) (Member s c.loop-s.beyond.items) (Member s c.push_to_part.new.beyond.items) (IsTrue (g.T.PartialOrder.below c.args.bounds.join s))
+          (c.loop-s.invariant.beyond s) (to_part.beyond s);
     }
 
 pub returns-clause-members : goal.returns-clause-members

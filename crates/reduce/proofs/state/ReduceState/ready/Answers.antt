@@ -9,7 +9,8 @@ use Rattle.reduce.specs.Joined.{Member}
 use Rattle.reduce.specs.Histories.{HistoryState, ReduceView, IsWaiting, due_of}
 use Rattle.reduce.specs.Reductions.{StandsFor, IsOpenTo, SumsToTaken, all_reads}
 use Rattle.reduce.specs.Settling.{ReadsAs}
-use Rattle.reduce.proofs.FinalLemmas.{reads_as, overfull_of, changes_are_fit, known_after, waits_after, joins_after, reads_are, final_rest, final_stands, final_law, final_once, final_nonzero, final_at, final_quiet, final_apart}
+use Rattle.reduce.specs.Visiting.{all_changed}
+use Rattle.reduce.proofs.FinalLemmas.{reads_as, overfull_of, within, cut, changed_once, known_after, waits_after, joins_after, reads_are, final_rest, final_stands, final_law, final_once, final_nonzero, final_at, final_quiet, final_apart}
 use Rattle.reduce.proofs.ResultLemmas.{passed_on}
 use Rattle.reduce.proofs.TraceLemmas.{whole_is_readable}
 use Rattle.reduce.proofs.state.ReduceState.ready.Given.{Over}
@@ -53,7 +54,7 @@ returns-in_err-out-clause-refused g c =
           (λ h taken given s sums st ag op ps. overfull_of g.T.Ord.cmp g.met.T.Ord.total g.met.T.PartialOrder.order g.met.T.Lattice.bounds c.self.inside.key (g.R.Reducer.reduces c.self.inside.reducer) (g.met.R.Reducer.laws c.self.inside.reducer c.self.inside.key) (content-1 g c) c.args.frontier.now (hs-1 g c) c.self.invariant.2 c.known.ensures c.as_slice.result.now (waits-1 g c) y.1.0 y.1.1 taken given (reading-1 g c h taken s sums) st ag op ps),
     )) c.in_err-out.ensures.refused)
 
-module _ (g : Over) (c : goal.After-replace_all-arg-1 g) where
+module _ (g : Over) (c : goal.After-as_slice-2 g) where
   abbrev hs-3 : List (HistoryState g.row.T.Denot)
   hs-3 = c.self.inside.histories.items
 
@@ -63,20 +64,12 @@ module _ (g : Over) (c : goal.After-replace_all-arg-1 g) where
   waits-3 : IsWaiting c.self.inside.histories.items c.as_slice.result.now
   waits-3 = subst (IsWaiting c.self.inside.histories.items) (sym c.as_slice.ensures) c.self.invariant.3
 
-  readable-3 : (h : List (Insertion g.row.T.Denot)) → g.S.Trace.stands c.args.trace.now h → IsReadable g.T.PartialOrder.below (g.S.Trace.held c.args.trace.now) (all_content g.S.Batch.BatchReader.content c.unwrap-batches.result.now) (all_updates h)
-  readable-3 h s =
-      whole_is_readable g.T.PartialOrder.below (g.S.Trace.held c.args.trace.now) (g.S.Trace.start c.args.trace.now) c.upper.result.now (g.S.Trace.stands c.args.trace.now) (all_content g.S.Batch.BatchReader.content c.unwrap-batches.result.now)
-      (rw c.unwrap-batches.ensures at c.through.ensures.reads) h s (c.upper.ensures.newest h s)
-
-  reading-3 : (h : List (Insertion g.row.T.Denot)) (taken : List (Update g.row.T.Denot)) → g.S.Trace.stands c.args.trace.now h
-      → SumsToTaken g.T.PartialOrder.below (g.S.Trace.held c.args.trace.now) c.args.frontier.now (all_updates h) taken
-      → (key : List ℤ) → ReadsAs g.T.PartialOrder.below c.args.frontier.now (due_of key c.self.inside.histories.items) (all_content g.S.Batch.BatchReader.content c.unwrap-batches.result.now) taken
-  reading-3 h taken s sums key =
-      reads_as g.T.PartialOrder.below (g.S.Trace.held c.args.trace.now) c.args.frontier.now (due_of key c.self.inside.histories.items) (all_content g.S.Batch.BatchReader.content c.unwrap-batches.result.now) (all_updates h) taken
-      (λ t m p. c.requires.held key t (subst (λ z. Member t (due_of key z)) (ap (λ s. s.histories) c.self.view_is) m) p) (readable-3 h s) sums
-
-pub replace_all-requires : goal.replace_all-requires
-replace_all-requires g c = changes_are_fit g.T.Ord.cmp g.met.T.Ord.total g.met.T.PartialOrder.order g.met.T.Lattice.bounds c.self.inside.key (g.R.Reducer.reduces c.self.inside.reducer) (g.met.R.Reducer.laws c.self.inside.reducer c.self.inside.key) (content-3 g c) c.args.frontier.now (hs-3 g c) c.self.invariant.2 c.known.ensures c.as_slice.result.now (waits-3 g c) c.in_ok-out.ensures.visited.0 c.in_ok-out.field-0.out.items c.in_ok-out.field-0.changes.items c.in_ok-out.field-0.waiting.items c.in_ok-out.ensures.visited.1 c.in_ok-out.ensures.visited.2
+pub change_all-requires : goal.change_all-requires
+change_all-requires g c = record {
+  within = within g.T.Ord.cmp g.met.T.Ord.total g.met.T.PartialOrder.order g.met.T.Lattice.bounds c.self.inside.key (g.R.Reducer.reduces c.self.inside.reducer) (g.met.R.Reducer.laws c.self.inside.reducer c.self.inside.key) (content-3 g c) c.args.frontier.now (hs-3 g c) c.self.invariant.2 c.known.ensures c.as_slice.result.now (waits-3 g c) c.in_ok-out.ensures.visited.0 c.in_ok-out.field-0.out.items c.in_ok-out.field-0.changes.items c.in_ok-out.field-0.waiting.items c.in_ok-out.ensures.visited.1 c.in_ok-out.ensures.visited.2;
+  cut = rw c.as_slice-2.ensures.value (cut g.T.Ord.cmp g.met.T.Ord.total g.met.T.PartialOrder.order g.met.T.Lattice.bounds c.self.inside.key (g.R.Reducer.reduces c.self.inside.reducer) (g.met.R.Reducer.laws c.self.inside.reducer c.self.inside.key) (content-3 g c) c.args.frontier.now (hs-3 g c) c.self.invariant.2 c.known.ensures c.as_slice.result.now (waits-3 g c) c.in_ok-out.ensures.visited.0 c.in_ok-out.field-0.out.items c.in_ok-out.field-0.changes.items c.in_ok-out.field-0.waiting.items c.in_ok-out.ensures.visited.1 c.in_ok-out.ensures.visited.2);
+  once = changed_once g.T.Ord.cmp g.met.T.Ord.total g.met.T.PartialOrder.order g.met.T.Lattice.bounds c.self.inside.key (g.R.Reducer.reduces c.self.inside.reducer) (g.met.R.Reducer.laws c.self.inside.reducer c.self.inside.key) (content-3 g c) c.args.frontier.now (hs-3 g c) c.self.invariant.2 c.known.ensures c.as_slice.result.now (waits-3 g c) c.in_ok-out.ensures.visited.0 c.in_ok-out.field-0.out.items c.in_ok-out.field-0.changes.items c.in_ok-out.field-0.waiting.items c.in_ok-out.ensures.visited.1 c.in_ok-out.ensures.visited.2;
+}
 
 module _ (g : Over) (c : goal.After-self-1 g) where
   abbrev hs : List (HistoryState g.row.T.Denot)
@@ -100,31 +93,39 @@ module _ (g : Over) (c : goal.After-self-1 g) where
       reads_as g.T.PartialOrder.below (g.S.Trace.held c.args.trace.now) c.args.frontier.now (due_of key c.self.inside.histories.items) (all_content g.S.Batch.BatchReader.content c.unwrap-batches.result.now) (all_updates h) taken
       (λ t m p. c.requires.held key t (subst (λ z. Member t (due_of key z)) (ap (λ s. s.histories) c.self.view_is) m) p) (readable h s) sums
 
+  -- the histories are changed by what is given
+  changed : c.change_all.new.histories.items ≡ all_changed c.in_ok-out.field-0.changes.items c.in_ok-out.field-0.out.items c.self.inside.histories.items
+  changed = c.in_ok-change_all.ensures.changed ∙ ap (λ z. all_changed c.in_ok-out.field-0.changes.items z c.self.inside.histories.items) c.as_slice-2.ensures.value
+
+-- a refusal has changed no history
 pub invariant_of-self : goal.invariant_of-self
-invariant_of-self g c = (
+invariant_of-self g c = rw c.in_err-change_all.ensures.same c.self.invariant
+
+pub invariant_of-self-2 : goal.invariant_of-self-2
+invariant_of-self-2 g c = (
   c.self.invariant.0,
   c.self.invariant.1,
-  known_after g.T.Ord.cmp g.met.T.Ord.total g.met.T.PartialOrder.order g.met.T.Lattice.bounds c.self.inside.key (g.R.Reducer.reduces c.self.inside.reducer) (g.met.R.Reducer.laws c.self.inside.reducer c.self.inside.key) (content g c) c.args.frontier.now (hs g c) c.self.invariant.2 c.known.ensures c.as_slice.result.now (waits g c) c.in_ok-out.ensures.visited.0 c.in_ok-out.field-0.out.items c.in_ok-out.field-0.changes.items c.in_ok-out.field-0.waiting.items c.in_ok-out.ensures.visited.1 c.in_ok-out.ensures.visited.2 c.replace_all.new.histories.items c.replace_all.ensures,
-  rw c.from.ensures (waits_after g.T.Ord.cmp g.met.T.Ord.total g.met.T.PartialOrder.order g.met.T.Lattice.bounds c.self.inside.key (g.R.Reducer.reduces c.self.inside.reducer) (g.met.R.Reducer.laws c.self.inside.reducer c.self.inside.key) (content g c) c.args.frontier.now (hs g c) c.self.invariant.2 c.known.ensures c.as_slice.result.now (waits g c) c.in_ok-out.ensures.visited.0 c.in_ok-out.field-0.out.items c.in_ok-out.field-0.changes.items c.in_ok-out.field-0.waiting.items c.in_ok-out.ensures.visited.1 c.in_ok-out.ensures.visited.2 c.replace_all.new.histories.items c.replace_all.ensures),
-  joins_after g.T.Ord.cmp g.met.T.Ord.total g.met.T.PartialOrder.order g.met.T.Lattice.bounds c.self.inside.key (g.R.Reducer.reduces c.self.inside.reducer) (g.met.R.Reducer.laws c.self.inside.reducer c.self.inside.key) (content g c) c.args.frontier.now (hs g c) c.self.invariant.2 c.known.ensures c.as_slice.result.now (waits g c) c.in_ok-out.ensures.visited.0 c.in_ok-out.field-0.out.items c.in_ok-out.field-0.changes.items c.in_ok-out.field-0.waiting.items c.in_ok-out.ensures.visited.1 c.in_ok-out.ensures.visited.2 c.replace_all.new.histories.items c.replace_all.ensures c.self.invariant.4,
+  known_after g.T.Ord.cmp g.met.T.Ord.total g.met.T.PartialOrder.order g.met.T.Lattice.bounds c.self.inside.key (g.R.Reducer.reduces c.self.inside.reducer) (g.met.R.Reducer.laws c.self.inside.reducer c.self.inside.key) (content g c) c.args.frontier.now (hs g c) c.self.invariant.2 c.known.ensures c.as_slice.result.now (waits g c) c.in_ok-out.ensures.visited.0 c.in_ok-out.field-0.out.items c.in_ok-out.field-0.changes.items c.in_ok-out.field-0.waiting.items c.in_ok-out.ensures.visited.1 c.in_ok-out.ensures.visited.2 c.change_all.new.histories.items (changed g c),
+  rw c.from.ensures (waits_after g.T.Ord.cmp g.met.T.Ord.total g.met.T.PartialOrder.order g.met.T.Lattice.bounds c.self.inside.key (g.R.Reducer.reduces c.self.inside.reducer) (g.met.R.Reducer.laws c.self.inside.reducer c.self.inside.key) (content g c) c.args.frontier.now (hs g c) c.self.invariant.2 c.known.ensures c.as_slice.result.now (waits g c) c.in_ok-out.ensures.visited.0 c.in_ok-out.field-0.out.items c.in_ok-out.field-0.changes.items c.in_ok-out.field-0.waiting.items c.in_ok-out.ensures.visited.1 c.in_ok-out.ensures.visited.2 c.change_all.new.histories.items (changed g c)),
+  joins_after g.T.Ord.cmp g.met.T.Ord.total g.met.T.PartialOrder.order g.met.T.Lattice.bounds c.self.inside.key (g.R.Reducer.reduces c.self.inside.reducer) (g.met.R.Reducer.laws c.self.inside.reducer c.self.inside.key) (content g c) c.args.frontier.now (hs g c) c.self.invariant.2 c.known.ensures c.as_slice.result.now (waits g c) c.in_ok-out.ensures.visited.0 c.in_ok-out.field-0.out.items c.in_ok-out.field-0.changes.items c.in_ok-out.field-0.waiting.items c.in_ok-out.ensures.visited.1 c.in_ok-out.ensures.visited.2 c.change_all.new.histories.items (changed g c) c.self.invariant.4,
 )
 
 pub returns-clause-stands : goal.returns-clause-stands
 returns-clause-stands g c =
     rw (← ap (λ s. s.key) c.self.view_is, ← ap (λ s. s.histories) c.self.view_is, ← ap (λ s. s.reducer) c.self.view_is)
-    (λ h taken given s sums st. final_stands g.T.Ord.cmp g.met.T.Ord.total g.met.T.PartialOrder.order g.met.T.Lattice.bounds c.self.inside.key (g.R.Reducer.reduces c.self.inside.reducer) (g.met.R.Reducer.laws c.self.inside.reducer c.self.inside.key) (content g c) c.args.frontier.now (hs g c) c.self.invariant.2 c.known.ensures c.as_slice.result.now (waits g c) c.in_ok-out.ensures.visited.0 c.in_ok-out.field-0.out.items c.in_ok-out.field-0.changes.items c.in_ok-out.field-0.waiting.items c.in_ok-out.ensures.visited.1 c.in_ok-out.ensures.visited.2 c.replace_all.new.histories.items c.replace_all.ensures taken given (reading g c h taken s sums) st)
+    (λ h taken given s sums st. final_stands g.T.Ord.cmp g.met.T.Ord.total g.met.T.PartialOrder.order g.met.T.Lattice.bounds c.self.inside.key (g.R.Reducer.reduces c.self.inside.reducer) (g.met.R.Reducer.laws c.self.inside.reducer c.self.inside.key) (content g c) c.args.frontier.now (hs g c) c.self.invariant.2 c.known.ensures c.as_slice.result.now (waits g c) c.in_ok-out.ensures.visited.0 c.in_ok-out.field-0.out.items c.in_ok-out.field-0.changes.items c.in_ok-out.field-0.waiting.items c.in_ok-out.ensures.visited.1 c.in_ok-out.ensures.visited.2 c.change_all.new.histories.items (changed g c) taken given (reading g c h taken s sums) st)
 
 pub returns-clause-law : goal.returns-clause-law
 returns-clause-law g c =
     rw (← ap (λ s. s.key) c.self.view_is, ← ap (λ s. s.histories) c.self.view_is, ← ap (λ s. s.reducer) c.self.view_is)
-    (λ h taken given s sums st. final_law g.T.Ord.cmp g.met.T.Ord.total g.met.T.PartialOrder.order g.met.T.Lattice.bounds c.self.inside.key (g.R.Reducer.reduces c.self.inside.reducer) (g.met.R.Reducer.laws c.self.inside.reducer c.self.inside.key) (content g c) c.args.frontier.now (hs g c) c.self.invariant.2 c.known.ensures c.as_slice.result.now (waits g c) c.in_ok-out.ensures.visited.0 c.in_ok-out.field-0.out.items c.in_ok-out.field-0.changes.items c.in_ok-out.field-0.waiting.items c.in_ok-out.ensures.visited.1 c.in_ok-out.ensures.visited.2 c.replace_all.new.histories.items c.replace_all.ensures taken given (reading g c h taken s sums) st)
+    (λ h taken given s sums st. final_law g.T.Ord.cmp g.met.T.Ord.total g.met.T.PartialOrder.order g.met.T.Lattice.bounds c.self.inside.key (g.R.Reducer.reduces c.self.inside.reducer) (g.met.R.Reducer.laws c.self.inside.reducer c.self.inside.key) (content g c) c.args.frontier.now (hs g c) c.self.invariant.2 c.known.ensures c.as_slice.result.now (waits g c) c.in_ok-out.ensures.visited.0 c.in_ok-out.field-0.out.items c.in_ok-out.field-0.changes.items c.in_ok-out.field-0.waiting.items c.in_ok-out.ensures.visited.1 c.in_ok-out.ensures.visited.2 c.change_all.new.histories.items (changed g c) taken given (reading g c h taken s sums) st)
 
 pub returns-clause-rest : goal.returns-clause-rest
 returns-clause-rest g c =
-    rw (← ap (λ s. s.histories) c.self.view_is) (final_rest g.T.Ord.cmp g.met.T.Ord.total g.met.T.PartialOrder.order g.met.T.Lattice.bounds c.self.inside.key (g.R.Reducer.reduces c.self.inside.reducer) (g.met.R.Reducer.laws c.self.inside.reducer c.self.inside.key) (content g c) c.args.frontier.now (hs g c) c.self.invariant.2 c.known.ensures c.as_slice.result.now (waits g c) c.in_ok-out.ensures.visited.0 c.in_ok-out.field-0.out.items c.in_ok-out.field-0.changes.items c.in_ok-out.field-0.waiting.items c.in_ok-out.ensures.visited.1 c.in_ok-out.ensures.visited.2 c.replace_all.new.histories.items c.replace_all.ensures)
+    rw (← ap (λ s. s.histories) c.self.view_is) (final_rest g.T.Ord.cmp g.met.T.Ord.total g.met.T.PartialOrder.order g.met.T.Lattice.bounds c.self.inside.key (g.R.Reducer.reduces c.self.inside.reducer) (g.met.R.Reducer.laws c.self.inside.reducer c.self.inside.key) (content g c) c.args.frontier.now (hs g c) c.self.invariant.2 c.known.ensures c.as_slice.result.now (waits g c) c.in_ok-out.ensures.visited.0 c.in_ok-out.field-0.out.items c.in_ok-out.field-0.changes.items c.in_ok-out.field-0.waiting.items c.in_ok-out.ensures.visited.1 c.in_ok-out.ensures.visited.2 c.change_all.new.histories.items (changed g c))
 
 pub returns-clause-quiet : goal.returns-clause-quiet
-returns-clause-quiet g c = final_quiet g.T.Ord.cmp g.met.T.Ord.total g.met.T.PartialOrder.order g.met.T.Lattice.bounds c.self.inside.key (g.R.Reducer.reduces c.self.inside.reducer) (g.met.R.Reducer.laws c.self.inside.reducer c.self.inside.key) (content g c) c.args.frontier.now (hs g c) c.self.invariant.2 c.known.ensures c.as_slice.result.now (waits g c) c.in_ok-out.ensures.visited.0 c.in_ok-out.field-0.out.items c.in_ok-out.field-0.changes.items c.in_ok-out.field-0.waiting.items c.in_ok-out.ensures.visited.1 c.in_ok-out.ensures.visited.2 c.replace_all.new.histories.items c.replace_all.ensures
+returns-clause-quiet g c = final_quiet g.T.Ord.cmp g.met.T.Ord.total g.met.T.PartialOrder.order g.met.T.Lattice.bounds c.self.inside.key (g.R.Reducer.reduces c.self.inside.reducer) (g.met.R.Reducer.laws c.self.inside.reducer c.self.inside.key) (content g c) c.args.frontier.now (hs g c) c.self.invariant.2 c.known.ensures c.as_slice.result.now (waits g c) c.in_ok-out.ensures.visited.0 c.in_ok-out.field-0.out.items c.in_ok-out.field-0.changes.items c.in_ok-out.field-0.waiting.items c.in_ok-out.ensures.visited.1 c.in_ok-out.ensures.visited.2 c.change_all.new.histories.items (changed g c)
 
 pub returns-clause-once : goal.returns-clause-once
 returns-clause-once g c = final_once g.T.Ord.cmp g.met.T.Ord.total g.met.T.PartialOrder.order g.met.T.Lattice.bounds c.self.inside.key (g.R.Reducer.reduces c.self.inside.reducer) (g.met.R.Reducer.laws c.self.inside.reducer c.self.inside.key) (content g c) c.args.frontier.now (hs g c) c.self.invariant.2 c.known.ensures c.as_slice.result.now (waits g c) c.in_ok-out.ensures.visited.0 c.in_ok-out.field-0.out.items c.in_ok-out.field-0.changes.items c.in_ok-out.field-0.waiting.items c.in_ok-out.ensures.visited.1 c.in_ok-out.ensures.visited.2
@@ -138,7 +139,7 @@ returns-clause-at g c =
 
 pub returns-clause-apart : goal.returns-clause-apart
 returns-clause-apart g c =
-    rw (← ap (λ s. s.key) c.self.view_is, ← ap (λ s. s.histories) c.self.view_is) (final_apart g.T.Ord.cmp g.met.T.Ord.total g.met.T.PartialOrder.order g.met.T.Lattice.bounds c.self.inside.key (g.R.Reducer.reduces c.self.inside.reducer) (g.met.R.Reducer.laws c.self.inside.reducer c.self.inside.key) (content g c) c.args.frontier.now (hs g c) c.self.invariant.2 c.known.ensures c.as_slice.result.now (waits g c) c.in_ok-out.ensures.visited.0 c.in_ok-out.field-0.out.items c.in_ok-out.field-0.changes.items c.in_ok-out.field-0.waiting.items c.in_ok-out.ensures.visited.1 c.in_ok-out.ensures.visited.2 c.replace_all.new.histories.items c.replace_all.ensures)
+    rw (← ap (λ s. s.key) c.self.view_is, ← ap (λ s. s.histories) c.self.view_is) (final_apart g.T.Ord.cmp g.met.T.Ord.total g.met.T.PartialOrder.order g.met.T.Lattice.bounds c.self.inside.key (g.R.Reducer.reduces c.self.inside.reducer) (g.met.R.Reducer.laws c.self.inside.reducer c.self.inside.key) (content g c) c.args.frontier.now (hs g c) c.self.invariant.2 c.known.ensures c.as_slice.result.now (waits g c) c.in_ok-out.ensures.visited.0 c.in_ok-out.field-0.out.items c.in_ok-out.field-0.changes.items c.in_ok-out.field-0.waiting.items c.in_ok-out.ensures.visited.1 c.in_ok-out.ensures.visited.2 c.change_all.new.histories.items (changed g c))
 
 module _ (g : Over) (c : goal.After-self-1 g) where
   whole : all_content g.S.Batch.BatchReader.content c.unwrap-batches.result.now ≡ g.S.Trace.content c.args.trace.now
@@ -146,7 +147,7 @@ module _ (g : Over) (c : goal.After-self-1 g) where
 
   all_read : c.in_ok-out.ensures.visited.1 ≡ all_reads g.T.PartialOrder.below c.args.frontier.now (g.S.Trace.content c.args.trace.now) c.args.self.now.histories c.args.self.now.waiting
   all_read =
-      reads_are g.T.Ord.cmp g.met.T.Ord.total g.met.T.PartialOrder.order g.met.T.Lattice.bounds c.self.inside.key (g.R.Reducer.reduces c.self.inside.reducer) (g.met.R.Reducer.laws c.self.inside.reducer c.self.inside.key) (content g c) c.args.frontier.now (hs g c) c.self.invariant.2 c.known.ensures c.as_slice.result.now (waits g c) c.in_ok-out.ensures.visited.0 c.in_ok-out.field-0.out.items c.in_ok-out.field-0.changes.items c.in_ok-out.field-0.waiting.items c.in_ok-out.ensures.visited.1 c.in_ok-out.ensures.visited.2 c.replace_all.new.histories.items c.replace_all.ensures
+      reads_are g.T.Ord.cmp g.met.T.Ord.total g.met.T.PartialOrder.order g.met.T.Lattice.bounds c.self.inside.key (g.R.Reducer.reduces c.self.inside.reducer) (g.met.R.Reducer.laws c.self.inside.reducer c.self.inside.key) (content g c) c.args.frontier.now (hs g c) c.self.invariant.2 c.known.ensures c.as_slice.result.now (waits g c) c.in_ok-out.ensures.visited.0 c.in_ok-out.field-0.out.items c.in_ok-out.field-0.changes.items c.in_ok-out.field-0.waiting.items c.in_ok-out.ensures.visited.1 c.in_ok-out.ensures.visited.2 c.change_all.new.histories.items (changed g c)
       ∙ (ap (λ z. all_reads g.T.PartialOrder.below c.args.frontier.now z c.self.inside.histories.items c.as_slice.result.now) whole
       ∙ (ap (λ z. all_reads g.T.PartialOrder.below c.args.frontier.now (g.S.Trace.content c.args.trace.now) c.self.inside.histories.items z) (c.as_slice.ensures ∙ ap (λ s. s.waiting) c.self.view_is)
       ∙ ap (λ z. all_reads g.T.PartialOrder.below c.args.frontier.now (g.S.Trace.content c.args.trace.now) z c.args.self.now.waiting) (ap (λ s. s.histories) c.self.view_is)))

@@ -1,4 +1,5 @@
-use Rattle.std.proofs.Common.{ap}
+use Rattle.std.proofs.Common.{map, ap}
+use Rattle.reduce.specs.Taking.{made_from}
 use Rattle.reduce.proofs.StandLemmas.{stands_now, pending_now, later_now, open_now}
 use Rattle.reduce.proofs.TakenLemmas.{joins_kept}
 use Rattle.reduce.proofs.state.ReduceState.take.Goals as goal
@@ -10,15 +11,15 @@ pub invariant_of-self-in_err-reserve-2 : goal.invariant_of-self-in_err-reserve-2
 invariant_of-self-in_err-reserve-2 g c = rw (c.reserve.ensures.items, c.reserve-2.ensures.items) c.self.invariant
 
 pub put_all-requires-clause-due : goal.put_all-requires-clause-due
-put_all-requires-clause-due g c = c.in_ok-made.ensures.due c.self.invariant.4
+put_all-requires-clause-due g c = rw c.reserve.ensures.items (c.in_ok-made.ensures.due c.self.invariant.4)
 
 pub invariant_of-self-2 : goal.invariant_of-self-2
 invariant_of-self-2 g c = (
   c.self.invariant.0,
   c.self.invariant.1,
-  c.put_all.ensures.known c.self.inside.key (rw c.reserve.ensures.items c.self.invariant.2) c.in_ok-made.ensures.made.histories,
+  c.put_all.ensures.known c.self.inside.key (rw c.reserve.ensures.items c.self.invariant.2) (rw c.reserve.ensures.items c.in_ok-made.ensures.made.histories),
   c.put_all.ensures.waiting,
-  joins_kept g.T.Lattice.joined g.T.Ord.cmp c.self.inside.key c.self.inside.histories.items (g.B.BatchReader.content c.args.batch.now) c.in_ok-made.made.items c.put_all.new.histories.items c.in_ok-made.ensures.made
+  joins_kept g.T.Lattice.joined g.T.Ord.cmp c.self.inside.key c.self.inside.histories.items (g.B.BatchReader.content c.args.batch.now) (map (made_from c.self.inside.histories.items) c.in_ok-made.made.items) c.put_all.new.histories.items c.in_ok-made.ensures.made
       (rw c.reserve.ensures.items at c.put_all.ensures.found) c.self.invariant.4,
 )
 
@@ -26,16 +27,16 @@ pub returns-clause-stands : goal.returns-clause-stands
 returns-clause-stands g c =
     let wide = rw (← ap (λ s. s.key) c.self.view_is) at c.requires.wide in
     rw (← ap (λ s. s.key) c.self.view_is, ← ap (λ s. s.histories) c.self.view_is, ← ap (λ s. s.reducer) c.self.view_is)
-    (λ taken given st. stands_now g.T.Ord.cmp g.met.T.PartialOrder.order g.met.T.Lattice.bounds c.self.inside.key (g.B.BatchReader.content c.args.batch.now) c.self.inside.histories.items c.in_ok-made.made.items c.put_all.new.histories.items c.in_ok-made.ensures.made (rw c.reserve.ensures.items at c.put_all.ensures.found) (g.R.Reducer.reduces c.self.inside.reducer) taken given wide st)
+    (λ taken given st. stands_now g.T.Ord.cmp g.met.T.PartialOrder.order g.met.T.Lattice.bounds c.self.inside.key (g.B.BatchReader.content c.args.batch.now) c.self.inside.histories.items (map (made_from c.self.inside.histories.items) c.in_ok-made.made.items) c.put_all.new.histories.items c.in_ok-made.ensures.made (rw c.reserve.ensures.items at c.put_all.ensures.found) (g.R.Reducer.reduces c.self.inside.reducer) taken given wide st)
 
 pub returns-clause-pending : goal.returns-clause-pending
 returns-clause-pending g c =
     let wide = rw (← ap (λ s. s.key) c.self.view_is) at c.requires.wide in
     rw (← ap (λ s. s.key) c.self.view_is, ← ap (λ s. s.histories) c.self.view_is, ← ap (λ s. s.reducer) c.self.view_is)
-    (λ taken given st. pending_now g.T.Ord.cmp g.met.T.PartialOrder.order g.met.T.Lattice.bounds c.self.inside.key (g.B.BatchReader.content c.args.batch.now) c.self.inside.histories.items c.in_ok-made.made.items c.put_all.new.histories.items c.in_ok-made.ensures.made (rw c.reserve.ensures.items at c.put_all.ensures.found) (g.R.Reducer.reduces c.self.inside.reducer) taken given wide st)
+    (λ taken given st. pending_now g.T.Ord.cmp g.met.T.PartialOrder.order g.met.T.Lattice.bounds c.self.inside.key (g.B.BatchReader.content c.args.batch.now) c.self.inside.histories.items (map (made_from c.self.inside.histories.items) c.in_ok-made.made.items) c.put_all.new.histories.items c.in_ok-made.ensures.made (rw c.reserve.ensures.items at c.put_all.ensures.found) (g.R.Reducer.reduces c.self.inside.reducer) taken given wide st)
 
 pub returns-clause-later : goal.returns-clause-later
-returns-clause-later g c = rw (← ap (λ s. s.key) c.self.view_is, ← ap (λ s. s.histories) c.self.view_is) (later_now g.T.Ord.cmp g.met.T.PartialOrder.order g.met.T.Lattice.bounds c.self.inside.key (g.B.BatchReader.content c.args.batch.now) c.self.inside.histories.items c.in_ok-made.made.items c.put_all.new.histories.items c.in_ok-made.ensures.made (rw c.reserve.ensures.items at c.put_all.ensures.found) c.self.invariant.4)
+returns-clause-later g c = rw (← ap (λ s. s.key) c.self.view_is, ← ap (λ s. s.histories) c.self.view_is) (later_now g.T.Ord.cmp g.met.T.PartialOrder.order g.met.T.Lattice.bounds c.self.inside.key (g.B.BatchReader.content c.args.batch.now) c.self.inside.histories.items (map (made_from c.self.inside.histories.items) c.in_ok-made.made.items) c.put_all.new.histories.items c.in_ok-made.ensures.made (rw c.reserve.ensures.items at c.put_all.ensures.found) c.self.invariant.4)
 
 pub returns-clause-open : goal.returns-clause-open
-returns-clause-open g c = rw (← ap (λ s. s.key) c.self.view_is, ← ap (λ s. s.histories) c.self.view_is) (open_now g.T.Ord.cmp g.met.T.PartialOrder.order g.met.T.Lattice.bounds c.self.inside.key (g.B.BatchReader.content c.args.batch.now) c.self.inside.histories.items c.in_ok-made.made.items c.put_all.new.histories.items c.in_ok-made.ensures.made (rw c.reserve.ensures.items at c.put_all.ensures.found) c.self.invariant.4)
+returns-clause-open g c = rw (← ap (λ s. s.key) c.self.view_is, ← ap (λ s. s.histories) c.self.view_is) (open_now g.T.Ord.cmp g.met.T.PartialOrder.order g.met.T.Lattice.bounds c.self.inside.key (g.B.BatchReader.content c.args.batch.now) c.self.inside.histories.items (map (made_from c.self.inside.histories.items) c.in_ok-made.made.items) c.put_all.new.histories.items c.in_ok-made.ensures.made (rw c.reserve.ensures.items at c.put_all.ensures.found) c.self.invariant.4)
