@@ -37,6 +37,7 @@ pub mod StandingLemmas
 pub mod SweepLemmas
 pub mod TakenLemmas
 pub mod TakingLemmas
+pub mod TallyLemmas
 pub mod TraceLemmas
 pub mod VisitLemmas
 pub mod WaitingLemmas

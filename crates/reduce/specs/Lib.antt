@@ -16,3 +16,4 @@ pub mod Visiting
 pub mod Reductions
 pub mod Owing
 pub mod Settling
+pub mod Tallies

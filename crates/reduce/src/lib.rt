@@ -35,6 +35,7 @@ mod settling;
 mod state;
 mod sweep;
 mod taking;
+mod tally;
 mod times;
 mod visiting;
 
@@ -49,3 +50,4 @@ pub use laws::{
 };
 pub use reducer::Reducer;
 pub use state::ReduceState;
+pub use tally::Tally;
