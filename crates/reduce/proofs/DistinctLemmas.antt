@@ -1,4 +1,4 @@
--- Distinct: the rows of a bag with a count above 0 are what distinct answers, and so are those that a loop writes.
+-- Distinct: of rows in order, each once, those with a count above 0 are what distinct answers, and so are those that a loop writes.
 use Rattle.std.proofs.Common.{◌≡◌, ℕ, ◌+◌, ◌<◌, Bool, true, false, cond, List, [], ◌∷◌, ◌++◌, ℤ, map, take, length, get_or, refl, ap, sym, subst, ◌∙◌, append_assoc, w64, FitsSigned, rules, arith}
 use Rattle.std.specs.Prelude.{pos, ◌+ℤ◌, int_lt}
 use Rattle.std.specs.Cmp.Lexicographic.{slice_cmp, lists_ties, lists_total}
@@ -10,11 +10,12 @@ use Rattle.std.proofs.lemmas.Cmp.{int_cmp_total}
 use Rattle.std.proofs.lemmas.Int.{ints}
 use Rattle.std.proofs.lemmas.List.{append-nil, map-append}
 use Rattle.std.proofs.lemmas.List.Elements.{filter_more}
-use Rattle.update.specs.Bags.{Entry, Alike, IsBag, HasLargeCount, count_of, same_row, entry_of}
+use Rattle.update.specs.Bags.{Entry, Alike, HasLargeCount, count_of, same_row, entry_of}
 use Rattle.update.proofs.BagLemmas.{count_absent}
 use Rattle.plan.specs.Reductions.{single}
 use Rattle.plan.proofs.ReducerLemmas.{count_present}
 use Rattle.plan.proofs.CountLemmas.{row_same, when_zero}
+use Rattle.reduce.specs.Tallies.{AreInOrder}
 use Rattle.reduce.specs.Kinds.{is_positive, positive_rows, distinct_answer}
 
 -- any entry, as the default of an index
@@ -74,7 +75,7 @@ added true n rest out h none =
 added false n rest out h none =
     ap (λ m. m +ℤ out) (when_zero (int_lt (pos 0) n)) ∙ (zero_plus out ∙ (h ∙ ap once (sym (zero_plus rest))))
 
--- in a bag, the rows after an entry are other rows
+-- where rows are in order, the rows after an entry are other rows
 others : (e : Entry) (es : List Entry) (row : List ℤ) → same_row e.row row ≡ true → AllByRecursion (λ y. slice_cmp int_cmp e.row y.row ≡ Less) es → AllByRecursion (λ y. same_row y.row row ≡ false) es
 others e [] row h s = tt
 others e (y ∷ es) row h s =
@@ -89,13 +90,13 @@ positive_at (e ∷ es) s row =
     first_row e es row
     ∙ added (same_row e.row row) e.count (count_of es row) (count_of (positive_rows es) row) (positive_at es s.1 row) (λ h. count_absent es row (others e es row h s.0))
 
--- the rows of a bag with a count above 0 are the answer of distinct
-pub distinct_is : (key : List ℤ) (es : List Entry) → IsBag es → Alike (positive_rows es) (distinct_answer key es)
-distinct_is key es bag row = positive_at es bag.ascending row ∙ sym (count_present es row)
+-- the rows with a count above 0 are the answer of distinct
+pub distinct_is : (key : List ℤ) (es : List Entry) → AreInOrder es → Alike (positive_rows es) (distinct_answer key es)
+distinct_is key es order row = positive_at es order row ∙ sym (count_present es row)
 
 -- no row occurs more than once, so no count is too large
-pub positive_fit : (es : List Entry) → IsBag es → HasLargeCount (positive_rows es) → ⊥
-positive_fit es bag large = large.1 (subst (FitsSigned w64) (sym (positive_at es bag.ascending large.0)) (step (int_lt (pos 0) (count_of es large.0))))
+pub positive_fit : (es : List Entry) → AreInOrder es → HasLargeCount (positive_rows es) → ⊥
+positive_fit es order large = large.1 (subst (FitsSigned w64) (sym (positive_at es order large.0)) (step (int_lt (pos 0) (count_of es large.0))))
   where
     step : (b : Bool) → FitsSigned w64 (cond b (pos 1) (pos 0))
     step true = search rules

@@ -1,4 +1,4 @@
--- Min and max: of the rows of a bag with a count above 0, the first is the least and the last the greatest.
+-- Min and max: of rows in order, each once, with a count above 0, the first is the least and the last the greatest.
 use Rattle.std.proofs.Common.{◌≡◌, ℕ, zero, suc, ◌+◌, ◌<◌, ◌≤◌, Bool, true, false, cond, List, [], ◌∷◌, ℤ, length, get_or, IsTrue, ⊎_elim, refl, ap, sym, ◌∙◌, ◌↔◌, eq-or-lt_of_le, arith}
 use Rattle.std.specs.Prelude.{pos, ◌+ℤ◌, int_lt}
 use Rattle.std.specs.Cmp.{IsTotalOrder}
@@ -11,17 +11,18 @@ use Rattle.std.specs.declared.cmp.Ordering.TheVariants.{Less, Equal, Greater}
 use Rattle.std.proofs.lemmas.Bool.{cases_lt, true≢false}
 use Rattle.std.proofs.lemmas.Cmp.{int_cmp_total}
 use Rattle.std.proofs.lemmas.List.Elements.{All-from_recursion}
-use Rattle.update.specs.Bags.{Entry, Alike, IsBag, count_of, same_row}
+use Rattle.update.specs.Bags.{Entry, Alike, count_of, same_row}
 use Rattle.update.proofs.BagLemmas.{count_at}
 use Rattle.plan.specs.Reductions.{single, reduction_answer, is_present, is_before}
 use Rattle.plan.specs.declared.node.Kind.{Kind}
 use Rattle.plan.specs.declared.node.Kind.TheVariants.{Min, Max}
 use Rattle.plan.proofs.AnswerLemmas.{least_answered, greatest_answered, answered_once}
 use Rattle.plan.proofs.CountLemmas.{row_same, row_itself}
+use Rattle.reduce.specs.Tallies.{AreInOrder}
 use Rattle.reduce.specs.Kinds.{is_positive, min_answer, max_answer}
 use Rattle.reduce.proofs.DistinctLemmas.{no_entry, zero_plus}
 
--- ---- the order of a bag
+-- ---- the order of rows
 
 abbrev by_columns : List ℤ → List ℤ → Ordering
 by_columns r s = slice_cmp int_cmp r s
@@ -56,29 +57,29 @@ entry_with (e ∷ es) row n = step (λ z. entry_with es row z) (same_row e.row r
         let later = rest (λ z. n (ap (λ b. cond b e.count (pos 0) +ℤ count_of es row) h ∙ (zero_plus (count_of es row) ∙ z))) in
         (suc later.0, omega (arith, later.1), later.2)
 
-module _ (es : List Entry) (bag : IsBag es) where
+module _ (es : List Entry) (order : AreInOrder es) where
   abbrev row_of : ℕ → List ℤ
   row_of i = (get_or es i no_entry).row
 
   before : (i j : ℕ) → i < j → j < length es → is_before (row_of i) (row_of j) ≡ true
-  before i j l m = ap is_lt (in_order es bag.ascending i j no_entry l m)
+  before i j l m = ap is_lt (in_order es order i j no_entry l m)
 
   not_before : (i j : ℕ) → i ≤ j → j < length es → is_before (row_of j) (row_of i) ≡ false
   not_before i j l m =
       ⊎_elim
       (λ e. ap (λ n. is_before (row_of j) (row_of n)) e ∙ not_before_itself (row_of j))
-      (λ h. ap is_lt (columns_total.antisymm (row_of j) (row_of i) ∙ ap ordering_reverse (in_order es bag.ascending i j no_entry h m)))
+      (λ h. ap is_lt (columns_total.antisymm (row_of j) (row_of i) ∙ ap ordering_reverse (in_order es order i j no_entry h m)))
       (eq-or-lt_of_le l)
 
   -- an entry with a count above 0 has a present row
   present_at : (i : ℕ) → i < length es → is_positive (get_or es i no_entry) ≡ true → is_present es (row_of i) ≡ true
-  present_at i l p = ap (int_lt (pos 0)) (count_at es i no_entry l bag.ascending) ∙ p
+  present_at i l p = ap (int_lt (pos 0)) (count_at es i no_entry l order) ∙ p
 
   -- a present row is that of an entry with a count above 0
   entry_of_present : (row : List ℤ) → is_present es row ≡ true → (i : ℕ) × (i < length es) × (row_of i ≡ row) × (is_positive (get_or es i no_entry) ≡ true)
   entry_of_present row h =
       let found = entry_with es row (λ z. true≢false (sym h ∙ ap (int_lt (pos 0)) z)) in
-      (found.0, found.1, found.2, ap (int_lt (pos 0)) (sym (count_at es found.0 no_entry found.1 bag.ascending) ∙ ap (count_of es) found.2) ∙ h)
+      (found.0, found.1, found.2, ap (int_lt (pos 0)) (sym (count_at es found.0 no_entry found.1 order) ∙ ap (count_of es) found.2) ∙ h)
 
   module _ (beats : List ℤ → List ℤ → Bool) (kind : Kind)
       (answered : (key : List ℤ) (entries : List Entry) (row : List ℤ) → (count_of (reduction_answer kind key entries) row ≡ pos 1)

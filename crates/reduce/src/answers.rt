@@ -1,34 +1,35 @@
-//! What the reducers have in common: they read the entries of a bag by index, and most answer one row or none. In such
+//! What the reducers have in common: they read the entries of a key by index, and most answer one row or none. In such
 //! an answer no count is above 1, so only memory can be refused.
 ghost use Rattle.std.specs.Prelude.{◌≡◌, ◌<◌, ◌∷◌, [], length, slice_index_or, IfOk, IfErr};
 ghost use Rattle.update.specs.Bags.{Entry, Alike, IsBag};
 ghost use Rattle.plan.specs.Reductions.{single};
 ghost use Rattle.reduce.specs.Kinds.{is_positive};
 
+use crate::RowCounts;
 use row::Row;
 use std::alloc::Global;
 use update::{Bag, Entries, Refusal};
 
 /// A copy of the row of entry `i`. Takes no memory.
-pub(crate) fn row_at(rows: &Bag, i: usize) -> Row
-    requires { i < length rows.now }
-    ensures { (d : Entry) → result ≡ (slice_index_or rows.now i d).row }
+pub(crate) fn row_at<C: RowCounts>(rows: &C, i: usize) -> Row
+    requires { i < length (C.entries rows.now) }
+    ensures { (d : Entry) → result ≡ (slice_index_or (C.entries rows.now) i d).row }
 {
     rows.row(i).copy()
 }
 
 /// The count of entry `i`. Takes no memory.
-pub(crate) fn count_at(rows: &Bag, i: usize) -> i64
-    requires { i < length rows.now }
-    ensures { (d : Entry) → result ≡ (slice_index_or rows.now i d).count }
+pub(crate) fn count_at<C: RowCounts>(rows: &C, i: usize) -> i64
+    requires { i < length (C.entries rows.now) }
+    ensures { (d : Entry) → result ≡ (slice_index_or (C.entries rows.now) i d).count }
 {
     rows.count(i)
 }
 
 /// Whether entry `i` has a count above 0. Takes no memory.
-pub(crate) fn is_positive_at(rows: &Bag, i: usize) -> bool
-    requires { i < length rows.now }
-    ensures { (d : Entry) → result ≡ is_positive (slice_index_or rows.now i d) }
+pub(crate) fn is_positive_at<C: RowCounts>(rows: &C, i: usize) -> bool
+    requires { i < length (C.entries rows.now) }
+    ensures { (d : Entry) → result ≡ is_positive (slice_index_or (C.entries rows.now) i d) }
 {
     count_at(rows, i) > 0
 }

@@ -5,8 +5,8 @@ ghost use Rattle.std.specs.Prelude.{◌≡◌, IfOk, IfErr};
 ghost use Rattle.plan.specs.Reductions.{sum_of_counts};
 ghost use Rattle.reduce.specs.Corrections.{IsTooLarge};
 
-use crate::Reducer;
 use crate::answers::{count_at, no_rows, one_row};
+use crate::{Reducer, RowCounts};
 use row::{MAX_WIDTH, Row};
 use std::alloc::Global;
 use update::{Bag, Refusal};
@@ -19,8 +19,8 @@ use update::{Bag, Refusal};
 pub struct Count;
 
 // The sum of the counts. It fits, because each of fewer than 2^64 counts adds at most 2^63 to it.
-fn wide_sum(rows: &Bag) -> i128
-    ensures { result ≡ sum_of_counts rows.now }
+fn wide_sum<C: RowCounts>(rows: &C) -> i128
+    ensures { result ≡ sum_of_counts (C.entries rows.now) }
 {
     let mut sum = 0;
     for i in 0..rows.len() {
@@ -30,10 +30,10 @@ fn wide_sum(rows: &Bag) -> i128
 }
 
 // The sum of the counts, in 64 bits. [`Refusal::Overflow`] only if the counts are too large.
-fn sum_of_counts(rows: &Bag) -> Result<i64, Refusal>
-    ensures sum { IfOk result (λ sum. sum ≡ sum_of_counts rows.now) }
+fn sum_of_counts<C: RowCounts>(rows: &C) -> Result<i64, Refusal>
+    ensures sum { IfOk result (λ sum. sum ≡ sum_of_counts (C.entries rows.now)) }
     ensures only { IfErr result (λ refused. refused ≡ Refusal.Overflow) }
-    ensures large { IfErr result (λ _. IsTooLarge rows.now) }
+    ensures large { IfErr result (λ _. IsTooLarge (C.entries rows.now)) }
 {
     let Ok(sum) = i64::try_from(wide_sum(rows)) else {
         return Err(Refusal::Overflow);
@@ -49,7 +49,7 @@ impl Reducer for Count {
 
     ghost sees_rows = { λ _. false };
 
-    fn reduce(&self, alloc: Global, key: &[i64], rows: &Bag) -> Result<Bag, Refusal> {
+    fn reduce<C: RowCounts>(&self, alloc: Global, key: &[i64], rows: &C) -> Result<Bag, Refusal> {
         if key.len() >= MAX_WIDTH {
             return no_rows(alloc);
         }

@@ -1,10 +1,10 @@
-//! Distinct: each row whose count is above 0, once. A bag has each row only once, so one pass over its entries finds
-//! these rows, and no count in the answer can be too large.
+//! Distinct: each row whose count is above 0, once. A reducer reads each row only once, so one pass over the entries
+//! finds these rows, and no count in the answer can be too large.
 ghost use Rattle.std.specs.Prelude.{◌≡◌, ◌++◌, IfErr, OnOk};
 ghost use Rattle.reduce.specs.Kinds.{positive_rows};
 
-use crate::Reducer;
 use crate::answers::{is_positive_at, row_at};
+use crate::{Reducer, RowCounts};
 use std::alloc::Global;
 use update::{Bag, Entries, Refusal};
 
@@ -15,8 +15,9 @@ use update::{Bag, Entries, Refusal};
 pub struct Distinct;
 
 // Appends each row whose count is above 0, once.
-fn put_positive(entries: &mut Entries, rows: &Bag) -> Result<(), Refusal>
-    ensures positive { OnOk result (entries.new ≡ entries.old ++ positive_rows rows.now) }
+fn put_positive<C: RowCounts>(entries: &mut Entries, rows: &C) -> Result<(), Refusal>
+    ensures positive { OnOk result
+        (entries.new ≡ entries.old ++ positive_rows (C.entries rows.now)) }
     ensures refused { IfErr result (λ refused. refused ≡ Refusal.OutOfMemory) }
 {
     for i in 0..rows.len() {
@@ -35,7 +36,7 @@ impl Reducer for Distinct {
 
     ghost sees_rows = { λ _. true };
 
-    fn reduce(&self, alloc: Global, _key: &[i64], rows: &Bag) -> Result<Bag, Refusal> {
+    fn reduce<C: RowCounts>(&self, alloc: Global, _key: &[i64], rows: &C) -> Result<Bag, Refusal> {
         let mut entries = Entries::new(alloc);
         put_positive(&mut entries, rows)?;
         rows.known();

@@ -1,12 +1,12 @@
-//! Min and max: the least and the greatest row whose count is above 0, once. The rows of a bag are in order, so the least
-//! is the first such row and the greatest is the last. The search for either ends at the row that it finds.
+//! Min and max: the least and the greatest row whose count is above 0, once. The rows that a reducer reads are in order,
+//! so the least is the first such row and the greatest is the last. The search for either ends at the row that it finds.
 ghost use Rattle.std.specs.Prelude.{◌≡◌, ◌≤◌, ◌<◌, ◌+◌, ℕ, true, false, None, length, slice_index_or, IfSome};
 ghost use Rattle.std.specs.List.{AllWithin};
 ghost use Rattle.update.specs.Bags.{Entry};
 ghost use Rattle.reduce.specs.Kinds.{is_positive};
 
-use crate::Reducer;
 use crate::answers::{is_positive_at, no_rows, one_row, row_at};
+use crate::{Reducer, RowCounts};
 use std::alloc::Global;
 use update::{Bag, Refusal};
 
@@ -23,13 +23,15 @@ pub struct Min;
 pub struct Max;
 
 // The index of the first entry with a count above 0.
-fn first_positive(rows: &Bag) -> Option<usize>
-    ensures inside { IfSome result (λ i. i < length rows.now) }
+fn first_positive<C: RowCounts>(rows: &C) -> Option<usize>
+    ensures inside { IfSome result (λ i. i < length (C.entries rows.now)) }
     ensures positive { IfSome result (λ i. (d : Entry)
-        → is_positive (slice_index_or rows.now i d) ≡ true) }
-    ensures first { IfSome result (λ i. AllWithin (λ e. is_positive e ≡ false) rows.now 0 i) }
+        → is_positive (slice_index_or (C.entries rows.now) i d) ≡ true) }
+    ensures first { IfSome result
+        (λ i. AllWithin (λ e. is_positive e ≡ false) (C.entries rows.now) 0 i) }
     ensures none { result ≡ None
-        → AllWithin (λ e. is_positive e ≡ false) rows.now 0 (length rows.now) }
+        → AllWithin (λ e. is_positive e ≡ false) (C.entries rows.now) 0
+        (length (C.entries rows.now)) }
 {
     for i in 0..rows.len() {
         if is_positive_at(rows, i) {
@@ -40,14 +42,15 @@ fn first_positive(rows: &Bag) -> Option<usize>
 }
 
 // The index of the last entry with a count above 0.
-fn last_positive(rows: &Bag) -> Option<usize>
-    ensures inside { IfSome result (λ i. i < length rows.now) }
+fn last_positive<C: RowCounts>(rows: &C) -> Option<usize>
+    ensures inside { IfSome result (λ i. i < length (C.entries rows.now)) }
     ensures positive { IfSome result (λ i. (d : Entry)
-        → is_positive (slice_index_or rows.now i d) ≡ true) }
-    ensures last { IfSome result (λ i. AllWithin (λ e. is_positive e ≡ false) rows.now (i + 1)
-        (length rows.now)) }
+        → is_positive (slice_index_or (C.entries rows.now) i d) ≡ true) }
+    ensures last { IfSome result (λ i. AllWithin (λ e. is_positive e ≡ false)
+        (C.entries rows.now) (i + 1) (length (C.entries rows.now))) }
     ensures none { result ≡ None
-        → AllWithin (λ e. is_positive e ≡ false) rows.now 0 (length rows.now) }
+        → AllWithin (λ e. is_positive e ≡ false) (C.entries rows.now) 0
+        (length (C.entries rows.now)) }
 {
     for i in (0..rows.len()).rev() {
         if is_positive_at(rows, i) {
@@ -65,7 +68,7 @@ impl Reducer for Min {
 
     ghost sees_rows = { λ _. true };
 
-    fn reduce(&self, alloc: Global, _key: &[i64], rows: &Bag) -> Result<Bag, Refusal> {
+    fn reduce<C: RowCounts>(&self, alloc: Global, _key: &[i64], rows: &C) -> Result<Bag, Refusal> {
         rows.known();
         match first_positive(rows) {
             Some(i) => one_row(alloc, row_at(rows, i)),
@@ -90,7 +93,7 @@ impl Reducer for Max {
 
     ghost sees_rows = { λ _. true };
 
-    fn reduce(&self, alloc: Global, _key: &[i64], rows: &Bag) -> Result<Bag, Refusal> {
+    fn reduce<C: RowCounts>(&self, alloc: Global, _key: &[i64], rows: &C) -> Result<Bag, Refusal> {
         rows.known();
         match last_positive(rows) {
             Some(i) => one_row(alloc, row_at(rows, i)),

@@ -9,7 +9,7 @@ ghost use Rattle.reduce.specs.declared.distinct.Distinct.{Distinct};
 ghost use Rattle.reduce.specs.declared.extremes.Min.{Min};
 ghost use Rattle.reduce.specs.declared.extremes.Max.{Max};
 
-use crate::{Count, Distinct, Max, Min, Reducer};
+use crate::{Count, Distinct, Max, Min, Reducer, RowCounts};
 use plan::Kind;
 use std::alloc::Global;
 use update::{Bag, Refusal};
@@ -23,7 +23,7 @@ impl Reducer for Kind {
 
     ghost sees_rows = { kind_sees_rows };
 
-    fn reduce(&self, alloc: Global, key: &[i64], rows: &Bag) -> Result<Bag, Refusal> {
+    fn reduce<C: RowCounts>(&self, alloc: Global, key: &[i64], rows: &C) -> Result<Bag, Refusal> {
         match self {
             Kind::Count => Count.reduce(alloc, key, rows),
             Kind::Distinct => Distinct.reduce(alloc, key, rows),

@@ -7,6 +7,7 @@
 //!
 //! - [`Reducer`] is what a key's rows are reduced to: a function of a bag. [`Count`], [`Distinct`], [`Min`] and [`Max`]
 //!   are those of plans.
+//! - [`RowCounts`] is how a reducer reads the rows of a key. A [`Tally`] has them with counts that change in place.
 //! - [`ReduceState`] takes batches and gives the differences that a frontier has passed.
 //! - [`KeyHistory`] is what is kept of a key.
 //! - The laws say what follows from the definitions: where answers can change, and that what is given is one list in
@@ -30,6 +31,7 @@ mod places;
 mod reading;
 mod reducer;
 mod replay;
+mod row_counts;
 mod scan;
 mod settling;
 mod state;
@@ -49,5 +51,6 @@ pub use laws::{
     outputs_change_at_joined_times, rows_given_are_answered, settled_is_right,
 };
 pub use reducer::Reducer;
+pub use row_counts::RowCounts;
 pub use state::ReduceState;
 pub use tally::Tally;

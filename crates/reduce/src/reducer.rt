@@ -1,5 +1,6 @@
-//! What a reduction answers for a key. A reducer sees the rows of one key as a bag, at one time, and knows of no times.
-//! Its meaning is a function of the key and the bag. So whatever updates sum to the bag, the answer is the same.
+//! What a reduction answers for a key. A reducer sees the rows of one key with their counts, at one time, and knows of no
+//! times. Its meaning is a function of the key and the bag of the rows. So whatever updates sum to the bag, the answer is
+//! the same. It reads rows by [`RowCounts`], of a bag or of a tally, in which counts may be 0.
 //!
 //! A reducer that does not look at rows says so. It is then given the key in place of each row: its bag has one entry at
 //! most, and a key with many different rows costs no more than a key that has the same row as often.
@@ -10,6 +11,7 @@ ghost use Rattle.update.specs.Refusals.{IsMemoryOrOverflow};
 ghost use Rattle.plan.specs.Reductions.{has_key};
 ghost use Rattle.reduce.specs.Corrections.{IsTooLarge};
 
+use crate::RowCounts;
 use std::alloc::Global;
 use update::{Bag, Refusal};
 
@@ -33,15 +35,17 @@ pub trait Reducer {
     ///
     /// - [`Refusal::Overflow`] only if the absolute counts of the rows add up to 2^63 or more, however the bag is written.
     /// - [`Refusal::OutOfMemory`] only if memory for the answer was refused.
-    fn reduce(&self, alloc: Global, key: &[i64], rows: &Bag) -> Result<Bag, Refusal>
+    fn reduce<C: RowCounts>(&self, alloc: Global, key: &[i64], rows: &C) -> Result<Bag, Refusal>
         requires some { 1 ≤ length key.now }
         requires few { length key.now ≤ 8 }
-        requires keyed { IsTrue (list_all (has_key (length key.now) key.now) rows.now) }
-        ensures value { IfOk result (λ bag. Alike bag (reduces self.now key.now rows.now)) }
+        requires keyed { IsTrue
+            (list_all (has_key (length key.now) key.now) (C.entries rows.now)) }
+        ensures value { IfOk result
+            (λ bag. Alike bag (reduces self.now key.now (C.entries rows.now))) }
         ensures bag { IfOk result IsBag }
         ensures keyed { IfOk result
             (λ bag. IsTrue (list_all (has_key (length key.now) key.now) bag)) }
-        ensures refused { IfErr result (IsMemoryOrOverflow (IsTooLarge rows.now)) };
+        ensures refused { IfErr result (IsMemoryOrOverflow (IsTooLarge (C.entries rows.now))) };
 
     /// Whether the answer depends on which rows of the key there are. If not, then it depends on the sum of their counts
     /// alone, and `reduce` may be given the key in place of each row. Takes no memory.

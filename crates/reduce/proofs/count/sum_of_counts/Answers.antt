@@ -5,7 +5,7 @@ use Rattle.reduce.proofs.CountLemmas.{sum_too_large}
 use Rattle.reduce.proofs.count.sum_of_counts.Goals as goal
 
 pub returns-in_default-clause-large : goal.returns-in_default-clause-large
-returns-in_default-clause-large c =
+returns-in_default-clause-large g c =
     let wide : FitsSigned w128 c.wide_sum.result = search rules in
     let same = to_z-of_z w128 c.wide_sum.result wide ∙ c.wide_sum.ensures in
-    sum_too_large c.args.rows.now (λ fits. c.in_default.ensures (subst (FitsSigned w64) (sym same) fits))
+    sum_too_large (g.C.RowCounts.entries c.args.rows.now) (λ fits. c.in_default.ensures (subst (FitsSigned w64) (sym same) fits))

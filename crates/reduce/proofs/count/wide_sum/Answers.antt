@@ -6,8 +6,8 @@ use Rattle.reduce.proofs.DistinctLemmas.{no_entry}
 use Rattle.reduce.proofs.count.wide_sum.Goals as goal
 
 pub loop-i-preserved : goal.loop-i-preserved
-loop-i-preserved c =
-    let rows = c.args.rows.now in
+loop-i-preserved g c =
+    let rows = g.C.RowCounts.entries c.args.rows.now in
     let i = c.loop-i.i in
     let n = to_z w128 c.loop-i.sum-bits in
     let m = c.from-sum.result in

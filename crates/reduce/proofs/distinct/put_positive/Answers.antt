@@ -4,8 +4,8 @@ use Rattle.reduce.proofs.DistinctLemmas.{no_entry, put_positive, pass_over}
 use Rattle.reduce.proofs.distinct.put_positive.Goals as goal
 
 pub loop-i-preserved : goal.loop-i-preserved
-loop-i-preserved c =
-    let rows = c.args.rows.now in
+loop-i-preserved g c =
+    let rows = g.C.RowCounts.entries c.args.rows.now in
     let i = c.loop-i.i in
     let old = c.args.entries.now in
     let mid = c.loop-i.entries in

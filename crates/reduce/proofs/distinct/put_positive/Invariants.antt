@@ -4,4 +4,4 @@ use Rattle.reduce.proofs.distinct.put_positive.Given as goal
 
 -- the rows so far
 abbrev pub invariant-loop-i : goal.invariant-loop-i
-invariant-loop-i l = l.entries ≡ l.initial.entries ++ positive_rows (take l.i l.rows)
+invariant-loop-i g l = l.entries ≡ l.initial.entries ++ positive_rows (take l.i (g.C.RowCounts.entries l.rows))

@@ -5,4 +5,4 @@ use Rattle.reduce.proofs.extremes.last_positive.Given as goal
 
 -- no count from here on is above 0
 abbrev pub invariant-loop-i : goal.invariant-loop-i
-invariant-loop-i l = AllWithin (λ e. is_positive e ≡ false) l.rows l.i (length l.rows)
+invariant-loop-i g l = AllWithin (λ e. is_positive e ≡ false) (g.C.RowCounts.entries l.rows) l.i (length (g.C.RowCounts.entries l.rows))

@@ -8,17 +8,17 @@ use Rattle.reduce.proofs.CountLemmas.{no_room, no_count, counted}
 use Rattle.reduce.proofs.count.CountReducer.reduce.Goals as goal
 
 pub returns-then-key-ge-MAX_WIDTH-clause-keyed : goal.returns-then-key-ge-MAX_WIDTH-clause-keyed
-returns-then-key-ge-MAX_WIDTH-clause-keyed c =
+returns-then-key-ge-MAX_WIDTH-clause-keyed g c =
     let key = c.args.key.now in
-    let rows = c.args.rows.now in
+    let rows = g.C.RowCounts.entries c.args.rows.now in
     gives_keyed count_within key rows [] c.no_rows.result c.no_rows.ensures.none
     (no_room key rows c.if-key-ge-MAX_WIDTH.true)
     (count_reduces (length key)) c.requires.keyed c.no_rows.ensures.bag
 
 pub returns-then-sum-eq0-clause-keyed : goal.returns-then-sum-eq0-clause-keyed
-returns-then-sum-eq0-clause-keyed c =
+returns-then-sum-eq0-clause-keyed g c =
     let key = c.args.key.now in
-    let rows = c.args.rows.now in
+    let rows = g.C.RowCounts.entries c.args.rows.now in
     let fits : FitsSigned w64 c.in_ok-sum.sum = search rules in
     let none : c.in_ok-sum.sum ≡ pos 0 = omega (arith, ints) in
     gives_keyed count_within key rows [] c.no_rows-then-sum-eq0.result c.no_rows-then-sum-eq0.ensures.none
@@ -26,9 +26,9 @@ returns-then-sum-eq0-clause-keyed c =
     (count_reduces (length key)) c.requires.keyed c.no_rows-then-sum-eq0.ensures.bag
 
 pub returns-clause-keyed : goal.returns-clause-keyed
-returns-clause-keyed c =
+returns-clause-keyed g c =
     let key = c.args.key.now in
-    let rows = c.args.rows.now in
+    let rows = g.C.RowCounts.entries c.args.rows.now in
     let n = c.in_ok-sum.sum in
     let fits : FitsSigned w64 n = search rules in
     let some : n ≡ pos 0 → ⊥ = λ z. c.if-sum-eq0.false (ap (of_z w64) z) in
