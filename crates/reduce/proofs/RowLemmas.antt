@@ -1,7 +1,7 @@
 -- Which rows are given: none that no answer has.
-use Rattle.std.proofs.Common.{◌≡◌, ℕ, Bool, true, false, cond, List, [], ◌∷◌, ◌++◌, map, inl, inr, sym, refl, ap, ◌∙◌, arith}
+use Rattle.std.proofs.Common.{◌≡◌, ◌≢◌, ℕ, Bool, true, false, cond, List, [], ◌∷◌, ◌++◌, map, inl, inr, sym, refl, ap, ◌∙◌, arith}
 use Rattle.std.specs.Prelude.{IsTrue}
-use Rattle.std.specs.List.{filter, list_all}
+use Rattle.std.specs.List.{filter, list_all, AllByRecursion}
 use Rattle.std.specs.Cmp.{IsTotalOrder}
 use Rattle.std.specs.declared.cmp.Ordering.{Ordering}
 use Rattle.std.proofs.lemmas.Int.{ints}
@@ -10,14 +10,16 @@ use Rattle.std.proofs.Math.IntN.{ℤ, pos, ◌+ℤ◌, +ℤ_idl}
 use Rattle.lattice.specs.Order.{PartialOrderLaws, LatticeLaws}
 use Rattle.antichain.proofs.Lists.{Among}
 use Rattle.update.specs.Bags.{Alike, Entry, count_of, same_row}
-use Rattle.update.specs.Updates.{entry, as_of, total_at, IsConsolidated}
+use Rattle.update.specs.Updates.{entry, as_of, total_at, AreApart}
 use Rattle.update.specs.declared.change.Update.{Update}
-use Rattle.update.proofs.UniqueLemmas.{at_each, own_total, same_totals}
+use Rattle.update.proofs.UniqueLemmas.{at_each, same_totals}
 use Rattle.plan.specs.Changes.{has_passed}
 use Rattle.plan.specs.Operators.{reduction_output}
 use Rattle.plan.specs.Reductions.{IsReducer}
 use Rattle.plan.proofs.CountLemmas.{count_of-filter, row_same}
 use Rattle.reduce.specs.Histories.{HistoryState}
+use Rattle.reduce.specs.Joined.{Member}
+use Rattle.reduce.proofs.ApartLemmas.{own_total}
 use Rattle.reduce.specs.Reductions.{StandsFor, IsQuietAt}
 use Rattle.reduce.proofs.JoinedLemmas.{sum_at-append}
 use Rattle.reduce.proofs.KeyedLemmas.{absent_row}
@@ -65,6 +67,11 @@ module _ {T : Type 0} (below : T → T → Bool) (p : List ℤ → Bool) where
       step true e h = and_from (p u.row) (list_all (λ e. p e.row) (as_of below t us)) e h
       step false e h = h
 
+  member : (u : Update T) (us : List (Update T)) → Among u us → Member u us
+  member u [] m = absurd m
+  member u (v ∷ us) (inl e) = inl (sym e)
+  member u (v ∷ us) (inr n) = inr (member u us n)
+
   each_passes : (q : Update T → Bool) (us : List (Update T)) → IsTrue (list_all q us) → (u : Update T) → Among u us → q u ≡ true
   each_passes q [] h u m = absurd m
   each_passes q (v ∷ us) h u (inl e) = ap q (sym e) ∙ (and_parts (q v) (list_all q us) h).0
@@ -76,7 +83,7 @@ module _ {T : Type 0} {below : T → T → Bool} {joined met : T → T → T} {c
     (hs : List (HistoryState T)) (taken given out : List (Update T))
     (st : StandsFor below joined k reduce hs taken (given ++ out))
     (quiet : (t : T) → IsTrue (has_passed below frontier t) → IsQuietAt below hs t)
-    (c : IsConsolidated cmp out) (passed : IsTrue (list_all (λ u. has_passed below frontier u.time) out))
+    (once : AreApart below out) (nonzero : AllByRecursion (λ u. u.diff ≢ pos 0) out) (passed : IsTrue (list_all (λ u. has_passed below frontier u.time) out))
     (before : IsTrue (list_all (λ u. p u.row) given))
     (answered : (t : T) → IsTrue (has_passed below frontier t) → IsTrue (list_all (λ e. p e.row) (reduction_output k reduce (as_of below t taken)))) where
   cancels : (x y : ℤ) → x ≡ pos 0 → x +ℤ y ≡ pos 0 → y ≡ pos 0
@@ -105,7 +112,7 @@ module _ {T : Type 0} {below : T → T → Bool} {joined met : T → T → T} {c
       step u m true e = e
       step u m false e =
           let h = each_passes below p (λ u. has_passed below frontier u.time) out passed u m in
-          absurd (at_each (λ u. u.diff ≡ pos 0 → ⊥) out u c.nonzero m
-          (sym (own_total o total out c.ascending u m)
+          absurd (at_each (λ u. u.diff ≡ pos 0 → ⊥) out u nonzero m
+          (sym (own_total o out once u (member below p u out m))
           ∙ (same_totals o (has_passed below frontier) out (passing below p out) (passed_down o total frontier) alike u.row u.time h
           ∙ none_passes below p u.row u.time e out)))

@@ -1,11 +1,11 @@
 //! What follows from the definitions alone. The functions do nothing: they are called, or their clauses cited, for what
 //! they promise in every lattice and of every reducer.
-ghost use Rattle.std.specs.Prelude.{◌≡◌, ◌⊎◌, ◌++◌, Bool, ℕ, ℤ, List, [], IsTrue, true};
-ghost use Rattle.std.specs.List.{filter, list_all};
+ghost use Rattle.std.specs.Prelude.{◌≡◌, ◌≢◌, ◌⊎◌, ◌++◌, Bool, ℕ, ℤ, List, [], IsTrue, pos, true};
+ghost use Rattle.std.specs.List.{AllByRecursion, filter, list_all};
 ghost use Rattle.std.specs.List.Sorted.{IsPermutation};
 ghost use Rattle.update.specs.Bags.{Alike, Entry};
 ghost use Rattle.update.specs.Joins.{joins_of};
-ghost use Rattle.update.specs.Updates.{as_of, IsConsolidated};
+ghost use Rattle.update.specs.Updates.{as_of, AreApart, IsConsolidated};
 ghost use Rattle.update.specs.declared.change.Update.{Update};
 ghost use Rattle.plan.specs.Changes.{has_passed};
 ghost use Rattle.plan.specs.Operators.{reduction_output};
@@ -88,7 +88,7 @@ pub fn rows_given_are_answered<T: Lattice>()
         (taken given out : List (Update T))
         → StandsFor T.below T.joined k reduce hs taken (given ++ out)
         → ((t : T) → IsTrue (has_passed T.below frontier t) → IsQuietAt T.below hs t)
-        → IsConsolidated T.cmp out
+        → AreApart T.below out → AllByRecursion (λ u. u.diff ≢ pos 0) out
         → IsTrue (list_all (λ u. has_passed T.below frontier u.time) out)
         → IsTrue (list_all (λ u. p u.row) given)
         → ((t : T) → IsTrue (has_passed T.below frontier t)

@@ -14,7 +14,7 @@ use Rattle.lattice.specs.Order.{PartialOrderLaws, LatticeLaws}
 use Rattle.lattice.specs.Frontiers.{is_beyond, all_beyond}
 use Rattle.lattice.proofs.FrontierLemmas.{all_more, beyond_up, all_beyond_from}
 use Rattle.update.specs.Bags.{Entry, count_of, same_row}
-use Rattle.update.specs.Updates.{as_of, size, total_where, AreApart, is_doubled, HasLargeTotal, IsConsolidated}
+use Rattle.update.specs.Updates.{as_of, size, total_where, AreApart, is_doubled, HasLargeTotal}
 use Rattle.update.specs.declared.change.Update.{Update}
 use Rattle.update.specs.Refusals.{IsMemoryOrOverflow}
 use Rattle.update.specs.declared.refusal.Refusal.{Refusal}
@@ -423,9 +423,9 @@ module _ {T : Type 0} {below : T → T → Bool} {joined met : T → T → T} {c
       → StandsFor below joined r.state.key (kind_answer r.state.reducer) hs w.taken (emitted ++ out)
       → AreApart below (emitted ++ out) → IsOpenTo below r.state.key (emitted ++ out) hs
       → ((t : T) → IsTrue (has_passed below frontier t) → IsQuietAt below hs t)
-      → IsConsolidated cmp out → IsTrue (list_all (λ u. has_passed below frontier u.time) out)
+      → AreApart below out → AllByRecursion (λ u. u.diff ≢ pos 0) out → IsTrue (list_all (λ u. has_passed below frontier u.time) out)
       → IsReduced below joined (record r { state = record r.state { histories = hs; waiting = waiting; looked = looked } }) received (out ++ emitted)
-  gave r received emitted out frontier hs waiting looked w st apart ahead calm con passed = record {
+  gave r received emitted out frontier hs waiting looked w st apart ahead calm once nonzero passed = record {
     taken = w.taken;
     same = w.same;
     stands = stands_permuted o l r.state.key (kind_answer r.state.reducer) (kind_reduces r.state.reducer r.state.key) hs w.taken w.taken (emitted ++ out) (out ++ emitted) (IsPermutation-refl w.taken) (IsPermutation-append_comm emitted out) st;
@@ -437,7 +437,7 @@ module _ {T : Type 0} {below : T → T → Bool} {joined met : T → T → T} {c
     where
       rows : IsTrue (have_width (output_width r) out)
       rows =
-          rows_answered o l total r.state.key (kind_answer r.state.reducer) (kind_reduces r.state.reducer r.state.key) (λ row. eqb (length row) (output_width r)) frontier hs w.taken emitted out st calm con passed w.answered
+          rows_answered o l total r.state.key (kind_answer r.state.reducer) (kind_reduces r.state.reducer r.state.key) (λ row. eqb (length row) (output_width r)) frontier hs w.taken emitted out st calm once nonzero passed w.answered
           (λ t h. output_wide r.state.reducer r.state.key r.width (as_of below t w.taken) (sum_wide below t r.width w.taken (w.same.among (λ row s. eqb (length row) r.width) w.wide)))
 
 -- ---- what is owed

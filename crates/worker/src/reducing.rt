@@ -118,8 +118,7 @@ impl<T: Minimum> Reducing<T> {
     /// - [`Refusal::Overflow`] only if the absolute diffs of the updates add up to 2^63 or more.
     /// - [`Refusal::OutOfMemory`] only if memory for the times, or for the histories of the keys, was refused.
     ///
-    /// Cost: n log n comparisons in the number of updates; for each of their keys one look-up of a hash and a copy of
-    /// its history; for each new time of a key a join with each joined time that the key has.
+    /// Cost: n log n comparisons in the number of updates; for each of their keys that of [`ReduceState::take`].
     pub fn take(
         &mut self,
         alloc: Global,

@@ -60,7 +60,7 @@ module _ (g : Over) (c : goal.In_ok-out g) where
       let apart = c.in_ok-out.ensures.apart emitted w.apart w.ahead in
       gave g.met.T.PartialOrder.order g.met.T.Lattice.bounds g.met.T.Ord.total old received emitted c.in_ok-out.out.items c.args.frontier.now c.ready.new.self.histories c.ready.new.self.waiting c.ready.new.self.looked w
       (c.in_ok-out.ensures.stands inserted w.taken emitted st (sums_taken g.T.PartialOrder.below c.args.trace.now.since c.args.frontier.now (all_updates inserted) received w.taken sums w.same) w.stands)
-      apart.0 apart.1 c.in_ok-out.ensures.quiet c.in_ok-out.ensures.consolidated settled
+      apart.0 apart.1 c.in_ok-out.ensures.quiet c.in_ok-out.ensures.once c.in_ok-out.ensures.nonzero settled
 
 pub returns-clause-stands : goal.returns-clause-stands
 returns-clause-stands g c =
