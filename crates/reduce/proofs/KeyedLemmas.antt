@@ -42,7 +42,7 @@ rows_pass p bag es is alike h = list_all-from_AllPass (λ (e : Entry). p e.row) 
 
 module _ {T : Type 0} (below : T → T → Bool) (k : ℕ) (key : List ℤ) where
   -- the sum of a key's updates has only rows of the key
-  own_sum : (t : T) (us : List (Update T)) → IsTrue (list_all (of_key k key) us) → IsTrue (list_all (has_key k key) (as_of below t us))
+  pub own_sum : (t : T) (us : List (Update T)) → IsTrue (list_all (of_key k key) us) → IsTrue (list_all (has_key k key) (as_of below t us))
   own_sum t [] h = refl
   own_sum t (u ∷ us) h =
       let p = and_parts (of_key k key u) (list_all (of_key k key) us) h in

@@ -37,6 +37,7 @@ pub mod StandingLemmas
 pub mod SweepLemmas
 pub mod TakenLemmas
 pub mod TakingLemmas
+pub mod TalliedLemmas
 pub mod TallyLemmas
 pub mod TraceLemmas
 pub mod VisitLemmas

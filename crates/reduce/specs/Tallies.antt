@@ -1,9 +1,11 @@
 -- Tallies: the different rows of a key, each with a count that is changed in place and set back.
-use Rattle.std.specs.Prelude.{◌≡◌, ℕ, zero, suc, List, [], ◌∷◌, ℤ, length}
+use Rattle.std.specs.Prelude.{◌≡◌, ℕ, zero, suc, List, [], ◌∷◌, ℤ, IsTrue, length}
+use Rattle.std.specs.List.{list_all}
 use Rattle.std.specs.List.Sorted.{IsStrictlySortedBy}
 use Rattle.std.specs.Cmp.Lexicographic.{slice_cmp}
 use Rattle.std.specs.Ordering.{int_cmp}
-use Rattle.update.specs.Bags.{Entry, entry_of}
+use Rattle.update.specs.Bags.{Entry, Alike, IsBag, entry_of}
+use Rattle.plan.specs.Reductions.{has_key}
 use Rattle.reduce.specs.declared.tally.Undone.{Undone}
 
 -- each row with its count
@@ -31,3 +33,9 @@ set_count (suc place) count (e ∷ entries) = e ∷ set_count place count entrie
 abbrev pub undone : List Undone → List Entry → List Entry
 undone [] entries = entries
 undone (u ∷ noted) entries = set_count u.place u.count (undone noted entries)
+
+-- what a reducer answers for these rows of a key, however they are written
+pub record IsAnswerFor (reduce : List ℤ → List Entry → List Entry) (key : List ℤ) (rows answer : List Entry) : Type 0 where
+  pub value : (entries : List Entry) → Alike rows entries → Alike answer (reduce key entries)
+  pub bag : IsBag answer
+  pub keyed : IsTrue (list_all (has_key (length key) key) answer)

@@ -37,6 +37,7 @@ mod settling;
 mod state;
 mod sweep;
 mod taking;
+mod tallied;
 mod tally;
 mod times;
 mod visiting;
