@@ -181,6 +181,26 @@ fn three_changes_under_count(rt: HostRuntime) -> Result<(), Fail> {
     Ok(())
 }
 
+// At (1, 9) the first two changes add up to more than 2^63 - 1, and the third takes that from them again. A sum that goes
+// through the changes in their order must not be refused.
+#[test]
+fn a_sum_that_is_too_large_on_the_way_is_no_overflow(rt: HostRuntime) -> Result<(), Fail> {
+    let changes: &[Change] = &[
+        ((0, 9), &[7, 500], i64::MAX),
+        ((1, 1), &[7, 500], 5),
+        ((1, 2), &[7, 500], -5),
+        ((2, 0), &[7, 90], 1),
+    ];
+    let want: &[Change] = &[
+        ((0, 9), &[7, 500], 1),
+        ((1, 1), &[7, 500], 1),
+        ((1, 2), &[7, 500], -1),
+        ((2, 0), &[7, 90], 1),
+    ];
+    assert_reduces(&rt, rt.alloc(), Kind::Distinct, changes, want)?;
+    Ok(())
+}
+
 // The join of both times is answered only once the frontier has passed it.
 #[test]
 fn a_join_waits_for_the_frontier(rt: HostRuntime) -> Result<(), Fail> {
