@@ -1,6 +1,6 @@
 //! Min and max: the least and the greatest row whose count is above 0, once. The rows that a reducer reads are in order,
 //! so the least is the first such row and the greatest is the last. The search for either ends at the row that it finds.
-ghost use Rattle.std.specs.Prelude.{◌≡◌, ◌≤◌, ◌<◌, ◌+◌, ℕ, true, false, None, length, slice_index_or, IfSome};
+ghost use Rattle.std.specs.Prelude.{◌≡◌, ◌<◌, ◌+◌, true, false, None, length, slice_index_or, IfSome};
 ghost use Rattle.std.specs.List.{AllWithin};
 ghost use Rattle.update.specs.Bags.{Entry};
 ghost use Rattle.reduce.specs.Kinds.{is_positive};

@@ -7,7 +7,7 @@
 //!
 //! A change is taken back exactly. Each one notes the place and the count that was there, and the notes are set back
 //! from the last to the first.
-ghost use Rattle.std.specs.Prelude.{◌≡◌, ◌<◌, ◌++◌, ◌∷◌, ◌+ℤ◌, [], Bool, List, ℤ, false, length, map, replicate, pos, slice_get, slice_index_or, IsTrue, IsSomeAnd, IfOk, IfErr, IfSome, OnOk};
+ghost use Rattle.std.specs.Prelude.{◌≡◌, ◌<◌, ◌++◌, ◌∷◌, ◌+ℤ◌, [], Bool, List, ℤ, false, length, map, replicate, pos, slice_get, IsTrue, IsSomeAnd, IfOk, IfErr, IfSome};
 ghost use Rattle.std.specs.List.{list_all};
 ghost use Rattle.update.specs.Bags.{Alike, Entry, entry_of};
 ghost use Rattle.update.specs.declared.refusal.Refusal.{Refusal};
