@@ -1,8 +1,7 @@
 -- Updates that are moved forward to the meet of the times to come.
-use Rattle.std.proofs.Common.{◌≡◌, ℕ, take, zero, suc, ◌+◌, ◌≤◌, ◌<◌, length, drop, get_or, add-one, Bool, true, false, cond, List, [], ◌∷◌, ◌++◌, map, sym, refl, ap, ◌∙◌, subst, arith, append_assoc, ◌⊎◌, ⊎_elim, inl, inr}
+use Rattle.std.proofs.Common.{◌≡◌, ℕ, take, zero, suc, ◌+◌, ◌≤◌, ◌<◌, length, drop, get_or, add-one, Bool, true, false, cond, List, [], ◌∷◌, ◌++◌, map, sym, refl, ap, ◌∙◌, subst, arith, append_assoc, ◌⊎◌, inl, inr}
 use Rattle.std.specs.Prelude.{IsTrue, IsSomeAnd, slice_get, ⊤, ℤ}
 use Rattle.std.proofs.lemmas.List.{append-nil, take_more}
-use Rattle.reduce.proofs.MemberLemmas.{in_either}
 use Rattle.std.specs.List.{filter, list_all}
 use Rattle.std.proofs.lemmas.Bool.{true≢false, and_parts, and_from}
 use Rattle.lattice.specs.Order.{PartialOrderLaws, LatticeLaws, ExtendsLaws}

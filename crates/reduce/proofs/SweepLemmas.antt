@@ -1,5 +1,5 @@
 -- A sweep over the times of a key: one time after the other.
-use Rattle.std.proofs.Common.{◌≡◌, ◌≢◌, ℕ, zero, suc, add-one, drop-cons, nat_eq, true, false, ⊎_elim, length, get_or, ◌-◌, ◌+◌, ◌<◌, ◌≤◌, ◌^◌, Bool, List, [], ◌∷◌, ◌++◌, take, drop, sym, refl, ap, ◌∙◌, subst, arith, inl, inr, ◌⊎◌, w64, append_assoc}
+use Rattle.std.proofs.Common.{◌≡◌, ◌≢◌, ℕ, zero, suc, add-one, drop-cons, ⊎_elim, length, get_or, ◌-◌, ◌+◌, ◌<◌, ◌≤◌, ◌^◌, Bool, List, [], ◌∷◌, ◌++◌, take, drop, sym, refl, ap, ◌∙◌, subst, arith, inl, inr, ◌⊎◌, w64}
 use Rattle.std.specs.Prelude.{IsTrue, IfSome, Option, Some, None, FitsSigned}
 use Rattle.std.specs.List.{filter, list_all}
 use Rattle.std.specs.declared.cmp.Ordering.{Ordering}
@@ -59,8 +59,8 @@ module _ {T : Type 0} {below : T → T → Bool} (o : PartialOrderLaws below) wh
               ⊎_elim
               (λ x. subst (λ z. IsTrue (below (get_or meets2 i d) z)) (same d ∙ sym x) (here d))
               (λ y. o.transitive (get_or meets2 i d) (get_or meets (i + 1) d) s
-                  (next d (rw many (some times (i + 1) s y)))
-                  (before (i + 1) s d (omega arith) (some times (i + 1) s y) y))
+              (next d (rw many (some times (i + 1) s y)))
+              (before (i + 1) s d (omega arith) (some times (i + 1) s y) y))
               (subst (Member s) (drop-cons times i d lt ∙ ap (λ n. get_or times i d ∷ drop n times) (sym (add-one i))) m)
 
 -- ---- what stands with a base

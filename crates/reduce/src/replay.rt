@@ -24,10 +24,7 @@ use std::mem;
 use update::{Refusal, Update, consolidate};
 
 // Appends copies of updates.
-fn append_copies<T: Lattice>(
-    list: &mut Vec<Update<T>>,
-    more: &[Update<T>],
-) -> Result<(), Refusal>
+fn append_copies<T: Lattice>(list: &mut Vec<Update<T>>, more: &[Update<T>]) -> Result<(), Refusal>
     ensures pushed { OnOk result (list.new.items ≡ list.old.items ++ more.now) }
     ensures only { IfErr result (λ refused. refused ≡ Refusal.OutOfMemory) }
 {

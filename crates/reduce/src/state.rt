@@ -165,8 +165,9 @@ impl<T: Lattice, R: Reducer> ReduceState<T, R> {
     /// Each row of the batch has at least as many columns as the key. [`Refusal::OutOfMemory`] only if memory for the
     /// times, or for the histories of the keys, was refused.
     ///
-    /// Cost: for each key of the batch one look-up of a hash and a copy of its times; for each new time of a key a join with
-    /// each joined time that the key has. What was given of a key is not touched.
+    /// Cost: for each key of the batch one look-up of a hash, a copy of its times, and a sort of the joined times that are
+    /// new. One new time of a key is joined with each joined time that the key has. Many new times are joined half by half,
+    /// which costs n log n for times in one revision. What was given of a key is not touched.
     pub fn take<B: BatchReader<Time = T>>(
         &mut self,
         alloc: Global,
@@ -223,9 +224,11 @@ impl<T: Lattice, R: Reducer> ReduceState<T, R> {
     /// - [`Refusal::OutOfMemory`] only if memory was refused.
     ///
     /// Cost: a comparison with the frontier for each pending time. For each key of which some time is due two binary
-    /// searches in each batch. For each due time one pass over the rows of the key and over what was given of it, and
-    /// n log n in the number of rows at or before the time. What is given is copied once, into the histories of its keys;
-    /// what was given before is not. No other key is read.
+    /// searches in each batch and a copy of its rows; if four or more of its times are pending, a copy of what was given of
+    /// it too, and a sort of both. For each due time a look at those rows and answers that not all times to come see, each
+    /// once for all that these times do not tell apart, a search in the key's rows for each, and the reducer's own cost. So
+    /// times of one revision cost n log n. What is given is copied once, into the histories of its keys; what was given
+    /// before stays where it is. No other key is read.
     pub fn ready<S: Trace<Time = T>>(
         &mut self,
         alloc: Global,

@@ -31,8 +31,8 @@ use crate::correcting::{Correction, correct};
 use crate::evaluation::Evaluation;
 use crate::replay::Replay;
 use crate::settling::Settled;
-use crate::tally::Tally;
 use crate::tallied::answer_at;
+use crate::tally::Tally;
 use crate::{KeyHistory, Reducer};
 use antichain::is_beyond;
 use lattice::Lattice;
@@ -111,12 +111,7 @@ fn meets_of<T: Lattice>(alloc: Global, times: &[T]) -> Result<Vec<T>, Refusal>
 }
 
 // Leads both replays up to a time, the first of those to do. `meet` is at or before all of these.
-fn lead<T: Lattice>(
-    alloc: Global,
-    time: T,
-    meet: T,
-    sweep: &mut Sweep<T>,
-) -> Result<(), Refusal>
+fn lead<T: Lattice>(alloc: Global, time: T, meet: T, sweep: &mut Sweep<T>) -> Result<(), Refusal>
     requires rows { Ascends T.cmp sweep.old.rows.later.items }
     requires had { Ascends T.cmp sweep.old.had.later.items }
     ensures led { OnOk result ((todo : List T) (rows given : List (Update T))

@@ -12,8 +12,10 @@ returns-in_err-evaluation-clause-refused g c =
     passed_on c.from_residual-in_err-evaluation.result c.in_err-evaluation.field-0.0 _ c.from_residual-in_err-evaluation.ensures.1
     (⊎_elim inl (λ y. inr (
       y.0,
-      (sym c.is_beyond.ensures ∙ c.if-is_beyond.false,
-      λ content rows. too_large g.met.T.PartialOrder.order k h.key c.args.time (g.R.Reducer.reduces c.args.reducer.now) content given c.args.rows.now rows y.1),
+      (
+        sym c.is_beyond.ensures ∙ c.if-is_beyond.false,
+        λ content rows. too_large g.met.T.PartialOrder.order k h.key c.args.time (g.R.Reducer.reduces c.args.reducer.now) content given c.args.rows.now rows y.1,
+      ),
     )) c.in_err-evaluation.ensures.refused)
 
 pub returns-in_err-correction-clause-refused : goal.returns-in_err-correction-clause-refused
@@ -23,8 +25,10 @@ returns-in_err-correction-clause-refused g c =
     passed_on c.from_residual-in_err-correction.result c.in_err-correction.field-0.0 _ c.from_residual-in_err-correction.ensures.1
     (⊎_elim inl (λ y. inr (
       y.0,
-      (sym c.is_beyond.ensures ∙ c.if-is_beyond.false,
-      λ content rows. y.1 (g.R.Reducer.reduces c.args.reducer.now) content c.args.rows.now rows answer),
+      (
+        sym c.is_beyond.ensures ∙ c.if-is_beyond.false,
+        λ content rows. y.1 (g.R.Reducer.reduces c.args.reducer.now) content c.args.rows.now rows answer,
+      ),
     )) refused)
 
 pub returns-clause-steps : goal.returns-clause-steps

@@ -1,4 +1,4 @@
-use Rattle.std.proofs.Common.{◌≡◌, ◌++◌, ◌∙◌, length, sym, subst, inl, inr, ⊎_elim}
+use Rattle.std.proofs.Common.{◌++◌, ◌∙◌, length, subst, inl, inr, ⊎_elim}
 use Rattle.std.proofs.lemmas.Result.{IfOk-weaker, IfErr-weaker}
 use Rattle.std.proofs.lemmas.List.{append-nil}
 use Rattle.update.specs.Updates.{as_of}

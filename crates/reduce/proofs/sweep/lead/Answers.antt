@@ -1,4 +1,4 @@
-use Rattle.std.proofs.Common.{◌≡◌, ◌∙◌, ap}
+use Rattle.std.proofs.Common.{◌∙◌, ap}
 use Rattle.reduce.proofs.SweepLemmas.{led}
 use Rattle.reduce.proofs.sweep.lead.Goals as goal
 

@@ -1,4 +1,4 @@
-use Rattle.std.proofs.Common.{◌≡◌, ◌∙◌, ◌-◌, arith}
+use Rattle.std.proofs.Common.{◌∙◌, ◌-◌, arith}
 use Rattle.reduce.proofs.SweepLemmas.{meets_more}
 use Rattle.reduce.proofs.sweep.meets_of.Goals as goal
 

@@ -1,4 +1,4 @@
-use Rattle.std.proofs.Common.{◌≡◌, ◌++◌, ◌∙◌, ◌∷◌, drop, length, sym, refl, inl, inr, ap, append_assoc, subst, ⊎_elim}
+use Rattle.std.proofs.Common.{◌++◌, ◌∙◌, drop, length, sym, refl, inl, inr, ap, append_assoc, subst, ⊎_elim}
 use Rattle.std.specs.Prelude.{Some}
 use Rattle.reduce.specs.declared.sweep.Sweep.{Sweep}
 use Rattle.reduce.specs.Joined.{Member}
@@ -15,7 +15,7 @@ correct_here-requires-clause-base g c =
     let given = h.given ++ c.args.sweep.now.given.items in
     let rest = drop 1 c.args.todo.now in
     let led = subst (λ z. IsLed g.T.PartialOrder.below g.T.Ord.cmp c.args.time z c.args.rows.now given c.lead.new.sweep) c.requires.first
-        (c.in_ok-lead.ensures.led c.args.todo.now c.args.rows.now given (subst (Member c.args.time) (sym c.requires.first) (inl refl)) c.requires.meet c.requires.passes) in
+    (c.in_ok-lead.ensures.led c.args.todo.now c.args.rows.now given (subst (Member c.args.time) (sym c.requires.first) (inl refl)) c.requires.meet c.requires.passes) in
     rw (c.columns-key.ensures.columns, c.key.ensures)
     (base_own g.met.T.PartialOrder.order k (g.R.Reducer.reduces c.args.reducer.now) h.key c.args.time rest c.args.rows.now given c.lead.new.sweep led c.requires.rows (both_own k h.key h.given c.args.sweep.now.given.items c.requires.given c.requires.settled))
 
@@ -26,7 +26,7 @@ correct_here-requires-clause-rows g c =
     let given = h.given ++ c.args.sweep.now.given.items in
     let rest = drop 1 c.args.todo.now in
     let led = subst (λ z. IsLed g.T.PartialOrder.below g.T.Ord.cmp c.args.time z c.args.rows.now given c.lead.new.sweep) c.requires.first
-        (c.in_ok-lead.ensures.led c.args.todo.now c.args.rows.now given (subst (Member c.args.time) (sym c.requires.first) (inl refl)) c.requires.meet c.requires.passes) in
+    (c.in_ok-lead.ensures.led c.args.todo.now c.args.rows.now given (subst (Member c.args.time) (sym c.requires.first) (inl refl)) c.requires.meet c.requires.passes) in
     rw (c.columns-key.ensures.columns, c.key.ensures)
     (near_own g.met.T.PartialOrder.order k (g.R.Reducer.reduces c.args.reducer.now) h.key c.args.time rest c.args.rows.now given c.lead.new.sweep led c.requires.rows (both_own k h.key h.given c.args.sweep.now.given.items c.requires.given c.requires.settled))
 
@@ -37,7 +37,7 @@ correct_here-requires-clause-had g c =
     let given = h.given ++ c.args.sweep.now.given.items in
     let rest = drop 1 c.args.todo.now in
     let led = subst (λ z. IsLed g.T.PartialOrder.below g.T.Ord.cmp c.args.time z c.args.rows.now given c.lead.new.sweep) c.requires.first
-        (c.in_ok-lead.ensures.led c.args.todo.now c.args.rows.now given (subst (Member c.args.time) (sym c.requires.first) (inl refl)) c.requires.meet c.requires.passes) in
+    (c.in_ok-lead.ensures.led c.args.todo.now c.args.rows.now given (subst (Member c.args.time) (sym c.requires.first) (inl refl)) c.requires.meet c.requires.passes) in
     rw (c.columns-key.ensures.columns, c.key.ensures)
     (had_own g.met.T.PartialOrder.order k (g.R.Reducer.reduces c.args.reducer.now) h.key c.args.time rest c.args.rows.now given c.lead.new.sweep led c.requires.rows (both_own k h.key h.given c.args.sweep.now.given.items c.requires.given c.requires.settled))
 
@@ -48,7 +48,7 @@ correct_here-requires-clause-last g c =
     let given = h.given ++ c.args.sweep.now.given.items in
     let rest = drop 1 c.args.todo.now in
     let led = subst (λ z. IsLed g.T.PartialOrder.below g.T.Ord.cmp c.args.time z c.args.rows.now given c.lead.new.sweep) c.requires.first
-        (c.in_ok-lead.ensures.led c.args.todo.now c.args.rows.now given (subst (Member c.args.time) (sym c.requires.first) (inl refl)) c.requires.meet c.requires.passes) in
+    (c.in_ok-lead.ensures.led c.args.todo.now c.args.rows.now given (subst (Member c.args.time) (sym c.requires.first) (inl refl)) c.requires.meet c.requires.passes) in
     last_here g.met.T.PartialOrder.order k (g.R.Reducer.reduces c.args.reducer.now) h.key c.args.time rest c.args.rows.now given c.lead.new.sweep led c.requires.rows (both_own k h.key h.given c.args.sweep.now.given.items c.requires.given c.requires.settled)
 
 pub returns-in_err-more-clause-refused : goal.returns-in_err-more-clause-refused
@@ -58,7 +58,7 @@ returns-in_err-more-clause-refused g c =
     let given = h.given ++ c.args.sweep.now.given.items in
     let rest = drop 1 c.args.todo.now in
     let led = subst (λ z. IsLed g.T.PartialOrder.below g.T.Ord.cmp c.args.time z c.args.rows.now given c.lead.new.sweep) c.requires.first
-        (c.in_ok-lead.ensures.led c.args.todo.now c.args.rows.now given (subst (Member c.args.time) (sym c.requires.first) (inl refl)) c.requires.meet c.requires.passes) in
+    (c.in_ok-lead.ensures.led c.args.todo.now c.args.rows.now given (subst (Member c.args.time) (sym c.requires.first) (inl refl)) c.requires.meet c.requires.passes) in
     let refused = rw (c.columns-key.ensures.columns, c.key.ensures) at c.in_err-more.ensures.refused in
     passed_on c.from_residual-in_err-more.result c.in_err-more.field-0.0 _ c.from_residual-in_err-more.ensures.1
     (⊎_elim inl (λ y. inr (
@@ -76,7 +76,7 @@ returns-clause-steps g c content rows =
     let given = h.given ++ c.args.sweep.now.given.items in
     let rest = drop 1 c.args.todo.now in
     let led = subst (λ z. IsLed g.T.PartialOrder.below g.T.Ord.cmp c.args.time z c.args.rows.now given c.lead.new.sweep) c.requires.first
-        (c.in_ok-lead.ensures.led c.args.todo.now c.args.rows.now given (subst (Member c.args.time) (sym c.requires.first) (inl refl)) c.requires.meet c.requires.passes) in
+    (c.in_ok-lead.ensures.led c.args.todo.now c.args.rows.now given (subst (Member c.args.time) (sym c.requires.first) (inl refl)) c.requires.meet c.requires.passes) in
     let more = c.in_ok-more.field-0.given.items in
     let corrects = rw (c.columns-key.ensures.columns, c.key.ensures) at c.in_ok-more.ensures.corrects in
     inr (
@@ -98,7 +98,7 @@ returns-clause-passes g c =
     let given = h.given ++ c.args.sweep.now.given.items in
     let rest = drop 1 c.args.todo.now in
     let led = subst (λ z. IsLed g.T.PartialOrder.below g.T.Ord.cmp c.args.time z c.args.rows.now given c.lead.new.sweep) c.requires.first
-        (c.in_ok-lead.ensures.led c.args.todo.now c.args.rows.now given (subst (Member c.args.time) (sym c.requires.first) (inl refl)) c.requires.meet c.requires.passes) in
+    (c.in_ok-lead.ensures.led c.args.todo.now c.args.rows.now given (subst (Member c.args.time) (sym c.requires.first) (inl refl)) c.requires.meet c.requires.passes) in
     let more = c.in_ok-more.field-0.given.items in
     let same = c.correct_here.ensures.same in
     let s = c.correct_here.new.sweep in

@@ -1,5 +1,4 @@
-use Rattle.std.proofs.Common.{◌++◌, ◌∷◌, [], subst}
-use Rattle.reduce.specs.Replays.{Settles}
+use Rattle.std.proofs.Common.{◌++◌, ◌∷◌, []}
 use Rattle.reduce.proofs.ReplayLemmas.{settles_none, settles_one}
 use Rattle.reduce.proofs.replay.Replay.settle.Goals as goal
 
