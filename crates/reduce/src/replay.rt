@@ -92,6 +92,18 @@ fn add_early<T: Lattice>(base: &mut Tally, update: &Update<T>, meet: T) -> bool
     update.time.less_equal(&meet) && base.add(&update.row, update.diff)
 }
 
+// With fewer times to come, a first move of what has come in does not pay back: it copies and sorts.
+const MANY_TIMES: usize = 16;
+
+// How many updates may have come in before the first move, if so many come in at once and so many times are to come.
+fn first_limit(come_in: usize, times: usize) -> usize {
+    if times < MANY_TIMES {
+        limit_after(come_in)
+    } else {
+        SLACK
+    }
+}
+
 /// The updates of a key on the way through its times.
 #[derive(Drop)]
 pub(crate) struct Replay<T> {
@@ -101,7 +113,7 @@ pub(crate) struct Replay<T> {
     pub(crate) later: Vec<Update<T>>,
     /// How many of `later` have come in.
     pub(crate) entered: usize,
-    /// How many may have come in before they are moved again. At least twice as many as were left by the last move, so
+    /// How many may have come in before they are moved again: more than twice as many as were left by the last move, so
     /// that all moves together cost n log n.
     pub(crate) limit: usize,
 }
@@ -125,10 +137,16 @@ impl<T: Lattice> Replay<T> {
         Ok(())
     }
 
-    /// The updates on the way to a first time. Those whose time does not come after it have come in.
+    /// The updates on the way to a first time, behind which so many times are to come. Those whose time does not come after
+    /// the first one have come in.
     ///
     /// Cost: a copy of the updates, and n log n in the number of those whose time comes after the first one.
-    pub(crate) fn of(alloc: Global, updates: &[Update<T>], first: T) -> Result<Replay<T>, Refusal>
+    pub(crate) fn of(
+        alloc: Global,
+        updates: &[Update<T>],
+        first: T,
+        times: usize,
+    ) -> Result<Replay<T>, Refusal>
         ensures stands { IfOk result (λ p. StandsEver T.below updates.now
             (on_the_way p.near.items p.later.items p.entered)) }
         ensures ascending { IfOk result (λ p. Ascends T.cmp p.later.items) }
@@ -144,7 +162,7 @@ impl<T: Lattice> Replay<T> {
             replay.put(update, first)?;
         }
         replay.later.sort_unstable();
-        replay.limit = limit_after(replay.near.len());
+        replay.limit = first_limit(replay.near.len(), times);
         Ok(replay)
     }
 

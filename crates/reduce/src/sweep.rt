@@ -272,8 +272,8 @@ pub(crate) fn sweep_key<T: Lattice, R: Reducer>(
         due: Vec::new(alloc),
         last: None,
         base: Tally::of(alloc, rows)?,
-        rows: Replay::of(alloc, rows, first)?,
-        had: Replay::of(alloc, history.given(), first)?,
+        rows: Replay::of(alloc, rows, first, due.len())?,
+        had: Replay::of(alloc, history.given(), first, due.len())?,
     };
     let meets = meets_of(alloc, due)?;
     for i in 0..due.len() {
