@@ -162,13 +162,13 @@ fn take_backwards(
     insert(&mut reduction.trace, late)
 }
 
-// What is given for the changes in two batches, if the later one is taken first.
+// What is given for the changes in two batches, consolidated, if the later one is taken first.
 fn backwards(alloc: Global, query: &Query) -> Result<Vec<Update<Bitime>>, Refusal> {
     let early = batch_between(alloc, query, (0, 0), (2, 1))?;
     let late = batch_between(alloc, query, (2, 1), (16, 16))?;
     let mut reduction = Reduction::new(alloc, query.kind)?;
     take_backwards(&mut reduction, alloc, early, late)?;
-    reduction.ready(alloc, &[])
+    consolidate(reduction.ready(alloc, &[])?)
 }
 
 // Twelve drawn changes, and a reduction of this kind by their first column.
