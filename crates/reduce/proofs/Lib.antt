@@ -22,6 +22,7 @@ pub mod LawLemmas
 pub mod MemberLemmas
 pub mod OrderLemmas
 pub mod OverfullLemmas
+pub mod PastLemmas
 pub mod PermutedLemmas
 pub mod ReadingLemmas
 pub mod ReadyLemmas

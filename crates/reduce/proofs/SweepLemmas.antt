@@ -18,7 +18,7 @@ use Rattle.reduce.specs.Joined.{Member, of_key}
 use Rattle.reduce.specs.Corrections.{Corrects, IsTooMuch}
 use Rattle.reduce.specs.Evaluations.{IsEvaluation}
 use Rattle.reduce.specs.Replays.{Ascends, Settles, StandsEver, StandsFrom, StandsOn, on_the_way}
-use Rattle.reduce.specs.Sweeps.{IsLed, IsSweep, StandsWith, from_last}
+use Rattle.reduce.specs.Sweeps.{AreMeets, IsLed, IsSweep, StandsWith, from_last}
 use Rattle.reduce.proofs.JoinedLemmas.{sum_at, sum_at-append}
 use Rattle.reduce.proofs.KeyedLemmas.{own_kept}
 use Rattle.reduce.proofs.CorrectionLemmas.{weight_is, weight-append}
@@ -257,7 +257,7 @@ module _ {T : Type 0} {below : T → T → Bool} {cmp : T → T → Ordering} (o
       → Alike s.base [] → ((p : List ℤ → Bool) → IsTrue (list_all (λ u. p u.row) rows) → IsTrue (list_all (λ e. p e.row) s.base))
       → Ascends cmp s.rows.later.items → Ascends cmp s.had.later.items
       → StandsEver below rows (on_the_way s.rows.near.items s.rows.later.items s.rows.entered)
-      → StandsEver below given (on_the_way s.had.near.items s.had.later.items s.had.entered)
+      → StandsOn below todo given (on_the_way s.had.near.items s.had.later.items s.had.entered)
       → IsSweep below cmp todo rows given s
   begun todo rows given s l none among ra ha r h = record {
     rows_ascend = ra;
@@ -268,12 +268,20 @@ module _ {T : Type 0} {below : T → T → Bool} {cmp : T → T → Ordering} (o
           a ∙ (ap (λ z. z +ℤ sum_at below t (on_the_way s.rows.near.items s.rows.later.items s.rows.entered) row) (none row) ∙ (zero_more (sum_at below t (on_the_way s.rows.near.items s.rows.later.items s.rows.entered) row) ∙ r.sums t row));
       among = λ p a. (among p a, r.among p a);
     };
-    had_stand = rw l (record { sums = λ t i. h.sums t; smaller = h.smaller; among = h.among });
+    had_stand = rw l h;
     last = rw l tt;
   }
     where
       zero_more : (x : ℤ) → pos 0 +ℤ x ≡ x
       zero_more x = omega (arith, ints)
+
+-- the first of the meets is at or before each time
+pub least_first : {T : Type 0} (below : T → T → Bool) (times meets : List T) → AreMeets below times meets → (first : T)
+    → ((d : T) → 0 < length meets → first ≡ get_or meets 0 d) → (t : T) → Member t times → IsTrue (below first t)
+least_first below [] meets a first f t m = absurd m
+least_first below (s ∷ ss) meets a first f t m =
+    let n = a.as_many in
+    subst (λ z. IsTrue (below z t)) (sym (f s (omega (arith, n)))) (a.before 0 t s (omega arith) m)
 
 drop_suc : {X : Type 0} (xs : List X) (i : ℕ) → drop 1 (drop i xs) ≡ drop (suc i) xs
 drop_suc xs zero = refl

@@ -8,6 +8,7 @@ pub mod Histories
 pub mod Corrections
 pub mod Evaluations
 pub mod Replays
+pub mod Pasts
 pub mod Sweeps
 pub mod Kinds
 pub mod Taking

@@ -25,13 +25,13 @@ use update::{Refusal, Update};
 /// The histories of all keys, each key once. A contract sees the histories in order of arrival, and how many more there
 /// is room for.
 #[derive(Drop)]
-pub(crate) struct Histories<T> {
+pub(crate) struct Histories<T: Lattice> {
     // The key of each history, at the same index.
     keys: IndexSet<Row>,
     histories: Vec<KeyHistory<T>>,
 }
 
-impl<T> Model for Histories<T> {
+impl<T: Lattice> Model for Histories<T> {
     ghost use Rattle.std.specs.Prelude.{◌≡◌, ◌-◌, map, min, vec_capacity, vec_len};
     ghost use Rattle.indexmap.specs.IndexSet.{spare};
     ghost use Rattle.reduce.specs.Histories.{HistoriesState, AreKeysApart};
@@ -132,6 +132,22 @@ impl<T: Lattice> Histories<T> {
     {
         let history = &mut self.histories[i];
         history.put_times(times, due);
+    }
+
+    /// Folds what was given of the key at an index, as the times at or after `since` see it. Nothing that a contract sees is
+    /// changed.
+    ///
+    /// [`Refusal::OutOfMemory`] only if memory for a copy of the updates was refused.
+    ///
+    /// Cost: that of [`KeyHistory::fold`].
+    pub(crate) fn fold(&mut self, alloc: Global, i: usize, since: T) -> Result<(), Refusal>
+        requires { i < length self.old.items }
+        ensures items { self.new.items ≡ self.old.items }
+        ensures only { IfErr result (λ refused. refused ≡ Refusal.OutOfMemory) }
+    {
+        let history = &mut self.histories[i];
+        history.fold(alloc, since)?;
+        Ok(())
     }
 
     /// Appends copies of updates to what was given of the key at an index. If the call is refused, then no history has

@@ -1,10 +1,14 @@
 //! The history of one key: its joined times, which of them are pending, and what was given of it. A history is changed in
 //! place, so a change costs what is new and not what the key has been through. Only [`KeyHistory::give`] takes memory, and
 //! what it appends can be taken back. So a call that is refused on its way can leave each history as it was.
+//!
+//! Beside what was given stands its past, which is a shorter list for the times to come. A contract does not see it.
 ghost use Rattle.std.specs.Prelude.{◌≡◌, ◌≤◌, ◌+◌, ◌++◌, List, [], ℤ, IfErr, OnErr, OnOk, length, vec_capacity, vec_len};
 ghost use Rattle.update.specs.declared.refusal.Refusal.{Refusal};
 ghost use Rattle.reduce.specs.Histories.{HistoryState, given_more, given_less, due_left, times_put};
+ghost use Rattle.reduce.specs.Replays.{StandsFrom};
 
+use crate::past::Past;
 use lattice::Lattice;
 use row::Row;
 use std::alloc::Global;
@@ -13,15 +17,17 @@ use update::{Refusal, Update};
 
 /// A key with its joined times, the pending ones among them, and what was given of it, as a contract sees it.
 #[derive(Drop)]
-pub struct KeyHistory<T> {
+pub struct KeyHistory<T: Lattice> {
     key: Row,
     times: Vec<T>,
     due: Vec<T>,
     given: Vec<Update<T>>,
+    past: Past<T>,
 }
 
-impl<T> Model for KeyHistory<T> {
+impl<T: Lattice> Model for KeyHistory<T> {
     ghost use Rattle.reduce.specs.Histories.{HistoryState};
+    ghost use Rattle.reduce.specs.Pasts.{IsPast};
 
     ghost Value = { HistoryState T };
 
@@ -31,6 +37,8 @@ impl<T> Model for KeyHistory<T> {
       due = h.due.items;
       given = h.given.items;
     } };
+
+    ghost invariant = { λ h. IsPast T.below h.given.items h.past };
 }
 
 // Makes room for so many more updates. A first list gets no more room than that, since many keys get no second one.
@@ -58,20 +66,21 @@ fn push_copies<T: Lattice>(list: &mut Vec<Update<T>>, more: &[Update<T>])
 }
 
 impl<T: Lattice> KeyHistory<T> {
-    /// The history of a key from its parts. Takes no memory.
-    pub(crate) fn of(key: Row, times: Vec<T>, due: Vec<T>, given: Vec<Update<T>>) -> KeyHistory<T>
+    /// The history of a key of which nothing was given. Takes no memory.
+    pub(crate) fn new(alloc: Global, key: Row, times: Vec<T>, due: Vec<T>) -> KeyHistory<T>
         ensures { result ≡ record {
           key = key;
           times = times.items;
           due = due.items;
-          given = given.items;
+          given = [];
         } }
     {
         KeyHistory {
             key,
             times,
             due,
-            given,
+            given: Vec::new(alloc),
+            past: Past::none(alloc),
         }
     }
 
@@ -103,6 +112,38 @@ impl<T: Lattice> KeyHistory<T> {
         self.given.as_slice()
     }
 
+    /// What was given of the key, as the times at or after `meet` see it: the updates of two lists. Takes no memory.
+    pub(crate) fn seen_from(&self, meet: T) -> (&[Update<T>], &[Update<T>])
+        ensures { StandsFrom T.below meet self.now.given (result.0.now ++ result.1.now) }
+    {
+        let given = self.given.as_slice();
+        if self.past.since.less_equal(&meet) {
+            (self.past.near.as_slice(), &given[self.past.count..])
+        } else {
+            given.split_at(0)
+        }
+    }
+
+    /// Folds what was given, as the times at or after `since` see it, if that is worth it. Nothing that a contract sees is
+    /// changed.
+    ///
+    /// [`Refusal::OutOfMemory`] only if memory for a copy of the updates was refused.
+    ///
+    /// Cost: none for most calls. All folds of a key together cost n log n in the number of updates that were given.
+    pub(crate) fn fold(&mut self, alloc: Global, since: T) -> Result<(), Refusal>
+        ensures same { self.new ≡ self.old }
+        ensures only { IfErr result (λ refused. refused ≡ Refusal.OutOfMemory) }
+    {
+        let count = self.given.len();
+        if !self.past.is_worth_folding(count) {
+            return Ok(());
+        }
+        let (folded, recent) = self.seen_from(since);
+        let past = Past::of(alloc, folded, recent, count, since)?;
+        self.past = past;
+        Ok(())
+    }
+
     /// Appends copies of updates to what was given. If the call is refused, then nothing has changed.
     ///
     /// [`Refusal::OutOfMemory`] only if memory for the copies was refused.
@@ -124,6 +165,7 @@ impl<T: Lattice> KeyHistory<T> {
     {
         let left = self.given.len().saturating_sub(many);
         self.given.truncate(left);
+        self.past.cut(left);
     }
 
     /// Puts other joined times in place, and the pending ones among them. Takes no memory.

@@ -27,6 +27,7 @@ mod histories;
 mod history;
 mod kinds;
 mod laws;
+mod past;
 mod places;
 mod reading;
 mod reducer;

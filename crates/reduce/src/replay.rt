@@ -23,8 +23,11 @@ use std::cmp::Ordering;
 use std::mem;
 use update::{Refusal, Update, consolidate};
 
-// Appends copies of updates.
-fn append_copies<T: Lattice>(list: &mut Vec<Update<T>>, more: &[Update<T>]) -> Result<(), Refusal>
+/// Appends copies of updates.
+pub(crate) fn append_copies<T: Lattice>(
+    list: &mut Vec<Update<T>>,
+    more: &[Update<T>],
+) -> Result<(), Refusal>
     ensures pushed { OnOk result (list.new.items ≡ list.old.items ++ more.now) }
     ensures only { IfErr result (λ refused. refused ≡ Refusal.OutOfMemory) }
 {
@@ -137,17 +140,33 @@ impl<T: Lattice> Replay<T> {
         Ok(())
     }
 
-    /// The updates on the way to a first time, behind which so many times are to come. Those whose time does not come after
-    /// the first one have come in.
+    // Puts updates with those that have come in, unless their time comes after the first one.
+    fn put_all(&mut self, updates: &[Update<T>], first: T) -> Result<(), Refusal>
+        ensures put { OnOk result ((before : List (Update T))
+            → StandsEver T.below before (self.old.near.items ++ self.old.later.items)
+            → StandsEver T.below (before ++ updates.now)
+            (self.new.near.items ++ self.new.later.items)) }
+        ensures entered { self.new.entered ≡ self.old.entered }
+        ensures only { IfErr result (λ refused. refused ≡ Refusal.OutOfMemory) }
+    {
+        for update in updates {
+            self.put(update, first)?;
+        }
+        Ok(())
+    }
+
+    /// The updates of two lists on the way to a first time, after which so many times are to come. Those whose time does
+    /// not come after the first one have come in.
     ///
     /// Cost: a copy of the updates, and n log n in the number of those whose time comes after the first one.
     pub(crate) fn of(
         alloc: Global,
         updates: &[Update<T>],
+        more: &[Update<T>],
         first: T,
         times: usize,
     ) -> Result<Replay<T>, Refusal>
-        ensures stands { IfOk result (λ p. StandsEver T.below updates.now
+        ensures stands { IfOk result (λ p. StandsEver T.below (updates.now ++ more.now)
             (on_the_way p.near.items p.later.items p.entered)) }
         ensures ascending { IfOk result (λ p. Ascends T.cmp p.later.items) }
         ensures only { IfErr result (λ refused. refused ≡ Refusal.OutOfMemory) }
@@ -158,9 +177,8 @@ impl<T: Lattice> Replay<T> {
             entered: 0,
             limit: SLACK,
         };
-        for update in updates {
-            replay.put(update, first)?;
-        }
+        replay.put_all(updates, first)?;
+        replay.put_all(more, first)?;
         replay.later.sort_unstable();
         replay.limit = first_limit(replay.near.len(), times);
         Ok(replay)

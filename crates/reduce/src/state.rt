@@ -27,7 +27,7 @@ ghost use Rattle.reduce.specs.Reductions.{StandsFor, IsOpenTo, IsQuietAt, SumsTo
 use crate::histories::Histories;
 use crate::places::Places;
 use crate::taking::{put_all, renewed_by};
-use crate::visiting::{Gathered, change_all, visit_all};
+use crate::visiting::{Gathered, change_all, fold_all, visit_all};
 use crate::{KeyHistory, Reducer};
 use antichain::Antichain;
 use batch::BatchReader;
@@ -46,6 +46,8 @@ pub struct ReduceState<T: Lattice, R> {
     histories: Histories<T>,
     waiting: Places,
     looked: u64,
+    // A time at or before those that come to be due from now on, if the frontiers of `ready` do not go back.
+    since: T,
 }
 
 impl<T: Lattice, R> Model for ReduceState<T, R> {
@@ -81,6 +83,18 @@ fn insert_all<T: Lattice>(held: &mut Antichain<T>, times: &[T]) -> Result<(), Re
     Ok(())
 }
 
+// The meet of the elements of a frontier, or another time if it has none.
+fn meet_of<T: Lattice>(frontier: &[T], otherwise: T) -> T {
+    let mut meet = match frontier.first() {
+        Some(first) => *first,
+        None => otherwise,
+    };
+    for time in frontier {
+        meet = meet.meet(*time);
+    }
+    meet
+}
+
 impl<T: Lattice, R: Reducer> ReduceState<T, R> {
     /// A reduction by the first `key` columns, 1 to 8, that has taken nothing. Takes no memory.
     pub fn new(alloc: Global, key: usize, reducer: R) -> ReduceState<T, R>
@@ -101,6 +115,7 @@ impl<T: Lattice, R: Reducer> ReduceState<T, R> {
             histories: Histories::new(alloc),
             waiting: Places::new(alloc),
             looked: 0,
+            since: T::default(),
         }
     }
 
@@ -288,6 +303,12 @@ impl<T: Lattice, R: Reducer> ReduceState<T, R> {
             → ((g : Update T) → Member g given → IsTrue (has_passed T.below frontier.now g.time))
             → IsOverfull T.below self.old.key (R.reduces self.old.reducer) taken frontier.now)) }
     {
+        fold_all(
+            alloc,
+            &mut self.histories,
+            self.waiting.as_slice(),
+            self.since,
+        )?;
         self.histories.known();
         let batches = trace.through(trace.upper()).unwrap();
         let Gathered {
@@ -307,6 +328,7 @@ impl<T: Lattice, R: Reducer> ReduceState<T, R> {
         change_all(&mut self.histories, changes, out.as_slice())?;
         self.waiting = Places::from(waiting);
         self.looked = looked;
+        self.since = meet_of(frontier, self.since);
         Ok(out)
     }
 }

@@ -230,8 +230,10 @@ fn sweep_time<T: Lattice, R: Reducer>(
 }
 
 // The first of some times, or any time if there are none.
-fn first_due<T: Lattice>(due: &[T]) -> T {
-    match due.first() {
+fn first_of<T: Lattice>(times: &[T]) -> T
+    ensures { (d : T) → 0 < length times.now → result ≡ get_or times.now 0 d }
+{
+    match times.first() {
         Some(first) => *first,
         None => T::default(),
     }
@@ -266,16 +268,18 @@ pub(crate) fn sweep_key<T: Lattice, R: Reducer>(
         history.now.key content history.now.given frontier.now history.now.due)) }
 {
     let due = history.due();
-    let first = first_due(due);
+    let first = first_of(due);
+    let meets = meets_of(alloc, due)?;
+    let (folded, recent) = history.seen_from(first_of(meets.as_slice()));
+    let none = &rows[..0];
     let mut sweep = Sweep {
         given: Vec::new(alloc),
         due: Vec::new(alloc),
         last: None,
         base: Tally::of(alloc, rows)?,
-        rows: Replay::of(alloc, rows, first, due.len())?,
-        had: Replay::of(alloc, history.given(), first, due.len())?,
+        rows: Replay::of(alloc, none, rows, first, due.len())?,
+        had: Replay::of(alloc, folded, recent, first, due.len())?,
     };
-    let meets = meets_of(alloc, due)?;
     for i in 0..due.len() {
         sweep_time(
             alloc,

@@ -189,7 +189,7 @@ fn put_one<T: Lattice>(
         }
         None => {
             waiting.push(end);
-            histories.push(KeyHistory::of(key, times, due, Vec::new(alloc)));
+            histories.push(KeyHistory::new(alloc, key, times, due));
         }
     }
 }

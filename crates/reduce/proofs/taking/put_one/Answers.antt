@@ -59,7 +59,7 @@ module _ (g : Over) (c : goal.After-push-in-None-2 g) where
   behind : c.push-in-None-2.new.self.items ≡ c.args.histories.now.items ++ made_from c.args.histories.now.items c.args.renewal ∷ []
   behind =
       c.push-in-None-2.ensures.items
-      ∙ ap (λ h. c.args.histories.now.items ++ h ∷ []) (made_new c.args.histories.now.items c.args.renewal c.of.result absent (rw c.new.ensures.items at c.of.ensures))
+      ∙ ap (λ h. c.args.histories.now.items ++ h ∷ []) (made_new c.args.histories.now.items c.args.renewal c.new.result absent c.new.ensures)
 
 pub returns-in-None-clause-found : goal.returns-in-None-clause-found
 returns-in-None-clause-found g c = rw (behind g c) (put_behind c.args.histories.now.items (made_from c.args.histories.now.items c.args.renewal) (absent g c))
