@@ -137,17 +137,13 @@ impl<T: Lattice> Histories<T> {
     /// Folds what was given of the key at an index, as the times at or after `since` see it. Nothing that a contract sees is
     /// changed.
     ///
-    /// [`Refusal::OutOfMemory`] only if memory for a copy of the updates was refused.
-    ///
     /// Cost: that of [`KeyHistory::fold`].
-    pub(crate) fn fold(&mut self, alloc: Global, i: usize, since: T) -> Result<(), Refusal>
+    pub(crate) fn fold(&mut self, alloc: Global, i: usize, since: T)
         requires { i < length self.old.items }
         ensures items { self.new.items ≡ self.old.items }
-        ensures only { IfErr result (λ refused. refused ≡ Refusal.OutOfMemory) }
     {
         let history = &mut self.histories[i];
-        history.fold(alloc, since)?;
-        Ok(())
+        history.fold(alloc, since);
     }
 
     /// Appends copies of updates to what was given of the key at an index. If the call is refused, then no history has

@@ -124,24 +124,21 @@ impl<T: Lattice> KeyHistory<T> {
         }
     }
 
-    /// Folds what was given, as the times at or after `since` see it, if that is worth it. Nothing that a contract sees is
-    /// changed.
-    ///
-    /// [`Refusal::OutOfMemory`] only if memory for a copy of the updates was refused.
+    /// Folds what was given, as the times at or after `since` see it, if that is worth it and memory for it is there. Nothing
+    /// that a contract sees is changed.
     ///
     /// Cost: none for most calls. All folds of a key together cost n log n in the number of updates that were given.
-    pub(crate) fn fold(&mut self, alloc: Global, since: T) -> Result<(), Refusal>
-        ensures same { self.new ≡ self.old }
-        ensures only { IfErr result (λ refused. refused ≡ Refusal.OutOfMemory) }
+    pub(crate) fn fold(&mut self, alloc: Global, since: T)
+        ensures { self.new ≡ self.old }
     {
         let count = self.given.len();
         if !self.past.is_worth_folding(count) {
-            return Ok(());
+            return;
         }
         let (folded, recent) = self.seen_from(since);
-        let past = Past::of(alloc, folded, recent, count, since)?;
-        self.past = past;
-        Ok(())
+        if let Ok(past) = Past::of(alloc, folded, recent, count, since) {
+            self.past = past;
+        }
     }
 
     /// Appends copies of updates to what was given. If the call is refused, then nothing has changed.

@@ -224,6 +224,18 @@ impl<T: Lattice, R: Reducer> ReduceState<T, R> {
         Ok(())
     }
 
+    // Folds what was given of the keys that wait, as the times to come see it. Nothing that a contract sees is changed.
+    fn fold(&mut self, alloc: Global)
+        ensures { self.new ≡ self.old }
+    {
+        fold_all(
+            alloc,
+            &mut self.histories,
+            self.waiting.as_slice(),
+            self.since,
+        );
+    }
+
     /// Gives the differences at the pending times that the frontier has passed: at each of these times what the reducer
     /// makes of the rows of the key, less what was given up to it. These times are pending no longer. After the call,
     /// what was given sums at each time that the frontier has passed to the reduction of what was taken. No row is given
@@ -303,12 +315,7 @@ impl<T: Lattice, R: Reducer> ReduceState<T, R> {
             → ((g : Update T) → Member g given → IsTrue (has_passed T.below frontier.now g.time))
             → IsOverfull T.below self.old.key (R.reduces self.old.reducer) taken frontier.now)) }
     {
-        fold_all(
-            alloc,
-            &mut self.histories,
-            self.waiting.as_slice(),
-            self.since,
-        )?;
+        self.fold(alloc);
         self.histories.known();
         let batches = trace.through(trace.upper()).unwrap();
         let Gathered {

@@ -5,7 +5,7 @@
 //! Then the histories are changed in place. What is given of a key is appended to its history, which may want memory. If
 //! it is refused, then what was appended so far is taken back, so the histories are as they were. The times that are
 //! still pending are put in place after that, which takes no memory.
-ghost use Rattle.std.specs.Prelude.{◌≡◌, ◌≢◌, ◌≤◌, ◌<◌, ◌+◌, ◌-◌, ◌^◌, ◌++◌, ◌∷◌, ℕ, List, [], not, min, IfErr, IfOk, IsSomeAnd, IsTrue, OnErr, OnOk, length, map, slice_get};
+ghost use Rattle.std.specs.Prelude.{get_or, ◌≡◌, ◌≢◌, ◌≤◌, ◌<◌, ◌+◌, ◌-◌, ◌^◌, ◌++◌, ◌∷◌, ℕ, List, [], not, min, IfErr, IfOk, IsSomeAnd, IsTrue, OnErr, OnOk, length, map, slice_get};
 ghost use Rattle.std.specs.List.{list_any, filter};
 ghost use Rattle.lattice.specs.Frontiers.{is_beyond};
 ghost use Rattle.update.specs.Refusals.{IsMemoryOrOverflow};
@@ -120,10 +120,7 @@ impl<T: Lattice> Gathered<T> {
     }
 }
 
-/// Folds what was given of the keys that wait, as the times at or after `since` see it. Nothing that a contract sees is
-/// changed.
-///
-/// [`Refusal::OutOfMemory`] only if memory for a copy of the updates was refused.
+/// Folds what was given of the keys that wait, as the times at or after `since` see it. Nothing that a contract sees is changed.
 ///
 /// Cost: that of [`Histories::fold`] for each of them.
 pub(crate) fn fold_all<T: Lattice>(
@@ -131,15 +128,14 @@ pub(crate) fn fold_all<T: Lattice>(
     histories: &mut Histories<T>,
     waiting: &[usize],
     since: T,
-) -> Result<(), Refusal>
-    requires { (i : ℕ) → Member i waiting.now → i < length histories.old.items }
+)
+    requires { (i : ℕ) → i < length waiting.now
+        → get_or waiting.now i 0 < length histories.old.items }
     ensures items { histories.new.items ≡ histories.old.items }
-    ensures only { IfErr result (λ refused. refused ≡ Refusal.OutOfMemory) }
 {
     for place in waiting {
-        histories.fold(alloc, *place, since)?;
+        histories.fold(alloc, *place, since);
     }
-    Ok(())
 }
 
 // Visits the key at a place: settles its pending times, if one of them is due.

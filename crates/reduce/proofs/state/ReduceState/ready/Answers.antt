@@ -36,7 +36,7 @@ module _ (g : Over) (c : goal.After-from_residual g) where
       → (key : List ℤ) → ReadsAs g.T.PartialOrder.below c.args.frontier.now (due_of key c.self.inside.histories.items) (all_content g.S.Batch.BatchReader.content c.unwrap-batches.result.now) taken
   reading-1 h taken s sums key =
       reads_as g.T.PartialOrder.below (g.S.Trace.held c.args.trace.now) c.args.frontier.now (due_of key c.self.inside.histories.items) (all_content g.S.Batch.BatchReader.content c.unwrap-batches.result.now) (all_updates h) taken
-      (λ t m p. c.requires.held key t (subst (λ z. Member t (due_of key z)) (ap (λ s. s.histories) c.self.view_is) m) p) (readable-1 h s) sums
+      (λ t m p. c.requires.held key t (subst (λ z. Member t (due_of key z)) (ap (λ s. s.histories) (c.self.view_is ∙ c.fold.ensures)) m) p) (readable-1 h s) sums
 
 pub returns-in_err-out-clause-refused : goal.returns-in_err-out-clause-refused
 returns-in_err-out-clause-refused g c =
@@ -50,7 +50,7 @@ returns-in_err-out-clause-refused g c =
           → AreApart g.T.PartialOrder.below given → IsOpenTo g.T.PartialOrder.below v.key given v.histories
           → ((x : Update g.row.T.Denot) → Member x given → IsTrue (has_passed g.T.PartialOrder.below c.args.frontier.now x.time))
           → IsOverfull g.T.PartialOrder.below v.key (g.R.Reducer.reduces v.reducer) taken c.args.frontier.now)
-          c.self.view_is
+          (c.self.view_is ∙ c.fold.ensures)
           (λ h taken given s sums st ag op ps. overfull_of g.T.Ord.cmp g.met.T.Ord.total g.met.T.PartialOrder.order g.met.T.Lattice.bounds c.self.inside.key (g.R.Reducer.reduces c.self.inside.reducer) (g.met.R.Reducer.laws c.self.inside.reducer c.self.inside.key) (content-1 g c) c.args.frontier.now (hs-1 g c) c.self.invariant.2 c.known.ensures c.as_slice.result.now (waits-1 g c) y.1.0 y.1.1 taken given (reading-1 g c h taken s sums) st ag op ps),
     )) c.in_err-out.ensures.refused)
 
@@ -71,7 +71,7 @@ change_all-requires g c = record {
   once = changed_once g.T.Ord.cmp g.met.T.Ord.total g.met.T.PartialOrder.order g.met.T.Lattice.bounds c.self.inside.key (g.R.Reducer.reduces c.self.inside.reducer) (g.met.R.Reducer.laws c.self.inside.reducer c.self.inside.key) (content-3 g c) c.args.frontier.now (hs-3 g c) c.self.invariant.2 c.known.ensures c.as_slice.result.now (waits-3 g c) c.in_ok-out.ensures.visited.0 c.in_ok-out.field-0.out.items c.in_ok-out.field-0.changes.items c.in_ok-out.field-0.waiting.items c.in_ok-out.ensures.visited.1 c.in_ok-out.ensures.visited.2;
 }
 
-module _ (g : Over) (c : goal.After-self-1 g) where
+module _ (g : Over) (c : goal.After-self-2-1 g) where
   abbrev hs : List (HistoryState g.row.T.Denot)
   hs = c.self.inside.histories.items
 
@@ -91,7 +91,7 @@ module _ (g : Over) (c : goal.After-self-1 g) where
       → (key : List ℤ) → ReadsAs g.T.PartialOrder.below c.args.frontier.now (due_of key c.self.inside.histories.items) (all_content g.S.Batch.BatchReader.content c.unwrap-batches.result.now) taken
   reading h taken s sums key =
       reads_as g.T.PartialOrder.below (g.S.Trace.held c.args.trace.now) c.args.frontier.now (due_of key c.self.inside.histories.items) (all_content g.S.Batch.BatchReader.content c.unwrap-batches.result.now) (all_updates h) taken
-      (λ t m p. c.requires.held key t (subst (λ z. Member t (due_of key z)) (ap (λ s. s.histories) c.self.view_is) m) p) (readable h s) sums
+      (λ t m p. c.requires.held key t (subst (λ z. Member t (due_of key z)) (ap (λ s. s.histories) (c.self.view_is ∙ c.fold.ensures)) m) p) (readable h s) sums
 
   -- the histories are changed by what is given
   changed : c.change_all.new.histories.items ≡ all_changed c.in_ok-out.field-0.changes.items c.in_ok-out.field-0.out.items c.self.inside.histories.items
@@ -112,17 +112,17 @@ invariant_of-self-2 g c = (
 
 pub returns-clause-stands : goal.returns-clause-stands
 returns-clause-stands g c =
-    rw (← ap (λ s. s.key) c.self.view_is, ← ap (λ s. s.histories) c.self.view_is, ← ap (λ s. s.reducer) c.self.view_is)
+    rw (← ap (λ s. s.key) (c.self.view_is ∙ c.fold.ensures), ← ap (λ s. s.histories) (c.self.view_is ∙ c.fold.ensures), ← ap (λ s. s.reducer) (c.self.view_is ∙ c.fold.ensures))
     (λ h taken given s sums st. final_stands g.T.Ord.cmp g.met.T.Ord.total g.met.T.PartialOrder.order g.met.T.Lattice.bounds c.self.inside.key (g.R.Reducer.reduces c.self.inside.reducer) (g.met.R.Reducer.laws c.self.inside.reducer c.self.inside.key) (content g c) c.args.frontier.now (hs g c) c.self.invariant.2 c.known.ensures c.as_slice.result.now (waits g c) c.in_ok-out.ensures.visited.0 c.in_ok-out.field-0.out.items c.in_ok-out.field-0.changes.items c.in_ok-out.field-0.waiting.items c.in_ok-out.ensures.visited.1 c.in_ok-out.ensures.visited.2 c.change_all.new.histories.items (changed g c) taken given (reading g c h taken s sums) st)
 
 pub returns-clause-law : goal.returns-clause-law
 returns-clause-law g c =
-    rw (← ap (λ s. s.key) c.self.view_is, ← ap (λ s. s.histories) c.self.view_is, ← ap (λ s. s.reducer) c.self.view_is)
+    rw (← ap (λ s. s.key) (c.self.view_is ∙ c.fold.ensures), ← ap (λ s. s.histories) (c.self.view_is ∙ c.fold.ensures), ← ap (λ s. s.reducer) (c.self.view_is ∙ c.fold.ensures))
     (λ h taken given s sums st. final_law g.T.Ord.cmp g.met.T.Ord.total g.met.T.PartialOrder.order g.met.T.Lattice.bounds c.self.inside.key (g.R.Reducer.reduces c.self.inside.reducer) (g.met.R.Reducer.laws c.self.inside.reducer c.self.inside.key) (content g c) c.args.frontier.now (hs g c) c.self.invariant.2 c.known.ensures c.as_slice.result.now (waits g c) c.in_ok-out.ensures.visited.0 c.in_ok-out.field-0.out.items c.in_ok-out.field-0.changes.items c.in_ok-out.field-0.waiting.items c.in_ok-out.ensures.visited.1 c.in_ok-out.ensures.visited.2 c.change_all.new.histories.items (changed g c) taken given (reading g c h taken s sums) st)
 
 pub returns-clause-rest : goal.returns-clause-rest
 returns-clause-rest g c =
-    rw (← ap (λ s. s.histories) c.self.view_is) (final_rest g.T.Ord.cmp g.met.T.Ord.total g.met.T.PartialOrder.order g.met.T.Lattice.bounds c.self.inside.key (g.R.Reducer.reduces c.self.inside.reducer) (g.met.R.Reducer.laws c.self.inside.reducer c.self.inside.key) (content g c) c.args.frontier.now (hs g c) c.self.invariant.2 c.known.ensures c.as_slice.result.now (waits g c) c.in_ok-out.ensures.visited.0 c.in_ok-out.field-0.out.items c.in_ok-out.field-0.changes.items c.in_ok-out.field-0.waiting.items c.in_ok-out.ensures.visited.1 c.in_ok-out.ensures.visited.2 c.change_all.new.histories.items (changed g c))
+    rw (← ap (λ s. s.histories) (c.self.view_is ∙ c.fold.ensures)) (final_rest g.T.Ord.cmp g.met.T.Ord.total g.met.T.PartialOrder.order g.met.T.Lattice.bounds c.self.inside.key (g.R.Reducer.reduces c.self.inside.reducer) (g.met.R.Reducer.laws c.self.inside.reducer c.self.inside.key) (content g c) c.args.frontier.now (hs g c) c.self.invariant.2 c.known.ensures c.as_slice.result.now (waits g c) c.in_ok-out.ensures.visited.0 c.in_ok-out.field-0.out.items c.in_ok-out.field-0.changes.items c.in_ok-out.field-0.waiting.items c.in_ok-out.ensures.visited.1 c.in_ok-out.ensures.visited.2 c.change_all.new.histories.items (changed g c))
 
 pub returns-clause-quiet : goal.returns-clause-quiet
 returns-clause-quiet g c = final_quiet g.T.Ord.cmp g.met.T.Ord.total g.met.T.PartialOrder.order g.met.T.Lattice.bounds c.self.inside.key (g.R.Reducer.reduces c.self.inside.reducer) (g.met.R.Reducer.laws c.self.inside.reducer c.self.inside.key) (content g c) c.args.frontier.now (hs g c) c.self.invariant.2 c.known.ensures c.as_slice.result.now (waits g c) c.in_ok-out.ensures.visited.0 c.in_ok-out.field-0.out.items c.in_ok-out.field-0.changes.items c.in_ok-out.field-0.waiting.items c.in_ok-out.ensures.visited.1 c.in_ok-out.ensures.visited.2 c.change_all.new.histories.items (changed g c)
@@ -135,13 +135,13 @@ returns-clause-nonzero g c = final_nonzero g.T.Ord.cmp g.met.T.Ord.total g.met.T
 
 pub returns-clause-at : goal.returns-clause-at
 returns-clause-at g c =
-    rw (← ap (λ s. s.key) c.self.view_is, ← ap (λ s. s.histories) c.self.view_is) (final_at g.T.Ord.cmp g.met.T.Ord.total g.met.T.PartialOrder.order g.met.T.Lattice.bounds c.self.inside.key (g.R.Reducer.reduces c.self.inside.reducer) (g.met.R.Reducer.laws c.self.inside.reducer c.self.inside.key) (content g c) c.args.frontier.now (hs g c) c.self.invariant.2 c.known.ensures c.as_slice.result.now (waits g c) c.in_ok-out.ensures.visited.0 c.in_ok-out.field-0.out.items c.in_ok-out.field-0.changes.items c.in_ok-out.field-0.waiting.items c.in_ok-out.ensures.visited.1 c.in_ok-out.ensures.visited.2)
+    rw (← ap (λ s. s.key) (c.self.view_is ∙ c.fold.ensures), ← ap (λ s. s.histories) (c.self.view_is ∙ c.fold.ensures)) (final_at g.T.Ord.cmp g.met.T.Ord.total g.met.T.PartialOrder.order g.met.T.Lattice.bounds c.self.inside.key (g.R.Reducer.reduces c.self.inside.reducer) (g.met.R.Reducer.laws c.self.inside.reducer c.self.inside.key) (content g c) c.args.frontier.now (hs g c) c.self.invariant.2 c.known.ensures c.as_slice.result.now (waits g c) c.in_ok-out.ensures.visited.0 c.in_ok-out.field-0.out.items c.in_ok-out.field-0.changes.items c.in_ok-out.field-0.waiting.items c.in_ok-out.ensures.visited.1 c.in_ok-out.ensures.visited.2)
 
 pub returns-clause-apart : goal.returns-clause-apart
 returns-clause-apart g c =
-    rw (← ap (λ s. s.key) c.self.view_is, ← ap (λ s. s.histories) c.self.view_is) (final_apart g.T.Ord.cmp g.met.T.Ord.total g.met.T.PartialOrder.order g.met.T.Lattice.bounds c.self.inside.key (g.R.Reducer.reduces c.self.inside.reducer) (g.met.R.Reducer.laws c.self.inside.reducer c.self.inside.key) (content g c) c.args.frontier.now (hs g c) c.self.invariant.2 c.known.ensures c.as_slice.result.now (waits g c) c.in_ok-out.ensures.visited.0 c.in_ok-out.field-0.out.items c.in_ok-out.field-0.changes.items c.in_ok-out.field-0.waiting.items c.in_ok-out.ensures.visited.1 c.in_ok-out.ensures.visited.2 c.change_all.new.histories.items (changed g c))
+    rw (← ap (λ s. s.key) (c.self.view_is ∙ c.fold.ensures), ← ap (λ s. s.histories) (c.self.view_is ∙ c.fold.ensures)) (final_apart g.T.Ord.cmp g.met.T.Ord.total g.met.T.PartialOrder.order g.met.T.Lattice.bounds c.self.inside.key (g.R.Reducer.reduces c.self.inside.reducer) (g.met.R.Reducer.laws c.self.inside.reducer c.self.inside.key) (content g c) c.args.frontier.now (hs g c) c.self.invariant.2 c.known.ensures c.as_slice.result.now (waits g c) c.in_ok-out.ensures.visited.0 c.in_ok-out.field-0.out.items c.in_ok-out.field-0.changes.items c.in_ok-out.field-0.waiting.items c.in_ok-out.ensures.visited.1 c.in_ok-out.ensures.visited.2 c.change_all.new.histories.items (changed g c))
 
-module _ (g : Over) (c : goal.After-self-1 g) where
+module _ (g : Over) (c : goal.After-self-2-1 g) where
   whole : all_content g.S.Batch.BatchReader.content c.unwrap-batches.result.now ≡ g.S.Trace.content c.args.trace.now
   whole = rw c.unwrap-batches.ensures at c.through.ensures.whole c.upper.ensures.value
 
@@ -149,11 +149,11 @@ module _ (g : Over) (c : goal.After-self-1 g) where
   all_read =
       reads_are g.T.Ord.cmp g.met.T.Ord.total g.met.T.PartialOrder.order g.met.T.Lattice.bounds c.self.inside.key (g.R.Reducer.reduces c.self.inside.reducer) (g.met.R.Reducer.laws c.self.inside.reducer c.self.inside.key) (content g c) c.args.frontier.now (hs g c) c.self.invariant.2 c.known.ensures c.as_slice.result.now (waits g c) c.in_ok-out.ensures.visited.0 c.in_ok-out.field-0.out.items c.in_ok-out.field-0.changes.items c.in_ok-out.field-0.waiting.items c.in_ok-out.ensures.visited.1 c.in_ok-out.ensures.visited.2 c.change_all.new.histories.items (changed g c)
       ∙ (ap (λ z. all_reads g.T.PartialOrder.below c.args.frontier.now z c.self.inside.histories.items c.as_slice.result.now) whole
-      ∙ (ap (λ z. all_reads g.T.PartialOrder.below c.args.frontier.now (g.S.Trace.content c.args.trace.now) c.self.inside.histories.items z) (c.as_slice.ensures ∙ ap (λ s. s.waiting) c.self.view_is)
-      ∙ ap (λ z. all_reads g.T.PartialOrder.below c.args.frontier.now (g.S.Trace.content c.args.trace.now) z c.args.self.now.waiting) (ap (λ s. s.histories) c.self.view_is)))
+      ∙ (ap (λ z. all_reads g.T.PartialOrder.below c.args.frontier.now (g.S.Trace.content c.args.trace.now) c.self.inside.histories.items z) (c.as_slice.ensures ∙ ap (λ s. s.waiting) (c.self.view_is ∙ c.fold.ensures))
+      ∙ ap (λ z. all_reads g.T.PartialOrder.below c.args.frontier.now (g.S.Trace.content c.args.trace.now) z c.args.self.now.waiting) (ap (λ s. s.histories) (c.self.view_is ∙ c.fold.ensures))))
 
   looked_was : c.self.inside.looked ≡ c.args.self.now.looked
-  looked_was = ap (λ s. s.looked) c.self.view_is
+  looked_was = ap (λ s. s.looked) (c.self.view_is ∙ c.fold.ensures)
 
 pub returns-clause-looked : goal.returns-clause-looked
 returns-clause-looked g c =
