@@ -52,10 +52,6 @@ module _ {T : Type 0} (below : T → T → Bool) (k : ℕ) (key : List ℤ) wher
       step true e ih = and_from (has_key k key (entry u)) (list_all (has_key k key) (as_of below t us)) e ih
       step false e ih = ih
 
-  -- and so has a bag of the same sum
-  pub bag_keyed : (t : T) (us : List (Update T)) (bag : List Entry) → IsBag bag → Alike bag (as_of below t us) → IsTrue (list_all (of_key k key) us) → IsTrue (list_all (has_key k key) bag)
-  bag_keyed t us bag is alike h = rows_pass (λ row. same_row (take k row) key) bag (as_of below t us) is alike (own_sum t us h)
-
   all_kept : {X : Type 0} (p : X → Bool) (xs : List X) → IsTrue (list_all p xs) → filter p xs ≡ xs
   all_kept p [] h = refl
   all_kept p (x ∷ xs) h = let q = and_parts (p x) (list_all p xs) h in rw q.0 (ap (λ z. x ∷ z) (all_kept p xs q.1))

@@ -33,8 +33,6 @@ mod reading;
 mod reducer;
 mod replay;
 mod row_counts;
-mod scan;
-mod settling;
 mod state;
 mod sweep;
 mod taking;

@@ -2,10 +2,11 @@
 //! others stay pending. The order extends the partial one, so at each correction all that was given up to that time is
 //! there, and no time that is still pending is at or before it. That is why one pass is enough.
 //!
-//! The key's rows and what was given of it are replayed beside the sweep. So a correction looks at what may differ from
-//! the time before, and not at the whole history. The invariant (`IsSweep` in `specs/Sweeps.antt`): at each time to do,
-//! and at that of the last evaluation, both replays sum to what the whole lists sum to. The last evaluation is kept only
-//! if its time is at or before the next one; its time is then one of those that updates may not be moved past.
+//! The key's rows and what was given of it are replayed beside the sweep, in order of time, and what no later time tells
+//! apart is folded. So a correction looks at what may differ from the time before, and not at the whole history. The
+//! invariant (`IsSweep` in `specs/Sweeps.antt`): at each time to do, and at that of the last evaluation, both replays sum to what
+//! the whole lists sum to. The last evaluation is kept only if its time is at or before the next one; its time is then one
+//! of those that updates may not be moved past.
 //!
 //! Nothing of the key's history is changed here. What is given is gathered aside.
 ghost use Rattle.std.specs.Prelude.{ℕ, ◌<◌, ◌+◌, get_or, ◌≡◌, ◌≢◌, ◌⊎◌, ◌≤◌, ◌++◌, ◌∷◌, drop, None, false, IfOk, IfErr, IfSome, OnOk, IsTrue, List, length, pos};
@@ -30,7 +31,6 @@ ghost use Rattle.reduce.specs.Settling.{Steps, Settling, IsOverfullFor};
 use crate::correcting::{Correction, correct};
 use crate::evaluation::Evaluation;
 use crate::replay::Replay;
-use crate::settling::Settled;
 use crate::tallied::answer_at;
 use crate::tally::Tally;
 use crate::{KeyHistory, Reducer};
@@ -38,6 +38,13 @@ use antichain::is_beyond;
 use lattice::Lattice;
 use std::alloc::Global;
 use update::{Refusal, Update};
+
+/// What is given of a key, and which of its times are still pending.
+#[derive(Drop)]
+pub(crate) struct Settled<T> {
+    pub(crate) given: Vec<Update<T>>,
+    pub(crate) due: Vec<T>,
+}
 
 /// How far a sweep has come.
 #[derive(Drop)]
@@ -241,6 +248,9 @@ fn first_of<T: Lattice>(times: &[T]) -> T
 
 /// What is given of a key at those of its pending times that the frontier has passed, if `rows` are the updates of its
 /// rows.
+///
+/// - [`Refusal::Overflow`] only if what the key is owed is too large.
+/// - [`Refusal::OutOfMemory`] only if memory was refused.
 ///
 /// Cost: a copy of the key's rows and of what was given of it, a sort of the rows, and one of those updates that come after
 /// the first pending time. For each pending time one comparison with the frontier. For each one that has passed, that of

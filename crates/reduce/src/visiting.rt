@@ -19,7 +19,7 @@ ghost use Rattle.reduce.specs.Visiting.{Visit, IsVisit, Gathers, AreWithin, AreC
 use crate::Reducer;
 use crate::histories::Histories;
 use crate::reading::rows_of;
-use crate::settling::{Settled, settle_key};
+use crate::sweep::{Settled, sweep_key};
 use antichain::is_beyond;
 use batch::BatchReader;
 use lattice::Lattice;
@@ -173,7 +173,7 @@ fn visit<T: Lattice, R: Reducer, B: BatchReader<Time = T>>(
         return Ok(());
     }
     let rows = rows_of(alloc, reducer, batches, history.key())?;
-    let settled = settle_key(alloc, reducer, history, frontier, rows.as_slice())?;
+    let settled = sweep_key(alloc, reducer, history, frontier, rows.as_slice())?;
     gathered.looked = gathered.looked.saturating_add(rows.len() as u64);
     gathered.put(place, settled)?;
     Ok(())
@@ -182,7 +182,7 @@ fn visit<T: Lattice, R: Reducer, B: BatchReader<Time = T>>(
 /// Visits the keys at these places. `looked` is how many updates had been read before.
 ///
 /// Cost: one comparison with the frontier for each pending time. Each key of which some time is due is read once, as for
-/// [`rows_of`], and settled, as for [`settle_key`].
+/// [`rows_of`], and settled, as for [`sweep_key`].
 pub(crate) fn visit_all<T: Lattice, R: Reducer, B: BatchReader<Time = T>>(
     alloc: Global,
     reducer: &R,

@@ -14,18 +14,18 @@ returns-then-not-is_due-clause-visited g c =
     c.args.place h (there c.args.histories.now.items c.args.place h c.get-history.ensures) (what_is_there (λ h. h.due ≢ []) c.args.histories.now.items c.args.place h c.get-history.ensures c.requires.waits)
     (sym (rw c.due.ensures at c.is_due.ensures) ∙ c.if-not-is_due.true) c.args.gathered.now.out.items c.args.gathered.now.changes.items c.args.gathered.now.waiting.items c.push.new.self.items c.args.gathered.now.looked c.in_ok-push.ensures.items
 
-pub settle_key-requires-clause-ascending : goal.settle_key-requires-clause-ascending
-settle_key-requires-clause-ascending g c =
+pub sweep_key-requires-clause-ascending : goal.sweep_key-requires-clause-ascending
+sweep_key-requires-clause-ascending g c =
     (history_at g.T.Ord.cmp c.requires.known.0 c.args.histories.now.items c.args.place c.get-history.result.now c.requires.known.1 c.get-history.ensures).due
 
-pub settle_key-requires-clause-rows : goal.settle_key-requires-clause-rows
-settle_key-requires-clause-rows g c =
+pub sweep_key-requires-clause-rows : goal.sweep_key-requires-clause-rows
+sweep_key-requires-clause-rows g c =
     let h = c.get-history.result.now in
     let rows = c.as_slice.ensures.value ∙ (rw c.key.ensures at c.in_ok-rows.ensures.rows) in
     seen_own (g.R.Reducer.sees_rows c.args.reducer.now) h.key (all_content g.B.BatchReader.content c.args.batches.now) c.as_slice.result.now rows
 
-pub settle_key-requires-clause-given : goal.settle_key-requires-clause-given
-settle_key-requires-clause-given g c =
+pub sweep_key-requires-clause-given : goal.sweep_key-requires-clause-given
+sweep_key-requires-clause-given g c =
     let h = c.get-history.result.now in
     let is = history_at g.T.Ord.cmp c.requires.known.0 c.args.histories.now.items c.args.place h c.requires.known.1 c.get-history.ensures in
     subst (λ n. IsTrue (list_all (of_key n h.key) h.given)) (sym is.width) is.keyed
