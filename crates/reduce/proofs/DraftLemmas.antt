@@ -21,7 +21,6 @@ use Rattle.plan.specs.Operators.{negated_entry}
 use Rattle.plan.proofs.CountLemmas.{count_of-append, count_of-negated_entry}
 use Rattle.reduce.specs.Corrections.{put}
 use Rattle.reduce.specs.Evaluations.{HasGreatCount, IsDraft, Moves, between}
-use Rattle.reduce.proofs.JoinedLemmas.{sum_at-append}
 use Rattle.reduce.proofs.EvaluationLemmas.{sum_splits, as_of-between}
 
 -- ---- entries of a list
@@ -227,65 +226,47 @@ entries_at want had i j P h = let r = entry_at want i h in let q = entry_at had 
 
 -- ---- drafts
 
-module _ {T : Type 0} {below : T → T → Bool} (o : PartialOrderLaws below) (t : T) (want : List Entry) (given so_far : List (Update T)) where
+module _ {T : Type 0} {below : T → T → Bool} (o : PartialOrderLaws below) (t : T) (want : List Entry) (given : List (Update T)) where
   abbrev taken_back : List (Update T) → List Entry
   taken_back us = map negated_entry (as_of below t us)
 
   count-taken_back : (us : List (Update T)) (row : List ℤ) → count_of (taken_back us) row ≡ neg_ℤ (count_of (as_of below t us) row)
   count-taken_back us row = count_of-negated_entry (as_of below t us) row
 
-  wanted_less : (row : List ℤ) → count_of (want ++ taken_back (given ++ so_far)) row ≡ count_of want row +ℤ neg_ℤ (count_of (as_of below t given) row +ℤ count_of (as_of below t so_far) row)
-  wanted_less row =
-      count_of-append want (taken_back (given ++ so_far)) row
-      ∙ ap (λ z. count_of want row +ℤ z) (count-taken_back (given ++ so_far) row ∙ ap neg_ℤ (sum_at-append below t given so_far row))
-
-  three : (x y z : List Entry) (row : List ℤ) → count_of ((x ++ y) ++ z) row ≡ (count_of x row +ℤ count_of y row) +ℤ count_of z row
-  three x y z row = count_of-append (x ++ y) z row ∙ ap (λ v. v +ℤ count_of z row) (count_of-append x y row)
-
   -- all that is wanted, and all that was given taken back
-  pub whole : (a b c d : List (Update T)) → a ≡ [] → b ≡ a ++ put t want → c ≡ b ++ put t (taken_back given) → d ≡ c ++ put t (taken_back so_far) → IsDraft below t want (given ++ so_far) d
-  whole a b c d n p q r = record {
-    entries = (want ++ taken_back given) ++ taken_back so_far;
-    draft_is = put_then t [] c d (want ++ taken_back given) (taken_back so_far) (put_then t [] b c want (taken_back given) (p ∙ ap (λ z. z ++ put t want) n) q) r;
-    adds_up = λ row.
-        three want (taken_back given) (taken_back so_far) row
-        ∙ (ap (λ z. (count_of want row +ℤ z) +ℤ count_of (taken_back so_far) row) (count-taken_back given row)
-        ∙ (ap (λ z. (count_of want row +ℤ neg_ℤ (count_of (as_of below t given) row)) +ℤ z) (count-taken_back so_far row)
-        ∙ (apart (count_of want row) (count_of (as_of below t given) row) (count_of (as_of below t so_far) row) ∙ sym (wanted_less row))));
+  pub whole : (a b c : List (Update T)) → a ≡ [] → b ≡ a ++ put t want → c ≡ b ++ put t (taken_back given) → IsDraft below t want given c
+  whole a b c n p q = record {
+    entries = want ++ taken_back given;
+    draft_is = put_then t [] b c want (taken_back given) (p ∙ ap (λ z. z ++ put t want) n) q;
+    adds_up = λ row. refl;
   }
-    where
-      apart : (w g s : ℤ) → (w +ℤ neg_ℤ g) +ℤ neg_ℤ s ≡ w +ℤ neg_ℤ (g +ℤ s)
-      apart w g s = omega (arith, ints)
 
   -- what changed in the answer, and what was given in between taken back
-  module _ (a : T) (h : below a t ≡ true) (answer : List Entry) (same : Alike answer (as_of below a (given ++ so_far))) where
-    abbrev since : List (Update T) → List (Update T)
-    since us = between below a t us
+  module _ (a : T) (h : below a t ≡ true) (answer : List Entry) (same : Alike answer (as_of below a given)) where
+    abbrev since : List (Update T)
+    since = between below a t given
 
-    gone : (us : List (Update T)) (row : List ℤ) → count_of (taken_back (since us)) row ≡ neg_ℤ (count_of (map entry (since us)) row)
-    gone us row = count-taken_back (since us) row ∙ ap (λ z. neg_ℤ (count_of z row)) (as_of-between o a t us)
+    gone : (row : List ℤ) → count_of (taken_back since) row ≡ neg_ℤ (count_of (map entry since) row)
+    gone row = count-taken_back since row ∙ ap (λ z. neg_ℤ (count_of z row)) (as_of-between o a t given)
 
     pub since_last : (es : List Entry) → Alike es (want ++ map negated_entry answer)
-        → (n b c d : List (Update T)) → n ≡ [] → b ≡ n ++ put t es → c ≡ b ++ put t (taken_back (since given)) → d ≡ c ++ put t (taken_back (since so_far)) → IsDraft below t want (given ++ so_far) d
-    since_last es e n b c d m p q r = record {
-      entries = (es ++ taken_back (since given)) ++ taken_back (since so_far);
-      draft_is = put_then t [] c d (es ++ taken_back (since given)) (taken_back (since so_far)) (put_then t [] b c es (taken_back (since given)) (p ∙ ap (λ z. z ++ put t es) m) q) r;
+        → (n b c : List (Update T)) → n ≡ [] → b ≡ n ++ put t es → c ≡ b ++ put t (taken_back since) → IsDraft below t want given c
+    since_last es e n b c m p q = record {
+      entries = es ++ taken_back since;
+      draft_is = put_then t [] b c es (taken_back since) (p ∙ ap (λ z. z ++ put t es) m) q;
       adds_up = λ row.
+          let w = count_of want row in
           let g = count_of (as_of below a given) row in
-          let s = count_of (as_of below a so_far) row in
-          let x = count_of (map entry (since given)) row in
-          let y = count_of (map entry (since so_far)) row in
-          let changed : count_of es row ≡ count_of want row +ℤ neg_ℤ (g +ℤ s) =
-          e row ∙ (count_of-append want (map negated_entry answer) row ∙ ap (λ z. count_of want row +ℤ z) (count_of-negated_entry answer row ∙ ap neg_ℤ (same row ∙ sum_at-append below a given so_far row))) in
-          three es (taken_back (since given)) (taken_back (since so_far)) row
-          ∙ (ap (λ z. (z +ℤ count_of (taken_back (since given)) row) +ℤ count_of (taken_back (since so_far)) row) changed
-          ∙ (ap (λ z. ((count_of want row +ℤ neg_ℤ (g +ℤ s)) +ℤ z) +ℤ count_of (taken_back (since so_far)) row) (gone given row)
-          ∙ (ap (λ z. ((count_of want row +ℤ neg_ℤ (g +ℤ s)) +ℤ neg_ℤ x) +ℤ z) (gone so_far row)
-          ∙ (regroup (count_of want row) g s x y
-          ∙ (ap (λ z. count_of want row +ℤ neg_ℤ (z +ℤ (s +ℤ y))) (sym (sum_splits o a t h given row))
-          ∙ (ap (λ z. count_of want row +ℤ neg_ℤ (count_of (as_of below t given) row +ℤ z)) (sym (sum_splits o a t h so_far row))
-          ∙ sym (wanted_less row)))))));
+          let x = count_of (map entry since) row in
+          let changed : count_of es row ≡ w +ℤ neg_ℤ g =
+          e row ∙ (count_of-append want (map negated_entry answer) row ∙ ap (λ z. w +ℤ z) (count_of-negated_entry answer row ∙ ap neg_ℤ (same row))) in
+          count_of-append es (taken_back since) row
+          ∙ (ap (λ z. z +ℤ count_of (taken_back since) row) changed
+          ∙ (ap (λ z. (w +ℤ neg_ℤ g) +ℤ z) (gone row)
+          ∙ (regroup w g x
+          ∙ (ap (λ z. w +ℤ neg_ℤ z) (sym (sum_splits o a t h given row))
+          ∙ sym (count_of-append want (taken_back given) row ∙ ap (λ z. w +ℤ z) (count-taken_back given row))))));
     }
       where
-        regroup : (w g s x y : ℤ) → ((w +ℤ neg_ℤ (g +ℤ s)) +ℤ neg_ℤ x) +ℤ neg_ℤ y ≡ w +ℤ neg_ℤ ((g +ℤ x) +ℤ (s +ℤ y))
-        regroup w g s x y = omega (arith, ints)
+        regroup : (w g x : ℤ) → (w +ℤ neg_ℤ g) +ℤ neg_ℤ x ≡ w +ℤ neg_ℤ (g +ℤ x)
+        regroup w g x = omega (arith, ints)

@@ -26,9 +26,9 @@ pub(crate) struct Correction<T> {
     pub(crate) evaluation: Evaluation<T>,
 }
 
-/// What is to be given of a key at the time of an evaluation, if what was given of it before is in two lists. `last` is
-/// what was evaluated at the time before, if there was one. What the answer is, the clauses leave to the caller: they hold
-/// for each reducer and each list of rows of which it is the answer.
+/// What is to be given of a key at the time of an evaluation, if `given` is what was given of it before. `last` is what
+/// was evaluated at the time before, if there was one. What the answer is, the clauses leave to the caller: they hold for
+/// each reducer and each list of rows of which it is the answer.
 ///
 /// Cost: that of [`draft_of`], and n log n in the length of the draft.
 pub(crate) fn correct<T: Lattice>(
@@ -36,42 +36,33 @@ pub(crate) fn correct<T: Lattice>(
     key: &[i64],
     evaluation: Evaluation<T>,
     given: &[Update<T>],
-    so_far: &[Update<T>],
     last: &Option<Evaluation<T>>,
 ) -> Result<Correction<T>, Refusal>
     requires keyed { IsTrue (list_all (has_key (length key.now) key.now) evaluation.answer) }
     requires given { IsTrue (list_all (of_key (length key.now) key.now) given.now) }
-    requires so_far { IsTrue (list_all (of_key (length key.now) key.now) so_far.now) }
-    requires last { IfSome last.now (IsEvaluation T.below (given.now ++ so_far.now)) }
+    requires last { IfSome last.now (IsEvaluation T.below given.now) }
     ensures corrects { IfOk result
         (λ correction. (reduce : List ℤ → List Entry → List Entry) (content rows : List (Update T))
         → rows ≡ filter (of_key (length key.now) key.now) content
         → IsAnswer T.below reduce key.now rows evaluation.time evaluation.answer
-        → Corrects T.below (length key.now) reduce content (given.now ++ so_far.now) key.now
+        → Corrects T.below (length key.now) reduce content given.now key.now
         evaluation.time correction.given.items) }
     ensures exact { IfOk result
         (λ correction. HasLargeTotal T.below correction.given.items → ⊥) }
     ensures nonzero { IfOk result
         (λ correction. AllByRecursion (λ u. u.diff ≢ pos 0) correction.given.items) }
     ensures evaluation { IfOk result (λ correction.
-        IsEvaluation T.below ((given.now ++ so_far.now) ++ correction.given.items)
+        IsEvaluation T.below (given.now ++ correction.given.items)
         correction.evaluation) }
     ensures time { IfOk result (λ correction. correction.evaluation.time ≡ evaluation.time) }
     ensures refused { IfErr result (IsMemoryOrOverflow
         ((reduce : List ℤ → List Entry → List Entry) (content rows : List (Update T))
         → rows ≡ filter (of_key (length key.now) key.now) content
         → IsAnswer T.below reduce key.now rows evaluation.time evaluation.answer
-        → IsTooMuch T.below (length key.now) reduce content (given.now ++ so_far.now) key.now
+        → IsTooMuch T.below (length key.now) reduce content given.now key.now
         evaluation.time)) }
 {
-    let draft = draft_of(
-        alloc,
-        evaluation.time,
-        &evaluation.answer,
-        given,
-        so_far,
-        last,
-    )?;
+    let draft = draft_of(alloc, evaluation.time, &evaluation.answer, given, last)?;
     let given = consolidate(draft)?;
     Ok(Correction { given, evaluation })
 }

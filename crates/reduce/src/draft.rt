@@ -289,23 +289,21 @@ fn put_back_since<T: Lattice>(
     put_back(out, time, since.as_slice())
 }
 
-// The draft from all that is wanted and all that was given, in two lists.
+// The draft from all that is wanted and all that was given.
 fn whole_draft<T: Lattice>(
     alloc: Global,
     time: T,
     want: &Bag,
     given: &[Update<T>],
-    so_far: &[Update<T>],
 ) -> Result<Vec<Update<T>>, Refusal>
     ensures draft { IfOk result
-        (λ draft. IsDraft T.below time want.now (given.now ++ so_far.now) draft.items) }
+        (λ draft. IsDraft T.below time want.now given.now draft.items) }
     ensures refused { IfErr result
-        (IsMemoryOrOverflow (2 ^ 63 ≤ size (given.now ++ so_far.now))) }
+        (IsMemoryOrOverflow (2 ^ 63 ≤ size given.now)) }
 {
     let mut draft = Vec::new(alloc);
     put_rest(&mut draft, time, want, 0)?;
     put_back(&mut draft, time, given)?;
-    put_back(&mut draft, time, so_far)?;
     Ok(draft)
 }
 
@@ -315,26 +313,24 @@ fn draft_since<T: Lattice>(
     time: T,
     want: &Bag,
     given: &[Update<T>],
-    so_far: &[Update<T>],
     last: &Evaluation<T>,
 ) -> Result<Vec<Update<T>>, Refusal>
     requires earlier { IsTrue (T.below last.now.time time) }
     requires answer { Alike last.now.answer
-        (as_of T.below last.now.time (given.now ++ so_far.now)) }
+        (as_of T.below last.now.time given.now) }
     ensures draft { IfOk result
-        (λ draft. IsDraft T.below time want.now (given.now ++ so_far.now) draft.items) }
+        (λ draft. IsDraft T.below time want.now given.now draft.items) }
     ensures refused { IfErr result
-        (IsMemoryOrOverflow (2 ^ 63 ≤ size (given.now ++ so_far.now))) }
+        (IsMemoryOrOverflow (2 ^ 63 ≤ size given.now)) }
 {
     let mut draft = Vec::new(alloc);
     put_change(&mut draft, time, want, &last.answer)?;
     put_back_since(alloc, &mut draft, last.time, time, given)?;
-    put_back_since(alloc, &mut draft, last.time, time, so_far)?;
     Ok(draft)
 }
 
-/// A draft of the correction of a key at a time, if `want` is wanted there and what was given of the key before is in
-/// two lists.
+/// A draft of the correction of a key at a time, if `want` is wanted there and `given` is what was given of the key
+/// before.
 ///
 /// - [`Refusal::Overflow`] only if the absolute diffs of what was given add up to 2^63 or more.
 /// - [`Refusal::OutOfMemory`] only if memory for the draft was refused.
@@ -346,20 +342,17 @@ pub(crate) fn draft_of<T: Lattice>(
     time: T,
     want: &Bag,
     given: &[Update<T>],
-    so_far: &[Update<T>],
     last: &Option<Evaluation<T>>,
 ) -> Result<Vec<Update<T>>, Refusal>
     requires { IfSome last.now
-        (λ last. Alike last.answer (as_of T.below last.time (given.now ++ so_far.now))) }
+        (λ last. Alike last.answer (as_of T.below last.time given.now)) }
     ensures draft { IfOk result
-        (λ draft. IsDraft T.below time want.now (given.now ++ so_far.now) draft.items) }
+        (λ draft. IsDraft T.below time want.now given.now draft.items) }
     ensures refused { IfErr result
-        (IsMemoryOrOverflow (2 ^ 63 ≤ size (given.now ++ so_far.now))) }
+        (IsMemoryOrOverflow (2 ^ 63 ≤ size given.now)) }
 {
     match last {
-        Some(last) if last.time.less_equal(&time) => {
-            draft_since(alloc, time, want, given, so_far, last)
-        }
-        _ => whole_draft(alloc, time, want, given, so_far),
+        Some(last) if last.time.less_equal(&time) => { draft_since(alloc, time, want, given, last) }
+        _ => whole_draft(alloc, time, want, given),
     }
 }

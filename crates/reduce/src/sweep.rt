@@ -180,9 +180,8 @@ fn correct_here<T: Lattice, R: Reducer>(
     let near = sweep.rows.near.as_slice();
     let answer = answer_at(alloc, reducer, key, &mut sweep.base, near, time)?;
     let had = sweep.had.near.as_slice();
-    let none = Vec::new(alloc);
     let evaluation = Evaluation { time, answer };
-    correct(alloc, key, evaluation, had, none.as_slice(), &sweep.last)
+    correct(alloc, key, evaluation, had, &sweep.last)
 }
 
 // One pending time, the first of those to do: it stays, or it is corrected.

@@ -1,24 +1,24 @@
-use Rattle.std.proofs.Common.{◌&&◌, FitsSigned, w64, ◌++◌, length, sym, subst, inl, inr, ⊎_elim, refl}
+use Rattle.std.proofs.Common.{◌&&◌, FitsSigned, w64, length, sym, subst, inl, inr, ⊎_elim, refl}
 use Rattle.std.proofs.lemmas.Bool.{false≢true}
 use Rattle.update.specs.Bags.{same_row}
 use Rattle.reduce.proofs.ResultLemmas.{passed_on}
-use Rattle.reduce.proofs.KeyedLemmas.{own_kept, both_own}
+use Rattle.reduce.proofs.KeyedLemmas.{own_kept}
 use Rattle.reduce.proofs.CorrectLemmas.{corrects, wanted_there, too_far}
 use Rattle.reduce.proofs.correcting.correct.Goals as goal
 
 pub returns-in_err-draft-clause-refused : goal.returns-in_err-draft-clause-refused
 returns-in_err-draft-clause-refused g c =
     let key = c.args.key.now in
-    let given = c.args.given.now ++ c.args.so_far.now in
+    let given = c.args.given.now in
     passed_on c.from_residual.result c.in_err-draft.field-0.0 _ c.from_residual.ensures.1
-    (⊎_elim inl (λ h. inr (h.0, λ reduce content rows own answer. inr (inl (rw (own_kept (length key) key given (both_own (length key) key c.args.given.now c.args.so_far.now c.requires.given c.requires.so_far)) h.1)))) c.in_err-draft.ensures.refused)
+    (⊎_elim inl (λ h. inr (h.0, λ reduce content rows own answer. inr (inl (rw (own_kept (length key) key given c.requires.given) h.1)))) c.in_err-draft.ensures.refused)
 
 pub returns-in_err-given-clause-refused : goal.returns-in_err-given-clause-refused
 returns-in_err-given-clause-refused g c =
     let key = c.args.key.now in
     let k = length key in
-    let given = c.args.given.now ++ c.args.so_far.now in
-    let own = both_own k key c.args.given.now c.args.so_far.now c.requires.given c.requires.so_far in
+    let given = c.args.given.now in
+    let own = c.requires.given in
     passed_on c.from_residual-in_err-given.result c.in_err-given.field-0.0 _ c.from_residual-in_err-given.ensures.1
     (inr (
       c.in_err-given.ensures.only,
@@ -31,8 +31,8 @@ pub returns-clause-corrects : goal.returns-clause-corrects
 returns-clause-corrects g c reduce content rows is answer =
     let key = c.args.key.now in
     let k = length key in
-    let given = c.args.given.now ++ c.args.so_far.now in
-    let own = both_own k key c.args.given.now c.args.so_far.now c.requires.given c.requires.so_far in
+    let given = c.args.given.now in
+    let own = c.requires.given in
     corrects g.met.T.PartialOrder.order k key c.args.evaluation.time reduce content given rows c.args.evaluation.answer own c.in_ok-draft.draft.items c.in_ok-draft.ensures.draft
     g.met.T.Ord.total c.in_ok-given.given.items c.in_ok-given.ensures.consolidated c.in_ok-given.ensures.among c.in_ok-given.ensures.sums
     is answer c.requires.keyed
@@ -45,7 +45,7 @@ pub returns-clause-evaluation : goal.returns-clause-evaluation
 returns-clause-evaluation g c =
     let key = c.args.key.now in
     let k = length key in
-    let given = c.args.given.now ++ c.args.so_far.now in
-    let own = both_own k key c.args.given.now c.args.so_far.now c.requires.given c.requires.so_far in
+    let given = c.args.given.now in
+    let own = c.requires.given in
     wanted_there g.met.T.PartialOrder.order k key c.args.evaluation.time (λ _ entries. entries) given given given c.args.evaluation.answer own c.in_ok-draft.draft.items c.in_ok-draft.ensures.draft
     g.met.T.Ord.total c.in_ok-given.given.items c.in_ok-given.ensures.consolidated c.in_ok-given.ensures.among c.in_ok-given.ensures.sums

@@ -1,8 +1,6 @@
-use Rattle.std.proofs.Common.{◌++◌, ◌∙◌, length, subst, inl, inr, ⊎_elim}
+use Rattle.std.proofs.Common.{◌++◌, ◌∙◌, length, inl, inr, ⊎_elim}
 use Rattle.std.proofs.lemmas.Result.{IfOk-weaker, IfErr-weaker}
-use Rattle.std.proofs.lemmas.List.{append-nil}
 use Rattle.update.specs.Updates.{as_of}
-use Rattle.reduce.specs.Corrections.{Corrects, IsTooMuch}
 use Rattle.reduce.proofs.CorrectLemmas.{too_large}
 use Rattle.reduce.proofs.CorrectionLemmas.{too_large_alike}
 use Rattle.reduce.proofs.ResultLemmas.{passed_on}
@@ -22,26 +20,16 @@ returns-in_err-answer-clause-refused g c =
 
 pub returns-clause-corrects : goal.returns-clause-corrects
 returns-clause-corrects g c =
-    let key = c.args.key.now in
-    let had = c.args.sweep.now.had.near.items in
     let reduce = g.R.Reducer.reduces c.args.reducer.now in
     let value = rw c.as_slice-near.ensures.value at c.in_ok-answer.ensures.value in
     IfOk-weaker c.correct.result _ _
-    (λ correction h content rows is same.
-    subst (λ z. Corrects g.T.PartialOrder.below (length key) reduce content z key c.args.time correction.given.items) (append-nil had)
-    ((rw (c.as_slice-had.ensures.value, c.as_slice.ensures.value, c.new-none.ensures.items) at h) reduce content rows is (λ entries a. value entries (λ r. same r ∙ a r))))
+    (λ correction h content rows is same. (rw c.as_slice-had.ensures.value at h) reduce content rows is (λ entries a. value entries (λ r. same r ∙ a r)))
     c.correct.ensures.corrects
 
 pub returns-clause-refused : goal.returns-clause-refused
 returns-clause-refused g c =
-    let key = c.args.key.now in
-    let had = c.args.sweep.now.had.near.items in
     let reduce = g.R.Reducer.reduces c.args.reducer.now in
     let value = rw c.as_slice-near.ensures.value at c.in_ok-answer.ensures.value in
     IfErr-weaker c.correct.result _ _
-    (λ refused h. ⊎_elim inl (λ y. inr (
-      y.0,
-      λ content rows is same. subst (λ z. IsTooMuch g.T.PartialOrder.below (length key) reduce content z key c.args.time) (append-nil had)
-          ((rw (c.as_slice-had.ensures.value, c.as_slice.ensures.value, c.new-none.ensures.items) at y.1) reduce content rows is (λ entries a. value entries (λ r. same r ∙ a r))),
-    )) h)
+    (λ refused h. ⊎_elim inl (λ y. inr (y.0, λ content rows is same. (rw c.as_slice-had.ensures.value at y.1) reduce content rows is (λ entries a. value entries (λ r. same r ∙ a r)))) h)
     c.correct.ensures.refused
