@@ -1,16 +1,12 @@
 -- Lists that have no row twice at one time.
-use Rattle.std.proofs.Common.{◌≡◌, ◌≤◌, ◌<◌, ◌^◌, Bool, true, false, cond, ◌&&◌, ◌||◌, List, [], ◌∷◌, ◌++◌, refl, sym, ap, ◌∙◌, subst, inl, inr, arith, w64, FitsSigned}
+use Rattle.std.proofs.Common.{◌≡◌, Bool, true, false, cond, ◌&&◌, ◌||◌, List, [], ◌∷◌, ◌++◌, refl, sym, ap, ◌∙◌, subst, inl, inr}
 use Rattle.std.specs.Prelude.{ℤ, pos, ◌+ℤ◌}
 use Rattle.std.specs.List.{filter, list_any}
 use Rattle.std.proofs.lemmas.Bool.{and_parts, and_from, or_parts, true≢false}
-use Rattle.std.proofs.Math.Dec.{ltb}
-use borrow.Author.Tests.{ltb-false}
-use Rattle.std.proofs.lemmas.Bool.Decides.{Decides-ltb}
-use lib.Signed.{mag}
 use Rattle.std.proofs.Math.IntN.{+ℤ_idl, +ℤ_idr}
 use Rattle.lattice.specs.Order.{PartialOrderLaws}
 use Rattle.update.specs.Bags.{same_row}
-use Rattle.update.specs.Updates.{total_at, AreApart, is_doubled, HasLargeTotal}
+use Rattle.update.specs.Updates.{total_at, AreApart, is_doubled}
 use Rattle.update.specs.declared.change.Update.{Update}
 use Rattle.plan.proofs.CountLemmas.{row_same, row_itself}
 use Rattle.reduce.specs.Joined.{Member}
@@ -70,16 +66,6 @@ module _ {T : Type 0} {below : T → T → Bool} (o : PartialOrderLaws below) wh
       step false f ih = +ℤ_idl (total_at below u.row u.time us) ∙ ih
       step true f ih = let w = at_is u.row u.time v f in absurd (true≢false (sym (there us m (sym w.0) (sym w.1)) ∙ a.0))
   own_total [] a u m = absurd m
-
-  -- where no total is too large, each diff is a 64-bit number
-  pub fits_each : (us : List (Update T)) → AreApart below us → (HasLargeTotal below us → ⊥) → (u : Update T) → Member u us → FitsSigned w64 u.diff
-  fits_each us a small u m =
-      elim (ltb (mag u.diff) (2 ^ 63)) as (λ b. ltb (mag u.diff) (2 ^ 63) ≡ b → FitsSigned w64 u.diff) [
-        | true ↦ λ e. record { sfits = (Decides-ltb (mag u.diff) (2 ^ 63)).0 e }
-        | false ↦ λ e.
-            let far : 2 ^ 63 ≤ mag u.diff = ltb-false (mag u.diff) (2 ^ 63) e in
-            absurd (small (u.row, u.time, λ f. let g : FitsSigned w64 u.diff = subst (FitsSigned w64) (own_total us a u m) f in let near : mag u.diff < 2 ^ 63 = g.sfits in omega (arith, far, near)))
-      ] refl
 
   -- two lists of which no update of the one is doubled in the other
   pub apart_both : (us vs : List (Update T)) → AreApart below us → AreApart below vs → ((u v : Update T) → Member u us → Member v vs → is_doubled below u v ≡ false) → AreApart below (us ++ vs)

@@ -194,7 +194,6 @@ module _ (key : List ℤ) where
                 (s.stands (without_rows k key taken) given (reads_without front due content taken rd) sh (stands_without taken given due w));
             apart = s.apart;
             at = s.at;
-            fits = s.fits;
             nonzero = s.nonzero;
           }
 

@@ -6,7 +6,7 @@ use Rattle.lattice.proofs.BoundLemmas.{join_commutes, join_associates, join_same
 use Rattle.update.specs.Joins.{joins_of}
 use Rattle.reduce.specs.Joined.{Member, IsFresh}
 use Rattle.reduce.specs.Adding.{SameMembers, joins_with}
-use Rattle.reduce.proofs.MemberLemmas.{in_left, in_right, in_either, only_one, image_in, image_of, images_within, itself, in_each}
+use Rattle.reduce.proofs.MemberLemmas.{in_left, in_right, in_either, only_one, image_in, image_of}
 
 module _ {T : Type 0} (joined : T → T → T) where
   -- a join is still one when there is a time more
@@ -37,19 +37,6 @@ module _ {T : Type 0} (joined : T → T → T) where
   joins_have [] t m = absurd m
   joins_have (n ∷ ts) t m =
       ⊎_elim (λ e. joins_gained n ts t (inl e)) (λ k. joins_kept n ts t (joins_have ts t k)) m
-
-  -- so a time more adds this and no others
-  pub joins_step : (n : T) (ts : List T) (t : T) → Member t (joins_of joined (n ∷ ts)) ↔ (Member t (joins_of joined ts) ⊎ Member t (joins_with joined n (joins_of joined ts)))
-  joins_step n ts t = (
-    joins_cases n ts t,
-    (λ m. ⊎_elim (λ k. joins_kept n ts t k) (λ k. joins_gained n ts t k) m),
-  )
-
-  -- a time joined with the members of a list depends on the members alone
-  pub joins_with_same : (n : T) (xs ys : List T) → SameMembers xs ys → SameMembers (joins_with joined n xs) (joins_with joined n ys)
-  joins_with_same n xs ys same t =
-      in_each itself
-      (images_within (λ s. joined s n) t xs ys (λ s. (same s).0), images_within (λ s. joined s n) t ys xs (λ s. (same s).1))
 
   -- what is true of each time, and of the join of any two of which it is true, is true of each join
   pub joins_least : (P : T → Type 0) → ((a b : T) → P a → P b → P (joined a b)) → (ts : List T) → ((t : T) → Member t ts → P t) → (t : T) → Member t (joins_of joined ts) → P t
@@ -224,10 +211,6 @@ module _ {T : Type 0} {below : T → T → Bool} {joined met : T → T → T} (o
     pub fresh_absorbs : (n t : T) → Member n new → Member t (joins_of joined old) → below n t ≡ true → IsFresh joined new old t
     fresh_absorbs n t m k h = inr (n, t, joins_have joined new n m, k, join_commutes o b n t ∙ join_later n t h)
 
-    -- a join of new and old times at or after a new one is fresh
-    pub fresh_upward : (n t : T) → Member n new → Member t (joins_of joined (new ++ old)) → below n t ≡ true → IsFresh joined new old t
-    fresh_upward n t m k h = ⊎_elim (λ f. f) (λ l. fresh_absorbs n t m l h) ((joins_append t).0 k)
-
   -- more times have more fresh ones
   pub fresh_within : (new more old others : List T) → ((t : T) → Member t new → Member t more) → ((t : T) → Member t old → Member t others) → (t : T) → IsFresh joined new old t → IsFresh joined more others t
   fresh_within new more old others to too t f =
@@ -241,44 +224,3 @@ module _ {T : Type 0} {below : T → T → Bool} {joined met : T → T → T} (o
     fresh_within new more old others (λ s. (same s).0) (λ s. (too s).0) t,
     fresh_within more new others old (λ s. (same s).1) (λ s. (too s).1) t,
   )
-
-  -- a new time more makes fresh what it adds to the joins
-  pub fresh_more : (n : T) (new old : List T) (t : T) → IsFresh joined (n ∷ new) old t ↔ (IsFresh joined new old t ⊎ Member t (joins_with joined n (joins_of joined (new ++ old))))
-  fresh_more n new old t = (to, from)
-    where
-      -- a join of old times at or after the new ones or n
-      from_old : (m : T) → Member m (n ∷ new) → below m t ≡ true → Member t (joins_of joined old) → IsFresh joined new old t ⊎ Member t (joins_with joined n (joins_of joined (new ++ old)))
-      from_old m k h l =
-          ⊎_elim
-          (λ e.
-          let same : joined t n ≡ t = join_later n t (subst (λ s. below s t ≡ true) e h) in
-          inr (inr (subst (λ s. Member s (map (λ s. joined s n) (joins_of joined (new ++ old)))) same
-          (image_in (λ s. joined s n) t (joins_of joined (new ++ old)) ((joins_append new old t).1 (inr l))))))
-          (λ i. inl (fresh_absorbs new old m t i l h))
-          k
-
-      to : IsFresh joined (n ∷ new) old t → IsFresh joined new old t ⊎ Member t (joins_with joined n (joins_of joined (new ++ old)))
-      to f =
-          ⊎_elim
-          (λ k. ⊎_elim
-          (λ g. inl g)
-          (λ l. let m = fresh_above (n ∷ new) old t f in from_old m.0 m.1 m.2 l)
-          ((joins_append new old t).0 k))
-          (λ k. inr k)
-          (joins_cases joined n (new ++ old) t ((joins_append (n ∷ new) old t).1 (inl f)))
-
-      from : IsFresh joined new old t ⊎ Member t (joins_with joined n (joins_of joined (new ++ old))) → IsFresh joined (n ∷ new) old t
-      from f =
-          ⊎_elim
-          (λ g. fresh_within new (n ∷ new) old old (λ s m. inr m) (λ s m. m) t g)
-          (λ k. fresh_upward (n ∷ new) old n t (inl refl) (joins_gained joined n (new ++ old) t k) (above k))
-          f
-        where
-          above : Member t (joins_with joined n (joins_of joined (new ++ old))) → below n t ≡ true
-          above k =
-              ⊎_elim
-              (λ e. subst (λ s. below n s ≡ true) (sym e) (o.reflexive n))
-              (λ i.
-              let r = image_of (λ s. joined s n) t (joins_of joined (new ++ old)) i in
-              subst (λ s. below n s ≡ true) (sym r.2) (b.join_right r.0 n))
-              k

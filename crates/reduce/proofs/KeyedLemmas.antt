@@ -1,5 +1,5 @@
 -- Lists in which each row begins with one key.
-use Rattle.std.proofs.Common.{◌≡◌, ◌≢◌, ℕ, ◌<◌, Bool, true, false, cond, List, [], ◌∷◌, ◌++◌, ℤ, length, map, take, get_or, IsTrue, refl, ap, sym, ◌∙◌}
+use Rattle.std.proofs.Common.{◌≡◌, ◌≢◌, ℕ, ◌<◌, Bool, true, false, cond, List, [], ◌∷◌, ◌++◌, ℤ, length, map, get_or, IsTrue, refl, ap, sym, ◌∙◌}
 use Rattle.std.specs.Prelude.{pos}
 use Rattle.std.specs.List.{filter, list_all, AllByRecursion}
 use Rattle.std.proofs.lemmas.Bool.{and_parts, and_from, true≢false}

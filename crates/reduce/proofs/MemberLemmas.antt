@@ -146,9 +146,3 @@ module _ {X Y : Type 0} (f : X → Y) where
       (λ e. (z, inl refl, e))
       (λ k. let r = image_of y xs k in (r.0, inr r.1, r.2))
       m
-
-  -- if all elements are members of another list, then their images are members of the images of that list
-  pub images_within : (y : Y) (xs zs : List X) → ((x : X) → Member x xs → Member x zs) → Member y (map f xs) → Member y (map f zs)
-  images_within y xs zs to m =
-      let r = image_of y xs m in
-      rw (r.2) (image_in r.0 zs (to r.0 r.1))

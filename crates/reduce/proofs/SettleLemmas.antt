@@ -29,7 +29,7 @@ use Rattle.reduce.specs.Settling.{ReadsAs, Steps, Settling, IsOverfullFor}
 use Rattle.reduce.proofs.JoinedLemmas.{sum_at, sum_at-append}
 use Rattle.reduce.proofs.MemberLemmas.{each_member, in_either, in_left, in_right}
 use Rattle.reduce.proofs.StandingLemmas.{corrects_one, key_right}
-use Rattle.reduce.proofs.ApartLemmas.{apart_both, apart_filter, doubled_is, fits_each}
+use Rattle.reduce.proofs.ApartLemmas.{apart_both, apart_filter, doubled_is}
 use Rattle.reduce.proofs.CorrectionLemmas.{as_of-keyed, count-had, size_right, weight, weight_is, weight-append}
 use Rattle.reduce.proofs.OverfullLemmas.{ideal, ideal_corrects, ideal_large}
 
@@ -212,7 +212,6 @@ module _ {T : Type 0} {below : T → T → Bool} {joined met : T → T → T} (o
       stands = λ taken given rd sh w. subst (λ z. KeyStands below joined k reduce taken z key due) (sym (append-nil given)) w;
       apart = tt;
       at = λ u m. absurd m;
-      fits = λ u m. absurd m;
       nonzero = λ u m. absurd m;
     }
 
@@ -262,7 +261,6 @@ module _ {T : Type 0} {below : T → T → Bool} {joined met : T → T → T} (o
         stands = λ taken given rd sh st. subst (λ z. KeyStands below joined k reduce taken (given ++ z) key (rest2 ++ after)) (sym w.1) (subst (λ z. KeyStands below joined k reduce taken (given ++ more) key z) moved (s.stands taken given rd sh st));
         apart = subst (AreApart below) (sym w.1) s.apart;
         at = λ u m. still u (subst (Member u) w.1 m);
-        fits = λ u m. s.fits u (subst (Member u) w.1 m);
         nonzero = λ u m. s.nonzero u (subst (Member u) w.1 m);
       }
         where
@@ -278,15 +276,14 @@ module _ {T : Type 0} {below : T → T → Bool} {joined met : T → T → T} (o
             (subst (λ z. KeyStands below joined k reduce taken ((given ++ more) ++ new) key (z ++ after)) (sym w.1) (corrected w.0 new c taken given rd sh st));
         apart = subst (AreApart below) (sym w.2.1) (apart_new new c.at c.apart);
         at = λ u m. ⊎_elim (still u) (λ n. let a = all_at_is new t c.at u n in (a.0, subst (λ z. Member z (take (i + 1) due)) (sym a.1) here, ap (λ z. is_beyond below front z) a.1 ∙ w.0)) (in_either u more new (subst (Member u) w.2.1 m));
-        fits = λ u m. ⊎_elim (s.fits u) (λ n. fits_each o new c.apart w.2.2 u n) (in_either u more new (subst (Member u) w.2.1 m));
-        nonzero = λ u m. ⊎_elim (s.nonzero u) (λ n. each_member (λ u. u.diff ≢ pos 0) new w.2.3 u n) (in_either u more new (subst (Member u) w.2.1 m));
+        nonzero = λ u m. ⊎_elim (s.nonzero u) (λ n. each_member (λ u. u.diff ≢ pos 0) new w.2.2 u n) (in_either u more new (subst (Member u) w.2.1 m));
       }
         where
           new : List (Update T)
           new = w.2.0
 
           c : Corrects below k reduce content (stored ++ more) key t new
-          c = w.2.4
+          c = w.2.3
 
           here : Member t (take (i + 1) due)
           here = subst (Member t) (sym (more_taken due i t lt e)) (in_right t (take i due) (t ∷ []) (inl refl))

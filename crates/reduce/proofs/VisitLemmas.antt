@@ -74,7 +74,6 @@ module _ {T : Type 0} (below : T → T → Bool) (joined : T → T → T) (k : �
         (subst (λ z. KeyStands below joined k reduce taken given key z) (sym (ap (λ z. due ++ z) (drop_whole due) ∙ append-nil due)) w);
     apart = tt;
     at = λ u m. absurd m;
-    fits = λ u m. absurd m;
     nonzero = λ u m. absurd m;
   }
 

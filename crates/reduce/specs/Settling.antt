@@ -1,10 +1,9 @@
 -- Over the pending times of one key, in order: those that the frontier has passed are corrected, and the others stay.
-use Rattle.std.specs.Prelude.{◌≡◌, ◌≢◌, ℕ, Bool, true, false, List, [], ◌∷◌, ◌++◌, ℤ, pos, take, drop, FitsSigned, IsTrue, ◌⊎◌}
-use Rattle.std.specs.Int.{w64}
+use Rattle.std.specs.Prelude.{◌≡◌, ◌≢◌, ℕ, Bool, true, false, List, [], ◌∷◌, ◌++◌, ℤ, pos, take, drop, IsTrue, ◌⊎◌}
 use Rattle.std.specs.List.{filter, AllByRecursion}
 use Rattle.lattice.specs.Frontiers.{is_beyond}
 use Rattle.update.specs.Bags.{Entry, Alike}
-use Rattle.update.specs.Updates.{as_of, AreApart, HasLargeTotal}
+use Rattle.update.specs.Updates.{as_of, AreApart}
 use Rattle.update.specs.declared.change.Update.{Update}
 use Rattle.plan.specs.Changes.{has_passed}
 use Rattle.reduce.specs.Joined.{Member, of_key}
@@ -25,7 +24,7 @@ module _ {T : Type 0} (below : T → T → Bool) (joined : T → T → T) (k : �
   Steps t more more2 rest rest2 =
       ((is_beyond below front t ≡ true) × (more2 ≡ more) × (rest2 ≡ rest ++ t ∷ []))
       ⊎ ((is_beyond below front t ≡ false) × (rest2 ≡ rest)
-      × ((new : List (Update T)) × (more2 ≡ more ++ new) × (HasLargeTotal below new → ⊥)
+      × ((new : List (Update T)) × (more2 ≡ more ++ new)
       × AllByRecursion (λ u. u.diff ≢ pos 0) new
       × Corrects below k reduce content (stored ++ more) key t new))
 
@@ -39,7 +38,6 @@ module _ {T : Type 0} (below : T → T → Bool) (joined : T → T → T) (k : �
       pub apart : AreApart below more
       pub at : (u : Update T) → Member u more
           → (of_key k key u ≡ true) × Member u.time (take i due) × (is_beyond below front u.time ≡ false)
-      pub fits : (u : Update T) → Member u more → FitsSigned w64 u.diff
       pub nonzero : (u : Update T) → Member u more → u.diff ≢ pos 0
 
     -- the cause of a refusal for a number that is too large

@@ -6,7 +6,6 @@ ghost use Rattle.std.specs.Prelude.{◌≡◌, ◌≢◌, ◌++◌, IfOk, IfErr,
 ghost use Rattle.std.specs.List.{AllByRecursion, list_all, filter};
 ghost use Rattle.update.specs.Bags.{Entry};
 ghost use Rattle.update.specs.Refusals.{IsMemoryOrOverflow};
-ghost use Rattle.update.specs.Updates.{HasLargeTotal};
 ghost use Rattle.update.specs.declared.change.Update.{Update};
 ghost use Rattle.plan.specs.Reductions.{has_key};
 ghost use Rattle.reduce.specs.Joined.{of_key};
@@ -47,8 +46,6 @@ pub(crate) fn correct<T: Lattice>(
         → IsAnswer T.below reduce key.now rows evaluation.time evaluation.answer
         → Corrects T.below (length key.now) reduce content given.now key.now
         evaluation.time correction.given.items) }
-    ensures exact { IfOk result
-        (λ correction. HasLargeTotal T.below correction.given.items → ⊥) }
     ensures nonzero { IfOk result
         (λ correction. AllByRecursion (λ u. u.diff ≢ pos 0) correction.given.items) }
     ensures evaluation { IfOk result (λ correction.

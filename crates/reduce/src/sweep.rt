@@ -24,7 +24,6 @@ ghost use Rattle.reduce.specs.Sweeps.{AreMeets, IsLed, IsSweep};
 ghost use Rattle.update.specs.Bags.{Alike};
 ghost use Rattle.update.specs.Updates.{as_of};
 ghost use Rattle.plan.specs.Reductions.{has_key};
-ghost use Rattle.update.specs.Updates.{HasLargeTotal};
 ghost use Rattle.reduce.specs.Evaluations.{IsEvaluation};
 ghost use Rattle.reduce.specs.Settling.{Steps, Settling, IsOverfullFor};
 
@@ -161,8 +160,6 @@ fn correct_here<T: Lattice, R: Reducer>(
         (as_of T.below time rows)
         → Corrects T.below (length key.now) (R.reduces reducer.now) content
         sweep.old.had.near.items key.now time correction.given.items) }
-    ensures exact { IfOk result
-        (λ correction. HasLargeTotal T.below correction.given.items → ⊥) }
     ensures nonzero { IfOk result
         (λ correction. AllByRecursion (λ u. u.diff ≢ pos 0) correction.given.items) }
     ensures evaluation { IfOk result (λ correction.

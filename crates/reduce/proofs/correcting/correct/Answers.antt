@@ -1,6 +1,4 @@
-use Rattle.std.proofs.Common.{◌&&◌, FitsSigned, w64, length, sym, subst, inl, inr, ⊎_elim, refl}
-use Rattle.std.proofs.lemmas.Bool.{false≢true}
-use Rattle.update.specs.Bags.{same_row}
+use Rattle.std.proofs.Common.{length, inl, inr, ⊎_elim, refl}
 use Rattle.reduce.proofs.ResultLemmas.{passed_on}
 use Rattle.reduce.proofs.KeyedLemmas.{own_kept}
 use Rattle.reduce.proofs.CorrectLemmas.{corrects, wanted_there, too_far}
@@ -36,10 +34,6 @@ returns-clause-corrects g c reduce content rows is answer =
     corrects g.met.T.PartialOrder.order k key c.args.evaluation.time reduce content given rows c.args.evaluation.answer own c.in_ok-draft.draft.items c.in_ok-draft.ensures.draft
     g.met.T.Ord.total c.in_ok-given.given.items c.in_ok-given.ensures.consolidated c.in_ok-given.ensures.among c.in_ok-given.ensures.sums
     is answer c.requires.keyed
-
-pub returns-clause-exact : goal.returns-clause-exact
-returns-clause-exact g c h =
-    false≢true (c.in_ok-given.ensures.overflow.1 (h.0, h.1, λ f. h.2 (subst (FitsSigned w64) (sym (c.in_ok-given.ensures.totals (λ r s. same_row r h.0 && (g.T.PartialOrder.below s h.1 && g.T.PartialOrder.below h.1 s)))) f)))
 
 pub returns-clause-evaluation : goal.returns-clause-evaluation
 returns-clause-evaluation g c =

@@ -85,7 +85,6 @@ returns-clause-steps g c content rows =
       (
         more,
         c.in_ok-append.ensures.items ∙ (ap (λ s. s.given.items ++ more) c.correct_here.ensures.same ∙ ap (λ v. v.items ++ more) c.lead.ensures.given),
-        c.in_ok-more.ensures.exact,
         c.in_ok-more.ensures.nonzero,
         corrects_too g.met.T.PartialOrder.order k (g.R.Reducer.reduces c.args.reducer.now) h.key c.args.time rest c.args.rows.now given c.lead.new.sweep led c.requires.rows (both_own k h.key h.given c.args.sweep.now.given.items c.requires.given c.requires.settled) content more (corrects content c.args.rows.now rows led.rows_in),
       ),
