@@ -97,27 +97,28 @@ module _ {T : Type 0} {below : T → T → Bool} (o : PartialOrderLaws below) wh
   times_below (Some e) meet behind todo low b h t (inr m) = o.transitive behind meet t b (low t m)
 
 module _ {T : Type 0} {below : T → T → Bool} {cmp : T → T → Ordering} (o : PartialOrderLaws below) where
-  -- both replays have been led up to a time, and what all times to come see was added to the base
+  -- what all times to come see was added to the base, and then both replays were led up to a time
   pub led : (time meet behind : T) (todo : List T) (rows given near later mid_rows mid_had : List (Update T)) (entered : ℕ) (s s2 : Sweep T)
       → IsSweep below cmp todo rows given s
       → Member time todo → ((t : T) → Member t todo → IsTrue (below meet t))
       → ((s2.last ≡ None) ⊎ (s2.last ≡ s.last)) → IfSome s2.last (λ e. IsTrue (below e.time time))
       → IsTrue (below behind meet) → IfSome s2.last (λ e. IsTrue (below behind e.time))
-      → StandsFrom below meet (on_the_way s.rows.near.items s.rows.later.items s.rows.entered) mid_rows
+      → Settles below meet s.base s.rows.near.items s2.base near
+      → later ≡ s.rows.later.items → entered ≡ s.rows.entered
+      → StandsFrom below meet (on_the_way near later entered) mid_rows
       → StandsFrom below behind (on_the_way s.had.near.items s.had.later.items s.had.entered) mid_had
-      → on_the_way near later entered ≡ mid_rows
+      → on_the_way s2.rows.near.items s2.rows.later.items s2.rows.entered ≡ mid_rows
       → on_the_way s2.had.near.items s2.had.later.items s2.had.entered ≡ mid_had
-      → Settles below meet s.base near s2.base s2.rows.near.items
-      → later ≡ s.rows.later.items → s2.rows.later.items ≡ later → s2.rows.entered ≡ entered
+      → s2.rows.later.items ≡ later
       → s2.had.later.items ≡ s.had.later.items
-      → ((t : T) → IsTrue (below t time) → as_of below t near ≡ as_of below t (on_the_way near later entered))
+      → ((t : T) → IsTrue (below t time) → as_of below t s2.rows.near.items ≡ as_of below t (on_the_way s2.rows.near.items s2.rows.later.items s2.rows.entered))
       → ((t : T) → IsTrue (below t time) → as_of below t s2.had.near.items ≡ as_of below t (on_the_way s2.had.near.items s2.had.later.items s2.had.entered))
       → IsLed below cmp time todo rows given s2
-  led time meet behind todo rows given near later mid_rows mid_had entered s s2 p here low kept before bm bl a b r ha moved l1 l2 en hl ri hi = record {
+  led time meet behind todo rows given near later mid_rows mid_had entered s s2 p here low kept before bm bl moved l1 en a b r ha l2 hl ri hi = record {
     sweeps = record {
       rows_ascend = rw (l2, l1) p.rows_ascend;
       had_ascend = rw hl p.had_ascend;
-      rows_stand = rw (l2, en) (record { sums = λ t i row. whole t i row; among = λ q h. passes q h });
+      rows_stand = record { sums = λ t i row. whole t i row; among = λ q h. passes q h };
       had_stand =
           subst (StandsOn below (from_last s2.last todo) given) (sym ha)
           (stands_then below (from_last s2.last todo) given had mid_had
@@ -126,39 +127,39 @@ module _ {T : Type 0} {below : T → T → Bool} {cmp : T → T → Ordering} (o
       last = kept_fact (IsEvaluation below given) s2.last s.last kept p.last;
     };
     before = before;
-    rows_in = λ row.
-        moved.sums time (low time here) row
-        ∙ (base_same below time s.base near (on_the_way near later entered) row (ap (λ z. count_of z row) (ri time (o.reflexive time)))
-        ∙ first time here row);
+    rows_in = λ row. base_same below time s2.base s2.rows.near.items way2 row (ap (λ z. count_of z row) (ri time (o.reflexive time))) ∙ whole time here row;
     had_in = hi;
   }
     where
-      way : List (Update T)
-      way = on_the_way s.rows.near.items s.rows.later.items s.rows.entered
-
       had : List (Update T)
       had = on_the_way s.had.near.items s.had.later.items s.had.entered
 
+      way2 : List (Update T)
+      way2 = on_the_way s2.rows.near.items s2.rows.later.items s2.rows.entered
+
       rest : List (Update T)
-      rest = drop entered later
+      rest = drop s.rows.entered s.rows.later.items
 
-      first : (t : T) → Member t todo → (row : List ℤ) → count_of (s.base ++ as_of below t (on_the_way near later entered)) row ≡ count_of (as_of below t rows) row
-      first t i row =
-          ap (λ z. count_of (s.base ++ as_of below t z) row) r
-          ∙ (base_same below t s.base mid_rows way row (a.sums t (low t i) row) ∙ p.rows_stand.sums t i row)
+      stands : StandsFrom below meet (near ++ rest) mid_rows
+      stands = subst (λ z. StandsFrom below meet z mid_rows) (ap (λ ls. near ++ drop entered ls) l1 ∙ ap (λ n. near ++ drop n s.rows.later.items) en) a
 
-      whole : (t : T) → Member t todo → (row : List ℤ) → count_of (s2.base ++ as_of below t (s2.rows.near.items ++ rest)) row ≡ count_of (as_of below t rows) row
-      whole t i row =
-          base_sum below t s2.base s2.rows.near.items rest row
+      settled : (t : T) → Member t todo → (row : List ℤ) → count_of (s2.base ++ as_of below t (near ++ rest)) row ≡ count_of (as_of below t rows) row
+      settled t i row =
+          base_sum below t s2.base near rest row
           ∙ (ap (λ z. z +ℤ sum_at below t rest row) (moved.sums t (low t i) row)
-          ∙ (sym (base_sum below t s.base near rest row) ∙ first t i row))
+          ∙ (sym (base_sum below t s.base s.rows.near.items rest row) ∙ p.rows_stand.sums t i row))
 
-      passes : (q : List ℤ → Bool) → IsTrue (list_all (λ u. q u.row) rows) → IsTrue (list_all (λ e. q e.row) s2.base) × IsTrue (list_all (λ u. q u.row) (s2.rows.near.items ++ rest))
+      whole : (t : T) → Member t todo → (row : List ℤ) → count_of (s2.base ++ as_of below t way2) row ≡ count_of (as_of below t rows) row
+      whole t i row =
+          ap (λ z. count_of (s2.base ++ as_of below t z) row) r
+          ∙ (base_same below t s2.base mid_rows (near ++ rest) row (stands.sums t (low t i) row) ∙ settled t i row)
+
+      passes : (q : List ℤ → Bool) → IsTrue (list_all (λ u. q u.row) rows) → IsTrue (list_all (λ e. q e.row) s2.base) × IsTrue (list_all (λ u. q u.row) way2)
       passes q h =
           let x = p.rows_stand.among q h in
-          let y = append_rows q near rest (subst (λ z. IsTrue (list_all (λ u. q u.row) z)) (sym r) (a.among q x.1)) in
+          let y = append_rows q s.rows.near.items rest x.1 in
           let z = moved.among q x.0 y.0 in
-          (z.0, rows_append q s2.rows.near.items rest z.1 y.1)
+          (z.0, subst (λ v. IsTrue (list_all (λ u. q u.row) v)) (sym r) (stands.among q (rows_append q near rest z.1 y.1)))
 
   -- a time that stays
   pub skipped : (time : T) (rest : List T) (rows given : List (Update T)) (s s2 : Sweep T) → IsSweep below cmp (time ∷ rest) rows given s → s2.last ≡ None → s2.base ≡ s.base → s2.rows ≡ s.rows → s2.had ≡ s.had
