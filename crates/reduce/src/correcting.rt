@@ -44,20 +44,18 @@ pub(crate) fn correct<T: Lattice>(
         (λ correction. (reduce : List ℤ → List Entry → List Entry) (content rows : List (Update T))
         → rows ≡ filter (of_key (length key.now) key.now) content
         → IsAnswer T.below reduce key.now rows evaluation.time evaluation.answer
-        → Corrects T.below (length key.now) reduce content given.now key.now
-        evaluation.time correction.given.items) }
+        → Corrects T.below (length key.now) reduce content given.now key.now evaluation.time
+        correction.given.items) }
     ensures nonzero { IfOk result
         (λ correction. AllByRecursion (λ u. u.diff ≢ pos 0) correction.given.items) }
     ensures evaluation { IfOk result (λ correction.
-        IsEvaluation T.below (given.now ++ correction.given.items)
-        correction.evaluation) }
+        IsEvaluation T.below (given.now ++ correction.given.items) correction.evaluation) }
     ensures time { IfOk result (λ correction. correction.evaluation.time ≡ evaluation.time) }
     ensures refused { IfErr result (IsMemoryOrOverflow
         ((reduce : List ℤ → List Entry → List Entry) (content rows : List (Update T))
         → rows ≡ filter (of_key (length key.now) key.now) content
         → IsAnswer T.below reduce key.now rows evaluation.time evaluation.answer
-        → IsTooMuch T.below (length key.now) reduce content given.now key.now
-        evaluation.time)) }
+        → IsTooMuch T.below (length key.now) reduce content given.now key.now evaluation.time)) }
 {
     let draft = draft_of(alloc, evaluation.time, &evaluation.answer, given, last)?;
     let given = consolidate(draft)?;

@@ -296,10 +296,8 @@ fn whole_draft<T: Lattice>(
     want: &Bag,
     given: &[Update<T>],
 ) -> Result<Vec<Update<T>>, Refusal>
-    ensures draft { IfOk result
-        (λ draft. IsDraft T.below time want.now given.now draft.items) }
-    ensures refused { IfErr result
-        (IsMemoryOrOverflow (2 ^ 63 ≤ size given.now)) }
+    ensures draft { IfOk result (λ draft. IsDraft T.below time want.now given.now draft.items) }
+    ensures refused { IfErr result (IsMemoryOrOverflow (2 ^ 63 ≤ size given.now)) }
 {
     let mut draft = Vec::new(alloc);
     put_rest(&mut draft, time, want, 0)?;
@@ -316,12 +314,9 @@ fn draft_since<T: Lattice>(
     last: &Evaluation<T>,
 ) -> Result<Vec<Update<T>>, Refusal>
     requires earlier { IsTrue (T.below last.now.time time) }
-    requires answer { Alike last.now.answer
-        (as_of T.below last.now.time given.now) }
-    ensures draft { IfOk result
-        (λ draft. IsDraft T.below time want.now given.now draft.items) }
-    ensures refused { IfErr result
-        (IsMemoryOrOverflow (2 ^ 63 ≤ size given.now)) }
+    requires answer { Alike last.now.answer (as_of T.below last.now.time given.now) }
+    ensures draft { IfOk result (λ draft. IsDraft T.below time want.now given.now draft.items) }
+    ensures refused { IfErr result (IsMemoryOrOverflow (2 ^ 63 ≤ size given.now)) }
 {
     let mut draft = Vec::new(alloc);
     put_change(&mut draft, time, want, &last.answer)?;
@@ -346,13 +341,11 @@ pub(crate) fn draft_of<T: Lattice>(
 ) -> Result<Vec<Update<T>>, Refusal>
     requires { IfSome last.now
         (λ last. Alike last.answer (as_of T.below last.time given.now)) }
-    ensures draft { IfOk result
-        (λ draft. IsDraft T.below time want.now given.now draft.items) }
-    ensures refused { IfErr result
-        (IsMemoryOrOverflow (2 ^ 63 ≤ size given.now)) }
+    ensures draft { IfOk result (λ draft. IsDraft T.below time want.now given.now draft.items) }
+    ensures refused { IfErr result (IsMemoryOrOverflow (2 ^ 63 ≤ size given.now)) }
 {
     match last {
-        Some(last) if last.time.less_equal(&time) => { draft_since(alloc, time, want, given, last) }
+        Some(last) if last.time.less_equal(&time) => draft_since(alloc, time, want, given, last),
         _ => whole_draft(alloc, time, want, given),
     }
 }

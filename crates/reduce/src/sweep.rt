@@ -2,11 +2,11 @@
 //! others stay pending. The order extends the partial one, so at each correction all that was given up to that time is
 //! there, and no time that is still pending is at or before it. That is why one pass is enough.
 //!
-//! The key's rows and what was given of it are replayed beside the sweep, in order of time, and what no later time tells
-//! apart is folded. So a correction looks at what may differ from the time before, and not at the whole history. The
-//! invariant (`IsSweep` in `specs/Sweeps.antt`): at each time to do, and at that of the last evaluation, both replays sum to what
-//! the whole lists sum to. The last evaluation is kept only if its time is at or before the next one; its time is then one
-//! of those that updates may not be moved past.
+//! The key's rows and what was given of it are replayed beside the sweep, in order of time, and what no later time
+//! tells apart is folded. So a correction looks at what may differ from the time before, and not at the whole history.
+//! The invariant (`IsSweep` in `specs/Sweeps.antt`): at each time to do, and at that of the last evaluation, both
+//! replays sum to what the whole lists sum to. The last evaluation is kept only if its time is at or before the next
+//! one; its time is then one of those that updates may not be moved past.
 //!
 //! Nothing of the key's history is changed here. What is given is gathered aside.
 ghost use Rattle.std.specs.Prelude.{ℕ, ◌<◌, ◌+◌, get_or, ◌≡◌, ◌≢◌, ◌⊎◌, ◌≤◌, ◌++◌, ◌∷◌, drop, None, false, IfOk, IfErr, IfSome, OnOk, IsTrue, List, length, pos};

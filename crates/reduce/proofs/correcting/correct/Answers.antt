@@ -16,12 +16,11 @@ returns-in_err-given-clause-refused g c =
     let key = c.args.key.now in
     let k = length key in
     let given = c.args.given.now in
-    let own = c.requires.given in
     passed_on c.from_residual-in_err-given.result c.in_err-given.field-0.0 _ c.from_residual-in_err-given.ensures.1
     (inr (
       c.in_err-given.ensures.only,
       λ reduce content rows is answer.
-          too_far g.met.T.PartialOrder.order k key c.args.evaluation.time reduce content given rows c.args.evaluation.answer own c.in_ok-draft.draft.items c.in_ok-draft.ensures.draft
+          too_far g.met.T.PartialOrder.order k key c.args.evaluation.time reduce content given rows c.args.evaluation.answer c.requires.given c.in_ok-draft.draft.items c.in_ok-draft.ensures.draft
           is answer c.requires.keyed (c.in_err-given.ensures.overflow.0 refl),
     ))
 
@@ -30,8 +29,7 @@ returns-clause-corrects g c reduce content rows is answer =
     let key = c.args.key.now in
     let k = length key in
     let given = c.args.given.now in
-    let own = c.requires.given in
-    corrects g.met.T.PartialOrder.order k key c.args.evaluation.time reduce content given rows c.args.evaluation.answer own c.in_ok-draft.draft.items c.in_ok-draft.ensures.draft
+    corrects g.met.T.PartialOrder.order k key c.args.evaluation.time reduce content given rows c.args.evaluation.answer c.requires.given c.in_ok-draft.draft.items c.in_ok-draft.ensures.draft
     g.met.T.Ord.total c.in_ok-given.given.items c.in_ok-given.ensures.consolidated c.in_ok-given.ensures.among c.in_ok-given.ensures.sums
     is answer c.requires.keyed
 
@@ -40,6 +38,5 @@ returns-clause-evaluation g c =
     let key = c.args.key.now in
     let k = length key in
     let given = c.args.given.now in
-    let own = c.requires.given in
-    wanted_there g.met.T.PartialOrder.order k key c.args.evaluation.time (λ _ entries. entries) given given given c.args.evaluation.answer own c.in_ok-draft.draft.items c.in_ok-draft.ensures.draft
+    wanted_there g.met.T.PartialOrder.order k key c.args.evaluation.time (λ _ entries. entries) given given given c.args.evaluation.answer c.requires.given c.in_ok-draft.draft.items c.in_ok-draft.ensures.draft
     g.met.T.Ord.total c.in_ok-given.given.items c.in_ok-given.ensures.consolidated c.in_ok-given.ensures.among c.in_ok-given.ensures.sums
