@@ -138,10 +138,6 @@ module _ {T : Type 0} (cs : List (ChangeState T)) (out : List (Update T)) (old :
     pub behind : all_taken_back (take i cs) hs ≡ old
     pub size : length hs ≡ length old
 
-  -- nothing is appended yet
-  pub giving_none : AreCut cs out → IsGiving 0 out old
-  giving_none cut = record { cut = cut; ahead = refl; behind = refl; size = refl }
-
   -- one more change has its updates appended
   pub giving_more : (i : ℕ) (left : List (Update T)) (hs : List (HistoryState T)) (c : ChangeState T) → i < length cs → c ≡ get_or cs i c → IsGiving i left hs
       → (own others : List (Update T)) (hs2 : List (HistoryState T)) → own ≡ take c.many left → others ≡ drop c.many left → hs2 ≡ changed_at c.place (given_more own) hs → IsGiving (i + 1) others hs2
@@ -164,12 +160,6 @@ module _ {T : Type 0} (cs : List (ChangeState T)) (out : List (Update T)) (old :
     where
       taken_length : (us : List (Update T)) (n : ℕ) → n ≤ length us → length (take n us) ≡ n
       taken_length us n l = length-take n us ∙ omega (arith, l)
-
-  -- all are appended
-  pub giving_all : (i : ℕ) (left : List (Update T)) (hs : List (HistoryState T)) → i ≡ length cs → IsGiving i left hs → hs ≡ all_given cs out old
-  giving_all i left hs e g =
-      let none : drop i cs ≡ [] = ap (λ n. drop n cs) e ∙ all_dropped cs in
-      sym (ap (λ z. all_given z left hs) none) ∙ g.ahead
 
 -- one more is taken back, from behind
 pub taking_back : {T : Type 0} (cs : List (ChangeState T)) (i : ℕ) (c : ChangeState T) (hs hs2 : List (HistoryState T)) → i < length cs → c ≡ get_or cs i c → hs2 ≡ changed_at c.place (given_less c.many) hs

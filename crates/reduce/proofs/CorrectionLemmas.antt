@@ -128,9 +128,6 @@ module _ {T : Type 0} (below : T → T → Bool) (k : ℕ) (key : List ℤ) wher
       step false e true f h = rw e h
       step false e false f h = h
 
-  pub had-append : (t : T) (xs ys : List (Update T)) → had below k key t (xs ++ ys) ≡ had below k key t xs ++ had below k key t ys
-  had-append t xs ys = ap (filter (has_key k key)) (as_of-append below t xs ys) ∙ filter-append (has_key k key) (as_of below t xs) (as_of below t ys)
-
   -- of a row of the key, what was given
   pub count-had : (t : T) (us : List (Update T)) (row : List ℤ) → same_row (take k row) key ≡ true → count_of (had below k key t us) row ≡ count_of (as_of below t us) row
   count-had t us row d = count_of-filter (λ r. same_row (take k r) key) (as_of below t us) row ∙ ap (λ b. cond b (count_of (as_of below t us) row) (pos 0)) d

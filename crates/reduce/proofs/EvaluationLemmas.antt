@@ -91,13 +91,3 @@ module _ {T : Type 0} {below : T → T → Bool} (o : PartialOrderLaws below) wh
       step true f false ih = rw f (ap (λ z. entry u ∷ z) ih)
       step true f true ih = ih
       step false f x ih = ih
-
-  module _ (a t : T) (h : below a t ≡ true) (us : List (Update T)) (rows : List Entry) (same : Alike rows (as_of below a us)) where
-    -- the rows at the earlier time with what came in between
-    pub rows_since : Alike (rows ++ map entry (between below a t us)) (as_of below t us)
-    rows_since row =
-        count_of-append rows (map entry (between below a t us)) row
-        ∙ (ap (λ z. z +ℤ count_of (map entry (between below a t us)) row) (same row) ∙ sym (sum_splits a t h us row))
-
-    pub large_since : HasLargeCount (rows ++ map entry (between below a t us)) → HasLargeCount (as_of below t us)
-    large_since l = (l.0, λ f. l.1 (subst (FitsSigned w64) (sym (rows_since l.0)) f))

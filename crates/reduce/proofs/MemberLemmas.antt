@@ -116,21 +116,12 @@ module _ {X : Type 0} where
     (λ m. member_from_contains xs x (from x (contains_from_member ys x m))),
   )
 
-  -- an element may stand first or last
-  pub same_pushed : (x : X) (xs : List X) → SameMembers (x ∷ xs) (xs ++ x ∷ [])
-  same_pushed x xs y = through (exchanged (y ≡ x) (Member y xs)) (back (pushed_members y x xs))
-
   -- the members of two lists, one after the other
   pub append_members : (x : X) (xs ys : List X) → Member x (xs ++ ys) ↔ (Member x xs ⊎ Member x ys)
   append_members x xs ys = (
     in_either x xs ys,
     (λ m. ⊎_elim (λ k. in_left x xs ys k) (λ k. in_right x xs ys k) m),
   )
-
-  -- lists with the same members still have the same when they are followed by a third
-  pub same_append : (xs ys zs : List X) → SameMembers xs ys → SameMembers (xs ++ zs) (ys ++ zs)
-  same_append xs ys zs same x =
-      through (append_members x xs zs) (through (in_each (same x) itself) (back (append_members x ys zs)))
 
 module _ {X Y : Type 0} (f : X → Y) where
   -- the image of a member is a member of the images

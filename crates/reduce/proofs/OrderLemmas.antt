@@ -23,12 +23,6 @@ equal_from_eq eq {cmp} ties exact x y e = exact x y (step (cmp x y) (sym (ties x
     step Equal h = refl
     step Greater h = absurd (true≢false (sym h))
 
--- if the last time of a list ties with another, then the list has the other already
-pub last_again : {T : Type 0} (eq : T → T → Bool) {cmp : T → T → Ordering} → ((x y : T) → eq x y ≡ is_eq (cmp x y)) → ((x y : T) → cmp x y ≡ Equal → x ≡ y) → (ts : List T) (last t : T) → 0 < length ts → last ≡ get_or ts (length ts - 1) last → true ≡ eq last t → (s : T) → Member s ts ↔ (Member s ts ⊎ (s ≡ t))
-last_again eq ties exact ts last t l e same s =
-    let tied = equal_from_eq eq ties exact last t (sym same) in
-    ((λ m. inl m), (λ m. ⊎_elim (λ k. k) (λ d. subst (λ r. Member r ts) (tied ∙ sym d) (member_last ts last l e)) m))
-
 module _ {T : Type 0} (P : T → Type 0) where
   both : (xs ys : List T) → AllByRecursion P xs → AllByRecursion P ys → AllByRecursion P (xs ++ ys)
   both [] ys a b = b

@@ -9,8 +9,8 @@
 //! each time at or after `since`, the folded updates sum to what the first `count` of those given sum to. Who asks for an
 //! earlier time reads the whole list.
 //!
-//! A past is kept only if it is at most half as long as what it stands for. So it never takes more memory than it spares
-//! time, and to make it anew costs n log n in what was given since, in all.
+//! A past is kept only if it is at most half as long as what it stands for, so it takes at most half as much memory again.
+//! It is made anew once more was given since than it has. So all folds of a key together cost n log n in what was given.
 ghost use Rattle.std.specs.Prelude.{◌≡◌, ◌≤◌, ◌++◌, List, [], IfOk, IfErr, OnOk, length, take, drop};
 ghost use Rattle.update.specs.declared.change.Update.{Update};
 ghost use Rattle.update.specs.declared.refusal.Refusal.{Refusal};

@@ -251,11 +251,11 @@ impl<T: Lattice, R: Reducer> ReduceState<T, R> {
     /// - [`Refusal::OutOfMemory`] only if memory was refused.
     ///
     /// Cost: a comparison with the frontier for each pending time. For each key of which some time is due two binary
-    /// searches in each batch and a copy of its rows; if four or more of its times are pending, a copy of what was given of
-    /// it too, and a sort of both. For each due time a look at those rows and answers that not all times to come see, each
-    /// once for all that these times do not tell apart, a search in the key's rows for each, and the reducer's own cost. So
-    /// times of one revision cost n log n. What is given is copied once, into the histories of its keys; what was given
-    /// before stays where it is. No other key is read.
+    /// searches in each batch, a copy and a sort of its rows, and a copy of what was given of it, as the times after the
+    /// frontier of the last call see it: a correction does not pay for the corrections before it. For each due time a look
+    /// at those rows and answers that not all times to come see, each once for all that these times do not tell apart, a
+    /// search in the key's rows for each, and the reducer's own cost. So times of one revision cost n log n. What is given is
+    /// copied once, into the histories of its keys; what was given before stays where it is. No other key is read.
     pub fn ready<S: Trace<Time = T>>(
         &mut self,
         alloc: Global,

@@ -249,10 +249,10 @@ fn first_of<T: Lattice>(times: &[T]) -> T
 /// - [`Refusal::Overflow`] only if what the key is owed is too large.
 /// - [`Refusal::OutOfMemory`] only if memory was refused.
 ///
-/// Cost: a copy of the key's rows and of what was given of it, a sort of the rows, and one of those updates that come after
-/// the first pending time. For each pending time one comparison with the frontier. For each one that has passed, that of
-/// [`answer_at`] and [`correct`] with the replayed updates: those that not all times to come see, each once for all that
-/// these times do not tell apart.
+/// Cost: a copy of the key's rows and of what was given of it, as the first pending time and those after it see it; a sort of
+/// the rows, and one of those updates that come after the first pending time. For each pending time one comparison with the
+/// frontier. For each one that has passed, that of [`answer_at`] and [`correct`] with the replayed updates: those that not
+/// all times to come see, each once for all that these times do not tell apart.
 pub(crate) fn sweep_key<T: Lattice, R: Reducer>(
     alloc: Global,
     reducer: &R,
