@@ -4,7 +4,6 @@ use Rattle.std.specs.Prelude.{IsTrue, FitsSigned, unsigned_abs, slice_get, IsSom
 use Rattle.std.specs.List.{filter, list_all}
 use Rattle.std.proofs.lemmas.Int.{ints}
 use Rattle.std.proofs.lemmas.Bool.{and_parts, and_from, true≢false}
-use Rattle.std.proofs.lemmas.List.Elements.{filter-append}
 use Rattle.std.proofs.lemmas.List.Recursion.{is_sum_by}
 use Rattle.std.proofs.Math.Dec.{ltb}
 use borrow.Author.Tests.{ltb-false}
@@ -20,7 +19,6 @@ use Rattle.plan.proofs.CountLemmas.{row_same, count_of-append, count_of-filter, 
 use Rattle.update.proofs.TotalLemmas.{fits_zero}
 use Rattle.reduce.specs.Joined.{of_key}
 use Rattle.reduce.specs.Corrections.{IsTooLarge, put, had}
-use Rattle.reduce.proofs.JoinedLemmas.{as_of-append}
 
 -- ---- sizes
 

@@ -1,15 +1,14 @@
 -- From the sum at one time to the sum at a later one.
-use Rattle.std.proofs.Common.{◌≡◌, ◌≤◌, ◌^◌, Bool, true, false, cond, ◌&&◌, not, List, [], ◌∷◌, ◌++◌, map, sym, refl, ap, ◌∙◌, subst, arith, w64}
-use Rattle.std.specs.Prelude.{FitsSigned, unsigned_abs}
+use Rattle.std.proofs.Common.{◌≡◌, ◌≤◌, ◌^◌, Bool, true, false, cond, ◌&&◌, not, List, [], ◌∷◌, map, sym, refl, ap, ◌∙◌, subst, arith}
+use Rattle.std.specs.Prelude.{unsigned_abs}
 use Rattle.std.specs.List.{filter}
 use Rattle.std.proofs.lemmas.Int.{ints}
 use Rattle.std.proofs.lemmas.Bool.{true≢false}
 use Rattle.std.proofs.Math.IntN.{ℤ, pos, ◌+ℤ◌}
 use Rattle.lattice.specs.Order.{PartialOrderLaws}
-use Rattle.update.specs.Bags.{Entry, Alike, HasLargeCount, count_of, same_row}
+use Rattle.update.specs.Bags.{Entry, Alike, count_of, same_row}
 use Rattle.update.specs.Updates.{entry, as_of, size}
 use Rattle.update.specs.declared.change.Update.{Update}
-use Rattle.plan.proofs.CountLemmas.{count_of-append}
 use Rattle.reduce.specs.Evaluations.{HasGreatCount, between}
 use Rattle.reduce.proofs.CorrectionLemmas.{count_small, entry_weight, weight, weight_is}
 

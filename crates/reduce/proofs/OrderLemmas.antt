@@ -12,7 +12,7 @@ use Rattle.std.proofs.lemmas.List.{append-nil, drop_more, take_rest}
 use Rattle.std.proofs.lemmas.Map.Keys.{sorted_head, sorted_tail}
 use Rattle.reduce.specs.Joined.{Member}
 use Rattle.reduce.specs.Adding.{IsMerging}
-use Rattle.reduce.proofs.MemberLemmas.{in_left, in_right, in_either, member_last, pushed_members, itself, through, in_each, exchanged}
+use Rattle.reduce.proofs.MemberLemmas.{in_left, in_right, in_either, pushed_members, itself, through, in_each, exchanged}
 
 -- times that compare as equal are equal
 pub equal_from_eq : {T : Type 0} (eq : T → T → Bool) {cmp : T → T → Ordering} → ((x y : T) → eq x y ≡ is_eq (cmp x y)) → ((x y : T) → cmp x y ≡ Equal → x ≡ y) → (x y : T) → eq x y ≡ true → x ≡ y

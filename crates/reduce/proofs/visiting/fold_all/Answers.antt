@@ -1,6 +1,4 @@
-use Rattle.std.proofs.Common.{get_or, refl, ◌∙◌}
-use Rattle.reduce.proofs.MemberLemmas.{member_at}
-use Rattle.reduce.proofs.VisitLemmas.{item_is}
+use Rattle.std.proofs.Common.{refl, ◌∙◌}
 use Rattle.reduce.proofs.visiting.fold_all.Goals as goal
 
 pub loop-place-init : goal.loop-place-init

@@ -1,4 +1,4 @@
-use Rattle.std.proofs.Common.{◌≡◌, ◌++◌, ◌∙◌, List, drop, ap, sym}
+use Rattle.std.proofs.Common.{◌++◌, ◌∙◌, drop, ap, sym}
 use Rattle.reduce.specs.Histories.{HistoryState}
 use Rattle.reduce.proofs.PastLemmas.{from_later, past_stands}
 use Rattle.reduce.proofs.SweepLemmas.{slice_whole}

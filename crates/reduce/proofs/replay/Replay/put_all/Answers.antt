@@ -1,5 +1,4 @@
-use Rattle.std.proofs.Common.{◌≡◌, ◌+◌, ◌++◌, ◌∷◌, [], ◌∙◌, List, take, subst, sym, ap, append_assoc}
-use Rattle.update.specs.declared.change.Update.{Update}
+use Rattle.std.proofs.Common.{◌≡◌, ◌+◌, ◌++◌, ◌∷◌, [], ◌∙◌, take, subst, ap, append_assoc}
 use Rattle.reduce.specs.Replays.{StandsEver}
 use Rattle.reduce.proofs.ReplayLemmas.{ever_more, more_taken}
 use Rattle.reduce.proofs.replay.Replay.put_all.Goals as goal
