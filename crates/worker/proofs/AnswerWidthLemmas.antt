@@ -21,7 +21,8 @@ use Rattle.plan.proofs.ReducerLemmas.{all_reduce}
 use Rattle.plan.proofs.ReductionLemmas.{by_key_at}
 use Rattle.plan.proofs.OperatorLemmas.{given_alike}
 use Rattle.reduce.specs.Kinds.{kind_answer, kind_reduces}
-use Rattle.worker.specs.Reductions.{HasRoom, have_width}
+use Rattle.worker.specs.Reductions.{HasRoom, have_width, state_key}
+use Rattle.worker.proofs.DistinctLemmas.{by_state_key, state_has_room}
 
 -- a key that a plan allows has at most 8 columns
 pub few : (kind : Kind) (key width : ℕ) → HasRoom kind key width → key ≤ 8
@@ -33,7 +34,7 @@ few Max key width h = let a : width ≤ 8 = h.room in let b : key ≤ width = h.
 -- ---- the answers of a plan
 
 -- where a count has room, the reducers answer what the plan's reductions answer
-pub same_answers : (kind : Kind) (k width : ℕ) → HasRoom kind k width → (es : List Entry) → Alike (reduction_output k (kind_answer kind) es) (reduction_output k (reduction_answer kind) es)
+same_answers : (kind : Kind) (k width : ℕ) → HasRoom kind k width → (es : List Entry) → Alike (reduction_output k (kind_answer kind) es) (reduction_output k (reduction_answer kind) es)
 same_answers Count k width room es row =
     by_key_at k (kind_answer Count) (kind_reduces Count k) es row
     ∙ (ap (λ b. cond (nat_le k (length row)) (count_of (cond b (reduction_answer Count (take k row) (filter (has_key k (take k row)) es)) []) row) (pos 0)) short
@@ -51,6 +52,14 @@ same_answers Max k width room es row = refl
 -- alike rows get alike answers
 pub alike_answers : (kind : Kind) (k : ℕ) (a b : List Entry) → Alike a b → Alike (reduction_output k (reduction_answer kind) a) (reduction_output k (reduction_answer kind) b)
 alike_answers kind k a b h = given_alike k (Reduce kind 0) (λ port. a) (λ port. b) (λ port e. h)
+
+-- for rows of one width the reducers answer by the key of the state what the plan's reduction answers
+pub plan_answers : (kind : Kind) (k key width : ℕ) → k ≡ state_key kind key width → HasRoom kind key width → (es : List Entry) → list_all (λ (e : Entry). eqb (length e.row) width) es ≡ true
+    → Alike (reduction_output k (kind_answer kind) es) (reduction_output key (reduction_answer kind) es)
+plan_answers kind k key width goes room es wide row =
+    ap (λ k. count_of (reduction_output k (kind_answer kind) es) row) goes
+    ∙ (same_answers kind (state_key kind key width) width (state_has_room kind key width room) es row
+    ∙ by_state_key kind key width es room.within wide row)
 
 -- ---- widths
 

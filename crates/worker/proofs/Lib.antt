@@ -20,6 +20,7 @@ pub mod HoldLemmas
 pub mod TurnLemmas
 pub mod JoinSideLemmas
 pub mod JoinAnswerLemmas
+pub mod DistinctLemmas
 pub mod AnswerWidthLemmas
 pub mod ReductionLemmas
 pub mod AbsorbLemmas

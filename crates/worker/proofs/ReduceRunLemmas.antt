@@ -142,8 +142,8 @@ module _ {T : Type 0} (below : T → T → Bool) (joined : T → T → T) (minim
     same_kind : s.state.reducer ≡ r.state.reducer
     same_kind = ap (λ (z : ReducingView T). z.state.reducer) kept
 
-    same_key : s.state.key ≡ r.state.key
-    same_key = ap (λ (z : ReducingView T). z.state.key) kept
+    same_key : s.key ≡ r.key
+    same_key = ap (λ (z : ReducingView T). z.key) kept
 
     same_width : s.width ≡ r.width
     same_width = ap (λ (z : ReducingView T). z.width) kept
@@ -265,8 +265,8 @@ module _ {T : Type 0} (below : T → T → Bool) (joined : T → T → T) (minim
       kind_kept : s.state.reducer ≡ r.state.reducer
       kind_kept = ap (λ (z : ReducingView T). z.state.reducer) kept
 
-      key_kept : s.state.key ≡ r.state.key
-      key_kept = ap (λ (z : ReducingView T). z.state.key) kept
+      key_kept : s.key ≡ r.key
+      key_kept = ap (λ (z : ReducingView T). z.key) kept
 
       width_kept : s.width ≡ r.width
       width_kept = ap (λ (z : ReducingView T). z.width) kept

@@ -108,7 +108,7 @@ module _ {T : Type 0} (below : T → T → Bool) (joined : T → T → T) (minim
           tight = λ h. absurd (h (in_hand_now below o p w number bundle));
         }
 
-    module _ (same_kind : s.state.reducer ≡ r.state.reducer) (same_key : s.state.key ≡ r.state.key) (same_width : s.width ≡ r.width) (reduced : IsReduced below joined s (us ++ received_at w n k 0) (emitted_by n k w.emitted))
+    module _ (same_kind : s.state.reducer ≡ r.state.reducer) (same_key : s.key ≡ r.key) (same_width : s.width ≡ r.width) (reduced : IsReduced below joined s (us ++ received_at w n k 0) (emitted_by n k w.emitted))
         (held : List T) (is_held : IsHeldFor below held (pending_of s)) where
       none_found : IsFound below p taken n k before.upper (pending_of s) before.upper [] (pending_of s)
       none_found = found_none below o p q taken n k before.upper (pending_of s) reducing_now
@@ -154,7 +154,7 @@ module _ {T : Type 0} (below : T → T → Bool) (joined : T → T → T) (minim
   hand_now = record { worker = turn.worker; hand = ap (λ b. cond b (Some n) (w.hand k)) (eq-eqb k k refl) }
 
   module _ (front : List T) (same : (t : T) → is_beyond below front t ≡ is_beyond below (input_frontier below p turned n) t)
-      (s : ReducingView T) (same_kind : s.state.reducer ≡ r.state.reducer) (same_key : s.state.key ≡ r.state.key) (same_width : s.width ≡ r.width)
+      (s : ReducingView T) (same_kind : s.state.reducer ≡ r.state.reducer) (same_key : s.key ≡ r.key) (same_width : s.width ≡ r.width)
       (out : List (Update T)) (reduced : IsReduced below joined s (received_at w n k 0) (out ++ emitted_by n k w.emitted))
       (right : (t : T) → IsTrue (has_passed below (pending_of s) t) → IsAnswerAt below s (received_at w n k 0) (out ++ emitted_by n k w.emitted) t)
       (passed : IsTrue (list_all (λ u. has_passed below front u.time) out)) (left : IsTrue (all_beyond below front (pending_of s)))

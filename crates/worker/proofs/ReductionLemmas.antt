@@ -24,6 +24,7 @@ use Rattle.update.proofs.ConsolidatedLemmas.{summed_size, summed_size_is}
 use Rattle.plan.specs.Changes.{has_passed}
 use Rattle.plan.specs.Operators.{reduction_output}
 use Rattle.plan.specs.Reductions.{has_key, reduction_answer}
+use Rattle.plan.specs.Widths.{reduced_width}
 use Rattle.plan.proofs.CountLemmas.{row_same, row_itself, count_of-filter}
 use Rattle.plan.proofs.ReductionLemmas.{by_key_at}
 use Rattle.machine.specs.Histories.States.{times}
@@ -45,8 +46,9 @@ use Rattle.reduce.proofs.MemberLemmas.{in_left, in_right, in_either, member_from
 use Rattle.reduce.proofs.PermutedLemmas.{stands_permuted}
 use Rattle.reduce.proofs.RowLemmas.{rows_answered}
 use Rattle.worker.specs.Reducing.{IsPendingWith}
-use Rattle.worker.specs.Reductions.{ReducingView, HasRoom, StandIn, AreAmong, SumsToReceived, IsAnswerAt, IsPendingAfter, AreOwedOf, IsOverfullWith, IsReduced, pending_in, pending_of, have_width, output_width}
-use Rattle.worker.proofs.AnswerWidthLemmas.{same_answers, alike_answers, output_wide, sum_wide}
+use Rattle.worker.specs.Reductions.{ReducingView, HasRoom, StandIn, AreAmong, SumsToReceived, IsAnswerAt, IsPendingAfter, AreOwedOf, IsOverfullWith, IsReduced, pending_in, pending_of, have_width, output_width, state_key}
+use Rattle.worker.proofs.DistinctLemmas.{same_output_width}
+use Rattle.worker.proofs.AnswerWidthLemmas.{plan_answers, alike_answers, output_wide, sum_wide}
 
 -- ---- lists
 
@@ -300,12 +302,12 @@ module _ {T : Type 0} {below : T → T → Bool} (o : PartialOrderLaws below) wh
 
 module _ {T : Type 0} {below : T → T → Bool} {joined met : T → T → T} (o : PartialOrderLaws below) (l : LatticeLaws below joined met) where
   -- where nothing is pending, what was given is what the plan's reduction makes of what was received
-  pub answer_at : (r : ReducingView T) (received emitted : List (Update T)) → HasRoom r.state.reducer r.state.key r.width → IsReduced below joined r received emitted
+  pub answer_at : (r : ReducingView T) (received emitted : List (Update T)) → HasRoom r.state.reducer r.key r.width → r.state.key ≡ state_key r.state.reducer r.key r.width → IsReduced below joined r received emitted
       → (t : T) → IsTrue (has_passed below (pending_of r) t) → IsAnswerAt below r received emitted t
-  answer_at r received emitted room w t h row =
+  answer_at r received emitted room goes w t h row =
       settled_law o l r.state.key (kind_answer r.state.reducer) (kind_reduces r.state.reducer r.state.key) r.state.histories w.taken emitted w.stands t (quiet below r.state.histories t h) row
-      ∙ (same_answers r.state.reducer r.state.key r.width room (as_of below t w.taken) row
-      ∙ alike_answers r.state.reducer r.state.key (as_of below t w.taken) (as_of below t received) (w.same.sums t) row)
+      ∙ (plan_answers r.state.reducer r.state.key r.key r.width goes room (as_of below t w.taken) (sum_wide below t r.width w.taken (w.same.among (λ row s. eqb (length row) r.width) w.wide)) row
+      ∙ alike_answers r.state.reducer r.key (as_of below t w.taken) (as_of below t received) (w.same.sums t) row)
 
   -- ---- taking
 
@@ -419,13 +421,13 @@ sums_taken below since frontier inserted received taken h same t s f row = h t (
 
 module _ {T : Type 0} {below : T → T → Bool} {joined met : T → T → T} {cmp : T → T → Ordering} (o : PartialOrderLaws below) (l : LatticeLaws below joined met) (total : IsTotalOrder cmp) where
   pub gave : (r : ReducingView T) (received emitted out : List (Update T)) (frontier : List T) (hs : List (HistoryState T)) (waiting : List ℕ) (looked : ℕ)
-      → (w : IsReduced below joined r received emitted)
+      → r.state.key ≡ state_key r.state.reducer r.key r.width → (w : IsReduced below joined r received emitted)
       → StandsFor below joined r.state.key (kind_answer r.state.reducer) hs w.taken (emitted ++ out)
       → AreApart below (emitted ++ out) → IsOpenTo below r.state.key (emitted ++ out) hs
       → ((t : T) → IsTrue (has_passed below frontier t) → IsQuietAt below hs t)
       → AreApart below out → AllByRecursion (λ u. u.diff ≢ pos 0) out → IsTrue (list_all (λ u. has_passed below frontier u.time) out)
       → IsReduced below joined (record r { state = record r.state { histories = hs; waiting = waiting; looked = looked } }) received (out ++ emitted)
-  gave r received emitted out frontier hs waiting looked w st apart ahead calm once nonzero passed = record {
+  gave r received emitted out frontier hs waiting looked goes w st apart ahead calm once nonzero passed = record {
     taken = w.taken;
     same = w.same;
     stands = stands_permuted o l r.state.key (kind_answer r.state.reducer) (kind_reduces r.state.reducer r.state.key) hs w.taken w.taken (emitted ++ out) (out ++ emitted) (IsPermutation-refl w.taken) (IsPermutation-append_comm emitted out) st;
@@ -435,10 +437,16 @@ module _ {T : Type 0} {below : T → T → Bool} {joined met : T → T → T} {c
     answered = list_all-append (λ (u : Update T). eqb (length u.row) (output_width r)) out emitted ∙ and_from (have_width (output_width r) out) (have_width (output_width r) emitted) rows w.answered;
   }
     where
+      -- the answers of the state have the width of the answers of the plan
+      same_width : reduced_width r.state.reducer r.state.key r.width ≡ output_width r
+      same_width = ap (λ k. reduced_width r.state.reducer k r.width) goes ∙ same_output_width r.state.reducer r.key r.width
+
       rows : IsTrue (have_width (output_width r) out)
       rows =
           rows_answered o l total r.state.key (kind_answer r.state.reducer) (kind_reduces r.state.reducer r.state.key) (λ row. eqb (length row) (output_width r)) frontier hs w.taken emitted out st calm once nonzero passed w.answered
-          (λ t h. output_wide r.state.reducer r.state.key r.width (as_of below t w.taken) (sum_wide below t r.width w.taken (w.same.among (λ row s. eqb (length row) r.width) w.wide)))
+          (λ t h.
+          subst (λ n. list_all (λ (e : Entry). eqb (length e.row) n) (reduction_output r.state.key (kind_answer r.state.reducer) (as_of below t w.taken)) ≡ true) same_width
+          (output_wide r.state.reducer r.state.key r.width (as_of below t w.taken) (sum_wide below t r.width w.taken (w.same.among (λ row s. eqb (length row) r.width) w.wide))))
 
 -- ---- what is owed
 
@@ -455,7 +463,7 @@ wider k a b e w = step (nat_le k (length b)) refl
         let same : length (take k a) ≡ length (take k b) = ap length e in
         absurd (omega (arith, n, m, same, short))
 
-module _ {T : Type 0} (below : T → T → Bool) (r : ReducingView T) (room : HasRoom r.state.reducer r.state.key r.width) where
+module _ {T : Type 0} (below : T → T → Bool) (r : ReducingView T) (room : HasRoom r.state.reducer r.key r.width) (goes : r.state.key ≡ state_key r.state.reducer r.key r.width) where
   abbrev key_width : ℕ
   key_width = r.state.key
 
@@ -488,28 +496,28 @@ module _ {T : Type 0} (below : T → T → Bool) (r : ReducingView T) (room : Ha
       step true e = refl
       step false e = sym (ap (λ z. count_of (answer (take key_width row) z) row) (narrow t row taken wide e) ∙ (kind_reduces r.state.reducer key_width).nothing (take key_width row) row)
 
-  pub owed : (received taken : List (Update T)) (frontier : List T) (key : List ℤ) (us : List (Update T)) → StandIn below taken received → IsTrue (are_wide key_width taken)
+  pub owed : (received taken : List (Update T)) (frontier : List T) (key : List ℤ) (us : List (Update T)) → StandIn below taken received → IsTrue (are_wide key_width taken) → IsTrue (have_width r.width taken)
       → IsOwed below key_width answer taken key frontier us → AreOwedOf below r received frontier key us
-  owed received taken frontier key us same wide z = record {
+  owed received taken frontier key us same wide own z = record {
     apart = z.apart;
     passed = z.passed;
     sums = λ u c t b row.
         step u c t b row (same_row (take key_width row) key) refl
-        ∙ sym (count_of-filter (λ row. same_row (take key_width row) key) (reduction_output key_width (reduction_answer r.state.reducer) (as_of below t received)) row);
+        ∙ sym (count_of-filter (λ row. same_row (take key_width row) key) (reduction_output r.key (reduction_answer r.state.reducer) (as_of below t received)) row);
   }
     where
       step : (u : Update T) → Contains us u → (t : T) → IsTrue (below t u.time) → (row : List ℤ) (b : Bool) → same_row (take key_width row) key ≡ b
-          → count_of (as_of below t us) row ≡ cond (same_row (take key_width row) key) (count_of (reduction_output key_width (reduction_answer r.state.reducer) (as_of below t received)) row) (pos 0)
+          → count_of (as_of below t us) row ≡ cond (same_row (take key_width row) key) (count_of (reduction_output r.key (reduction_answer r.state.reducer) (as_of below t received)) row) (pos 0)
       step u c t b row true e =
           z.sums u (member_from_contains us u c) t b row e
           ∙ (ap (λ y. count_of (answer y (filter (has_key key_width y) (as_of below t taken))) row) (sym (row_same (take key_width row) key e))
           ∙ (of_its_key t row taken wide
-          ∙ (same_answers r.state.reducer key_width r.width room (as_of below t taken) row
-          ∙ (alike_answers r.state.reducer key_width (as_of below t taken) (as_of below t received) (same.sums t) row
-          ∙ ap (λ y. cond y (count_of (reduction_output key_width (reduction_answer r.state.reducer) (as_of below t received)) row) (pos 0)) (sym e)))))
+          ∙ (plan_answers r.state.reducer key_width r.key r.width goes room (as_of below t taken) (sum_wide below t r.width taken own) row
+          ∙ (alike_answers r.state.reducer r.key (as_of below t taken) (as_of below t received) (same.sums t) row
+          ∙ ap (λ y. cond y (count_of (reduction_output r.key (reduction_answer r.state.reducer) (as_of below t received)) row) (pos 0)) (sym e)))))
       step u c t b row false e =
           absent_row (λ row. same_row (take key_width row) key) (as_of below t us) row (keyed us z.keyed) e
-          ∙ ap (λ y. cond y (count_of (reduction_output key_width (reduction_answer r.state.reducer) (as_of below t received)) row) (pos 0)) (sym e)
+          ∙ ap (λ y. cond y (count_of (reduction_output r.key (reduction_answer r.state.reducer) (as_of below t received)) row) (pos 0)) (sym e)
         where
           keyed : (us : List (Update T)) → IsTrue (list_all (of_key key_width key) us) → IsTrue (list_all (λ (e : Entry). same_row (take key_width e.row) key) (as_of below t us))
           keyed [] h = refl
@@ -522,7 +530,7 @@ module _ {T : Type 0} (below : T → T → Bool) (r : ReducingView T) (room : Ha
               more true e h = and_from (same_row (take key_width v.row) key) (list_all (λ (e : Entry). same_row (take key_width e.row) key) (as_of below t us)) e h
               more false e h = h
 
-  pub overfull : (received taken : List (Update T)) (frontier : List T) → StandIn below taken received → IsTrue (are_wide key_width taken)
+  pub overfull : (received taken : List (Update T)) (frontier : List T) → StandIn below taken received → IsTrue (are_wide key_width taken) → IsTrue (have_width r.width taken)
       → IsOverfull below key_width answer taken frontier → IsOverfullWith below r received frontier
-  overfull received taken frontier same wide (inl big) = let m = same.smaller in inl (omega (arith, big, m))
-  overfull received taken frontier same wide (inr z) = inr (z.0, z.1, owed received taken frontier z.0 z.1 same wide z.2, z.3)
+  overfull received taken frontier same wide own (inl big) = let m = same.smaller in inl (omega (arith, big, m))
+  overfull received taken frontier same wide own (inr z) = inr (z.0, z.1, owed received taken frontier z.0 z.1 same wide own z.2, z.3)

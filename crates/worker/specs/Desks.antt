@@ -79,7 +79,7 @@ module _ {T : Type 0} (below : T → T → Bool) (joined : T → T → T) (minim
   -- the reduction has received and given what the worker did at the node, which reads node s
   pub record IsReducedAt (n : ℕ) (kind : Kind) (s : ℕ) (r : ReducingView T) : Type 0 where
     pub kind_is : r.state.reducer ≡ kind
-    pub key : r.state.key ≡ key_width p.nodes (node_of p n)
+    pub key : r.key ≡ key_width p.nodes (node_of p n)
     pub width : r.width ≡ width_of p.nodes s
     pub reduced : IsReduced below joined r (received_at w n k 0) (emitted_by n k w.emitted)
     pub upper : List T

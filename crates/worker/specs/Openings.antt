@@ -27,7 +27,7 @@ module _ {T : Type 0} (below : T → T → Bool) (joined : T → T → T) (minim
   -- a reduction of node n, which reads the source, that has received nothing
   pub record IsFirstReduction (n : ℕ) (kind : Kind) (source : ℕ) (r : ReducingView T) : Type 0 where
     pub kind_is : r.state.reducer ≡ kind
-    pub key : r.state.key ≡ key_width p (node_at p n)
+    pub key : r.key ≡ key_width p (node_at p n)
     pub width : r.width ≡ width_of p source
     pub reduced : IsReduced below joined r [] []
     pub nothing_pending : pending_of r ≡ []

@@ -10,15 +10,26 @@ use Rattle.plan.specs.Operators.{reduction_output}
 use Rattle.plan.specs.Reductions.{reduction_answer}
 use Rattle.plan.specs.Widths.{reduced_width}
 use Rattle.plan.specs.declared.node.Kind.{Kind}
+use Rattle.plan.specs.declared.node.Kind.TheVariants.{Count, Distinct, Min, Max}
 use Rattle.machine.specs.Histories.States.{times}
 use Rattle.reduce.specs.Histories.{HistoryState, ReduceView}
 use Rattle.reduce.specs.Kinds.{kind_answer}
 use Rattle.reduce.specs.Reductions.{StandsFor, IsOpenTo}
 
--- a reduction of a plan's kind, and the number of columns of the rows that it takes
+-- a reduction of a plan's kind: its state, the number of columns by which the plan reduces, and the number of columns of
+-- the rows that it takes. The state goes by `state.key` columns, which for a distinct are all columns
 pub record ReducingView (T : Type 0) : Type 0 where
   pub state : ReduceView T Kind
+  pub key : ℕ
   pub width : ℕ
+
+-- the number of columns by which the state goes, from the number by which the plan reduces and the width of the rows: a
+-- distinct goes by whole rows, every other reduction as the plan says
+abbrev pub state_key : Kind → ℕ → ℕ → ℕ
+state_key Count key width = key
+state_key Distinct key width = width
+state_key Min key width = key
+state_key Max key width = key
 
 module _ {T : Type 0} where
   -- the pending times of all keys
@@ -34,7 +45,7 @@ module _ {T : Type 0} where
 
   -- the number of columns of the rows that the reduction gives
   abbrev pub output_width : ReducingView T → ℕ
-  output_width r = reduced_width r.state.reducer r.state.key r.width
+  output_width r = reduced_width r.state.reducer r.key r.width
 
   -- a test that the rows and times of vs pass is passed by those of us
   abbrev pub AreAmong : List (Update T) → List (Update T) → Type 0
@@ -67,7 +78,7 @@ module _ {T : Type 0} (below : T → T → Bool) where
   abbrev pub IsAnswerAt : ReducingView T → List (Update T) → List (Update T) → T → Type 0
   IsAnswerAt r received emitted t =
       Alike (as_of below t emitted)
-      (reduction_output r.state.key (reduction_answer r.state.reducer) (as_of below t received))
+      (reduction_output r.key (reduction_answer r.state.reducer) (as_of below t received))
 
   -- with these updates these times are pending: nothing of what was pending comes before, where none of them has come the
   -- updates sum to nothing, and nothing else is pending
@@ -77,15 +88,16 @@ module _ {T : Type 0} (below : T → T → Bool) where
     pub beyond : (frontier : List T) → IsTrue (all_beyond below frontier pending)
         → IsTrue (all_beyond below frontier (times us)) → IsTrue (all_beyond below frontier more)
 
-  -- updates of the rows of one key up to some step of a computation, each row at most once at each time, and each at a
-  -- time that the frontier has passed: at or before each of their times they sum to what is to be given of the key
+  -- updates of the rows of one key of the state up to some step of a computation, each row at most once at each time, and
+  -- each at a time that the frontier has passed: at or before each of their times they sum to what is to be given of the
+  -- key
   pub record AreOwedOf (r : ReducingView T) (received : List (Update T)) (frontier : List T) (key : List ℤ)
       (us : List (Update T)) : Type 0 where
     pub apart : AreApart below us
     pub passed : IsTrue (list_all (λ u. has_passed below frontier u.time) us)
     pub sums : (u : Update T) → Contains us u → (t : T) → IsTrue (below t u.time)
         → Alike (as_of below t us) (filter (λ e. same_row (take r.state.key e.row) key)
-        (reduction_output r.state.key (reduction_answer r.state.reducer) (as_of below t received)))
+        (reduction_output r.key (reduction_answer r.state.reducer) (as_of below t received)))
 
   -- what was received, or what is owed of some key, is of a size that no 64-bit number says
   abbrev pub IsOverfullWith : ReducingView T → List (Update T) → List T → Type 0

@@ -7,6 +7,10 @@
 //!
 //! The invariant: no pending time comes before the least time. So wherever a time is due, a trace whose since is the
 //! least time can be read.
+//!
+//! A distinct goes by whole rows, whatever the plan's key is: of each row it answers from the count of that row alone. So a
+//! correction looks at one row, and not at all rows of a key. It costs a history for each row in place of one for each
+//! key. What is given is the same.
 ghost use Rattle.std.specs.Prelude.{◌≡◌, ◌≢◌, ◌≤◌, ◌^◌, ◌++◌, ◌∷◌, [], List, Bool, ℤ, pos, IfErr, IfOk, OnErr, OnOk, IsTrue};
 ghost use Rattle.std.specs.List.{AllByRecursion, list_all};
 ghost use Rattle.lattice.specs.Frontiers.{is_beyond, all_beyond};
@@ -18,7 +22,7 @@ ghost use Rattle.machine.specs.Histories.States.{times};
 ghost use Rattle.trace.specs.Readings.{Insertion, all_updates};
 ghost use Rattle.spine.specs.Spines.{Stands};
 ghost use Rattle.worker.specs.Reducing.{IsPendingWith};
-ghost use Rattle.worker.specs.Reductions.{HasRoom, StandIn, SumsToReceived, IsAnswerAt, IsPendingAfter, IsOverfullWith, IsReduced, pending_of, have_width, output_width};
+ghost use Rattle.worker.specs.Reductions.{HasRoom, StandIn, SumsToReceived, IsAnswerAt, IsPendingAfter, IsOverfullWith, IsReduced, pending_of, have_width, output_width, state_key};
 
 use crate::front::put_in_all;
 use antichain::Antichain;
@@ -31,25 +35,37 @@ use std::alloc::Global;
 use std::marker::Model;
 use update::{Refusal, Update};
 
-/// A reduction at one worker. A contract sees the state of the reduction, and how many columns the rows have that it
-/// takes.
+/// A reduction at one worker. A contract sees the state of the reduction, by how many columns the plan reduces, and how
+/// many columns the rows have that it takes.
 #[derive(Drop)]
 pub struct Reducing<T: Minimum> {
     state: ReduceState<T, Kind>,
+    key: usize,
     width: usize,
 }
 
 impl<T: Minimum> Model for Reducing<T> {
-    ghost use Rattle.std.specs.Prelude.{◌∷◌, [], IsTrue};
+    ghost use Rattle.std.specs.Prelude.{◌≡◌, ◌∷◌, [], IsTrue};
     ghost use Rattle.lattice.specs.Frontiers.{all_beyond};
-    ghost use Rattle.worker.specs.Reductions.{ReducingView, HasRoom, pending_in};
+    ghost use Rattle.worker.specs.Reductions.{ReducingView, HasRoom, pending_in, state_key};
 
     ghost Value = { ReducingView T };
 
-    ghost view = { λ r. record { state = r.state; width = r.width } };
+    ghost view = { λ r. record { state = r.state; key = r.key; width = r.width } };
 
-    ghost invariant = { λ r. HasRoom r.state.reducer r.state.key r.width
+    ghost invariant = { λ r. HasRoom r.state.reducer r.key r.width
+        × (r.state.key ≡ state_key r.state.reducer r.key r.width)
         × IsTrue (all_beyond T.below (T.least ∷ []) (pending_in r.state.histories)) };
+}
+
+// By how many columns the state of a reduction goes whose plan reduces by `key` columns: a distinct by all columns.
+fn columns_of(kind: Kind, key: usize, width: usize) -> usize
+    ensures { result ≡ state_key kind key width }
+{
+    match kind {
+        Kind::Distinct => width,
+        Kind::Count | Kind::Min | Kind::Max => key,
+    }
 }
 
 // A batch that stands in for the updates.
@@ -70,17 +86,20 @@ fn sealed<T: Minimum>(
 }
 
 impl<T: Minimum> Reducing<T> {
-    /// A reduction of rows of `width` columns by their first `key` columns, which has received nothing. Takes no memory.
+    /// A reduction of rows of `width` columns by their first `key` columns, which has received nothing. Its state goes by
+    /// these columns, for a distinct by all columns: there each row is a matter of its own. Takes no memory.
     pub fn new(alloc: Global, key: usize, kind: Kind, width: usize) -> Reducing<T>
         requires { HasRoom kind key width }
-        ensures key { result.state.key ≡ key }
+        ensures key { result.key ≡ key }
+        ensures state { result.state.key ≡ state_key kind key width }
         ensures kind { result.state.reducer ≡ kind }
         ensures width { result.width ≡ width }
         ensures stands { IsReduced T.below T.joined result [] [] }
         ensures pending { pending_of result ≡ [] }
     {
         Reducing {
-            state: ReduceState::new(alloc, key, kind),
+            state: ReduceState::new(alloc, columns_of(kind, key, width), kind),
+            key,
             width,
         }
     }
@@ -88,7 +107,7 @@ impl<T: Minimum> Reducing<T> {
     /// The number of columns of the rows that it takes. Takes no memory.
     pub fn width(&self) -> usize
         ensures value { result ≡ self.now.width }
-        ensures room { HasRoom self.now.state.reducer self.now.state.key self.now.width }
+        ensures room { HasRoom self.now.state.reducer self.now.key self.now.width }
     {
         self.width
     }
