@@ -9,7 +9,7 @@ use Rattle.lattice.specs.Frontiers.{is_beyond, all_beyond}
 use Rattle.antichain.proofs.Lists.{all_at, all_from}
 use Rattle.update.specs.declared.change.Update.{Update}
 use Rattle.plan.specs.Changes.{has_passed}
-use Rattle.plan.specs.Nodes.{is_input, is_linear}
+use Rattle.plan.specs.Nodes.{is_linear}
 use Rattle.plan.specs.declared.node.Node.TheVariants.{Arrange}
 use Rattle.plan.specs.Widths.{width_of}
 use Rattle.linear.specs.Applied.{linear_output}
@@ -21,7 +21,7 @@ use Rattle.machine.specs.declared.histories.event.Bundle.{Bundle}
 use Rattle.machine.specs.declared.histories.event.Event.{Event}
 use Rattle.machine.specs.declared.histories.event.Event.TheVariants.{Take, Give}
 use Rattle.machine.specs.Histories.Dataflows.{Dataflow, IsDataflow, node_of}
-use Rattle.machine.specs.Histories.States.{State, times, place, queue, held_at}
+use Rattle.machine.specs.Histories.States.{State, times, held_at}
 use Rattle.machine.specs.Histories.Promises.{NeverGoesBack}
 use Rattle.machine.specs.Histories.Outstanding.{input_frontier}
 use Rattle.machine.specs.Histories.{initial_state, state_after, next_state, IsLegal, IsGive}
@@ -30,16 +30,14 @@ use Rattle.worker.specs.declared.doing.Doing.{Doing}
 use Rattle.worker.specs.Gathering.{IsHeldFor, IsStamped}
 use Rattle.worker.specs.Passes.{IsAtNode}
 use Rattle.worker.specs.Arrangements.{ArrangementState, rows_have, times_from}
-use Rattle.worker.specs.Between.{DoClientsLead, IsLeftBy}
 use Rattle.worker.specs.Desks.{DeskState, IsDesk, with_arrangement}
 use Rattle.worker.specs.Found.{dataflow_of}
-use Rattle.worker.specs.Relays.{HasNone, HasTaken, IsReadyAt, IsRunning, IsSameActor, IsSettledTo}
-use Rattle.worker.specs.Tenures.{Terms, IsActor, events, found_last, state_found, state_left}
-use Rattle.worker.proofs.BetweenLemmas.{found_legal, ready_found, ready_left, none_found, none_left}
+use Rattle.worker.specs.Relays.{HasNone, HasTaken, IsReadyAt, IsSettledTo}
+use Rattle.worker.specs.Tenures.{IsActor, events, found_last, state_found, state_left}
+use Rattle.worker.proofs.BetweenLemmas.{found_legal}
 use Rattle.worker.proofs.FirstLemmas.{first_due, first_stamped}
 use Rattle.worker.proofs.GatheringLemmas.{no_emission}
 use Rattle.worker.proofs.ArrangingLemmas.{first_passed, taken_beyond}
-use Rattle.worker.proofs.NodeLemmas.{ready_next}
 use Rattle.worker.proofs.PassLemmas.{IsDue, at_taken, at_given}
 use Rattle.worker.proofs.SendLemmas.{widened}
 use Rattle.worker.proofs.SettledLemmas.{settled_taken, settled_given, settled_next}

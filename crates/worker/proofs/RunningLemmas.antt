@@ -7,7 +7,7 @@ use Rattle.lattice.specs.Order.{PartialOrderLaws}
 use Rattle.update.specs.declared.refusal.Refusal.{Refusal}
 use Rattle.plan.specs.Nodes.{is_input}
 use Rattle.hub.specs.Known.{Known}
-use Rattle.machine.specs.Histories.Dataflows.{Dataflow, node_of}
+use Rattle.machine.specs.Histories.Dataflows.{node_of}
 use Rattle.machine.specs.declared.histories.event.Event.TheVariants.{Give}
 use Rattle.machine.specs.Histories.States.{State, place, queue}
 use Rattle.machine.specs.Histories.{next_state}
