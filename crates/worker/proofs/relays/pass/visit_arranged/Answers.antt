@@ -1,10 +1,26 @@
-use Rattle.std.proofs.Common.{Some, set, ap, ◌∙◌, suc, rules}
+use Rattle.std.proofs.Common.{length, arith, Some, set, ap, ◌∙◌, suc, rules}
+use Rattle.std.proofs.lemmas.Option.{slice_get_within}
 use Rattle.worker.specs.Desks.{DeskState, with_arrangement}
 use Rattle.worker.specs.Found.{dataflow_of}
 use Rattle.worker.specs.Tenures.{state_left}
 use Rattle.worker.proofs.VisitLemmas.{arrangement_there, entry_at, entry_some, seen_runs, seen_same, seen_settled, seen_stops}
 use Rattle.worker.proofs.relays.pass.visit_arranged.Goals.{in-Some, in-None}
 use Rattle.worker.proofs.relays.pass.visit_arranged.Goals as goal
+
+pub index_mut-requires : goal.index_mut-requires
+index_mut-requires g c =
+    let a = arrangement_there g.T.PartialOrder.below g.T.Lattice.joined g.T.Minimum.least (dataflow_of c.args.worker.now) (state_left g.T.PartialOrder.below g.T.Minimum.least c.args.worker.now) c.args.desk.now c.requires.running.ready.desk c.args.node c.requires.arrange.0 c.requires.arrange.1 c.requires.within c.requires.arrange.2 in
+    let l = slice_get_within c.args.desk.now.arrangements c.args.node (Some a.0) a.1 in
+    let same = ap length (ap (λ (z : DeskState _). z.arrangements) c.desk.view_is) in
+    omega (arith, l, same, c.desk.inside.arrangements.ok.0, c.number.ensures)
+
+-- the frontier of the least time stays
+pub invariant_of-desk : goal.invariant_of-desk
+invariant_of-desk g c =
+    elim c.match-index_mut.branch [
+      | in-Some w ↦ (λ i. (w.desk-inside-is i).start) ∙ c.desk.invariant
+      | in-None w ↦ (λ i. (w.desk-inside-is i).start) ∙ c.desk.invariant
+    ]
 
 pub relay_arranged-requires : goal.relay_arranged-requires
 relay_arranged-requires g c =

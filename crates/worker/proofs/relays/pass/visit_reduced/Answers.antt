@@ -19,6 +19,14 @@ index_mut-requires g c =
     let same = ap length (ap (λ (z : DeskState _). z.reductions) c.desk.view_is) in
     omega (arith, l, same, c.desk.inside.reductions.ok.0, c.number.ensures)
 
+-- the frontier of the least time stays
+pub invariant_of-desk : goal.invariant_of-desk
+invariant_of-desk g c =
+    elim c.match-index_mut.branch [
+      | in-Some w ↦ (λ i. (w.desk-inside-is i).start) ∙ c.desk.invariant
+      | in-None w ↦ (λ i. (w.desk-inside-is i).start) ∙ c.desk.invariant
+    ]
+
 pub relay_reduced-requires : goal.relay_reduced-requires
 relay_reduced-requires g c =
     let a = reduction_there g.T.PartialOrder.below g.T.Lattice.joined g.T.Minimum.least (dataflow_of c.args.worker.now) (state_left g.T.PartialOrder.below g.T.Minimum.least c.args.worker.now) c.args.desk.now c.requires.running.ready.desk c.args.node c.requires.reduce.0 c.args.source c.requires.within c.requires.reduce.1 in
