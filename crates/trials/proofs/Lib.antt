@@ -1,2 +1,2 @@
 -- Lemmas of tests.
-pub mod ReadyLemmas
+pub mod PrefixLemmas

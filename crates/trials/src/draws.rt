@@ -1,6 +1,6 @@
 //! Numbers that look drawn, and changes that are made of them. They are the same in each run, so a test that fails once
 //! fails again.
-ghost use Rattle.std.specs.Prelude.{◌<◌};
+ghost use Rattle.std.specs.Prelude.{◌≡◌, ◌<◌, IfOk};
 
 use lattice::Bitime;
 use row::Row;
@@ -9,18 +9,18 @@ use update::{Refusal, Update};
 
 /// Numbers that look drawn, the same ones in each run.
 #[derive(Drop)]
-pub(crate) struct Draws {
+pub struct Draws {
     state: u64,
 }
 
 impl Draws {
     /// The numbers that follow this one.
-    pub(crate) fn new(state: u64) -> Draws {
+    pub fn new(state: u64) -> Draws {
         Draws { state }
     }
 
     /// The next number below `n`.
-    pub(crate) fn below(&mut self, n: u64) -> u64
+    pub fn below(&mut self, n: u64) -> u64
         requires { 0 < n }
         ensures { result < n }
     {
@@ -33,11 +33,9 @@ impl Draws {
 
     /// A change at this time. Keys and rows are few, so that many changes are of the same ones, and some rows go more
     /// often than they came.
-    pub(crate) fn change(
-        &mut self,
-        alloc: Global,
-        time: Bitime,
-    ) -> Result<Update<Bitime>, Refusal> {
+    pub fn change(&mut self, alloc: Global, time: Bitime) -> Result<Update<Bitime>, Refusal>
+        ensures { IfOk result (λ update. update.time ≡ time) }
+    {
         let row = Row::new(alloc, &[self.below(4) as i64, self.below(3) as i64])?;
         let diff = if self.below(3) == 0 { -1 } else { 1 };
         Ok(Update { time, row, diff })

@@ -6,53 +6,43 @@
 //! there is memory (the tests with `memory` in their names, which `./refusals` runs); and small worked examples
 //! of what no command file reaches yet. The expected answers were worked out by hand.
 //!
-//! No other crate has tests, but for `engine_trials`, which is made like this one and has those of the hub and
-//! all that stands on it. The merge gate proves a crate with tests twice, with and without them, and most
-//! proofs of a large crate do not depend on its tests. Here they are proved once, over finished libraries.
-//! Tests are proved like all other code, and some take half a minute of processor time, so there are few.
+//! All tests stand in crates of their own, whose names end in `trials`. The merge gate proves a crate with tests
+//! twice, with and without them, and most proofs of a large crate do not depend on its tests. Here they are
+//! proved once, over finished libraries. Tests are proved like all other code, and some take half a minute of
+//! processor time, so there are few. They are cut along the layers that they test. So these crates are proved
+//! side by side, and a change of one layer proves anew only the tests of what stands on it:
 //!
-//! This crate exports one function, [`at`], with which all tests write times. The code under test is in the
-//! crates below, and so are its must-fail edits.
+//! | Crate | Has the tests of |
+//! |---|---|
+//! | `trials` | lattice, row, antichain, update, plan, linear |
+//! | `oracle_trials` | oracle |
+//! | `machine_trials` | machine, grammar |
+//! | `batch_trials` | batch, trace |
+//! | `spine_trials` | spine |
+//! | `join_trials` | join |
+//! | `reduce_trials` | reduce |
+//! | `engine_trials` | hub, worker, script |
+//!
+//! This crate is the lowest of them, and exports what tests of several crates are written with: [`at`], with
+//! which all tests write times; the [`sketches`] of nodes, plans and changes; and [`Draws`]. The code under test
+//! is in the crates below, and so are its must-fail edits.
 #![tactic(auto)]
 
 #[cfg(test)]
 mod antichain_tests;
-#[cfg(test)]
-mod batch_tests;
-#[cfg(test)]
-mod difference_tests;
-#[cfg(test)]
 mod draws;
-#[cfg(test)]
-mod grammar_tests;
-#[cfg(test)]
-mod join_tests;
 #[cfg(test)]
 mod lattice_tests;
 #[cfg(test)]
 mod linear_tests;
 #[cfg(test)]
-mod machine_tests;
-#[cfg(test)]
-mod oracle_tests;
-#[cfg(test)]
 mod plan_tests;
 #[cfg(test)]
-mod reduce_refusals;
-#[cfg(test)]
-mod reduce_rounds;
-#[cfg(test)]
-mod reduce_tests;
-#[cfg(test)]
 mod row_tests;
-#[cfg(test)]
-mod sketches;
-#[cfg(test)]
-mod spine_tests;
+pub mod sketches;
 mod times;
-#[cfg(test)]
-mod trace_tests;
 #[cfg(test)]
 mod update_tests;
 
+pub use draws::Draws;
 pub use times::at;

@@ -1,0 +1,170 @@
+//! Batches: sealing and merging succeed if there is memory, a refused seal loses nothing, and the updates are in the
+//! right order.
+use crate::batches::sealed;
+use antichain::Antichain;
+use batch::{Batch, BatchReader, Builder, merge};
+use lattice::Bitime;
+use std::alloc::Global;
+use std::process::Abort;
+use std::test::Fail;
+use trials::sketches::{at, list};
+use update::{Refusal, Update};
+
+// Checks that the batch has these updates, in this order.
+fn assert_reads<B: BatchReader<Time = Bitime>>(
+    rt: &impl Abort,
+    batch: &B,
+    want: &[Update<Bitime>],
+) {
+    assert_eq!(rt; batch.len(), want.len());
+    for (i, update) in want.iter().enumerate() {
+        assert!(rt; i < batch.len());
+        assert!(rt; batch.time(i) == update.time && batch.diff(i) == update.diff);
+        assert_eq!(rt; batch.row(i).columns(), update.row.columns());
+    }
+}
+
+// The order is by row and then by time, unlike in a consolidated list. A row comes before a longer row that
+// begins with it.
+#[test]
+fn batches_are_in_order_of_rows(rt: HostRuntime) -> Result<(), Fail> {
+    let given = list(
+        rt.alloc(),
+        &[
+            ((2, 0), &[7, 0], 4),
+            ((5, 0), &[7], 2),
+            ((0, 5), &[7], 3),
+            ((0, 5), &[7], 1),
+        ],
+    )?;
+    let want = list(
+        rt.alloc(),
+        &[((0, 5), &[7], 4), ((5, 0), &[7], 2), ((2, 0), &[7, 0], 4)],
+    )?;
+    let batch = sealed(rt.alloc(), (0, 0), (6, 6), &given)?;
+    assert_reads(&rt, &batch, &want);
+    Ok(())
+}
+
+// Two neighbouring batches with interleaved rows, merged.
+fn merged(alloc: Global) -> Result<Batch<Bitime>, Refusal> {
+    let first = list(alloc, &[((0, 3), &[7], 1), ((3, 9), &[8], 2)])?;
+    let second = list(alloc, &[((4, 4), &[6], 1), ((4, 9), &[7], -3)])?;
+    let first = sealed(alloc, (0, 0), (4, 4), &first)?;
+    let second = sealed(alloc, (4, 4), (8, 8), &second)?;
+    let since = Antichain::from_elem(alloc, at((2, 0)));
+    merge(&first, &second, since.elements())
+}
+
+#[test]
+fn merging_takes_memory(rt: HostRuntime) -> Result<(), Fail> {
+    let both = match merged(rt.alloc()) {
+        Err(Refusal::OutOfMemory) => merged(rt.alloc())?,
+        done => done?,
+    };
+    assert_eq!(rt; both.len(), 4);
+    Ok(())
+}
+
+// An update and its retraction cancel out.
+#[test]
+fn what_takes_itself_back_is_gone(rt: HostRuntime) -> Result<(), Fail> {
+    let pushed = list(
+        rt.alloc(),
+        &[((0, 3), &[7], 1), ((3, 0), &[7], 1), ((0, 3), &[7], -1)],
+    )?;
+    let batch = sealed(rt.alloc(), (0, 0), (4, 4), &pushed)?;
+    assert_reads(&rt, &batch, &list(rt.alloc(), &[((3, 0), &[7], 1)])?);
+    Ok(())
+}
+
+// (3, 9) is inside: it is not before (0, 0), and not at or after (4, 4). But (4, 4) is outside. A batch whose
+// total does not fit in 64 bits is refused too.
+#[test]
+fn strays_and_large_totals_are_refused(rt: HostRuntime) -> Result<(), Fail> {
+    let inside = list(rt.alloc(), &[((3, 9), &[7], 1)])?;
+    assert!(rt; sealed(rt.alloc(), (0, 0), (4, 4), &inside).is_ok());
+    let outside = list(rt.alloc(), &[((4, 4), &[7], 1)])?;
+    let refused = sealed(rt.alloc(), (0, 0), (4, 4), &outside);
+    assert!(rt; matches!(refused, Err(Refusal::Stray)));
+    let large = list(
+        rt.alloc(),
+        &[((0, 0), &[7], 9223372036854775807), ((0, 0), &[7], 1)],
+    )?;
+    let refused = sealed(rt.alloc(), (0, 0), (4, 4), &large);
+    assert!(rt; matches!(refused, Err(Refusal::Overflow)));
+    Ok(())
+}
+
+// The two batches leave a gap from (4, 4) to (4, 5), in which something may have happened.
+#[test]
+fn batches_with_a_gap_are_not_merged(rt: HostRuntime) -> Result<(), Fail> {
+    let first = sealed(rt.alloc(), (0, 0), (4, 4), &[])?;
+    let second = sealed(rt.alloc(), (4, 5), (9, 9), &[])?;
+    let since = Antichain::from_elem(rt.alloc(), at((0, 0)));
+    assert!(rt;
+        matches!(
+            merge(&first, &second, since.elements()),
+            Err(Refusal::Stray)
+        )
+    );
+    Ok(())
+}
+
+// A builder with two updates, of which the frontier {(4, 4)} has passed the first.
+fn two_pushed(alloc: Global) -> Result<Builder<Bitime>, Refusal> {
+    let pushed = list(alloc, &[((0, 3), &[7], 1), ((5, 5), &[8], 2)])?;
+    Ok(Builder::of(0, 0, pushed))
+}
+
+// Seals what the frontier has passed, and once more if memory was refused: the first call has lost nothing.
+fn sealed_passed(
+    builder: &mut Builder<Bitime>,
+    lower: &Antichain<Bitime>,
+    upper: &Antichain<Bitime>,
+) -> Result<Batch<Bitime>, Refusal> {
+    match builder.seal_passed(lower, upper) {
+        Err(Refusal::OutOfMemory) => builder.seal_passed(lower, upper),
+        done => done,
+    }
+}
+
+// The second update waits until everything is passed.
+#[test]
+fn sealing_what_is_passed_takes_memory(rt: HostRuntime) -> Result<(), Fail> {
+    let mut builder = match two_pushed(rt.alloc()) {
+        Err(Refusal::OutOfMemory) => two_pushed(rt.alloc())?,
+        done => done?,
+    };
+    let lower = Antichain::from_elem(rt.alloc(), at((0, 0)));
+    let upper = Antichain::from_elem(rt.alloc(), at((4, 4)));
+    let first = sealed_passed(&mut builder, &lower, &upper)?;
+    assert_eq!(rt; first.len(), 1);
+    assert!(rt; first.diff(0) == 1);
+    let rest = sealed_passed(&mut builder, &upper, &Antichain::new(rt.alloc()))?;
+    assert_eq!(rt; rest.len(), 1);
+    assert!(rt; rest.diff(0) == 2);
+    Ok(())
+}
+
+// Of four rows two begin with the key 7, and none begins with the key 8.
+#[test]
+fn readers_go_on_from_where_they_stand(rt: HostRuntime) -> Result<(), Fail> {
+    let pushed = list(
+        rt.alloc(),
+        &[
+            ((0, 0), &[6], 1),
+            ((0, 0), &[7], 1),
+            ((0, 0), &[7, 0], 1),
+            ((0, 0), &[9], 1),
+        ],
+    )?;
+    let batch = sealed(rt.alloc(), (0, 0), (1, 1), &pushed)?;
+    assert_eq!(rt; batch.len(), 4);
+    let start = batch.seek(0, &[7]);
+    let end = batch.seek_past(start, &[7]);
+    assert!(rt; start == 1 && end == 3);
+    assert_eq!(rt; batch.seek(end, &[8]), 3);
+    assert!(rt; batch.compare_key(3, &[8]).is_gt());
+    Ok(())
+}

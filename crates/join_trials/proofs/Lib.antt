@@ -1,0 +1,2 @@
+-- Lemmas of tests of joins.
+pub mod ReadyLemmas

@@ -1,0 +1,54 @@
+-- What a test of each batch, one after the other, says of the updates of all of them; and what a join asks, from such tests.
+use Rattle.std.proofs.Common.{◌≡◌, ℕ, zero, suc, ◌+◌, ◌≤◌, Bool, true, ℤ, List, [], ◌∷◌, ◌&&◌, take, drop, length, slice_get, IsTrue, IsSomeAnd, refl, sym, ◌∙◌, ap, arith, length-drop}
+use Rattle.std.specs.Prelude.{nat_le}
+use Rattle.std.specs.List.{list_all}
+use Rattle.std.proofs.lemmas.Bool.{and_parts, and_from, leb-true, le-leb}
+use Rattle.std.proofs.lemmas.List.Folds.{list_all-append}
+use Rattle.lattice.specs.Frontiers.{is_beyond}
+use Rattle.lattice.proofs.FrontierLemmas.{all_more}
+use Rattle.update.specs.declared.change.Update.{Update}
+use Rattle.batch.specs.Intervals.{all_times_beyond}
+use Rattle.trace.specs.Readings.{all_content}
+use Rattle.join.specs.Pairs.{is_wide, fits}
+
+module _ {B T : Type 0} (content : B → List (Update T)) (p : Update T → Bool) where
+  -- the updates of one more batch pass
+  pub taken_batch : (bs : List B) (i : ℕ) (b : B) → IsSomeAnd (slice_get bs i) (λ c. b ≡ c) → IsTrue (list_all p (content b)) → IsTrue (list_all p (all_content content (take i bs))) → IsTrue (list_all p (all_content content (take (i + 1) bs)))
+  taken_batch [] i b e t a = absurd e
+  taken_batch (c ∷ bs) zero b e t a = list_all-append p (content c) [] ∙ and_from _ _ (ap (λ d. list_all p (content d)) (sym e) ∙ t) refl
+  taken_batch (c ∷ bs) (suc i) b e t a =
+      let next : suc i + 1 ≡ suc (i + 1) = omega arith in
+      let parts = and_parts _ _ (sym (list_all-append p (content c) (all_content content (take i bs))) ∙ a) in
+      ap (λ n. list_all p (all_content content (take n (c ∷ bs)))) next
+      ∙ list_all-append p (content c) (all_content content (take (i + 1) bs))
+      ∙ and_from _ _ parts.0 (taken_batch bs i b e t parts.1)
+
+module _ {T : Type 0} (below : T → T → Bool) (since : List T) (k : ℕ) where
+  abbrev ready : Update T → Bool
+  ready u = is_beyond below since u.time && (is_wide k u.row && nat_le (length u.row) 4)
+
+  pub ready_later : (us : List (Update T)) → IsTrue (list_all ready us) → IsTrue (all_times_beyond below since us)
+  ready_later us a = all_more ready (λ u. is_beyond below since u.time) (λ u h. (and_parts _ _ h).0) us a
+
+  pub ready_wide : (us : List (Update T)) → IsTrue (list_all ready us) → IsTrue (list_all (λ u. is_wide k u.row) us)
+  ready_wide us a = all_more ready (λ u. is_wide k u.row) (λ u h. (and_parts _ _ (and_parts _ _ h).1).0) us a
+
+  -- rows of at most 4 columns have pairs of at most 8
+  short_fit : (row other : List ℤ) → nat_le (length row) 4 ≡ true → nat_le (length other) 4 ≡ true → nat_le (length row + length (drop k other)) 8 ≡ true
+  short_fit row other a b =
+      let first = leb-true (length row) 4 a in
+      let next = leb-true (length other) 4 b in
+      let rest = length-drop k other in
+      le-leb (length row + length (drop k other)) 8 (omega (arith, first, next, rest))
+
+  pub left_narrow : (us vs : List (Update T)) → IsTrue (list_all ready us) → IsTrue (list_all (λ v. nat_le (length v.row) 4) vs) → IsTrue (list_all (λ u. list_all (λ v. fits k u v) vs) us)
+  left_narrow us vs a b =
+      all_more ready (λ u. list_all (λ v. fits k u v) vs)
+      (λ u h. all_more (λ v. nat_le (length v.row) 4) (λ v. fits k u v) (λ v g. short_fit u.row v.row (and_parts _ _ (and_parts _ _ h).1).1 g) vs b)
+      us a
+
+  pub right_narrow : (us vs : List (Update T)) → IsTrue (list_all ready us) → IsTrue (list_all (λ v. nat_le (length v.row) 4) vs) → IsTrue (list_all (λ u. list_all (λ v. fits k v u) vs) us)
+  right_narrow us vs a b =
+      all_more ready (λ u. list_all (λ v. fits k v u) vs)
+      (λ u h. all_more (λ v. nat_le (length v.row) 4) (λ v. fits k v u) (λ v g. short_fit v.row u.row g (and_parts _ _ (and_parts _ _ h).1).1) vs b)
+      us a

@@ -1,0 +1,125 @@
+//! Boards and routings: their calls succeed if there is memory, and after a refusal once there is.
+use lattice::Bitime;
+use machine::{Board, Bundles, Emission, Routing};
+use plan::NodeId;
+use row::Row;
+use std::alloc::{AllocError, Global};
+use std::process::Abort;
+use std::test::Fail;
+use trials::sketches::{arrange, at, built, input, list, view};
+use update::{Refusal, Times, Update};
+
+// The client's number, which is greater than those of the workers.
+const CLIENT: usize = 7;
+
+// A board for two workers, with one input of one column and a view of it.
+fn opened(alloc: Global) -> Result<Board<Bitime>, Refusal> {
+    Board::open(alloc, built(alloc, &[input(1), view(0)])?, 2)
+}
+
+// Feeds the row 7 at (0, 0). The asserts show that the first node is an input and that the client is not a
+// worker, as `feed` requires.
+fn fed(rt: &impl Abort, alloc: Global, board: &mut Board<Bitime>) -> Result<(), Refusal> {
+    let input = NodeId::new(0);
+    let there = input.number() < board.plan().len();
+    assert!(rt; there);
+    let is_input = board.plan().node(input).is_input();
+    assert!(rt; is_input);
+    let is_client = board.workers() <= CLIENT;
+    assert!(rt; is_client);
+    let update = Update {
+        time: at((0, 0)),
+        row: Row::new(alloc, &[7])?,
+        diff: 1,
+    };
+    board.feed(CLIENT, input, update)
+}
+
+// A frontier of one time.
+fn times(alloc: Global, time: (u64, u64)) -> Result<Times<Bitime>, AllocError> {
+    let mut times = Vec::new(alloc);
+    times.push(at(time))?;
+    Ok(times.into())
+}
+
+// Moves the frontier of the input to (0, 1).
+fn advanced(rt: &impl Abort, alloc: Global, board: &mut Board<Bitime>) -> Result<(), Refusal> {
+    let input = NodeId::new(0);
+    let there = input.number() < board.plan().len();
+    assert!(rt; there);
+    let is_input = board.plan().node(input).is_input();
+    assert!(rt; is_input);
+    let is_client = board.workers() <= CLIENT;
+    assert!(rt; is_client);
+    board.advance(CLIENT, input, times(alloc, (0, 1))?)
+}
+
+// Asks for the view's frontier and changes. If nothing was fed, the frontier has one time and there are no
+// changes.
+fn is_answered(rt: &impl Abort, board: &mut Board<Bitime>) -> Result<bool, Refusal> {
+    let view = NodeId::new(1);
+    let there = view.number() < board.plan().len();
+    assert!(rt; there);
+    let is_view = board.plan().node(view).is_output();
+    assert!(rt; is_view);
+    let frontier = board.frontier(view)?;
+    let changes = board.changes(view)?;
+    Ok(frontier.len() == 1 && changes.is_empty())
+}
+
+#[test]
+fn boards_take_memory(rt: HostRuntime) -> Result<(), Fail> {
+    let alloc = rt.alloc();
+    let mut board = match opened(alloc) {
+        Err(Refusal::OutOfMemory) => opened(alloc)?,
+        done => done?,
+    };
+    match fed(&rt, alloc, &mut board) {
+        Err(Refusal::OutOfMemory) => fed(&rt, alloc, &mut board)?,
+        done => done?,
+    }
+    match advanced(&rt, alloc, &mut board) {
+        Err(Refusal::OutOfMemory) => advanced(&rt, alloc, &mut board)?,
+        done => done?,
+    }
+    assert_eq!(rt; fed(&rt, alloc, &mut board), Err(Refusal::TimePassed));
+    Ok(())
+}
+
+#[test]
+fn answers_take_memory(rt: HostRuntime) -> Result<(), Fail> {
+    let mut board = match opened(rt.alloc()) {
+        Err(Refusal::OutOfMemory) => opened(rt.alloc())?,
+        done => done?,
+    };
+    let answered = match is_answered(&rt, &mut board) {
+        Err(Refusal::OutOfMemory) => is_answered(&rt, &mut board)?,
+        done => done?,
+    };
+    assert!(rt; answered && board.is_quiet());
+    Ok(())
+}
+
+// The rows 7 and 4, given by worker 0 of two at an input, cut for the input's readers. These are an arrange
+// node, which sends each row to a different worker, and a view.
+fn cut(alloc: Global) -> Result<Bundles<Bitime>, Refusal> {
+    let plan = built(alloc, &[input(1), arrange(0, 1), view(0)])?;
+    let routing = Routing::of(alloc, &plan, 2)?;
+    let updates = list(alloc, &[((0, 0), &[7], 1), ((0, 1), &[4], 1)])?;
+    let emission = Emission {
+        node: NodeId::new(0),
+        worker: 0,
+        updates: updates.into(),
+    };
+    routing.cut(alloc, &emission)
+}
+
+#[test]
+fn cuts_take_memory(rt: HostRuntime) -> Result<(), Fail> {
+    let alloc = rt.alloc();
+    let _bundles = match cut(alloc) {
+        Err(Refusal::OutOfMemory) => cut(alloc)?,
+        done => done?,
+    };
+    Ok(())
+}

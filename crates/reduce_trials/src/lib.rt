@@ -1,0 +1,10 @@
+//! Trials of reductions: tests of what no clause says, as crate `trials` has them for the libraries below. The code
+//! under test is in the crates below, and so are its must-fail edits.
+#![tactic(auto)]
+
+#[cfg(test)]
+mod reduce_refusals;
+#[cfg(test)]
+mod reduce_rounds;
+#[cfg(test)]
+mod reduce_tests;

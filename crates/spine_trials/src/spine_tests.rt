@@ -1,0 +1,268 @@
+//! Spines: merges happen if there is memory, and not across a boundary that a reader may ask for; and a spine that is
+//! given fuel for each insertion keeps few batches. Which neighbours are merged is promised by no clause.
+ghost use Rattle.std.specs.Prelude.{◌≡◌, ◌∷◌, ◌++◌, List, [], IfOk, OnErr};
+ghost use Rattle.std.specs.List.{Contains};
+ghost use Rattle.spine.specs.Holding.{AreSameHolds};
+
+use antichain::Antichain;
+use batch::{Batch, BatchReader};
+use batch_trials::sealed;
+use lattice::Bitime;
+use spine::{Spine, holds_are_kept_apart};
+use std::alloc::Global;
+use std::process::Abort;
+use std::test::Fail;
+use trace::{Hold, Trace, all_batches};
+use trials::sketches::{at, list};
+use update::Refusal;
+
+// Inserts the batch, and once more if it comes back.
+fn insert(spine: &mut Spine<Bitime>, batch: Batch<Bitime>) -> Result<(), Refusal>
+    ensures { spine.new.holds ≡ spine.old.holds }
+{
+    match spine.insert(batch) {
+        Ok(()) => Ok(()),
+        Err(first) => match spine.insert(first.batch) {
+            Ok(()) => Ok(()),
+            Err(second) => Err(second.refusal),
+        },
+    }
+}
+
+// Makes room for one more batch, and once more if memory was refused.
+fn reserve(spine: &mut Spine<Bitime>) -> Result<(), Refusal>
+    ensures { spine.new.holds ≡ spine.old.holds }
+{
+    match spine.reserve() {
+        Err(Refusal::OutOfMemory) => spine.reserve(),
+        done => done,
+    }
+}
+
+// A batch of one update of the row [7] between two frontiers of one time each, and once more if memory was refused.
+fn one_seven(
+    alloc: Global,
+    lower: (u64, u64),
+    upper: (u64, u64),
+    time: (u64, u64),
+    diff: i64,
+) -> Result<Batch<Bitime>, Refusal> {
+    match list(alloc, &[(time, &[7], diff)]) {
+        Ok(updates) => sealed(alloc, lower, upper, &updates),
+        Err(_) => sealed(alloc, lower, upper, &list(alloc, &[(time, &[7], diff)])?),
+    }
+}
+
+// A batch as above, whichever of its allocations was refused.
+fn seven(
+    alloc: Global,
+    lower: (u64, u64),
+    upper: (u64, u64),
+    time: (u64, u64),
+    diff: i64,
+) -> Result<Batch<Bitime>, Refusal> {
+    match one_seven(alloc, lower, upper, time, diff) {
+        Err(Refusal::OutOfMemory) => one_seven(alloc, lower, upper, time, diff),
+        done => done,
+    }
+}
+
+// Three batches, which end at (1, 1), (2, 2) and (3, 3).
+fn insert_three(alloc: Global, spine: &mut Spine<Bitime>) -> Result<(), Refusal>
+    ensures { spine.new.holds ≡ spine.old.holds }
+{
+    insert(spine, seven(alloc, (0, 0), (1, 1), (0, 3), 1)?)?;
+    insert(spine, seven(alloc, (1, 1), (2, 2), (1, 3), -1)?)?;
+    reserve(spine)?;
+    insert(spine, seven(alloc, (2, 2), (3, 3), (2, 2), 5)?)
+}
+
+// Moves the hold's physical frontier on, and once more if memory was refused.
+fn advance(
+    alloc: Global,
+    spine: &mut Spine<Bitime>,
+    hold: &mut Hold<Bitime>,
+    physical: (u64, u64),
+) -> Result<(), Refusal>
+    requires { Contains spine.old.holds hold.old }
+    ensures { Contains spine.new.holds hold.new }
+{
+    let logical = Antichain::from_elem(alloc, at((0, 0)));
+    let physical = Antichain::from_elem(alloc, at(physical));
+    match spine.advance_hold(alloc, hold, &logical, &physical) {
+        Err(Refusal::OutOfMemory) => spine.advance_hold(alloc, hold, &logical, &physical),
+        done => done,
+    }
+}
+
+// Merges all that may be merged, and once more if memory was refused.
+fn merge_all(spine: &mut Spine<Bitime>) -> Result<bool, Refusal>
+    ensures { spine.new.holds ≡ spine.old.holds }
+{
+    match spine.work(1_000) {
+        Err(Refusal::OutOfMemory) => spine.work(1_000),
+        done => done,
+    }
+}
+
+// Merges under a hold from (2, 2) on.
+fn merge_under_a_hold(
+    rt: &impl Abort,
+    alloc: Global,
+    spine: &mut Spine<Bitime>,
+    hold: &mut Hold<Bitime>,
+) -> Result<(), Refusal>
+    requires { Contains spine.old.holds hold.old }
+    ensures { Contains spine.new.holds hold.new }
+{
+    insert_three(alloc, spine)?;
+    advance(alloc, spine, hold, (2, 2))?;
+    let back = advance(alloc, spine, hold, (1, 3));
+    assert!(rt; back == Err(Refusal::NotForward) && hold.physical() == [at((2, 2))].as_slice());
+    assert!(rt; merge_all(spine)?);
+    assert!(rt; spine.kept() == 3 && spine.copied() == 2);
+    let stray = seven(alloc, (2, 2), (4, 4), (2, 2), 1)?;
+    assert!(rt; insert(spine, stray) == Err(Refusal::Stray));
+    Ok(())
+}
+
+// The boundary (1, 1) goes away, since no reader may ask for it any more; (2, 2) stays.
+#[test]
+fn merging_takes_memory(rt: HostRuntime) -> Result<(), Fail> {
+    let (mut spine, mut hold) = match Spine::new(rt.alloc(), 0, 0) {
+        Err(Refusal::OutOfMemory) => Spine::new(rt.alloc(), 0, 0)?,
+        done => done?,
+    };
+    let outcome = merge_under_a_hold(&rt, rt.alloc(), &mut spine, &mut hold);
+    spine.release(hold);
+    outcome?;
+    assert!(rt; matches!(spine.through(&[at((0, 0))]), Some([])));
+    assert!(rt; spine.through(&[at((1, 1))]).is_none());
+    assert!(rt; matches!(spine.through(&[at((2, 2))]), Some([both]) if both.len() == 2));
+    assert!(rt; matches!(spine.through(&[at((3, 3))]), Some([_, _])));
+    assert!(rt; spine.since().is_empty());
+    Ok(())
+}
+
+// Inserts a batch of one update behind all others.
+fn insert_one(alloc: Global, spine: &mut Spine<Bitime>, i: u64) -> Result<(), Refusal> {
+    let batch = seven(alloc, (i, 0), (i.saturating_add(1), 0), (i, 0), 1)?;
+    insert(spine, batch)
+}
+
+// Merges with some fuel, and answers what of it was not spent.
+fn work(spine: &mut Spine<Bitime>, fuel: u64) -> Result<u64, Refusal> {
+    let copied = spine.copied();
+    let batches = all_batches(spine).len();
+    spine.work(fuel)?;
+    let merges = batches.saturating_sub(all_batches(spine).len()) as u64;
+    Ok(fuel.saturating_sub(spine.copied().saturating_sub(copied).saturating_add(merges)))
+}
+
+// After 4,096 insertions of one update, with 16 units of fuel for each, there are few batches: 13 would be one for each
+// power of two. A policy that merges the oldest batch with the newest one at each insertion runs out of fuel and leaves
+// many. So does one that saves nothing for large merges, but spends all fuel on pushing small batches into large ones.
+#[test]
+fn many_insertions_leave_few_batches(rt: HostRuntime) -> Result<(), Fail> {
+    let (mut spine, hold) = Spine::new(rt.alloc(), 0, 0)?;
+    spine.release(hold);
+    let mut saved = 0u64;
+    for i in 0..4_096u64 {
+        insert_one(rt.alloc(), &mut spine, i)?;
+        saved = work(&mut spine, saved.saturating_add(16))?;
+    }
+    assert!(rt; spine.kept() == 4_096 && all_batches(&spine).len() <= 13);
+    Ok(())
+}
+
+// Moves the logical frontier of a hold on, and once more if memory was refused. The other holds stay.
+fn read_from(
+    alloc: Global,
+    spine: &mut Spine<Bitime>,
+    hold: &mut Hold<Bitime>,
+    logical: (u64, u64),
+) -> Result<(), Refusal>
+    requires { Contains spine.old.holds hold.old }
+    ensures { (others : List _)
+        → AreSameHolds (hold.old ∷ others) spine.old.holds
+        → AreSameHolds (hold.new ∷ others) spine.new.holds }
+{
+    holds_are_kept_apart::<Bitime>();
+    let logical = Antichain::from_elem(alloc, at(logical));
+    let physical = Antichain::from_elem(alloc, at((0, 0)));
+    match spine.advance_hold(alloc, hold, &logical, &physical) {
+        Err(Refusal::OutOfMemory) => spine.advance_hold(alloc, hold, &logical, &physical),
+        done => done,
+    }
+}
+
+// Lets one reader read from (0, 3) on and another one from (3, 0) on.
+fn read_apart(
+    alloc: Global,
+    spine: &mut Spine<Bitime>,
+    first: &mut Hold<Bitime>,
+    second: &mut Hold<Bitime>,
+) -> Result<(), Refusal>
+    requires { AreSameHolds (second.old ∷ first.old ∷ []) spine.old.holds }
+    ensures { AreSameHolds (second.new ∷ first.new ∷ []) spine.new.holds }
+{
+    holds_are_kept_apart::<Bitime>();
+    read_from(alloc, spine, first, (0, 3))?;
+    read_from(alloc, spine, second, (3, 0))
+}
+
+// One more hold, and once more if memory was refused.
+fn one_more(alloc: Global, spine: &mut Spine<Bitime>) -> Result<Hold<Bitime>, Refusal>
+    ensures held { IfOk result (λ hold. spine.new.holds ≡ spine.old.holds ++ hold ∷ []) }
+    ensures same { OnErr result (spine.new.holds ≡ spine.old.holds) }
+{
+    match spine.hold(alloc) {
+        Err(Refusal::OutOfMemory) => spine.hold(alloc),
+        done => done,
+    }
+}
+
+// Ends a hold. The other holds stay.
+fn end(spine: &mut Spine<Bitime>, hold: Hold<Bitime>)
+    requires { Contains spine.old.holds hold }
+    ensures { (others : List _)
+        → AreSameHolds (hold ∷ others) spine.old.holds → AreSameHolds others spine.new.holds }
+{
+    holds_are_kept_apart::<Bitime>();
+    spine.release(hold);
+}
+
+// The since of two holds is the least of both logical frontiers; that of one is its own.
+fn read_with_another(
+    rt: &impl Abort,
+    alloc: Global,
+    spine: &mut Spine<Bitime>,
+    first: &mut Hold<Bitime>,
+) -> Result<(), Refusal>
+    requires { AreSameHolds (first.old ∷ []) spine.old.holds }
+    ensures { AreSameHolds (first.new ∷ []) spine.new.holds }
+{
+    holds_are_kept_apart::<Bitime>();
+    let mut second = one_more(alloc, spine)?;
+    let outcome = read_apart(alloc, spine, first, &mut second);
+    let least = spine.since() == [at((0, 3)), at((3, 0))].as_slice();
+    end(spine, second);
+    outcome?;
+    assert!(rt; least && spine.since() == [at((0, 3))].as_slice());
+    Ok(())
+}
+
+// The since of no hold is empty. Each call is made once more where memory was refused.
+#[test]
+fn a_since_of_many_holds_takes_memory(rt: HostRuntime) -> Result<(), Fail> {
+    let (mut spine, mut first) = match Spine::new(rt.alloc(), 0, 0) {
+        Err(Refusal::OutOfMemory) => Spine::new(rt.alloc(), 0, 0)?,
+        done => done?,
+    };
+    holds_are_kept_apart::<Bitime>();
+    let outcome = read_with_another(&rt, rt.alloc(), &mut spine, &mut first);
+    spine.release(first);
+    outcome?;
+    assert!(rt; spine.since().is_empty());
+    Ok(())
+}
