@@ -11,8 +11,8 @@ use trace::BatchList;
 use trials::sketches::at;
 use update::{Refusal, Update};
 
-/// The batch of these updates of worker 0 at node 0, between two frontiers of one time each. Refused as
-/// [`Builder::seal`] is. Cost: that of [`Builder::seal`], and a copy of each update.
+/// The batch of these updates of worker 0 at node 0, between two frontiers of one time each.
+/// Refused as [`Builder::seal`] is. Cost: that of [`Builder::seal`], and a copy of each update.
 pub fn sealed(
     alloc: Global,
     lower: (u64, u64),
@@ -37,8 +37,8 @@ pub fn sealed(
     builder.seal(&lower, &Antichain::from_elem(alloc, at(upper)))
 }
 
-/// Inserts the batch at the end of the list, and drops it if it is refused. Refused as [`BatchList::insert`] is.
-/// Constant cost.
+/// Inserts the batch at the end of the list, and drops it if it is refused. Refused as
+/// [`BatchList::insert`] is. Constant cost.
 pub fn insert(batches: &mut BatchList<Bitime>, batch: Batch<Bitime>) -> Result<(), Refusal>
     ensures inserted { OnOk result (batches.new.batches ≡ batches.old.batches ++ batch ∷ []) }
     ensures same { OnErr result (batches.new.batches ≡ batches.old.batches) }

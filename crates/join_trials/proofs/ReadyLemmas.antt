@@ -1,5 +1,6 @@
--- What a test of each batch, one after the other, says of the updates of all of them; and what a join asks, from such tests.
-use Rattle.std.proofs.Common.{◌≡◌, ℕ, zero, suc, ◌+◌, ◌≤◌, Bool, true, ℤ, List, [], ◌∷◌, ◌&&◌, take, drop, length, slice_get, IsTrue, IsSomeAnd, refl, sym, ◌∙◌, ap, arith, length-drop}
+-- What a test of each batch, one after the other, says of the updates of all of them; and what a
+-- join asks, from such tests.
+use Rattle.std.proofs.Common.{◌≡◌, ℕ, zero, suc, ◌+◌, Bool, true, ℤ, List, [], ◌∷◌, ◌&&◌, take, drop, length, slice_get, IsTrue, IsSomeAnd, refl, sym, ◌∙◌, ap, arith, length-drop}
 use Rattle.std.specs.Prelude.{nat_le}
 use Rattle.std.specs.List.{list_all}
 use Rattle.std.proofs.lemmas.Bool.{and_parts, and_from, leb-true, le-leb}

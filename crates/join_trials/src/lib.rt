@@ -1,5 +1,5 @@
-//! Trials of joins: tests of what no clause says, as crate `trials` has them for the libraries below. The code under
-//! test is in the crates below, and so are its must-fail edits.
+//! Trials of joins: tests of what no clause says, as crate `trials` has them for the libraries
+//! below. The code under test is in the crates below, and so are its must-fail edits.
 #![tactic(auto)]
 
 #[cfg(test)]

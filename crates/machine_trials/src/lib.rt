@@ -1,5 +1,6 @@
-//! Trials of the abstract machine, and of the reading of command files: tests of what no clause says, as crate `trials`
-//! has them for the libraries below. Nothing stands on these tests, and they wait for nothing that takes long to prove.
+//! Trials of the abstract machine, and of the reading of command files: tests of what no clause
+//! says, as crate `trials` has them for the libraries below. The code under test is in the crates
+//! below, and so are its must-fail edits.
 #![tactic(auto)]
 
 #[cfg(test)]

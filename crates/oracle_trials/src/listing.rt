@@ -1,5 +1,5 @@
-//! The differences of a whole plan. The plain query asks something of its caller. Here it is made only after that was
-//! tested, so that a test need not be proved to keep it.
+//! The differences of a plan's last node. The plain query asks something of its caller. Here it is
+//! called only after that was tested, so that a test need not be proved to keep it.
 ghost use Rattle.std.specs.Prelude.{◌≡◌, ◌-◌, length, map, IfOk};
 ghost use Rattle.plan.specs.Changes.{AreDifferences, open_for};
 ghost use Rattle.oracle.specs.Evaluation.{list_of};
@@ -11,9 +11,9 @@ use plan::{NodeId, Plan};
 use std::alloc::Global;
 use update::{Refusal, Update};
 
-/// The differences of the plan's last node, as of the inputs' frontiers. An input without one is closed. Refused as
-/// [`differences`] is, and with `Stray` if the plan has no node, or a change has not the width of its input. Cost: that
-/// of [`differences`].
+/// The differences of the plan's last node, as of the inputs' frontiers. An input without one is
+/// closed. Refused as [`differences`] is, and with `Stray` if the plan has no node, or a change does
+/// not have the width of its input. Cost: that of [`differences`].
 pub fn listed<T: Lattice>(
     alloc: Global,
     plan: &Plan,

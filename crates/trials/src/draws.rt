@@ -1,5 +1,5 @@
-//! Numbers that look drawn, and changes that are made of them. They are the same in each run, so a test that fails once
-//! fails again.
+//! Numbers that look drawn, and changes that are made of them. They are the same in each run, so a
+//! test that fails once fails again.
 ghost use Rattle.std.specs.Prelude.{◌≡◌, ◌<◌, IfOk};
 
 use lattice::Bitime;
@@ -31,8 +31,8 @@ impl Draws {
         (self.state >> 33) % n
     }
 
-    /// A change at this time. Keys and rows are few, so that many changes are of the same ones, and some rows go more
-    /// often than they came.
+    /// A change at this time. Keys and rows are few, so that many changes are of the same ones, and
+    /// some rows go more often than they came.
     pub fn change(&mut self, alloc: Global, time: Bitime) -> Result<Update<Bitime>, Refusal>
         ensures { IfOk result (λ update. update.time ≡ time) }
     {

@@ -1,5 +1,5 @@
-//! Short helpers for the nodes, plans and changes that tests make. Sources are plain numbers here, and a time
-//! is a pair of numbers.
+//! Short helpers for the nodes, plans and changes that tests make. Sources are plain numbers here,
+//! and a time is a pair of numbers.
 ghost use Rattle.std.specs.Prelude.{◌≡◌, ◌∷◌, [], map, IfOk};
 ghost use Rattle.lattice.specs.Pairs.{make_pair};
 ghost use Rattle.plan.specs.declared.node.Node.TheVariants.{Arrange, Concat, Filter, Input, Join, Map, Negate, Output, Reduce};
@@ -25,7 +25,7 @@ pub fn input(width: usize) -> Node
     Node::Input { width }
 }
 
-/// A map to the row of these items. It has a copy of them.
+/// A map to the row of these items. The node has a copy of them.
 pub fn map(alloc: Global, source: usize, items: &[Item]) -> Result<Node, AllocError>
     ensures { IfOk result (λ node. node ≡ Map source items.now) }
 {
@@ -39,7 +39,7 @@ pub fn map(alloc: Global, source: usize, items: &[Item]) -> Result<Node, AllocEr
     })
 }
 
-/// A filter of the rows for which the comparison holds.
+/// A filter: it keeps the rows for which the comparison holds.
 pub fn filter(source: usize, left: Item, op: Cmp, right: Item) -> Node
     ensures { result ≡ Filter source (record { left = left; op = op; right = right }) }
 {
@@ -107,7 +107,7 @@ pub fn view(source: usize) -> Node
     }
 }
 
-/// The plan of these nodes, or the first refusal.
+/// The plan of these nodes, or the first refusal of one of them. Cost: a copy of each node.
 pub fn built(alloc: Global, nodes: &[Node]) -> Result<Plan, Refusal>
     ensures { IfOk result (λ plan. plan ≡ nodes.now) }
 {
@@ -150,7 +150,8 @@ pub fn join_of_two(alloc: Global, width: usize) -> Result<Plan, Refusal>
 /// A change: its time, its row and its diff.
 pub type Change = ((u64, u64), &'static [i64], i64);
 
-/// A list of updates, each from its time, row and diff.
+/// A list of updates, each from its time, row and diff. Refused if a row does not have 1 to 8 columns,
+/// or if memory is.
 pub fn list(
     alloc: Global,
     changes: &[((u64, u64), &[i64], i64)],
