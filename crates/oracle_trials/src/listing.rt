@@ -12,8 +12,8 @@ use std::alloc::Global;
 use update::{Refusal, Update};
 
 /// The differences of the plan's last node, as of the inputs' frontiers. An input without one is
-/// closed. Refused as [`differences`] is, and with `Stray` if the plan has no node, or a change does
-/// not have the width of its input. Cost: that of [`differences`].
+/// closed. Refused as [`differences`] is, and with `Stray` if the plan has no node, or a change
+/// does not have the width of its input. Cost: that of [`differences`].
 pub fn listed<T: Lattice>(
     alloc: Global,
     plan: &Plan,

@@ -150,8 +150,8 @@ pub fn join_of_two(alloc: Global, width: usize) -> Result<Plan, Refusal>
 /// A change: its time, its row and its diff.
 pub type Change = ((u64, u64), &'static [i64], i64);
 
-/// A list of updates, each from its time, row and diff. Refused if a row does not have 1 to 8 columns,
-/// or if memory is.
+/// A list of updates, each from its time, row and diff. Refused if a row does not have 1 to 8
+/// columns, or if memory is.
 pub fn list(
     alloc: Global,
     changes: &[((u64, u64), &[i64], i64)],
