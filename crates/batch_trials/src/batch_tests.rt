@@ -1,5 +1,5 @@
-//! Batches: sealing and merging succeed if there is memory, a refused seal loses nothing, and the updates are in the
-//! right order.
+//! Batches: sealing and merging succeed if there is memory, a refused seal loses nothing, and the
+//! updates are in the right order.
 use crate::batches::sealed;
 use antichain::Antichain;
 use batch::{Batch, BatchReader, Builder, merge};
@@ -24,8 +24,8 @@ fn assert_reads<B: BatchReader<Time = Bitime>>(
     }
 }
 
-// The order is by row and then by time, unlike in a consolidated list. A row comes before a longer row that
-// begins with it.
+// The order is by row and then by time, unlike in a consolidated list. A row comes before a longer
+// row that begins with it.
 #[test]
 fn batches_are_in_order_of_rows(rt: HostRuntime) -> Result<(), Fail> {
     let given = list(
@@ -78,8 +78,8 @@ fn what_takes_itself_back_is_gone(rt: HostRuntime) -> Result<(), Fail> {
     Ok(())
 }
 
-// (3, 9) is inside: it is not before (0, 0), and not at or after (4, 4). But (4, 4) is outside. A batch whose
-// total does not fit in 64 bits is refused too.
+// (3, 9) is inside: it is not before (0, 0), and not at or after (4, 4). But (4, 4) is outside. A
+// batch whose total does not fit in 64 bits is refused too.
 #[test]
 fn strays_and_large_totals_are_refused(rt: HostRuntime) -> Result<(), Fail> {
     let inside = list(rt.alloc(), &[((3, 9), &[7], 1)])?;
@@ -117,7 +117,8 @@ fn two_pushed(alloc: Global) -> Result<Builder<Bitime>, Refusal> {
     Ok(Builder::of(0, 0, pushed))
 }
 
-// Seals what the frontier has passed, and once more if memory was refused: the first call has lost nothing.
+// Seals what the frontier has passed, and once more if memory was refused: the first call has lost
+// nothing.
 fn sealed_passed(
     builder: &mut Builder<Bitime>,
     lower: &Antichain<Bitime>,

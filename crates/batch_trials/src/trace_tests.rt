@@ -1,4 +1,5 @@
-//! Traces: batches can be inserted if there is memory, and a boundary finds those up to it and those behind it.
+//! Traces: batches can be inserted if there is memory, and a boundary finds those up to it and
+//! those behind it.
 use crate::batches::{insert, sealed};
 use lattice::Bitime;
 use std::alloc::Global;

@@ -1,5 +1,6 @@
-//! Actors at a hub: their calls succeed if there is memory, and a worker finds what a client did. The board is that of an
-//! input and a view of it, for one worker, whose number is 0, and one client, whose number is 1.
+//! Actors at a hub: their calls succeed if there is memory, and a worker finds what a client did.
+//! The board is that of an input and a view of it, for one worker, whose number is 0, and one
+//! client, whose number is 1.
 ghost use Rattle.std.specs.Prelude.{◌≡◌, ◌∷◌, [], ℕ, None, IfOk};
 ghost use Rattle.plan.specs.declared.node.Node.TheVariants.{Input, Output};
 ghost use Rattle.hub.specs.Known.{Known};
@@ -118,7 +119,8 @@ impl<T: Minimum> Model for Idle<T> {
         × ((state_left T.below T.least w.actor).hand w.actor.number ≡ None) };
 }
 
-// What a worker finds: a bundle, which it has in hand from then on, with whether more wait, or nothing.
+// What a worker finds: a bundle, which it has in hand from then on, with whether more wait, or
+// nothing.
 #[derive(Drop)]
 enum Found<T: Minimum> {
     Something(Bundle<T>, bool),
@@ -156,7 +158,8 @@ fn opened<T: Minimum, R: Wait>(rt: &R, alloc: Global) -> Result<(Idle<T>, Client
     Ok((Idle { actor: worker }, Client { actor: client }))
 }
 
-// The client feeds a change and moves the input's frontier past it. Then it is too late for such a change.
+// The client feeds a change and moves the input's frontier past it. Then it is too late for such a
+// change.
 fn is_fed<T: Minimum, R: Wait + Abort>(
     rt: &R,
     alloc: Global,
@@ -180,8 +183,8 @@ fn is_fed<T: Minimum, R: Wait + Abort>(
     Ok(())
 }
 
-// The worker has carried nothing on. So nothing can be read yet, and there is something left to do. Answers the view's
-// frontier.
+// The worker has carried nothing on. So nothing can be read yet, and there is something left to do.
+// Answers the view's frontier.
 fn is_answered<T: Minimum, R: Wait + Abort>(
     rt: &R,
     client: &mut Client<T>,
@@ -207,7 +210,8 @@ fn is_answered<T: Minimum, R: Wait + Abort>(
     Ok(frontier)
 }
 
-// A whole life of a client. Answers the view's frontier, as it was before the client closed the input.
+// A whole life of a client. Answers the view's frontier, as it was before the client closed the
+// input.
 fn is_served<T: Minimum, R: Wait + Abort>(
     rt: &R,
     alloc: Global,
@@ -222,8 +226,8 @@ fn is_served<T: Minimum, R: Wait + Abort>(
     is_answered(rt, &mut client, start)
 }
 
-// Each call may be refused for want of memory. No clause says that a call is not refused each time, or that it succeeds when
-// it is made again.
+// Each call may be refused for want of memory. No clause says that a call is not refused each time,
+// or that it succeeds when it is made again.
 #[test]
 fn actors_take_memory(rt: HostRuntime) -> Result<(), Fail> {
     let frontier = is_served(&rt, rt.alloc(), at(0, 0), at(0, 1))?;
@@ -237,8 +241,8 @@ fn turned<T: Minimum, R: Wait>(rt: &R, alloc: Global) -> Result<Option<Antichain
     worker.turn(rt)
 }
 
-// The worker finds nothing at the input until the client has fed changes at these times. Then it takes the first, and hears
-// whether more wait.
+// The worker finds nothing at the input until the client has fed changes at these times. Then it
+// takes the first, and hears whether more wait.
 fn is_taken<T: Minimum, R: Wait + Abort>(
     rt: &R,
     alloc: Global,
@@ -257,8 +261,8 @@ fn is_taken<T: Minimum, R: Wait + Abort>(
     Ok((bundle, more))
 }
 
-// The clauses tell what a worker takes from the history that it has seen. No clause says that this history has what the client
-// did: an actor that is refused each time meets its contract.
+// The clauses tell what a worker takes from the history that it has seen. No clause says that this
+// history has what the client did: an actor that is refused each time meets its contract.
 #[test]
 fn a_worker_takes_what_a_client_fed(rt: HostRuntime) -> Result<(), Fail> {
     let upper: Option<Antichain<Bitime>> = turned(&rt, rt.alloc())?;

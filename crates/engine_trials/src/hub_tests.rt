@@ -1,5 +1,5 @@
-//! Tests of what no clause says: that the calls succeed, that a pass comes back only while the state is away, and that the
-//! built program loses nothing when threads hand the state on.
+//! Tests of what no clause says: that the calls succeed, that a pass comes back only while the
+//! state is away, and that the built program loses nothing when threads hand the state on.
 ghost use Rattle.std.specs.Prelude.{◌≡◌, ◌+◌, ◌<◌, ◌≤◌, ◌^◌, ◌-◌, [], IfOk, length, min};
 ghost use Rattle.std.specs.Thread.{IsSync};
 ghost use Rattle.std.specs.Arc.{arc_value};
@@ -105,7 +105,8 @@ fn times(list: &[u64], number: u64) -> usize {
     list.iter().filter(|it| **it == number).count()
 }
 
-// Shows that the built steps are atomic, and that a hub may lie in an `Arc` and its passes move into threads.
+// Shows that the built steps are atomic, and that a hub may lie in an `Arc` and its passes move
+// into threads.
 #[test]
 fn four_threads_lose_no_number(rt: HostRuntime) -> Result<(), Fail> {
     let (hub, mut passes) = open(rt.alloc(), 5)?;

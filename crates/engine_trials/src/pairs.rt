@@ -13,8 +13,8 @@ use worker::{Actor, BitemporalBoards, open};
 /// An actor of a board whose times are pairs.
 pub type BoardActor = Actor<Bitime, BitemporalBoards>;
 
-/// The worker and then the client of a new board of this plan: actors 0 and 1, each of which has looked once. Refused only with
-/// `OutOfMemory`. Cost: that of [`worker::open`].
+/// The worker and then the client of a new board of this plan: actors 0 and 1, each of which has
+/// looked once. Refused only with `OutOfMemory`. Cost: that of [`worker::open`].
 pub fn worker_and_client<R: Wait>(
     rt: &R,
     alloc: Global,

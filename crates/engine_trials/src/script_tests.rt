@@ -1,5 +1,5 @@
-//! Runs in which an allocation is refused. They end with a fault, a beginning of the text was taken, and the
-//! same script runs once there is memory.
+//! Runs in which an allocation is refused. They end with a fault, a beginning of the text was
+//! taken, and the same script runs once there is memory.
 use grammar::{Fault, Script, parse};
 use script::{MemoryOut, RunFault, plain_script, run_script};
 use std::alloc::Global;
@@ -67,7 +67,8 @@ fn script(alloc: Global, bytes: &[u8]) -> Result<Script, Fault> {
     }
 }
 
-// A run by one worker. Its contract says no more than the tests use, which keeps their proofs short.
+// A run by one worker. Its contract says no more than the tests use, which keeps their proofs
+// short.
 fn run<R: Wait>(
     rt: &R,
     alloc: Global,
@@ -77,8 +78,8 @@ fn run<R: Wait>(
     run_script(rt, alloc, script, 1, out)
 }
 
-// Runs the script of these bytes, again if memory was refused. The output then has the text, and a refused run leaves a
-// beginning of it.
+// Runs the script of these bytes, again if memory was refused. The output then has the text, and a
+// refused run leaves a beginning of it.
 fn writes<R: Wait + Abort>(rt: &R, alloc: Global, bytes: &[u8], text: &str) -> Result<(), Fail> {
     let script = script(alloc, bytes)?;
     let mut out = MemoryOut::new(alloc);

@@ -1,6 +1,7 @@
-//! A worker and a client of one board: their calls succeed if there is memory, and the client finds all quiet after one pass.
-//! No clause says the first. A clause of `relay` says the second of a pass during which no client changed anything, and no
-//! clause can say that none did. What a pass makes of changes is seen by the runs of scripts.
+//! A worker and a client of one board: their calls succeed if there is memory, and the client finds
+//! all quiet after one pass. No clause says the first. A clause of `relay` says the second of a
+//! pass during which no client changed anything, and no clause can say that none did. What a pass
+//! makes of changes is seen by the runs of scripts.
 ghost use Rattle.std.specs.Prelude.{◌≡◌, ◌∷◌, [], IfOk};
 ghost use Rattle.plan.specs.declared.node.Kind.TheVariants.{Min};
 ghost use Rattle.plan.specs.declared.node.Node.TheVariants.{Arrange, Input, Output, Reduce};
@@ -38,8 +39,8 @@ fn least_rows(alloc: Global) -> Result<Plan, Refusal>
     Ok(builder.finish())
 }
 
-// Feeds the row 7 and closes the input. Then one pass goes over the plan. The answers are whether the client found all quiet
-// before the pass, and after it.
+// Feeds the row 7 and closes the input. Then one pass goes over the plan. The answers are whether
+// the client found all quiet before the pass, and after it.
 fn is_carried<R: Wait>(rt: &R, alloc: Global) -> Result<(bool, bool), Refusal> {
     the_first_pass_may_begin::<Bitime>();
     let plan = least_rows(alloc)?;

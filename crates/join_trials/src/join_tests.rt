@@ -1,8 +1,8 @@
-//! Joins: a pair is at the join of both times and has the product of both diffs, whichever side moves first; each side
-//! has a boundary of its own; and a refused call changes nothing.
+//! Joins: a pair is at the join of both times and has the product of both diffs, whichever side
+//! moves first; each side has a boundary of its own; and a refused call changes nothing.
 //!
-//! A join asks much of its caller. Here a call is made only after all of it was tested, so that a test need not be proved
-//! to keep it.
+//! A join asks much of its caller. Here a call is made only after all of it was tested, so that a
+//! test need not be proved to keep it.
 ghost use Rattle.std.specs.Prelude.{◌≡◌, ◌↔◌, ◌<◌, ◌≤◌, ◌&&◌, IsTrue, IsSomeAnd, length, nat_le, slice_get};
 ghost use Rattle.std.specs.Bool.{OnTrue};
 ghost use Rattle.std.specs.List.{list_all};
@@ -25,8 +25,8 @@ use trials::Draws;
 use trials::sketches::{Change, at, join_of_two, list};
 use update::{Refusal, Update, consolidate};
 
-// Whether update `i` of a batch can be taken: its time is beyond the frontier, and its row has the columns of the key
-// and at most 4.
+// Whether update `i` of a batch can be taken: its time is beyond the frontier, and its row has the
+// columns of the key and at most 4.
 fn is_ready<B: BatchReader>(since: &[B::Time], k: usize, batch: &B, i: usize) -> bool
     requires { i < length (B.content batch.now) }
     ensures { IsSomeAnd (slice_get (B.content batch.now) i)
@@ -207,8 +207,8 @@ fn assert_pairs(
     Ok(())
 }
 
-// A late change of either side is visible from the join of both times. Changes that take each other back do so where
-// both are visible. Keys that differ have no pairs.
+// A late change of either side is visible from the join of both times. Changes that take each other
+// back do so where both are visible. Keys that differ have no pairs.
 #[test]
 fn pairs_are_at_joined_times(rt: HostRuntime) -> Result<(), Fail> {
     let five: &[Change] = &[((0, 3), &[1, 5], 2)];
@@ -220,8 +220,8 @@ fn pairs_are_at_joined_times(rt: HostRuntime) -> Result<(), Fail> {
     Ok(())
 }
 
-// What was inserted at (3, 0) may be stored at (3, 4), as of {(0, 4)}. A batch whose times are beyond that frontier has
-// the same pairs with both.
+// What was inserted at (3, 0) may be stored at (3, 4), as of {(0, 4)}. A batch whose times are
+// beyond that frontier has the same pairs with both.
 #[test]
 fn moved_times_give_the_same_pairs(rt: HostRuntime) -> Result<(), Fail> {
     let left: &[Change] = &[((2, 4), &[1, 5], 1)];
@@ -245,8 +245,8 @@ fn at_each_time(alloc: Global, row: &[i64]) -> Result<Vec<Update<Bitime>>, Refus
     Ok(changes)
 }
 
-// Ten thousand pairs have a hundred times. At (i, 0) there are those of the late update with all up to it, and of all
-// up to it with the late one: 2 i and 1.
+// Ten thousand pairs have a hundred times. At (i, 0) there are those of the late update with all up
+// to it, and of all up to it with the late one: 2 i and 1.
 #[test]
 fn pairs_of_one_time_become_one(rt: HostRuntime) -> Result<(), Fail> {
     let left = sealed(
@@ -270,7 +270,8 @@ fn pairs_of_one_time_become_one(rt: HostRuntime) -> Result<(), Fail> {
     Ok(())
 }
 
-// Weights are multiplied as 64-bit numbers. What does not fit is refused, and the join has not moved.
+// Weights are multiplied as 64-bit numbers. What does not fit is refused, and the join has not
+// moved.
 #[test]
 fn large_products_are_refused(rt: HostRuntime) -> Result<(), Fail> {
     let large: &[Change] = &[((0, 0), &[1, 5], 2_147_483_647)];
@@ -375,8 +376,8 @@ fn right_first(alloc: Global, trace: &BatchList<Bitime>) -> Result<Vec<Update<Bi
     consolidate(pairs)
 }
 
-// A row that comes at (0, 1) and again at (1, 0) is paired with itself at both, and with the other one from (1, 1) on.
-// That makes 1 and 1 pairs there, and 4 in all from (1, 1) on.
+// A row that comes at (0, 1) and again at (1, 0) is paired with itself at both, and with the other
+// one from (1, 1) on. That makes 1 and 1 pairs there, and 4 in all from (1, 1) on.
 #[test]
 fn a_table_is_joined_with_itself(rt: HostRuntime) -> Result<(), Fail> {
     let want = list(
@@ -540,7 +541,8 @@ fn assert_round(rt: &impl Abort, alloc: Global, draws: &mut Draws) -> Result<(),
     Ok(())
 }
 
-// A thousand batches in a hundred rounds. The plain query knows no batches, no boundaries and no order of coming.
+// A thousand batches in a hundred rounds. The plain query knows no batches, no boundaries and no
+// order of coming.
 #[test]
 fn drawn_batches_give_the_plain_query(rt: HostRuntime) -> Result<(), Fail> {
     let mut draws = Draws::new(20);

@@ -1,9 +1,9 @@
-//! Parsing, the one call here that takes memory: if an allocation is refused, the fault says so and names a
-//! line of the file.
+//! Parsing, the one call here that takes memory: if an allocation is refused, the fault says so and
+//! names a line of the file.
 use grammar::parse;
 
-// The script has a line for each kind of thing that takes memory: words, a name, a node, items, numbers, times
-// and a command.
+// The script has a line for each kind of thing that takes memory: words, a name, a node, items,
+// numbers, times and a command.
 const TEXT: &[u8] = b"input a 1\nnode m map a =5\nstart\nadvance a 0 1\n";
 
 #[test]

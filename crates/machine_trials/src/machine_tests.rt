@@ -17,8 +17,8 @@ fn opened(alloc: Global) -> Result<Board<Bitime>, Refusal> {
     Board::open(alloc, built(alloc, &[input(1), view(0)])?, 2)
 }
 
-// Feeds the row 7 at (0, 0). The asserts show that the first node is an input and that the client is not a
-// worker, as `feed` requires.
+// Feeds the row 7 at (0, 0). The asserts show that the first node is an input and that the client
+// is not a worker, as `feed` requires.
 fn fed(rt: &impl Abort, alloc: Global, board: &mut Board<Bitime>) -> Result<(), Refusal> {
     let input = NodeId::new(0);
     let there = input.number() < board.plan().len();
@@ -54,8 +54,8 @@ fn advanced(rt: &impl Abort, alloc: Global, board: &mut Board<Bitime>) -> Result
     board.advance(CLIENT, input, times(alloc, (0, 1))?)
 }
 
-// Asks for the view's frontier and changes. If nothing was fed, the frontier has one time and there are no
-// changes.
+// Asks for the view's frontier and changes. If nothing was fed, the frontier has one time and there
+// are no changes.
 fn is_answered(rt: &impl Abort, board: &mut Board<Bitime>) -> Result<bool, Refusal> {
     let view = NodeId::new(1);
     let there = view.number() < board.plan().len();
@@ -100,8 +100,8 @@ fn answers_take_memory(rt: HostRuntime) -> Result<(), Fail> {
     Ok(())
 }
 
-// The rows 7 and 4, given by worker 0 of two at an input, cut for the input's readers. These are an arrange
-// node, which sends each row to a different worker, and a view.
+// The rows 7 and 4, given by worker 0 of two at an input, cut for the input's readers. These are an
+// arrange node, which sends each row to a different worker, and a view.
 fn cut(alloc: Global) -> Result<Bundles<Bitime>, Refusal> {
     let plan = built(alloc, &[input(1), arrange(0, 1), view(0)])?;
     let routing = Routing::of(alloc, &plan, 2)?;

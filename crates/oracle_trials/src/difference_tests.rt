@@ -1,6 +1,7 @@
-//! Differences of small views, worked out by hand from the view's rows at each time. No clause says that a list
-//! is returned at all. These tests show that it is, and that two changes at incomparable times get their
-//! correction at the join of their times. The last test is at the limit of 64 bits.
+//! Differences of small views, worked out by hand from the view's rows at each time. No clause says
+//! that a list is returned at all. These tests show that it is, and that two changes at
+//! incomparable times get their correction at the join of their times. The last test is at the
+//! limit of 64 bits.
 use crate::listing::listed;
 use lattice::Bitime;
 use oracle::{are_wide, evaluate};
@@ -60,8 +61,8 @@ fn a_retroactive_count(rt: HostRuntime) -> Result<(), Fail> {
     Ok(())
 }
 
-// No two of the three changes are comparable. Each two meet at a join, and all three at (4, 4), where nothing
-// changes.
+// No two of the three changes are comparable. Each two meet at a join, and all three at (4, 4),
+// where nothing changes.
 #[test]
 fn three_changes_under_distinct(rt: HostRuntime) -> Result<(), Fail> {
     let changes: [Change; 3] = [((0, 4), &[7], 1), ((2, 2), &[7], 1), ((4, 0), &[7], 1)];
@@ -76,8 +77,8 @@ fn three_changes_under_distinct(rt: HostRuntime) -> Result<(), Fail> {
     Ok(())
 }
 
-// The same changes under count. At (4, 4) the row with 1 comes back once, the row with 2 goes twice, and the
-// row with 3 comes.
+// The same changes under count. At (4, 4) the row with 1 comes back once, the row with 2 goes
+// twice, and the row with 3 comes.
 #[test]
 fn three_changes_under_count(rt: HostRuntime) -> Result<(), Fail> {
     let changes: [Change; 3] = [((0, 4), &[7], 1), ((2, 2), &[7], 1), ((4, 0), &[7], 1)];

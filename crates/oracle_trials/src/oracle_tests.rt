@@ -1,6 +1,6 @@
-//! The plain query and its differences, for the nodes that no command file reaches. The tests show that there
-//! is an answer at all, and that the definition is the intended one. There are differences also at the join of
-//! two incomparable times.
+//! The plain query and its differences, for the nodes that no command file reaches. The tests show
+//! that there is an answer at all, and that the definition is the intended one. There are
+//! differences also at the join of two incomparable times.
 use lattice::Bitime;
 use oracle::{are_wide, differences, evaluate};
 use plan::{Kind, NodeId, Plan};
@@ -25,7 +25,8 @@ fn last_at(
     evaluate(alloc, plan, NodeId::new(last), changes, at(time))
 }
 
-// Checks that the last node at (9, 9) prints as this text: a line for each row, with its count first.
+// Checks that the last node at (9, 9) prints as this text: a line for each row, with its count
+// first.
 fn assert_prints(
     rt: &impl Abort,
     alloc: Global,
@@ -104,8 +105,8 @@ fn joined_rows(rt: HostRuntime) -> Result<(), Fail> {
     Ok(())
 }
 
-// The differences of the counts of one input, after 7 came at two incomparable times and all inputs were
-// closed.
+// The differences of the counts of one input, after 7 came at two incomparable times and all inputs
+// were closed.
 fn listed(rt: &impl Abort, alloc: Global) -> Result<Vec<Update<Bitime>>, Refusal> {
     let plan = reduction(alloc, 1, Kind::Count)?;
     let changes = [list(alloc, &[((0, 3), &[7], 1), ((3, 0), &[7], 1)])?];

@@ -1,5 +1,5 @@
-//! Reductions that are refused: a count that is too large, and want of memory. Nothing has changed then, and the same
-//! call may succeed later.
+//! Reductions that are refused: a count that is too large, and want of memory. Nothing has changed
+//! then, and the same call may succeed later.
 use crate::reduce_tests::{Reduced, Reduction, assert_ready, take, taken};
 use batch::Batch;
 use batch_trials::sealed;
@@ -15,7 +15,8 @@ use update::Refusal;
 // The count of key 7 is 2^63 - 1 at (2, 2), and one more from (5, 2) on.
 const MANY: [Change; 2] = [((2, 2), &[7, 1], i64::MAX), ((5, 0), &[7, 2], 1)];
 
-// Checks that both changes, and the join of their times, are still pending, and that nothing was read.
+// Checks that both changes, and the join of their times, are still pending, and that nothing was
+// read.
 fn assert_pending(rt: &impl Abort, alloc: Global, state: &Reduced) -> Result<(), Refusal> {
     let least = [at((2, 2)), at((5, 0))];
     assert!(rt; state.held(alloc)?.elements() == least.as_slice());
@@ -23,7 +24,8 @@ fn assert_pending(rt: &impl Abort, alloc: Global, state: &Reduced) -> Result<(),
     Ok(())
 }
 
-// At (5, 2) the count is 2^63. A row that goes at (4, 1) brings it back, and then each time is answered.
+// At (5, 2) the count is 2^63. A row that goes at (4, 1) brings it back, and then each time is
+// answered.
 #[test]
 fn a_count_past_64_bits_waits_for_a_correction(rt: HostRuntime) -> Result<(), Fail> {
     let mut reduction = Reduction::new(rt.alloc(), Kind::Count)?;
@@ -81,8 +83,8 @@ fn taking_changes_to_reduce_takes_memory(rt: HostRuntime) -> Result<(), Fail> {
     Ok(())
 }
 
-// One change of one key. So few allocations come before the answer that one of those that `./refusals` has refused is its
-// own.
+// One change of one key. So few allocations come before the answer that one of those that
+// `./refusals` has refused is its own.
 const ONE: [Change; 1] = [((0, 3), &[7], 1)];
 
 // A refused call has given nothing, and all times are still pending.

@@ -1,6 +1,6 @@
-//! Reductions of drawn changes. However the changes are split into batches, and whenever the frontier moves, what was
-//! given up to a frontier is the list of differences of the plain query. The plain query knows no batches, and no order
-//! in which they come.
+//! Reductions of drawn changes. However the changes are split into batches, and whenever the
+//! frontier moves, what was given up to a frontier is the list of differences of the plain query.
+//! The plain query knows no batches, and no order in which they come.
 use crate::reduce_tests::{Reduction, take};
 use antichain::Antichain;
 use batch::Batch;
@@ -40,7 +40,8 @@ fn between(
     Ok(part)
 }
 
-// A reduction on its way through drawn changes: up to which time it has taken them, and what it has given, consolidated.
+// A reduction on its way through drawn changes: up to which time it has taken them, and what it has
+// given, consolidated.
 #[derive(Drop)]
 struct Round {
     reduction: Reduction,
@@ -96,8 +97,8 @@ fn later(draws: &mut Draws, (valid, system): (u64, u64)) -> (u64, u64) {
     }
 }
 
-// Takes the changes up to a drawn time. Then nothing is asked; or what is ready as of a drawn frontier that has passed
-// less; or what is ready as of all that was taken, which is checked.
+// Takes the changes up to a drawn time. Then nothing is asked; or what is ready as of a drawn
+// frontier that has passed less; or what is ready as of all that was taken, which is checked.
 fn step(
     rt: &impl Abort,
     alloc: Global,
@@ -186,7 +187,8 @@ fn drawn(alloc: Global, draws: &mut Draws, kind: Kind) -> Result<Query, Refusal>
     })
 }
 
-// The same changes are taken twice in drawn steps, and once backwards. All three are to give the same list.
+// The same changes are taken twice in drawn steps, and once backwards. All three are to give the
+// same list.
 fn assert_kind(rt: &impl Abort, alloc: Global, kind: Kind) -> Result<(), Refusal> {
     let mut draws = Draws::new(22);
     for _ in 0..20 {

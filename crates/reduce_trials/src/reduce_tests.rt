@@ -1,8 +1,8 @@
-//! Reductions: each key is answered at each joined time of its changes, once a frontier has passed it; a late change
-//! corrects what was given; and a key that nothing happens to is not read.
+//! Reductions: each key is answered at each joined time of its changes, once a frontier has passed
+//! it; a late change corrects what was given; and a key that nothing happens to is not read.
 //!
-//! A reduction asks something of its caller. Here a call is made only after it was tested, so that a test need not be
-//! proved to keep it.
+//! A reduction asks something of its caller. Here a call is made only after it was tested, so that
+//! a test need not be proved to keep it.
 ghost use Rattle.std.specs.Prelude.{◌≡◌, ◌<◌, ◌≤◌, IsTrue, IsSomeAnd, length, nat_le, slice_get};
 ghost use Rattle.std.specs.Bool.{OnTrue};
 ghost use Rattle.reduce.specs.Standing.{are_wide};
@@ -115,7 +115,8 @@ pub(crate) fn taken(alloc: Global, kind: Kind, changes: &[Change]) -> Result<Red
     Ok(reduction)
 }
 
-// Checks what is ready as of this frontier. It comes in no order that is promised, so it is consolidated first.
+// Checks what is ready as of this frontier. It comes in no order that is promised, so it is
+// consolidated first.
 pub(crate) fn assert_ready(
     rt: &impl Abort,
     alloc: Global,
@@ -143,8 +144,8 @@ fn assert_reduces(
 // No two of the three changes are comparable.
 const THREE: [Change; 3] = [((0, 4), &[7], 1), ((2, 2), &[7], 1), ((4, 0), &[7], 1)];
 
-// Each two changes meet at a join, and all three at (4, 4), where nothing changes. Their own times are the least that are
-// pending.
+// Each two changes meet at a join, and all three at (4, 4), where nothing changes. Their own times
+// are the least that are pending.
 #[test]
 fn three_changes_under_distinct(rt: HostRuntime) -> Result<(), Fail> {
     let mut reduction = taken(rt.alloc(), Kind::Distinct, &THREE)?;
@@ -161,7 +162,8 @@ fn three_changes_under_distinct(rt: HostRuntime) -> Result<(), Fail> {
     Ok(())
 }
 
-// At each time the count so far is given, and the count before is taken back. At (4, 4) all three are seen.
+// At each time the count so far is given, and the count before is taken back. At (4, 4) all three
+// are seen.
 #[test]
 fn three_changes_under_count(rt: HostRuntime) -> Result<(), Fail> {
     let want: &[Change] = &[
@@ -180,8 +182,8 @@ fn three_changes_under_count(rt: HostRuntime) -> Result<(), Fail> {
     Ok(())
 }
 
-// At (1, 9) the first two changes add up to more than 2^63 - 1, and the third takes that from them again. A sum that goes
-// through the changes in their order must not be refused.
+// At (1, 9) the first two changes add up to more than 2^63 - 1, and the third takes that from them
+// again. A sum that goes through the changes in their order must not be refused.
 #[test]
 fn a_sum_that_is_too_large_on_the_way_is_no_overflow(rt: HostRuntime) -> Result<(), Fail> {
     let changes: &[Change] = &[
@@ -277,7 +279,8 @@ fn a_total_of_nothing_gives_nothing(rt: HostRuntime) -> Result<(), Fail> {
     Ok(())
 }
 
-// The second change lies behind a day that was settled: it is given at its own time, and at the join with that day.
+// The second change lies behind a day that was settled: it is given at its own time, and at the
+// join with that day.
 #[test]
 fn a_correction_behind_a_settled_day(rt: HostRuntime) -> Result<(), Fail> {
     let mut reduction = Reduction::new(rt.alloc(), Kind::Count)?;

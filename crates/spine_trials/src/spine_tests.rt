@@ -1,5 +1,6 @@
-//! Spines: merges happen if there is memory, and not across a boundary that a reader may ask for; and a spine that is
-//! given fuel for each insertion keeps few batches. Which neighbours are merged is promised by no clause.
+//! Spines: merges happen if there is memory, and not across a boundary that a reader may ask for;
+//! and a spine that is given fuel for each insertion keeps few batches. Which neighbours are merged
+//! is promised by no clause.
 ghost use Rattle.std.specs.Prelude.{◌≡◌, ◌∷◌, ◌++◌, List, [], IfOk, OnErr};
 ghost use Rattle.std.specs.List.{Contains};
 ghost use Rattle.spine.specs.Holding.{AreSameHolds};
@@ -39,7 +40,8 @@ fn reserve(spine: &mut Spine<Bitime>) -> Result<(), Refusal>
     }
 }
 
-// A batch of one update of the row [7] between two frontiers of one time each, and once more if memory was refused.
+// A batch of one update of the row [7] between two frontiers of one time each, and once more if
+// memory was refused.
 fn one_seven(
     alloc: Global,
     lower: (u64, u64),
@@ -159,9 +161,10 @@ fn work(spine: &mut Spine<Bitime>, fuel: u64) -> Result<u64, Refusal> {
     Ok(fuel.saturating_sub(spine.copied().saturating_sub(copied).saturating_add(merges)))
 }
 
-// After 4,096 insertions of one update, with 16 units of fuel for each, there are few batches: 13 would be one for each
-// power of two. A policy that merges the oldest batch with the newest one at each insertion runs out of fuel and leaves
-// many. So does one that saves nothing for large merges, but spends all fuel on pushing small batches into large ones.
+// After 4,096 insertions of one update, with 16 units of fuel for each, there are few batches: 13
+// would be one for each power of two. A policy that merges the oldest batch with the newest one at
+// each insertion runs out of fuel and leaves many. So does one that saves nothing for large merges,
+// but spends all fuel on pushing small batches into large ones.
 #[test]
 fn many_insertions_leave_few_batches(rt: HostRuntime) -> Result<(), Fail> {
     let (mut spine, hold) = Spine::new(rt.alloc(), 0, 0)?;
@@ -175,7 +178,8 @@ fn many_insertions_leave_few_batches(rt: HostRuntime) -> Result<(), Fail> {
     Ok(())
 }
 
-// Moves the logical frontier of a hold on, and once more if memory was refused. The other holds stay.
+// Moves the logical frontier of a hold on, and once more if memory was refused. The other holds
+// stay.
 fn read_from(
     alloc: Global,
     spine: &mut Spine<Bitime>,

@@ -1,5 +1,5 @@
-//! Antichains: the calls that take memory, also after an allocation was refused, and joins of antichains that
-//! were worked out by hand.
+//! Antichains: the calls that take memory, also after an allocation was refused, and joins of
+//! antichains that were worked out by hand.
 use crate::sketches::at;
 use antichain::{Antichain, NoMemory};
 use lattice::Bitime;
@@ -41,8 +41,8 @@ fn antichain(alloc: Global, times: &[Bitime]) -> Result<Antichain<Bitime>, NoMem
     Ok(antichain)
 }
 
-// A time is beyond the joined antichain if and only if it is beyond both. A union or an intersection of the
-// elements would get this wrong.
+// A time is beyond the joined antichain if and only if it is beyond both. A union or an
+// intersection of the elements would get this wrong.
 #[test]
 fn joined_antichains(rt: HostRuntime) -> Result<(), NoMemory> {
     let corner = antichain(rt.alloc(), &[at((0, 3)), at((3, 0))])?;

@@ -1,6 +1,6 @@
-//! Representatives with two and with three axes, worked out by hand. Their contract is the definition. So these
-//! rows show that the definition means what it should: two times have the same representative if readers as of
-//! the frontier cannot tell them apart.
+//! Representatives with two and with three axes, worked out by hand. Their contract is the
+//! definition. So these rows show that the definition means what it should: two times have the same
+//! representative if readers as of the frontier cannot tell them apart.
 use crate::times::at;
 use lattice::{Bitime, Pair, representative};
 
@@ -12,8 +12,8 @@ fn at_third(valid: u64, system: u64, third: u64) -> Pair<Bitime, u64> {
     }
 }
 
-// As of two times that cannot be compared. A join with only one of them would move (3, 3), and the meet of both
-// would lose (1, 9).
+// As of two times that cannot be compared. A join with only one of them would move (3, 3), and the
+// meet of both would lose (1, 9).
 #[test]
 fn representatives_as_of_two_times(rt: HostRuntime) {
     let frontier = [at(2, 5), at(5, 2)];

@@ -1,6 +1,6 @@
-//! Routes, worked out by hand. Their contract is the definition, so these rows show that the definition means a
-//! remainder that is never negative. This also holds for a negative sum, and for a sum that does not fit in 64
-//! bits.
+//! Routes, worked out by hand. Their contract is the definition, so these rows show that the
+//! definition means a remainder that is never negative. This also holds for a negative sum, and for
+//! a sum that does not fit in 64 bits.
 use row::route;
 
 #[test]

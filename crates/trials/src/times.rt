@@ -1,5 +1,5 @@
-//! Times in the order of command files: the valid time, then the system time. All tests make their times here.
-//! So no test can swap the two while another does not.
+//! Times in the order of command files: the valid time, then the system time. All tests make their
+//! times here. So no test can swap the two while another does not.
 ghost use Rattle.std.specs.Prelude.{◌≡◌};
 ghost use Rattle.lattice.specs.Pairs.{make_pair};
 

@@ -5,7 +5,8 @@ use std::alloc::Global;
 use std::test::Fail;
 use update::{Bag, Refusal, Update, sum_at};
 
-// The sum of the ledger at (10, 2). Nothing is left of row 9, and the change at (10, 3) does not count yet.
+// The sum of the ledger at (10, 2). Nothing is left of row 9, and the change at (10, 3) does not
+// count yet.
 fn summed(alloc: Global) -> Result<Bag, Refusal> {
     let ledger = list(
         alloc,
