@@ -12,11 +12,12 @@ use Rattle.update.specs.declared.change.Update.{Update}
 use Rattle.update.proofs.SumLemmas.{total_by-map}
 use Rattle.plan.specs.Reductions.{has_key, sum_of_counts}
 use Rattle.plan.proofs.CountLemmas.{row_same, row_itself, weigh_alike, when_add}
-use Rattle.reduce.specs.Blind.{IsBlind, as_seen, without_rows}
-use Rattle.reduce.specs.Joined.{Member, of_key, times_of, IsJoined}
-use Rattle.reduce.specs.Standing.{IsRight, KeyStands}
-use Rattle.reduce.specs.Settling.{Settling, ReadsAs, IsOverfullFor}
-use Rattle.reduce.proofs.CorrectionLemmas.{weight, weight_is}
+use Rattle.reducer.specs.Blind.{IsBlind}
+use Rattle.reduce.specs.Seen.{as_seen, without_rows}
+use Rattle.joined_times.specs.Joined.{Member, of_key, times_of, IsJoined}
+use Rattle.key_history.specs.Standing.{IsRight, KeyStands}
+use Rattle.key_history.specs.Settling.{Settling, ReadsAs, IsOverfullFor}
+use Rattle.key_history.proofs.CorrectionLemmas.{weight, weight_is}
 
 -- ---- lists
 

@@ -14,19 +14,19 @@ use Rattle.plan.specs.Operators.{reduction_output}
 use Rattle.plan.specs.Reductions.{IsReducer}
 use Rattle.plan.proofs.CountLemmas.{row_same}
 use Rattle.trace.specs.Readings.{IsReadable}
-use Rattle.reduce.specs.Joined.{Member, AreOnce}
+use Rattle.joined_times.specs.Joined.{Member, AreOnce}
 use Rattle.reduce.specs.Histories.{HistoryState, AreHistories, AreKeysApart, IsWaiting, due_of, joined_of}
-use Rattle.reduce.specs.Standing.{KeyStands, Shows}
-use Rattle.reduce.specs.Owing.{IsOverfull}
+use Rattle.key_history.specs.Standing.{KeyStands, Shows}
+use Rattle.key_history.specs.Owing.{IsOverfull}
 use Rattle.reduce.specs.Reductions.{StandsFor, IsOpenTo, IsQuietAt, SumsToTaken, all_reads}
-use Rattle.reduce.specs.Settling.{ReadsAs, IsOverfullFor}
+use Rattle.key_history.specs.Settling.{ReadsAs, IsOverfullFor}
 use Rattle.reduce.specs.Taking.{HaveJoins}
 use Rattle.reduce.specs.Visiting.{Visit, ChangeState, Gathers, AreWithin, AreCut, all_renewed, all_changed, changes_of}
 use Rattle.reduce.proofs.HistoryLemmas.{at_place, of_there}
 use Rattle.reduce.proofs.ReadyLemmas.{times_stay, apart_raw, raw_at, raw_nonzero, stands_after, rest_is, quiet, apart_after}
 use Rattle.reduce.proofs.RenewLemmas.{changed_is_renewed, changes_within, changes_cut, changes_once}
 use Rattle.reduce.proofs.RestLemmas.{waiting_after, histories_after, history_there, reads_are_all}
-use Rattle.reduce.proofs.StandingLemmas.{law}
+use Rattle.key_history.proofs.StandingLemmas.{law}
 
 -- what is stored reads as what was taken, at the pending times that are due
 pub reads_as : {T : Type 0} (below : T → T → Bool) (since front due : List T) (content inserted taken : List (Update T)) → ((t : T) → Member t due → is_beyond below front t ≡ false → IsTrue (is_beyond below since t))

@@ -6,10 +6,10 @@ use Rattle.std.proofs.lemmas.Bool.{false≢true}
 use Rattle.std.proofs.lemmas.List.{take_more}
 use Rattle.lattice.specs.Frontiers.{is_beyond}
 use Rattle.update.specs.Bags.{same_row}
-use Rattle.reduce.specs.Joined.{Member}
+use Rattle.joined_times.specs.Joined.{Member}
 use Rattle.reduce.specs.Histories.{HistoryState, AreKeysApart, IsWaiting, due_of}
 use Rattle.reduce.proofs.HistoryLemmas.{of_there}
-use Rattle.reduce.proofs.MemberLemmas.{in_either, member_at}
+use Rattle.joined_times.proofs.MemberLemmas.{in_either, member_at}
 use Rattle.reduce.proofs.RenewLemmas.{some_there}
 use Rattle.reduce.proofs.VisitLemmas.{item_is}
 

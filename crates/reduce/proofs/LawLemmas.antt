@@ -15,11 +15,11 @@ use Rattle.update.proofs.UniqueLemmas.{same_totals, same_updates}
 use Rattle.plan.specs.Changes.{has_passed}
 use Rattle.plan.specs.Operators.{reduction_output}
 use Rattle.plan.specs.Reductions.{IsReducer, has_key}
-use Rattle.reduce.specs.Joined.{IsJoined, times_of}
+use Rattle.joined_times.specs.Joined.{IsJoined, times_of}
 use Rattle.reduce.specs.Histories.{HistoryState, due_of}
 use Rattle.reduce.specs.Reductions.{StandsFor, IsQuietAt}
-use Rattle.reduce.proofs.JoinedLemmas.{Floor, floor, floor_joins, taken_same, taken_none}
-use Rattle.reduce.proofs.StandingLemmas.{law}
+use Rattle.key_history.proofs.JoinedLemmas.{Floor, floor, floor_joins, taken_same, taken_none}
+use Rattle.key_history.proofs.StandingLemmas.{law}
 
 module _ {T : Type 0} {below : T → T → Bool} {joined met : T → T → T} (o : PartialOrderLaws below) (l : LatticeLaws below joined met) where
   pub changes_at : (k : ℕ) (reduce : List ℤ → List Entry → List Entry) → IsReducer k reduce → (us : List (Update T)) (key : List ℤ) (t : T)

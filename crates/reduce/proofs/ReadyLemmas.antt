@@ -16,19 +16,19 @@ use Rattle.update.specs.Updates.{as_of, size, AreApart, is_doubled}
 use Rattle.update.specs.declared.change.Update.{Update}
 use Rattle.plan.specs.Changes.{has_passed}
 use Rattle.plan.proofs.CountLemmas.{row_same, row_itself}
-use Rattle.reduce.specs.Joined.{Member, AreOnce, of_key}
-use Rattle.reduce.specs.Standing.{KeyStands, Shows}
+use Rattle.joined_times.specs.Joined.{Member, AreOnce, of_key}
+use Rattle.key_history.specs.Standing.{KeyStands, Shows}
 use Rattle.reduce.specs.Histories.{HistoryState, AreHistories, AreKeysApart, due_of, joined_of, given_of}
-use Rattle.reduce.specs.Settling.{Settling, ReadsAs}
+use Rattle.key_history.specs.Settling.{Settling, ReadsAs}
 use Rattle.reduce.specs.Visiting.{Visit, AreVisits, all_renewed}
 use Rattle.reduce.specs.Reductions.{StandsFor, IsOpenTo, IsQuietAt}
-use Rattle.reduce.proofs.ApartLemmas.{apart_both, doubled_is}
-use Rattle.reduce.proofs.CorrectionLemmas.{as_of-keyed, count-had}
-use Rattle.reduce.proofs.JoinedLemmas.{sum_at, sum_at-append}
-use Rattle.reduce.proofs.MemberLemmas.{all_members, in_either}
+use Rattle.key_history.proofs.ApartLemmas.{apart_both, doubled_is}
+use Rattle.key_history.proofs.CorrectionLemmas.{as_of-keyed, count-had}
+use Rattle.key_history.proofs.JoinedLemmas.{sum_at, sum_at-append}
+use Rattle.joined_times.proofs.MemberLemmas.{all_members, in_either}
 use Rattle.reduce.proofs.RenewLemmas.{Unchanged, Changed, outcome, own_more, some_there, from_visit, visit_in, all_apart}
-use Rattle.reduce.proofs.SettleLemmas.{take_whole, drop_whole, shows_more, own_from}
-use Rattle.reduce.proofs.StandingLemmas.{given_replaced}
+use Rattle.key_history.proofs.SettleLemmas.{take_whole, drop_whole, shows_more, own_from}
+use Rattle.key_history.proofs.StandingLemmas.{given_replaced}
 
 module _ {T : Type 0} {below : T → T → Bool} (o : PartialOrderLaws below) where
   module _ (k : ℕ) (key : List ℤ) where

@@ -13,14 +13,14 @@ use Rattle.update.specs.Bags.{Entry, same_row}
 use Rattle.update.specs.Updates.{AreApart, is_doubled}
 use Rattle.update.specs.declared.change.Update.{Update}
 use Rattle.plan.proofs.CountLemmas.{row_same, row_itself}
-use Rattle.reduce.specs.Joined.{Member, AreOnce, of_key}
+use Rattle.joined_times.specs.Joined.{Member, AreOnce, of_key}
 use Rattle.reduce.specs.Histories.{HistoryState, IsHistory, AreHistories, AreKeysApart, of_history, due_of, joined_of, given_of, changed_at, given_more, due_left}
 use Rattle.reduce.specs.Visiting.{Visit, IsVisit, AreVisits, ChangeState, AreWithin, AreCut, renewed, all_renewed, all_changed, changes_of, is_due}
-use Rattle.reduce.proofs.ApartLemmas.{apart_both, doubled_is}
+use Rattle.key_history.proofs.ApartLemmas.{apart_both, doubled_is}
 use Rattle.reduce.proofs.CommitLemmas.{front_of, behind_front, changed_is}
 use Rattle.reduce.proofs.HistoryLemmas.{of_replaced, of_there, apart_replaced}
-use Rattle.reduce.proofs.MemberLemmas.{in_either, image_in, image_of}
-use Rattle.reduce.proofs.SettleLemmas.{take_whole}
+use Rattle.joined_times.proofs.MemberLemmas.{in_either, image_in, image_of}
+use Rattle.key_history.proofs.SettleLemmas.{take_whole}
 
 module _ {X : Type 0} where
   pub set_other : (xs : List X) (i j : ℕ) (x : X) → (i ≡ j → ⊥) → slice_get (set xs i x) j ≡ slice_get xs j

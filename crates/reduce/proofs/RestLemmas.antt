@@ -12,13 +12,13 @@ use Rattle.std.proofs.lemmas.Option.{same_Some, none-some}
 use Rattle.lattice.specs.Frontiers.{is_beyond}
 use Rattle.update.specs.Bags.{Entry}
 use Rattle.update.specs.declared.change.Update.{Update}
-use Rattle.reduce.specs.Joined.{Member, AreOnce, of_key}
+use Rattle.joined_times.specs.Joined.{Member, AreOnce, of_key}
 use Rattle.reduce.specs.Histories.{HistoryState, IsHistory, AreHistories, IsWaiting}
 use Rattle.reduce.specs.Reductions.{reads_in, all_reads}
 use Rattle.reduce.specs.Visiting.{Visit, AreVisits, renewed, all_renewed, waits_on, reads_of}
-use Rattle.reduce.proofs.MemberLemmas.{in_either, in_left, in_right, image_in, image_of}
+use Rattle.joined_times.proofs.MemberLemmas.{in_either, in_left, in_right, image_in, image_of}
 use Rattle.reduce.proofs.RenewLemmas.{set_other, some_there, visits_after, own_more}
-use Rattle.reduce.proofs.SettleLemmas.{take_whole}
+use Rattle.key_history.proofs.SettleLemmas.{take_whole}
 
 module _ {X : Type 0} where
   set_here : (xs : List X) (i : ℕ) (x y : X) → slice_get xs i ≡ Some y → slice_get (set xs i x) i ≡ Some x

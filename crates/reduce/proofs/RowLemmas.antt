@@ -18,11 +18,11 @@ use Rattle.plan.specs.Operators.{reduction_output}
 use Rattle.plan.specs.Reductions.{IsReducer}
 use Rattle.plan.proofs.CountLemmas.{count_of-filter, row_same}
 use Rattle.reduce.specs.Histories.{HistoryState}
-use Rattle.reduce.specs.Joined.{Member}
-use Rattle.reduce.proofs.ApartLemmas.{own_total}
+use Rattle.joined_times.specs.Joined.{Member}
+use Rattle.key_history.proofs.ApartLemmas.{own_total}
 use Rattle.reduce.specs.Reductions.{StandsFor, IsQuietAt}
-use Rattle.reduce.proofs.JoinedLemmas.{sum_at-append}
-use Rattle.reduce.proofs.KeyedLemmas.{absent_row}
+use Rattle.key_history.proofs.JoinedLemmas.{sum_at-append}
+use Rattle.key_history.proofs.KeyedLemmas.{absent_row}
 use Rattle.reduce.proofs.LawLemmas.{passed_down, settled_law}
 
 module _ {T : Type 0} (below : T → T → Bool) (p : List ℤ → Bool) where

@@ -22,10 +22,10 @@ use Rattle.batch.specs.Batches.{by_row_then_time, at_key, begins_with, NoneBefor
 use Rattle.batch.proofs.KeyLemmas.{parted, keeps_before}
 use Rattle.batch.proofs.SeekLemmas.{found_is_filter}
 use Rattle.plan.proofs.CountLemmas.{row_same}
-use Rattle.reduce.specs.Joined.{of_key}
-use Rattle.reduce.specs.Standing.{are_wide}
+use Rattle.joined_times.specs.Joined.{of_key}
+use Rattle.key_history.specs.Standing.{are_wide}
 use Rattle.reduce.proofs.HistoryLemmas.{at_place}
-use Rattle.reduce.proofs.KeyedLemmas.{own_kept}
+use Rattle.key_history.proofs.KeyedLemmas.{own_kept}
 
 -- ---- lists
 

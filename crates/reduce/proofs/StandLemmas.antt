@@ -14,12 +14,12 @@ use Rattle.update.specs.Updates.{entry, as_of}
 use Rattle.update.specs.declared.change.Update.{Update}
 use Rattle.plan.specs.Reductions.{has_key}
 use Rattle.plan.proofs.CountLemmas.{row_same}
-use Rattle.reduce.specs.Joined.{Member, of_key, times_of, IsJoined, IsFresh}
-use Rattle.reduce.specs.Standing.{are_wide, IsRight, KeyStands, Shows}
+use Rattle.joined_times.specs.Joined.{Member, of_key, times_of, IsJoined, IsFresh}
+use Rattle.key_history.specs.Standing.{are_wide, IsRight, KeyStands, Shows}
 use Rattle.reduce.specs.Histories.{HistoryState, due_of, joined_of, given_of, history_of}
 use Rattle.reduce.specs.Reductions.{StandsFor, IsOpenTo}
 use Rattle.reduce.specs.Taking.{AreRenewed, HaveJoins, or_else}
-use Rattle.reduce.proofs.JoinLemmas.{joins_append, fresh_above, fresh_absorbs}
+use Rattle.joined_times.proofs.JoinLemmas.{joins_append, fresh_above, fresh_absorbs}
 use Rattle.reduce.proofs.TakenLemmas.{key_kept, key_renewed}
 
 module _ {T : Type 0} where

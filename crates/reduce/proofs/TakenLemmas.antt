@@ -12,13 +12,13 @@ use Rattle.update.specs.Joins.{joins_of}
 use Rattle.update.specs.declared.change.Update.{Update}
 use Rattle.plan.proofs.CountLemmas.{row_same, row_itself}
 use Rattle.reduce.specs.declared.taking.Renewal.{Renewal}
-use Rattle.reduce.specs.Joined.{Member, IsFresh, of_key, times_of}
-use Rattle.reduce.specs.Adding.{SameMembers}
+use Rattle.joined_times.specs.Joined.{Member, IsFresh, of_key, times_of}
+use Rattle.joined_times.specs.Adding.{SameMembers}
 use Rattle.reduce.specs.Histories.{HistoryState, AreKeysApart, AreHistories, ArePending, IsHistory, of_history, history_of, joined_of, due_of, given_of}
 use Rattle.reduce.specs.Taking.{HasTaken, HaveJoins, IsRenewed, AreRenewed, made_from, or_else}
 use Rattle.reduce.proofs.HistoryLemmas.{at_place, of_absent, of_there, of_pushed, of_its_history, apart_pushed}
-use Rattle.reduce.proofs.KeyedLemmas.{own_kept}
-use Rattle.reduce.proofs.MemberLemmas.{in_right}
+use Rattle.key_history.proofs.KeyedLemmas.{own_kept}
+use Rattle.joined_times.proofs.MemberLemmas.{in_right}
 use Rattle.reduce.proofs.RunLemmas.{IsRun, IsBorder, others_none, front_longer, run_first, run_some}
 use Rattle.reduce.proofs.TakingLemmas.{absent_from, histories_behind}
 

@@ -9,13 +9,13 @@ use Rattle.std.proofs.lemmas.List.Recursion.{is_sum_by}
 use Rattle.lattice.specs.Frontiers.{is_beyond}
 use Rattle.update.specs.Bags.{Entry}
 use Rattle.update.specs.declared.change.Update.{Update}
-use Rattle.reduce.specs.Joined.{of_key}
-use Rattle.reduce.specs.Standing.{KeyStands}
+use Rattle.joined_times.specs.Joined.{of_key}
+use Rattle.key_history.specs.Standing.{KeyStands}
 use Rattle.reduce.specs.Histories.{HistoryState, IsHistory, AreHistories}
-use Rattle.reduce.specs.Settling.{Settling}
+use Rattle.key_history.specs.Settling.{Settling}
 use Rattle.reduce.specs.Visiting.{Visit, IsVisit, AreVisits, ChangeState, Gathers, changes_of, waits_on, waiting_at, reads_of}
 use Rattle.reduce.proofs.HistoryLemmas.{at_place}
-use Rattle.reduce.proofs.SettleLemmas.{drop_whole, take_whole}
+use Rattle.key_history.proofs.SettleLemmas.{drop_whole, take_whole}
 
 not_zero : {X : Type 0} (xs : List X) → xs ≢ [] → nat_eq (length xs) 0 ≡ false
 not_zero [] n = absurd (n refl)

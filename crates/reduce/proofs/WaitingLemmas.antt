@@ -3,10 +3,10 @@
 use Rattle.std.proofs.Common.{◌≡◌, ◌≢◌, ◌↔◌, ℕ, zero, suc, List, [], ◌∷◌, ◌++◌, set, length, slice_get, Some, ◌⊎◌, inl, inr, ⊎_elim, refl, sym, ap, subst, arith}
 use Rattle.std.specs.Option.{IsSomeAnd}
 use Rattle.std.proofs.lemmas.Option.{none-some}
-use Rattle.reduce.specs.Joined.{Member, AreOnce}
+use Rattle.joined_times.specs.Joined.{Member, AreOnce}
 use Rattle.reduce.specs.Histories.{HistoryState, IsWaiting}
 use Rattle.reduce.proofs.HistoryLemmas.{at_place}
-use Rattle.reduce.proofs.MemberLemmas.{through, back, in_each, pushed_members, only_one, in_either}
+use Rattle.joined_times.proofs.MemberLemmas.{through, back, in_each, pushed_members, only_one, in_either}
 
 module _ {X : Type 0} where
   -- an element that is not in the list may be appended

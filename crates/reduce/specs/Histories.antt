@@ -1,18 +1,12 @@
 -- What a contract sees of a reduction: the history of each key, and which keys wait.
-use Rattle.std.specs.Prelude.{◌≡◌, ◌≢◌, ◌↔◌, ◌-◌, ℕ, zero, suc, slice_get, IsSomeAnd, false, List, [], ◌∷◌, ◌++◌, ℤ, IsTrue, length, take, ⊤, if◌then◌else◌, flat_map}
+use Rattle.std.specs.Prelude.{◌≡◌, ◌≢◌, ◌↔◌, ℕ, zero, suc, slice_get, IsSomeAnd, false, List, [], ◌∷◌, ◌++◌, ℤ, IsTrue, length, ⊤, if◌then◌else◌, flat_map}
 use Rattle.std.specs.List.{list_all, list_any}
 use Rattle.std.specs.List.Sorted.{IsStrictlySortedBy}
 use Rattle.std.specs.declared.cmp.Ordering.{Ordering}
 use Rattle.update.specs.Bags.{same_row}
 use Rattle.update.specs.declared.change.Update.{Update}
-use Rattle.reduce.specs.Joined.{Member, AreOnce, of_key}
-
--- a key, its joined times, which of them are pending, and what was given of it
-pub record HistoryState (T : Type 0) : Type 0 where
-  pub key : List ℤ
-  pub times : List T
-  pub due : List T
-  pub given : List (Update T)
+use Rattle.joined_times.specs.Joined.{Member, AreOnce, of_key}
+pub use Rattle.key_history.specs.States.{HistoryState, given_more, given_less, due_left, times_put}
 
 -- the number of columns of a key, the reducer, the history of each key, the places of the keys that have pending times,
 -- and how many updates were read
@@ -77,22 +71,6 @@ module _ {T : Type 0} where
   changed_at i f [] = []
   changed_at zero f (h ∷ hs) = f h ∷ hs
   changed_at (suc i) f (h ∷ hs) = h ∷ changed_at i f hs
-
-  -- a history after more was given of its key
-  abbrev pub given_more : List (Update T) → HistoryState T → HistoryState T
-  given_more more h = record h { given = h.given ++ more }
-
-  -- a history without the last `many` updates that were given
-  abbrev pub given_less : ℕ → HistoryState T → HistoryState T
-  given_less many h = record h { given = take (length h.given - many) h.given }
-
-  -- a history of which these times are still pending
-  abbrev pub due_left : List T → HistoryState T → HistoryState T
-  due_left due h = record h { due = due }
-
-  -- a history with other joined times and pending ones
-  abbrev pub times_put : List T → List T → HistoryState T → HistoryState T
-  times_put times due h = record h { times = times; due = due }
 
 -- the histories in order of arrival, and how many more there is room for
 pub record HistoriesState (T : Type 0) : Type 0 where

@@ -1,20 +1,12 @@
--- The definitions of a reduction, with those of orders and frontiers that its contracts name.
+-- The definitions of a reduction, with those of the crates below and of orders and frontiers that its contracts name.
 pub use Rattle.lattice.specs.Order
 pub use Rattle.lattice.specs.Frontiers
-pub mod Joined
-pub mod Blind
-pub mod Standing
+pub use Rattle.joined_times.specs.Joined
+pub use Rattle.reducer.specs.Kinds
+pub use Rattle.key_history.specs.Standing
+pub use Rattle.key_history.specs.Owing
+pub mod Seen
 pub mod Histories
-pub mod Corrections
-pub mod Evaluations
-pub mod Replays
-pub mod Pasts
-pub mod Sweeps
-pub mod Kinds
 pub mod Taking
-pub mod Adding
 pub mod Visiting
 pub mod Reductions
-pub mod Owing
-pub mod Settling
-pub mod Tallies

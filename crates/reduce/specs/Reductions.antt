@@ -5,8 +5,8 @@ use Rattle.lattice.specs.Frontiers.{is_beyond}
 use Rattle.update.specs.Bags.{Entry, Alike}
 use Rattle.update.specs.Updates.{as_of}
 use Rattle.update.specs.declared.change.Update.{Update}
-use Rattle.reduce.specs.Joined.{Member, of_key, IsJoined}
-use Rattle.reduce.specs.Standing.{are_wide, KeyStands, IsSettledAt, Shows}
+use Rattle.joined_times.specs.Joined.{Member, of_key, IsJoined}
+use Rattle.key_history.specs.Standing.{are_wide, KeyStands, IsSettledAt, Shows}
 use Rattle.reduce.specs.Histories.{HistoryState, due_of, joined_of, given_of}
 use Rattle.reduce.specs.Visiting.{is_due}
 

@@ -6,7 +6,7 @@ use Rattle.update.specs.Bags.{same_row}
 use Rattle.update.specs.Joins.{joins_of}
 use Rattle.update.specs.declared.change.Update.{Update}
 use Rattle.reduce.specs.declared.taking.Renewal.{Renewal}
-use Rattle.reduce.specs.Joined.{Member, times_of, IsFresh}
+use Rattle.joined_times.specs.Joined.{Member, times_of, IsFresh}
 use Rattle.reduce.specs.Histories.{HistoryState, IsHistory, AreHistories, AreKeysApart, history_of, due_of, joined_of, given_of}
 
 module _ {T : Type 0} where

@@ -4,9 +4,9 @@ use Rattle.std.specs.List.{filter, list_any}
 use Rattle.lattice.specs.Frontiers.{is_beyond}
 use Rattle.update.specs.Bags.{Entry}
 use Rattle.update.specs.declared.change.Update.{Update}
-use Rattle.reduce.specs.Joined.{Member, of_key}
+use Rattle.joined_times.specs.Joined.{Member, of_key}
 use Rattle.reduce.specs.Histories.{HistoryState, changed_at, given_more, given_less, due_left}
-use Rattle.reduce.specs.Settling.{Settling}
+use Rattle.key_history.specs.Settling.{Settling}
 
 -- the place of a history, the history as it was, what is given of its key, and the times that are still pending
 pub record Visit (T : Type 0) : Type 0 where

@@ -14,8 +14,8 @@ ghost use Rattle.update.specs.Bags.{same_row};
 ghost use Rattle.update.specs.declared.refusal.Refusal.{Refusal};
 ghost use Rattle.reduce.specs.Histories.{AreKeysApart, changed_at, given_more, given_less, due_left, times_put};
 
-use crate::history::KeyHistory;
 use indexmap::IndexSet;
+use key_history::KeyHistory;
 use lattice::Lattice;
 use row::Row;
 use std::alloc::Global;

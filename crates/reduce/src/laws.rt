@@ -10,7 +10,7 @@ ghost use Rattle.update.specs.declared.change.Update.{Update};
 ghost use Rattle.plan.specs.Changes.{has_passed};
 ghost use Rattle.plan.specs.Operators.{reduction_output};
 ghost use Rattle.plan.specs.Reductions.{IsReducer, has_key};
-ghost use Rattle.reduce.specs.Joined.{Member, IsJoined};
+ghost use Rattle.joined_times.specs.Joined.{Member, IsJoined};
 ghost use Rattle.reduce.specs.Histories.{HistoryState};
 ghost use Rattle.reduce.specs.Reductions.{StandsFor, IsQuietAt};
 

@@ -16,41 +16,18 @@
 //! What a reduction stands for is defined in `specs/Standing.antt` and `specs/Reductions.antt`.
 #![tactic(auto)]
 
-mod answers;
-mod correcting;
-mod count;
-mod distinct;
-mod draft;
-mod evaluation;
-mod extremes;
 mod histories;
-mod history;
-mod kinds;
 mod laws;
-mod past;
 mod places;
 mod reading;
-mod reducer;
-mod replay;
-mod row_counts;
 mod state;
-mod sweep;
 mod taking;
-mod tallied;
-mod tally;
-mod times;
 mod visiting;
 
-pub use count::Count;
-pub use distinct::Distinct;
-pub use extremes::{Max, Min};
-pub use history::KeyHistory;
-pub use kinds::kinds_are_reductions;
+pub use key_history::KeyHistory;
 pub use laws::{
     answers_are_the_differences, joined_times_are_closed, order_does_not_matter,
     outputs_change_at_joined_times, rows_given_are_answered, settled_is_right,
 };
-pub use reducer::Reducer;
-pub use row_counts::RowCounts;
+pub use reducer::{Count, Distinct, Max, Min, Reducer, RowCounts, Tally, kinds_are_reductions};
 pub use state::ReduceState;
-pub use tally::Tally;

@@ -5,11 +5,11 @@ ghost use Rattle.std.specs.Prelude.{◌≡◌, ◌≤◌, ◌<◌, ◌++◌, IfE
 ghost use Rattle.std.specs.List.{filter};
 ghost use Rattle.update.specs.declared.refusal.Refusal.{Refusal};
 ghost use Rattle.trace.specs.Readings.{all_content};
-ghost use Rattle.reduce.specs.Joined.{of_key};
-ghost use Rattle.reduce.specs.Blind.{as_seen};
+ghost use Rattle.joined_times.specs.Joined.{of_key};
+ghost use Rattle.reduce.specs.Seen.{as_seen};
 
-use crate::Reducer;
 use batch::BatchReader;
+use reducer::Reducer;
 use row::Row;
 use std::alloc::Global;
 use std::ops::Range;

@@ -9,15 +9,15 @@
 ghost use Rattle.std.specs.Prelude.{◌≡◌, ◌≢◌, ◌≤◌, ◌<◌, ◌+◌, ◌∷◌, [], ℕ, ℤ, List, IsTrue, IsSomeAnd, IfOk, IfErr, length, map, slice_get, slice_range, take};
 ghost use Rattle.std.specs.List.{AllByRecursion};
 ghost use Rattle.update.specs.declared.refusal.Refusal.{Refusal};
-ghost use Rattle.reduce.specs.Standing.{are_wide};
+ghost use Rattle.key_history.specs.Standing.{are_wide};
 ghost use Rattle.reduce.specs.Histories.{AreHistories, AreKeysApart, ArePending, IsHistory, IsWaiting, history_of};
 ghost use Rattle.reduce.specs.Taking.{AreRenewed, HaveJoins, IsPlaced, IsRenewed, made_from, or_else};
 
 use crate::histories::Histories;
-use crate::history::KeyHistory;
 use crate::places::Places;
-use crate::times::{JoinedTimes, with_times};
 use batch::BatchReader;
+use joined_times::{JoinedTimes, with_times};
+use key_history::KeyHistory;
 use lattice::Lattice;
 use row::Row;
 use std::alloc::Global;

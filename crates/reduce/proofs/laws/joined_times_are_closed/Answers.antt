@@ -1,5 +1,5 @@
-use Rattle.reduce.specs.Joined.{Member}
-use Rattle.reduce.proofs.JoinLemmas.{joins_have, joins_closed, joins_least}
+use Rattle.joined_times.specs.Joined.{Member}
+use Rattle.joined_times.proofs.JoinLemmas.{joins_have, joins_closed, joins_least}
 use Rattle.reduce.proofs.laws.joined_times_are_closed.Goals as goal
 
 pub returns : goal.returns

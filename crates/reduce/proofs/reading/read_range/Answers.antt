@@ -1,5 +1,5 @@
 use Rattle.std.proofs.Common.{◌∙◌, rules}
-use Rattle.reduce.specs.Blind.{as_seen}
+use Rattle.reduce.specs.Seen.{as_seen}
 use Rattle.reduce.proofs.ReadingLemmas.{range_pushed}
 use Rattle.reduce.proofs.reading.read_range.Goals as goal
 

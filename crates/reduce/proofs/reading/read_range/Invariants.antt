@@ -1,6 +1,6 @@
 use Rattle.std.proofs.Common.{◌≡◌, ◌++◌, map}
 use Rattle.std.specs.Prelude.{slice_range}
-use Rattle.reduce.specs.Blind.{as_seen}
+use Rattle.reduce.specs.Seen.{as_seen}
 use Rattle.reduce.proofs.reading.read_range.Given as goal
 
 abbrev pub invariant-loop-i : goal.invariant-loop-i

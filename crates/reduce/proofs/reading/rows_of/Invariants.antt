@@ -1,8 +1,8 @@
 use Rattle.std.proofs.Common.{◌≡◌, map, take, length}
 use Rattle.std.specs.List.{filter}
 use Rattle.trace.specs.Readings.{all_content}
-use Rattle.reduce.specs.Joined.{of_key}
-use Rattle.reduce.specs.Blind.{as_seen}
+use Rattle.joined_times.specs.Joined.{of_key}
+use Rattle.reduce.specs.Seen.{as_seen}
 use Rattle.reduce.proofs.reading.rows_of.Given as goal
 
 abbrev pub invariant-loop-batch : goal.invariant-loop-batch

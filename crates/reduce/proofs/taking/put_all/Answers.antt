@@ -1,10 +1,10 @@
 use Rattle.std.proofs.Common.{◌≡◌, ◌+◌, ◌++◌, ◌∷◌, [], length, map, inl, refl, sym, ◌∙◌, ap, subst, arith, append_assoc}
 use Rattle.std.specs.Vec.Iter.{into_iter_items}
 use Rattle.std.proofs.lemmas.List.{append-nil, nil_from_length, map_push}
-use Rattle.reduce.specs.Joined.{Member}
+use Rattle.joined_times.specs.Joined.{Member}
 use Rattle.reduce.specs.Histories.{AreHistories, AreKeysApart, IsHistory, history_of}
 use Rattle.reduce.specs.Taking.{IsPlaced, made_from, or_else}
-use Rattle.reduce.proofs.MemberLemmas.{each_member, image_in, in_right}
+use Rattle.joined_times.proofs.MemberLemmas.{each_member, image_in, in_right}
 use Rattle.reduce.proofs.TakingLemmas.{made_parts, made_same, placed_still, put_more, histories_parts}
 use Rattle.reduce.proofs.taking.put_all.Goals as goal
 

@@ -1,7 +1,7 @@
 use Rattle.std.proofs.Common.{map, subst, arith}
 use Rattle.std.specs.Prelude.{slice_range}
 use Rattle.reduce.specs.Taking.{IsPlaced, IsRenewed, made_from}
-use Rattle.reduce.proofs.MemberLemmas.{all_pushed}
+use Rattle.joined_times.proofs.MemberLemmas.{all_pushed}
 use Rattle.reduce.proofs.RunLemmas.{IsRun, run_found, run_ends}
 use Rattle.reduce.proofs.TakenLemmas.{renewed_step, renewed_pending}
 use Rattle.reduce.proofs.taking.renewed_by.Given.{Over}

@@ -2,7 +2,7 @@ use Rattle.std.proofs.Common.{◌∙◌, take, drop, ap}
 use Rattle.reduce.specs.Histories.{changed_at, given_more}
 use Rattle.reduce.specs.Visiting.{ChangeState}
 use Rattle.reduce.proofs.CommitLemmas.{in_front, giving_more}
-use Rattle.reduce.proofs.MemberLemmas.{member_at}
+use Rattle.joined_times.proofs.MemberLemmas.{member_at}
 use Rattle.reduce.proofs.visiting.give_all.Goals as goal
 
 pub give-requires : goal.give-requires

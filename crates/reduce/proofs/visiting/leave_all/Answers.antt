@@ -1,6 +1,6 @@
 use Rattle.std.proofs.Common.{◌≡◌, ◌+◌, ◌∙◌, length, ap, arith, rules, inl, inr, refl, sym, subst}
 use Rattle.std.specs.Vec.Iter.{into_iter_items}
-use Rattle.reduce.specs.Joined.{Member}
+use Rattle.joined_times.specs.Joined.{Member}
 use Rattle.reduce.specs.Histories.{changed_at, due_left}
 use Rattle.reduce.specs.Visiting.{ChangeState, all_left}
 use Rattle.reduce.proofs.CommitLemmas.{changed_length}

@@ -2,7 +2,7 @@ use Rattle.std.proofs.Common.{◌≡◌, ◌+◌, ◌-◌, ◌<◌, ◌∙◌, l
 use Rattle.reduce.specs.Histories.{changed_at, given_less}
 use Rattle.reduce.specs.Visiting.{ChangeState, all_taken_back}
 use Rattle.reduce.proofs.CommitLemmas.{changed_length, taking_back}
-use Rattle.reduce.proofs.MemberLemmas.{member_at}
+use Rattle.joined_times.proofs.MemberLemmas.{member_at}
 use Rattle.reduce.proofs.visiting.take_back.Goals as goal
 
 pub take_back-requires : goal.take_back-requires

@@ -1,9 +1,9 @@
 use Rattle.std.proofs.Common.{◌≢◌, ◌∙◌, [], length, sym, subst, inl, inr, ⊎_elim, IsTrue}
 use Rattle.std.specs.List.{list_all}
 use Rattle.trace.specs.Readings.{all_content}
-use Rattle.reduce.specs.Joined.{of_key}
+use Rattle.joined_times.specs.Joined.{of_key}
 use Rattle.reduce.proofs.BlindLemmas.{seen_own, seen_length, seen_settles, seen_overfull}
-use Rattle.reduce.proofs.ResultLemmas.{passed_on}
+use Rattle.key_history.proofs.ResultLemmas.{passed_on}
 use Rattle.reduce.proofs.VisitLemmas.{there, what_is_there, put_there, history_at, left_alone, settled_there}
 use Rattle.reduce.proofs.visiting.visit.Goals as goal
 

@@ -2,8 +2,8 @@ use Rattle.std.proofs.Common.{◌++◌, [], ◌∷◌, get_or, inl, inr, ⊎_eli
 use Rattle.std.specs.Prelude.{sum_by}
 use Rattle.trace.specs.Readings.{all_content}
 use Rattle.reduce.specs.Visiting.{reads_of}
-use Rattle.reduce.proofs.MemberLemmas.{member_at}
-use Rattle.reduce.proofs.ResultLemmas.{passed_on}
+use Rattle.joined_times.proofs.MemberLemmas.{member_at}
+use Rattle.key_history.proofs.ResultLemmas.{passed_on}
 use Rattle.reduce.proofs.VisitLemmas.{item_is, gathers_none, gathers_more, reads_more}
 use Rattle.reduce.proofs.visiting.visit_all.Goals as goal
 

@@ -2,16 +2,16 @@ use Rattle.std.proofs.Common.{◌≡◌, ◌∙◌, List, sym, ap, subst, inl, i
 use Rattle.std.specs.Prelude.{ℤ, IsTrue}
 use Rattle.update.specs.Updates.{AreApart}
 use Rattle.plan.specs.Changes.{has_passed}
-use Rattle.reduce.specs.Owing.{IsOverfull}
+use Rattle.key_history.specs.Owing.{IsOverfull}
 use Rattle.update.specs.declared.change.Update.{Update}
 use Rattle.trace.specs.Readings.{Insertion, IsReadable, all_content, all_updates}
-use Rattle.reduce.specs.Joined.{Member}
+use Rattle.joined_times.specs.Joined.{Member}
 use Rattle.reduce.specs.Histories.{HistoryState, ReduceView, IsWaiting, due_of}
 use Rattle.reduce.specs.Reductions.{StandsFor, IsOpenTo, SumsToTaken, all_reads}
-use Rattle.reduce.specs.Settling.{ReadsAs}
+use Rattle.key_history.specs.Settling.{ReadsAs}
 use Rattle.reduce.specs.Visiting.{all_changed}
 use Rattle.reduce.proofs.FinalLemmas.{reads_as, overfull_of, within, cut, changed_once, known_after, waits_after, joins_after, reads_are, final_rest, final_stands, final_law, final_once, final_nonzero, final_at, final_quiet, final_apart}
-use Rattle.reduce.proofs.ResultLemmas.{passed_on}
+use Rattle.key_history.proofs.ResultLemmas.{passed_on}
 use Rattle.reduce.proofs.TraceLemmas.{whole_is_readable}
 use Rattle.reduce.proofs.state.ReduceState.ready.Given.{Over}
 use Rattle.reduce.proofs.state.ReduceState.ready.Goals as goal

@@ -1,0 +1,153 @@
+-- A number that is too large is one that is owed, or of what was taken.
+use Rattle.std.proofs.Common.{◌≡◌, ℕ, ◌≤◌, ◌^◌, Bool, true, false, cond, not, ◌&&◌, ◌||◌, List, [], ◌∷◌, map, take, sym, refl, ap, ◌∙◌, subst, inl, inr, arith, w64}
+use Rattle.std.specs.Prelude.{IsTrue, FitsSigned, unsigned_abs}
+use Rattle.std.specs.List.{filter, list_all, list_any}
+use Rattle.std.proofs.lemmas.Int.{ints}
+use Rattle.std.proofs.lemmas.Bool.{and_from, or_parts, true≢false}
+use Rattle.std.proofs.Math.IntN.{ℤ, pos, ◌+ℤ◌, neg_ℤ}
+use Rattle.lattice.specs.Order.{PartialOrderLaws}
+use Rattle.update.specs.Bags.{Entry, count_of, same_row}
+use Rattle.update.specs.Updates.{as_of, size, AreApart, is_doubled}
+use Rattle.update.specs.declared.change.Update.{Update}
+use Rattle.update.proofs.SumLemmas.{total_by-map}
+use Rattle.antichain.proofs.Lists.{Among}
+use Rattle.plan.specs.Reductions.{has_key, IsReducer, each_once}
+use Rattle.plan.proofs.CountLemmas.{row_same, row_itself, count_of-filter}
+use Rattle.plan.proofs.ReductionLemmas.{total_by-once, each_once_among}
+use Rattle.joined_times.specs.Joined.{of_key}
+use Rattle.key_history.specs.Corrections.{Corrects, put, had, wanted}
+use Rattle.key_history.proofs.JoinedLemmas.{sum_at-append}
+use Rattle.key_history.proofs.CorrectionLemmas.{as_of-keyed, count-had, had-alike, as_of-put, put-at, change, change-count, count_small, entry_weight_is, not_fits}
+use Rattle.key_history.proofs.CorrectLemmas.{all_at, had_small}
+
+-- ---- a list in whole numbers without bounds: each row once, with what it counts
+
+abbrev rows_of : List Entry → List (List ℤ)
+rows_of es = map (λ e. e.row) es
+
+abbrev counted_once : List Entry → List (List ℤ) → List Entry
+counted_once es rows = map (λ row. record { row = row; count = count_of es row }) rows
+
+abbrev pub settled : List Entry → List Entry
+settled es = counted_once es (each_once (rows_of es))
+
+absent : (es : List Entry) (row : List ℤ) → list_any (λ r. same_row r row) (rows_of es) ≡ false → count_of es row ≡ pos 0
+absent [] row h = refl
+absent (e ∷ es) row h =
+    let p = or_parts (same_row e.row row) (list_any (λ r. same_row r row) (rows_of es)) h in
+    rw (p.0, absent es row p.1) refl
+
+pub count-settled : (es : List Entry) (row : List ℤ) → count_of (settled es) row ≡ count_of es row
+count-settled es row =
+    total_by-map (λ e. cond (same_row e.row row) e.count (pos 0)) (λ r. record { row = r; count = count_of es r }) (each_once (rows_of es))
+    ∙ (total_by-once (λ r. cond (same_row r row) (count_of es r) (pos 0)) row (rows_of es) (λ r m d. ap (λ b. cond b (count_of es r) (pos 0)) d)
+    ∙ step (list_any (λ r. same_row r row) (rows_of es)) refl)
+  where
+    step : (b : Bool) → list_any (λ r. same_row r row) (rows_of es) ≡ b → cond b (cond (same_row row row) (count_of es row) (pos 0)) (pos 0) ≡ count_of es row
+    step true e = rw (row_itself row) refl
+    step false e = sym (absent es row e)
+
+-- each row once
+abbrev AreOnce : List (List ℤ) → Type 0
+AreOnce [] = Unit {0}
+AreOnce (r ∷ rs) = (list_any (same_row r) rs ≡ false) × AreOnce rs
+
+any_fewer : (r : List ℤ) (q : List ℤ → Bool) (rs : List (List ℤ)) → list_any (same_row r) rs ≡ false → list_any (same_row r) (filter q rs) ≡ false
+any_fewer r q [] h = refl
+any_fewer r q (x ∷ rs) h = let e = or_parts (same_row r x) (list_any (same_row r) rs) h in step (q x) e.0 (any_fewer r q rs e.1)
+  where
+    step : (b : Bool) → same_row r x ≡ false → list_any (same_row r) (filter q rs) ≡ false → list_any (same_row r) (cond b (x ∷ filter q rs) (filter q rs)) ≡ false
+    step true e h = rw e h
+    step false e h = h
+
+once_fewer : (q : List ℤ → Bool) (rs : List (List ℤ)) → AreOnce rs → AreOnce (filter q rs)
+once_fewer q [] h = h
+once_fewer q (x ∷ rs) h = step (q x) (any_fewer x q rs h.0) (once_fewer q rs h.1)
+  where
+    step : (b : Bool) → list_any (same_row x) (filter q rs) ≡ false → AreOnce (filter q rs) → AreOnce (cond b (x ∷ filter q rs) (filter q rs))
+    step true e h = (e, h)
+    step false e h = h
+
+any_others : (r : List ℤ) (rs : List (List ℤ)) → list_any (same_row r) (filter (λ o. not (same_row o r)) rs) ≡ false
+any_others r [] = refl
+any_others r (x ∷ rs) = step (same_row x r) refl (any_others r rs)
+  where
+    step : (b : Bool) → same_row x r ≡ b → list_any (same_row r) (filter (λ o. not (same_row o r)) rs) ≡ false → list_any (same_row r) (cond (not b) (x ∷ filter (λ o. not (same_row o r)) rs) (filter (λ o. not (same_row o r)) rs)) ≡ false
+    step true e h = h
+    step false e h = go (same_row r x) refl
+      where
+        go : (c : Bool) → same_row r x ≡ c → list_any (same_row r) (x ∷ filter (λ o. not (same_row o r)) rs) ≡ false
+        go false f = rw f h
+        go true f = absurd (true≢false (sym (ap (λ z. same_row z r) (sym (row_same r x f)) ∙ row_itself r) ∙ e))
+
+once : (rs : List (List ℤ)) → AreOnce (each_once rs)
+once [] = tt
+once (r ∷ rs) = (any_others r (each_once rs), once_fewer (λ o. not (same_row o r)) (each_once rs) (once rs))
+
+keyed_all : (k : ℕ) (key : List ℤ) (es : List Entry) (rs : List (List ℤ)) → ((r : List ℤ) → Among r rs → same_row (take k r) key ≡ true) → IsTrue (list_all (has_key k key) (counted_once es rs))
+keyed_all k key es [] h = refl
+keyed_all k key es (r ∷ rs) h = and_from (same_row (take k r) key) (list_all (has_key k key) (counted_once es rs)) (h r (inl refl)) (keyed_all k key es rs (λ x m. h x (inr m)))
+
+keyed_row : (k : ℕ) (key : List ℤ) (es : List Entry) (r : List ℤ) → Among r (rows_of (filter (has_key k key) es)) → same_row (take k r) key ≡ true
+keyed_row k key [] r m = absurd m
+keyed_row k key (e ∷ es) r m = step (same_row (take k e.row) key) refl m (keyed_row k key es r)
+  where
+    step : (b : Bool) → same_row (take k e.row) key ≡ b → Among r (rows_of (cond b (e ∷ filter (has_key k key) es) (filter (has_key k key) es))) → (Among r (rows_of (filter (has_key k key) es)) → same_row (take k r) key ≡ true) → same_row (take k r) key ≡ true
+    step true f (inl x) ih = ap (λ z. same_row (take k z) key) (sym x) ∙ f
+    step true f (inr x) ih = ih x
+    step false f x ih = ih x
+
+module _ {T : Type 0} {below : T → T → Bool} (o : PartialOrderLaws below) (k : ℕ) (key : List ℤ) (t : T) (reduce : List ℤ → List Entry → List Entry) (content given : List (Update T)) where
+  abbrev want : List Entry
+  want = reduce key (had below k key t content)
+
+  -- what is to change, in whole numbers without bounds
+  abbrev entries : List Entry
+  entries = filter (has_key k key) (change below k key want t given)
+
+  abbrev pub ideal : List (Update T)
+  ideal = put t (settled entries)
+
+  ideal_count : (row : List ℤ) → same_row (take k row) key ≡ true → count_of (as_of below t ideal) row ≡ count_of want row +ℤ neg_ℤ (count_of (as_of below t given) row)
+  ideal_count row d =
+      ap (λ z. count_of z row) (as_of-put below k key t (o.reflexive t) (settled entries))
+      ∙ (count-settled entries row
+      ∙ (count_of-filter (λ r. same_row (take k r) key) (change below k key want t given) row
+      ∙ (ap (λ b. cond b (count_of (change below k key want t given) row) (pos 0)) d
+      ∙ change-count below k key want t given row d)))
+
+  ideal_apart : (rs : List (List ℤ)) → AreOnce rs → AreApart below (put t (counted_once entries rs))
+  ideal_apart [] a = tt
+  ideal_apart (r ∷ rs) a = (none rs a.0, ideal_apart rs a.1)
+    where
+      none : (ys : List (List ℤ)) → list_any (same_row r) ys ≡ false → list_any (is_doubled below (record { row = r; time = t; diff = count_of entries r })) (put t (counted_once entries ys)) ≡ false
+      none [] e = refl
+      none (y ∷ ys) e = let p = or_parts (same_row r y) (list_any (same_row r) ys) e in step (below t t) p.0 (none ys p.1)
+        where
+          step : (b : Bool) → same_row r y ≡ false → list_any (is_doubled below (record { row = r; time = t; diff = count_of entries r })) (put t (counted_once entries ys)) ≡ false
+              → ((b && b) && same_row r y || list_any (is_doubled below (record { row = r; time = t; diff = count_of entries r })) (put t (counted_once entries ys))) ≡ false
+          step true e h = rw e h
+          step false e h = h
+
+  pub ideal_corrects : IsReducer k reduce → Corrects below k reduce content given key t ideal
+  ideal_corrects q = record {
+    at = all_at o k key t ideal (put-at below k key t (o.reflexive t) (settled entries) (keyed_all k key entries (each_once (rows_of entries)) (λ r m. keyed_row k key (change below k key want t given) r (each_once_among (rows_of entries) r m))));
+    apart = ideal_apart (each_once (rows_of entries)) (once (rows_of entries));
+    right = λ taken s row d.
+        let w : count_of want row ≡ count_of (reduce key (had below k key t taken)) row = q.alike key (had below k key t content) (had below k key t taken) (had-alike below k key t content taken s) row in
+        sum_at-append below t given ideal row ∙ (ap (λ z. count_of (as_of below t given) row +ℤ z) (ideal_count row d) ∙ (settle (count_of (as_of below t given) row) (count_of want row) ∙ w));
+  }
+    where
+      settle : (x y : ℤ) → x +ℤ (y +ℤ neg_ℤ x) ≡ y
+      settle x y = omega (arith, ints)
+
+  pub ideal_large : (row : List ℤ) → same_row (take k row) key ≡ true → (FitsSigned w64 (wanted below k reduce content given key t row +ℤ neg_ℤ (count_of (as_of below t given) row)) → ⊥) → 2 ^ 63 ≤ size (filter (of_key k key) ideal)
+  ideal_large row d h =
+      let n = not_fits (count_of want row +ℤ neg_ℤ (count_of (as_of below t given) row)) h in
+      let e : count_of (had below k key t (filter (of_key k key) ideal)) row ≡ count_of want row +ℤ neg_ℤ (count_of (as_of below t given) row) =
+      count-had below k key t (filter (of_key k key) ideal) row d ∙ (ap (λ z. count_of z row) (as_of-keyed below k key t ideal) ∙ (count-had below k key t ideal row d ∙ ideal_count row d)) in
+      let a : 2 ^ 63 ≤ unsigned_abs (count_of (had below k key t (filter (of_key k key) ideal)) row) = subst (λ z. 2 ^ 63 ≤ unsigned_abs z) (sym e) n in
+      let b = count_small (had below k key t (filter (of_key k key) ideal)) row in
+      let c = entry_weight_is (had below k key t (filter (of_key k key) ideal)) in
+      let f = had_small below k key t (filter (of_key k key) ideal) in
+      omega (arith, a, b, c, f)

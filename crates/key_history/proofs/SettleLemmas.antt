@@ -1,0 +1,374 @@
+-- Over the pending times of one key.
+use Rattle.std.proofs.Common.{◌≡◌, ◌≢◌, ℕ, zero, suc, ◌+◌, ◌<◌, ◌≤◌, ◌^◌, Bool, true, false, cond, not, List, [], ◌∷◌, ◌++◌, take, drop, get_or, length, sym, refl, ap, ◌∙◌, subst, inl, inr, ◌⊎◌, ⊎_elim, arith, append_assoc, add-one, drop-cons}
+use Rattle.std.specs.Prelude.{IsTrue, ℤ}
+use Rattle.std.specs.List.{filter, list_all, AllByRecursion}
+use Rattle.std.specs.List.Sorted.{IsStrictlySortedBy}
+use Rattle.std.specs.Cmp.{IsTotalOrder}
+use Rattle.std.specs.Ordering.{is_le, ordering_reverse}
+use Rattle.std.specs.declared.cmp.Ordering.{Ordering}
+use Rattle.std.specs.declared.cmp.Ordering.TheVariants.{Less, Greater}
+use Rattle.std.proofs.lemmas.Bool.{and_parts, and_from, false≢true, true≢false}
+use Rattle.std.proofs.lemmas.List.{take_more, append-nil}
+use Rattle.std.proofs.lemmas.List.Elements.{filter-append}
+use Rattle.std.proofs.lemmas.Map.Keys.{sorted_head, sorted_tail}
+use Rattle.std.proofs.Math.IntN.{pos, ◌+ℤ◌}
+use Rattle.lattice.specs.Order.{PartialOrderLaws, LatticeLaws, ExtendsLaws}
+use Rattle.lattice.specs.Frontiers.{is_beyond}
+use Rattle.lattice.proofs.FrontierLemmas.{beyond_up}
+use Rattle.update.specs.Bags.{Entry, count_of, same_row}
+use Rattle.update.specs.Updates.{as_of, size, AreApart, is_doubled}
+use Rattle.update.specs.declared.change.Update.{Update}
+use Rattle.plan.specs.Changes.{has_passed}
+use Rattle.plan.specs.Reductions.{IsReducer}
+use Rattle.plan.proofs.CountLemmas.{row_itself}
+use Rattle.joined_times.specs.Joined.{Member, of_key}
+use Rattle.key_history.specs.Standing.{IsRight, KeyStands, IsSettledAt, Shows}
+use Rattle.key_history.specs.Corrections.{AllAt, Corrects, IsTooMuch}
+use Rattle.key_history.specs.Owing.{IsOwed}
+use Rattle.key_history.specs.Settling.{ReadsAs, Steps, Settling, IsOverfullFor}
+use Rattle.key_history.proofs.JoinedLemmas.{sum_at, sum_at-append}
+use Rattle.joined_times.proofs.MemberLemmas.{each_member, in_either, in_left, in_right}
+use Rattle.key_history.proofs.StandingLemmas.{corrects_one, key_right}
+use Rattle.key_history.proofs.ApartLemmas.{apart_both, apart_filter, doubled_is}
+use Rattle.key_history.proofs.CorrectionLemmas.{as_of-keyed, count-had, size_right, weight, weight_is, weight-append}
+use Rattle.key_history.proofs.OverfullLemmas.{ideal, ideal_corrects, ideal_large}
+
+-- ---- lists of times
+
+module _ {T : Type 0} where
+  member-weaken : (s t : T) (rest todo : List T) → Member s (rest ++ todo) → Member s (rest ++ t ∷ todo)
+  member-weaken s t [] todo h = inr h
+  member-weaken s t (n ∷ rest) todo (inl e) = inl e
+  member-weaken s t (n ∷ rest) todo (inr h) = inr (member-weaken s t rest todo h)
+
+  member-here : (t : T) (rest todo : List T) → Member t (rest ++ t ∷ todo)
+  member-here t [] todo = inl refl
+  member-here t (n ∷ rest) todo = inr (member-here t rest todo)
+
+  member-rest : (s t : T) (rest todo : List T) → Member s (rest ++ t ∷ todo) → (s ≡ t) ⊎ Member s (rest ++ todo)
+  member-rest s t [] todo h = h
+  member-rest s t (n ∷ rest) todo (inl e) = inr (inl e)
+  member-rest s t (n ∷ rest) todo (inr h) = ⊎_elim inl (λ g. inr (inr g)) (member-rest s t rest todo h)
+
+  member_at : (ts : List T) (i : ℕ) (t : T) → i < length ts → t ≡ get_or ts i t → Member t ts
+  member_at [] i t l e = absurd (omega (arith, l))
+  member_at (n ∷ ts) zero t l e = inl e
+  member_at (n ∷ ts) (suc i) t l e = inr (member_at ts i t (omega (arith, l)) e)
+
+  pub next : (xs : List T) (i : ℕ) (x : T) → i < length xs → x ≡ get_or xs i x → drop i xs ≡ x ∷ drop (i + 1) xs
+  next xs i x h e = drop-cons xs i x h ∙ (ap (λ y. y ∷ drop (suc i) xs) (sym e) ∙ ap (λ j. x ∷ drop j xs) (sym (add-one i)))
+
+  more_taken : (xs : List T) (i : ℕ) (x : T) → i < length xs → x ≡ get_or xs i x → take (i + 1) xs ≡ take i xs ++ x ∷ []
+  more_taken xs i x h e = take_more xs i x h ∙ ap (λ y. take i xs ++ (y ∷ [])) (sym e)
+
+  member-taken : (xs : List T) (i : ℕ) (s : T) → Member s (take i xs) → Member s xs
+  member-taken xs zero s h = absurd h
+  member-taken [] (suc i) s h = absurd h
+  member-taken (x ∷ xs) (suc i) s (inl e) = inl e
+  member-taken (x ∷ xs) (suc i) s (inr h) = inr (member-taken xs i s h)
+
+  member-dropped : (xs : List T) (i : ℕ) (s : T) → Member s (drop i xs) → Member s xs
+  member-dropped xs zero s h = h
+  member-dropped [] (suc i) s h = h
+  member-dropped (x ∷ xs) (suc i) s h = inr (member-dropped xs i s h)
+
+  pub drop_whole : (xs : List T) → drop (length xs) xs ≡ []
+  drop_whole [] = refl
+  drop_whole (x ∷ xs) = drop_whole xs
+
+  pub take_whole : (xs : List T) → take (length xs) xs ≡ xs
+  take_whole [] = refl
+  take_whole (x ∷ xs) = ap (λ z. x ∷ z) (take_whole xs)
+
+module _ {T : Type 0} {below : T → T → Bool} {cmp : T → T → Ordering} (e : ExtendsLaws below cmp) (total : IsTotalOrder cmp) where
+  not_under : (t s : T) → cmp t s ≡ Less → below s t ≡ false
+  not_under t s c = step (below s t) refl
+    where
+      step : (b : Bool) → below s t ≡ b → below s t ≡ false
+      step false h = h
+      step true h =
+          let g : cmp s t ≡ Greater = total.antisymm s t ∙ ap ordering_reverse c in
+          absurd (true≢false (sym (e.extends s t h) ∙ ap is_le g))
+
+  all_under : (t : T) (ss : List T) → AllByRecursion (λ s. cmp t s ≡ Less) ss → (s : T) → Member s ss → below s t ≡ false
+  all_under t [] a s m = absurd m
+  all_under t (x ∷ ss) a s (inl d) = subst (λ z. below z t ≡ false) (sym d) (not_under t x a.0)
+  all_under t (x ∷ ss) a s (inr m) = all_under t ss a.1 s m
+
+  sorted_from : (ts : List T) (i : ℕ) → IsStrictlySortedBy cmp ts → IsStrictlySortedBy cmp (drop i ts)
+  sorted_from ts zero a = a
+  sorted_from [] (suc i) a = a
+  sorted_from (t ∷ ts) (suc i) a = sorted_from ts i (sorted_tail cmp t ts a)
+
+  -- a later time of a sorted list is not at or before an earlier one
+  pub later : (ts : List T) → IsStrictlySortedBy cmp ts → (i : ℕ) (t : T) → i < length ts → t ≡ get_or ts i t → (s : T) → Member s (drop (i + 1) ts) → below s t ≡ false
+  later ts a i t l d =
+      let b : IsStrictlySortedBy cmp (t ∷ drop (i + 1) ts) = subst (IsStrictlySortedBy cmp) (next ts i t l d) (sorted_from ts i a) in
+      all_under t (drop (i + 1) ts) (sorted_head cmp t (drop (i + 1) ts) b)
+
+  -- nor at or before any of those in front of it
+  pub behind : (ts : List T) → IsStrictlySortedBy cmp ts → (i : ℕ) (t s : T) → Member t (take i ts) → Member s (drop i ts) → below s t ≡ false
+  behind ts a zero t s m n = absurd m
+  behind [] a (suc i) t s m n = absurd m
+  behind (x ∷ ts) a (suc i) t s (inl d) n = subst (λ z. below s z ≡ false) (sym d) (all_under x ts (sorted_head cmp x ts a) s (member-dropped ts i s n))
+  behind (x ∷ ts) a (suc i) t s (inr m) n = behind ts (sorted_tail cmp x ts a) i t s m n
+
+module _ {T : Type 0} {below : T → T → Bool} {joined met : T → T → T} (o : PartialOrderLaws below) (l : LatticeLaws below joined met)
+    (k : ℕ) (reduce : List ℤ → List Entry → List Entry) (key : List ℤ) (content stored : List (Update T)) (front : List T) where
+  late : (ts : List T) (s : T) → Member s (filter (λ t. is_beyond below front t) ts) → is_beyond below front s ≡ true
+  late [] s h = absurd h
+  late (t ∷ ts) s h = step (is_beyond below front t) refl h (late ts s)
+    where
+      step : (b : Bool) → is_beyond below front t ≡ b → Member s (cond b (t ∷ filter (λ t. is_beyond below front t) ts) (filter (λ t. is_beyond below front t) ts))
+          → (Member s (filter (λ t. is_beyond below front t) ts) → is_beyond below front s ≡ true) → is_beyond below front s ≡ true
+      step true e (inl d) ih = ap (λ z. is_beyond below front z) d ∙ e
+      step true e (inr m) ih = ih m
+      step false e m ih = ih m
+
+  -- no time that is left is at or before one that is due
+  least : (t : T) (rest after : List T) → ((s : T) → Member s rest → is_beyond below front s ≡ true) → is_beyond below front t ≡ false → ((s : T) → Member s after → below s t ≡ false)
+      → (s : T) → Member s (rest ++ after) → below s t ≡ true → ⊥
+  least t rest after a p n s m b =
+      ⊎_elim
+      (λ r. false≢true (sym p ∙ beyond_up o front s t (a s r) b))
+      (λ r. true≢false (sym b ∙ n s r))
+      (in_either s rest after m)
+
+  all_at_is : (us : List (Update T)) (t : T) → AllAt k key t us → (u : Update T) → Member u us → (of_key k key u ≡ true) × (u.time ≡ t)
+  all_at_is [] t a u m = absurd m
+  all_at_is (x ∷ us) t a u (inl e) = (ap (λ z. same_row (take k z.row) key) e ∙ (ap (λ z. same_row z key) a.0 ∙ row_itself key), ap (λ (z : Update T). z.time) e ∙ a.1)
+  all_at_is (x ∷ us) t a u (inr m) = all_at_is us t a.2 u m
+
+  -- what stands in for what was given does so with more behind both
+  pub shows_more : (given more : List (Update T)) → IsTrue (list_all (of_key k key) more) → Shows below k key stored given → Shows below k key (stored ++ more) (given ++ more)
+  shows_more given more own s = record {
+    sums = λ t row d. sum_at-append below t stored more row ∙ (ap (λ z. z +ℤ sum_at below t more row) (s.sums t row d) ∙ sym (sum_at-append below t given more row));
+    smaller =
+        let a = weight-append stored more in
+        let b = weight-append (filter (of_key k key) given) (filter (of_key k key) more) in
+        let c = weight_is (stored ++ more) in
+        let d = weight_is stored in
+        let e = weight_is (filter (of_key k key) given) in
+        let f : weight (filter (of_key k key) (given ++ more)) ≡ weight (filter (of_key k key) given ++ filter (of_key k key) more) = ap weight (filter-append (of_key k key) given more) in
+        let g : weight (filter (of_key k key) more) ≡ weight more = ap weight (all_own more own) in
+        let h = weight_is (filter (of_key k key) (given ++ more)) in
+        let i = s.smaller in
+        omega (arith, a, b, c, d, e, f, g, h, i);
+  }
+    where
+      all_own : (us : List (Update T)) → IsTrue (list_all (of_key k key) us) → filter (of_key k key) us ≡ us
+      all_own [] h = refl
+      all_own (u ∷ us) h = let q = and_parts (of_key k key u) (list_all (of_key k key) us) h in rw q.0 (ap (λ z. u ∷ z) (all_own us q.1))
+
+  pub own_from : (us : List (Update T)) → ((u : Update T) → Member u us → of_key k key u ≡ true) → IsTrue (list_all (of_key k key) us)
+  own_from [] h = refl
+  own_from (u ∷ us) h = and_from (of_key k key u) (list_all (of_key k key) us) (h u (inl refl)) (own_from us (λ v m. h v (inr m)))
+
+  right_shown : (taken given stored2 given2 new : List (Update T)) (t : T) → ((t : T) (row : List ℤ) → same_row (take k row) key ≡ true → count_of (as_of below t stored2) row ≡ count_of (as_of below t given2) row)
+      → IsRight below k reduce taken (stored2 ++ new) key t → IsRight below k reduce taken (given2 ++ new) key t
+  right_shown taken given stored2 given2 new t s r row d =
+      sum_at-append below t given2 new row ∙ (ap (λ z. z +ℤ sum_at below t new row) (sym (s t row d)) ∙ (sym (sum_at-append below t stored2 new row) ∙ r row d))
+
+  lighter : (us : List (Update T)) → weight (filter (of_key k key) us) ≤ weight us
+  lighter [] = omega arith
+  lighter (u ∷ us) = step (of_key k key u) (lighter us)
+    where
+      step : (b : Bool) → weight (filter (of_key k key) us) ≤ weight us → weight (cond b (u ∷ filter (of_key k key) us) (filter (of_key k key) us)) ≤ weight (u ∷ us)
+      step true h = omega (arith, h)
+      step false h = omega (arith, h)
+
+  -- ---- what is owed
+
+  member_filter : (us : List (Update T)) (u : Update T) → Member u (filter (of_key k key) us) → Member u us × (of_key k key u ≡ true)
+  member_filter [] u h = absurd h
+  member_filter (y ∷ us) u h = step (of_key k key y) refl h (member_filter us u)
+    where
+      step : (b : Bool) → of_key k key y ≡ b → Member u (cond b (y ∷ filter (of_key k key) us) (filter (of_key k key) us)) → (Member u (filter (of_key k key) us) → Member u us × (of_key k key u ≡ true)) → Member u (y ∷ us) × (of_key k key u ≡ true)
+      step true e (inl f) ih = (inl f, ap (λ (z : Update T). of_key k key z) f ∙ e)
+      step true e (inr h) ih = let z = ih h in (inr z.0, z.1)
+      step false e h ih = let z = ih h in (inr z.0, z.1)
+
+  passed_each : (us : List (Update T)) → ((u : Update T) → Member u us → IsTrue (has_passed below front u.time)) → IsTrue (list_all (λ u. has_passed below front u.time) us)
+  passed_each [] h = refl
+  passed_each (u ∷ us) h = and_from (has_passed below front u.time) (list_all (λ u. has_passed below front u.time) us) (h u (inl refl)) (passed_each us (λ v m. h v (inr m)))
+
+  owed : IsReducer k reduce → (taken all : List (Update T)) (left : List T) → KeyStands below joined k reduce taken all key left → AreApart below all
+      → ((u : Update T) → Member u all → IsTrue (has_passed below front u.time)) → ((u : Update T) → Member u all → of_key k key u ≡ true → IsSettledAt below left u.time)
+      → IsOwed below k reduce taken key front (filter (of_key k key) all)
+  owed q taken all left w a p op = record {
+    keyed = own_from (filter (of_key k key) all) (λ u m. (member_filter all u m).1);
+    apart = apart_filter o (of_key k key) all a;
+    passed = passed_each (filter (of_key k key) all) (λ u m. p u (member_filter all u m).0);
+    sums = λ u h t b row d.
+        let m = member_filter all u h in
+        let quiet : IsSettledAt below left t = λ s i c. op u m.0 m.1 s i (o.transitive s t u.time c b) in
+        ap (λ z. count_of z row) (as_of-keyed below k key t all) ∙ (count-had below k key t all row d ∙ key_right o l k reduce q taken all key left w t quiet row d);
+  }
+
+  module _ {cmp : T → T → Ordering} (x : ExtendsLaws below cmp) (total : IsTotalOrder cmp) (due : List T) (ascending : IsStrictlySortedBy cmp due) where
+    pub first_of : Settling below joined k reduce key content stored front due 0 [] []
+    first_of = record {
+      rest_is = refl;
+      stands = λ taken given rd sh w. subst (λ z. KeyStands below joined k reduce taken z key due) (sym (append-nil given)) w;
+      apart = tt;
+      at = λ u m. absurd m;
+      nonzero = λ u m. absurd m;
+    }
+
+    module _ (i : ℕ) (t : T) (lt : i < length due) (e : t ≡ get_or due i t) (more : List (Update T)) (rest : List T) (s : Settling below joined k reduce key content stored front due i more rest) where
+      abbrev after : List T
+      after = drop (i + 1) due
+
+      left : (s : T) → Member s rest → is_beyond below front s ≡ true
+      left v m = late (take i due) v (subst (Member v) s.rest_is m)
+
+      rest_more : filter (λ t. is_beyond below front t) (take (i + 1) due) ≡ rest ++ filter (λ t. is_beyond below front t) (t ∷ [])
+      rest_more =
+          ap (filter (λ t. is_beyond below front t)) (more_taken due i t lt e)
+          ∙ (filter-append (λ t. is_beyond below front t) (take i due) (t ∷ []) ∙ ap (λ z. z ++ filter (λ t. is_beyond below front t) (t ∷ [])) (sym s.rest_is))
+
+      own : IsTrue (list_all (of_key k key) more)
+      own = own_from more (λ u m. (s.at u m).0)
+
+      still : (u : Update T) → Member u more → (of_key k key u ≡ true) × Member u.time (take (i + 1) due) × (is_beyond below front u.time ≡ false)
+      still u m = let a = s.at u m in (a.0, subst (Member u.time) (sym (more_taken due i t lt e)) (in_left u.time (take i due) (t ∷ []) a.1), a.2)
+
+      -- with one more correction
+      corrected : is_beyond below front t ≡ false → (new : List (Update T)) → Corrects below k reduce content (stored ++ more) key t new
+          → (taken given : List (Update T)) → ReadsAs below front due content taken → Shows below k key stored given → KeyStands below joined k reduce taken given key due
+          → KeyStands below joined k reduce taken ((given ++ more) ++ new) key (rest ++ after)
+      corrected p new c taken given rd sh w =
+          let here : Member t due = member_at due i t lt e in
+          let old : KeyStands below joined k reduce taken (given ++ more) key (rest ++ t ∷ after) = subst (λ z. KeyStands below joined k reduce taken (given ++ more) key (rest ++ z)) (next due i t lt e) (s.stands taken given rd sh w) in
+          corrects_one o l k reduce taken (given ++ more) new key (rest ++ t ∷ after) (rest ++ after) t old (member-here t rest after)
+          (λ v m. member-weaken v t rest after m) (λ v m. member-rest v t rest after m)
+          (least t rest after left p (later x total due ascending i t lt e)) c.at
+          (right_shown taken given (stored ++ more) (given ++ more) new t (shows_more given more own sh).sums (c.right taken (rd t here p)))
+
+      apart_new : (new : List (Update T)) → AllAt k key t new → AreApart below new → AreApart below (more ++ new)
+      apart_new new a b = apart_both o more new s.apart b (λ u v m n. step u v m n (is_doubled below u v) refl)
+        where
+          step : (u v : Update T) → Member u more → Member v new → (b : Bool) → is_doubled below u v ≡ b → is_doubled below u v ≡ false
+          step u v m n false d = d
+          step u v m n true d =
+              let same : u.time ≡ t = (doubled_is o u v d).1 ∙ (all_at_is new t a v n).1 in
+              let under = behind x total due ascending i u.time t (s.at u m).1 (subst (Member t) (sym (next due i t lt e)) (inl refl)) in
+              absurd (true≢false (sym (subst (λ z. below t z ≡ true) (sym same) (o.reflexive t)) ∙ under))
+
+      pub stepped : (more2 : List (Update T)) (rest2 : List T) → Steps below joined k reduce key content stored front t more more2 rest rest2 → Settling below joined k reduce key content stored front due (i + 1) more2 rest2
+      stepped more2 rest2 (inl w) = record {
+        rest_is = w.2 ∙ (ap (λ z. rest ++ z) (sym stays) ∙ sym rest_more);
+        stands = λ taken given rd sh st. subst (λ z. KeyStands below joined k reduce taken (given ++ z) key (rest2 ++ after)) (sym w.1) (subst (λ z. KeyStands below joined k reduce taken (given ++ more) key z) moved (s.stands taken given rd sh st));
+        apart = subst (AreApart below) (sym w.1) s.apart;
+        at = λ u m. still u (subst (Member u) w.1 m);
+        nonzero = λ u m. s.nonzero u (subst (Member u) w.1 m);
+      }
+        where
+          stays : filter (λ t. is_beyond below front t) (t ∷ []) ≡ t ∷ []
+          stays = rw w.0 refl
+
+          moved : rest ++ drop i due ≡ rest2 ++ after
+          moved = ap (λ z. rest ++ z) (next due i t lt e) ∙ (sym (append_assoc rest (t ∷ []) after) ∙ ap (λ z. z ++ after) (sym w.2))
+      stepped more2 rest2 (inr w) = record {
+        rest_is = w.1 ∙ (sym (append-nil rest) ∙ (ap (λ z. rest ++ z) (sym goes) ∙ sym rest_more));
+        stands = λ taken given rd sh st.
+            subst (λ z. KeyStands below joined k reduce taken z key (rest2 ++ after)) (append_assoc given more new ∙ ap (λ z. given ++ z) (sym w.2.1))
+            (subst (λ z. KeyStands below joined k reduce taken ((given ++ more) ++ new) key (z ++ after)) (sym w.1) (corrected w.0 new c taken given rd sh st));
+        apart = subst (AreApart below) (sym w.2.1) (apart_new new c.at c.apart);
+        at = λ u m. ⊎_elim (still u) (λ n. let a = all_at_is new t c.at u n in (a.0, subst (λ z. Member z (take (i + 1) due)) (sym a.1) here, ap (λ z. is_beyond below front z) a.1 ∙ w.0)) (in_either u more new (subst (Member u) w.2.1 m));
+        nonzero = λ u m. ⊎_elim (s.nonzero u) (λ n. each_member (λ u. u.diff ≢ pos 0) new w.2.2 u n) (in_either u more new (subst (Member u) w.2.1 m));
+      }
+        where
+          new : List (Update T)
+          new = w.2.0
+
+          c : Corrects below k reduce content (stored ++ more) key t new
+          c = w.2.3
+
+          here : Member t (take (i + 1) due)
+          here = subst (Member t) (sym (more_taken due i t lt e)) (in_right t (take i due) (t ∷ []) (inl refl))
+
+          goes : filter (λ t. is_beyond below front t) (t ∷ []) ≡ []
+          goes = rw w.0 refl
+
+      -- a number that is too large at a time that is due
+      pub overfull : IsReducer k reduce → is_beyond below front t ≡ false → IsTooMuch below k reduce content (stored ++ more) key t → IsOverfullFor below joined k reduce key content stored front due
+      overfull q p large taken given rd sh st ag op ps =
+          ⊎_elim (λ h. inl (h taken (rd t here p)))
+          (⊎_elim
+          (λ h. inr (
+            key,
+            filter (of_key k key) (given ++ more),
+            owed q taken (given ++ more) (rest ++ drop i due) (s.stands taken given rd sh st) both passed opened,
+            (let a = (shows_more given more own sh).smaller in
+                let b = lighter (stored ++ more) in
+                let c = weight_is (filter (of_key k key) (stored ++ more)) in
+                let d = weight_is (stored ++ more) in
+                omega (arith, a, b, c, d, h)),
+          ))
+          (λ h.
+          let ideals : List (Update T) = ideal o k key t reduce content (stored ++ more) in
+          let c = ideal_corrects o k key t reduce content (stored ++ more) q in
+          let at = all_at_is ideals t c.at in
+          let apart2 : AreApart below ((given ++ more) ++ ideals) = apart_both o (given ++ more) ideals both c.apart (λ u v m n. other u v m (at v n) (is_doubled below u v) refl) in
+          let passed2 : (u : Update T) → Member u ((given ++ more) ++ ideals) → IsTrue (has_passed below front u.time) =
+          λ u m. ⊎_elim (passed u) (λ n. ap (λ z. not (is_beyond below front z)) (at u n).1 ∙ ap not p) (in_either u (given ++ more) ideals m) in
+          let opened2 : (u : Update T) → Member u ((given ++ more) ++ ideals) → of_key k key u ≡ true → IsSettledAt below (rest ++ after) u.time =
+          λ u m d v n b. ⊎_elim (λ y. opened u y d v (fewer v n) b) (λ y. least t rest after left p (later x total due ascending i t lt e) v n (subst (λ z. below v z ≡ true) (at u y).1 b)) (in_either u (given ++ more) ideals m) in
+          inr (
+            key,
+            filter (of_key k key) ((given ++ more) ++ ideals),
+            owed q taken ((given ++ more) ++ ideals) (rest ++ after) (corrected p ideals c taken given rd sh st) apart2 passed2 opened2,
+            subst (λ z. 2 ^ 63 ≤ size z) (sym (filter-append (of_key k key) (given ++ more) ideals)) (size_right (2 ^ 63) (filter (of_key k key) (given ++ more)) (filter (of_key k key) ideals) (ideal_large o k key t reduce content (stored ++ more) h.0 h.1 h.2)),
+          )))
+          large
+        where
+          here : Member t due
+          here = member_at due i t lt e
+
+          fewer : (v : T) → Member v (rest ++ after) → Member v (rest ++ drop i due)
+          fewer v m = subst (λ z. Member v (rest ++ z)) (sym (next due i t lt e)) (member-weaken v t rest after m)
+
+          in_due : (v : T) → Member v rest → Member v due
+          in_due v m = member-taken due i v (kept (take i due) v (subst (Member v) s.rest_is m))
+            where
+              kept : (ts : List T) (v : T) → Member v (filter (λ t. is_beyond below front t) ts) → Member v ts
+              kept [] v m = absurd m
+              kept (y ∷ ts) v m = step (is_beyond below front y) m (kept ts v)
+                where
+                  step : (b : Bool) → Member v (cond b (y ∷ filter (λ t. is_beyond below front t) ts) (filter (λ t. is_beyond below front t) ts)) → (Member v (filter (λ t. is_beyond below front t) ts) → Member v ts) → Member v (y ∷ ts)
+                  step true (inl d) ih = inl d
+                  step true (inr m) ih = inr (ih m)
+                  step false m ih = inr (ih m)
+
+          apart_from : (u v : Update T) → Member u given → Member v more → (b : Bool) → is_doubled below u v ≡ b → is_doubled below u v ≡ false
+          apart_from u v m n false d = d
+          apart_from u v m n true d =
+              let same = doubled_is o u v d in
+              let a = s.at v n in
+              absurd (op u m (ap (λ z. same_row (take k z) key) same.0 ∙ a.0) v.time (member-taken due i v.time a.1) (subst (λ z. below v.time z ≡ true) (sym same.1) (o.reflexive v.time)))
+
+          both : AreApart below (given ++ more)
+          both = apart_both o given more ag s.apart (λ u v m n. apart_from u v m n (is_doubled below u v) refl)
+
+          passed : (u : Update T) → Member u (given ++ more) → IsTrue (has_passed below front u.time)
+          passed u m = ⊎_elim (ps u) (λ n. ap not (s.at u n).2) (in_either u given more m)
+
+          opened : (u : Update T) → Member u (given ++ more) → of_key k key u ≡ true → IsSettledAt below (rest ++ drop i due) u.time
+          opened u m d v n b =
+              ⊎_elim
+              (λ y. op u y d v (⊎_elim (in_due v) (member-dropped due i v) (in_either v rest (drop i due) n)) b)
+              (λ y.
+              let a = s.at u y in
+              ⊎_elim
+              (λ r. false≢true (sym a.2 ∙ beyond_up o front v u.time (left v r) b))
+              (λ r. true≢false (sym b ∙ behind x total due ascending i u.time v a.1 r))
+              (in_either v rest (drop i due) n))
+              (in_either u given more m)
+
+          other : (u v : Update T) → Member u (given ++ more) → (of_key k key v ≡ true) × (v.time ≡ t) → (b : Bool) → is_doubled below u v ≡ b → is_doubled below u v ≡ false
+          other u v m a false d = d
+          other u v m a true d =
+              let same = doubled_is o u v d in
+              let due_here : Member t (rest ++ drop i due) = subst (λ z. Member t (rest ++ z)) (sym (next due i t lt e)) (member-here t rest after) in
+              absurd (opened u m (ap (λ z. same_row (take k z) key) same.0 ∙ a.0) t due_here (subst (λ z. below t z ≡ true) (sym (same.1 ∙ a.1)) (o.reflexive t)))

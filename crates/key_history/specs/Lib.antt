@@ -1,0 +1,12 @@
+-- The definitions of the history of a key, with those of orders and frontiers that its contracts name.
+pub use Rattle.lattice.specs.Order
+pub use Rattle.lattice.specs.Frontiers
+pub mod States
+pub mod Standing
+pub mod Corrections
+pub mod Evaluations
+pub mod Replays
+pub mod Pasts
+pub mod Sweeps
+pub mod Owing
+pub mod Settling

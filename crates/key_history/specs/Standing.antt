@@ -1,0 +1,43 @@
+-- What a reduction is to keep of each key: which of its joined times are pending, and that at each other one the
+-- updates that were given are right.
+use Rattle.std.specs.Prelude.{◌≡◌, ℕ, ◌≤◌, Bool, true, List, ℤ, length, take, nat_le, ◌⊎◌}
+use Rattle.std.specs.List.{filter, list_all}
+use Rattle.update.specs.Bags.{Entry, count_of, same_row}
+use Rattle.update.specs.Updates.{as_of, size}
+use Rattle.update.specs.declared.change.Update.{Update}
+use Rattle.plan.specs.Reductions.{has_key}
+use Rattle.joined_times.specs.Joined.{Member, of_key, IsJoined}
+
+-- each row has a key of k columns
+abbrev pub are_wide : {T : Type 0} → ℕ → List (Update T) → Bool
+are_wide k us = list_all (λ u. nat_le k (length u.row)) us
+
+module _ {T : Type 0} (below : T → T → Bool) where
+  -- of the rows of a key, what was given sums at t to what the reducer makes of what was taken
+  abbrev pub IsRight : ℕ → (List ℤ → List Entry → List Entry) → List (Update T) → List (Update T) → List ℤ → T → Type 0
+  IsRight k reduce taken given key t =
+      (row : List ℤ) → same_row (take k row) key ≡ true
+      → count_of (as_of below t given) row
+      ≡ count_of (reduce key (filter (has_key k key) (as_of below t taken))) row
+
+  -- a key whose pending times these are, after these updates were taken and those given
+  pub record KeyStands (joined : T → T → T) (k : ℕ) (reduce : List ℤ → List Entry → List Entry)
+      (taken given : List (Update T)) (key : List ℤ) (due : List T) : Type 0 where
+    -- given only at joined times
+    pub given_joined : (g : Update T) → Member g given → of_key k key g ≡ true → IsJoined joined k taken key g.time
+    -- joined times alone are pending
+    pub pending : (t : T) → Member t due → IsJoined joined k taken key t
+    -- with a time all joined times at or after it are pending
+    pub upward : (s t : T) → Member s due → IsJoined joined k taken key t → below s t ≡ true → Member t due
+    -- at each other joined time what was given is right
+    pub settled : (t : T) → IsJoined joined k taken key t → Member t due ⊎ IsRight k reduce taken given key t
+
+  -- no pending time is at or before t
+  abbrev pub IsSettledAt : List T → T → Type 0
+  IsSettledAt due t = (s : T) → Member s due → below s t ≡ true → ⊥
+
+  -- these updates stand in for what was given of a key: their rows sum to the same at every time, and they are no larger
+  pub record Shows (k : ℕ) (key : List ℤ) (stored given : List (Update T)) : Type 0 where
+    pub sums : (t : T) (row : List ℤ) → same_row (take k row) key ≡ true
+        → count_of (as_of below t stored) row ≡ count_of (as_of below t given) row
+    pub smaller : size stored ≤ size (filter (of_key k key) given)

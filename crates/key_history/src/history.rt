@@ -1,0 +1,182 @@
+//! The history of one key: its joined times, which of them are pending, and what was given of it. A history is changed in
+//! place, so a change costs what is new and not what the key has been through. Only [`KeyHistory::give`] takes memory, and
+//! what it appends can be taken back. So a call that is refused on its way can leave each history as it was.
+//!
+//! Beside what was given stands its past, which is a shorter list for the times to come. A contract does not see it.
+ghost use Rattle.std.specs.Prelude.{◌≡◌, ◌≤◌, ◌+◌, ◌++◌, List, [], ℤ, IfErr, OnErr, OnOk, length, vec_capacity, vec_len};
+ghost use Rattle.update.specs.declared.refusal.Refusal.{Refusal};
+ghost use Rattle.key_history.specs.States.{HistoryState, given_more, given_less, due_left, times_put};
+ghost use Rattle.key_history.specs.Replays.{StandsFrom};
+
+use crate::past::Past;
+use lattice::Lattice;
+use row::Row;
+use std::alloc::Global;
+use std::marker::Model;
+use update::{Refusal, Update};
+
+/// A key with its joined times, the pending ones among them, and what was given of it, as a contract sees it.
+#[derive(Drop)]
+pub struct KeyHistory<T: Lattice> {
+    key: Row,
+    times: Vec<T>,
+    due: Vec<T>,
+    given: Vec<Update<T>>,
+    past: Past<T>,
+}
+
+impl<T: Lattice> Model for KeyHistory<T> {
+    ghost use Rattle.key_history.specs.States.{HistoryState};
+    ghost use Rattle.key_history.specs.Pasts.{IsPast};
+
+    ghost Value = { HistoryState T };
+
+    ghost view = { λ h. record {
+      key = h.key;
+      times = h.times.items;
+      due = h.due.items;
+      given = h.given.items;
+    } };
+
+    ghost invariant = { λ h. IsPast T.below h.given.items h.past };
+}
+
+// Makes room for so many more updates. A first list gets no more room than that, since many keys get no second one.
+fn make_room<T: Lattice>(list: &mut Vec<Update<T>>, more: usize) -> Result<(), Refusal>
+    ensures items { list.new.items ≡ list.old.items }
+    ensures room { OnOk result (vec_len list.new + more ≤ vec_capacity list.new) }
+    ensures only { IfErr result (λ refused. refused ≡ Refusal.OutOfMemory) }
+{
+    if list.is_empty() {
+        list.reserve_exact(more)?;
+        return Ok(());
+    }
+    list.reserve(more)?;
+    Ok(())
+}
+
+// Appends copies of updates to a list that has room for them. Takes no memory.
+fn push_copies<T: Lattice>(list: &mut Vec<Update<T>>, more: &[Update<T>])
+    requires room { vec_len list.old + length more.now ≤ vec_capacity list.old }
+    ensures pushed { list.new.items ≡ list.old.items ++ more.now }
+{
+    for update in more {
+        list.push(update.copy()).unwrap();
+    }
+}
+
+impl<T: Lattice> KeyHistory<T> {
+    /// The history of a key of which nothing was given. Takes no memory.
+    pub fn new(alloc: Global, key: Row, times: Vec<T>, due: Vec<T>) -> KeyHistory<T>
+        ensures { result ≡ record {
+          key = key;
+          times = times.items;
+          due = due.items;
+          given = [];
+        } }
+    {
+        KeyHistory {
+            key,
+            times,
+            due,
+            given: Vec::new(alloc),
+            past: Past::none(alloc),
+        }
+    }
+
+    /// The key. Takes no memory.
+    pub fn key(&self) -> &Row
+        ensures { result.now ≡ self.now.key }
+    {
+        &self.key
+    }
+
+    /// The joined times of the key, in `Ord` order. Takes no memory.
+    pub fn times(&self) -> &[T]
+        ensures { result.now ≡ self.now.times }
+    {
+        self.times.as_slice()
+    }
+
+    /// The pending times of the key, in `Ord` order. Takes no memory.
+    pub fn due(&self) -> &[T]
+        ensures { result.now ≡ self.now.due }
+    {
+        self.due.as_slice()
+    }
+
+    /// What was given of the key, the latest last. Takes no memory.
+    pub fn given(&self) -> &[Update<T>]
+        ensures { result.now ≡ self.now.given }
+    {
+        self.given.as_slice()
+    }
+
+    /// What was given of the key, as the times at or after `meet` see it: the updates of two lists. Takes no memory.
+    pub(crate) fn seen_from(&self, meet: T) -> (&[Update<T>], &[Update<T>])
+        ensures { StandsFrom T.below meet self.now.given (result.0.now ++ result.1.now) }
+    {
+        let given = self.given.as_slice();
+        if self.past.since.less_equal(&meet) {
+            (self.past.near.as_slice(), &given[self.past.count..])
+        } else {
+            given.split_at(0)
+        }
+    }
+
+    /// Folds what was given, as the times at or after `since` see it, if that is worth it and memory for it is there. Nothing
+    /// that a contract sees is changed.
+    ///
+    /// Cost: none for most calls. All folds of a key together cost n log n in the number of updates that were given.
+    pub fn fold(&mut self, alloc: Global, since: T)
+        ensures { self.new ≡ self.old }
+    {
+        let count = self.given.len();
+        if !self.past.is_worth_folding(count) {
+            return;
+        }
+        let (folded, recent) = self.seen_from(since);
+        if let Ok(past) = Past::of(alloc, folded, recent, count, since) {
+            self.past = past;
+        }
+    }
+
+    /// Appends copies of updates to what was given. If the call is refused, then nothing has changed.
+    ///
+    /// [`Refusal::OutOfMemory`] only if memory for the copies was refused.
+    ///
+    /// Cost: a copy of `more`. If there is no room for it, then the list of what was given moves to one of twice the room.
+    pub fn give(&mut self, more: &[Update<T>]) -> Result<(), Refusal>
+        ensures given { OnOk result (self.new ≡ given_more more.now self.old) }
+        ensures same { OnErr result (self.new ≡ self.old) }
+        ensures only { IfErr result (λ refused. refused ≡ Refusal.OutOfMemory) }
+    {
+        make_room(&mut self.given, more.len())?;
+        push_copies(&mut self.given, more);
+        Ok(())
+    }
+
+    /// Takes back the last `many` updates that were given. Takes no memory.
+    pub fn take_back(&mut self, many: usize)
+        ensures { self.new ≡ given_less many self.old }
+    {
+        let left = self.given.len().saturating_sub(many);
+        self.given.truncate(left);
+        self.past.cut(left);
+    }
+
+    /// Puts other joined times in place, and the pending ones among them. Takes no memory.
+    pub fn put_times(&mut self, times: Vec<T>, due: Vec<T>)
+        ensures { self.new ≡ times_put times.items due.items self.old }
+    {
+        self.times = times;
+        self.due = due;
+    }
+
+    /// Leaves these times pending. Takes no memory.
+    pub fn leave(&mut self, due: Vec<T>)
+        ensures { self.new ≡ due_left due.items self.old }
+    {
+        self.due = due;
+    }
+}

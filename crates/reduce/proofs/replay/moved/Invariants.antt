@@ -1,6 +1,0 @@
-use Rattle.std.proofs.Common.{◌≡◌, take}
-use Rattle.reduce.specs.Replays.{moved_to}
-use Rattle.reduce.proofs.replay.moved.Given as goal
-
-abbrev pub invariant-loop-update : goal.invariant-loop-update
-invariant-loop-update g l = l.out.items ≡ moved_to g.T.Lattice.joined l.meet (take l.update-index l.updates)

@@ -1,7 +1,0 @@
-use Rattle.std.proofs.Common.{subst}
-use Rattle.reduce.specs.Tallies.{AreInOrder}
-use Rattle.reduce.proofs.TallyLemmas.{tallied_order}
-use Rattle.reduce.proofs.tally.Tally.known.Goals as goal
-
-pub returns : goal.returns
-returns c = record { order = subst AreInOrder c.self.view_is (tallied_order c.self.inside.rows.items c.self.inside.counts.items c.self.invariant.ascending) }

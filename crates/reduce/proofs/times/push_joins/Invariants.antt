@@ -1,9 +1,0 @@
-use Rattle.std.proofs.Common.{take}
-use Rattle.reduce.specs.Joined.{Member}
-use Rattle.reduce.specs.Adding.{Appends, joins_with}
-use Rattle.reduce.proofs.times.push_joins.Given as goal
-
--- the time, and those so far joined with it, are appended
-abbrev pub invariant-loop-s : goal.invariant-loop-s
-invariant-loop-s g l =
-    Appends l.fn.fresh.items l.fresh.items (λ r. Member r (joins_with g.T.Lattice.joined l.t (take l.s-index l.near)))

@@ -1,0 +1,81 @@
+-- Count: the sum of the counts, what bounds it, and the answer that follows from it.
+use Rattle.std.proofs.Common.{◌≡◌, ℕ, ◌+◌, ◌*◌, ◌^◌, ◌<◌, ◌≤◌, Bool, true, false, cond, List, [], ◌∷◌, ◌++◌, ℤ, take, length, get_or, refl, ap, sym, ◌∙◌, ⊎_elim, to_z, of_z, w64, FitsSigned, arith}
+use Rattle.std.specs.Prelude.{pos, ◌+ℤ◌, unsigned_abs, nat_le}
+use Rattle.std.specs.Int.{w128}
+use Rattle.std.specs.Ordering.{int_eq}
+use Rattle.std.specs.Cmp.{signed_Decides}
+use Rattle.std.proofs.lemmas.Int.{ints, fits_signed_from_abs}
+use Rattle.std.proofs.lemmas.List.{take_more}
+use Rattle.std.proofs.lemmas.List.Recursion.{is_sum_by}
+use Rattle.std.proofs.lemmas.Bool.{cases_lt, leb-true, le-leb}
+use Rattle.update.specs.Bags.{Entry, Alike, bag_size, count_of}
+use Rattle.update.proofs.SumLemmas.{total_by-append}
+use Rattle.plan.specs.Reductions.{single, sum_of_counts, count_answer}
+use Rattle.plan.proofs.CountLemmas.{weigh_alike}
+use Rattle.reducer.specs.Refusals.{IsTooLarge}
+use Rattle.reducer.specs.Kinds.{count_within}
+
+-- ---- the sum
+
+-- the sum with one more count
+pub sum_more : (es : List Entry) (i : ℕ) (d : Entry) (n m : ℤ) → i < length es → n ≡ sum_of_counts (take i es) → m ≡ (get_or es i d).count → n +ℤ m ≡ sum_of_counts (take (i + 1) es)
+sum_more es i d n m l s e =
+    let counts = total_by-append (λ (e : Entry). e.count) (take i es) (get_or es i d ∷ []) in
+    let more = ap sum_of_counts (take_more es i d l) in
+    omega (arith, ints, counts, more, s, e)
+
+-- each count adds at most 2^63 to the sum
+pub small_more : (n m : ℤ) (i : ℕ) → unsigned_abs n ≤ i * 2 ^ 63 → FitsSigned w64 m → unsigned_abs (n +ℤ m) ≤ (i + 1) * 2 ^ 63
+small_more n m i small fits = omega (arith, ints)
+
+-- such a sum with one more count is the same number in 128 bits
+pub wide_more : (n m : ℤ) (i : ℕ) → unsigned_abs n ≤ i * 2 ^ 63 → i < 2 ^ 64 → FitsSigned w64 m → to_z w128 (of_z w128 (n +ℤ to_z w128 (of_z w128 m))) ≡ n +ℤ m
+wide_more n m i small few fits = omega (arith, ints)
+
+-- the size of a bag, by recursion
+abbrev summed_size : List Entry → ℕ
+summed_size [] = 0
+summed_size (e ∷ es) = unsigned_abs e.count + summed_size es
+
+sum_within : (es : List Entry) → unsigned_abs (sum_of_counts es) ≤ summed_size es
+sum_within [] = omega arith
+sum_within (e ∷ es) = let rest = sum_within es in omega (arith, ints)
+
+large : (n : ℤ) → (FitsSigned w64 n → ⊥) → 2 ^ 63 ≤ unsigned_abs n
+large n none = ⊎_elim (λ s. absurd (none (fits_signed_from_abs w64 n s))) (λ s. s) (cases_lt (unsigned_abs n) (2 ^ 63))
+
+-- if the sum is no 64-bit number, the counts are too large, however the bag is written
+pub sum_too_large : (es : List Entry) → (FitsSigned w64 (sum_of_counts es) → ⊥) → IsTooLarge es
+sum_too_large es none others alike =
+    let same : sum_of_counts es ≡ sum_of_counts others = weigh_alike (λ row n. n) (λ row m n. refl) es others alike in
+    let size : summed_size others ≡ bag_size others = is_sum_by summed_size (λ e. unsigned_abs e.count) refl (λ _ _. refl) others in
+    omega (arith, large (sum_of_counts es) none, ap unsigned_abs same, sum_within others, size)
+
+-- ---- the answer
+
+-- a key of 8 columns has no answer
+pub no_room : (key : List ℤ) (es : List Entry) → 8 ≤ length key → Alike [] (count_within key es)
+no_room key es wide row = step (nat_le (length key) 7) refl
+  where
+    step : (b : Bool) → nat_le (length key) 7 ≡ b → pos 0 ≡ count_of (cond b (count_answer key (sum_of_counts es)) []) row
+    step true e = absurd (omega (arith, wide, leb-true (length key) 7 e))
+    step false e = refl
+
+-- neither has a sum of 0
+pub no_count : (key : List ℤ) (es : List Entry) (n : ℤ) → n ≡ sum_of_counts es → n ≡ pos 0 → Alike [] (count_within key es)
+no_count key es n s z row = step (nat_le (length key) 7)
+  where
+    step : (b : Bool) → pos 0 ≡ count_of (cond b (count_answer key (sum_of_counts es)) []) row
+    step true = ap (λ m. count_of (count_answer key m) row) (sym z ∙ s)
+    step false = refl
+
+-- any other sum is answered behind the key
+pub counted : (key : List ℤ) (es : List Entry) (n : ℤ) → length key < 8 → n ≡ sum_of_counts es → (n ≡ pos 0 → ⊥) → Alike (single (key ++ n ∷ []) ∷ []) (count_within key es)
+counted key es n room s other row =
+    ap (λ b. count_of (cond b [] (single (key ++ n ∷ []) ∷ [])) row) (sym (differs (int_eq n (pos 0)) refl))
+    ∙ (ap (λ m. count_of (count_answer key m) row) s
+    ∙ ap (λ b. count_of (cond b (count_answer key (sum_of_counts es)) []) row) (sym (le-leb (length key) 7 (omega (arith, room)))))
+  where
+    differs : (b : Bool) → int_eq n (pos 0) ≡ b → int_eq n (pos 0) ≡ false
+    differs true e = absurd (other ((signed_Decides n (pos 0)).0 e))
+    differs false e = e

@@ -1,0 +1,6 @@
+-- Lemmas about what reducers answer, and about tallies.
+pub mod AnswerLemmas
+pub mod CountLemmas
+pub mod DistinctLemmas
+pub mod ExtremeLemmas
+pub mod TallyLemmas

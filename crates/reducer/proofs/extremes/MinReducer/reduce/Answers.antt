@@ -1,0 +1,37 @@
+use Rattle.std.proofs.Common.{[], ◌∷◌, ◌∙◌, length, refl, ap, rules}
+use Rattle.update.specs.Bags.{Alike, count_of}
+use Rattle.plan.specs.Reductions.{single}
+use Rattle.reducer.specs.Kinds.{min_answer, min_reduces}
+use Rattle.reducer.proofs.AnswerLemmas.{gives_answer, gives_keyed}
+use Rattle.reducer.proofs.DistinctLemmas.{no_entry}
+use Rattle.reducer.proofs.ExtremeLemmas.{first_is, no_least}
+use Rattle.reducer.proofs.extremes.MinReducer.reduce.Goals as goal
+
+pub returns-in-Some : goal.returns-in-Some
+returns-in-Some g c =
+    let key = c.args._key.now in
+    let rows = g.C.RowCounts.entries c.args.rows.now in
+    let found = c.in-Some.ensures in
+    let made = c.one_row.ensures in
+    let row = c.row_at.result in
+    let answer : Alike (single row ∷ []) (min_answer key rows) =
+    λ other. ap (λ r. count_of (single r ∷ []) other) (c.row_at.ensures no_entry) ∙ first_is rows c.known.ensures.order key c.in-Some.i found.inside found.positive found.first other in
+    record {
+      value = gives_answer min_answer key rows (single row ∷ []) c.one_row.result made.one answer;
+      bag = made.bag;
+      keyed = gives_keyed min_answer key rows (single row ∷ []) c.one_row.result made.one answer (min_reduces (length key)) c.requires.keyed made.bag;
+      refused = search rules;
+    }
+
+pub returns-in-None : goal.returns-in-None
+returns-in-None g c =
+    let key = c.args._key.now in
+    let rows = g.C.RowCounts.entries c.args.rows.now in
+    let made = c.no_rows.ensures in
+    let answer : Alike [] (min_answer key rows) = no_least rows c.known.ensures.order key (c.in-None.ensures.none refl) in
+    record {
+      value = gives_answer min_answer key rows [] c.no_rows.result made.none answer;
+      bag = made.bag;
+      keyed = gives_keyed min_answer key rows [] c.no_rows.result made.none answer (min_reduces (length key)) c.requires.keyed made.bag;
+      refused = search rules;
+    }

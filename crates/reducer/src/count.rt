@@ -1,0 +1,70 @@
+//! Count: the key followed by the sum of all counts. The counts are added up in 128 bits, and only the sum is converted
+//! to 64 bits. So no sum on the way is refused. If the last one is, then the counts are too large however the bag is
+//! written, because alike bags have the same sum. Nothing but the sum matters, so count does not look at rows.
+ghost use Rattle.std.specs.Prelude.{◌≡◌, IfOk, IfErr};
+ghost use Rattle.plan.specs.Reductions.{sum_of_counts};
+ghost use Rattle.reducer.specs.Refusals.{IsTooLarge};
+
+use crate::answers::{count_at, no_rows, one_row};
+use crate::{Reducer, RowCounts};
+use row::{MAX_WIDTH, Row};
+use std::alloc::Global;
+use update::{Bag, Refusal};
+
+/// Answers the key followed by the sum of all counts, with count 1, unless the sum is 0. A key of 8 columns has no
+/// answer, because its row would have 9. Its refusals are those of [`Reducer::reduce`].
+///
+/// Cost: one pass over the counts.
+#[derive(Clone, Copy)]
+pub struct Count;
+
+// The sum of the counts. It fits, because each of fewer than 2^64 counts adds at most 2^63 to it.
+fn wide_sum<C: RowCounts>(rows: &C) -> i128
+    ensures { result ≡ sum_of_counts (C.entries rows.now) }
+{
+    let mut sum = 0;
+    for i in 0..rows.len() {
+        sum += i128::from(count_at(rows, i));
+    }
+    sum
+}
+
+// The sum of the counts, in 64 bits. [`Refusal::Overflow`] only if the counts are too large.
+fn sum_of_counts<C: RowCounts>(rows: &C) -> Result<i64, Refusal>
+    ensures sum { IfOk result (λ sum. sum ≡ sum_of_counts (C.entries rows.now)) }
+    ensures only { IfErr result (λ refused. refused ≡ Refusal.Overflow) }
+    ensures large { IfErr result (λ _. IsTooLarge (C.entries rows.now)) }
+{
+    let Ok(sum) = i64::try_from(wide_sum(rows)) else {
+        return Err(Refusal::Overflow);
+    };
+    Ok(sum)
+}
+
+impl Reducer for Count {
+    ghost use Rattle.std.specs.Prelude.{false};
+    ghost use Rattle.reducer.specs.Kinds.{count_within, count_reduces, count_is_blind};
+
+    ghost reduces = { λ _. count_within };
+
+    ghost sees_rows = { λ _. false };
+
+    fn reduce<C: RowCounts>(&self, alloc: Global, key: &[i64], rows: &C) -> Result<Bag, Refusal> {
+        if key.len() >= MAX_WIDTH {
+            return no_rows(alloc);
+        }
+        let sum = sum_of_counts(rows)?;
+        if sum == 0 {
+            return no_rows(alloc);
+        }
+        one_row(alloc, Row::of(alloc, key).followed_by(&[sum]))
+    }
+
+    fn sees_rows(&self) -> bool {
+        false
+    }
+
+    ghost laws = { λ _. count_reduces };
+
+    ghost blind = { λ _ k _. count_is_blind k };
+}
