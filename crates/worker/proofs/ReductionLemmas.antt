@@ -37,12 +37,12 @@ use Rattle.reduce.specs.Standing.{are_wide}
 use Rattle.reduce.specs.Owing.{IsOwed, IsOverfull}
 use Rattle.reduce.specs.Kinds.{kind_answer, kind_reduces}
 use Rattle.reduce.specs.Reductions.{StandsFor, IsOpenTo, IsQuietAt, SumsToTaken}
-use Rattle.reduce.proofs.ApartLemmas.{doubled, doubled_is, own_total, apart_both}
+use Rattle.key_history.proofs.ApartLemmas.{doubled, doubled_is, own_total, apart_both}
 use Rattle.reduce.proofs.HeldLemmas.{under_in, pending_under}
-use Rattle.reduce.proofs.JoinLemmas.{joins_have}
-use Rattle.reduce.proofs.KeyedLemmas.{absent_row}
+use Rattle.joined_times.proofs.JoinLemmas.{joins_have}
+use Rattle.key_history.proofs.KeyedLemmas.{absent_row}
 use Rattle.reduce.proofs.LawLemmas.{settled_law}
-use Rattle.reduce.proofs.MemberLemmas.{in_left, in_right, in_either, member_from_contains}
+use Rattle.joined_times.proofs.MemberLemmas.{in_left, in_right, in_either, member_from_contains}
 use Rattle.reduce.proofs.PermutedLemmas.{stands_permuted}
 use Rattle.reduce.proofs.RowLemmas.{rows_answered}
 use Rattle.worker.specs.Reducing.{IsPendingWith}
