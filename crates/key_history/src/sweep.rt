@@ -27,11 +27,11 @@ ghost use Rattle.plan.specs.Reductions.{has_key};
 ghost use Rattle.key_history.specs.Evaluations.{IsEvaluation};
 ghost use Rattle.key_history.specs.Settling.{Steps, Settling, IsOverfullFor};
 
+use crate::KeyHistory;
 use crate::correcting::{Correction, correct};
 use crate::evaluation::Evaluation;
 use crate::replay::Replay;
 use crate::tallied::answer_at;
-use crate::KeyHistory;
 use antichain::is_beyond;
 use lattice::Lattice;
 use reducer::{Reducer, Tally};
@@ -253,8 +253,8 @@ fn first_of<T: Lattice>(times: &[T]) -> T
 ///
 /// Cost: a copy of the key's rows and of what was given of it, as the first pending time and those after it see it; a sort of
 /// the rows, and one of those updates that come after the first pending time. For each pending time one comparison with the
-/// frontier. For each one that has passed, that of [`answer_at`] and [`correct`] with the replayed updates: those that not
-/// all times to come see, each once for all that these times do not tell apart.
+/// frontier. For each one that has passed, that of an answer and of a correction (`answer_at` and `correct`) with the replayed
+/// updates: those that not all times to come see, each once for all that these times do not tell apart.
 pub fn sweep_key<T: Lattice, R: Reducer>(
     alloc: Global,
     reducer: &R,

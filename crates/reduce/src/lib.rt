@@ -5,15 +5,20 @@
 //! times of a key's updates, and at no others. A reduction keeps these joined times key by key. It evaluates each one once
 //! a frontier has passed it, and again whenever an update comes in at or before it.
 //!
-//! - [`Reducer`] is what a key's rows are reduced to: a function of a bag. [`Count`], [`Distinct`], [`Min`] and [`Max`]
-//!   are those of plans.
-//! - [`RowCounts`] is how a reducer reads the rows of a key. A [`Tally`] has them with counts that change in place.
 //! - [`ReduceState`] takes batches and gives the differences that a frontier has passed.
-//! - [`KeyHistory`] is what is kept of a key.
 //! - The laws say what follows from the definitions: where answers can change, and that what is given is one list in
 //!   whatever pieces it was taken.
 //!
-//! What a reduction stands for is defined in `specs/Standing.antt` and `specs/Reductions.antt`.
+//! This crate goes through all keys. It stands on three others, whose names a caller needs it hands on:
+//!
+//! - `reducer`: what a key's rows are reduced to. A [`Reducer`] is a function of a bag; [`Count`], [`Distinct`], [`Min`] and
+//!   [`Max`] are those of plans. [`RowCounts`] is how it reads the rows of a key, and a [`Tally`] has them with counts that
+//!   change in place.
+//! - `joined_times`: which times are joined times, after new ones came.
+//! - `key_history`: what is kept of one key, a [`KeyHistory`], and what is given of it.
+//!
+//! What a reduction stands for is defined in `specs/Reductions.antt`, by what is right for each key
+//! (`key_history/specs/Standing.antt`).
 #![tactic(auto)]
 
 mod histories;
