@@ -1,5 +1,5 @@
 -- What a contract sees of a reduction: the history of each key, and which keys wait.
-use Rattle.std.specs.Prelude.{◌≡◌, ◌≢◌, ◌↔◌, ℕ, zero, suc, slice_get, IsSomeAnd, false, List, [], ◌∷◌, ◌++◌, ℤ, IsTrue, length, ⊤, if◌then◌else◌, flat_map}
+use Rattle.std.specs.Prelude.{◌≡◌, ◌≢◌, ◌↔◌, ℕ, zero, suc, slice_get, IsSomeAnd, false, List, [], ◌∷◌, ℤ, IsTrue, length, ⊤, if◌then◌else◌, flat_map}
 use Rattle.std.specs.List.{list_all, list_any}
 use Rattle.std.specs.List.Sorted.{IsStrictlySortedBy}
 use Rattle.std.specs.declared.cmp.Ordering.{Ordering}
