@@ -15,10 +15,10 @@ use Rattle.plan.specs.Reductions.{has_key, IsReducer, each_once}
 use Rattle.plan.proofs.CountLemmas.{row_same, row_itself, count_of-filter}
 use Rattle.plan.proofs.ReductionLemmas.{total_by-once, each_once_among}
 use Rattle.joined_times.specs.Joined.{of_key}
-use Rattle.key_history.specs.Corrections.{Corrects, put, had, wanted}
-use Rattle.key_history.proofs.JoinedLemmas.{sum_at-append}
-use Rattle.key_history.proofs.CorrectionLemmas.{as_of-keyed, count-had, had-alike, as_of-put, put-at, change, change-count, count_small, entry_weight_is, not_fits}
-use Rattle.key_history.proofs.CorrectLemmas.{all_at, had_small}
+use Rattle.correction.specs.Corrections.{Corrects, put, had, wanted}
+use Rattle.correction.proofs.JoinedLemmas.{sum_at-append}
+use Rattle.correction.proofs.CorrectionLemmas.{as_of-keyed, count-had, had-alike, as_of-put, put-at, change, change-count, count_small, entry_weight_is, not_fits}
+use Rattle.correction.proofs.CorrectLemmas.{all_at, had_small}
 
 -- ---- a list in whole numbers without bounds: each row once, with what it counts
 

@@ -15,8 +15,8 @@ use Rattle.update.proofs.ConsolidatedLemmas.{moved_among, moved_size}
 use Rattle.update.proofs.ConsolidatedLemmas as moving
 use Rattle.joined_times.specs.Joined.{Member}
 use Rattle.std.proofs.lemmas.Int.{ints}
-use Rattle.key_history.proofs.CorrectionLemmas.{weight, weight_is, weight-append}
-use Rattle.key_history.proofs.JoinedLemmas.{sum_at, sum_at-append}
+use Rattle.correction.proofs.CorrectionLemmas.{weight, weight_is, weight-append}
+use Rattle.correction.proofs.JoinedLemmas.{sum_at, sum_at-append}
 use Rattle.std.proofs.Math.IntN.{◌+ℤ◌}
 use Rattle.std.specs.Cmp.{IsTotalOrder}
 use Rattle.std.specs.Cmp.Lexicographic.{slice_cmp}

@@ -22,15 +22,15 @@ use Rattle.plan.specs.Changes.{has_passed}
 use Rattle.plan.specs.Reductions.{IsReducer}
 use Rattle.plan.proofs.CountLemmas.{row_itself}
 use Rattle.joined_times.specs.Joined.{Member, of_key}
-use Rattle.key_history.specs.Standing.{IsRight, KeyStands, IsSettledAt, Shows}
-use Rattle.key_history.specs.Corrections.{AllAt, Corrects, IsTooMuch}
+use Rattle.key_history.specs.Standing.{KeyStands, IsSettledAt, Shows}
+use Rattle.correction.specs.Corrections.{IsRight, AllAt, Corrects, IsTooMuch}
 use Rattle.key_history.specs.Owing.{IsOwed}
 use Rattle.key_history.specs.Settling.{ReadsAs, Steps, Settling, IsOverfullFor}
-use Rattle.key_history.proofs.JoinedLemmas.{sum_at, sum_at-append}
+use Rattle.correction.proofs.JoinedLemmas.{sum_at, sum_at-append}
 use Rattle.joined_times.proofs.MemberLemmas.{each_member, in_either, in_left, in_right}
 use Rattle.key_history.proofs.StandingLemmas.{corrects_one, key_right}
 use Rattle.key_history.proofs.ApartLemmas.{apart_both, apart_filter, doubled_is}
-use Rattle.key_history.proofs.CorrectionLemmas.{as_of-keyed, count-had, size_right, weight, weight_is, weight-append}
+use Rattle.correction.proofs.CorrectionLemmas.{as_of-keyed, count-had, size_right, weight, weight_is, weight-append}
 use Rattle.key_history.proofs.OverfullLemmas.{ideal, ideal_corrects, ideal_large}
 
 -- ---- lists of times

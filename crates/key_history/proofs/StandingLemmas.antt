@@ -14,9 +14,9 @@ use Rattle.plan.specs.Operators.{reduction_output}
 use Rattle.plan.proofs.CountLemmas.{row_same, row_itself}
 use Rattle.plan.proofs.ReductionLemmas.{by_key_at}
 use Rattle.joined_times.specs.Joined.{Member, times_of, of_key, IsJoined}
-use Rattle.key_history.specs.Standing.{IsRight, KeyStands, IsSettledAt, are_wide}
-use Rattle.key_history.specs.Corrections.{AllAt}
-use Rattle.key_history.proofs.JoinedLemmas.{sum_at, sum_at-append, through_is, none_comes, Floor, floor, given_same, on_below, on_none, taken_same, taken_none}
+use Rattle.key_history.specs.Standing.{KeyStands, IsSettledAt, are_wide}
+use Rattle.correction.specs.Corrections.{IsRight, AllAt}
+use Rattle.correction.proofs.JoinedLemmas.{sum_at, sum_at-append, through_is, none_comes, Floor, floor, given_same, on_below, on_none, taken_same, taken_none}
 use Rattle.joined_times.proofs.MemberLemmas.{in_either}
 
 -- a row with the same first k columns has k columns

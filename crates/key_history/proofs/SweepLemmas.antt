@@ -12,16 +12,16 @@ use Rattle.update.specs.Updates.{as_of, size}
 use Rattle.update.specs.declared.change.Update.{Update}
 use Rattle.plan.specs.Reductions.{has_key}
 use Rattle.plan.proofs.CountLemmas.{count_of-append}
-use Rattle.key_history.specs.declared.evaluation.Evaluation.{Evaluation}
+use Rattle.correction.specs.declared.evaluation.Evaluation.{Evaluation}
 use Rattle.key_history.specs.declared.sweep.Sweep.{Sweep}
 use Rattle.joined_times.specs.Joined.{Member, of_key}
-use Rattle.key_history.specs.Corrections.{Corrects, IsTooMuch}
-use Rattle.key_history.specs.Evaluations.{IsEvaluation}
+use Rattle.correction.specs.Corrections.{Corrects, IsTooMuch}
+use Rattle.correction.specs.Evaluations.{IsEvaluation}
 use Rattle.key_history.specs.Replays.{Ascends, Settles, StandsEver, StandsFrom, StandsOn, on_the_way}
 use Rattle.key_history.specs.Sweeps.{AreMeets, IsLed, IsSweep, StandsWith, from_last}
-use Rattle.key_history.proofs.JoinedLemmas.{sum_at, sum_at-append}
-use Rattle.key_history.proofs.KeyedLemmas.{own_kept}
-use Rattle.key_history.proofs.CorrectionLemmas.{weight_is, weight-append}
+use Rattle.correction.proofs.JoinedLemmas.{sum_at, sum_at-append}
+use Rattle.correction.proofs.KeyedLemmas.{own_kept}
+use Rattle.correction.proofs.CorrectionLemmas.{weight_is, weight-append}
 use Rattle.key_history.proofs.SettleLemmas.{take_whole}
 use Rattle.key_history.proofs.ReplayLemmas.{append_rows, base_same, base_sum, rows_append, fewer_times, stands_then, stands_more}
 

@@ -3,8 +3,6 @@ pub use Rattle.lattice.specs.Order
 pub use Rattle.lattice.specs.Frontiers
 pub mod States
 pub mod Standing
-pub mod Corrections
-pub mod Evaluations
 pub mod Replays
 pub mod Pasts
 pub mod Sweeps

@@ -7,7 +7,7 @@ use Rattle.update.specs.Updates.{size, AreApart}
 use Rattle.update.specs.declared.change.Update.{Update}
 use Rattle.plan.specs.Changes.{has_passed}
 use Rattle.joined_times.specs.Joined.{Member, of_key}
-use Rattle.key_history.specs.Standing.{IsRight}
+use Rattle.correction.specs.Corrections.{IsRight}
 
 module _ {T : Type 0} (below : T → T → Bool) where
   -- updates of one key up to some step of a computation, each at a time that the frontier has passed: at or before each

@@ -8,7 +8,7 @@ use Rattle.update.specs.declared.change.Update.{Update}
 use Rattle.plan.specs.Changes.{has_passed}
 use Rattle.joined_times.specs.Joined.{Member, of_key}
 use Rattle.key_history.specs.Standing.{KeyStands, IsSettledAt, Shows}
-use Rattle.key_history.specs.Corrections.{Corrects}
+use Rattle.correction.specs.Corrections.{Corrects}
 use Rattle.key_history.specs.Owing.{IsOverfull}
 
 module _ {T : Type 0} (below : T → T → Bool) where

@@ -5,7 +5,7 @@ use Rattle.std.specs.List.{filter, list_all}
 use Rattle.update.specs.Bags.{Entry, count_of, same_row}
 use Rattle.update.specs.Updates.{as_of, size}
 use Rattle.update.specs.declared.change.Update.{Update}
-use Rattle.plan.specs.Reductions.{has_key}
+use Rattle.correction.specs.Corrections.{IsRight}
 use Rattle.joined_times.specs.Joined.{Member, of_key, IsJoined}
 
 -- each row has a key of k columns
@@ -13,13 +13,6 @@ abbrev pub are_wide : {T : Type 0} → ℕ → List (Update T) → Bool
 are_wide k us = list_all (λ u. nat_le k (length u.row)) us
 
 module _ {T : Type 0} (below : T → T → Bool) where
-  -- of the rows of a key, what was given sums at t to what the reducer makes of what was taken
-  abbrev pub IsRight : ℕ → (List ℤ → List Entry → List Entry) → List (Update T) → List (Update T) → List ℤ → T → Type 0
-  IsRight k reduce taken given key t =
-      (row : List ℤ) → same_row (take k row) key ≡ true
-      → count_of (as_of below t given) row
-      ≡ count_of (reduce key (filter (has_key k key) (as_of below t taken))) row
-
   -- a key whose pending times these are, after these updates were taken and those given
   pub record KeyStands (joined : T → T → T) (k : ℕ) (reduce : List ℤ → List Entry → List Entry)
       (taken given : List (Update T)) (key : List ℤ) (due : List T) : Type 0 where

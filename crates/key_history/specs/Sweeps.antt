@@ -5,9 +5,9 @@ use Rattle.std.specs.declared.cmp.Ordering.{Ordering}
 use Rattle.update.specs.Bags.{Alike, Entry}
 use Rattle.update.specs.Updates.{as_of}
 use Rattle.update.specs.declared.change.Update.{Update}
-use Rattle.key_history.specs.declared.evaluation.Evaluation.{Evaluation}
+use Rattle.correction.specs.declared.evaluation.Evaluation.{Evaluation}
 use Rattle.key_history.specs.declared.sweep.Sweep.{Sweep}
-use Rattle.key_history.specs.Evaluations.{IsEvaluation}
+use Rattle.correction.specs.Evaluations.{IsEvaluation}
 use Rattle.joined_times.specs.Joined.{Member}
 use Rattle.key_history.specs.Replays.{Ascends, StandsOn, on_the_way}
 

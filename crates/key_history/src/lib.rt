@@ -13,14 +13,10 @@
 //! defined in `specs/Standing.antt`, and what a sweep makes of its pending times in `specs/Settling.antt`.
 #![tactic(auto)]
 
-mod correcting;
-mod draft;
-mod evaluation;
 mod history;
 mod past;
 mod replay;
 mod sweep;
-mod tallied;
 
 pub use history::KeyHistory;
 pub use sweep::{Settled, sweep_key};

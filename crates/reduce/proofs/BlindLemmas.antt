@@ -15,9 +15,10 @@ use Rattle.plan.proofs.CountLemmas.{row_same, row_itself, weigh_alike, when_add}
 use Rattle.reducer.specs.Blind.{IsBlind}
 use Rattle.reduce.specs.Seen.{as_seen, without_rows}
 use Rattle.joined_times.specs.Joined.{Member, of_key, times_of, IsJoined}
-use Rattle.key_history.specs.Standing.{IsRight, KeyStands}
+use Rattle.correction.specs.Corrections.{IsRight}
+use Rattle.key_history.specs.Standing.{KeyStands}
 use Rattle.key_history.specs.Settling.{Settling, ReadsAs, IsOverfullFor}
-use Rattle.key_history.proofs.CorrectionLemmas.{weight, weight_is}
+use Rattle.correction.proofs.CorrectionLemmas.{weight, weight_is}
 
 -- ---- lists
 

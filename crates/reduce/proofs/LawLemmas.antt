@@ -18,7 +18,7 @@ use Rattle.plan.specs.Reductions.{IsReducer, has_key}
 use Rattle.joined_times.specs.Joined.{IsJoined, times_of}
 use Rattle.reduce.specs.Histories.{HistoryState, due_of}
 use Rattle.reduce.specs.Reductions.{StandsFor, IsQuietAt}
-use Rattle.key_history.proofs.JoinedLemmas.{Floor, floor, floor_joins, taken_same, taken_none}
+use Rattle.correction.proofs.JoinedLemmas.{Floor, floor, floor_joins, taken_same, taken_none}
 use Rattle.key_history.proofs.StandingLemmas.{law}
 
 module _ {T : Type 0} {below : T → T → Bool} {joined met : T → T → T} (o : PartialOrderLaws below) (l : LatticeLaws below joined met) where

@@ -15,12 +15,13 @@ use Rattle.plan.specs.Reductions.{IsReducer}
 use Rattle.joined_times.specs.Joined.{Member, of_key, times_of, IsJoined}
 use Rattle.joined_times.specs.Adding.{SameMembers}
 use Rattle.reduce.specs.Histories.{HistoryState, due_of, given_of}
-use Rattle.key_history.specs.Standing.{IsRight, KeyStands}
+use Rattle.correction.specs.Corrections.{IsRight}
+use Rattle.key_history.specs.Standing.{KeyStands}
 use Rattle.reduce.specs.Reductions.{StandsFor}
 use Rattle.joined_times.proofs.MemberLemmas.{member_from_contains, contains_from_member, image_in, image_of, through}
 use Rattle.joined_times.proofs.JoinLemmas.{joins_same}
-use Rattle.key_history.proofs.JoinedLemmas.{value, through_is}
-use Rattle.key_history.proofs.CorrectionLemmas.{had-alike, weight, weight_is}
+use Rattle.correction.proofs.JoinedLemmas.{value, through_is}
+use Rattle.correction.proofs.CorrectionLemmas.{had-alike, weight, weight_is}
 
 module _ {X : Type 0} (xs ys : List X) (p : IsPermutation xs ys) where
   pub permuted : SameMembers xs ys

@@ -23,8 +23,8 @@ use Rattle.key_history.specs.Settling.{Settling, ReadsAs}
 use Rattle.reduce.specs.Visiting.{Visit, AreVisits, all_renewed}
 use Rattle.reduce.specs.Reductions.{StandsFor, IsOpenTo, IsQuietAt}
 use Rattle.key_history.proofs.ApartLemmas.{apart_both, doubled_is}
-use Rattle.key_history.proofs.CorrectionLemmas.{as_of-keyed, count-had}
-use Rattle.key_history.proofs.JoinedLemmas.{sum_at, sum_at-append}
+use Rattle.correction.proofs.CorrectionLemmas.{as_of-keyed, count-had}
+use Rattle.correction.proofs.JoinedLemmas.{sum_at, sum_at-append}
 use Rattle.joined_times.proofs.MemberLemmas.{all_members, in_either}
 use Rattle.reduce.proofs.RenewLemmas.{Unchanged, Changed, outcome, own_more, some_there, from_visit, visit_in, all_apart}
 use Rattle.key_history.proofs.SettleLemmas.{take_whole, drop_whole, shows_more, own_from}

@@ -21,8 +21,8 @@ use Rattle.reduce.specs.Histories.{HistoryState}
 use Rattle.joined_times.specs.Joined.{Member}
 use Rattle.key_history.proofs.ApartLemmas.{own_total}
 use Rattle.reduce.specs.Reductions.{StandsFor, IsQuietAt}
-use Rattle.key_history.proofs.JoinedLemmas.{sum_at-append}
-use Rattle.key_history.proofs.KeyedLemmas.{absent_row}
+use Rattle.correction.proofs.JoinedLemmas.{sum_at-append}
+use Rattle.correction.proofs.KeyedLemmas.{absent_row}
 use Rattle.reduce.proofs.LawLemmas.{passed_down, settled_law}
 
 module _ {T : Type 0} (below : T → T → Bool) (p : List ℤ → Bool) where

@@ -25,7 +25,7 @@ use Rattle.plan.proofs.CountLemmas.{row_same}
 use Rattle.joined_times.specs.Joined.{of_key}
 use Rattle.key_history.specs.Standing.{are_wide}
 use Rattle.reduce.proofs.HistoryLemmas.{at_place}
-use Rattle.key_history.proofs.KeyedLemmas.{own_kept}
+use Rattle.correction.proofs.KeyedLemmas.{own_kept}
 
 -- ---- lists
 

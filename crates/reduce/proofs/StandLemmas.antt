@@ -15,7 +15,8 @@ use Rattle.update.specs.declared.change.Update.{Update}
 use Rattle.plan.specs.Reductions.{has_key}
 use Rattle.plan.proofs.CountLemmas.{row_same}
 use Rattle.joined_times.specs.Joined.{Member, of_key, times_of, IsJoined, IsFresh}
-use Rattle.key_history.specs.Standing.{are_wide, IsRight, KeyStands, Shows}
+use Rattle.correction.specs.Corrections.{IsRight}
+use Rattle.key_history.specs.Standing.{are_wide, KeyStands, Shows}
 use Rattle.reduce.specs.Histories.{HistoryState, due_of, joined_of, given_of, history_of}
 use Rattle.reduce.specs.Reductions.{StandsFor, IsOpenTo}
 use Rattle.reduce.specs.Taking.{AreRenewed, HaveJoins, or_else}

@@ -17,7 +17,7 @@ use Rattle.joined_times.specs.Adding.{SameMembers}
 use Rattle.reduce.specs.Histories.{HistoryState, AreKeysApart, AreHistories, ArePending, IsHistory, of_history, history_of, joined_of, due_of, given_of}
 use Rattle.reduce.specs.Taking.{HasTaken, HaveJoins, IsRenewed, AreRenewed, made_from, or_else}
 use Rattle.reduce.proofs.HistoryLemmas.{at_place, of_absent, of_there, of_pushed, of_its_history, apart_pushed}
-use Rattle.key_history.proofs.KeyedLemmas.{own_kept}
+use Rattle.correction.proofs.KeyedLemmas.{own_kept}
 use Rattle.joined_times.proofs.MemberLemmas.{in_right}
 use Rattle.reduce.proofs.RunLemmas.{IsRun, IsBorder, others_none, front_longer, run_first, run_some}
 use Rattle.reduce.proofs.TakingLemmas.{absent_from, histories_behind}

@@ -13,7 +13,7 @@ use Rattle.plan.specs.declared.node.Kind.TheVariants.{Count, Distinct, Min, Max}
 use Rattle.plan.proofs.CountLemmas.{row_itself, count_of-filter}
 use Rattle.plan.proofs.ReducerLemmas.{all_reduce, count_present}
 use Rattle.plan.proofs.ReductionLemmas.{by_key_at}
-use Rattle.key_history.proofs.KeyedLemmas.{absent_row}
+use Rattle.correction.proofs.KeyedLemmas.{absent_row}
 use Rattle.worker.specs.Reductions.{HasRoom, state_key}
 
 -- 1 if the number is above 0, and otherwise 0

@@ -40,7 +40,7 @@ use Rattle.reduce.specs.Reductions.{StandsFor, IsOpenTo, IsQuietAt, SumsToTaken}
 use Rattle.key_history.proofs.ApartLemmas.{doubled, doubled_is, own_total, apart_both}
 use Rattle.reduce.proofs.HeldLemmas.{under_in, pending_under}
 use Rattle.joined_times.proofs.JoinLemmas.{joins_have}
-use Rattle.key_history.proofs.KeyedLemmas.{absent_row}
+use Rattle.correction.proofs.KeyedLemmas.{absent_row}
 use Rattle.reduce.proofs.LawLemmas.{settled_law}
 use Rattle.joined_times.proofs.MemberLemmas.{in_left, in_right, in_either, member_from_contains}
 use Rattle.reduce.proofs.PermutedLemmas.{stands_permuted}

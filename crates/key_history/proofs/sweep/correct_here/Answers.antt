@@ -1,9 +1,9 @@
 use Rattle.std.proofs.Common.{◌++◌, ◌∙◌, length, inl, inr, ⊎_elim}
 use Rattle.std.proofs.lemmas.Result.{IfOk-weaker, IfErr-weaker}
 use Rattle.update.specs.Updates.{as_of}
-use Rattle.key_history.proofs.CorrectLemmas.{too_large}
-use Rattle.key_history.proofs.CorrectionLemmas.{too_large_alike}
-use Rattle.key_history.proofs.ResultLemmas.{passed_on}
+use Rattle.correction.proofs.CorrectLemmas.{too_large}
+use Rattle.correction.proofs.CorrectionLemmas.{too_large_alike}
+use Rattle.correction.proofs.ResultLemmas.{passed_on}
 use Rattle.key_history.proofs.sweep.correct_here.Goals as goal
 
 pub returns-in_err-answer-clause-refused : goal.returns-in_err-answer-clause-refused

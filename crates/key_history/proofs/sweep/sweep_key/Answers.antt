@@ -6,8 +6,8 @@ use Rattle.update.specs.declared.change.Update.{Update}
 use Rattle.key_history.specs.declared.sweep.Sweep.{Sweep}
 use Rattle.joined_times.specs.Joined.{Member, of_key}
 use Rattle.key_history.specs.Settling.{Settling}
-use Rattle.key_history.proofs.KeyedLemmas.{own_kept}
-use Rattle.key_history.proofs.ResultLemmas.{passed_on}
+use Rattle.correction.proofs.KeyedLemmas.{own_kept}
+use Rattle.correction.proofs.ResultLemmas.{passed_on}
 use Rattle.key_history.specs.Sweeps.{AreMeets, IsSweep}
 use Rattle.key_history.specs.Replays.{on_the_way}
 use Rattle.key_history.proofs.PastLemmas.{on_the_times}

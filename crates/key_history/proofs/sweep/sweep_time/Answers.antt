@@ -3,8 +3,8 @@ use Rattle.std.specs.Prelude.{Some}
 use Rattle.key_history.specs.declared.sweep.Sweep.{Sweep}
 use Rattle.joined_times.specs.Joined.{Member}
 use Rattle.key_history.specs.Sweeps.{IsLed, IsSweep}
-use Rattle.key_history.proofs.ResultLemmas.{passed_on}
-use Rattle.key_history.proofs.KeyedLemmas.{both_own}
+use Rattle.correction.proofs.ResultLemmas.{passed_on}
+use Rattle.correction.proofs.KeyedLemmas.{both_own}
 use Rattle.key_history.proofs.SweepLemmas.{base_own, near_own, had_own, last_here, corrects_too, too_much_too, passed}
 use Rattle.key_history.proofs.sweep.sweep_time.Goals as goal
 

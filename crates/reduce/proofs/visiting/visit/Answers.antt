@@ -3,7 +3,7 @@ use Rattle.std.specs.List.{list_all}
 use Rattle.trace.specs.Readings.{all_content}
 use Rattle.joined_times.specs.Joined.{of_key}
 use Rattle.reduce.proofs.BlindLemmas.{seen_own, seen_length, seen_settles, seen_overfull}
-use Rattle.key_history.proofs.ResultLemmas.{passed_on}
+use Rattle.correction.proofs.ResultLemmas.{passed_on}
 use Rattle.reduce.proofs.VisitLemmas.{there, what_is_there, put_there, history_at, left_alone, settled_there}
 use Rattle.reduce.proofs.visiting.visit.Goals as goal
 

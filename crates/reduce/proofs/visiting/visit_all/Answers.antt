@@ -3,7 +3,7 @@ use Rattle.std.specs.Prelude.{sum_by}
 use Rattle.trace.specs.Readings.{all_content}
 use Rattle.reduce.specs.Visiting.{reads_of}
 use Rattle.joined_times.proofs.MemberLemmas.{member_at}
-use Rattle.key_history.proofs.ResultLemmas.{passed_on}
+use Rattle.correction.proofs.ResultLemmas.{passed_on}
 use Rattle.reduce.proofs.VisitLemmas.{item_is, gathers_none, gathers_more, reads_more}
 use Rattle.reduce.proofs.visiting.visit_all.Goals as goal
 

@@ -11,7 +11,7 @@ use Rattle.reduce.specs.Reductions.{StandsFor, IsOpenTo, SumsToTaken, all_reads}
 use Rattle.key_history.specs.Settling.{ReadsAs}
 use Rattle.reduce.specs.Visiting.{all_changed}
 use Rattle.reduce.proofs.FinalLemmas.{reads_as, overfull_of, within, cut, changed_once, known_after, waits_after, joins_after, reads_are, final_rest, final_stands, final_law, final_once, final_nonzero, final_at, final_quiet, final_apart}
-use Rattle.key_history.proofs.ResultLemmas.{passed_on}
+use Rattle.correction.proofs.ResultLemmas.{passed_on}
 use Rattle.reduce.proofs.TraceLemmas.{whole_is_readable}
 use Rattle.reduce.proofs.state.ReduceState.ready.Given.{Over}
 use Rattle.reduce.proofs.state.ReduceState.ready.Goals as goal

@@ -8,7 +8,7 @@ use Rattle.plan.specs.declared.node.Kind.{Kind}
 use Rattle.trace.specs.Readings.{Insertion, all_updates}
 use Rattle.reduce.specs.Histories.{ReduceView}
 use Rattle.reduce.proofs.HeldLemmas.{or_nothing}
-use Rattle.key_history.proofs.ResultLemmas.{passed_on}
+use Rattle.correction.proofs.ResultLemmas.{passed_on}
 use Rattle.worker.specs.Reductions.{HasRoom, ReducingView, IsReduced, SumsToReceived, pending_in, state_key}
 use Rattle.worker.proofs.ReductionLemmas.{each_of, pending_has, overfull, sums_taken, gave, answer_at, rest_later, rest_beyond, out_settled, out_beyond}
 use Rattle.worker.proofs.reducing.Reducing.ready.Given.{Over}

@@ -1,0 +1,351 @@
+//! Drafts of corrections: what is wanted of a key at one time, and with the other sign what was given up to it. All of it
+//! is put down at that one time, and nothing is added up yet.
+//!
+//! There are two ways to the same sum. The plain one puts down all that is wanted and takes back all that was given up to
+//! the time. If the time evaluated last is at or before this one, then what was given up to there is the last answer. So
+//! only the rows are put down that the two answers count differently, and only what was given in between is taken back.
+//! For the valid times of one revision, which follow one another, that is what changes from one to the next.
+ghost use Rattle.std.specs.Prelude.{◌≡◌, ◌≢◌, ◌≤◌, ◌<◌, ◌+◌, ◌++◌, ◌∷◌, ◌&&◌, not, [], ◌^◌, ◌+ℤ◌, neg_ℤ, ℤ, IfOk, IfErr, IfSome, IsSomeAnd, IsTrue, OnOk, List, drop, length, map, slice_get, unsigned_abs};
+ghost use Rattle.std.specs.List.{filter};
+ghost use Rattle.update.specs.Bags.{Alike, Entry, count_of};
+ghost use Rattle.update.specs.Refusals.{IsMemoryOrOverflow};
+ghost use Rattle.update.specs.Updates.{as_of, size};
+ghost use Rattle.update.specs.declared.change.Update.{Update};
+ghost use Rattle.update.specs.declared.refusal.Refusal.{Refusal};
+ghost use Rattle.plan.specs.Operators.{negated_entry};
+ghost use Rattle.correction.specs.Corrections.{put};
+ghost use Rattle.correction.specs.Evaluations.{HasGreatCount, IsDraft, Moves, between};
+
+use crate::evaluation::{Evaluation, between};
+use lattice::Lattice;
+use std::alloc::Global;
+use std::cmp::Ordering;
+use update::{Bag, Refusal, Update};
+
+// The number of entries of each of two bags that a pass has read.
+#[derive(Clone, Copy)]
+struct Cursors {
+    want: usize,
+    had: usize,
+}
+
+// The count with the other sign.
+fn opposite(count: i64) -> Result<i64, Refusal>
+    ensures value { IfOk result (λ n. n ≡ neg_ℤ count) }
+    ensures large { IfErr result (λ _. 2 ^ 63 ≤ unsigned_abs count) }
+    ensures only { IfErr result (λ refused. refused ≡ Refusal.Overflow) }
+{
+    count.checked_neg().ok_or(Refusal::Overflow)
+}
+
+// Appends an entry of a bag at a time.
+fn put_entry<T: Lattice>(
+    out: &mut Vec<Update<T>>,
+    time: T,
+    bag: &Bag,
+    i: usize,
+) -> Result<(), Refusal>
+    requires { i < length bag.now }
+    ensures put { OnOk result (IsSomeAnd (slice_get bag.now i)
+        (λ e. out.new.items ≡ out.old.items ++ put time (e ∷ []))) }
+    ensures only { IfErr result (λ refused. refused ≡ Refusal.OutOfMemory) }
+{
+    out.push(Update {
+        time,
+        row: bag.row(i).copy(),
+        diff: bag.count(i),
+    })?;
+    Ok(())
+}
+
+// Takes an entry of a bag back at a time.
+fn put_back_entry<T: Lattice>(
+    out: &mut Vec<Update<T>>,
+    time: T,
+    bag: &Bag,
+    i: usize,
+) -> Result<(), Refusal>
+    requires { i < length bag.now }
+    ensures put { OnOk result (IsSomeAnd (slice_get bag.now i)
+        (λ e. out.new.items ≡ out.old.items ++ put time (negated_entry e ∷ []))) }
+    ensures refused { IfErr result (IsMemoryOrOverflow (HasGreatCount bag.now)) }
+{
+    bag.known();
+    let diff = opposite(bag.count(i))?;
+    out.push(Update {
+        time,
+        row: bag.row(i).copy(),
+        diff,
+    })?;
+    Ok(())
+}
+
+// Appends the entries of a bag from a place on.
+fn put_rest<T: Lattice>(
+    out: &mut Vec<Update<T>>,
+    time: T,
+    bag: &Bag,
+    start: usize,
+) -> Result<(), Refusal>
+    requires { start ≤ length bag.now }
+    ensures put { OnOk result (out.new.items ≡ out.old.items ++ put time (drop start bag.now)) }
+    ensures only { IfErr result (λ refused. refused ≡ Refusal.OutOfMemory) }
+{
+    for i in start..bag.len() {
+        put_entry(out, time, bag, i)?;
+    }
+    Ok(())
+}
+
+// Takes the entries of a bag back from a place on.
+fn put_back_rest<T: Lattice>(
+    out: &mut Vec<Update<T>>,
+    time: T,
+    bag: &Bag,
+    start: usize,
+) -> Result<(), Refusal>
+    requires { start ≤ length bag.now }
+    ensures put { OnOk result (out.new.items
+        ≡ out.old.items ++ put time (map negated_entry (drop start bag.now))) }
+    ensures refused { IfErr result (IsMemoryOrOverflow (HasGreatCount bag.now)) }
+{
+    for i in start..bag.len() {
+        put_back_entry(out, time, bag, i)?;
+    }
+    Ok(())
+}
+
+// Whether two entries have the same count.
+fn has_same_count(want: &Bag, i: usize, had: &Bag, j: usize) -> bool
+    requires want { i < length want.now }
+    requires had { j < length had.now }
+    ensures { IsTrue result → IsSomeAnd (slice_get want.now i) (λ e.
+        IsSomeAnd (slice_get had.now j) (λ f. e.count ≡ f.count)) }
+{
+    want.count(i) == had.count(j)
+}
+
+// Appends the change of a row that both bags have, unless its counts are the same.
+fn put_difference<T: Lattice>(
+    out: &mut Vec<Update<T>>,
+    time: T,
+    want: &Bag,
+    i: usize,
+    had: &Bag,
+    j: usize,
+) -> Result<(), Refusal>
+    requires want { i < length want.now }
+    requires had { j < length had.now }
+    requires same { IsSomeAnd (slice_get want.now i) (λ e.
+        IsSomeAnd (slice_get had.now j) (λ f. e.row ≡ f.row)) }
+    ensures moves { OnOk result ((entries : List Entry)
+        × (out.new.items ≡ out.old.items ++ put time entries)
+        × Moves (drop i want.now) (drop j had.now) entries
+        (drop (i + 1) want.now) (drop (j + 1) had.now)) }
+    ensures refused { IfErr result (IsMemoryOrOverflow (HasGreatCount had.now)) }
+{
+    if has_same_count(want, i, had, j) {
+        return Ok(());
+    }
+    put_entry(out, time, want, i)?;
+    put_back_entry(out, time, had, j)
+}
+
+// Reads the lesser of the two rows at the cursors, or the one row that both are. It is put down only if its counts differ.
+fn put_next<T: Lattice>(
+    out: &mut Vec<Update<T>>,
+    time: T,
+    want: &Bag,
+    had: &Bag,
+    at: Cursors,
+) -> Result<Cursors, Refusal>
+    requires want { at.want < length want.now }
+    requires had { at.had < length had.now }
+    requires short_want { length want.now < 2 ^ 64 }
+    requires short_had { length had.now < 2 ^ 64 }
+    ensures want { IfOk result (λ next. next.want ≤ length want.now) }
+    ensures had { IfOk result (λ next. next.had ≤ length had.now) }
+    ensures forward { IfOk result (λ next. at.want + at.had < next.want + next.had) }
+    ensures moves { IfOk result (λ next. (entries : List Entry)
+        × (out.new.items ≡ out.old.items ++ put time entries)
+        × Moves (drop at.want want.now) (drop at.had had.now) entries
+        (drop next.want want.now) (drop next.had had.now)) }
+    ensures refused { IfErr result (IsMemoryOrOverflow (HasGreatCount had.now)) }
+{
+    let Cursors { want: i, had: j } = at;
+    match want.row(i).cmp(had.row(j)) {
+        Ordering::Less => {
+            put_entry(out, time, want, i)?;
+            Ok(Cursors {
+                want: i + 1,
+                had: j,
+            })
+        }
+        Ordering::Greater => {
+            put_back_entry(out, time, had, j)?;
+            Ok(Cursors {
+                want: i,
+                had: j + 1,
+            })
+        }
+        Ordering::Equal => {
+            put_difference(out, time, want, i, had, j)?;
+            Ok(Cursors {
+                want: i + 1,
+                had: j + 1,
+            })
+        }
+    }
+}
+
+// Goes through both bags until one of them ends, and returns how far it got in each.
+fn put_both<T: Lattice>(
+    out: &mut Vec<Update<T>>,
+    time: T,
+    want: &Bag,
+    had: &Bag,
+) -> Result<Cursors, Refusal>
+    ensures want { IfOk result (λ at. at.want ≤ length want.now) }
+    ensures had { IfOk result (λ at. at.had ≤ length had.now) }
+    ensures moves { IfOk result (λ at. (entries : List Entry)
+        × (out.new.items ≡ out.old.items ++ put time entries)
+        × Moves want.now had.now entries (drop at.want want.now) (drop at.had had.now)) }
+    ensures refused { IfErr result (IsMemoryOrOverflow (HasGreatCount had.now)) }
+{
+    let mut at = Cursors { want: 0, had: 0 };
+    while at.want < want.len() && at.had < had.len() {
+        at = put_next(out, time, want, had, at)?;
+    }
+    Ok(at)
+}
+
+// Appends what is to be added to one bag to make it another.
+fn put_change<T: Lattice>(
+    out: &mut Vec<Update<T>>,
+    time: T,
+    want: &Bag,
+    had: &Bag,
+) -> Result<(), Refusal>
+    ensures changes { OnOk result ((entries : List Entry)
+        × (out.new.items ≡ out.old.items ++ put time entries)
+        × Alike entries (want.now ++ map negated_entry had.now)) }
+    ensures refused { IfErr result (IsMemoryOrOverflow (HasGreatCount had.now)) }
+{
+    let at = put_both(out, time, want, had)?;
+    put_rest(out, time, want, at.want)?;
+    put_back_rest(out, time, had, at.had)
+}
+
+// Takes back at a time what an update gave, if that was at or before the time.
+fn put_back_one<T: Lattice>(
+    out: &mut Vec<Update<T>>,
+    time: T,
+    given: &Update<T>,
+) -> Result<(), Refusal>
+    ensures put { OnOk result (out.new.items ≡ out.old.items
+        ++ put time (map negated_entry (as_of T.below time (given.now ∷ [])))) }
+    ensures refused { IfErr result (IsMemoryOrOverflow (2 ^ 63 ≤ size (given.now ∷ []))) }
+{
+    if !given.time.less_equal(&time) {
+        return Ok(());
+    }
+    out.push(Update {
+        time,
+        row: given.row.copy(),
+        diff: opposite(given.diff)?,
+    })?;
+    Ok(())
+}
+
+// Takes back at a time what was given at or before it.
+fn put_back<T: Lattice>(
+    out: &mut Vec<Update<T>>,
+    time: T,
+    given: &[Update<T>],
+) -> Result<(), Refusal>
+    ensures put { OnOk result (out.new.items ≡ out.old.items
+        ++ put time (map negated_entry (as_of T.below time given.now))) }
+    ensures refused { IfErr result (IsMemoryOrOverflow (2 ^ 63 ≤ size given.now)) }
+{
+    for update in given {
+        put_back_one(out, time, update)?;
+    }
+    Ok(())
+}
+
+// Takes back at a time what was given at or before it, but not at or before an earlier one.
+fn put_back_since<T: Lattice>(
+    alloc: Global,
+    out: &mut Vec<Update<T>>,
+    after: T,
+    time: T,
+    given: &[Update<T>],
+) -> Result<(), Refusal>
+    ensures put { OnOk result (out.new.items ≡ out.old.items ++ put time
+        (map negated_entry (as_of T.below time (between T.below after time given.now)))) }
+    ensures refused { IfErr result (IsMemoryOrOverflow (2 ^ 63 ≤ size given.now)) }
+{
+    let since = between(alloc, given, after, time)?;
+    put_back(out, time, since.as_slice())
+}
+
+// The draft from all that is wanted and all that was given.
+fn whole_draft<T: Lattice>(
+    alloc: Global,
+    time: T,
+    want: &Bag,
+    given: &[Update<T>],
+) -> Result<Vec<Update<T>>, Refusal>
+    ensures draft { IfOk result (λ draft. IsDraft T.below time want.now given.now draft.items) }
+    ensures refused { IfErr result (IsMemoryOrOverflow (2 ^ 63 ≤ size given.now)) }
+{
+    let mut draft = Vec::new(alloc);
+    put_rest(&mut draft, time, want, 0)?;
+    put_back(&mut draft, time, given)?;
+    Ok(draft)
+}
+
+// The draft from what was evaluated at an earlier time.
+fn draft_since<T: Lattice>(
+    alloc: Global,
+    time: T,
+    want: &Bag,
+    given: &[Update<T>],
+    last: &Evaluation<T>,
+) -> Result<Vec<Update<T>>, Refusal>
+    requires earlier { IsTrue (T.below last.now.time time) }
+    requires answer { Alike last.now.answer (as_of T.below last.now.time given.now) }
+    ensures draft { IfOk result (λ draft. IsDraft T.below time want.now given.now draft.items) }
+    ensures refused { IfErr result (IsMemoryOrOverflow (2 ^ 63 ≤ size given.now)) }
+{
+    let mut draft = Vec::new(alloc);
+    put_change(&mut draft, time, want, &last.answer)?;
+    put_back_since(alloc, &mut draft, last.time, time, given)?;
+    Ok(draft)
+}
+
+/// A draft of the correction of a key at a time, if `want` is wanted there and `given` is what was given of the key
+/// before.
+///
+/// - [`Refusal::Overflow`] only if the absolute diffs of what was given add up to 2^63 or more.
+/// - [`Refusal::OutOfMemory`] only if memory for the draft was refused.
+///
+/// Cost: one pass over what was given. If the last time is at or before this one, a pass over both answers, and the
+/// draft has only what changed in between; else all that is wanted and was given.
+pub(crate) fn draft_of<T: Lattice>(
+    alloc: Global,
+    time: T,
+    want: &Bag,
+    given: &[Update<T>],
+    last: &Option<Evaluation<T>>,
+) -> Result<Vec<Update<T>>, Refusal>
+    requires { IfSome last.now
+        (λ last. Alike last.answer (as_of T.below last.time given.now)) }
+    ensures draft { IfOk result (λ draft. IsDraft T.below time want.now given.now draft.items) }
+    ensures refused { IfErr result (IsMemoryOrOverflow (2 ^ 63 ≤ size given.now)) }
+{
+    match last {
+        Some(last) if last.time.less_equal(&time) => draft_since(alloc, time, want, given, last),
+        _ => whole_draft(alloc, time, want, given),
+    }
+}
