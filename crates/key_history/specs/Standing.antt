@@ -23,7 +23,7 @@ module _ {T : Type 0} (below : T → T → Bool) where
     -- with a time all joined times at or after it are pending
     pub upward : (s t : T) → Member s due → IsJoined joined k taken key t → below s t ≡ true → Member t due
     -- at each other joined time what was given is right
-    pub settled : (t : T) → IsJoined joined k taken key t → Member t due ⊎ IsRight k reduce taken given key t
+    pub settled : (t : T) → IsJoined joined k taken key t → Member t due ⊎ IsRight below k reduce taken given key t
 
   -- no pending time is at or before t
   abbrev pub IsSettledAt : List T → T → Type 0
