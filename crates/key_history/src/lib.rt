@@ -9,8 +9,9 @@
 //! - [`sweep_key`] gives what is new of a key as of a frontier, and which of its times are still pending ([`Settled`]).
 //!   It changes nothing, so a call that is refused has left the history as it was.
 //!
-//! This crate does not know how the rows of a key are found, nor that there are other keys. What is right for a key is
-//! defined in `specs/Standing.antt`, and what a sweep makes of its pending times in `specs/Settling.antt`.
+//! This crate does not know how the rows of a key are found, nor that there are other keys; and what is given at one time it
+//! leaves to the crate `correction`. What is right for a key is defined in `specs/Standing.antt`, and what a sweep makes of
+//! its pending times in `specs/Settling.antt`.
 #![tactic(auto)]
 
 mod history;

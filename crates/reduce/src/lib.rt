@@ -9,13 +9,14 @@
 //! - The laws say what follows from the definitions: where answers can change, and that what is given is one list in
 //!   whatever pieces it was taken.
 //!
-//! This crate goes through all keys. It stands on three others, whose names a caller needs it hands on:
+//! This crate goes through all keys. It stands on four others, and hands on what a caller needs of them:
 //!
 //! - `reducer`: what a key's rows are reduced to. A [`Reducer`] is a function of a bag; [`Count`], [`Distinct`], [`Min`] and
 //!   [`Max`] are those of plans. [`RowCounts`] is how it reads the rows of a key, and a [`Tally`] has them with counts that
 //!   change in place.
 //! - `joined_times`: which times are joined times, after new ones came.
-//! - `key_history`: what is kept of one key, a [`KeyHistory`], and what is given of it.
+//! - `correction`: what is given of one key at one time.
+//! - `key_history`: what is kept of one key, a [`KeyHistory`], and what is given of it as of a frontier.
 //!
 //! What a reduction stands for is defined in `specs/Reductions.antt`, by what is right for each key
 //! (`key_history/specs/Standing.antt`).
