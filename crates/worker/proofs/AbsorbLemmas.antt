@@ -26,18 +26,18 @@ use Rattle.machine.specs.Histories.Promises.{NeverGoesBack}
 use Rattle.machine.specs.Histories.Outstanding.{input_frontier}
 use Rattle.machine.specs.Histories.{initial_state, state_after, next_state, IsLegal, IsGive}
 use Rattle.machine.proofs.HistoryLemmas.HeadlineLemmas.{inputs_lem}
-use Rattle.worker.specs.declared.doing.Doing.{Doing}
-use Rattle.worker.specs.Gathering.{IsHeldFor, IsStamped}
+use Rattle.shared_board.specs.declared.event.Doing.{Doing}
+use Rattle.operator_laws.specs.Gathering.{IsHeldFor, IsStamped}
 use Rattle.worker.specs.Passes.{IsAtNode}
-use Rattle.worker.specs.Arrangements.{ArrangementState, rows_have, times_from}
+use Rattle.operator.specs.Arrangements.{ArrangementState, rows_have, times_from}
 use Rattle.worker.specs.Desks.{DeskState, IsDesk, with_arrangement}
-use Rattle.worker.specs.Found.{dataflow_of}
+use Rattle.shared_board.specs.Found.{dataflow_of}
 use Rattle.worker.specs.Relays.{HasNone, HasTaken, IsReadyAt, IsSettledTo}
-use Rattle.worker.specs.Tenures.{IsActor, events, found_last, state_found, state_left}
+use Rattle.shared_board.specs.Tenures.{IsActor, events, found_last, state_found, state_left}
 use Rattle.worker.proofs.BetweenLemmas.{found_legal}
 use Rattle.worker.proofs.FirstLemmas.{first_due, first_stamped}
-use Rattle.worker.proofs.GatheringLemmas.{no_emission}
-use Rattle.worker.proofs.ArrangingLemmas.{first_passed, taken_beyond}
+use Rattle.operator_laws.proofs.GatheringLemmas.{no_emission}
+use Rattle.operator_laws.proofs.ArrangingLemmas.{first_passed, taken_beyond}
 use Rattle.worker.proofs.PassLemmas.{IsDue, at_taken, at_given}
 use Rattle.worker.proofs.SendLemmas.{widened}
 use Rattle.worker.proofs.SettledLemmas.{settled_taken, settled_given, settled_next}

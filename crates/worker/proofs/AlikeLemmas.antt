@@ -17,8 +17,8 @@ use Rattle.machine.specs.Histories.Promises.{NeverGoesBack}
 use Rattle.machine.specs.Histories.States.{State, place, queue}
 use Rattle.worker.specs.Between.{IsAlike}
 use Rattle.worker.specs.Desks.{DeskState, IsDeskAt}
-use Rattle.worker.specs.Gathering.{IsGathering}
-use Rattle.worker.specs.Joining.{IsReadAt}
+use Rattle.operator_laws.specs.Gathering.{IsGathering}
+use Rattle.operator_laws.specs.Joining.{IsReadAt}
 use Rattle.worker.specs.Passes.{is_due, IsAtNode}
 use Rattle.worker.specs.Relays.{HasNone, HasSome, IsReadyAt, IsGatheringAt}
 

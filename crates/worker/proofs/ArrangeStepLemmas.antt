@@ -25,13 +25,13 @@ use Rattle.machine.specs.Histories.States.{State, place, queue, times}
 use Rattle.machine.specs.Histories.Outstanding.{input_frontier}
 use Rattle.machine.specs.Histories.Promises.{NeverGoesBack}
 use Rattle.machine.specs.Histories.{with_at, next_state, give_state, IsTake, IsTakeHeld, IsGive}
-use Rattle.worker.specs.Gathering.{IsCut, IsStamped, IsInHand, IsSplit, IsHeldFor}
-use Rattle.worker.specs.Arranging.{IsArranging, IsSealOf}
-use Rattle.worker.specs.Arrangements.{ArrangementState, AreInTurn}
+use Rattle.operator_laws.specs.Gathering.{IsCut, IsStamped, IsInHand, IsSplit, IsHeldFor}
+use Rattle.operator_laws.specs.Arranging.{IsArranging, IsSealOf}
+use Rattle.operator.specs.Arrangements.{ArrangementState, AreInTurn}
 use Rattle.worker.specs.Desks.{DeskState, AreSharing, IsArrangedAt, IsDeskAt, IsDesk, with_arrangement}
 use Rattle.worker.proofs.ReadAtLemmas.{AreReadOn, reads_taken, reads_turned, reads_none, reads_inserted}
-use Rattle.worker.proofs.GatheringLemmas.{in_hand_now, no_emission, split_none, cut_none, held_beyond}
-use Rattle.worker.proofs.ArrangingLemmas.{took_arranging, turned_arranging, same_arranging, may_insert, gave_arranging, gave_none, interval, seal_split, open_beyond}
+use Rattle.operator_laws.proofs.GatheringLemmas.{in_hand_now, no_emission, split_none, cut_none, held_beyond}
+use Rattle.operator_laws.proofs.ArrangingLemmas.{took_arranging, turned_arranging, same_arranging, may_insert, gave_arranging, gave_none, interval, seal_split, open_beyond}
 use Rattle.worker.proofs.DeskLemmas.{IsRightBut, get_own, same_desk, same_but_arrangement, sharing_arrangement, others_after, desk_from, not_of_take, not_of_give}
 
 module _ {T : Type 0} (below : T → T → Bool) (joined : T → T → T) (minimum : T) (p : Dataflow) (w : State T) (k : ℕ) (d : DeskState T) (inserted : ℕ → List (Insertion T)) where

@@ -9,12 +9,12 @@ use Rattle.machine.specs.declared.histories.event.Event.{Event}
 use Rattle.machine.specs.Histories.Dataflows.{Dataflow, IsDataflow, node_of}
 use Rattle.machine.specs.Histories.States.{State}
 use Rattle.machine.specs.Histories.{IsLegal}
-use Rattle.worker.specs.declared.doing.Doing.{Doing}
+use Rattle.shared_board.specs.declared.event.Doing.{Doing}
 use Rattle.worker.specs.Between.{state_from, AreOfClients, DoClientsLead, IsLeftBy}
 use Rattle.worker.specs.Desks.{DeskState}
-use Rattle.worker.specs.Found.{dataflow_of}
+use Rattle.shared_board.specs.Found.{dataflow_of}
 use Rattle.worker.specs.Relays.{HasNone, HasSome, IsReadyAt, IsGatheringAt}
-use Rattle.worker.specs.Tenures.{IsActor, AreKnown, events, found_last, terms_in}
+use Rattle.shared_board.specs.Tenures.{IsActor, AreKnown, events, found_last, terms_in}
 use Rattle.worker.proofs.AlikeLemmas.{ready_alike, gathering_alike, none_alike, some_alike}
 use Rattle.worker.proofs.ClientLemmas.{at_kept, client_desk, client_desk_with, hand_kept, still_none, still_some}
 
@@ -87,6 +87,6 @@ module _ {T : Type 0} (below : T → T → Bool) (p : Dataflow) (w v : State T) 
 pub found_legal : {T : Type 0} (below : T → T → Bool) (minimum : T) (k : Known (Doing T)) → IsActor below minimum k → IsLegal below minimum (dataflow_of k) (events (found_last k))
 found_legal {T} below minimum k actor = step k.seen actor.known actor.legal
   where
-    step : (seen : List (Entry (Doing T))) → AreKnown seen → IsLegal below minimum (terms_in seen).dataflow (events seen) → IsLegal below minimum (terms_in seen).dataflow (events (Rattle.worker.specs.Tenures.but_last seen))
+    step : (seen : List (Entry (Doing T))) → AreKnown seen → IsLegal below minimum (terms_in seen).dataflow (events seen) → IsLegal below minimum (terms_in seen).dataflow (events (Rattle.shared_board.specs.Tenures.but_last seen))
     step [] known legal = absurd known
     step (e ∷ es) known legal = legal.1

@@ -18,15 +18,15 @@ use Rattle.machine.specs.Histories.Dataflows.{Dataflow, IsDataflow, node_of, sou
 use Rattle.machine.specs.Histories.States.{State, place, queue}
 use Rattle.machine.specs.Histories.{alone, next_state, IsFeed, IsAllowed}
 use Rattle.machine.proofs.HistoryLemmas.ClaimLemmas.{routed}
-use Rattle.worker.specs.Gathering.{is_of}
-use Rattle.worker.specs.Joining.{is_at_port}
+use Rattle.operator_laws.specs.Gathering.{is_of}
+use Rattle.operator_laws.specs.Joining.{is_at_port}
 use Rattle.worker.specs.Passes.{is_due, JoinsHaveTaken, IsAtNode}
 use Rattle.worker.specs.Desks.{DeskState, IsDesk, IsDeskWith}
 use Rattle.worker.specs.Between.{is_of_client}
 use Rattle.worker.specs.Relays.{HasNone, HasSome}
-use Rattle.worker.proofs.GatheringLemmas.{same_after, same_gathering}
+use Rattle.operator_laws.proofs.GatheringLemmas.{same_after, same_gathering}
 use Rattle.worker.proofs.PassLemmas.{due_from, taken_both}
-use Rattle.worker.proofs.QueueLemmas.{queue_both}
+use Rattle.operator_laws.proofs.QueueLemmas.{queue_both}
 use Rattle.worker.proofs.ReadAtLemmas.{read_on}
 use Rattle.worker.proofs.DeskLemmas.{IsRightBut, same_desk, others_after}
 

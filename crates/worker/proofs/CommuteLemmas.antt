@@ -20,7 +20,7 @@ use Rattle.machine.specs.Histories.Shares.{home}
 use Rattle.machine.specs.Histories.States.{State, same_place, queue, fed_to, open_at}
 use Rattle.machine.specs.Histories.{alone, give_state, next_state, open_entries, with_at, IsAllowed}
 use Rattle.worker.specs.Between.{is_of_client, state_from, AreOfClients, IsAlike}
-use Rattle.worker.proofs.QueueLemmas.{queue_both}
+use Rattle.operator_laws.proofs.QueueLemmas.{queue_both}
 
 module _ {T : Type 0} (below : T → T → Bool) (p : Dataflow) (g : Emission T) (ts : List T) (sent : List (Bundle T)) (away : (site : Site) → is_input (node_of p site.node) ≡ true → queue site sent ≡ []) where
   abbrev given : State T → State T

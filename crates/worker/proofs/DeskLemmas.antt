@@ -21,16 +21,16 @@ use Rattle.machine.specs.Histories.Dataflows.{Dataflow, IsDataflow, node_of}
 use Rattle.machine.specs.Histories.States.{State, times, emitted_by}
 use Rattle.machine.specs.Histories.NodeLaws.{received_at}
 use Rattle.machine.specs.Histories.{next_state, give_state, IsAllowed, IsTake, IsGive}
-use Rattle.worker.specs.Gathering.{is_of, IsCut, IsStamped, IsInHand, IsSplit, IsHeldFor, IsGathering}
-use Rattle.worker.specs.Arrangements.{ArrangementState}
-use Rattle.worker.specs.Arranging.{IsArranging}
-use Rattle.worker.specs.Joins.{JoiningView}
-use Rattle.worker.specs.Reductions.{ReducingView, IsReduced, pending_of}
+use Rattle.operator_laws.specs.Gathering.{is_of, IsCut, IsStamped, IsInHand, IsSplit, IsHeldFor, IsGathering}
+use Rattle.operator.specs.Arrangements.{ArrangementState}
+use Rattle.operator_laws.specs.Arranging.{IsArranging}
+use Rattle.operator.specs.Joins.{JoiningView}
+use Rattle.operator.specs.Reductions.{ReducingView, IsReduced, pending_of}
 use Rattle.worker.specs.Desks.{DeskState, ReadsAt, AreSharing, IsArrangedAt, IsJoinedAt, IsDeskAt, IsDesk, with_arrangement, with_reduction, hold_at}
-use Rattle.worker.proofs.GatheringLemmas.{IsSameAt, same_after, same_gathering, linear_piece_lem, took_gathering, in_hand_now, may_give, gave_gathering}
-use Rattle.worker.proofs.ArrangingLemmas.{same_arranging, all_given}
-use Rattle.worker.proofs.ReducingLemmas.{same_reducing}
-use Rattle.worker.proofs.JoiningLemmas.{same_joining}
+use Rattle.operator_laws.proofs.GatheringLemmas.{IsSameAt, same_after, same_gathering, linear_piece_lem, took_gathering, in_hand_now, may_give, gave_gathering}
+use Rattle.operator_laws.proofs.ArrangingLemmas.{same_arranging, all_given}
+use Rattle.operator_laws.proofs.ReducingLemmas.{same_reducing}
+use Rattle.operator_laws.proofs.JoiningLemmas.{same_joining}
 use Rattle.worker.proofs.ReadAtLemmas.{AreReadOn, reads_taken, reads_given}
 
 -- ---- entries by node

@@ -19,10 +19,10 @@ use Rattle.machine.specs.Histories.Promises.{changes_in}
 use Rattle.machine.specs.Histories.{state_after, IsTake, IsLegal}
 use Rattle.machine.proofs.BoardLemmas.PlacingLemmas.{itself}
 use Rattle.machine.proofs.HistoryLemmas.FlowLemmas.{queued}
-use Rattle.worker.specs.Gathering.{IsStamped}
+use Rattle.operator_laws.specs.Gathering.{IsStamped}
 use Rattle.worker.specs.Passes.{is_due, IsAtNode}
-use Rattle.worker.specs.Large.{HasNoSmallBound}
-use Rattle.worker.proofs.GatheringLemmas.{size_both, waiting_is_stamped}
+use Rattle.shared_board.specs.Large.{HasNoSmallBound}
+use Rattle.operator_laws.proofs.GatheringLemmas.{size_both, waiting_is_stamped}
 use Rattle.worker.proofs.PassLemmas.{IsDue, due_parts}
 use Rattle.worker.proofs.SendLemmas.{fitting}
 use Rattle.worker.proofs.LargeLemmas.{large_received}

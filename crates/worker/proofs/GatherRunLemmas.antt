@@ -29,19 +29,19 @@ use Rattle.machine.specs.Histories.Promises.{changes_in}
 use Rattle.machine.specs.Histories.NodeLaws.{received_at}
 use Rattle.machine.specs.Histories.{state_after, next_state, give_state, IsGive, IsLegal, IsTake}
 use Rattle.worker.specs.Desks.{DeskState, IsDesk}
-use Rattle.worker.specs.Gathering.{IsCut, IsGathering, IsHeldFor, IsInHand, IsSplit, IsStamped}
-use Rattle.worker.specs.Large.{HasNoSmallBound}
+use Rattle.operator_laws.specs.Gathering.{IsCut, IsGathering, IsHeldFor, IsInHand, IsSplit, IsStamped}
+use Rattle.shared_board.specs.Large.{HasNoSmallBound}
 use Rattle.worker.specs.Passes.{is_due}
 use Rattle.worker.specs.Relays.{HasNone, HasSome, HasTaken, IsGatheringAt, IsGatheringOn, IsReadyAt, IsRunning, IsSameActor, IsSettledTo, IsTooLarge}
-use Rattle.worker.specs.Tenures.{IsActor, Terms, events, found_last, state_found, state_left}
+use Rattle.shared_board.specs.Tenures.{IsActor, Terms, events, found_last, state_found, state_left}
 use Rattle.worker.specs.Between.{DoClientsLead, IsLeftBy}
-use Rattle.worker.specs.Found.{dataflow_of}
-use Rattle.worker.specs.declared.doing.Doing.{Doing}
+use Rattle.shared_board.specs.Found.{dataflow_of}
+use Rattle.shared_board.specs.declared.event.Doing.{Doing}
 use Rattle.hub.specs.Known.{Known}
 use Rattle.worker.proofs.BetweenLemmas.{found_legal, gathering_found, gathering_left, ready_left, some_found, some_left}
 use Rattle.worker.proofs.DeskLemmas.{IsRightBut, same_desk, others_after, desk_from, plain_gathers, plain_desk, not_of_take, not_of_give}
 use Rattle.worker.proofs.FirstLemmas.{first_due, first_stamped, first_fits, large_made}
-use Rattle.worker.proofs.GatheringLemmas.{linear_piece_lem, took_gathering, in_hand_now, no_emission, may_give, gave_gathering, may_hold_back, held_back, held_for_same, held_now, turned_gathering}
+use Rattle.operator_laws.proofs.GatheringLemmas.{linear_piece_lem, took_gathering, in_hand_now, no_emission, may_give, gave_gathering, may_hold_back, held_back, held_for_same, held_now, turned_gathering}
 use Rattle.worker.proofs.LargeLemmas.{large_load}
 use Rattle.worker.proofs.NodeLemmas.{ready_next}
 use Rattle.worker.proofs.PassLemmas.{IsDue, at_taken, at_given, at_passed}

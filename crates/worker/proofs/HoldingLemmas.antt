@@ -12,7 +12,7 @@ use Rattle.trace.specs.Readings.{Insertion}
 use Rattle.machine.specs.Histories.Dataflows.{Dataflow, node_of}
 use Rattle.machine.specs.Histories.States.{State, held_at}
 use Rattle.machine.specs.Histories.Outstanding.{input_frontier}
-use Rattle.worker.specs.Gathering.{IsGathering}
+use Rattle.operator_laws.specs.Gathering.{IsGathering}
 use Rattle.worker.specs.Desks.{DeskState, IsDeskAt}
 use Rattle.worker.specs.Relays.{IsReadyAt}
 

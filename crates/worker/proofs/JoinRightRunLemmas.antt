@@ -21,16 +21,16 @@ use Rattle.machine.specs.Histories.Dataflows.{Dataflow}
 use Rattle.machine.specs.Histories.States.{State, place}
 use Rattle.machine.specs.Histories.NodeLaws.{received_at}
 use Rattle.machine.specs.Histories.{next_state, IsGive}
-use Rattle.worker.specs.declared.doing.Doing.{Doing}
-use Rattle.worker.specs.Gathering.{IsCut}
-use Rattle.worker.specs.Joining.{IsAnswer}
-use Rattle.worker.specs.Joins.{JoiningView}
-use Rattle.worker.specs.Arrangements.{ArrangementState, upper_of}
+use Rattle.shared_board.specs.declared.event.Doing.{Doing}
+use Rattle.operator_laws.specs.Gathering.{IsCut}
+use Rattle.operator_laws.specs.Joining.{IsAnswer}
+use Rattle.operator.specs.Joins.{JoiningView}
+use Rattle.operator.specs.Arrangements.{ArrangementState, upper_of}
 use Rattle.worker.specs.Desks.{DeskState, IsJoinedAt, with_join}
-use Rattle.worker.specs.Found.{dataflow_of}
+use Rattle.shared_board.specs.Found.{dataflow_of}
 use Rattle.worker.specs.Relays.{HasTaken, IsReadyAt, IsTooLarge}
-use Rattle.worker.specs.Tenures.{state_found, state_left}
-use Rattle.worker.proofs.GatheringLemmas.{size_both, received_is}
+use Rattle.shared_board.specs.Tenures.{state_found, state_left}
+use Rattle.operator_laws.proofs.GatheringLemmas.{size_both, received_is}
 use Rattle.worker.proofs.JoinStepLemmas.{IsMovedOn, joined_here}
 use Rattle.worker.proofs.JoinRightStepLemmas.{right_interval, right_may, right_desk}
 use Rattle.worker.proofs.JoinRunLemmas.{IsAtJoin, right_source, made_take, made_left, made_stamped, made_large, made_large_pairs, given_ready}

@@ -15,14 +15,14 @@ use Rattle.machine.specs.declared.histories.event.Event.TheVariants.{Take, Give}
 use Rattle.machine.specs.Histories.Dataflows.{Dataflow, IsDataflow, node_of, source_of}
 use Rattle.machine.specs.Histories.States.{State, place, times}
 use Rattle.machine.specs.Histories.{next_state, give_state, IsTake, IsGive}
-use Rattle.worker.specs.Gathering.{IsCut, IsStamped, IsInHand, IsSplit, IsHeldFor}
-use Rattle.worker.specs.Joining.{IsAnswer, IsQueued, IsReadAt, IsJoining}
-use Rattle.worker.specs.Joins.{JoiningView}
-use Rattle.worker.specs.Arrangements.{ArrangementState, upper_of}
+use Rattle.operator_laws.specs.Gathering.{IsCut, IsStamped, IsInHand, IsSplit, IsHeldFor}
+use Rattle.operator_laws.specs.Joining.{IsAnswer, IsQueued, IsReadAt, IsJoining}
+use Rattle.operator.specs.Joins.{JoiningView}
+use Rattle.operator.specs.Arrangements.{ArrangementState, upper_of}
 use Rattle.worker.specs.Desks.{DeskState, IsArrangedAt, IsJoinedAt, IsDeskAt, IsDesk, with_join, hold_at, boundary_at}
-use Rattle.worker.proofs.GatheringLemmas.{in_hand_now, may_give}
-use Rattle.worker.proofs.ArrangingLemmas.{all_given}
-use Rattle.worker.proofs.JoiningLemmas.{took_right, gave_joining}
+use Rattle.operator_laws.proofs.GatheringLemmas.{in_hand_now, may_give}
+use Rattle.operator_laws.proofs.ArrangingLemmas.{all_given}
+use Rattle.operator_laws.proofs.JoiningLemmas.{took_right, gave_joining}
 use Rattle.worker.proofs.ReadAtLemmas.{join_plain, read_on, reads_taken, reads_given}
 use Rattle.worker.proofs.DeskLemmas.{get_own, same_desk, others_after, desk_from, not_of_take, not_of_give}
 use Rattle.worker.proofs.JoinStepLemmas.{IsMovedOn, waits_newest, newest_taken, sharing_moved, same_but_moved, joined_here, reads_here, arranged_there, come_to, newest_interval, moved_good, moved_holds}

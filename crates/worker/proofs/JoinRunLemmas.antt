@@ -38,25 +38,25 @@ use Rattle.machine.specs.Histories.NodeLaws.{received_at}
 use Rattle.machine.specs.Histories.{initial_state, state_after, next_state, IsTake, IsGive, IsLegal}
 use Rattle.machine.proofs.HistoryLemmas.FlowLemmas.{queued}
 use Rattle.machine.proofs.HistoryLemmas.HeadlineLemmas.{inputs_lem}
-use Rattle.worker.specs.declared.doing.Doing.{Doing}
-use Rattle.worker.specs.Gathering.{IsCut, IsStamped}
-use Rattle.worker.specs.Joining.{IsAnswer, IsReadAt}
-use Rattle.worker.specs.Joins.{JoiningView, IsFitting, IsSide}
-use Rattle.worker.specs.Arrangements.{ArrangementState, IsArrangement, IsReader, rows_have, times_from, upper_of}
+use Rattle.shared_board.specs.declared.event.Doing.{Doing}
+use Rattle.operator_laws.specs.Gathering.{IsCut, IsStamped}
+use Rattle.operator_laws.specs.Joining.{IsAnswer, IsReadAt}
+use Rattle.operator.specs.Joins.{JoiningView, IsFitting, IsSide}
+use Rattle.operator.specs.Arrangements.{ArrangementState, IsArrangement, IsReader, rows_have, times_from, upper_of}
 use Rattle.worker.specs.Desks.{DeskState, IsArrangedAt, IsJoinedAt, IsDesk, with_join, hold_at, boundary_at}
-use Rattle.worker.specs.Found.{dataflow_of}
-use Rattle.worker.specs.Large.{HasNoSmallBound}
+use Rattle.shared_board.specs.Found.{dataflow_of}
+use Rattle.shared_board.specs.Large.{HasNoSmallBound}
 use Rattle.worker.specs.Passes.{is_due}
 use Rattle.worker.specs.Relays.{HasNone, HasTaken, IsReadyAt, IsSettledTo, IsTooLarge}
-use Rattle.worker.specs.Tenures.{IsActor, events, found_last, state_found, state_left}
+use Rattle.shared_board.specs.Tenures.{IsActor, events, found_last, state_found, state_left}
 use Rattle.worker.proofs.BetweenLemmas.{found_legal}
-use Rattle.worker.proofs.GatheringLemmas.{size_both, received_is}
-use Rattle.worker.proofs.ArrangingLemmas.{first_passed, taken_beyond}
+use Rattle.operator_laws.proofs.GatheringLemmas.{size_both, received_is}
+use Rattle.operator_laws.proofs.ArrangingLemmas.{first_passed, taken_beyond}
 use Rattle.worker.proofs.PassLemmas.{IsDue, due_parts, at_taken, at_given}
 use Rattle.worker.proofs.SendLemmas.{sent_due, sent_later}
 use Rattle.worker.proofs.SettledLemmas.{settled_taken, settled_given}
 use Rattle.worker.proofs.WaitLemmas.{port_few}
-use Rattle.worker.proofs.QueueLemmas.{queue_both}
+use Rattle.operator_laws.proofs.QueueLemmas.{queue_both}
 use Rattle.worker.proofs.ReadAtLemmas.{join_plain, taken_plain, none_for_joins}
 use Rattle.worker.proofs.LargeLemmas.{large_load}
 use Rattle.worker.proofs.FirstLemmas.{first_due, first_stamped, large_first}

@@ -22,14 +22,14 @@ use Rattle.machine.specs.declared.histories.event.Event.TheVariants.{Take, Give}
 use Rattle.machine.specs.Histories.Dataflows.{Dataflow, IsDataflow, node_of, source_of}
 use Rattle.machine.specs.Histories.States.{State, place, queue, times}
 use Rattle.machine.specs.Histories.{next_state, give_state, IsTake, IsGive}
-use Rattle.worker.specs.Gathering.{IsCut, IsStamped, IsInHand, IsSplit, IsHeldFor}
-use Rattle.worker.specs.Joining.{IsAnswer, IsQueued, IsReadAt, IsJoining}
-use Rattle.worker.specs.Joins.{JoiningView}
-use Rattle.worker.specs.Arrangements.{ArrangementState, AreInTurn, on_top, upper_of}
+use Rattle.operator_laws.specs.Gathering.{IsCut, IsStamped, IsInHand, IsSplit, IsHeldFor}
+use Rattle.operator_laws.specs.Joining.{IsAnswer, IsQueued, IsReadAt, IsJoining, on_top}
+use Rattle.operator.specs.Joins.{JoiningView}
+use Rattle.operator.specs.Arrangements.{ArrangementState, AreInTurn, upper_of}
 use Rattle.worker.specs.Desks.{DeskState, ReadsAt, HasHold, AreSharing, IsArrangedAt, IsJoinedAt, IsDeskAt, IsDesk, with_join, hold_at, boundary_at}
-use Rattle.worker.proofs.GatheringLemmas.{in_hand_now, may_give}
-use Rattle.worker.proofs.ArrangingLemmas.{all_given}
-use Rattle.worker.proofs.JoiningLemmas.{took_left, gave_joining}
+use Rattle.operator_laws.proofs.GatheringLemmas.{in_hand_now, may_give}
+use Rattle.operator_laws.proofs.ArrangingLemmas.{all_given}
+use Rattle.operator_laws.proofs.JoiningLemmas.{took_left, gave_joining}
 use Rattle.worker.proofs.ReadAtLemmas.{join_plain, join_port, read_on, reads_taken, reads_given}
 use Rattle.worker.proofs.ArrangeStepLemmas.{arranged_here}
 use Rattle.worker.proofs.DeskLemmas.{IsAsGood, IsSameButAt, get_set, get_own, same_desk, others_after, desk_from, not_of_take, not_of_give}

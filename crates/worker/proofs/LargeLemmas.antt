@@ -13,7 +13,7 @@ use Rattle.machine.specs.Histories.Promises.{changes_in}
 use Rattle.machine.specs.Histories.States.{State}
 use Rattle.machine.specs.Histories.{state_after, IsLegal}
 use Rattle.machine.proofs.HistoryLemmas.BoundLemmas.{takes_lem, loads_lem}
-use Rattle.worker.specs.Large.{HasNoSmallBound}
+use Rattle.shared_board.specs.Large.{HasNoSmallBound}
 
 module _ {T : Type 0} (below : T → T → Bool) (minimum : T) (o : PartialOrderLaws below) (cmp : T → T → Ordering) (p : Dataflow) (q : IsDataflow p) (h : List (Event T)) (legal : IsLegal below minimum p h) where
   abbrev w : State T

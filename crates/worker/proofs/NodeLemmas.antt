@@ -5,9 +5,9 @@ use Rattle.std.proofs.lemmas.List.{set-set}
 use Rattle.reduce.proofs.RenewLemmas.{set_same}
 use Rattle.machine.specs.Histories.Dataflows.{Dataflow}
 use Rattle.machine.specs.Histories.States.{State}
-use Rattle.worker.specs.Arrangements.{ArrangementState}
-use Rattle.worker.specs.Joins.{JoiningView}
-use Rattle.worker.specs.Reductions.{ReducingView}
+use Rattle.operator.specs.Arrangements.{ArrangementState}
+use Rattle.operator.specs.Joins.{JoiningView}
+use Rattle.operator.specs.Reductions.{ReducingView}
 use Rattle.worker.specs.Desks.{DeskState, with_arrangement, with_reduction, with_join}
 use Rattle.worker.specs.Passes.{IsAtNode}
 use Rattle.worker.specs.Relays.{HasNone, IsReadyAt}

@@ -18,18 +18,18 @@ use Rattle.plan.proofs.WidthLemmas.{width_bounds}
 use Rattle.machine.specs.Histories.Dataflows.{Dataflow, node_of}
 use Rattle.machine.specs.Histories.States.{State}
 use Rattle.machine.specs.Histories.{initial_state}
-use Rattle.worker.specs.Joining.{IsReadAt}
-use Rattle.worker.specs.Joins.{JoiningView, IsFitting}
-use Rattle.worker.specs.Arranging.{IsArranging}
-use Rattle.worker.specs.Arrangements.{ArrangementState, IsWithReader, upper_of}
-use Rattle.worker.specs.Reducing.{IsReducing}
-use Rattle.worker.specs.Reductions.{ReducingView, HasRoom}
+use Rattle.operator_laws.specs.Joining.{IsReadAt}
+use Rattle.operator.specs.Joins.{JoiningView, IsFitting}
+use Rattle.operator_laws.specs.Arranging.{IsArranging}
+use Rattle.operator.specs.Arrangements.{ArrangementState, IsWithReader, upper_of}
+use Rattle.operator_laws.specs.Reducing.{IsReducing}
+use Rattle.operator.specs.Reductions.{ReducingView, HasRoom}
 use Rattle.worker.specs.Desks.{DeskState, ReadsAt, HasHold, IsDeskAt, IsDesk, with_arrangement, hold_at, boundary_at}
 use Rattle.worker.specs.Openings.{on_one_worker, IsFirstArrangement, IsFirstReduction, IsFirstJoin, HasOwnHolds, IsFirstAt, IsLaidOut}
 use Rattle.worker.specs.Relays.{IsReadyAt}
-use Rattle.worker.proofs.GatheringLemmas.{first_gathering}
-use Rattle.worker.proofs.ArrangingLemmas.{first_arranging}
-use Rattle.worker.proofs.ReducingLemmas.{first_reducing}
+use Rattle.operator_laws.proofs.GatheringLemmas.{first_gathering}
+use Rattle.operator_laws.proofs.ArrangingLemmas.{first_arranging}
+use Rattle.operator_laws.proofs.ReducingLemmas.{first_reducing}
 use Rattle.worker.proofs.ReadAtLemmas.{join_sources}
 use Rattle.worker.proofs.DeskLemmas.{get_set, get_own}
 

@@ -17,7 +17,7 @@ use Rattle.machine.specs.Histories.Dataflows.{Dataflow, node_of, source_of}
 use Rattle.machine.specs.Histories.States.{State, place, same_place, queue}
 use Rattle.machine.specs.Histories.{without, next_state, give_state}
 use Rattle.machine.proofs.HistoryLemmas.FlowLemmas.{among_left}
-use Rattle.worker.proofs.QueueLemmas.{queue_both}
+use Rattle.operator_laws.proofs.QueueLemmas.{queue_both}
 use Rattle.worker.specs.Passes.{width_at, is_due, JoinsHaveTaken, IsAtNode}
 
 or-false : (b : Bool) → (b || false) ≡ b

@@ -18,12 +18,11 @@ use Rattle.machine.specs.Histories.Dataflows.{Dataflow, IsDataflow, node_of, sou
 use Rattle.machine.specs.Histories.States.{State, place, queue}
 use Rattle.machine.specs.Histories.{next_state, give_state, IsTake, IsTakeHeld, IsGive, IsAllowed}
 use Rattle.machine.proofs.HistoryLemmas.CuttingLemmas.{share_none}
-use Rattle.worker.specs.Gathering.{IsCut}
-use Rattle.worker.specs.Joining.{is_at_port, IsQueued, IsReadAt}
-use Rattle.worker.specs.Arrangements.{on_top}
+use Rattle.operator_laws.specs.Gathering.{IsCut}
+use Rattle.operator_laws.specs.Joining.{is_at_port, IsQueued, IsReadAt, on_top}
 use Rattle.worker.specs.Passes.{JoinsHaveTaken}
-use Rattle.worker.proofs.QueueLemmas.{none_sent, queue_both, queued_on, queued_more}
-use Rattle.worker.proofs.WorkingLemmas.{no_join_reads, elsewhere_node}
+use Rattle.operator_laws.proofs.QueueLemmas.{none_sent, queue_both, queued_on, queued_more}
+use Rattle.operator_laws.proofs.WorkingLemmas.{no_join_reads, elsewhere_node}
 
 -- a join is no arrange node, and reads two sources
 pub join_plain : (node : Node) → is_join node ≡ true → arranged_by node ≡ None

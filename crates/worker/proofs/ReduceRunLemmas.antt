@@ -40,22 +40,22 @@ use Rattle.machine.specs.Histories.Promises.{AreOwed, changes_in}
 use Rattle.machine.specs.Histories.{next_state, IsGive}
 use Rattle.machine.proofs.HistoryLemmas.BoundLemmas.{owed_lem}
 use Rattle.machine.proofs.HistoryLemmas.QuietLemmas.{beyond_elements}
-use Rattle.worker.specs.declared.doing.Doing.{Doing}
-use Rattle.worker.specs.Arrangements.{ArrangementState}
-use Rattle.worker.specs.Gathering.{IsCut, IsHeldFor, IsStamped}
+use Rattle.shared_board.specs.declared.event.Doing.{Doing}
+use Rattle.operator.specs.Arrangements.{ArrangementState}
+use Rattle.operator_laws.specs.Gathering.{IsCut, IsHeldFor, IsStamped}
 use Rattle.worker.specs.Passes.{is_due}
-use Rattle.worker.specs.Reductions.{ReducingView, SumsToReceived, IsAnswerAt, IsReduced, IsPendingAfter, IsOverfullWith, pending_of, have_width, output_width}
+use Rattle.operator.specs.Reductions.{ReducingView, SumsToReceived, IsAnswerAt, IsReduced, IsPendingAfter, IsOverfullWith, pending_of, have_width, output_width}
 use Rattle.worker.specs.Desks.{DeskState, IsArrangedAt, IsReducedAt, IsDeskAt, IsDesk, with_reduction}
-use Rattle.worker.specs.Large.{HasNoSmallBound}
-use Rattle.worker.specs.Found.{dataflow_of}
+use Rattle.shared_board.specs.Large.{HasNoSmallBound}
+use Rattle.shared_board.specs.Found.{dataflow_of}
 use Rattle.worker.specs.Relays.{HasNone, HasTaken, HasTurned, IsReadyAt, IsSettledTo, IsTooLarge}
-use Rattle.worker.specs.Tenures.{IsActor, events, found_last, state_found, state_left}
+use Rattle.shared_board.specs.Tenures.{IsActor, events, found_last, state_found, state_left}
 use Rattle.worker.proofs.AbsorbLemmas.{absorbed_due, absorbed_stamped, absorbed_before, held_may, held_ready}
 use Rattle.worker.proofs.ArrangeStepLemmas.{arranged_here}
-use Rattle.worker.proofs.ArrangingLemmas.{taken_beyond}
+use Rattle.operator_laws.proofs.ArrangingLemmas.{taken_beyond}
 use Rattle.worker.proofs.BetweenLemmas.{found_legal}
 use Rattle.worker.proofs.FirstLemmas.{large_first}
-use Rattle.worker.proofs.GatheringLemmas.{no_emission, held_now}
+use Rattle.operator_laws.proofs.GatheringLemmas.{no_emission, held_now}
 use Rattle.worker.proofs.LargeLemmas.{large_received}
 use Rattle.worker.proofs.PassLemmas.{IsDue, lt_from, at_turned, at_passed}
 use Rattle.worker.proofs.ReadAtLemmas.{taken_plain}
@@ -63,7 +63,7 @@ use Rattle.worker.proofs.ReduceStepLemmas.{before, reduced_here, reduce_absorb_m
 use Rattle.worker.proofs.SendLemmas.{sent_due, sent_later}
 use Rattle.worker.proofs.SettledLemmas.{settled_turned, settled_passed}
 use Rattle.worker.proofs.WaitLemmas.{none_there}
-use Rattle.worker.proofs.WorkingLemmas.{has_all}
+use Rattle.operator_laws.proofs.WorkingLemmas.{has_all}
 
 -- what follows from two facts on an answer, if there is one
 pub on_ok_both : {A E P Q R : Type 0} (r : Result A E) → (P → Q → R) → OnOk r P → OnOk r Q → OnOk r R

@@ -28,13 +28,13 @@ use Rattle.machine.specs.Histories.NodeLaws.{received_at, was_passed}
 use Rattle.machine.specs.Histories.{next_state, give_state, IsTake, IsTakeHeld, IsGive}
 use Rattle.machine.proofs.HistoryLemmas.FlowLemmas.{is_passed, not_beyond, sum_at, sum_at-append}
 use Rattle.machine.proofs.HistoryLemmas.StampLemmas.{beyond_passed}
-use Rattle.worker.specs.Gathering.{IsCut, IsStamped, IsInHand, IsHeldFor}
-use Rattle.worker.specs.Reducing.{IsReducing, IsFound}
-use Rattle.worker.specs.Reductions.{ReducingView, IsReduced, IsPendingAfter, IsAnswerAt, pending_of}
+use Rattle.operator_laws.specs.Gathering.{IsCut, IsStamped, IsInHand, IsHeldFor}
+use Rattle.operator_laws.specs.Reducing.{IsReducing, IsFound}
+use Rattle.operator.specs.Reductions.{ReducingView, IsReduced, IsPendingAfter, IsAnswerAt, pending_of}
 use Rattle.worker.specs.Desks.{DeskState, IsReducedAt, IsDeskAt, IsDesk, with_reduction}
-use Rattle.worker.proofs.GatheringLemmas.{in_hand_now, no_emission, cut_none, held_beyond, still_held, newly_held}
-use Rattle.worker.proofs.ArrangingLemmas.{taken_beyond, stays_passed}
-use Rattle.worker.proofs.ReducingLemmas.{same_reducing, all_still_were, turned_was, may_answer, gave_reducing, found_none}
+use Rattle.operator_laws.proofs.GatheringLemmas.{in_hand_now, no_emission, cut_none, held_beyond, still_held, newly_held}
+use Rattle.operator_laws.proofs.ArrangingLemmas.{taken_beyond, stays_passed}
+use Rattle.operator_laws.proofs.ReducingLemmas.{same_reducing, all_still_were, turned_was, may_answer, gave_reducing, found_none}
 use Rattle.worker.proofs.DeskLemmas.{get_own, same_desk, same_but_reduction, sharing_reduction, others_after, desk_from, not_of_take, not_of_give}
 use Rattle.worker.proofs.ReadAtLemmas.{reads_taken, reads_turned, reads_none, reads_given}
 
@@ -120,7 +120,7 @@ module _ {T : Type 0} (below : T → T → Bool) (joined : T → T → T) (minim
       given = give_state below p taken (no_emission n k) held []
 
       none_given : emitted_by n k given.emitted ≡ emitted_by n k w.emitted
-      none_given = ap (λ b. cond b [] [] ++ emitted_by n k w.emitted) (Rattle.worker.proofs.GatheringLemmas.own_place n k)
+      none_given = ap (λ b. cond b [] [] ++ emitted_by n k w.emitted) (Rattle.operator_laws.proofs.GatheringLemmas.own_place n k)
 
       pub reduce_absorb_desk : IsDesk below joined minimum p given k (with_reduction n s d)
       reduce_absorb_desk =
@@ -203,7 +203,7 @@ module _ {T : Type 0} (below : T → T → Bool) (joined : T → T → T) (minim
           kind_is = same_kind ∙ held_back.kind_is;
           key = same_key ∙ held_back.key;
           width = same_width ∙ held_back.width;
-          reduced = subst (IsReduced below joined s (received_at w n k 0)) (sym (Rattle.worker.proofs.GatheringLemmas.emitted_is below p turned emission held sent)) reduced;
+          reduced = subst (IsReduced below joined s (received_at w n k 0)) (sym (Rattle.operator_laws.proofs.GatheringLemmas.emitted_is below p turned emission held sent)) reduced;
           upper = front;
           reducing = gave_reducing below o p q turned emission held_back.upper (pending_of r) front (pending_of s) held sent pending_now hand_now is_found is_held cut;
         }))

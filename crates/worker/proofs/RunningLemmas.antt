@@ -11,14 +11,14 @@ use Rattle.machine.specs.Histories.Dataflows.{node_of}
 use Rattle.machine.specs.declared.histories.event.Event.TheVariants.{Give}
 use Rattle.machine.specs.Histories.States.{State, place, queue}
 use Rattle.machine.specs.Histories.{next_state}
-use Rattle.worker.specs.declared.doing.Doing.{Doing}
+use Rattle.shared_board.specs.declared.event.Doing.{Doing}
 use Rattle.worker.specs.Between.{DoClientsLead, IsLeftBy}
 use Rattle.worker.specs.Desks.{DeskState}
-use Rattle.worker.specs.Found.{dataflow_of}
+use Rattle.shared_board.specs.Found.{dataflow_of}
 use Rattle.worker.specs.Relays.{HasNone, IsCalm, IsReadyAt, IsRunning, IsSameActor, IsSettledTo}
-use Rattle.worker.specs.Tenures.{Terms, IsActor, state_found, state_left}
+use Rattle.shared_board.specs.Tenures.{Terms, IsActor, state_found, state_left}
 use Rattle.worker.proofs.BetweenLemmas.{ready_found, ready_left, none_found, none_left}
-use Rattle.worker.proofs.GatheringLemmas.{no_emission}
+use Rattle.operator_laws.proofs.GatheringLemmas.{no_emission}
 use Rattle.worker.proofs.NodeLemmas.{ready_next}
 
 -- the same actor, from the beginning and through each step

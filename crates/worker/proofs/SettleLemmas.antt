@@ -26,17 +26,17 @@ use Rattle.machine.specs.Histories.Promises.{changes_in}
 use Rattle.machine.specs.Histories.Cuts.{cut}
 use Rattle.machine.specs.Histories.{next_state, IsGive}
 use Rattle.machine.proofs.HistoryLemmas.QuietLemmas.{beyond_elements}
-use Rattle.worker.specs.declared.doing.Doing.{Doing}
-use Rattle.worker.specs.Gathering.{IsCut, IsHeldFor}
-use Rattle.worker.specs.Arranging.{IsSealOf}
-use Rattle.worker.specs.Arrangements.{ArrangementState, IsKeptWith, rows_have, upper_of}
+use Rattle.shared_board.specs.declared.event.Doing.{Doing}
+use Rattle.operator_laws.specs.Gathering.{IsCut, IsHeldFor}
+use Rattle.operator_laws.specs.Arranging.{IsSealOf}
+use Rattle.operator.specs.Arrangements.{ArrangementState, IsKeptWith, rows_have, upper_of}
 use Rattle.worker.specs.Desks.{DeskState, IsDesk, with_arrangement}
-use Rattle.worker.specs.Large.{HasNoSmallBound}
-use Rattle.worker.specs.Found.{dataflow_of}
+use Rattle.shared_board.specs.Large.{HasNoSmallBound}
+use Rattle.shared_board.specs.Found.{dataflow_of}
 use Rattle.worker.specs.Relays.{HasNone, HasTurned, IsReadyAt, IsSettledTo, IsTooLarge}
-use Rattle.worker.specs.Tenures.{IsActor, events, found_last, state_found, state_left}
+use Rattle.shared_board.specs.Tenures.{IsActor, events, found_last, state_found, state_left}
 use Rattle.worker.proofs.BetweenLemmas.{found_legal}
-use Rattle.worker.proofs.GatheringLemmas.{held_now}
+use Rattle.operator_laws.proofs.GatheringLemmas.{held_now}
 use Rattle.worker.proofs.PassLemmas.{at_turned, at_passed}
 use Rattle.worker.proofs.ReadAtLemmas.{taken_next}
 use Rattle.worker.proofs.SendLemmas.{sent_due, sent_later}

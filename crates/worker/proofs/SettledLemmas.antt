@@ -25,7 +25,7 @@ use Rattle.machine.proofs.HistoryLemmas.PlaceLemmas.{in_place_lem}
 use Rattle.worker.specs.Passes.{is_due, IsFreeAtNode}
 use Rattle.worker.specs.Relays.{HasNone, IsSettledTo}
 use Rattle.worker.proofs.PassLemmas.{due_parts, still_none}
-use Rattle.worker.proofs.QueueLemmas.{queue_both}
+use Rattle.operator_laws.proofs.QueueLemmas.{queue_both}
 use Rattle.worker.proofs.WaitLemmas.{none_at}
 
 module _ {T : Type 0} where

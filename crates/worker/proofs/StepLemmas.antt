@@ -23,15 +23,15 @@ use Rattle.machine.specs.Histories.Shares.{share, share_from}
 use Rattle.machine.specs.Histories.States.{State, queue, updates_at}
 use Rattle.machine.specs.Histories.{actor_of, initial_state, next_state, give_state, IsAllowed, IsGive, IsLegal, IsTakeHeld}
 use Rattle.machine.proofs.HistoryLemmas.KeptLemmas.{no_totals}
-use Rattle.worker.specs.declared.doing.Doing.{Doing}
+use Rattle.shared_board.specs.declared.event.Doing.{Doing}
 use Rattle.worker.specs.Between.{is_of_client, state_from, AreOfClients, DoClientsLead, IsAlike, IsLeftBy}
 use Rattle.worker.specs.Desks.{DeskState}
-use Rattle.worker.specs.Found.{dataflow_of}
+use Rattle.shared_board.specs.Found.{dataflow_of}
 use Rattle.worker.specs.Relays.{HasTaken, HasTurned, IsCalm, IsReadyAt, IsRunning, IsSameActor, changes_of}
-use Rattle.worker.specs.Tenures.{Adds, AreOn, IsActor, IsFirst, IsOn, Terms, doing, events, is_change, left_by, state_found, state_left, terms_in}
+use Rattle.shared_board.specs.Tenures.{Adds, AreOn, IsActor, IsFirst, IsOn, Terms, doing, events, is_change, left_by, state_found, state_left, terms_in}
 use Rattle.worker.proofs.BetweenLemmas.{ready_found}
 use Rattle.worker.proofs.CommuteLemmas.{clients_after, commuted}
-use Rattle.worker.proofs.QueueLemmas.{none_sent}
+use Rattle.operator_laws.proofs.QueueLemmas.{none_sent}
 
 module _ {T : Type 0} (below : T → T → Bool) (minimum : T) (t : Terms) (single : t.dataflow.workers ≡ 1) where
   abbrev p : Dataflow
@@ -171,7 +171,7 @@ first_running {T} below joined minimum o t single k d actor first ready = record
       (made (subst (λ (es : List (Entry (Doing T))). AreOn (terms_in es) es × IsDataflow (terms_in es).dataflow × IsLegal below minimum (terms_in es).dataflow (events es)) first.seen (known_on k.seen actor.known, actor.dataflow, actor.legal)));
 }
   where
-    known_on : (es : List (Entry (Doing T))) → Rattle.worker.specs.Tenures.AreKnown es → AreOn (terms_in es) es
+    known_on : (es : List (Entry (Doing T))) → Rattle.shared_board.specs.Tenures.AreKnown es → AreOn (terms_in es) es
     known_on [] h = absurd h
     known_on (e ∷ es) h = h
 

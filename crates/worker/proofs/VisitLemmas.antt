@@ -16,14 +16,14 @@ use Rattle.plan.proofs.SortLemmas.{arranged_is}
 use Rattle.hub.specs.Known.{Known}
 use Rattle.machine.specs.Histories.Dataflows.{Dataflow, IsDataflow, node_of, source_of}
 use Rattle.machine.specs.Histories.States.{State}
-use Rattle.worker.specs.declared.doing.Doing.{Doing}
-use Rattle.worker.specs.Arrangements.{ArrangementState}
-use Rattle.worker.specs.Joins.{JoiningView}
-use Rattle.worker.specs.Reductions.{ReducingView}
+use Rattle.shared_board.specs.declared.event.Doing.{Doing}
+use Rattle.operator.specs.Arrangements.{ArrangementState}
+use Rattle.operator.specs.Joins.{JoiningView}
+use Rattle.operator.specs.Reductions.{ReducingView}
 use Rattle.worker.specs.Desks.{DeskState, IsDesk, IsDeskAt}
-use Rattle.worker.specs.Found.{dataflow_of}
+use Rattle.shared_board.specs.Found.{dataflow_of}
 use Rattle.worker.specs.Relays.{IsCalm, IsRunning, IsSameActor, IsSettledTo, IsStopped}
-use Rattle.worker.specs.Tenures.{state_left}
+use Rattle.shared_board.specs.Tenures.{state_left}
 
 module _ {T : Type 0} (below : T → T → Bool) (joined : T → T → T) (minimum : T) (p : Dataflow) (w : State T) (d : DeskState T) (desk : IsDesk below joined minimum p w 0 d) where
   at_node : (n : ℕ) (node : Node) → n < length p.nodes → node_of p n ≡ node → IsDeskAt below joined minimum p w 0 d desk.inserted n node

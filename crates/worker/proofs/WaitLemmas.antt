@@ -15,11 +15,11 @@ use Rattle.machine.specs.Histories.Dataflows.{Dataflow, node_of, source_of}
 use Rattle.machine.specs.Histories.States.{State, place, same_place, queue, updates_at}
 use Rattle.machine.specs.Histories.Shares.{are_filled, part, share, share_from}
 use Rattle.machine.proofs.BoardLemmas.PlacingLemmas.{itself}
-use Rattle.worker.specs.Gathering.{IsCut}
+use Rattle.operator_laws.specs.Gathering.{IsCut}
 use Rattle.worker.specs.Passes.{is_due}
 use Rattle.worker.specs.Relays.{HasNone}
 use Rattle.worker.proofs.PassLemmas.{due_parts, lt_from}
-use Rattle.worker.proofs.QueueLemmas.{none_sent}
+use Rattle.operator_laws.proofs.QueueLemmas.{none_sent}
 
 -- no node has more than two ports
 pub port_few : (node : Node) (port : ℕ) → IsTrue (is_port node port) → port < 2

@@ -11,13 +11,13 @@ use Rattle.trace.specs.Readings.{Insertion, reached}
 use Rattle.machine.specs.Histories.Dataflows.{Dataflow, node_of, source_of}
 use Rattle.machine.specs.Histories.States.{State, emitted_by}
 use Rattle.machine.specs.Histories.NodeLaws.{received_at}
-use Rattle.worker.specs.Gathering.{IsGathering}
-use Rattle.worker.specs.Arranging.{IsArranging}
-use Rattle.worker.specs.Reducing.{IsReducing}
-use Rattle.worker.specs.Arrangements.{ArrangementState, AreInTurn}
-use Rattle.worker.specs.Joining.{IsJoining, IsReadAt}
-use Rattle.worker.specs.Joins.{JoiningView}
-use Rattle.worker.specs.Reductions.{ReducingView, IsReduced, pending_of}
+use Rattle.operator_laws.specs.Gathering.{IsGathering}
+use Rattle.operator_laws.specs.Arranging.{IsArranging}
+use Rattle.operator_laws.specs.Reducing.{IsReducing}
+use Rattle.operator.specs.Arrangements.{ArrangementState, AreInTurn}
+use Rattle.operator_laws.specs.Joining.{IsJoining, IsReadAt}
+use Rattle.operator.specs.Joins.{JoiningView}
+use Rattle.operator.specs.Reductions.{ReducingView, IsReduced, pending_of}
 
 -- by node, the arrangement of an arrange node, the state of a reduction, and the state of a join
 pub record DeskState (T : Type 0) : Type 0 where

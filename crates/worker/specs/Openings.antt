@@ -7,9 +7,9 @@ use Rattle.plan.specs.declared.node.Node.{Node}
 use Rattle.plan.specs.declared.node.Node.TheVariants.{Input, Map, Filter, Concat, Negate, Arrange, Join, Reduce, Output}
 use Rattle.spine.specs.Spines.{Stands}
 use Rattle.machine.specs.Histories.Dataflows.{Dataflow}
-use Rattle.worker.specs.Arrangements.{ArrangementState}
-use Rattle.worker.specs.Joins.{JoiningView}
-use Rattle.worker.specs.Reductions.{ReducingView, IsReduced, pending_of}
+use Rattle.operator.specs.Arrangements.{ArrangementState}
+use Rattle.operator.specs.Joins.{JoiningView}
+use Rattle.operator.specs.Reductions.{ReducingView, IsReduced, pending_of}
 use Rattle.worker.specs.Desks.{DeskState, ReadsAt, HasHold, AreSharing, hold_at}
 
 -- the plan, run by one worker

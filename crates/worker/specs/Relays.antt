@@ -18,12 +18,12 @@ use Rattle.machine.specs.Histories.Outstanding.{input_frontier}
 use Rattle.machine.specs.Histories.Promises.{changes_in}
 use Rattle.machine.specs.Histories.States.{State, held_at, place, queue}
 use Rattle.machine.specs.Histories.{IsTake, IsTakeHeld, next_state}
-use Rattle.worker.specs.declared.doing.Doing.{Doing}
+use Rattle.shared_board.specs.declared.event.Doing.{Doing}
 use Rattle.worker.specs.Desks.{DeskState, IsDesk, IsDeskWith}
-use Rattle.worker.specs.Found.{dataflow_of}
-use Rattle.worker.specs.Large.{HasNoSmallBound}
+use Rattle.shared_board.specs.Found.{dataflow_of}
+use Rattle.shared_board.specs.Large.{HasNoSmallBound}
 use Rattle.worker.specs.Passes.{IsAtNode, IsFreeAtNode}
-use Rattle.worker.specs.Tenures.{is_change, state_found, state_left, terms_in}
+use Rattle.shared_board.specs.Tenures.{is_change, state_found, state_left, terms_in}
 
 -- nothing waits for worker 0 at any port of a node
 abbrev pub HasNone : {T : Type 0} → ℕ → State T → Type 0

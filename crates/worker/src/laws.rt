@@ -1,18 +1,30 @@
-//! The laws of a worker: what each event makes of what the worker keeps at a node.
-//!
-//! - [`gathering`] is about every node but a reduction: what waits there to be given.
-//! - [`arranging`] adds the trace of an arrange node, which stands for what was given.
-//! - [`joining`] adds how much a join took of its sources' traces, and what is still on its way to it.
-//! - [`reducing`] is about the pending times of a reduction.
-//! - [`working`] is about all nodes of one worker together, and about all workers.
-//! - [`sharing`] is about actors that share a board: what they need not mind of one another.
-//!
-//! Each invariant is of one node and one worker. So the laws named `elsewhere` carry it over all events at other nodes
-//! and by other workers, and a proof about a worker deals with one node at a time.
+//! What a worker may count on between two passes: it is ready for the first one, and clients leave
+//! it ready. The functions do nothing.
+ghost use Rattle.std.specs.Prelude.{◌≡◌, ℕ};
+ghost use Rattle.hub.specs.Known.{Known};
+ghost use Rattle.machine.specs.Histories.Dataflows.{Dataflow, IsDataflow};
+ghost use Rattle.machine.specs.Histories.States.{State};
+ghost use Rattle.machine.specs.Histories.{initial_state};
+ghost use Rattle.shared_board.specs.Tenures.{IsActor, IsFirst, Terms};
+ghost use Rattle.shared_board.specs.declared.event.Doing.{Doing};
+ghost use Rattle.worker.specs.Between.{DoClientsLead};
+ghost use Rattle.worker.specs.Desks.{DeskState};
+ghost use Rattle.worker.specs.Relays.{IsReadyAt, IsRunning};
 
-pub(crate) mod arranging;
-pub(crate) mod gathering;
-pub(crate) mod joining;
-pub(crate) mod reducing;
-pub(crate) mod sharing;
-pub(crate) mod working;
+use lattice::Minimum;
+
+/// What clients do leaves the only worker of a plan ready for its next step.
+pub fn clients_leave_it_ready<T: Minimum>()
+    ensures { (p : Dataflow) → IsDataflow p → (w v : State T) (d : DeskState T) (n : ℕ)
+        → DoClientsLead T.below p w v → IsReadyAt T.below T.joined T.least p w d n
+        → IsReadyAt T.below T.joined T.least p v d n }
+{}
+
+/// The only worker of a plan, whose desk was laid out for it, is ready for its first pass once it has looked.
+pub fn the_first_pass_may_begin<T: Minimum>()
+    ensures { (t : Terms) → t.dataflow.workers ≡ 1 → (k : Known (Doing T)) (d : DeskState T)
+        → IsActor T.below T.least k → IsFirst t 0 k
+        → IsReadyAt T.below T.joined T.least t.dataflow
+        (initial_state T.below T.least t.dataflow) d 0
+        → IsRunning T.below T.joined T.least k d 0 }
+{}

@@ -9,25 +9,23 @@
 //! the next pass. All else that a step found before they acted is as right after it (`steps`).
 ghost use Rattle.std.specs.Prelude.{◌≡◌, IfErr, OnOk};
 ghost use Rattle.machine.specs.Histories.Readings.{IsQuiet};
-ghost use Rattle.worker.specs.Found.{dataflow_of};
+ghost use Rattle.shared_board.specs.Found.{dataflow_of};
 ghost use Rattle.worker.specs.Relays.{IsCalm, IsRunning, IsSameActor, IsStopped};
-ghost use Rattle.worker.specs.Tenures.{state_left};
+ghost use Rattle.shared_board.specs.Tenures.{state_left};
 
 mod arranged;
 mod joined;
-mod keeping;
 mod pass;
 mod plain;
 mod reduced;
 mod steps;
 
-use crate::actor::Actor;
-use crate::boards::BoardProtocol;
 use crate::desk::Desk;
 use lattice::Minimum;
 use machine::Routing;
 use pass::relay_node;
 use plan::{NodeId, Plan};
+use shared_board::{Actor, BoardProtocol};
 use std::alloc::Global;
 use std::sync::Wait;
 use update::Refusal;

@@ -4,19 +4,17 @@ ghost use Rattle.std.specs.Prelude.{◌≡◌, ◌<◌, ℕ, suc, Some, false, I
 ghost use Rattle.plan.specs.declared.node.Node.TheVariants.{Arrange};
 ghost use Rattle.machine.specs.Histories.Dataflows.{node_of};
 ghost use Rattle.worker.specs.Desks.{DeskState, with_arrangement};
-ghost use Rattle.worker.specs.Found.{dataflow_of};
+ghost use Rattle.shared_board.specs.Found.{dataflow_of};
 ghost use Rattle.worker.specs.Relays.{HasNone, HasTurned, IsCalm, IsReadyAt, IsRunning, IsSameActor, IsSettledTo, IsStopped};
-ghost use Rattle.worker.specs.Tenures.{state_found, state_left};
+ghost use Rattle.shared_board.specs.Tenures.{state_found, state_left};
 
-use crate::actor::Actor;
-use crate::arrangement::Arrangement;
-use crate::boards::BoardProtocol;
-use crate::relays::keeping::{keep, updates_of};
 use crate::relays::steps::{give_on, hold_back, take_at, turn_at};
 use antichain::Antichain;
 use lattice::Minimum;
 use machine::{Bundle, Emission, Routing};
+use operator::{Arrangement, keep, updates_of};
 use plan::NodeId;
+use shared_board::{Actor, BoardProtocol};
 use std::alloc::Global;
 use std::sync::Wait;
 use update::Refusal;

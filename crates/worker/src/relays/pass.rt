@@ -3,12 +3,10 @@ ghost use Rattle.std.specs.Prelude.{◌≡◌, ◌<◌, ℕ, suc, IfErr, OnOk, l
 ghost use Rattle.plan.specs.declared.node.Kind.{Kind};
 ghost use Rattle.plan.specs.declared.node.Node.TheVariants.{Arrange, Join, Reduce};
 ghost use Rattle.machine.specs.Histories.Dataflows.{node_of};
-ghost use Rattle.worker.specs.Found.{dataflow_of};
+ghost use Rattle.shared_board.specs.Found.{dataflow_of};
 ghost use Rattle.worker.specs.Relays.{IsCalm, IsRunning, IsSameActor, IsSettledTo, IsStopped};
-ghost use Rattle.worker.specs.Tenures.{state_left};
+ghost use Rattle.shared_board.specs.Tenures.{state_left};
 
-use crate::actor::Actor;
-use crate::boards::BoardProtocol;
 use crate::desk::Desk;
 use crate::relays::arranged::relay_arranged;
 use crate::relays::joined::{arrangement_at, relay_joined};
@@ -17,6 +15,7 @@ use crate::relays::reduced::relay_reduced;
 use lattice::Minimum;
 use machine::Routing;
 use plan::{Node, NodeId, Plan};
+use shared_board::{Actor, BoardProtocol};
 use std::alloc::Global;
 use std::sync::Wait;
 use update::Refusal;

@@ -1,6 +1,6 @@
 use Rattle.std.proofs.Common.{sym, subst, ◌∙◌}
 use Rattle.plan.specs.Nodes.{node_at, key_width}
-use Rattle.worker.specs.Reductions.{HasRoom}
+use Rattle.operator.specs.Reductions.{HasRoom}
 use Rattle.worker.proofs.OpenLemmas.{reduction_fits}
 use Rattle.worker.proofs.desk.reduction_of.Goals as goal
 

@@ -1,9 +1,9 @@
 use Rattle.std.proofs.Common.{◌≡◌, suc, ◌+◌, ap, sym, subst, ◌∙◌, length, arith}
 use Rattle.machine.specs.Histories.Readings.{IsQuiet}
-use Rattle.worker.specs.Found.{dataflow_of}
+use Rattle.shared_board.specs.Found.{dataflow_of}
 use Rattle.worker.specs.Passes.{IsFreeAtNode}
 use Rattle.worker.specs.Relays.{IsRunning, IsSettledTo}
-use Rattle.worker.specs.Tenures.{Terms, events, state_left}
+use Rattle.shared_board.specs.Tenures.{Terms, events, state_left}
 use Rattle.worker.proofs.NodeLemmas.{ready_at_end}
 use Rattle.worker.proofs.RunningLemmas.{same_actor, same_later, calm_first, calm_then}
 use Rattle.worker.proofs.SettledLemmas.{settled_first, quiet_at_end}

@@ -1,6 +1,6 @@
-use Rattle.worker.specs.Found.{dataflow_of}
+use Rattle.shared_board.specs.Found.{dataflow_of}
 use Rattle.worker.specs.Relays.{IsCalm, IsRunning, IsSameActor, IsSettledTo}
-use Rattle.worker.specs.Tenures.{state_left}
+use Rattle.shared_board.specs.Tenures.{state_left}
 use Rattle.worker.proofs.relays.relay.Given as goal
 
 -- the pass has come to the node of the loop, and if no client changed anything then all before that node is settled

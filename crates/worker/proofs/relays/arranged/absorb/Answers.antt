@@ -2,11 +2,11 @@ use Rattle.std.proofs.Common.{◌<◌, ◌++◌, length, ap, sym, subst, ◌∙�
 use Rattle.std.specs.Prelude.{IfSome}
 use Rattle.plan.specs.Nodes.{is_input}
 use Rattle.machine.specs.Histories.Dataflows.{node_of}
-use Rattle.worker.specs.Arrangements.{rows_have, times_from}
+use Rattle.operator.specs.Arrangements.{rows_have, times_from}
 use Rattle.worker.specs.Desks.{with_arrangement}
-use Rattle.worker.specs.Found.{dataflow_of}
+use Rattle.shared_board.specs.Found.{dataflow_of}
 use Rattle.worker.specs.Relays.{HasTaken, IsRunning, IsSettledTo}
-use Rattle.worker.specs.Tenures.{WaitsOrNotIn, state_found, state_left}
+use Rattle.shared_board.specs.Tenures.{WaitsOrNotIn, state_found, state_left}
 use Rattle.worker.proofs.NodeLemmas.{same_arrangement, none_left}
 use Rattle.worker.proofs.AbsorbLemmas.{held_settled, absorbed_due, absorbed_rows, absorbed_times, absorbed_may, absorbed_ready}
 use Rattle.worker.proofs.RunningLemmas.{calm_first, calm_then, same_flow, found_ready, found_running, left_running, none_held, settled_on}

@@ -1,7 +1,7 @@
 use Rattle.std.proofs.Common.{Some, sym, subst}
 use Rattle.worker.specs.Desks.{with_arrangement}
 use Rattle.worker.specs.Relays.{IsRunning}
-use Rattle.worker.specs.Tenures.{state_left}
+use Rattle.shared_board.specs.Tenures.{state_left}
 use Rattle.worker.proofs.NodeLemmas.{same_arrangement, twice_arrangement, set_there}
 use Rattle.worker.proofs.RunningLemmas.{same_actor, same_later, calm_first, calm_then, settled_on}
 use Rattle.worker.proofs.relays.arranged.absorb_all.Goals as goal

@@ -12,13 +12,13 @@ use Rattle.machine.specs.Histories.Cuts.{cut}
 use Rattle.machine.specs.Histories.States.{times}
 use Rattle.machine.specs.Histories.{IsGive, next_state}
 use Rattle.worker.specs.Between.{IsLeftBy}
-use Rattle.worker.specs.Gathering.{IsCut, IsHeldFor}
-use Rattle.worker.specs.Arranging.{IsSealOf}
-use Rattle.worker.specs.Arrangements.{ArrangementState, rows_have, upper_of}
+use Rattle.operator_laws.specs.Gathering.{IsCut, IsHeldFor}
+use Rattle.operator_laws.specs.Arranging.{IsSealOf}
+use Rattle.operator.specs.Arrangements.{ArrangementState, rows_have, upper_of}
 use Rattle.worker.specs.Desks.{with_arrangement}
-use Rattle.worker.specs.Found.{dataflow_of}
+use Rattle.shared_board.specs.Found.{dataflow_of}
 use Rattle.worker.specs.Relays.{IsSettledTo, IsStopped}
-use Rattle.worker.specs.Tenures.{state_left}
+use Rattle.shared_board.specs.Tenures.{state_left}
 use Rattle.worker.proofs.ResultLemmas.{if_err_at, on_ok_by, on_ok_always, memory_or}
 use Rattle.worker.proofs.RunningLemmas.{left_running}
 use Rattle.worker.proofs.SettleLemmas.{may_seal_it, large_sealed, sealed_may, given_ready, given_settled}

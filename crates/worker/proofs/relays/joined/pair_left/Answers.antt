@@ -8,9 +8,9 @@ use Rattle.trace.specs.Readings.{all_updates}
 use Rattle.spine.specs.Spines.{SpineState, boundaries, stored}
 use Rattle.join.specs.Pairs.{pairs}
 use Rattle.join.specs.Sides.{all_rows_have}
-use Rattle.worker.specs.Arrangements.{ArrangementState, IsArrangement, times_from}
-use Rattle.worker.specs.Joining.{IsAnswer}
-use Rattle.worker.specs.Joins.{IsSide}
+use Rattle.operator.specs.Arrangements.{ArrangementState, IsArrangement, times_from}
+use Rattle.operator_laws.specs.Joining.{IsAnswer}
+use Rattle.operator.specs.Joins.{IsSide}
 use Rattle.worker.specs.Relays.{IsStopped}
 use Rattle.worker.proofs.ResultLemmas.{if_ok_from, if_ok_back, if_err_from, memory_or}
 use Rattle.worker.proofs.JoinRunLemmas.{at_join, some_arrangement, source_there, left_source, right_source, joined_widths, inserted_right, taken_right, made_rows, made_times, side_readable, side_rows, side_since, right_side, left_between, left_large}

@@ -2,9 +2,9 @@
 use Rattle.std.proofs.Common.{rules, ◌≡◌, ◌<◌, Some, length, sym, ap, subst, refl, ◌∙◌}
 use Rattle.plan.specs.declared.node.Node.TheVariants.{Join}
 use Rattle.machine.specs.Histories.Dataflows.{Dataflow, node_of}
-use Rattle.worker.specs.Found.{dataflow_of}
+use Rattle.shared_board.specs.Found.{dataflow_of}
 use Rattle.worker.specs.Relays.{IsReadyAt, IsRunning}
-use Rattle.worker.specs.Tenures.{Terms, state_left}
+use Rattle.shared_board.specs.Tenures.{Terms, state_left}
 use Rattle.worker.proofs.SettledLemmas.{settled_next}
 use Rattle.worker.proofs.HoldingLemmas.{join_settled}
 use Rattle.worker.proofs.NodeLemmas.{with_both, same_both, twice_both, set_there}

@@ -1,9 +1,9 @@
 -- The bundles at a join are taken one by one.
 use Rattle.std.proofs.Common.{◌≡◌, Some, slice_get}
 use Rattle.worker.specs.Desks.{DeskState}
-use Rattle.worker.specs.Found.{dataflow_of}
+use Rattle.shared_board.specs.Found.{dataflow_of}
 use Rattle.worker.specs.Relays.{IsCalm, IsRunning, IsSameActor, IsSettledTo}
-use Rattle.worker.specs.Tenures.{state_left}
+use Rattle.shared_board.specs.Tenures.{state_left}
 use Rattle.worker.proofs.NodeLemmas.{with_both}
 use Rattle.worker.proofs.relays.joined.relay_joined.Given as goal
 

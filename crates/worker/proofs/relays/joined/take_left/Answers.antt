@@ -3,10 +3,10 @@ use Rattle.std.proofs.Common.{rules, ◌≡◌, ◌<◌, Some, ap, sym, subst, s
 use Rattle.std.proofs.lemmas.Result.{err_from_is_err_and}
 use Rattle.std.specs.List.{slice_get}
 use Rattle.lattice.proofs.BoundLemmas.{join_below}
-use Rattle.worker.specs.Joins.{JoiningView}
-use Rattle.worker.specs.Found.{dataflow_of}
+use Rattle.operator.specs.Joins.{JoiningView}
+use Rattle.shared_board.specs.Found.{dataflow_of}
 use Rattle.worker.specs.Relays.{IsSettledTo, IsStopped}
-use Rattle.worker.specs.Tenures.{state_left}
+use Rattle.shared_board.specs.Tenures.{state_left}
 use Rattle.worker.proofs.ResultLemmas.{if_err_from}
 use Rattle.worker.proofs.JoinStepLemmas.{IsMovedOn}
 use Rattle.worker.proofs.RunningLemmas.{running_on, none_on, calm_on}

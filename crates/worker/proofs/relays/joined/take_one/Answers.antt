@@ -3,7 +3,7 @@ use Rattle.std.proofs.Common.{rules, ◌≡◌, ◌<◌, sym, ap, subst, length,
 use Rattle.machine.specs.Histories.Dataflows.{Dataflow, node_of}
 use Rattle.plan.specs.declared.node.Node.TheVariants.{Join}
 use Rattle.worker.specs.Relays.{IsRunning}
-use Rattle.worker.specs.Tenures.{Terms}
+use Rattle.shared_board.specs.Tenures.{Terms}
 use Rattle.worker.proofs.NodeLemmas.{same_both}
 use Rattle.worker.proofs.RunningLemmas.{found_ready, found_running}
 use Rattle.worker.proofs.JoinRunLemmas.{second_port}

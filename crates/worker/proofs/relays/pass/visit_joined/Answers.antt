@@ -1,8 +1,8 @@
 use Rattle.std.proofs.Common.{length, arith, Some, set, ap, sym, ◌∙◌, suc, rules}
 use Rattle.std.proofs.lemmas.Option.{slice_get_within}
 use Rattle.worker.specs.Desks.{DeskState}
-use Rattle.worker.specs.Found.{dataflow_of}
-use Rattle.worker.specs.Tenures.{state_left}
+use Rattle.shared_board.specs.Found.{dataflow_of}
+use Rattle.shared_board.specs.Tenures.{state_left}
 use Rattle.worker.proofs.NodeLemmas.{with_both}
 use Rattle.worker.proofs.VisitLemmas.{join_there, entry_at, entry_some, seen_runs, seen_same, seen_settled, seen_stops}
 use Rattle.worker.proofs.relays.pass.visit_joined.Goals.{in-Some, in-None}

@@ -1,8 +1,8 @@
 use Rattle.std.proofs.Common.{◌≡◌, length, arith, Some, slice_get, set, ap, sym, subst, ◌∙◌, suc, rules}
 use Rattle.std.proofs.lemmas.Option.{slice_get_within}
 use Rattle.worker.specs.Desks.{DeskState, with_reduction}
-use Rattle.worker.specs.Found.{dataflow_of}
-use Rattle.worker.specs.Tenures.{state_left}
+use Rattle.shared_board.specs.Found.{dataflow_of}
+use Rattle.shared_board.specs.Tenures.{state_left}
 use Rattle.worker.proofs.VisitLemmas.{reduction_there, source_there, entry_at, entry_some, seen_runs, seen_same, seen_settled, seen_stops}
 use Rattle.worker.proofs.relays.pass.visit_reduced.Goals.{in-Some, in-None}
 use Rattle.worker.proofs.relays.pass.visit_reduced.Goals as goal

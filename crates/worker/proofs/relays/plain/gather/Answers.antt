@@ -2,9 +2,9 @@
 use Rattle.std.proofs.Common.{◌++◌, [], ap, subst, ◌∙◌, Some}
 use Rattle.std.proofs.lemmas.List.{append-nil}
 use Rattle.lattice.specs.Frontiers.{is_beyond}
-use Rattle.worker.specs.Arrangements.{times_of}
+use Rattle.operator.specs.Arrangements.{times_of}
 use Rattle.worker.specs.Relays.{IsGatheringOn}
-use Rattle.worker.specs.Tenures.{WaitsOrNotIn, state_left}
+use Rattle.shared_board.specs.Tenures.{WaitsOrNotIn, state_left}
 use Rattle.worker.proofs.RunningLemmas.{calm_first, calm_then, same_later, settled_on}
 use Rattle.worker.proofs.GatherRunLemmas.{begins, ready_again, some_of}
 use Rattle.worker.proofs.relays.plain.gather.Goals as goal

@@ -1,11 +1,11 @@
 -- The bundles at a linear node are taken one by one.
 use Rattle.std.proofs.Common.{◌≡◌, Some}
 use Rattle.lattice.specs.Frontiers.{is_beyond}
-use Rattle.worker.specs.Arrangements.{times_of}
+use Rattle.operator.specs.Arrangements.{times_of}
 use Rattle.worker.specs.Desks.{DeskState}
-use Rattle.worker.specs.Found.{dataflow_of}
+use Rattle.shared_board.specs.Found.{dataflow_of}
 use Rattle.worker.specs.Relays.{IsCalm, IsGatheringOn, IsRunning, IsSameActor, IsSettledTo}
-use Rattle.worker.specs.Tenures.{WaitsOrNotIn, state_left}
+use Rattle.shared_board.specs.Tenures.{WaitsOrNotIn, state_left}
 use Rattle.worker.proofs.relays.plain.gather.Given as goal
 
 -- what the bundles so far gave is gathered, and the front has its least times; and what was settled still is if no client acted

@@ -1,9 +1,9 @@
 -- What is gathered is held back, and one bundle more is taken.
 use Rattle.std.proofs.Common.{◌++◌, ap, sym, subst, ◌∙◌, Some}
 use Rattle.lattice.specs.Frontiers.{is_beyond}
-use Rattle.worker.specs.Found.{dataflow_of}
+use Rattle.shared_board.specs.Found.{dataflow_of}
 use Rattle.worker.specs.Relays.{IsGatheringOn, IsSettledTo}
-use Rattle.worker.specs.Tenures.{state_left}
+use Rattle.shared_board.specs.Tenures.{state_left}
 use Rattle.worker.proofs.RunningLemmas.{calm_first, calm_then, settled_on}
 use Rattle.worker.proofs.GatherRunLemmas.{held_it, held_settled, may_hold_it, some_of, some_waits, turned_on}
 use Rattle.worker.proofs.relays.plain.gather_more.Goals as goal

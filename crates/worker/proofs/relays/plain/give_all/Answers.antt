@@ -7,10 +7,10 @@ use Rattle.machine.specs.Histories.Cuts.{cut}
 use Rattle.machine.specs.declared.histories.event.Event.TheVariants.{Give}
 use Rattle.plan.specs.Widths.{width_of}
 use Rattle.worker.specs.Between.{IsLeftBy}
-use Rattle.worker.specs.Gathering.{IsSplit}
-use Rattle.worker.specs.Found.{dataflow_of}
+use Rattle.operator_laws.specs.Gathering.{IsSplit}
+use Rattle.shared_board.specs.Found.{dataflow_of}
 use Rattle.worker.specs.Relays.{IsSettledTo, IsStopped}
-use Rattle.worker.specs.Tenures.{state_left}
+use Rattle.shared_board.specs.Tenures.{state_left}
 use Rattle.worker.proofs.ResultLemmas.{if_err_at}
 use Rattle.worker.proofs.RunningLemmas.{calm_on}
 use Rattle.worker.proofs.GatherRunLemmas.{gave_it, made_at, may_give_it, on_ok_both, settled_it, too_large}

@@ -1,8 +1,8 @@
 -- All that waits at a linear node is gathered and given, and the pass goes on.
 use Rattle.std.proofs.Common.{Some, ap, subst}
-use Rattle.worker.specs.Found.{dataflow_of}
+use Rattle.shared_board.specs.Found.{dataflow_of}
 use Rattle.worker.specs.Relays.{IsGatheringOn, IsReadyAt}
-use Rattle.worker.specs.Tenures.{Terms, state_left}
+use Rattle.shared_board.specs.Tenures.{Terms, state_left}
 use Rattle.worker.proofs.HoldingLemmas.{plain_settled}
 use Rattle.worker.proofs.SettledLemmas.{settled_next}
 use Rattle.worker.proofs.GatherRunLemmas.{goes_next, some_of}

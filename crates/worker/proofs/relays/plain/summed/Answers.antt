@@ -1,6 +1,6 @@
 -- What was gathered, consolidated where it comes from two sources.
 use Rattle.std.proofs.Common.{eqb, length}
-use Rattle.worker.proofs.ArrangingLemmas.{all_given}
+use Rattle.operator_laws.proofs.ArrangingLemmas.{all_given}
 use Rattle.worker.proofs.GatherRunLemmas.{if_ok_by, if_ok_by3}
 use Rattle.worker.proofs.relays.plain.summed.Goals as goal
 

@@ -8,10 +8,10 @@ use Rattle.plan.specs.Nodes.{is_input}
 use Rattle.machine.specs.Histories.Dataflows.{node_of}
 use Rattle.machine.specs.Histories.States.{times}
 use Rattle.worker.specs.Desks.{with_reduction}
-use Rattle.worker.specs.Found.{dataflow_of}
-use Rattle.worker.specs.Reductions.{have_width, IsReduced, IsPendingAfter, pending_of}
+use Rattle.shared_board.specs.Found.{dataflow_of}
+use Rattle.operator.specs.Reductions.{have_width, IsReduced, IsPendingAfter, pending_of}
 use Rattle.worker.specs.Relays.{HasTaken, IsRunning, IsSettledTo, IsStopped}
-use Rattle.worker.specs.Tenures.{WaitsOrNotIn, state_found, state_left}
+use Rattle.shared_board.specs.Tenures.{WaitsOrNotIn, state_found, state_left}
 use Rattle.worker.proofs.ResultLemmas.{if_err_at, memory_or}
 use Rattle.worker.proofs.NodeLemmas.{same_reduction, none_left}
 use Rattle.worker.proofs.AbsorbLemmas.{held_settled, absorbed_due, absorbed_later}

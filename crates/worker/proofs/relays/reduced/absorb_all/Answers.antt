@@ -2,7 +2,7 @@ use Rattle.std.proofs.Common.{Some, ap, sym, subst, ◌∙◌, rules}
 use Rattle.machine.specs.Histories.Dataflows.{node_of}
 use Rattle.worker.specs.Desks.{with_reduction}
 use Rattle.worker.specs.Relays.{IsRunning}
-use Rattle.worker.specs.Tenures.{state_left}
+use Rattle.shared_board.specs.Tenures.{state_left}
 use Rattle.worker.proofs.NodeLemmas.{same_reduction, twice_reduction, set_there}
 use Rattle.worker.proofs.RunningLemmas.{same_actor, same_later, calm_first, calm_then, same_flow, settled_on}
 use Rattle.worker.proofs.relays.reduced.absorb_all.Goals as goal

@@ -1,8 +1,8 @@
 use Rattle.std.proofs.Common.{◌≡◌, Some, slice_get}
 use Rattle.worker.specs.Desks.{DeskState, with_reduction}
-use Rattle.worker.specs.Found.{dataflow_of}
+use Rattle.shared_board.specs.Found.{dataflow_of}
 use Rattle.worker.specs.Relays.{IsCalm, IsRunning, IsSameActor, IsSettledTo}
-use Rattle.worker.specs.Tenures.{state_left}
+use Rattle.shared_board.specs.Tenures.{state_left}
 use Rattle.worker.proofs.relays.reduced.absorb_all.Given as goal
 
 -- the worker ran on, and is still at the node. If no client acted, then what was settled still is

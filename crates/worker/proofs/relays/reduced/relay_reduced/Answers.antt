@@ -3,9 +3,9 @@ use Rattle.std.specs.Prelude.{IfSome, OnOk}
 use Rattle.plan.specs.Nodes.{is_input}
 use Rattle.machine.specs.Histories.Dataflows.{Dataflow, node_of}
 use Rattle.worker.specs.Desks.{with_reduction}
-use Rattle.worker.specs.Found.{dataflow_of}
+use Rattle.shared_board.specs.Found.{dataflow_of}
 use Rattle.worker.specs.Relays.{HasTurned, IsRunning, IsSettledTo}
-use Rattle.worker.specs.Tenures.{state_found, state_left}
+use Rattle.shared_board.specs.Tenures.{state_found, state_left}
 use Rattle.worker.proofs.AbsorbLemmas.{settled_none}
 use Rattle.worker.proofs.BetweenLemmas.{none_found}
 use Rattle.worker.proofs.NodeLemmas.{twice_reduction, set_there}

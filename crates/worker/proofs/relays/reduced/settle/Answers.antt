@@ -6,10 +6,10 @@ use Rattle.machine.specs.Histories.Cuts.{cut}
 use Rattle.machine.specs.Histories.{IsGive, next_state}
 use Rattle.worker.specs.Between.{IsLeftBy}
 use Rattle.worker.specs.Desks.{with_reduction}
-use Rattle.worker.specs.Found.{dataflow_of}
-use Rattle.worker.specs.Gathering.{IsCut}
+use Rattle.shared_board.specs.Found.{dataflow_of}
+use Rattle.operator_laws.specs.Gathering.{IsCut}
 use Rattle.worker.specs.Relays.{HasTurned, IsSettledTo, IsStopped}
-use Rattle.worker.specs.Tenures.{state_left}
+use Rattle.shared_board.specs.Tenures.{state_left}
 use Rattle.worker.proofs.ResultLemmas.{if_err_at, memory_or}
 use Rattle.worker.proofs.RunningLemmas.{left_running}
 use Rattle.worker.proofs.ReduceRunLemmas.{on_ok_both, ready_cause, answered_may, answered_ready, answered_settled}

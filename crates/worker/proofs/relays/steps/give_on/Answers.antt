@@ -4,8 +4,8 @@ use Rattle.machine.specs.declared.histories.event.Event.TheVariants.{Give}
 use Rattle.machine.specs.Histories.Cuts.{cut}
 use Rattle.machine.specs.Histories.{next_state}
 use Rattle.worker.specs.Between.{IsLeftBy}
-use Rattle.worker.specs.Found.{dataflow_of}
-use Rattle.worker.specs.Tenures.{state_left}
+use Rattle.shared_board.specs.Found.{dataflow_of}
+use Rattle.shared_board.specs.Tenures.{state_left}
 use Rattle.worker.proofs.StepLemmas.{calm_given, left_of}
 use Rattle.worker.proofs.relays.steps.give_on.Goals as goal
 

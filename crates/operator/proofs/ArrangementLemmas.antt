@@ -1,0 +1,284 @@
+-- What an arrangement keeps, step by step.
+use Rattle.std.proofs.Common.{◌≡◌, ℕ, ◌+◌, ◌<◌, Bool, List, [], ◌∷◌, ◌++◌, map, set, slice_get, Some, length, length-append, IsTrue, inl, inr, ⊎_elim, refl, sym, ◌∙◌, ap, subst, arith}
+use Rattle.std.specs.List.{All, Contains, list_all, slice_index_or}
+use Rattle.std.specs.Cmp.{IsTotalOrder}
+use Rattle.std.specs.declared.cmp.Ordering.{Ordering}
+use Rattle.std.proofs.lemmas.List.{length-set}
+use Rattle.std.specs.Prelude.{eqb}
+use Rattle.std.proofs.lemmas.Bool.{and_parts, and_from}
+use Rattle.std.proofs.lemmas.List.Elements.{All-weaker, All-push, All-set}
+use Rattle.std.proofs.lemmas.List.Folds.{list_all-append}
+use Rattle.std.proofs.lemmas.Option.{slice_get-get_or}
+use Rattle.lattice.specs.Order.{PartialOrderLaws}
+use Rattle.lattice.specs.Frontiers.{all_beyond}
+use Rattle.lattice.proofs.FrontierLemmas.{beyond_itself, all_beyond_later}
+use Rattle.antichain.proofs.AntichainLemmas.{frontier_by_beyond, frontier_one_time}
+use Rattle.antichain.proofs.Lists.{Among, among_contains, contains_among, all_filter}
+use Rattle.update.specs.declared.change.Update.{Update}
+use Rattle.batch.specs.Descriptions.{BatchState}
+use Rattle.batch.specs.Intervals.{open_updates}
+use Rattle.trace.specs.Readings.{Insertion, all_content}
+use Rattle.trace.specs.BatchLists.{BatchListState, end_of, updates_of}
+use Rattle.trace.specs.Holds.{HoldState}
+use Rattle.trace.proofs.BatchListLemmas.{reached_boundary}
+use Rattle.trace.proofs.BoundaryLemmas.{end-append}
+use Rattle.spine.specs.Holding.{AreSameHolds, IsMoved, IsSinceOf}
+use Rattle.spine.specs.Spines.{SpineState, Stands, Merge, AreMerges, IsWorked, after, boundaries, stored}
+use Rattle.spine.proofs.HoldersLemmas.{all_same, hold_begun}
+use Rattle.spine.proofs.StandingLemmas.{end_merged}
+use Rattle.operator.specs.Arrangements.{ArrangementState, IsArrangement, IsNew, IsReader, rows_have, times_from, upper_of}
+use Rattle.operator.proofs.HoldLemmas.{beyond_since, first_last, own_moved, some_passes}
+
+module _ {T : Type 0} where
+  -- the spine with one more batch
+  abbrev pub with_batch : SpineState T → BatchState T → Bool → SpineState T
+  with_batch s b reserved = record s { list = record s.list { batches = s.list.batches ++ b ∷ []; reserved = reserved } }
+
+  -- a boundary stays one
+  among_more : (u : List T) (bs : List (BatchState T)) (b : BatchState T) → Among u (map (λ (x : BatchState T). x.description.upper) bs) → Among u (map (λ (x : BatchState T). x.description.upper) (bs ++ b ∷ []))
+  among_more u [] b m = absurd m
+  among_more u (x ∷ bs) b m = ⊎_elim (λ e. inl e) (λ n. inr (among_more u bs b n)) m
+
+  boundary_more : (s : SpineState T) (b : BatchState T) (reserved : Bool) (u : List T) → Contains (boundaries s) u → Contains (boundaries (with_batch s b reserved)) u
+  boundary_more s b reserved u h =
+      contains_among u (boundaries (with_batch s b reserved)) (⊎_elim (λ e. inl e) (λ m. inr (among_more u s.list.batches b m)) (among_contains u (boundaries s) h))
+
+  -- what all that is stored passes, and all of one more batch, all that is stored then passes
+  stored_more : (q : Update T → Bool) (bs : List (BatchState T)) (b : BatchState T) → IsTrue (list_all q (all_content updates_of bs)) → IsTrue (list_all q b.updates) → IsTrue (list_all q (all_content updates_of (bs ++ b ∷ [])))
+  stored_more q [] b h k = list_all-append q b.updates [] ∙ and_from (list_all q b.updates) (list_all q []) k refl
+  stored_more q (x ∷ bs) b h k =
+      let rest = all_content updates_of bs in
+      let parts = and_parts (list_all q x.updates) (list_all q rest) (sym (list_all-append q x.updates rest) ∙ h) in
+      list_all-append q x.updates (all_content updates_of (bs ++ b ∷ []))
+      ∙ and_from (list_all q x.updates) (list_all q (all_content updates_of (bs ++ b ∷ []))) parts.0 (stored_more q bs b parts.1 k)
+
+  all_more : (q : Update T → Bool) (us vs : List (Update T)) → IsTrue (list_all q us) → IsTrue (list_all q vs) → IsTrue (list_all q (us ++ vs))
+  all_more q us vs h k = list_all-append q us vs ∙ and_from (list_all q us) (list_all q vs) h k
+
+  -- merges leave the frontier that the batches have reached
+  module _ (below : T → T → Bool) (since : List T) (holds : List (HoldState T)) where
+    end_worked : (ms : List (Merge T)) (from : List T) (bs : List (BatchState T)) → AreMerges below since holds ms bs → end_of from (after ms bs) ≡ end_of from bs
+    end_worked [] from bs h = refl
+    end_worked (m ∷ ms) from bs h = end_merged below since m.number m.batch from (after ms bs) h.1 ∙ end_worked ms from bs h.2
+
+module _ {T : Type 0} (below : T → T → Bool) (o : PartialOrderLaws below) (least : T) where
+  -- the frontier that a spine has reached stays in work
+  pub upper_worked : (n : ℕ) (s t : SpineState T) → IsWorked below n s t → upper_of t ≡ upper_of s
+  upper_worked n s t w =
+      ap (λ (x : SpineState T). end_of x.list.start t.list.batches) w.kept
+      ∙ ap (end_of s.list.start) w.batches
+      ∙ end_worked below s.since s.holds w.merges s.list.start s.list.batches w.allowed
+
+  -- a hold from the upper frontier on is a reader
+  reader_at_upper : (s : SpineState T) (h : HoldState T) → h.logical ≡ least ∷ [] → h.physical ≡ upper_of s → IsReader below least s h
+  reader_at_upper s h logical physical = record {
+    logical = logical;
+    boundary = subst (Contains (boundaries s)) (sym physical) (reached_boundary s.list);
+    behind = subst (λ u. IsTrue (all_beyond below u (upper_of s))) (sym physical) (beyond_itself o (upper_of s));
+  }
+
+  -- an empty arrangement
+  pub arrangement_begun : (a : ArrangementState T) (h : HoldState T) → a.spine.list.start ≡ least ∷ [] → a.spine.list.batches ≡ [] → a.spine.since ≡ least ∷ [] → a.spine.holds ≡ h ∷ [] → a.holds ≡ h ∷ [] → a.waiting ≡ []
+      → h.logical ≡ least ∷ [] → h.physical ≡ least ∷ [] → IsArrangement below least a
+  arrangement_begun a h start batches since theirs own waiting logical physical =
+      let none : stored a.spine ≡ [] = ap (all_content updates_of) batches in
+      let upper : upper_of a.spine ≡ least ∷ [] = ap (end_of a.spine.list.start) batches ∙ start in
+      record {
+        holds = subst (λ hs. AreSameHolds hs a.spine.holds) (theirs ∙ sym own) (all_same a.spine.holds);
+        own = subst (λ (hs : List (HoldState T)). 0 < length hs) (sym own) (omega arith);
+        readers = subst (All (IsReader below least a.spine)) (sym own) (All-push (IsReader below least a.spine) [] h (λ k d l. absurd (omega (arith, l))) (reader_at_upper a.spine h logical (physical ∙ sym upper)));
+        since = since;
+        start = start;
+        rows = subst (λ us. IsTrue (rows_have a.width us)) (sym none) refl;
+        times = subst (λ us. IsTrue (times_from below least us)) (sym none) refl;
+        waiting_rows = subst (λ us. IsTrue (rows_have a.width us)) (sym waiting) refl;
+        waiting_times = subst (λ us. IsTrue (times_from below least us)) (sym waiting) refl;
+      }
+
+  -- the same batches with other holds
+  readers_kept : (s t : SpineState T) (hs : List (HoldState T)) → t.list ≡ s.list → All (IsReader below least s) hs → All (IsReader below least t) hs
+  readers_kept s t hs e all = All-weaker (IsReader below least s) (IsReader below least t) (λ h r. record {
+    logical = r.logical;
+    boundary = subst (λ (l : BatchListState T). Contains (l.start ∷ map (λ (x : BatchState T). x.description.upper) l.batches) h.physical) (sym e) r.boundary;
+    behind = subst (λ (l : BatchListState T). IsTrue (all_beyond below h.physical (end_of l.start l.batches))) (sym e) r.behind;
+  }) hs all
+
+  -- one more reader
+  pub arrangement_held : (a : ArrangementState T) (s : SpineState T) (h : HoldState T) (hs : List (HoldState T)) → IsArrangement below least a → h ≡ record { logical = a.spine.since; physical = upper_of a.spine }
+      → s ≡ record a.spine { holds = a.spine.holds ++ record { logical = a.spine.since; physical = upper_of a.spine } ∷ [] } → hs ≡ a.holds ++ h ∷ []
+      → IsArrangement below least (record a { spine = s; holds = hs })
+  arrangement_held a s h hs is eh es ehs =
+      let t : SpineState T = record a.spine { holds = a.spine.holds ++ h ∷ [] } in
+      let e : s ≡ t = es ∙ ap (λ (k : HoldState T). record a.spine { holds = a.spine.holds ++ k ∷ [] }) (sym eh) in
+      let reader = reader_at_upper t h (ap (λ (k : HoldState T). k.logical) eh ∙ is.since) (ap (λ (k : HoldState T). k.physical) eh) in
+      let now : IsArrangement below least (record a { spine = t; holds = a.holds ++ h ∷ [] }) = record {
+        holds = first_last h a.holds (a.spine.holds ++ h ∷ []) (hold_begun h a.holds a.spine.holds is.holds);
+        own = (let l = length-append a.holds (h ∷ []) in let old = is.own in omega (arith, l, old));
+        readers = All-push (IsReader below least t) a.holds h (readers_kept a.spine t a.holds refl is.readers) reader;
+        since = is.since;
+        start = is.start;
+        rows = is.rows;
+        times = is.times;
+        waiting_rows = is.waiting_rows;
+        waiting_times = is.waiting_times;
+      } in
+      subst (λ (p : SpineState T × List (HoldState T)). IsArrangement below least (record a { spine = p.0; holds = p.1 })) (λ i. (sym e i, sym ehs i)) now
+
+  -- more updates wait
+  pub arrangement_taken : (a : ArrangementState T) (us : List (Update T)) → IsTrue (rows_have a.width us) → IsTrue (times_from below least us) → IsArrangement below least a → IsArrangement below least (record a { waiting = a.waiting ++ us })
+  arrangement_taken a us rows times is = record {
+    holds = is.holds;
+    own = is.own;
+    readers = is.readers;
+    since = is.since;
+    start = is.start;
+    rows = is.rows;
+    times = is.times;
+    waiting_rows = all_more _ a.waiting us is.waiting_rows rows;
+    waiting_times = all_more _ a.waiting us is.waiting_times times;
+  }
+
+  -- fewer updates wait
+  pub arrangement_sealed : (a : ArrangementState T) (upper : List T) → IsArrangement below least a → IsArrangement below least (record a { waiting = open_updates below upper a.waiting })
+  arrangement_sealed a upper is = record {
+    holds = is.holds;
+    own = is.own;
+    readers = is.readers;
+    since = is.since;
+    start = is.start;
+    rows = is.rows;
+    times = is.times;
+    waiting_rows = all_filter _ _ a.waiting is.waiting_rows;
+    waiting_times = all_filter _ _ a.waiting is.waiting_times;
+  }
+
+  -- one more batch
+  pub arrangement_inserted : (a : ArrangementState T) (s : SpineState T) (b : BatchState T) (reserved : Bool) → IsTrue (all_beyond below (upper_of a.spine) b.description.upper) → IsTrue (rows_have a.width b.updates) → IsTrue (times_from below least b.updates)
+      → s ≡ with_batch a.spine b reserved → IsArrangement below least a → IsArrangement below least (record a { spine = s })
+  arrangement_inserted a s b reserved on rows times e is =
+      let t = with_batch a.spine b reserved in
+      let end = end-append a.spine.list.start a.spine.list.batches b in
+      subst (λ (x : SpineState T). IsArrangement below least (record a { spine = x })) (sym e) (record {
+        holds = is.holds;
+        own = is.own;
+        readers = All-weaker (IsReader below least a.spine) (IsReader below least t) (λ h r. record {
+          logical = r.logical;
+          boundary = boundary_more a.spine b reserved h.physical r.boundary;
+          behind = subst (λ u. IsTrue (all_beyond below h.physical u)) (sym end) (all_beyond_later o h.physical (upper_of a.spine) b.description.upper r.behind on);
+        }) a.holds is.readers;
+        since = is.since;
+        start = is.start;
+        rows = stored_more _ a.spine.list.batches b is.rows rows;
+        times = stored_more _ a.spine.list.batches b is.times times;
+        waiting_rows = is.waiting_rows;
+        waiting_times = is.waiting_times;
+      })
+
+  -- merged batches
+  pub arrangement_worked : (n : ℕ) (a : ArrangementState T) (s : SpineState T) → IsWorked below n a.spine s → IsArrangement below least a → IsArrangement below least (record a { spine = s })
+  arrangement_worked n a s w is =
+      let upper = upper_worked n a.spine s w in
+      record {
+        holds = subst (AreSameHolds a.holds) (sym (ap (λ (x : SpineState T). x.holds) w.kept)) is.holds;
+        own = is.own;
+        readers = λ k d l.
+            let r = is.readers k d l in
+            let h = slice_index_or a.holds k d in
+            let open_ = some_passes (λ g. all_beyond below g.physical h.physical) a.holds a.spine.holds k h is.holds (slice_get-get_or a.holds k d l) (beyond_itself o h.physical) in
+            record {
+              logical = r.logical;
+              boundary = w.kept_open h.physical r.boundary open_;
+              behind = subst (λ u. IsTrue (all_beyond below h.physical u)) (sym upper) r.behind;
+            };
+        since = ap (λ (x : SpineState T). x.since) w.kept ∙ is.since;
+        start = ap (λ (x : SpineState T). x.list.start) w.kept ∙ is.start;
+        rows = w.among (λ row t. eqb (length row) a.width) is.rows;
+        times = w.among (λ row t. below least t) is.times;
+        waiting_rows = is.waiting_rows;
+        waiting_times = is.waiting_times;
+      }
+
+  -- the same batches, and the same holds
+  pub arrangement_reserved : (a : ArrangementState T) (s : SpineState T) (reserved : Bool) → s ≡ record a.spine { list = record a.spine.list { reserved = reserved } } → IsArrangement below least a → IsArrangement below least (record a { spine = s })
+  arrangement_reserved a s reserved e is =
+      let t : SpineState T = record a.spine { list = record a.spine.list { reserved = reserved } } in
+      subst (λ (x : SpineState T). IsArrangement below least (record a { spine = x })) (sym e) (record {
+        holds = is.holds;
+        own = is.own;
+        readers = All-weaker (IsReader below least a.spine) (IsReader below least t) (λ h r. record { logical = r.logical; boundary = r.boundary; behind = r.behind }) a.holds is.readers;
+        since = is.since;
+        start = is.start;
+        rows = is.rows;
+        times = is.times;
+        waiting_rows = is.waiting_rows;
+        waiting_times = is.waiting_times;
+      })
+
+  -- a reader has got on
+  module _ (cmp : T → T → Ordering) (total : IsTotalOrder cmp) where
+    pub arrangement_moved : (a : ArrangementState T) (s : SpineState T) (i : ℕ) (from to : HoldState T) → slice_get a.holds i ≡ Some from → to ≡ record { logical = least ∷ []; physical = upper_of a.spine }
+        → IsMoved from to a.spine.holds s.holds → s.list ≡ a.spine.list → IsSinceOf below cmp s.holds s.since → IsArrangement below least a
+        → IsArrangement below least (record a { spine = s; holds = set a.holds i to })
+    arrangement_moved a s i from to at e moved list since is =
+        let upper : upper_of s ≡ upper_of a.spine = ap (λ (l : BatchListState T). end_of l.start l.batches) list in
+        let content : stored s ≡ stored a.spine = ap (λ (l : BatchListState T). all_content updates_of l.batches) list in
+        let own = set a.holds i to in
+        let same = own_moved a.holds i from to a.spine.holds s.holds at moved is.holds in
+        let some : 0 < length own = (let l = length-set a.holds i to in let old = is.own in omega (arith, l, old)) in
+        let readers = All-set (IsReader below least s) a.holds i to
+        (reader_at_upper s to (ap (λ (h : HoldState T). h.logical) e) (ap (λ (h : HoldState T). h.physical) e ∙ sym upper))
+        (readers_kept a.spine s a.holds list is.readers) in
+        let logical = All-weaker (IsReader below least s) (λ h. h.logical ≡ least ∷ []) (λ h r. r.logical) own readers in
+        record {
+          holds = same;
+          own = some;
+          readers = readers;
+          since = frontier_by_beyond o total s.since (least ∷ []) since.frontier (frontier_one_time below cmp least)
+              (λ t. since.beyond t ∙ beyond_since below (least ∷ []) own s.holds t same some logical);
+          start = ap (λ (l : BatchListState T). l.start) list ∙ is.start;
+          rows = subst (λ us. IsTrue (rows_have a.width us)) (sym content) is.rows;
+          times = subst (λ us. IsTrue (times_from below least us)) (sym content) is.times;
+          waiting_rows = is.waiting_rows;
+          waiting_times = is.waiting_times;
+        }
+
+  -- room for a batch changes nothing that a spine stands for
+  pub stands_reserved : (s t : SpineState T) (reserved : Bool) → t ≡ record s { list = record s.list { reserved = reserved } } → (h : List (Insertion T)) → Stands below s h → Stands below t h
+  stands_reserved s t reserved e h st = subst (λ (x : SpineState T). Stands below x h) (sym e) (record { upper = st.upper; reads = st.reads })
+
+  -- a new arrangement with its own hold
+  pub new_begun : (worker node width : ℕ) (a : ArrangementState T) (reserved : Bool) → a.width ≡ width
+      → a.spine.list ≡ record { worker = worker; node = node; start = least ∷ []; batches = []; reserved = reserved } → a.waiting ≡ []
+      → a.holds ≡ record { logical = least ∷ []; physical = least ∷ [] } ∷ [] → Stands below a.spine [] → IsNew below least worker node width 1 a
+  new_begun worker node width a reserved ew list waiting holds stands = record {
+    columns = ew;
+    batches = list ∙ ap (λ b. record { worker = worker; node = node; start = least ∷ []; batches = []; reserved = b }) (sym (ap (λ (l : BatchListState T). l.reserved) list));
+    nothing_waits = waiting;
+    readers = ap length holds;
+    begin = subst (All P) (sym holds) (All-push P [] _ (λ k d l. absurd (omega (arith, l))) refl);
+    stands = stands;
+  }
+    where
+      P : HoldState T → Type 0
+      P h = h ≡ record { logical = least ∷ []; physical = least ∷ [] }
+
+  -- and with one more reader
+  pub new_held : (worker node width n : ℕ) (a b : ArrangementState T) → IsNew below least worker node width n a
+      → b ≡ record a { spine = record a.spine { holds = b.spine.holds }; holds = a.holds ++ record { logical = least ∷ []; physical = upper_of a.spine } ∷ [] }
+      → Stands below b.spine [] → IsNew below least worker node width (n + 1) b
+  new_held worker node width n a b new e stands =
+      let P : HoldState T → Type 0 = λ h. h ≡ record { logical = least ∷ []; physical = least ∷ [] } in
+      let list : b.spine.list ≡ a.spine.list = ap (λ (x : ArrangementState T). x.spine.list) e in
+      let upper : upper_of a.spine ≡ least ∷ [] = ap (λ (l : BatchListState T). end_of l.start l.batches) new.batches in
+      let one : HoldState T = record { logical = least ∷ []; physical = upper_of a.spine } in
+      let holds : b.holds ≡ a.holds ++ one ∷ [] = ap (λ (x : ArrangementState T). x.holds) e in
+      let at : P one = ap (λ u. record { logical = least ∷ []; physical = u }) upper in
+      let counted : length b.holds ≡ n + 1 = (let l = length-append a.holds (one ∷ []) in let old = new.readers in ap length holds ∙ omega (arith, l, old)) in
+      record {
+        columns = ap (λ (x : ArrangementState T). x.width) e ∙ new.columns;
+        batches = list ∙ new.batches ∙ ap (λ r. record { worker = worker; node = node; start = least ∷ []; batches = []; reserved = r }) (sym (ap (λ (l : BatchListState T). l.reserved) list));
+        nothing_waits = ap (λ (x : ArrangementState T). x.waiting) e ∙ new.nothing_waits;
+        readers = counted;
+        begin = subst (All P) (sym holds) (All-push P a.holds one new.begin at);
+        stands = stands;
+      }

@@ -1,0 +1,10 @@
+pub mod ArrangementLemmas
+pub mod FrontLemmas
+pub mod HoldLemmas
+pub mod TurnLemmas
+pub mod JoinSideLemmas
+pub mod JoinAnswerLemmas
+pub mod DistinctLemmas
+pub mod AnswerWidthLemmas
+pub mod ReductionLemmas
+pub mod KeepLemmas

@@ -1,0 +1,11 @@
+use Rattle.std.proofs.Common.{◌≡◌, ◌||◌, drop}
+use Rattle.lattice.specs.Frontiers.{is_beyond}
+use Rattle.batch.specs.Intervals.{open_updates}
+use Rattle.operator.specs.Arrangements.{times_of}
+use Rattle.operator.proofs.frontier.front_of_open.Given as goal
+
+-- a time is beyond the front so far or an open update that is still to come, or else it is beyond none of them
+abbrev pub invariant-loop-update : goal.invariant-loop-update
+invariant-loop-update g l =
+    let below = g.T.PartialOrder.below in
+    (t : g.row.T.Denot) → (is_beyond below l.front.items t || is_beyond below (times_of (open_updates below l.upper (drop l.update-index l.updates))) t) ≡ is_beyond below (times_of (open_updates below l.upper l.updates)) t

@@ -1,0 +1,97 @@
+-- What a contract sees of an arrangement, and what each one keeps (McSherry et al., Shared Arrangements, VLDB 2020).
+use Rattle.std.specs.Prelude.{◌≡◌, ◌≢◌, ℕ, ◌<◌, Bool, List, [], ◌∷◌, ◌++◌, map, length, eqb, slice_get, IsTrue, ⊤}
+use Rattle.std.specs.List.{All, Contains, list_all}
+use Rattle.lattice.specs.Frontiers.{is_beyond, all_beyond}
+use Rattle.update.specs.declared.change.Update.{Update}
+use Rattle.batch.specs.Intervals.{all_between}
+use Rattle.trace.specs.Readings.{Insertion, reached}
+use Rattle.batch.specs.Descriptions.{BatchState}
+use Rattle.trace.specs.BatchLists.{end_of, insertion_of}
+use Rattle.trace.specs.Holds.{HoldState}
+use Rattle.spine.specs.Holding.{AreSameHolds}
+use Rattle.spine.specs.Spines.{SpineState, Stands, boundaries, stored}
+
+-- how many columns the rows have, the batches that were inserted, the updates whose times the input frontier has not
+-- passed, and the holds: the arrangement's own, and then one for each reader
+pub record ArrangementState (T : Type 0) : Type 0 where
+  pub width : ℕ
+  pub spine : SpineState T
+  pub waiting : List (Update T)
+  pub holds : List (HoldState T)
+
+module _ {T : Type 0} where
+  -- each row has as many columns
+  abbrev pub rows_have : ℕ → List (Update T) → Bool
+  rows_have width us = list_all (λ u. eqb (length u.row) width) us
+
+  -- the times of the updates
+  abbrev pub times_of : List (Update T) → List T
+  times_of us = map (λ u. u.time) us
+
+  -- the frontier that a spine has reached
+  abbrev pub upper_of : SpineState T → List T
+  upper_of s = end_of s.list.start s.list.batches
+
+module _ {T : Type 0} (below : T → T → Bool) where
+  -- each time is at or after the least one
+  abbrev pub times_from : T → List (Update T) → Bool
+  times_from least us = list_all (λ u. below least u.time) us
+
+  -- the same times are beyond the front as are at or after the time of some update
+  pub record IsFrontOf (front : List T) (us : List (Update T)) : Type 0 where
+    pub beyond : (t : T) → is_beyond below front t ≡ is_beyond below (times_of us) t
+
+  -- a reader that sums at all times, and asks for boundaries from one on that the spine has reached
+  pub record IsReader (least : T) (s : SpineState T) (hold : HoldState T) : Type 0 where
+    pub logical : hold.logical ≡ least ∷ []
+    pub boundary : Contains (boundaries s) hold.physical
+    pub behind : IsTrue (all_beyond below hold.physical (upper_of s))
+
+  -- the holds are those of the spine, every time may be read, and all rows and times are as they should be
+  pub record IsArrangement (least : T) (a : ArrangementState T) : Type 0 where
+    pub holds : AreSameHolds a.holds a.spine.holds
+    pub own : 0 < length a.holds
+    pub readers : All (IsReader least a.spine) a.holds
+    pub since : a.spine.since ≡ least ∷ []
+    pub start : a.spine.list.start ≡ least ∷ []
+    pub rows : IsTrue (rows_have a.width (stored a.spine))
+    pub times : IsTrue (times_from least (stored a.spine))
+    pub waiting_rows : IsTrue (rows_have a.width a.waiting)
+    pub waiting_times : IsTrue (times_from least a.waiting)
+
+  -- nothing was inserted and nothing waits, and there are so many holds, all at the least time
+  pub record IsNew (least : T) (worker node width count : ℕ) (a : ArrangementState T) : Type 0 where
+    pub columns : a.width ≡ width
+    pub batches : a.spine.list ≡ record { worker = worker; node = node; start = least ∷ []; batches = []; reserved = a.spine.list.reserved }
+    pub nothing_waits : a.waiting ≡ []
+    pub readers : length a.holds ≡ count
+    pub begin : All (λ hold. hold ≡ record { logical = least ∷ []; physical = least ∷ [] }) a.holds
+    pub stands : Stands below a.spine []
+
+  -- the insertion goes on from a frontier: it ends at one beyond it, and has updates, all with times in between
+  pub record IsInTurn (from : List T) (i : Insertion T) : Type 0 where
+    pub forward : IsTrue (all_beyond below from i.upper)
+    pub some : i.updates ≢ []
+    pub between : IsTrue (all_between below from i.upper i.updates)
+
+  -- each of the insertions, newest first, goes on from where those before it ended
+  abbrev pub AreInTurn : List T → List (Insertion T) → Type 0
+  AreInTurn start [] = ⊤
+  AreInTurn start (i ∷ h) = IsInTurn (reached start h) i × AreInTurn start h
+
+-- the arrangement after it kept a batch: one without updates is not inserted. The readers' holds stay
+pub record IsKeptWith {T : Type 0} (below : T → T → Bool) (a b : ArrangementState T) (batch : BatchState T) : Type 0 where
+  pub width : b.width ≡ a.width
+  pub start : b.spine.list.start ≡ a.spine.list.start
+  pub waiting : b.waiting ≡ a.waiting
+  pub readers : (number : ℕ) → 0 < number → slice_get b.holds number ≡ slice_get a.holds number
+  pub none : batch.updates ≡ [] → (h : List (Insertion T)) → Stands below a.spine h → Stands below b.spine h
+  pub some : batch.updates ≢ [] → (h : List (Insertion T)) → Stands below a.spine h → Stands below b.spine (insertion_of batch ∷ h)
+
+-- the arrangement with one more hold, from where its spine has come
+pub record IsWithReader {T : Type 0} (below : T → T → Bool) (minimum : T) (a b : ArrangementState T) : Type 0 where
+  pub width : b.width ≡ a.width
+  pub start : b.spine.list.start ≡ a.spine.list.start
+  pub waiting : b.waiting ≡ a.waiting
+  pub holds : b.holds ≡ a.holds ++ record { logical = minimum ∷ []; physical = upper_of a.spine } ∷ []
+  pub stands : (h : List (Insertion T)) → Stands below a.spine h → Stands below b.spine h

@@ -1,0 +1,391 @@
+//! What one worker keeps at an arrange node of a plan: the updates whose times the node's input frontier has not
+//! passed, and a spine of all batches that it has made of the others. Every join and reduction that reads the node
+//! reads this one spine (McSherry et al., Shared Arrangements, VLDB 2020).
+//!
+//! The arrangement keeps the holds of all its readers. Hold 0 is its own. The others are for the ports of the readers,
+//! in the order of the caller. A reader that has taken a batch acknowledges it, and the spine may merge across the
+//! boundaries before. Every reader sums at all times, so each logical frontier stays at the least time.
+//!
+//! The invariant is the record `IsArrangement`: the holds are the spine's, each asks for a boundary that the spine has,
+//! and rows and times are as the plan says.
+ghost use Rattle.std.specs.Prelude.{◌≡◌, ◌≢◌, ◌<◌, ◌≤◌, ◌∷◌, ◌++◌, [], true, suc, set, length, vec_len, vec_capacity, List, ℤ, Bool, IfOk, IfErr, OnOk, OnErr, IsTrue};
+ghost use Rattle.lattice.specs.Frontiers.{all_beyond};
+ghost use Rattle.update.specs.declared.refusal.Refusal.{Refusal};
+ghost use Rattle.update.specs.Refusals.{IsMemoryOrOverflow};
+ghost use Rattle.update.specs.Updates.{total_where, HasLargeTotal, size};
+ghost use Rattle.batch.specs.Batches.{IsSealed};
+ghost use Rattle.batch.specs.Intervals.{all_between, is_interval_of, passed_updates, open_updates};
+ghost use Rattle.trace.specs.Readings.{Insertion};
+ghost use Rattle.trace.specs.BatchLists.{Continues, insertion_of};
+ghost use Rattle.spine.specs.Spines.{Stands};
+ghost use Rattle.operator.specs.Arrangements.{IsArrangement, IsNew, rows_have, times_from, times_of, upper_of};
+
+mod laws;
+mod pending;
+
+use crate::frontier::antichain_of;
+use antichain::Antichain;
+use batch::{Batch, BatchReader};
+use lattice::{Lattice, Minimum};
+pub use laws::what_is_taken_is_up_to_a_boundary;
+use spine::Spine;
+use std::alloc::Global;
+use std::marker::Model;
+use trace::{Hold, Trace, all_batches};
+use update::{Refusal, Update};
+use pending::Waiting;
+
+/// Updates that wait, and the batches of those that do not, with the holds of the readers. A contract sees the width of
+/// the rows, the spine, the updates that wait, in the order in which they came, and the holds.
+pub struct Arrangement<T: Minimum> {
+    width: usize,
+    spine: Spine<T>,
+    waiting: Waiting<T>,
+    holds: Vec<Hold<T>>,
+    saved: u64,
+}
+
+impl<T: Minimum> Model for Arrangement<T> {
+    ghost use Rattle.std.specs.Prelude.{◌≡◌};
+    ghost use Rattle.operator.specs.Arrangements.{ArrangementState, IsArrangement};
+
+    ghost Value = { ArrangementState T };
+
+    ghost view = { λ a. record {
+      width = a.width;
+      spine = a.spine;
+      waiting = a.waiting.updates;
+      holds = a.holds.items;
+    } };
+
+    ghost invariant = { λ a. IsArrangement T.below T.least (record {
+      width = a.width;
+      spine = a.spine;
+      waiting = a.waiting.updates;
+      holds = a.holds.items;
+    }) × (a.waiting.worker ≡ a.spine.list.worker) × (a.waiting.node ≡ a.spine.list.node) };
+}
+
+impl<T: Minimum> Drop for Arrangement<T> {
+    fn drop(self) {
+        let Arrangement {
+            width: _,
+            mut spine,
+            waiting: _,
+            mut holds,
+            saved: _,
+        } = self;
+        while let Some(hold) = holds.pop() {
+            spine.release(hold);
+        }
+        holds.destroy_empty();
+    }
+}
+
+// Tells the prover that a batch ends at a frontier beyond the one at which it begins. Costs nothing.
+fn known_forward<T: Lattice>(batch: &Batch<T>)
+    ensures { IsTrue
+        (all_beyond T.below batch.now.description.lower batch.now.description.upper) }
+{
+    let _lower = batch.description().lower();
+}
+
+// How many updates the batches have together; or the greatest number.
+fn updates_in<B: BatchReader>(batches: &[B]) -> u64 {
+    let mut updates: u64 = 0;
+    for batch in batches {
+        updates = updates.saturating_add(batch.len() as u64);
+    }
+    updates
+}
+
+// Twice the number of updates for each batch and for one more, and what was saved; or the greatest number.
+fn fuel_for(saved: u64, updates: u64, batches: u64) -> u64 {
+    let rounds = batches.saturating_add(1).saturating_mul(2);
+    updates.saturating_mul(rounds).saturating_add(saved)
+}
+
+// An empty list of holds, with room for one.
+fn room_for_one<T: Lattice>(alloc: Global) -> Result<Vec<Hold<T>>, Refusal>
+    ensures empty { IfOk result (λ holds. (holds.items ≡ []) × (vec_len holds ≡ 0)) }
+    ensures room { IfOk result (λ holds. vec_len holds < vec_capacity holds) }
+    ensures only { IfErr result (λ refused. refused ≡ Refusal.OutOfMemory) }
+{
+    let mut holds = Vec::new(alloc);
+    match holds.reserve(1) {
+        Ok(()) => Ok(holds),
+        Err(_refused) => {
+            holds.destroy_empty();
+            Err(Refusal::OutOfMemory)
+        }
+    }
+}
+
+impl<T: Minimum> Arrangement<T> {
+    /// An arrangement of rows of `width` columns, without updates, with a hold of its own and one for each of so many
+    /// readers. It begins at the least time. [`Refusal::OutOfMemory`] only if memory for the holds was refused.
+    pub fn new(
+        alloc: Global,
+        worker: usize,
+        node: usize,
+        width: usize,
+        readers: usize,
+    ) -> Result<Arrangement<T>, Refusal>
+        ensures begun { IfOk result
+            (IsNew T.below T.least worker node width (suc readers)) }
+        ensures only { IfErr result (λ refused. refused ≡ Refusal.OutOfMemory) }
+    {
+        let mut made = Arrangement::without_readers(alloc, worker, node, width)?;
+        for _reader in 0..readers {
+            made.add_reader(alloc)?;
+        }
+        Ok(made)
+    }
+
+    // An arrangement with its own hold alone.
+    fn without_readers(
+        alloc: Global,
+        worker: usize,
+        node: usize,
+        width: usize,
+    ) -> Result<Arrangement<T>, Refusal>
+        ensures begun { IfOk result
+            (IsNew T.below T.least worker node width 1) }
+        ensures only { IfErr result (λ refused. refused ≡ Refusal.OutOfMemory) }
+    {
+        let mut holds = room_for_one(alloc)?;
+        match Spine::new(alloc, worker, node) {
+            Ok((spine, own)) => {
+                holds.push_reserved(own);
+                Ok(Arrangement {
+                    width,
+                    spine,
+                    waiting: Waiting::new(alloc, worker, node),
+                    holds,
+                    saved: 0,
+                })
+            }
+            Err(refused) => {
+                holds.destroy_empty();
+                Err(refused)
+            }
+        }
+    }
+
+    /// One more hold, from the upper frontier of the spine on, and its number. If it is refused, then nothing has changed:
+    /// [`Refusal::OutOfMemory`] only.
+    pub fn add_reader(&mut self, alloc: Global) -> Result<usize, Refusal>
+        ensures number { IfOk result
+            (λ number. (number ≡ length self.old.holds) × (0 < number)) }
+        ensures held { OnOk result (self.new ≡ record self.old {
+          spine = record self.old.spine { holds = self.new.spine.holds };
+          holds = self.old.holds ++ record {
+            logical = T.least ∷ [];
+            physical = upper_of self.old.spine;
+          } ∷ [];
+        }) }
+        ensures stands { OnOk result ((h : List (Insertion T)) → Stands T.below self.old.spine h
+            → Stands T.below self.new.spine h) }
+        ensures same { OnErr result (self.new ≡ self.old) }
+        ensures only { IfErr result (λ refused. refused ≡ Refusal.OutOfMemory) }
+    {
+        let number = self.holds.len();
+        self.holds.reserve(1)?;
+        let hold = self.spine.hold(alloc)?;
+        self.holds.push_reserved(hold);
+        Ok(number)
+    }
+
+    /// Keeps updates until the input frontier has passed their times. Their rows have the width of the arrangement, and
+    /// their times are at or after the least one. If memory was refused, then the updates are dropped and nothing has
+    /// changed: [`Refusal::OutOfMemory`] only.
+    ///
+    /// Cost: each time is compared with all times of which none is before another.
+    pub fn take_in(&mut self, updates: Vec<Update<T>>) -> Result<(), Refusal>
+        requires rows { IsTrue (rows_have self.old.width updates.items) }
+        requires times { IsTrue (times_from T.below T.least updates.items) }
+        ensures waiting { OnOk result
+            (self.new ≡ record self.old { waiting = self.old.waiting ++ updates.items }) }
+        ensures same { OnErr result (self.new ≡ self.old) }
+        ensures only { IfErr result (λ refused. refused ≡ Refusal.OutOfMemory) }
+    {
+        self.waiting.take_in(updates)
+    }
+
+    /// The times that the arrangement holds: the least of the times of what waits. [`Refusal::OutOfMemory`] only if
+    /// memory for these times was refused.
+    pub fn held(&self, alloc: Global) -> Result<Vec<T>, Refusal>
+        ensures covers { IfOk result (λ held. IsTrue
+            (all_beyond T.below held.items (times_of self.now.waiting))) }
+        ensures tight { IfOk result (λ held. IsTrue
+            (all_beyond T.below (times_of self.now.waiting) held.items)) }
+        ensures only { IfErr result (λ refused. refused ≡ Refusal.OutOfMemory) }
+    {
+        self.waiting.held(alloc)
+    }
+
+    /// Makes a batch of the updates that wait and whose times `upper` has passed. The batch continues the spine, and
+    /// is to be inserted next. The others wait on. If it is refused, then nothing has changed. Nobody sees the batch
+    /// before it is inserted, so a caller may give other memory back, or give up, in between.
+    ///
+    /// - [`Refusal::Overflow`] only if the total of some row at some time over the passed updates is no 64-bit number.
+    /// - [`Refusal::OutOfMemory`] only if memory for copies of these updates, or for frontiers, was refused.
+    ///
+    /// Cost: n log n comparisons in the number of passed updates, and a constant number of comparisons of each update
+    /// that waits with each element of the frontiers.
+    pub fn seal(&mut self, upper: &Antichain<T>) -> Result<Batch<T>, Refusal>
+        requires { IsTrue (is_interval_of T.below (upper_of self.old.spine) upper.now
+            (passed_updates T.below upper.now self.old.waiting)) }
+        ensures described { IfOk result (λ batch. batch.description ≡ record {
+          worker = self.old.spine.list.worker;
+          node = self.old.spine.list.node;
+          lower = upper_of self.old.spine;
+          upper = upper.now;
+          since = T.least ∷ [];
+        }) }
+        ensures continues { IfOk result (λ batch. Continues self.old.spine.list.worker
+            self.old.spine.list.node (upper_of self.old.spine) batch) }
+        ensures sealed { IfOk result (λ batch. IsSealed T.cmp batch.updates) }
+        ensures between { IfOk result (λ batch. IsTrue
+            (all_between T.below (upper_of self.old.spine) upper.now batch.updates)) }
+        ensures totals { IfOk result (λ batch. (p : List ℤ → T → Bool)
+            → total_where p batch.updates
+            ≡ total_where p (passed_updates T.below upper.now self.old.waiting)) }
+        ensures size { IfOk result (λ batch.
+            size batch.updates ≤ size (passed_updates T.below upper.now self.old.waiting)) }
+        ensures rows { IfOk result
+            (λ batch. IsTrue (rows_have self.old.width batch.updates)) }
+        ensures times { IfOk result
+            (λ batch. IsTrue (times_from T.below T.least batch.updates)) }
+        ensures rest { OnOk result (self.new ≡ record self.old {
+          waiting = open_updates T.below upper.now self.old.waiting;
+        }) }
+        ensures same { OnErr result (self.new ≡ self.old) }
+        ensures refused { IfErr result (IsMemoryOrOverflow
+            (HasLargeTotal T.below (passed_updates T.below upper.now self.old.waiting))) }
+    {
+        let batch = self.waiting.seal(self.spine.upper(), upper)?;
+        Ok(batch)
+    }
+
+    /// Makes room for one more batch, so that the next [`insert`](Arrangement::insert) takes no memory. If memory was
+    /// refused, then nothing has changed: [`Refusal::OutOfMemory`] only.
+    pub fn reserve(&mut self) -> Result<(), Refusal>
+        ensures room { OnOk result (self.new ≡ record self.old {
+          spine = record self.old.spine {
+            list = record self.old.spine.list { reserved = true };
+          };
+        }) }
+        ensures stands { (h : List (Insertion T)) → Stands T.below self.old.spine h
+            → Stands T.below self.new.spine h }
+        ensures same { OnErr result (self.new ≡ self.old) }
+        ensures only { IfErr result (λ refused. refused ≡ Refusal.OutOfMemory) }
+    {
+        self.spine.reserve()?;
+        Ok(())
+    }
+
+    /// Inserts a batch into the spine, for all readers at once. The batch continues the spine, its rows have the width
+    /// of the arrangement, and there is room for it. Takes no memory.
+    ///
+    /// Cost: two comparisons of frontiers; the batch is moved, and no update is copied.
+    pub fn insert(&mut self, batch: Batch<T>)
+        requires room { IsTrue self.old.spine.list.reserved }
+        requires continues { Continues self.old.spine.list.worker self.old.spine.list.node
+            (upper_of self.old.spine) batch }
+        requires rows { IsTrue (rows_have self.old.width batch.updates) }
+        requires times { IsTrue (times_from T.below T.least batch.updates) }
+        ensures inserted { self.new ≡ record self.old {
+          spine = record self.old.spine {
+            list = record self.old.spine.list {
+              batches = self.old.spine.list.batches ++ batch ∷ [];
+              reserved = self.new.spine.list.reserved;
+            };
+          };
+        } }
+        ensures upper { upper_of self.new.spine ≡ batch.description.upper }
+        ensures stands { (h : List (Insertion T)) → Stands T.below self.old.spine h
+            → Stands T.below self.new.spine (insertion_of batch ∷ h) }
+    {
+        known_forward(&batch);
+        self.spine.insert(batch).unwrap();
+    }
+
+    /// Lets the spine merge batches, with fuel for so many more updates that were inserted, and what earlier calls did
+    /// not spend. What is saved is at most a unit for each update of the spine: that is enough for any merge, and with
+    /// more a spine would merge all that it has at each small insertion. No reader notices. If a merge is refused, then
+    /// it is left out, and may be done by a later call.
+    ///
+    /// Cost: the fuel is twice as many units as there are updates and batches, multiplied. A merge spends one for each
+    /// update that it reads, and one more.
+    pub fn work(&mut self, more: usize)
+        ensures kept { self.new ≡ record self.old {
+          spine = record self.old.spine {
+            list = record self.old.spine.list {
+              batches = self.new.spine.list.batches;
+              reserved = self.new.spine.list.reserved;
+            };
+            copied = self.new.spine.copied;
+          };
+        } }
+        ensures upper { upper_of self.new.spine ≡ upper_of self.old.spine }
+        ensures stands { (h : List (Insertion T)) → Stands T.below self.old.spine h
+            → Stands T.below self.new.spine h }
+    {
+        let batches = all_batches(&self.spine).len() as u64;
+        let fuel = fuel_for(self.saved, more as u64, batches);
+        let copied = self.spine.copied();
+        let _done = self.spine.work(fuel);
+        let copies = self.spine.copied().saturating_sub(copied);
+        let merges = batches.saturating_sub(all_batches(&self.spine).len() as u64);
+        let left = fuel.saturating_sub(copies).saturating_sub(merges);
+        self.saved = left.min(updates_in(all_batches(&self.spine)));
+    }
+
+    /// Tells the spine that a reader, by the number of its hold, has taken all that was inserted, up to the frontier
+    /// that the spine has reached. From then on the reader asks for boundaries from there on, and the spine may merge
+    /// what is before. If memory for frontiers was refused, then nothing has changed: [`Refusal::OutOfMemory`] only.
+    pub fn acknowledge(
+        &mut self,
+        alloc: Global,
+        reader: usize,
+        upper: &Antichain<T>,
+    ) -> Result<(), Refusal>
+        requires reader { reader < length self.old.holds }
+        requires upper { upper.now ≡ upper_of self.old.spine }
+        ensures moved { OnOk result (self.new ≡ record self.old {
+          spine = record self.old.spine { holds = self.new.spine.holds };
+          holds = set self.old.holds reader record {
+            logical = T.least ∷ [];
+            physical = upper_of self.old.spine;
+          };
+        }) }
+        ensures stands { (h : List (Insertion T)) → Stands T.below self.old.spine h
+            → Stands T.below self.new.spine h }
+        ensures same { OnErr result (self.new ≡ self.old) }
+        ensures only { IfErr result (λ refused. refused ≡ Refusal.OutOfMemory) }
+    {
+        let logical = Antichain::from_elem(alloc, T::minimum());
+        let hold = &mut self.holds[reader];
+        self.spine.advance_hold(alloc, hold, &logical, upper)?;
+        Ok(())
+    }
+
+    /// The frontier that the spine has reached, as an antichain. [`Refusal::OutOfMemory`] only if it has more than four
+    /// elements.
+    pub fn upper(&self, alloc: Global) -> Result<Antichain<T>, Refusal>
+        ensures is { IfOk result (λ upper. upper ≡ upper_of self.now.spine) }
+        ensures only { IfErr result (λ refused. refused ≡ Refusal.OutOfMemory) }
+    {
+        antichain_of(alloc, self.spine.upper())
+    }
+
+    /// The spine, for its readers. Whatever was inserted, each time may be read, all rows have the width of the
+    /// arrangement, and each hold asks for a boundary of the spine. Takes no memory.
+    pub fn trace(&self) -> &Spine<T>
+        ensures value { result.now ≡ self.now.spine }
+        ensures known { IsArrangement T.below T.least self.now }
+    {
+        &self.spine
+    }
+}

@@ -1,0 +1,111 @@
+//! The least of some times, as a list, and the antichain of a frontier that is a list.
+//!
+//! What a worker holds at a node is the least of the times that wait there. The list has no time at or after another one
+//! of it, and the same times are beyond it as are at or after one of those that were put in.
+ghost use Rattle.std.specs.Prelude.{◌≡◌, ◌||◌, IfOk, IfErr, OnOk};
+ghost use Rattle.lattice.specs.Frontiers.{is_beyond};
+ghost use Rattle.antichain.specs.Antichains.{IsFrontier};
+ghost use Rattle.antichain.specs.Insertion.{not_above};
+ghost use Rattle.update.specs.declared.refusal.Refusal.{Refusal};
+ghost use Rattle.batch.specs.Intervals.{open_updates};
+ghost use Rattle.operator.specs.Arrangements.{times_of};
+
+use antichain::{Antichain, is_beyond};
+use lattice::Lattice;
+use std::alloc::Global;
+use update::{Refusal, Update};
+
+// The antichain of a frontier.
+pub(crate) fn antichain_of<T: Lattice>(
+    alloc: Global,
+    frontier: &[T],
+) -> Result<Antichain<T>, Refusal>
+    requires { IsFrontier T.below T.cmp frontier.now }
+    ensures is { IfOk result (λ made. made ≡ frontier.now) }
+    ensures only { IfErr result (λ refused. refused ≡ Refusal.OutOfMemory) }
+{
+    let made = Antichain::least_of(alloc, frontier)?;
+    made.known();
+    Ok(made)
+}
+
+// Removes the times that `t` is at or before.
+fn drop_later<T: Lattice>(front: &mut Vec<T>, t: T)
+    ensures { front.new.items ≡ not_above T.below t front.old.items }
+{
+    front.retain(|e| !t.less_equal(e));
+}
+
+// Takes in one more time, unless another one is at or before it.
+fn put_in<T: Lattice>(front: &mut Vec<T>, t: T) -> Result<(), Refusal>
+    ensures beyond { OnOk result ((s : T) → is_beyond T.below front.new.items s
+        ≡ (T.below t s || is_beyond T.below front.old.items s)) }
+    ensures only { IfErr result (λ refused. refused ≡ Refusal.OutOfMemory) }
+{
+    if !is_beyond(front.as_slice(), &t) {
+        drop_later(front, t);
+        front.push(t)?;
+    }
+    Ok(())
+}
+
+// Takes in all of these times.
+pub(crate) fn put_in_all<T: Lattice>(front: &mut Vec<T>, times: &[T]) -> Result<(), Refusal>
+    ensures beyond { OnOk result ((t : T) → is_beyond T.below front.new.items t
+        ≡ (is_beyond T.below front.old.items t || is_beyond T.below times.now t)) }
+    ensures only { IfErr result (λ refused. refused ≡ Refusal.OutOfMemory) }
+{
+    for time in times {
+        put_in(front, *time)?;
+    }
+    Ok(())
+}
+
+// Takes in the times of all of these updates.
+pub fn put_in_updates<T: Lattice>(
+    front: &mut Vec<T>,
+    updates: &[Update<T>],
+) -> Result<(), Refusal>
+    ensures beyond { OnOk result ((t : T) → is_beyond T.below front.new.items t
+        ≡ (is_beyond T.below front.old.items t || is_beyond T.below (times_of updates.now) t)) }
+    ensures only { IfErr result (λ refused. refused ≡ Refusal.OutOfMemory) }
+{
+    for update in updates {
+        put_in(front, update.time)?;
+    }
+    Ok(())
+}
+
+// The least of some times and of the times of some updates.
+pub fn front_with<T: Lattice>(
+    alloc: Global,
+    times: &[T],
+    updates: &[Update<T>],
+) -> Result<Vec<T>, Refusal>
+    ensures beyond { IfOk result (λ front. (t : T) → is_beyond T.below front.items t
+        ≡ (is_beyond T.below times.now t || is_beyond T.below (times_of updates.now) t)) }
+    ensures only { IfErr result (λ refused. refused ≡ Refusal.OutOfMemory) }
+{
+    let mut front = Vec::from_slice(alloc, times)?;
+    put_in_updates(&mut front, updates)?;
+    Ok(front)
+}
+
+// The least times of the updates that the frontier has not passed.
+pub(crate) fn front_of_open<T: Lattice>(
+    alloc: Global,
+    updates: &[Update<T>],
+    upper: &[T],
+) -> Result<Vec<T>, Refusal>
+    ensures beyond { IfOk result (λ front. (t : T) → is_beyond T.below front.items t
+        ≡ is_beyond T.below (times_of (open_updates T.below upper.now updates.now)) t) }
+    ensures only { IfErr result (λ refused. refused ≡ Refusal.OutOfMemory) }
+{
+    let mut front = Vec::new(alloc);
+    for update in updates {
+        if is_beyond(upper, &update.time) {
+            put_in(&mut front, update.time)?;
+        }
+    }
+    Ok(front)
+}

@@ -1,0 +1,247 @@
+//! What one worker keeps at a join of a plan. The join reads the spines of the two arrange nodes that it joins, and
+//! keeps no update itself: only up to which boundary each side was acknowledged, and which hold at the arrangement of
+//! that side keeps the boundary.
+//!
+//! Bundles come at two ports. What waits at a port is what the spine of that side has inserted since the boundary up to
+//! which the side is acknowledged. A side is always taken as a whole: all that waits is paired with what the other side
+//! has acknowledged, and the side is then acknowledged up to its spine's upper frontier. So each pair is formed once,
+//! whichever side is taken first.
+ghost use Rattle.std.specs.Prelude.{◌≡◌, ◌≤◌, ◌+◌, ◌-◌, ◌*◌, ◌^◌, ◌⊎◌, ◌∷◌, [], List, IfOk, IfErr, OnOk, OnErr, IsTrue};
+ghost use Rattle.std.specs.List.{Contains};
+ghost use Rattle.lattice.specs.Frontiers.{is_beyond};
+ghost use Rattle.antichain.specs.Antichains.{IsFrontier};
+ghost use Rattle.update.specs.Updates.{size, IsConsolidated};
+ghost use Rattle.update.specs.Refusals.{IsMemoryOrOverflow};
+ghost use Rattle.update.specs.declared.refusal.Refusal.{Refusal};
+ghost use Rattle.batch.specs.Intervals.{is_interval_of};
+ghost use Rattle.trace.specs.Readings.{Insertion, all_updates};
+ghost use Rattle.spine.specs.Spines.{boundaries, stored};
+ghost use Rattle.join.specs.Pairs.{pairs};
+ghost use Rattle.join.specs.Sides.{all_rows_have};
+ghost use Rattle.operator.specs.Arrangements.{times_from};
+ghost use Rattle.operator_laws.specs.Joining.{IsAnswer};
+ghost use Rattle.operator.specs.Joins.{IsSide, IsBatchOf, IsFitting};
+
+use crate::frontier::antichain_of;
+use antichain::Antichain;
+use batch::{Batch, Builder};
+use join::JoinState;
+use lattice::{Lattice, Minimum};
+use spine::Spine;
+use std::alloc::Global;
+use std::marker::Model;
+use update::{Refusal, Update};
+
+/// A join of two spines by the first columns of their rows. A contract sees the boundary up to which each side was
+/// acknowledged, the number of the hold at each side's arrangement, and the widths of both sides' rows.
+#[derive(Drop)]
+pub struct Joining<T: Minimum> {
+    state: JoinState<T, Spine<T>, Spine<T>>,
+    left_hold: usize,
+    right_hold: usize,
+    left_width: usize,
+    right_width: usize,
+}
+
+impl<T: Minimum> Model for Joining<T> {
+    ghost use Rattle.std.specs.Prelude.{◌≤◌, ◌+◌};
+    ghost use Rattle.operator.specs.Joins.{JoiningView, IsFitting};
+
+    ghost Value = { JoiningView T };
+
+    ghost view = { λ j. record {
+      state = j.state;
+      left_hold = j.left_hold;
+      right_hold = j.right_hold;
+      left_width = j.left_width;
+      right_width = j.right_width;
+    } };
+
+    ghost invariant = { λ j. IsFitting j.state.key j.left_width j.right_width };
+}
+
+// The frontier that has the least time alone.
+fn least_time<T: Minimum>(alloc: Global) -> Result<Vec<T>, Refusal>
+    ensures is { IfOk result (λ times. times.items ≡ T.least ∷ []) }
+    ensures frontier { IfOk result (λ times. IsFrontier T.below T.cmp times.items) }
+    ensures only { IfErr result (λ refused. refused ≡ Refusal.OutOfMemory) }
+{
+    let mut times = Vec::new(alloc);
+    times.push(T::minimum())?;
+    Ok(times)
+}
+
+// The batch of these updates between two frontiers. A join asks for no worker and no node.
+fn sealed_between<T: Minimum>(
+    alloc: Global,
+    updates: Vec<Update<T>>,
+    lower: &[T],
+    upper: &Antichain<T>,
+) -> Result<Batch<T>, Refusal>
+    requires frontier { IsFrontier T.below T.cmp lower.now }
+    requires interval { IsTrue (is_interval_of T.below lower.now upper.now updates.items) }
+    ensures lower { IfOk result (λ batch. batch.description.lower ≡ lower.now) }
+    ensures upper { IfOk result (λ batch. batch.description.upper ≡ upper.now) }
+    ensures stands { IfOk result (λ batch. IsBatchOf T.below updates.items batch.updates) }
+    ensures refused { IfErr result (IsMemoryOrOverflow (2 ^ 63 ≤ size updates.items)) }
+{
+    let from = antichain_of(alloc, lower)?;
+    Builder::of(0, 0, updates).seal(&from, upper)
+}
+
+impl<T: Minimum> Joining<T> {
+    /// A join by the first `key` columns of rows of these widths, which has taken nothing: both sides are acknowledged
+    /// up to the least time. The holds are the numbers of this join's holds at the arrangements of both sides.
+    /// [`Refusal::OutOfMemory`] only if memory for two times was refused.
+    pub fn new(
+        alloc: Global,
+        key: usize,
+        left_width: usize,
+        right_width: usize,
+        left_hold: usize,
+        right_hold: usize,
+    ) -> Result<Joining<T>, Refusal>
+        requires { IsFitting key left_width right_width }
+        ensures made { IfOk result (λ made. made ≡ record {
+          state = record { key = key; left = T.least ∷ []; right = T.least ∷ []; looked = 0 };
+          left_hold = left_hold;
+          right_hold = right_hold;
+          left_width = left_width;
+          right_width = right_width;
+        }) }
+        ensures only { IfErr result (λ refused. refused ≡ Refusal.OutOfMemory) }
+    {
+        let left = least_time(alloc)?;
+        let right = least_time(alloc)?;
+        Ok(Joining {
+            state: JoinState::new(key, left, right),
+            left_hold,
+            right_hold,
+            left_width,
+            right_width,
+        })
+    }
+
+    /// The number of the hold at the left arrangement. Takes no memory.
+    pub fn left_hold(&self) -> usize
+        ensures { result ≡ self.now.left_hold }
+    {
+        self.left_hold
+    }
+
+    /// The number of the hold at the right arrangement. Takes no memory.
+    pub fn right_hold(&self) -> usize
+        ensures { result ≡ self.now.right_hold }
+    {
+        self.right_hold
+    }
+
+    /// Tells the prover that the widths fit the key, and that both boundaries are frontiers. Costs nothing.
+    pub fn known(&self)
+        ensures fitting { IsFitting self.now.state.key self.now.left_width self.now.right_width }
+        ensures left { IsFrontier T.below T.cmp self.now.state.left }
+        ensures right { IsFrontier T.below T.cmp self.now.state.right }
+    {
+        let _left = self.state.left();
+        let _right = self.state.right();
+    }
+
+    /// How many updates of the other side were read in all answered calls. It stays at its greatest value. Takes no
+    /// memory.
+    pub fn looked(&self) -> u64
+        ensures { result ≡ self.now.state.looked }
+    {
+        self.state.looked()
+    }
+
+    /// Takes all updates that wait at the left port, and returns their pairs with all that the right side has
+    /// acknowledged, consolidated. `upper` is the frontier that the left spine has reached: the left side is then
+    /// acknowledged up to it.
+    ///
+    /// The times of the updates are between the left boundary and `upper`. The right spine has the right boundary and may
+    /// be read at all times. Rows have the widths of their sides. If the call is refused, then the join stays as it was.
+    ///
+    /// - [`Refusal::Overflow`] only if the size of the updates, or that size times the size of what the right side has
+    ///   acknowledged, is at least 2^63.
+    /// - [`Refusal::OutOfMemory`] only if memory was refused: for pairs, or for frontiers.
+    ///
+    /// Cost: n log n for the updates, and then as [`JoinState::take_left`].
+    pub fn take_left(
+        &mut self,
+        alloc: Global,
+        updates: Vec<Update<T>>,
+        upper: &Antichain<T>,
+        right: &Spine<T>,
+    ) -> Result<Vec<Update<T>>, Refusal>
+        requires rows { IsTrue (all_rows_have self.old.left_width updates.items) }
+        requires times { IsTrue (times_from T.below T.least updates.items) }
+        requires interval { IsTrue (is_interval_of T.below self.old.state.left
+            upper.now updates.items) }
+        requires readable { Contains (boundaries right.now) self.old.state.right }
+        requires right_rows { IsTrue (all_rows_have self.old.right_width (stored right.now)) }
+        requires since { (t : T) → is_beyond T.below right.now.since t ≡ T.below T.least t }
+        ensures answer { (inserted taken : List (Insertion T))
+            → IsSide T.below T.least right.now inserted taken self.old.state.right
+            → IfOk result (λ out. IsAnswer T.below
+            (pairs T.joined self.old.state.key updates.items (all_updates taken))
+            updates.items (all_updates taken) out.items) }
+        ensures consolidated { IfOk result (λ out. IsConsolidated T.cmp out.items) }
+        ensures width { IfOk result (λ out. IsTrue (all_rows_have
+            (self.old.left_width + self.old.right_width - self.old.state.key) out.items)) }
+        ensures acknowledged { OnOk result (self.new ≡ record self.old {
+          state = record self.old.state {
+            left = upper.now;
+            looked = self.new.state.looked;
+          };
+        }) }
+        ensures same { OnErr result (self.new ≡ self.old) }
+        ensures refused { IfErr result (IsMemoryOrOverflow ((inserted taken : List (Insertion T))
+            → IsSide T.below T.least right.now inserted taken self.old.state.right
+            → (2 ^ 63 ≤ size updates.items)
+            ⊎ (2 ^ 63 ≤ size updates.items * size (all_updates taken)))) }
+    {
+        let batch = sealed_between(alloc, updates, self.state.left(), upper)?;
+        self.state.take_left(alloc, &batch, right)
+    }
+
+    /// Takes all updates that wait at the right port, and returns their pairs with all that the left side has
+    /// acknowledged, consolidated. It is [`take_left`](Joining::take_left) with both sides exchanged: the left row comes
+    /// first in each pair, and refusals and cost are the same.
+    pub fn take_right(
+        &mut self,
+        alloc: Global,
+        updates: Vec<Update<T>>,
+        upper: &Antichain<T>,
+        left: &Spine<T>,
+    ) -> Result<Vec<Update<T>>, Refusal>
+        requires rows { IsTrue (all_rows_have self.old.right_width updates.items) }
+        requires times { IsTrue (times_from T.below T.least updates.items) }
+        requires interval { IsTrue (is_interval_of T.below self.old.state.right
+            upper.now updates.items) }
+        requires readable { Contains (boundaries left.now) self.old.state.left }
+        requires left_rows { IsTrue (all_rows_have self.old.left_width (stored left.now)) }
+        requires since { (t : T) → is_beyond T.below left.now.since t ≡ T.below T.least t }
+        ensures answer { (inserted taken : List (Insertion T))
+            → IsSide T.below T.least left.now inserted taken self.old.state.left
+            → IfOk result (λ out. IsAnswer T.below
+            (pairs T.joined self.old.state.key (all_updates taken) updates.items)
+            updates.items (all_updates taken) out.items) }
+        ensures consolidated { IfOk result (λ out. IsConsolidated T.cmp out.items) }
+        ensures width { IfOk result (λ out. IsTrue (all_rows_have
+            (self.old.left_width + self.old.right_width - self.old.state.key) out.items)) }
+        ensures acknowledged { OnOk result (self.new ≡ record self.old {
+          state = record self.old.state {
+            right = upper.now;
+            looked = self.new.state.looked;
+          };
+        }) }
+        ensures same { OnErr result (self.new ≡ self.old) }
+        ensures refused { IfErr result (IsMemoryOrOverflow ((inserted taken : List (Insertion T))
+            → IsSide T.below T.least left.now inserted taken self.old.state.left
+            → (2 ^ 63 ≤ size updates.items)
+            ⊎ (2 ^ 63 ≤ size updates.items * size (all_updates taken)))) }
+    {
+        let batch = sealed_between(alloc, updates, self.state.right(), upper)?;
+        self.state.take_right(alloc, &batch, left)
+    }
+}

@@ -1,0 +1,6 @@
+pub mod GatheringLemmas
+pub mod ArrangingLemmas
+pub mod ReducingLemmas
+pub mod QueueLemmas
+pub mod JoiningLemmas
+pub mod WorkingLemmas

@@ -1,0 +1,76 @@
+//! What the events of a worker make of a reduction. The functions do nothing.
+ghost use Rattle.std.specs.Prelude.{◌≡◌, ℕ, List, [], ◌∷◌, IsTrue, false};
+ghost use Rattle.update.specs.declared.change.Update.{Update};
+ghost use Rattle.plan.specs.Changes.{has_passed};
+ghost use Rattle.plan.specs.declared.node.Kind.{Kind};
+ghost use Rattle.plan.specs.declared.node.Node.TheVariants.{Reduce};
+ghost use Rattle.machine.specs.declared.histories.event.Bundle.{Bundle};
+ghost use Rattle.machine.specs.declared.histories.event.Emission.{Emission};
+ghost use Rattle.machine.specs.declared.histories.event.Event.{Event};
+ghost use Rattle.machine.specs.declared.histories.event.Event.TheVariants.{Take, TakeHeld};
+ghost use Rattle.machine.specs.Histories.Dataflows.{Dataflow, IsDataflow, node_of};
+ghost use Rattle.machine.specs.Histories.States.{State};
+ghost use Rattle.machine.specs.Histories.Outstanding.{input_frontier};
+ghost use Rattle.machine.specs.Histories.NodeLaws.{was_passed};
+ghost use Rattle.machine.specs.Histories.{initial_state, next_state, give_state, IsTake, IsGive, IsAllowed};
+ghost use Rattle.operator_laws.specs.Gathering.{is_of, IsCut, IsInHand, IsStamped, IsHeldFor};
+ghost use Rattle.operator_laws.specs.Reducing.{IsReducing, IsPendingWith, IsFound};
+
+use lattice::Minimum;
+
+/// Before the first event nothing is pending.
+pub fn reducing_begins<T: Minimum>()
+    ensures { (p : Dataflow) (n k source : ℕ) (kind : Kind) → node_of p n ≡ Reduce kind source
+        → IsReducing T.below p (initial_state T.below T.least p) n k (T.least ∷ []) [] }
+{}
+
+/// Whatever else happens leaves it, and so does turning to held times.
+pub fn reduced_elsewhere<T: Minimum>()
+    ensures { (p : Dataflow) → IsDataflow p
+        → (w : State T) (n k : ℕ) (upper pending : List T)
+        → IsReducing T.below p w n k upper pending
+        → (e : Event T) → IsAllowed T.below p w e → is_of n k e ≡ false
+        → IsReducing T.below p (next_state T.below p w e) n k upper pending }
+{}
+
+/// A bundle makes times pending.
+pub fn reduced_takes<T: Minimum>()
+    ensures { (p : Dataflow) → IsDataflow p
+        → (w : State T) (number : ℕ) (bundle : Bundle T) (upper pending more : List T)
+        → IsReducing T.below p w bundle.place.node bundle.place.worker upper pending
+        → IsPendingWith T.below pending bundle.updates more
+        → IsStamped T.below bundle → IsTake T.below p w number bundle
+        → IsReducing T.below p (next_state T.below p w (Take number bundle))
+        bundle.place.node bundle.place.worker upper more }
+{}
+
+/// Once the worker has turned to held times, what the input frontier has passed is recorded.
+pub fn turning_leaves_it<T: Minimum>()
+    ensures { (p : Dataflow) (w : State T) (n k : ℕ) (t : T)
+        → IsTrue (has_passed T.below (input_frontier T.below p w n) t)
+        → IsTrue (was_passed T.below n k (next_state T.below p w (TakeHeld k n)).observed t) }
+{}
+
+/// What was found may be given, and the rest held.
+pub fn reduced_gives<T: Minimum>()
+    ensures { (p : Dataflow) → IsDataflow p
+        → (w : State T) (g : Emission T) (upper pending frontier rest held : List T)
+        → (sent : List (Bundle T))
+        → IsReducing T.below p w g.node g.worker upper pending → IsInHand p w g.node g.worker
+        → IsFound T.below p w g.node g.worker upper pending frontier g.updates rest
+        → IsHeldFor T.below held rest → IsCut T.below p g sent
+        → IsGive T.below p w g held sent
+        × IsReducing T.below p (give_state T.below p w g held sent) g.node g.worker frontier rest }
+{}
+
+/// And so may nothing, at any time.
+pub fn reduced_holds_back<T: Minimum>()
+    ensures { (p : Dataflow) → IsDataflow p
+        → (w : State T) (n k : ℕ) (upper pending held : List T)
+        → IsReducing T.below p w n k upper pending → IsInHand p w n k
+        → IsHeldFor T.below held pending
+        → IsGive T.below p w (record { node = n; worker = k; updates = [] }) held []
+        × IsReducing T.below p
+        (give_state T.below p w (record { node = n; worker = k; updates = [] }) held [])
+        n k upper pending }
+{}

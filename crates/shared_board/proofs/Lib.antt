@@ -1,0 +1,5 @@
+pub mod SharedLemmas
+pub mod SharedReadingLemmas
+pub mod ActorLemmas
+pub mod ApartLemmas
+pub mod QuietLemmas

@@ -1,0 +1,20 @@
+use Rattle.std.proofs.Common.{List, ◌∷◌, subst}
+use Rattle.hub.specs.declared.view.Entry.{Entry}
+use Rattle.hub.specs.Histories.{entry}
+use Rattle.shared_board.specs.declared.event.Doing.{Doing}
+use Rattle.shared_board.specs.Tenures.{SharedState, StandsFor, doing, events, left_by, terms_of_board}
+use Rattle.machine.specs.Histories.{IsGive}
+use Rattle.shared_board.proofs.SharedLemmas.{gave}
+use Rattle.shared_board.proofs.board.SharedBoard.give.Goals as goal
+
+pub returns-clause-stands : goal.returns-clause-stands
+returns-clause-stands g c =
+    let below = g.T.PartialOrder.below in
+    let least = g.T.Minimum.least in
+    let cmp = g.T.Ord.cmp in
+    let old : SharedState g.row.T.Denot = record { board = c.self.inside.board; actors = c.self.inside.actors; accepted = c.self.inside.accepted; too_large = c.self.inside.too_large } in
+    let actor = c.args.emission.worker in
+    let new : SharedState g.row.T.Denot = record old { board = c.give.new.self } in
+    subst (λ (b : SharedState g.row.T.Denot). (es : List (Entry (Doing g.row.T.Denot))) → StandsFor below least cmp b es → IsGive below b.board.dataflow (left_by below least b.board.dataflow es) c.args.emission c.args.held c.args.sent
+    → StandsFor below least cmp new (entry actor (doing (terms_of_board b) c.give.new.self.last) ∷ es)) c.self.view_is
+    (λ es a may. gave below least cmp old c.give.new.self c.args.emission c.args.held c.args.sent c.give.result c.give.ensures.given c.give.ensures.unchanged es a (c.give.ensures.stands (events es) a.stands may))

@@ -1,0 +1,5 @@
+-- The definitions of a board in a hub, and of what an actor knows of it.
+pub use Rattle.lattice.specs.Frontiers
+pub mod Tenures
+pub mod Found
+pub mod Large

@@ -1,0 +1,404 @@
+//! An actor at a hub: it enters, does one thing with the board, and leaves.
+//!
+//! Each call is one tenure, and so one event of this actor. What others did since its last tenure lies below that event, and
+//! the answers are right for all that was done by then. Each call waits until the board is at home.
+ghost use Rattle.std.specs.Prelude.{◌≡◌, ◌≤◌, ◌<◌, ◌+◌, ◌↔◌, [], false, ℕ, None, Some, IfOk, IfErr, IfSome, OnOk, OnErr, IsTrue, length};
+ghost use Rattle.std.specs.List.{list_any};
+ghost use Rattle.std.specs.Arc.{arc_value};
+ghost use Rattle.hub.specs.Passes.{hub_id};
+ghost use Rattle.antichain.specs.Antichains.{SameElements};
+ghost use Rattle.update.specs.Bags.{Alike, IsBag};
+ghost use Rattle.update.specs.Refusals.{IsRefusalBy};
+ghost use Rattle.update.specs.declared.refusal.Refusal.TheVariants.{OutOfMemory};
+ghost use Rattle.plan.specs.Changes.{AreDifferences, has_passed, query_at};
+ghost use Rattle.plan.specs.Nodes.{is_output};
+ghost use Rattle.machine.specs.declared.histories.event.Event.TheVariants.{Advance, Feed, Give, Look, Take, TakeHeld};
+ghost use Rattle.machine.specs.Histories.{IsGive, IsInput};
+ghost use Rattle.machine.specs.Histories.Dataflows.{node_of};
+ghost use Rattle.machine.specs.Histories.Outstanding.{frontier, input_frontier};
+ghost use Rattle.machine.specs.Histories.Promises.{changes_in};
+ghost use Rattle.machine.specs.Histories.Readings.{IsQuiet};
+ghost use Rattle.machine.specs.Histories.States.{change_to, held_at, place, queue};
+ghost use Rattle.shared_board.specs.Found.{AreDifferencesFound, IsChangesRefusalFound, IsReadRefusalFound, WasQuiet, WasTooLarge, changes_refusal_found, feed_refusal_found, frontier_found, input_frontier_found, query_found, read_refusal_found};
+ghost use Rattle.shared_board.specs.Large.{HasNoSmallBound};
+ghost use Rattle.shared_board.specs.Tenures.{Adds, IsActor, IsFirst, WaitsOrNotIn, terms_for, terms_in, state_found, state_left, feed_refusal_in, advance_refusal_in, read_refusal_in, changes_refusal_in, IsReadRefusalIn, IsChangesRefusalIn};
+
+use crate::protocol::BoardProtocol;
+use antichain::Antichain;
+use hub::{Hub, Pass};
+use lattice::Minimum;
+use machine::{Bundle, Bundles, Emission, Ungiven};
+use plan::{NodeId, Plan};
+use std::alloc::Global;
+use std::marker::{Model, PhantomData};
+use std::sync::{Arc, Wait};
+use update::{Bag, Refusal, Times, Update};
+
+/// An actor: a worker or a client, with its pass. A contract sees what its pass has seen.
+#[derive(Drop)]
+pub struct Actor<T: Minimum, P: BoardProtocol<T>> {
+    number: usize,
+    hub: Arc<Hub<P>, Global>,
+    // Always there between two calls.
+    pass: Option<Pass<P>>,
+    // How many changes the board had accepted when the actor left it last.
+    accepted: Option<u64>,
+    of: PhantomData<T>,
+}
+
+impl<T: Minimum, P: BoardProtocol<T>> Model for Actor<T, P> {
+    ghost use Rattle.std.specs.Prelude.{◌≡◌, ℕ, [], IsSomeAnd, length, Some};
+    ghost use Rattle.std.specs.Arc.{arc_value};
+    ghost use Rattle.std.specs.Option.{unwrap_or};
+    ghost use Rattle.hub.specs.Known.{Known};
+    ghost use Rattle.hub.specs.Passes.{hub_id};
+    ghost use Rattle.shared_board.specs.declared.event.Doing.{Doing};
+    ghost use Rattle.shared_board.specs.Tenures.{IsActor, state_left};
+
+    ghost Value = { Known (Doing T) };
+
+    ghost view = { λ a. unwrap_or a.pass
+        (record { hub = hub_id (arc_value a.hub); number = a.number; seen = [] }) };
+
+    ghost invariant = { λ a. IsSomeAnd a.pass (λ p.
+        (p.hub ≡ hub_id (arc_value a.hub)) × (p.number ≡ a.number)
+        × IsActor T.below T.least p
+        × ((n : ℕ) → a.accepted ≡ Some n → length (state_left T.below T.least p).fed ≡ n)) };
+}
+
+impl<T: Minimum, P: BoardProtocol<T>> Actor<T, P> {
+    // The actor of a pass that has seen nothing. It looks once, so that it knows the terms of the board. A board on other
+    // terms, which cannot be there, is answered with `OutOfMemory`.
+    pub(crate) fn first<R: Wait>(
+        rt: &R,
+        hub: Arc<Hub<P>, Global>,
+        pass: Pass<P>,
+        number: usize,
+        plan: &Plan,
+        workers: usize,
+        clients: usize,
+    ) -> Result<Actor<T, P>, Refusal>
+        requires actor { number < workers + clients }
+        requires pass { pass ≡ record { hub = hub_id (arc_value hub); number = number; seen = [] } }
+        ensures first { IfOk result (λ actor.
+            IsFirst (terms_for plan.now workers clients) number actor) }
+        ensures hub { IfOk result (λ actor. actor.hub ≡ pass.hub) }
+        ensures refused { IfErr result (λ refusal. refusal ≡ OutOfMemory) }
+    {
+        let mut tenure = hub.enter(rt, pass);
+        let board = tenure.state();
+        let right = board.is_on(plan, workers, clients);
+        board.look(number);
+        let accepted = board.accepted();
+        let pass = tenure.leave();
+        if !right {
+            return Err(Refusal::OutOfMemory);
+        }
+        Ok(Actor {
+            number,
+            hub,
+            pass: Some(pass),
+            accepted,
+            of: PhantomData,
+        })
+    }
+
+    /// Costs nothing. It tells the prover what holds of each actor.
+    pub fn known(&self)
+        ensures { IsActor T.below T.least self.now }
+    {
+        let _ = &self.number;
+    }
+
+    /// The actor looks. Takes no memory.
+    pub fn look<R: Wait>(&mut self, rt: &R)
+        ensures looked { Adds self.old (Look self.old.number) self.new }
+    {
+        let Some(pass) = self.pass.take() else {
+            unreachable!()
+        };
+        let mut tenure = self.hub.enter(rt, pass);
+        let board = tenure.state();
+        board.look(self.number);
+        self.accepted = board.accepted();
+        self.pass = Some(tenure.leave());
+    }
+
+    /// A client changes an input's table. Refused as `Board::feed` says; then the event is a look.
+    pub fn feed<R: Wait>(&mut self, rt: &R, input: NodeId, update: Update<T>) -> Result<(), Refusal>
+        requires client { (terms_in self.old.seen).dataflow.workers ≤ self.old.number }
+        requires input { IsInput (terms_in self.old.seen).dataflow input }
+        ensures fed { OnOk result
+            (Adds self.old (Feed self.old.number (change_to input update)) self.new) }
+        ensures unchanged { OnErr result (Adds self.old (Look self.old.number) self.new) }
+        ensures accepted { OnOk result
+            (feed_refusal_found T.below T.least self.old self.new (change_to input update) ≡ None) }
+        ensures refused { IfErr result (IsRefusalBy
+            (feed_refusal_found T.below T.least self.old self.new (change_to input update))) }
+    {
+        let Some(pass) = self.pass.take() else {
+            unreachable!()
+        };
+        let mut tenure = self.hub.enter(rt, pass);
+        let board = tenure.state();
+        let answer = board.feed(self.number, input, update);
+        self.accepted = board.accepted();
+        self.pass = Some(tenure.leave());
+        answer
+    }
+
+    /// A client moves an input's frontier forward. Refused as `Board::advance` says; then the event is a look. Takes no
+    /// memory.
+    pub fn advance<R: Wait>(
+        &mut self,
+        rt: &R,
+        input: NodeId,
+        times: Times<T>,
+    ) -> Result<(), Refusal>
+        requires client { (terms_in self.old.seen).dataflow.workers ≤ self.old.number }
+        requires input { IsInput (terms_in self.old.seen).dataflow input }
+        ensures advanced { OnOk result
+            (Adds self.old (Advance self.old.number input times) self.new) }
+        ensures unchanged { OnErr result (Adds self.old (Look self.old.number) self.new) }
+        ensures accepted { OnOk result
+            (advance_refusal_in T.below (state_found T.below T.least self.new) input times ≡ None) }
+        ensures refused { IfErr result (λ refusal.
+            advance_refusal_in T.below (state_found T.below T.least self.new) input times
+            ≡ Some refusal) }
+    {
+        let Some(pass) = self.pass.take() else {
+            unreachable!()
+        };
+        let mut tenure = self.hub.enter(rt, pass);
+        let board = tenure.state();
+        let answer = board.advance(self.number, input, times);
+        self.accepted = board.accepted();
+        self.pass = Some(tenure.leave());
+        answer
+    }
+
+    /// A client closes an input. Never refused. Takes no memory.
+    pub fn close<R: Wait>(&mut self, rt: &R, input: NodeId)
+        requires client { (terms_in self.old.seen).dataflow.workers ≤ self.old.number }
+        requires input { IsInput (terms_in self.old.seen).dataflow input }
+        ensures closed { Adds self.old (Advance self.old.number input []) self.new }
+    {
+        let Some(pass) = self.pass.take() else {
+            unreachable!()
+        };
+        let mut tenure = self.hub.enter(rt, pass);
+        let board = tenure.state();
+        board.close(self.number, input);
+        self.accepted = board.accepted();
+        self.pass = Some(tenure.leave());
+    }
+
+    /// The frontier of a view. Refused only with `OutOfMemory`.
+    pub fn frontier<R: Wait>(&mut self, rt: &R, view: NodeId) -> Result<Antichain<T>, Refusal>
+        requires within { view < length (terms_in self.old.seen).dataflow.nodes }
+        ensures looked { Adds self.old (Look self.old.number) self.new }
+        ensures frontier { IfOk result (λ found.
+            SameElements found (frontier_found T.below T.least self.old self.new view)) }
+        ensures refused { IfErr result (λ refusal. refusal ≡ OutOfMemory) }
+    {
+        let Some(pass) = self.pass.take() else {
+            unreachable!()
+        };
+        let mut tenure = self.hub.enter(rt, pass);
+        let board = tenure.state();
+        let answer = board.frontier(self.number, view);
+        self.accepted = board.accepted();
+        self.pass = Some(tenure.leave());
+        answer
+    }
+
+    /// A view's rows at a time: the query, computed from scratch, on the changes fed up to that time. Refused as
+    /// `Board::read` says.
+    pub fn read<R: Wait>(&mut self, rt: &R, view: NodeId, t: T) -> Result<Bag, Refusal>
+        requires within { view < length (terms_in self.old.seen).dataflow.nodes }
+        requires view { IsTrue (is_output (node_of (terms_in self.old.seen).dataflow view)) }
+        ensures looked { Adds self.old (Look self.old.number) self.new }
+        ensures accepted { OnOk result
+            (read_refusal_found T.below T.least self.old self.new view t ≡ None) }
+        ensures refused { IfErr result
+            (IsReadRefusalFound T.below T.least self.old self.new view t) }
+        ensures bag { IfOk result IsBag }
+        ensures query { IfOk result (λ bag. Alike bag
+            (query_found T.below T.least self.old self.new view t)) }
+    {
+        let Some(pass) = self.pass.take() else {
+            unreachable!()
+        };
+        let mut tenure = self.hub.enter(rt, pass);
+        let board = tenure.state();
+        let answer = board.read(self.number, view, t);
+        self.accepted = board.accepted();
+        self.pass = Some(tenure.leave());
+        answer
+    }
+
+    /// A view's changes at the times that its frontier has passed. Refused as `Board::changes` says.
+    pub fn changes<R: Wait>(&mut self, rt: &R, view: NodeId) -> Result<Vec<Update<T>>, Refusal>
+        requires within { view < length (terms_in self.old.seen).dataflow.nodes }
+        requires view { IsTrue (is_output (node_of (terms_in self.old.seen).dataflow view)) }
+        ensures looked { Adds self.old (Look self.old.number) self.new }
+        ensures accepted { OnOk result
+            (changes_refusal_found T.below T.least self.old self.new view ≡ None) }
+        ensures refused { IfErr result
+            (IsChangesRefusalFound T.below T.least self.old self.new view) }
+        ensures differences { IfOk result (λ us.
+            AreDifferencesFound T.below T.least self.old self.new T.cmp view us.items) }
+    {
+        let Some(pass) = self.pass.take() else {
+            unreachable!()
+        };
+        let mut tenure = self.hub.enter(rt, pass);
+        let board = tenure.state();
+        let answer = board.changes(self.number, view);
+        self.accepted = board.accepted();
+        self.pass = Some(tenure.leave());
+        answer
+    }
+
+    /// Whether the board is quiet. Takes no memory.
+    ///
+    /// Cost: linear in the nodes times the workers, and that of `Board::input_has_passed` for each held time.
+    pub fn is_quiet<R: Wait>(&mut self, rt: &R) -> bool
+        ensures looked { Adds self.old (Look self.old.number) self.new }
+        ensures quiet { IsTrue result ↔ WasQuiet T.below T.least self.old self.new }
+    {
+        let Some(pass) = self.pass.take() else {
+            unreachable!()
+        };
+        let mut tenure = self.hub.enter(rt, pass);
+        let board = tenure.state();
+        let answer = board.is_quiet(self.number);
+        self.accepted = board.accepted();
+        self.pass = Some(tenure.leave());
+        answer
+    }
+
+    /// A worker with nothing in hand takes the first bundle that waits for it at a node. With it comes whether more wait there.
+    /// `None` if no bundle waits. Refused only with `OutOfMemory`. The event is a take only if there is a bundle in the answer;
+    /// otherwise it is a look.
+    pub fn take_first<R: Wait>(
+        &mut self,
+        rt: &R,
+        node: NodeId,
+    ) -> Result<Option<(Bundle<T>, bool)>, Refusal>
+        requires worker { self.old.number < (terms_in self.old.seen).dataflow.workers }
+        requires free { (state_left T.below T.least self.old).hand self.old.number ≡ None }
+        ensures taken { IfOk result (λ found. IfSome found (λ t. (t.0.place.node ≡ node)
+            × (t.0.place.worker ≡ self.old.number) × Adds self.old (Take 0 t.0) self.new)) }
+        ensures more { IfOk result (λ found. IfSome found (λ t.
+            WaitsOrNotIn t.1 node self.old.number (state_left T.below T.least self.new))) }
+        ensures none { IfOk result (λ found. found ≡ None
+            → Adds self.old (Look self.old.number) self.new
+            × ((port : ℕ) → queue (place node port self.old.number)
+            (state_found T.below T.least self.new).in_flight ≡ [])) }
+        ensures refused { IfErr result (λ refusal. (refusal ≡ OutOfMemory)
+            × Adds self.old (Look self.old.number) self.new) }
+    {
+        let Some(pass) = self.pass.take() else {
+            unreachable!()
+        };
+        let mut tenure = self.hub.enter(rt, pass);
+        let board = tenure.state();
+        let answer = board.take_first(self.number, node);
+        self.accepted = board.accepted();
+        self.pass = Some(tenure.leave());
+        answer
+    }
+
+    /// A worker with nothing in hand turns to the times that it holds at a node, if the node's input frontier has passed one
+    /// of them. The answer is that frontier, as the tenure found it. Refused only with `OutOfMemory`. The event is a turn only
+    /// if there is a frontier in the answer; otherwise it is a look.
+    pub fn turn<R: Wait>(&mut self, rt: &R, node: NodeId) -> Result<Option<Antichain<T>>, Refusal>
+        requires worker { self.old.number < (terms_in self.old.seen).dataflow.workers }
+        requires within { node < length (terms_in self.old.seen).dataflow.nodes }
+        requires free { (state_left T.below T.least self.old).hand self.old.number ≡ None }
+        ensures turned { IfOk result (λ found. IfSome found (λ upper.
+            Adds self.old (TakeHeld self.old.number node) self.new
+            × SameElements upper (input_frontier_found T.below T.least self.old self.new node))) }
+        ensures none { IfOk result (λ found. found ≡ None
+            → Adds self.old (Look self.old.number) self.new
+            × (list_any (has_passed T.below
+            (input_frontier_found T.below T.least self.old self.new node))
+            (held_at node self.old.number (state_found T.below T.least self.new).held) ≡ false)) }
+        ensures refused { IfErr result (λ refusal. (refusal ≡ OutOfMemory)
+            × Adds self.old (Look self.old.number) self.new) }
+    {
+        let Some(pass) = self.pass.take() else {
+            unreachable!()
+        };
+        let mut tenure = self.hub.enter(rt, pass);
+        let board = tenure.state();
+        let answer = board.turn(self.number, node);
+        self.accepted = board.accepted();
+        self.pass = Some(tenure.leave());
+        answer
+    }
+
+    /// A worker gives what it computed at the node that it has in hand. The give must be allowed in the state that the worker
+    /// left last; then it is allowed whatever others have done meanwhile. Refused only with `OutOfMemory`; then all arguments come back, and the event is a look.
+    pub fn give<R: Wait>(
+        &mut self,
+        rt: &R,
+        emission: Emission<T>,
+        held: Times<T>,
+        sent: Bundles<T>,
+    ) -> Result<(), Ungiven<T>>
+        requires own { emission.worker ≡ self.old.number }
+        requires worker { self.old.number < (terms_in self.old.seen).dataflow.workers }
+        requires within { emission.node < length (terms_in self.old.seen).dataflow.nodes }
+        requires allowed { IsGive T.below (terms_in self.old.seen).dataflow
+            (state_left T.below T.least self.old) emission held sent }
+        ensures given { OnOk result (Adds self.old (Give emission held sent) self.new) }
+        ensures returned { IfErr result (λ r. Adds self.old (Look self.old.number) self.new
+            × (r ≡ record { emission = emission; held = held; sent = sent })) }
+    {
+        let Some(pass) = self.pass.take() else {
+            unreachable!()
+        };
+        let mut tenure = self.hub.enter(rt, pass);
+        let board = tenure.state();
+        let answer = board.give(emission, held, sent);
+        self.accepted = board.accepted();
+        self.pass = Some(tenure.leave());
+        answer
+    }
+
+    /// A worker tells that a number is too large with the changes that it has seen. The others can see it, unless more changes
+    /// were accepted meanwhile. Takes no memory.
+    pub fn tell_too_large<R: Wait>(&mut self, rt: &R)
+        requires cause { HasNoSmallBound T.below T.cmp (terms_in self.old.seen).dataflow.nodes
+            (changes_in (state_left T.below T.least self.old)) }
+        ensures looked { Adds self.old (Look self.old.number) self.new }
+    {
+        let Some(pass) = self.pass.take() else {
+            unreachable!()
+        };
+        let mut tenure = self.hub.enter(rt, pass);
+        let board = tenure.state();
+        board.tell_too_large(self.number, self.accepted);
+        self.accepted = board.accepted();
+        self.pass = Some(tenure.leave());
+    }
+
+    /// Whether a worker told that a number is too large with the changes accepted so far. Takes no memory.
+    pub fn is_too_large<R: Wait>(&mut self, rt: &R) -> bool
+        ensures looked { Adds self.old (Look self.old.number) self.new }
+        ensures cause { IsTrue result → WasTooLarge T.below T.least self.old self.new T.cmp }
+    {
+        let Some(pass) = self.pass.take() else {
+            unreachable!()
+        };
+        let mut tenure = self.hub.enter(rt, pass);
+        let board = tenure.state();
+        let answer = board.is_too_large();
+        board.look(self.number);
+        self.accepted = board.accepted();
+        self.pass = Some(tenure.leave());
+        answer
+    }
+}

@@ -1,0 +1,447 @@
+//! The board that actors share, and what they tell one another beside it.
+//!
+//! Each call that changes something is one event of the board, by the actor that is named. So each contract has two parts:
+//! whatever entries the board stood for before the call, it stands afterwards for one more; and the answer is right for each
+//! list of entries that it stood for. A tenure of a hub makes just one such call.
+//!
+//! Beside the board lies whether some worker found a number too large. That must be told with care, since a bound may shrink
+//! when a change is accepted. So the board counts the changes that it accepted. A worker tells only if there are as many as
+//! when it last came, for then they are the same; and the next change that is accepted takes the word back.
+ghost use Rattle.std.specs.Prelude.{◌≡◌, ◌<◌, ◌↔◌, ℕ, ◌≤◌, ◌+◌, ◌^◌, List, [], ◌∷◌, ◌++◌, false, None, Some, IfOk, IfErr, IfSome, OnOk, OnErr, IsTrue, length, get_or};
+ghost use Rattle.std.specs.List.{list_any};
+ghost use Rattle.hub.specs.declared.view.Entry.{Entry};
+ghost use Rattle.hub.specs.Histories.{entry};
+ghost use Rattle.antichain.specs.Antichains.{SameElements};
+ghost use Rattle.update.specs.Bags.{Alike, IsBag};
+ghost use Rattle.update.specs.Refusals.{IsRefusalBy};
+ghost use Rattle.update.specs.declared.refusal.Refusal.TheVariants.{OutOfMemory};
+ghost use Rattle.plan.specs.Changes.{AreDifferences, has_passed, query_at};
+ghost use Rattle.plan.specs.Nodes.{is_output};
+ghost use Rattle.machine.specs.declared.histories.event.Event.TheVariants.{Advance, Feed, Give, Look, Take, TakeHeld};
+ghost use Rattle.machine.specs.Histories.{IsInput, IsGive};
+ghost use Rattle.machine.specs.Histories.Dataflows.{node_of};
+ghost use Rattle.machine.specs.Histories.Outstanding.{frontier, input_frontier};
+ghost use Rattle.machine.specs.Histories.Promises.{changes_in};
+ghost use Rattle.machine.specs.Histories.Readings.{IsQuiet};
+ghost use Rattle.machine.specs.Histories.States.{change_to, held_at, place, queue};
+ghost use Rattle.shared_board.specs.declared.event.Doing.{Doing};
+ghost use Rattle.shared_board.specs.Large.{HasNoSmallBound};
+ghost use Rattle.shared_board.specs.Tenures.{IsKeptBeside, StandsFor, WaitsOrNot, doing, left_by, terms_for, terms_of_board, feed_refusal_in, advance_refusal_in, read_refusal_in, changes_refusal_in, IsReadRefusalIn, IsChangesRefusalIn};
+
+use antichain::Antichain;
+use lattice::Minimum;
+use machine::{Board, Bundle, Bundles, Emission, Ungiven};
+use plan::{NodeId, Plan};
+use std::alloc::Global;
+use std::marker::Model;
+use update::{Bag, Refusal, Times, Update};
+
+/// A board, and what its actors tell one another beside it. A contract sees all of it as a `SharedState`.
+#[derive(Drop)]
+pub struct SharedBoard<T: Minimum> {
+    board: Board<T>,
+    // How many actors share it: the workers, and the clients after them.
+    actors: usize,
+    // How many changes it has accepted. `None` once that does not fit in 64 bits.
+    accepted: Option<u64>,
+    // Whether a worker told that a number is too large with these changes.
+    too_large: bool,
+}
+
+impl<T: Minimum> Model for SharedBoard<T> {
+    ghost use Rattle.shared_board.specs.Tenures.{SharedState};
+
+    ghost Value = { SharedState T };
+
+    ghost view = { λ b. record {
+      board = b.board;
+      actors = b.actors;
+      accepted = b.accepted;
+      too_large = b.too_large;
+    } };
+}
+
+// One more than a number. `None` only if there is no number or the sum does not fit.
+fn counted_on(number: Option<u64>) -> Option<u64>
+    ensures one_more { (n : ℕ) → result ≡ Some n → (m : ℕ) × (number ≡ Some m) × (n ≡ m + 1) }
+    ensures kept { (m : ℕ) → number ≡ Some m → m + 1 < 2 ^ 64
+        → result ≡ Some (m + 1) }
+{
+    number?.checked_add(1)
+}
+
+// Whether both are the same number.
+fn is_same_count(now: Option<u64>, then: Option<u64>) -> bool
+    ensures { IsTrue result ↔ (n : ℕ) × (now ≡ Some n) × (then ≡ Some n) }
+{
+    match (now, then) {
+        (Some(now), Some(then)) => now == then,
+        _ => false,
+    }
+}
+
+impl<T: Minimum> SharedBoard<T> {
+    /// A board of a plan on which nothing has happened yet, for this many workers and clients. Refused only with
+    /// `OutOfMemory`.
+    pub fn open(
+        alloc: Global,
+        plan: Plan,
+        workers: usize,
+        clients: usize,
+    ) -> Result<SharedBoard<T>, Refusal>
+        requires workers { (1 ≤ workers) × (workers ≤ 16) }
+        requires clients { clients ≤ 16 }
+        ensures terms { IfOk result (λ b. terms_of_board b ≡ terms_for plan workers clients) }
+        ensures stands { IfOk result (λ b. StandsFor T.below T.least T.cmp b []) }
+        ensures counted { IfOk result (λ b. b.accepted ≡ Some 0) }
+        ensures refused { IfErr result (λ refusal. refusal ≡ OutOfMemory) }
+    {
+        let board = Board::open(alloc, plan, workers)?;
+        board.known();
+        Ok(SharedBoard {
+            board,
+            actors: workers + clients,
+            accepted: Some(0),
+            too_large: false,
+        })
+    }
+
+    /// Whether the board is of this plan, for this many workers and clients. Takes no memory. Cost: one comparison of plans.
+    pub fn is_on(&self, plan: &Plan, workers: usize, clients: usize) -> bool
+        ensures { IsTrue result ↔ (terms_of_board self.now ≡ terms_for plan.now workers clients) }
+    {
+        let same_plan = *self.board.plan() == *plan;
+        let same_workers = self.board.workers() == workers;
+        let same_actors = workers.checked_add(clients) == Some(self.actors);
+        same_plan && same_workers && same_actors
+    }
+
+    /// An actor looks. Takes no memory.
+    pub fn look(&mut self, actor: usize)
+        ensures terms { terms_of_board self.new ≡ terms_of_board self.old }
+        ensures beside { IsKeptBeside self.old self.new }
+        ensures stands { (es : List (Entry (Doing T))) → StandsFor T.below T.least T.cmp self.old es
+            → StandsFor T.below T.least T.cmp self.new
+            (entry actor (doing (terms_of_board self.old) self.new.board.last) ∷ es) }
+        ensures looked { self.new.board.last ≡ Look actor }
+    {
+        self.board.look(actor);
+    }
+
+    /// A client changes an input's table. Refused as [`Board::feed`] says; then the event is a look.
+    pub fn feed(&mut self, client: usize, input: NodeId, update: Update<T>) -> Result<(), Refusal>
+        requires client { self.old.board.dataflow.workers ≤ client }
+        requires actor { client < self.old.actors }
+        requires input { IsInput self.old.board.dataflow input }
+        ensures terms { terms_of_board self.new ≡ terms_of_board self.old }
+        ensures beside { OnErr result (IsKeptBeside self.old self.new) }
+        ensures fed { OnOk result (self.new.board.last ≡ Feed client (change_to input update)) }
+        ensures unchanged { OnErr result (self.new.board.last ≡ Look client) }
+        ensures stands { (es : List (Entry (Doing T))) → StandsFor T.below T.least T.cmp self.old es
+            → StandsFor T.below T.least T.cmp self.new
+            (entry client (doing (terms_of_board self.old) self.new.board.last) ∷ es) }
+        ensures accepted { (es : List (Entry (Doing T)))
+            → StandsFor T.below T.least T.cmp self.old es
+            → OnOk result (feed_refusal_in T.below self.old.board.dataflow
+            (left_by T.below T.least self.old.board.dataflow es) (change_to input update) ≡ None) }
+        ensures refused { (es : List (Entry (Doing T)))
+            → StandsFor T.below T.least T.cmp self.old es
+            → IfErr result (IsRefusalBy (feed_refusal_in T.below self.old.board.dataflow
+            (left_by T.below T.least self.old.board.dataflow es) (change_to input update))) }
+        ensures counted { OnOk result ((n : ℕ) → self.old.accepted ≡ Some n → n + 1 < 2 ^ 64
+            → self.new.accepted ≡ Some (n + 1)) }
+    {
+        self.board.feed(client, input, update)?;
+        self.accepted = counted_on(self.accepted);
+        self.too_large = false;
+        Ok(())
+    }
+
+    /// A client moves an input's frontier forward. Refused as [`Board::advance`] says; then the event is a look. Takes no
+    /// memory.
+    pub fn advance(&mut self, client: usize, input: NodeId, times: Times<T>) -> Result<(), Refusal>
+        requires client { self.old.board.dataflow.workers ≤ client }
+        requires actor { client < self.old.actors }
+        requires input { IsInput self.old.board.dataflow input }
+        ensures terms { terms_of_board self.new ≡ terms_of_board self.old }
+        ensures beside { IsKeptBeside self.old self.new }
+        ensures advanced { OnOk result (self.new.board.last ≡ Advance client input times) }
+        ensures unchanged { OnErr result (self.new.board.last ≡ Look client) }
+        ensures stands { (es : List (Entry (Doing T))) → StandsFor T.below T.least T.cmp self.old es
+            → StandsFor T.below T.least T.cmp self.new
+            (entry client (doing (terms_of_board self.old) self.new.board.last) ∷ es) }
+        ensures accepted { (es : List (Entry (Doing T)))
+            → StandsFor T.below T.least T.cmp self.old es
+            → OnOk result (advance_refusal_in T.below
+            (left_by T.below T.least self.old.board.dataflow es) input times ≡ None) }
+        ensures refused { (es : List (Entry (Doing T)))
+            → StandsFor T.below T.least T.cmp self.old es
+            → IfErr result (λ refusal. advance_refusal_in T.below
+            (left_by T.below T.least self.old.board.dataflow es) input times ≡ Some refusal) }
+    {
+        self.board.advance(client, input, times)
+    }
+
+    /// A client closes an input. Never refused. Takes no memory.
+    pub fn close(&mut self, client: usize, input: NodeId)
+        requires client { self.old.board.dataflow.workers ≤ client }
+        requires actor { client < self.old.actors }
+        requires input { IsInput self.old.board.dataflow input }
+        ensures terms { terms_of_board self.new ≡ terms_of_board self.old }
+        ensures beside { IsKeptBeside self.old self.new }
+        ensures closed { self.new.board.last ≡ Advance client input [] }
+        ensures stands { (es : List (Entry (Doing T))) → StandsFor T.below T.least T.cmp self.old es
+            → StandsFor T.below T.least T.cmp self.new
+            (entry client (doing (terms_of_board self.old) self.new.board.last) ∷ es) }
+    {
+        self.board.close(client, input);
+    }
+
+    /// The frontier of a view. The event is a look. Refused only with `OutOfMemory`.
+    pub fn frontier(&mut self, client: usize, view: NodeId) -> Result<Antichain<T>, Refusal>
+        requires within { view < length self.old.board.dataflow.nodes }
+        ensures terms { terms_of_board self.new ≡ terms_of_board self.old }
+        ensures beside { IsKeptBeside self.old self.new }
+        ensures looked { self.new.board.last ≡ Look client }
+        ensures stands { (es : List (Entry (Doing T))) → StandsFor T.below T.least T.cmp self.old es
+            → StandsFor T.below T.least T.cmp self.new
+            (entry client (doing (terms_of_board self.old) self.new.board.last) ∷ es) }
+        ensures frontier { (es : List (Entry (Doing T)))
+            → StandsFor T.below T.least T.cmp self.old es
+            → IfOk result (λ found. SameElements found (frontier T.below self.old.board.dataflow
+            (left_by T.below T.least self.old.board.dataflow es) view)) }
+        ensures refused { IfErr result (λ refusal. refusal ≡ OutOfMemory) }
+    {
+        let found = self.board.frontier(view);
+        self.board.look(client);
+        found
+    }
+
+    /// A view's rows at a time. The event is a look. Refused as [`Board::read`] says.
+    pub fn read(&mut self, client: usize, view: NodeId, t: T) -> Result<Bag, Refusal>
+        requires within { view < length self.old.board.dataflow.nodes }
+        requires view { IsTrue (is_output (node_of self.old.board.dataflow view)) }
+        ensures terms { terms_of_board self.new ≡ terms_of_board self.old }
+        ensures beside { IsKeptBeside self.old self.new }
+        ensures looked { self.new.board.last ≡ Look client }
+        ensures stands { (es : List (Entry (Doing T))) → StandsFor T.below T.least T.cmp self.old es
+            → StandsFor T.below T.least T.cmp self.new
+            (entry client (doing (terms_of_board self.old) self.new.board.last) ∷ es) }
+        ensures accepted { (es : List (Entry (Doing T)))
+            → StandsFor T.below T.least T.cmp self.old es
+            → OnOk result (read_refusal_in T.below self.old.board.dataflow
+            (left_by T.below T.least self.old.board.dataflow es) view t ≡ None) }
+        ensures refused { (es : List (Entry (Doing T)))
+            → StandsFor T.below T.least T.cmp self.old es
+            → IfErr result (IsReadRefusalIn T.below self.old.board.dataflow
+            (left_by T.below T.least self.old.board.dataflow es) view t) }
+        ensures bag { IfOk result IsBag }
+        ensures query { (es : List (Entry (Doing T))) → StandsFor T.below T.least T.cmp self.old es
+            → IfOk result (λ bag. Alike bag (query_at T.below self.old.board.dataflow.nodes
+            (changes_in (left_by T.below T.least self.old.board.dataflow es)) view t)) }
+    {
+        self.board.known();
+        let found = self.board.read(view, t);
+        self.board.look(client);
+        found
+    }
+
+    /// A view's changes at the times that its frontier has passed. The event is a look. Refused as [`Board::changes`] says.
+    pub fn changes(&mut self, client: usize, view: NodeId) -> Result<Vec<Update<T>>, Refusal>
+        requires within { view < length self.old.board.dataflow.nodes }
+        requires view { IsTrue (is_output (node_of self.old.board.dataflow view)) }
+        ensures terms { terms_of_board self.new ≡ terms_of_board self.old }
+        ensures beside { IsKeptBeside self.old self.new }
+        ensures looked { self.new.board.last ≡ Look client }
+        ensures stands { (es : List (Entry (Doing T))) → StandsFor T.below T.least T.cmp self.old es
+            → StandsFor T.below T.least T.cmp self.new
+            (entry client (doing (terms_of_board self.old) self.new.board.last) ∷ es) }
+        ensures accepted { (es : List (Entry (Doing T)))
+            → StandsFor T.below T.least T.cmp self.old es
+            → OnOk result (changes_refusal_in T.below T.least
+            (left_by T.below T.least self.old.board.dataflow es) view ≡ None) }
+        ensures refused { (es : List (Entry (Doing T)))
+            → StandsFor T.below T.least T.cmp self.old es
+            → IfErr result (IsChangesRefusalIn T.below T.least self.old.board.dataflow
+            (left_by T.below T.least self.old.board.dataflow es) view) }
+        ensures differences { (es : List (Entry (Doing T)))
+            → StandsFor T.below T.least T.cmp self.old es
+            → IfOk result (λ us. AreDifferences T.below T.cmp self.old.board.dataflow.nodes
+            (changes_in (left_by T.below T.least self.old.board.dataflow es))
+            (frontier T.below self.old.board.dataflow
+            (left_by T.below T.least self.old.board.dataflow es) view) view us.items) }
+    {
+        self.board.known();
+        let found = self.board.changes(view);
+        self.board.look(client);
+        found
+    }
+
+    /// Whether the board is quiet. The event is a look. Takes no memory. Cost: that of [`Board::is_quiet`].
+    pub fn is_quiet(&mut self, actor: usize) -> bool
+        ensures terms { terms_of_board self.new ≡ terms_of_board self.old }
+        ensures beside { IsKeptBeside self.old self.new }
+        ensures looked { self.new.board.last ≡ Look actor }
+        ensures stands { (es : List (Entry (Doing T))) → StandsFor T.below T.least T.cmp self.old es
+            → StandsFor T.below T.least T.cmp self.new
+            (entry actor (doing (terms_of_board self.old) self.new.board.last) ∷ es) }
+        ensures quiet { (es : List (Entry (Doing T))) → StandsFor T.below T.least T.cmp self.old es
+            → (IsTrue result ↔ IsQuiet T.below self.old.board.dataflow
+            (left_by T.below T.least self.old.board.dataflow es)) }
+    {
+        let quiet = self.board.is_quiet();
+        self.board.look(actor);
+        quiet
+    }
+
+    /// A worker with nothing in hand takes the first bundle that waits for it at a node. With it comes whether more wait there.
+    /// `None` if no bundle waits; then the event is a look. Refused only with `OutOfMemory`; then it is a look too.
+    pub fn take_first(
+        &mut self,
+        worker: usize,
+        node: NodeId,
+    ) -> Result<Option<(Bundle<T>, bool)>, Refusal>
+        requires worker { worker < self.old.board.dataflow.workers }
+        requires free { get_or self.old.board.hand worker None ≡ None }
+        ensures terms { terms_of_board self.new ≡ terms_of_board self.old }
+        ensures beside { IsKeptBeside self.old self.new }
+        ensures taken { IfOk result (λ found. IfSome found (λ t.
+            (t.0.place.node ≡ node) × (t.0.place.worker ≡ worker)
+            × (self.new.board.last ≡ Take 0 t.0))) }
+        ensures more { IfOk result (λ found. IfSome found (λ t.
+            WaitsOrNot t.1 node worker self.new.board.stations)) }
+        ensures none { IfOk result (λ found. found ≡ None → (self.new.board.last ≡ Look worker)
+            × ((es : List (Entry (Doing T))) → StandsFor T.below T.least T.cmp self.old es
+            → (port : ℕ) → queue (place node port worker)
+            (left_by T.below T.least self.old.board.dataflow es).in_flight ≡ [])) }
+        ensures refused { IfErr result (λ refusal. (refusal ≡ OutOfMemory)
+            × (self.new.board.last ≡ Look worker)) }
+        ensures stands { (es : List (Entry (Doing T))) → StandsFor T.below T.least T.cmp self.old es
+            → StandsFor T.below T.least T.cmp self.new
+            (entry worker (doing (terms_of_board self.old) self.new.board.last) ∷ es) }
+    {
+        match self.board.waiting_at(node, worker) {
+            Some(site) => {
+                let bundle = self.board.take(site, 0)?;
+                let more = self.has_waiting(node, worker);
+                Ok(Some((bundle, more)))
+            }
+            None => {
+                self.board.look(worker);
+                Ok(None)
+            }
+        }
+    }
+
+    // Whether a bundle waits for a worker at a node.
+    fn has_waiting(&self, node: NodeId, worker: usize) -> bool
+        ensures { WaitsOrNot result node worker self.now.board.stations }
+    {
+        self.board.waiting_at(node, worker).is_some()
+    }
+
+    /// A worker with nothing in hand turns to the times that it holds at a node, if the node's input frontier has passed one
+    /// of them, and gets that frontier. Otherwise the event is a look. Refused only with `OutOfMemory`; then it is a look too.
+    pub fn turn(&mut self, worker: usize, node: NodeId) -> Result<Option<Antichain<T>>, Refusal>
+        requires worker { worker < self.old.board.dataflow.workers }
+        requires within { node < length self.old.board.dataflow.nodes }
+        requires free { get_or self.old.board.hand worker None ≡ None }
+        ensures terms { terms_of_board self.new ≡ terms_of_board self.old }
+        ensures beside { IsKeptBeside self.old self.new }
+        ensures turned { IfOk result (λ found. IfSome found (λ upper.
+            (self.new.board.last ≡ TakeHeld worker node)
+            × ((es : List (Entry (Doing T))) → StandsFor T.below T.least T.cmp self.old es
+            → SameElements upper (input_frontier T.below self.old.board.dataflow
+            (left_by T.below T.least self.old.board.dataflow es) node)))) }
+        ensures none { IfOk result (λ found. found ≡ None → (self.new.board.last ≡ Look worker)
+            × ((es : List (Entry (Doing T))) → StandsFor T.below T.least T.cmp self.old es
+            → list_any (has_passed T.below (input_frontier T.below self.old.board.dataflow
+            (left_by T.below T.least self.old.board.dataflow es) node))
+            (held_at node worker
+            (left_by T.below T.least self.old.board.dataflow es).held) ≡ false)) }
+        ensures refused { IfErr result (λ refusal. (refusal ≡ OutOfMemory)
+            × (self.new.board.last ≡ Look worker)) }
+        ensures stands { (es : List (Entry (Doing T))) → StandsFor T.below T.least T.cmp self.old es
+            → StandsFor T.below T.least T.cmp self.new
+            (entry worker (doing (terms_of_board self.old) self.new.board.last) ∷ es) }
+    {
+        if !self.board.is_ready(worker, node) {
+            self.board.look(worker);
+            return Ok(None);
+        }
+        match self.board.input_frontier(node) {
+            Ok(upper) => {
+                self.board.take_held(worker, node);
+                Ok(Some(upper))
+            }
+            Err(refusal) => {
+                self.board.look(worker);
+                Err(refusal)
+            }
+        }
+    }
+
+    /// A worker gives what it computed at the node that it has in hand. Refused as [`Board::give`] says; then the event is a
+    /// look.
+    pub fn give(
+        &mut self,
+        emission: Emission<T>,
+        held: Times<T>,
+        sent: Bundles<T>,
+    ) -> Result<(), Ungiven<T>>
+        requires worker { emission.worker < self.old.board.dataflow.workers }
+        requires within { emission.node < length self.old.board.dataflow.nodes }
+        ensures terms { terms_of_board self.new ≡ terms_of_board self.old }
+        ensures beside { IsKeptBeside self.old self.new }
+        ensures given { OnOk result (self.new.board.last ≡ Give emission held sent) }
+        ensures returned { IfErr result (λ r. (self.new.board.last ≡ Look emission.worker)
+            × (r ≡ record { emission = emission; held = held; sent = sent })) }
+        ensures stands { (es : List (Entry (Doing T))) → StandsFor T.below T.least T.cmp self.old es
+            → IsGive T.below self.old.board.dataflow
+            (left_by T.below T.least self.old.board.dataflow es) emission held sent
+            → StandsFor T.below T.least T.cmp self.new
+            (entry emission.worker (doing (terms_of_board self.old) self.new.board.last) ∷ es) }
+    {
+        self.board.give(emission, held, sent)
+    }
+
+    /// How many changes the board has accepted, as long as that was counted.
+    pub fn accepted(&self) -> Option<u64>
+        ensures { result ≡ self.now.accepted }
+    {
+        self.accepted
+    }
+
+    /// A worker tells that a number is too large with the changes that the board had accepted when it last came, if no more
+    /// were accepted since. `accepted` is how many there were then. The event is a look. Takes no memory.
+    pub fn tell_too_large(&mut self, worker: usize, accepted: Option<u64>)
+        ensures terms { terms_of_board self.new ≡ terms_of_board self.old }
+        ensures looked { self.new.board.last ≡ Look worker }
+        ensures stands { (es : List (Entry (Doing T))) → StandsFor T.below T.least T.cmp self.old es
+            → (later earlier : List (Entry (Doing T))) → es ≡ later ++ earlier
+            → ((n : ℕ) → accepted ≡ Some n
+            → length (left_by T.below T.least self.old.board.dataflow earlier).fed ≡ n)
+            → HasNoSmallBound T.below T.cmp self.old.board.dataflow.nodes
+            (changes_in (left_by T.below T.least self.old.board.dataflow earlier))
+            → StandsFor T.below T.least T.cmp self.new
+            (entry worker (doing (terms_of_board self.old) self.new.board.last) ∷ es) }
+        ensures told { (n : ℕ) → self.old.accepted ≡ Some n → accepted ≡ Some n
+            → IsTrue self.new.too_large }
+        ensures stays { IsTrue self.old.too_large → IsTrue self.new.too_large }
+        ensures counted { self.new.accepted ≡ self.old.accepted }
+    {
+        let same = is_same_count(self.accepted, accepted);
+        self.too_large = self.too_large | same;
+        self.board.look(worker);
+    }
+
+    /// Whether a worker told that with the changes accepted so far a number is too large.
+    pub fn is_too_large(&self) -> bool
+        ensures value { result ≡ self.now.too_large }
+        ensures cause { (es : List (Entry (Doing T))) → StandsFor T.below T.least T.cmp self.now es
+            → IsTrue result → HasNoSmallBound T.below T.cmp self.now.board.dataflow.nodes
+            (changes_in (left_by T.below T.least self.now.board.dataflow es)) }
+    {
+        self.too_large
+    }
+}

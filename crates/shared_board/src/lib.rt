@@ -1,0 +1,29 @@
+//! Shared board: a board that workers and clients share through a hub.
+//!
+//! Several actors share a board through a hub (crate `hub`). [`BoardProtocol`] is its protocol:
+//! what the hub hands over is a [`SharedBoard`], and it stands for the events of all tenures so
+//! far. [`open`] makes an [`Actor`] for each worker and each client. Each of its calls is one
+//! tenure and one event, and the answer is right for all that was done by then.
+//!
+//! An actor knows what it has seen, and in the clauses of a call this is all it answers for: the
+//! state that it found, and the state that it left. The laws of sharing say what an actor need not
+//! mind of the others. All of it holds for any number of workers and clients. What a worker
+//! computes between two tenures stands elsewhere (crates `operator` and `worker`).
+#![tactic(auto)]
+
+mod actor;
+mod board;
+mod event;
+mod laws;
+mod opening;
+mod protocol;
+
+pub use actor::Actor;
+pub use board::SharedBoard;
+pub use event::Doing;
+pub use laws::{
+    gives_depend_on_their_worker, one_client_makes_all_changes, others_change_nothing_of_a_worker,
+    quiet_until_the_client_acts,
+};
+pub use opening::open;
+pub use protocol::{BitemporalBoards, BoardProtocol, Boards};

@@ -1,5 +1,0 @@
-use Rattle.worker.proofs.TurnLemmas.{taken_are_up_to}
-use Rattle.worker.proofs.arrangement.laws.what_is_taken_is_up_to_a_boundary.Goals as goal
-
-pub returns : goal.returns
-returns g c = taken_are_up_to g.met.T.PartialOrder.order

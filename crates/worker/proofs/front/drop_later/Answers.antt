@@ -1,7 +1,0 @@
-use Rattle.std.proofs.Common.{not, rules}
-use Rattle.std.proofs.lemmas.Fn.{filter_same}
-use Rattle.worker.proofs.front.drop_later.Goals as goal
-
-pub returns : goal.returns
-returns g c =
-    filter_same _ (λ e. not (g.T.PartialOrder.below c.args.t e)) _ (λ x b f r. search rules) _ _ c.retain.ensures.filtered

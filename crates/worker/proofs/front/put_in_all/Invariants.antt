@@ -1,6 +1,0 @@
-use Rattle.std.proofs.Common.{◌≡◌, ◌||◌, take}
-use Rattle.lattice.specs.Frontiers.{is_beyond}
-use Rattle.worker.proofs.front.put_in_all.Given as goal
-
-abbrev pub invariant-loop-time : goal.invariant-loop-time
-invariant-loop-time g l = (t : g.row.T.Denot) → is_beyond g.T.PartialOrder.below l.front.items t ≡ (is_beyond g.T.PartialOrder.below l.fn.front.items t || is_beyond g.T.PartialOrder.below (take l.time-index l.times) t)

@@ -1,5 +1,0 @@
-use Rattle.worker.proofs.GatheringLemmas.{took_gathering}
-use Rattle.worker.proofs.laws.gathering.gathering_takes.Goals as goal
-
-pub returns : goal.returns
-returns g c p w number bundle out waiting before stamped piece = took_gathering _ g.met.T.PartialOrder.order p w number bundle out waiting stamped before piece

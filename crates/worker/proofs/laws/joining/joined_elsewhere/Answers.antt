@@ -1,5 +1,0 @@
-use Rattle.worker.proofs.JoiningLemmas.{same_joining}
-use Rattle.worker.proofs.laws.joining.joined_elsewhere.Goals as goal
-
-pub returns : goal.returns
-returns g c p w n k left right waiting j e allowed other = same_joining _ g.met.T.PartialOrder.order p w n k left right waiting j e allowed other

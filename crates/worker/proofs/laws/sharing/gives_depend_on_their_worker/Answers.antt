@@ -1,5 +1,0 @@
-use Rattle.worker.proofs.ApartLemmas.{give_apart}
-use Rattle.worker.proofs.laws.sharing.gives_depend_on_their_worker.Goals as goal
-
-pub returns : goal.returns
-returns g c = λ p w v e ts sent same may. give_apart g.T.PartialOrder.below p w v e ts sent same may

@@ -1,6 +1,0 @@
-use Rattle.std.proofs.Common.{refl}
-use Rattle.worker.proofs.ActorLemmas.{only_client}
-use Rattle.worker.proofs.laws.sharing.one_client_makes_all_changes.Goals as goal
-
-pub returns : goal.returns
-returns g c = λ t one others seen none on legal. only_client g.T.PartialOrder.below g.T.Minimum.least t.dataflow t t.dataflow.workers others seen refl one none on legal

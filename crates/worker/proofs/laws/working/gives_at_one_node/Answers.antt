@@ -1,5 +1,0 @@
-use Rattle.worker.proofs.WorkingLemmas.{gives_lem}
-use Rattle.worker.proofs.laws.working.gives_at_one_node.Goals as goal
-
-pub returns : goal.returns
-returns g c p q w e ts sent works next is give but inserted none here = gives_lem _ g.met.T.PartialOrder.order p q w e ts works next is but sent give inserted none here

@@ -1,5 +1,0 @@
-use Rattle.worker.proofs.WorkingLemmas.{inserts_lem}
-use Rattle.worker.proofs.laws.working.inserts_at_one_node.Goals as goal
-
-pub returns : goal.returns
-returns g c p q w e ts upper works next is give some but new inserted here = inserts_lem _ g.met.T.PartialOrder.order p q w e ts works next is but upper give some new inserted here
