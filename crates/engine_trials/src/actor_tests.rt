@@ -5,7 +5,7 @@ ghost use Rattle.std.specs.Prelude.{◌≡◌, ◌∷◌, [], ℕ, None, IfOk};
 ghost use Rattle.plan.specs.declared.node.Node.TheVariants.{Input, Output};
 ghost use Rattle.hub.specs.Known.{Known};
 ghost use Rattle.machine.specs.declared.histories.event.Event.TheVariants.{Look};
-ghost use Rattle.worker.specs.declared.doing.Doing.{Doing};
+ghost use Rattle.shared_board.specs.declared.event.Doing.{Doing};
 ghost use Rattle.worker.specs.Tenures.{Adds, IsActor, IsFirst, Terms, state_left, terms_for, terms_in};
 
 use antichain::Antichain;
@@ -107,7 +107,7 @@ impl<T: Minimum> Model for Idle<T> {
     ghost use Rattle.std.specs.Prelude.{◌≡◌, ◌∷◌, [], None};
     ghost use Rattle.plan.specs.declared.node.Node.TheVariants.{Input, Output};
     ghost use Rattle.hub.specs.Known.{Known};
-    ghost use Rattle.worker.specs.declared.doing.Doing.{Doing};
+    ghost use Rattle.shared_board.specs.declared.event.Doing.{Doing};
     ghost use Rattle.worker.specs.Tenures.{state_left, terms_for, terms_in};
 
     ghost Value = { Known (Doing T) };

@@ -28,12 +28,12 @@ use antichain::Antichain;
 use batch::{Batch, BatchReader};
 use lattice::{Lattice, Minimum};
 pub use laws::what_is_taken_is_up_to_a_boundary;
+use pending::Waiting;
 use spine::Spine;
 use std::alloc::Global;
 use std::marker::Model;
 use trace::{Hold, Trace, all_batches};
 use update::{Refusal, Update};
-use pending::Waiting;
 
 /// Updates that wait, and the batches of those that do not, with the holds of the readers. A contract sees the width of
 /// the rows, the spine, the updates that wait, in the order in which they came, and the holds.

@@ -61,11 +61,12 @@ pub(crate) fn put_in_all<T: Lattice>(front: &mut Vec<T>, times: &[T]) -> Result<
     Ok(())
 }
 
-// Takes in the times of all of these updates.
-pub fn put_in_updates<T: Lattice>(
-    front: &mut Vec<T>,
-    updates: &[Update<T>],
-) -> Result<(), Refusal>
+/// Takes in the times of all of these updates: the same times are beyond `front` afterwards as were
+/// before, or are at or after one of these. [`Refusal::OutOfMemory`] only if memory was refused;
+/// then some of the times may have been taken in.
+///
+/// Cost: each time is compared with those that `front` has.
+pub fn put_in_updates<T: Lattice>(front: &mut Vec<T>, updates: &[Update<T>]) -> Result<(), Refusal>
     ensures beyond { OnOk result ((t : T) → is_beyond T.below front.new.items t
         ≡ (is_beyond T.below front.old.items t || is_beyond T.below (times_of updates.now) t)) }
     ensures only { IfErr result (λ refused. refused ≡ Refusal.OutOfMemory) }
@@ -76,7 +77,10 @@ pub fn put_in_updates<T: Lattice>(
     Ok(())
 }
 
-// The least of some times and of the times of some updates.
+/// The least of some times and of the times of some updates. [`Refusal::OutOfMemory`] only if
+/// memory for the list was refused.
+///
+/// Cost: as for [`put_in_updates`].
 pub fn front_with<T: Lattice>(
     alloc: Global,
     times: &[T],

@@ -24,10 +24,9 @@ fn update_at<T: Lattice>(batch: &Batch<T>, i: usize) -> Update<T>
 }
 
 /// The updates of a batch, as a list. Refused only with `OutOfMemory`.
-pub fn updates_of<T: Lattice>(
-    alloc: Global,
-    batch: &Batch<T>,
-) -> Result<Vec<Update<T>>, Refusal>
+///
+/// Cost: linear in the updates.
+pub fn updates_of<T: Lattice>(alloc: Global, batch: &Batch<T>) -> Result<Vec<Update<T>>, Refusal>
     ensures same { IfOk result (λ updates. updates.items ≡ batch.now.updates) }
     ensures refused { IfErr result (λ refusal. refusal ≡ OutOfMemory) }
 {

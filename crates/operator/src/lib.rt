@@ -22,8 +22,8 @@ mod insertion;
 mod join;
 mod reduction;
 
+pub use crate::join::Joining;
 pub use arrangement::{Arrangement, what_is_taken_is_up_to_a_boundary};
 pub use frontier::{front_with, put_in_updates};
 pub use insertion::{keep, updates_of};
-pub use crate::join::Joining;
 pub use reduction::Reducing;

@@ -33,12 +33,12 @@ use Rattle.machine.proofs.BoardLemmas.OpenLemmas.{first_front, open_set}
 use Rattle.machine.proofs.HistoryLemmas.PlaceLemmas.{in_place_lem}
 use Rattle.machine.proofs.HistoryLemmas.QuietLemmas.{caught_up_lem}
 use Rattle.grammar.specs.Commands.{is_input_of}
-use Rattle.worker.specs.declared.doing.Doing.{Doing}
+use Rattle.shared_board.specs.declared.event.Doing.{Doing}
 use Rattle.worker.specs.Found.{dataflow_of}
 use Rattle.worker.specs.Large.{HasNoSmallBound}
 use Rattle.worker.specs.Tenures.{Adds, AreKnown, AreOn, IsActor, IsFirst, Terms, doing, events, feed_refusal_in, advance_refusal_in, left_by, state_found, state_left, terms_for, terms_in}
-use Rattle.worker.proofs.ActorLemmas.{only_client}
-use Rattle.worker.proofs.QuietLemmas.{stays}
+use Rattle.shared_board.proofs.ActorLemmas.{only_client}
+use Rattle.shared_board.proofs.QuietLemmas.{stays}
 use Rattle.script.specs.Engines.{IsTold}
 use Rattle.script.specs.Sessions.{Session, first_session, with_change, with_frontier, change_refusal, frontier_refusal}
 use Rattle.script.specs.Standing.{HasSession, StandsAs}

@@ -6,7 +6,7 @@ use Rattle.update.specs.declared.refusal.Refusal.TheVariants.{Overflow}
 use Rattle.hub.specs.Known.{Known}
 use Rattle.machine.specs.declared.histories.event.Event.TheVariants.{Look}
 use Rattle.machine.specs.Histories.Readings.{IsQuiet}
-use Rattle.worker.specs.declared.doing.Doing.{Doing}
+use Rattle.shared_board.specs.declared.event.Doing.{Doing}
 use Rattle.worker.specs.Desks.{DeskState}
 use Rattle.worker.specs.Found.{dataflow_of}
 use Rattle.worker.specs.Relays.{IsCalm, IsRunning, IsTooLarge}

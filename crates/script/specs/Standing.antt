@@ -4,7 +4,7 @@ use Rattle.hub.specs.Known.{Known}
 use Rattle.machine.specs.Boards.Inputs.{front_at}
 use Rattle.machine.specs.Histories.Dataflows.{Dataflow}
 use Rattle.machine.specs.Histories.States.{State, open_at}
-use Rattle.worker.specs.declared.doing.Doing.{Doing}
+use Rattle.shared_board.specs.declared.event.Doing.{Doing}
 use Rattle.worker.specs.Found.{dataflow_of}
 use Rattle.worker.specs.Tenures.{state_left}
 use Rattle.script.specs.Sessions.{Session}

@@ -42,7 +42,7 @@ impl<'a, R: Wait> Model for BoardEngine<'a, R> {
     ghost use Rattle.lattice.specs.declared.product.Pair.{Pair};
     ghost use Rattle.worker.specs.Found.{dataflow_of};
     ghost use Rattle.worker.specs.Tenures.{terms_for, terms_in};
-    ghost use Rattle.worker.specs.declared.doing.Doing.{Doing};
+    ghost use Rattle.shared_board.specs.declared.event.Doing.{Doing};
 
     ghost Value = { Known (Doing (Pair ℕ ℕ)) };
 

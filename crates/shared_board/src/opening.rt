@@ -6,8 +6,8 @@ ghost use Rattle.shared_board.specs.declared.event.Doing.{Doing};
 ghost use Rattle.shared_board.specs.Tenures.{IsFirst, terms_for};
 
 use crate::actor::Actor;
-use crate::protocol::BoardProtocol;
 use crate::board::SharedBoard;
+use crate::protocol::BoardProtocol;
 use hub::Hub;
 use lattice::Minimum;
 use plan::Plan;

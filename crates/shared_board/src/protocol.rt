@@ -8,8 +8,8 @@
 //! Actors know their protocol by the trait [`BoardProtocol`] alone. [`Boards`] is such a protocol for every type of times, for
 //! code that is generic in them. [`BitemporalBoards`] says the same of bitemporal times and has no parameter: code that holds
 //! actors of one type of times is covered by the borrow checker only if their protocol has none.
-use crate::event::Doing;
 use crate::board::SharedBoard;
+use crate::event::Doing;
 use hub::Protocol;
 use lattice::{Bitime, Minimum};
 use std::alloc::Global;

@@ -26,13 +26,12 @@ pub use operator::{Arrangement, Joining, Reducing, what_is_taken_is_up_to_a_boun
 pub use operator_laws::{
     arranged_elsewhere, arranged_holds_back, arranged_in_any_order, arranged_inserts,
     arranged_takes, arranging_begins, consolidated_splits, gathered_elsewhere, gathering_begins,
-    gathering_gives, gathering_holds_back, gathering_takes, gives_at_one_node,
-    inserts_at_one_node, join_piece, joined_elsewhere, joined_gives, joined_takes_left,
-    joined_takes_right, joins_read_arranged_nodes, linear_piece, may_seal, queued_elsewhere,
-    queued_inserts, quiet_while_it_waits, reader_has_all, reduced_elsewhere, reduced_gives,
-    reduced_holds_back, reduced_takes, reducing_begins, sealed_splits, takes_at_one_node,
-    turning_leaves_it, waiting_bundles_are_stamped, waits_in_any_order, workers_are_apart,
-    working_begins,
+    gathering_gives, gathering_holds_back, gathering_takes, gives_at_one_node, inserts_at_one_node,
+    join_piece, joined_elsewhere, joined_gives, joined_takes_left, joined_takes_right,
+    joins_read_arranged_nodes, linear_piece, may_seal, queued_elsewhere, queued_inserts,
+    quiet_while_it_waits, reader_has_all, reduced_elsewhere, reduced_gives, reduced_holds_back,
+    reduced_takes, reducing_begins, sealed_splits, takes_at_one_node, turning_leaves_it,
+    waiting_bundles_are_stamped, waits_in_any_order, workers_are_apart, working_begins,
 };
 pub use relays::relay;
 pub use shared_board::{

@@ -2,7 +2,7 @@ use Rattle.std.proofs.Common.{◌≡◌, ◌∙◌, ◌∷◌, ◌++◌, [], ℕ
 use Rattle.std.proofs.lemmas.List.{append-nil}
 use Rattle.hub.specs.declared.view.Entry.{Entry}
 use Rattle.hub.specs.Known.{Known}
-use Rattle.worker.specs.declared.doing.Doing.{Doing}
+use Rattle.shared_board.specs.declared.event.Doing.{Doing}
 use Rattle.worker.specs.Tenures.{AreKnown, AreOn, left_by, state_left, terms_in}
 use Rattle.engine_trials.proofs.actor_tests.looks_take_nothing_in_hand.Goals as goal
 

@@ -6,7 +6,7 @@ use Rattle.lattice.specs.Pairs.{make_pair, pair_order}
 use Rattle.lattice.specs.declared.product.Pair.{Pair}
 use Rattle.machine.specs.declared.histories.event.Event.TheVariants.{Look}
 use Rattle.worker.specs.Tenures.{Terms}
-use Rattle.worker.specs.declared.doing.Doing.{Doing}
+use Rattle.shared_board.specs.declared.event.Doing.{Doing}
 use Rattle.script.specs.Standing.{StandsAs}
 use Rattle.script.proofs.StandingLemmas.{after_looked, client_step}
 use Rattle.script.proofs.board_engine.BoardEngine.is_quiet.Goals as goal

@@ -8,7 +8,7 @@ use Rattle.lattice.specs.declared.product.Pair.{Pair}
 use Rattle.machine.specs.declared.histories.event.Event.TheVariants.{Look}
 use Rattle.worker.specs.Found.{dataflow_of}
 use Rattle.worker.specs.Tenures.{Terms, state_found, state_left}
-use Rattle.worker.specs.declared.doing.Doing.{Doing}
+use Rattle.shared_board.specs.declared.event.Doing.{Doing}
 use Rattle.script.specs.Bounds.{IsLarge}
 use Rattle.script.specs.Standing.{StandsAs}
 use Rattle.script.proofs.StandingLemmas.{after_looked, client_step, large_session, session_found}

@@ -7,7 +7,7 @@ use Rattle.lattice.specs.declared.product.Pair.{Pair}
 use Rattle.grammar.specs.Commands.{is_input_of}
 use Rattle.worker.specs.Found.{dataflow_of}
 use Rattle.worker.specs.Tenures.{Terms}
-use Rattle.worker.specs.declared.doing.Doing.{Doing}
+use Rattle.shared_board.specs.declared.event.Doing.{Doing}
 use Rattle.script.specs.Answers.{TakesFrontier}
 use Rattle.script.specs.Standing.{StandsAs}
 use Rattle.script.proofs.StandingLemmas.{frontier_answered, input_there}

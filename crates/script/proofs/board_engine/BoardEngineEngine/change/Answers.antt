@@ -7,7 +7,7 @@ use Rattle.lattice.specs.declared.product.Pair.{Pair}
 use Rattle.machine.specs.declared.histories.event.Fed.{Fed}
 use Rattle.worker.specs.Found.{dataflow_of}
 use Rattle.worker.specs.Tenures.{Terms}
-use Rattle.worker.specs.declared.doing.Doing.{Doing}
+use Rattle.shared_board.specs.declared.event.Doing.{Doing}
 use Rattle.script.specs.Answers.{TakesChange}
 use Rattle.script.specs.Standing.{StandsAs}
 use Rattle.script.proofs.StandingLemmas.{change_answered}

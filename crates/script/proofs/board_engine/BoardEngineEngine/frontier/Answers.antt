@@ -13,7 +13,7 @@ use Rattle.machine.specs.declared.histories.event.Event.TheVariants.{Look}
 use Rattle.machine.specs.Histories.Readings.{IsQuiet}
 use Rattle.worker.specs.Found.{dataflow_of}
 use Rattle.worker.specs.Tenures.{Terms, state_found, state_left}
-use Rattle.worker.specs.declared.doing.Doing.{Doing}
+use Rattle.shared_board.specs.declared.event.Doing.{Doing}
 use Rattle.script.specs.Answers.{FindsFrontier}
 use Rattle.script.specs.Bounds.{EndsByBound}
 use Rattle.script.specs.Standing.{HasSession, StandsAs}

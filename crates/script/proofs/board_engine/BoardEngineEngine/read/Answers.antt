@@ -14,7 +14,7 @@ use Rattle.machine.specs.Histories.Promises.{changes_in}
 use Rattle.machine.specs.Histories.Readings.{IsQuiet}
 use Rattle.worker.specs.Found.{dataflow_of}
 use Rattle.worker.specs.Tenures.{Terms, state_found, state_left}
-use Rattle.worker.specs.declared.doing.Doing.{Doing}
+use Rattle.shared_board.specs.declared.event.Doing.{Doing}
 use Rattle.script.specs.Answers.{FindsRows}
 use Rattle.script.specs.Bounds.{IsLarge, EndsByBound}
 use Rattle.script.specs.Standing.{HasSession, StandsAs}
