@@ -23,8 +23,8 @@ asked_text (Run file workers) t = text t
 asked_text (Plain file) t = text t
 asked_text (Check file) t = check_text t
 
--- what has been written if a number is too large: the text of the lines before; a `check` never meets such a
--- number
+-- what has been written if a number is too large: the text of the lines before; a `check` never
+-- meets such a number
 abbrev pub IsPartBeforeOverflow : Action → ScriptModel → List ℕ → Type 0
 IsPartBeforeOverflow (Run file workers) t part = IsTextBeforeOverflow t part
 IsPartBeforeOverflow (Plain file) t part = IsTextBeforeOverflow t part

@@ -17,11 +17,12 @@ status_of Write = 3
 abbrev pub fault_status : Fault → ℕ
 fault_status fault = if eqb fault.code 1 then 3 else 2
 
--- `took` says which bytes the output took in this call, and how many of its calls failed; `wanted` is
--- the text to write for a script; and `IsBeforeOverflow` says which part of it is written if a number is too large
+-- `took` says which bytes the output took in this call, and how many of its calls failed; `wanted`
+-- is the text to write for a script; and `IsBeforeOverflow` says which part of it is written if a
+-- number is too large
 module _ (took : List ℕ → ℕ → Type 0) (wanted : ScriptModel → List ℕ) (IsBeforeOverflow : ScriptModel → List ℕ → Type 0) where
-  -- a script that was carried out: 0 means that exactly the wanted text was written, 3 that a beginning of it
-  -- was, and 4 that exactly the part before an overflow was
+  -- a script that was carried out: 0 means that exactly the wanted text was written, 3 that a
+  -- beginning of it was, and 4 that exactly the part before an overflow was
   abbrev pub IsCarriedOut : ScriptModel → ℕ → Type 0
   IsCarriedOut t status = ((status ≡ 0) × took (wanted t) 0)
       ⊎ (((status ≡ 3) × (part : List ℕ) × (failures : ℕ) × IsBeginning part (wanted t) × took part failures)
@@ -32,7 +33,8 @@ module _ (took : List ℕ → ℕ → Type 0) (wanted : ScriptModel → List ℕ
   IsDone (Ok t) status = IsCarriedOut t status
   IsDone (Err fault) status = (status ≡ 2) × took [] 0
 
-  -- if the file was not read, or memory ran out while it was parsed, nothing is written and the status is 3
+  -- if the file was not read, or memory ran out while it was parsed, nothing is written and the
+  -- status is 3
   abbrev pub Acts : Option (List ℕ) → ℕ → Type 0
   Acts None status = (status ≡ 3) × took [] 0
   Acts (Some bytes) status = IsDone (script_of bytes) status ⊎ ((status ≡ 3) × took [] 0)

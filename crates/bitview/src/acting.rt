@@ -1,7 +1,7 @@
 //! What the program does with a file's bytes, for any two outputs.
 //!
-//! If the second output, standard error, fails, nothing else changes: the status alone then says what went
-//! wrong.
+//! If the second output, standard error, fails, nothing else changes: the status alone then says
+//! what went wrong.
 ghost use Rattle.std.specs.Prelude.{◌≡◌, ℕ, List, Some, IfErr, OnOk, option_map};
 ghost use Rattle.script.specs.Engines.{failures};
 ghost use Rattle.script.specs.Outs.{IsBeginning};
@@ -15,9 +15,9 @@ use script::{Out, RunFault, plain_script, put_all, run_script};
 use std::alloc::{AllocError, Global};
 use std::sync::Wait;
 
-/// Carries out the action on the file's bytes, or on `None` if the file was not read. The script's text, or for
-/// `check` the number of its nodes and commands, goes to the first output. One line about what went wrong goes
-/// to the second. The result is the program's status:
+/// Carries out the action on the file's bytes, or on `None` if the file was not read. The script's
+/// text, or for `check` the number of its nodes and commands, goes to the first output. One line
+/// about what went wrong goes to the second. The result is the program's status:
 ///
 /// | Status | When | The line on the second output |
 /// |---|---|---|
@@ -26,8 +26,8 @@ use std::sync::Wait;
 /// | 3 | memory was refused, or the file or the output failed | `no memory`; `cannot read FILE`; `cannot write` |
 /// | 4 | a number does not fit in 64 bits | `overflow` |
 ///
-/// Status 4 comes only if the changes give some node a bound of 2 to the 63 or more. Then exactly the text of
-/// the lines before the one that asked for the number was written.
+/// Status 4 comes only if the changes give some node a bound of 2 to the 63 or more. Then exactly
+/// the text of the lines before the one that asked for the number was written.
 ///
 /// Cost: that of parsing the script and of running it.
 pub fn act<R: Wait, W: Out, E: Out>(
@@ -131,8 +131,8 @@ fn write_size<W: Out>(alloc: Global, script: &Script, out: &mut W) -> Result<(),
     Ok(())
 }
 
-// Reports why a run ended early. Only codes 1 and 10 occur today: the number of workers is always 1, and there
-// are no threads that might not start.
+// Reports why a run ended early. Only codes 1 and 10 occur today: the number of workers is always
+// 1, and there are no threads that might not start.
 fn end<E: Out>(alloc: Global, fault: RunFault, error: &mut E) -> u8
     ensures { result ≡ status_of fault }
 {

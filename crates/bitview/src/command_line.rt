@@ -84,8 +84,8 @@ impl<'a> Action<'a> {
 
 /// Reads the program's arguments. The first is the program's name.
 ///
-/// If the arguments are not understood, or if help or the version is asked for, the error holds the text to
-/// print and its kind.
+/// If the arguments are not understood, or if help or the version is asked for, the error holds the
+/// text to print and its kind.
 ///
 /// Cost: linear in the arguments.
 pub fn words<'a>(alloc: Global, words: &'a [&'a str]) -> Result<Action<'a>, Error>

@@ -1,9 +1,11 @@
-//! The program. `bitview run FILE` reads a command file and writes the answers. `bitview plain FILE` writes the
-//! same, computed from scratch. `bitview check FILE` writes how many nodes and commands the file has.
+//! The program. `bitview run FILE` reads a command file and writes the answers.
+//! `bitview plain FILE` writes the same, computed from scratch. `bitview check FILE` writes how
+//! many nodes and commands the file has.
 //!
-//! [`words`] reads the arguments, this file reads the command file, and [`act`] does the rest. `act` knows no
-//! file and no process, only bytes and two outputs, so its contract can be stated in full. `main` keeps what no
-//! contract covers: the arguments, the file, and the process's standard output and standard error.
+//! [`words`] reads the arguments, this file reads the command file, and [`act`] does the rest.
+//! `act` knows no file and no process, only bytes and two outputs, so its contract can be stated in
+//! full. `main` keeps what no contract covers: the arguments, the file, and the process's standard
+//! output and standard error.
 #![tactic(auto)]
 
 ghost use Rattle.bitview.specs.Actions.{IsInRange};

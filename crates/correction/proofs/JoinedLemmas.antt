@@ -91,7 +91,8 @@ module _ {T : Type 0} {below : T → T → Bool} {joined met : T → T → T} (o
   pub on_none : OnJoins (λ x. false)
   on_none a b = refl
 
-  -- at or below each time none of these is, or there is a joined time at or below it, at or below which just the same are
+  -- at or below each time none of these is, or there is a joined time at or below it, at or below
+  -- which just the same are
   abbrev pub Floor : List T → T → Type 0
   Floor ts t = Agree (λ x. below x t) (λ x. false) ts ⊎ ((s : T) × Member s (joins_of joined ts) × (below s t ≡ true) × Agree (λ x. below x s) (λ x. below x t) ts)
 

@@ -1,4 +1,5 @@
--- A tally with the updates that are near a time: what it comes to one update after the other, and in the bag of all.
+-- A tally with the updates that are near a time: what it comes to one update after the other, and
+-- in the bag of all.
 use Rattle.std.proofs.Common.{◌≡◌, ℕ, zero, suc, add-one, ◌+◌, ◌<◌, Bool, List, [], ◌∷◌, ◌++◌, ℤ, take, length, get_or, IsTrue, refl, sym, ap, ◌∙◌, append_assoc}
 use Rattle.std.specs.Prelude.{◌+ℤ◌, slice_get, IsSomeAnd}
 use Rattle.std.specs.List.{list_all}
@@ -42,7 +43,8 @@ module _ {T : Type 0} (below : T → T → Bool) where
       ∙ (sym (count_of-append (old ++ before) one row)
       ∙ ap (λ es. count_of es row) (append_assoc old before one ∙ ap (λ es. old ++ es) (sym whole)))))
 
-  -- the rows of a tally of a key and of updates of the key are those of the key, and so are those of their bag
+  -- the rows of a tally of a key and of updates of the key are those of the key, and so are those
+  -- of their bag
   pub whole_keyed : (k : ℕ) (key : List ℤ) (t : T) (base : List Entry) (near : List (Update T)) (bag : List Entry) → IsBag bag → Alike bag (base ++ as_of below t near)
       → IsTrue (list_all (has_key k key) base) → IsTrue (list_all (of_key k key) near) → IsTrue (list_all (has_key k key) bag)
   whole_keyed k key t base near bag is alike a b =

@@ -36,15 +36,16 @@ module _ {T : Type 0} (below : T → T → Bool) (k : ℕ) (reduce : List ℤ �
   abbrev pub wanted : List ℤ → ℤ
   wanted row = count_of (reduce key (filter (has_key k key) (as_of below t content))) row
 
-  -- these updates, given besides, make it right there for all that was taken and has these sums there
+  -- these updates, given besides, make it right there for all that was taken and has these sums
+  -- there
   pub record Corrects (more : List (Update T)) : Type 0 where
     pub at : AllAt k key t more
     pub apart : AreApart below more
     pub right : (taken : List (Update T)) → Alike (as_of below t content) (as_of below t taken)
         → IsRight below k reduce taken (given ++ more) key t
 
-  -- a number is too large there: of what was taken; of what was given of the key; or of what a row's count is to change
-  -- by
+  -- a number is too large there: of what was taken; of what was given of the key; or of what a
+  -- row's count is to change by
   abbrev pub IsTooMuch : Type 0
   IsTooMuch =
       ((taken : List (Update T)) → Alike (as_of below t content) (as_of below t taken) → 2 ^ 63 ≤ size taken)

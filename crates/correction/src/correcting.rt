@@ -1,7 +1,7 @@
-//! What is given of a key at one time: what is wanted there less what was given up to it. What is wanted is the answer
-//! for the bag of the key's rows at the time. Both are put down at that one time, the second with the other sign, and
-//! consolidated once. So a total is refused only where the change itself is too large, and what stays the same leaves no
-//! update.
+//! What is given of a key at one time: what is wanted there less what was given up to it. What is
+//! wanted is the answer for the bag of the key's rows at the time. Both are put down at that one
+//! time, the second with the other sign, and consolidated once. So a total is refused only where
+//! the change itself is too large, and what stays the same leaves no update.
 ghost use Rattle.std.specs.Prelude.{◌≡◌, ◌≢◌, ◌++◌, IfOk, IfErr, IfSome, IsTrue, List, ℤ, length, pos};
 ghost use Rattle.std.specs.List.{AllByRecursion, list_all, filter};
 ghost use Rattle.update.specs.Bags.{Entry};
@@ -27,9 +27,10 @@ pub struct Correction<T> {
     pub evaluation: Evaluation<T>,
 }
 
-/// What is to be given of a key at the time of an evaluation, if `given` is what was given of it before. `last` is what
-/// was evaluated at the time before, if there was one. What the answer is, the clauses leave to the caller: they hold for
-/// each reducer and each list of rows of which it is the answer.
+/// What is to be given of a key at the time of an evaluation, if `given` is what was given of it
+/// before. `last` is what was evaluated at the time before, if there was one. What the answer is,
+/// the clauses leave to the caller: they hold for each reducer and each list of rows of which it is
+/// the answer.
 ///
 /// Cost: that of a draft (`draft_of`), and n log n in the length of the draft.
 pub fn correct<T: Lattice>(

@@ -1,10 +1,11 @@
-//! Drafts of corrections: what is wanted of a key at one time, and with the other sign what was given up to it. All of it
-//! is put down at that one time, and nothing is added up yet.
+//! Drafts of corrections: what is wanted of a key at one time, and with the other sign what was
+//! given up to it. All of it is put down at that one time, and nothing is added up yet.
 //!
-//! There are two ways to the same sum. The plain one puts down all that is wanted and takes back all that was given up to
-//! the time. If the time evaluated last is at or before this one, then what was given up to there is the last answer. So
-//! only the rows are put down that the two answers count differently, and only what was given in between is taken back.
-//! For the valid times of one revision, which follow one another, that is what changes from one to the next.
+//! There are two ways to the same sum. The plain one puts down all that is wanted and takes back
+//! all that was given up to the time. If the time evaluated last is at or before this one, then
+//! what was given up to there is the last answer. So only the rows are put down that the two
+//! answers count differently, and only what was given in between is taken back. For the valid times
+//! of one revision, which follow one another, that is what changes from one to the next.
 ghost use Rattle.std.specs.Prelude.{◌≡◌, ◌≢◌, ◌≤◌, ◌<◌, ◌+◌, ◌++◌, ◌∷◌, ◌&&◌, not, [], ◌^◌, ◌+ℤ◌, neg_ℤ, ℤ, IfOk, IfErr, IfSome, IsSomeAnd, IsTrue, OnOk, List, drop, length, map, slice_get, unsigned_abs};
 ghost use Rattle.std.specs.List.{filter};
 ghost use Rattle.update.specs.Bags.{Alike, Entry, count_of};
@@ -151,7 +152,8 @@ fn put_difference<T: Lattice>(
     put_back_entry(out, time, had, j)
 }
 
-// Reads the lesser of the two rows at the cursors, or the one row that both are. It is put down only if its counts differ.
+// Reads the lesser of the two rows at the cursors, or the one row that both are. It is put down
+// only if its counts differ.
 fn put_next<T: Lattice>(
     out: &mut Vec<Update<T>>,
     time: T,
@@ -324,14 +326,14 @@ fn draft_since<T: Lattice>(
     Ok(draft)
 }
 
-/// A draft of the correction of a key at a time, if `want` is wanted there and `given` is what was given of the key
-/// before.
+/// A draft of the correction of a key at a time, if `want` is wanted there and `given` is what was
+/// given of the key before.
 ///
 /// - [`Refusal::Overflow`] only if the absolute diffs of what was given add up to 2^63 or more.
 /// - [`Refusal::OutOfMemory`] only if memory for the draft was refused.
 ///
-/// Cost: one pass over what was given. If the last time is at or before this one, a pass over both answers, and the
-/// draft has only what changed in between; else all that is wanted and was given.
+/// Cost: one pass over what was given. If the last time is at or before this one, a pass over both
+/// answers, and the draft has only what changed in between; else all that is wanted and was given.
 pub(crate) fn draft_of<T: Lattice>(
     alloc: Global,
     time: T,

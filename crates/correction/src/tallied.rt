@@ -1,9 +1,10 @@
-//! What a reducer answers at a time, from a tally of what all times to come see and the other updates. The ones at or
-//! before the time are added to the tally, the reducer reads it, and each change is set back. So a time costs what is
-//! near it, and not a copy of the rows.
+//! What a reducer answers at a time, from a tally of what all times to come see and the other
+//! updates. The ones at or before the time are added to the tally, the reducer reads it, and each
+//! change is set back. So a time costs what is near it, and not a copy of the rows.
 //!
-//! On the way a count may be too large though the whole is not, as when 2^63 rows are added before as many are removed.
-//! Then everything is set back and the entries are added up to a bag, which refuses only what is too large as a whole.
+//! On the way a count may be too large though the whole is not, as when 2^63 rows are added before
+//! as many are removed. Then everything is set back and the entries are added up to a bag, which
+//! refuses only what is too large as a whole.
 ghost use Rattle.std.specs.Prelude.{◌≡◌, ◌≤◌, ◌++◌, Bool, List, [], ◌∷◌, ℤ, length, IsTrue, IfOk, IfErr, IfSome, OnOk};
 ghost use Rattle.std.specs.List.{list_all};
 ghost use Rattle.update.specs.Bags.{Alike, Entry, HasLargeCount, IsBag};
@@ -21,8 +22,8 @@ use reducer::{Reducer, Tally, Undone};
 use std::alloc::Global;
 use update::{Bag, Entries, Refusal, Update};
 
-// Adds an update if it is at or before the time, and notes it. False if its row is not in the tally or the count does
-// not fit.
+// Adds an update if it is at or before the time, and notes it. False if its row is not in the tally
+// or the count does not fit.
 fn add_seen<T: Lattice>(
     base: &mut Tally,
     update: &Update<T>,
@@ -42,7 +43,8 @@ fn add_seen<T: Lattice>(
     base.add_noting(&update.row, update.diff, noted)
 }
 
-// Adds the updates at or before the time, and notes each. False if the tally has not taken all of them.
+// Adds the updates at or before the time, and notes each. False if the tally has not taken all of
+// them.
 fn add_near<T: Lattice>(
     base: &mut Tally,
     near: &[Update<T>],
@@ -64,7 +66,8 @@ fn add_near<T: Lattice>(
     Ok(true)
 }
 
-// The answer at the time from the tally with the near updates added, or none if it has not taken all of them.
+// The answer at the time from the tally with the near updates added, or none if it has not taken
+// all of them.
 fn answer_by_tally<T: Lattice, R: Reducer>(
     alloc: Global,
     reducer: &R,
@@ -155,15 +158,16 @@ fn answer_by_bag<T: Lattice, R: Reducer>(
     Ok(answer)
 }
 
-/// What the reducer answers at a time, if `base` has the counts of what all times to come see, and `near` has the other
-/// updates. The tally is as it was afterwards, also where the call is refused.
+/// What the reducer answers at a time, if `base` has the counts of what all times to come see, and
+/// `near` has the other updates. The tally is as it was afterwards, also where the call is refused.
 ///
-/// - [`Refusal::Overflow`] only if a row's count, or the answer, is too large however the bag of the rows is written.
+/// - [`Refusal::Overflow`] only if a row's count, or the answer, is too large however the bag of
+///   the rows is written.
 /// - [`Refusal::OutOfMemory`] only if memory for the notes or the answer was refused.
 ///
-/// Cost: each near update is compared with the time, and those at or before it take a binary search each. Then the
-/// reducer's own cost. Only if a count on the way is too large, or a row is not in the tally, are all entries copied and
-/// sorted.
+/// Cost: each near update is compared with the time, and those at or before it take a binary search
+/// each. Then the reducer's own cost. Only if a count on the way is too large, or a row is not in
+/// the tally, are all entries copied and sorted.
 pub fn answer_at<T: Lattice, R: Reducer>(
     alloc: Global,
     reducer: &R,

@@ -1,5 +1,5 @@
--- Adding new times to the joined times of a key: what the loops keep from one time to the next, and what the lists are at
--- the end.
+-- Adding new times to the joined times of a key: what the loops keep from one time to the next, and
+-- what the lists are at the end.
 use Rattle.std.proofs.Common.{◌≡◌, ◌↔◌, ℕ, ◌<◌, ◌≤◌, ◌+◌, ◌-◌, Bool, true, List, [], ◌∷◌, ◌++◌, map, length, get_or, take, drop, ◌⊎◌, inl, inr, ⊎_elim, refl, sym, ap, subst, ◌∙◌, append_assoc, length-append, arith}
 use Rattle.std.proofs.lemmas.List.{append-nil, map-append, take-append-drop, take_more, take_all, take_rest, drop_at, drop_all, drop_more, get_or-append_right}
 use Rattle.lattice.specs.Order.{PartialOrderLaws, LatticeLaws}
@@ -164,8 +164,8 @@ module _ {T : Type 0} {below : T → T → Bool} {joined met : T → T → T} (o
               (back (fresh_parted o b near new within beyond low high between parts late n (member_at new 0 n some first_is) t)))),
         )
 
-    -- the same as the code slices its lists: each `read` is what a list is when it is passed on, and what the first half
-    -- appended is read back from `middle`
+    -- the same as the code slices its lists: each `read` is what a list is when it is passed on,
+    -- and what the first half appended is read back from `middle`
     pub appends_slices : (half at : ℕ) (before start middle now : List T) (beyond_read within_read middle_read more more_read : List T) → beyond_read ≡ beyond → start ≡ before ++ beyond_read → at ≡ length start → within_read ≡ within → Appends start middle (IsFreshBy joined (take half new) within_read) → middle_read ≡ middle → more ≡ within ++ take (length middle_read - at) (drop at middle_read) → more_read ≡ more → Appends middle now (IsFreshBy joined (take (length new - half) (drop half new)) more_read) → Appends before now (IsFreshBy joined new near)
     appends_slices half at before start middle now beyond_read within_read middle_read more more_read b_read e l w_read first m_read f more_is second =
         let left = take half new in

@@ -1,4 +1,5 @@
--- The joins that new times take part in: how they are found half by half, and which near times a half needs.
+-- The joins that new times take part in: how they are found half by half, and which near times a
+-- half needs.
 use Rattle.std.proofs.Common.{◌≡◌, ◌↔◌, Bool, true, List, [], ◌∷◌, ◌++◌, map, ◌⊎◌, inl, inr, ⊎_elim, refl, sym, ap, subst, ◌∙◌}
 use Rattle.lattice.specs.Order.{PartialOrderLaws, LatticeLaws}
 use Rattle.lattice.proofs.BoundLemmas.{join_commutes, join_associates}

@@ -1,5 +1,5 @@
--- The joins of the times of a key, as sets: what adding times to them adds, and which of them are at or after a new
--- time.
+-- The joins of the times of a key, as sets: what adding times to them adds, and which of them are
+-- at or after a new time.
 use Rattle.std.proofs.Common.{◌≡◌, ◌↔◌, Bool, true, List, [], ◌∷◌, ◌++◌, map, ◌⊎◌, inl, inr, ⊎_elim, refl, sym, ap, subst, ◌∙◌}
 use Rattle.lattice.specs.Order.{PartialOrderLaws, LatticeLaws}
 use Rattle.lattice.proofs.BoundLemmas.{join_commutes, join_associates, join_same}

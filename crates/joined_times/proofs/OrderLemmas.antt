@@ -1,5 +1,5 @@
--- Ascending lists of times: times that tie are equal, and a merge keeps `IsMerging` from its beginning through each step
--- to its end.
+-- Ascending lists of times: times that tie are equal, and a merge keeps `IsMerging` from its
+-- beginning through each step to its end.
 use Rattle.std.proofs.Common.{◌≡◌, ◌↔◌, ℕ, ◌<◌, ◌+◌, ◌-◌, Bool, true, List, [], ◌∷◌, ◌++◌, length, get_or, take, drop, ◌⊎◌, inl, inr, ⊎_elim, refl, sym, ap, ◌∙◌, subst, append_assoc, length-drop, arith}
 use Rattle.std.specs.List.{AllByRecursion}
 use Rattle.std.specs.List.Sorted.{IsStrictlySortedBy}

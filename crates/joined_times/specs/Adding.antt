@@ -1,5 +1,5 @@
--- Adding new times to the joined times of a key: the joins that the new times take part in, and the merge of two
--- ascending lists.
+-- Adding new times to the joined times of a key: the joins that the new times take part in, and the
+-- merge of two ascending lists.
 use Rattle.std.specs.Prelude.{◌≡◌, ◌↔◌, ◌<◌, ◌-◌, Bool, IsTrue, List, ◌∷◌, ◌++◌, map, length, get_or, ◌⊎◌}
 use Rattle.std.specs.List.Sorted.{IsStrictlySortedBy}
 use Rattle.std.specs.declared.cmp.Ordering.{Ordering}
@@ -32,8 +32,8 @@ IsFreshBy {T} joined new near t =
 abbrev pub AreBetween : {T : Type 0} → (T → T → Bool) → T → T → List T → Type 0
 AreBetween {T} below low high ts = (t : T) → Member t ts → IsTrue (below low t) × IsTrue (below t high)
 
--- `out` has been written, and `left` and `right` are the rest of `xs` and `ys`. Nothing in them belongs before what was
--- written.
+-- `out` has been written, and `left` and `right` are the rest of `xs` and `ys`. Nothing in them
+-- belongs before what was written.
 pub record IsMerging {T : Type 0} (cmp : T → T → Ordering) (xs ys out left right : List T) : Type 0 where
   pub ascending_left : IsStrictlySortedBy cmp (out ++ left)
   pub ascending_right : IsStrictlySortedBy cmp (out ++ right)

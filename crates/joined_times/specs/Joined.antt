@@ -1,5 +1,5 @@
--- The times at which the answer for a key can change: the joins of the times of its updates (McSherry et al.,
--- Differential Dataflow, CIDR 2013).
+-- The times at which the answer for a key can change: the joins of the times of its updates
+-- (McSherry et al., Differential Dataflow, CIDR 2013).
 use Rattle.std.specs.Prelude.{◌≡◌, ℕ, Bool, List, [], ◌∷◌, ℤ, map, take, ◌⊎◌}
 use Rattle.std.specs.List.{filter}
 use Rattle.update.specs.Bags.{same_row}

@@ -1,15 +1,18 @@
-//! The joined times of a key, in two ascending lists: all of them, and the pending ones. New times add the joins that
-//! they take part in, among themselves and with the kept times. All of these are fresh: they are pending from then on.
+//! The joined times of a key, in two ascending lists: all of them, and the pending ones. New times
+//! add the joins that they take part in, among themselves and with the kept times. All of these are
+//! fresh: they are pending from then on.
 //!
-//! The fresh joins are found half by half. Those of a list of new times are those of its first half, and those of its
-//! second half with the kept times and with what the first half added. On the way to smaller halves, near times stand for
-//! the kept ones: only their joins with the new times of the half have to be right. So each near time is moved to its join
-//! with the meet of the half, which changes none of these joins. If it is then at or after the join of the half, too, then
-//! each of these joins is the moved time itself: it is fresh, and it is left behind. So what goes on to smaller halves
-//! lies between the two bounds. The new times are sorted, so the bounds are close together, and many near times fall
-//! together or are left behind.
+//! The fresh joins are found half by half. Those of a list of new times are those of its first
+//! half, and those of its second half with the kept times and with what the first half added. On
+//! the way to smaller halves, near times stand for the kept ones: only their joins with the new
+//! times of the half have to be right. So each near time is moved to its join with the meet of the
+//! half, which changes none of these joins. If it is then at or after the join of the half, too,
+//! then each of these joins is the moved time itself: it is fresh, and it is left behind. So what
+//! goes on to smaller halves lies between the two bounds. The new times are sorted, so the bounds
+//! are close together, and many near times fall together or are left behind.
 //!
-//! The invariant: a half appends exactly the joins of its new times, among themselves and with its near times.
+//! The invariant: a half appends exactly the joins of its new times, among themselves and with its
+//! near times.
 //!
 //! Each call makes new lists, so a call that is refused has changed nothing.
 ghost use Rattle.std.specs.Prelude.{◌≡◌, ◌↔◌, ◌⊎◌, ◌≤◌, ◌<◌, ◌+◌, ◌++◌, List, [], ◌∷◌, drop, length, map, IsTrue, IfOk, IfErr, OnOk};
@@ -47,7 +50,8 @@ struct Bounds<T> {
     join: T,
 }
 
-// Near times that were moved: those at or after the upper bound of the new times are `beyond`, and the others `within`.
+// Near times that were moved: those at or after the upper bound of the new times are `beyond`, and
+// the others `within`.
 #[derive(Drop)]
 struct Parted<T> {
     within: Vec<T>,
@@ -131,7 +135,8 @@ fn push_to_part<T: Lattice>(
     }
 }
 
-// Moves each near time to its join with the lower bound, and appends it to the part that it belongs to.
+// Moves each near time to its join with the lower bound, and appends it to the part that it belongs
+// to.
 fn push_parts<T: Lattice>(
     within: &mut Vec<T>,
     beyond: &mut Vec<T>,
@@ -153,8 +158,8 @@ fn push_parts<T: Lattice>(
     Ok(())
 }
 
-// Moves each near time to its join with the lower bound, and parts those that are then at or after the upper bound from
-// the others. The others are each once and in order.
+// Moves each near time to its join with the lower bound, and parts those that are then at or after
+// the upper bound from the others. The others are each once and in order.
 fn parts_of<T: Lattice>(alloc: Global, near: &[T], bounds: Bounds<T>) -> Result<Parted<T>, Refusal>
     ensures members { IfOk result (λ parted. (s : T)
         → (Member s parted.within.items ⊎ Member s parted.beyond.items)
@@ -263,8 +268,8 @@ fn take_from_both<T: Lattice>(out: &mut Vec<T>, xs: &[T], ys: &[T]) -> Result<Me
     Ok(at)
 }
 
-// The times of both lists, each once and in order. At most one comparison for each time that is written, and one
-// allocation.
+// The times of both lists, each once and in order. At most one comparison for each time that is
+// written, and one allocation.
 fn merged<T: Lattice>(alloc: Global, xs: &[T], ys: &[T]) -> Result<Vec<T>, Refusal>
     requires left { IsStrictlySortedBy T.cmp xs.now }
     requires right { IsStrictlySortedBy T.cmp ys.now }
@@ -280,16 +285,17 @@ fn merged<T: Lattice>(alloc: Global, xs: &[T], ys: &[T]) -> Result<Vec<T>, Refus
     Ok(out)
 }
 
-/// Adds new times to the joined times of a key. If `times` are the joins of some old times, then the result has the
-/// joins of the old and new times, and the fresh ones among them become due. `new` may be in any order and have a time
-/// more than once.
+/// Adds new times to the joined times of a key. If `times` are the joins of some old times, then
+/// the result has the joins of the old and new times, and the fresh ones among them become due.
+/// `new` may be in any order and have a time more than once.
 ///
 /// - [`Refusal::OutOfMemory`] only if memory for the new lists was refused.
 ///
-/// Cost: a sort of `new`, a sort of the joins that are found, and one pass over both lists. One new time is joined with
-/// each kept time. More new times are halved until each is alone. A half takes a pass over its new times, two lists, and
-/// a join and a part in a sort for each of its near times. If times have two axes, and all new ones are equal along one of
-/// them, then halves of the same size have together about as many near times as there are kept, new and fresh times.
+/// Cost: a sort of `new`, a sort of the joins that are found, and one pass over both lists. One new
+/// time is joined with each kept time. More new times are halved until each is alone. A half takes
+/// a pass over its new times, two lists, and a join and a part in a sort for each of its near
+/// times. If times have two axes, and all new ones are equal along one of them, then halves of the
+/// same size have together about as many near times as there are kept, new and fresh times.
 pub fn with_times<T: Lattice>(
     alloc: Global,
     times: &[T],

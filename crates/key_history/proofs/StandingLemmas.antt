@@ -134,7 +134,8 @@ module _ {T : Type 0} {below : T → T → Bool} {joined met : T → T → T} (o
           test true e = at s (rest s (w.upward t s here j e))
           test false e = inr (λ r d. sum_at-append below s given out r ∙ (ap (λ z. sum_at below s given r +ℤ z) (elsewhere out key t s a e r) ∙ (+ℤ_idr (sum_at below s given r) ∙ x r d)))
 
-  -- what was given may be written in another way: of the key, with the same sums at each time and at joined times
+  -- what was given may be written in another way: of the key, with the same sums at each time and
+  -- at joined times
   pub given_replaced : (taken given other : List (Update T)) (key : List ℤ) (due : List T)
       → KeyStands below joined k reduce taken given key due
       → ((t : T) (row : List ℤ) → same_row (take k row) key ≡ true → count_of (as_of below t other) row ≡ count_of (as_of below t given) row)

@@ -1,4 +1,5 @@
--- The definitions of the history of a key, with those of orders and frontiers that its contracts name.
+-- The definitions of the history of a key, with those of orders and frontiers that its contracts
+-- name.
 pub use Rattle.lattice.specs.Order
 pub use Rattle.lattice.specs.Frontiers
 pub mod States

@@ -1,5 +1,5 @@
--- What a reduction owes of one key, in whole numbers without bounds. It is why a call may be refused for a number that
--- is too large.
+-- What a reduction owes of one key, in whole numbers without bounds. It is why a call may be
+-- refused for a number that is too large.
 use Rattle.std.specs.Prelude.{◌≡◌, ℕ, ◌≤◌, ◌^◌, Bool, true, List, ℤ, IsTrue, ◌⊎◌}
 use Rattle.std.specs.List.{list_all}
 use Rattle.update.specs.Bags.{Entry}
@@ -10,8 +10,8 @@ use Rattle.joined_times.specs.Joined.{Member, of_key}
 use Rattle.correction.specs.Corrections.{IsRight}
 
 module _ {T : Type 0} (below : T → T → Bool) where
-  -- updates of one key up to some step of a computation, each at a time that the frontier has passed: at or before each
-  -- of their times they sum to what the reducer makes of what was taken
+  -- updates of one key up to some step of a computation, each at a time that the frontier has
+  -- passed: at or before each of their times they sum to what the reducer makes of what was taken
   pub record IsOwed (k : ℕ) (reduce : List ℤ → List Entry → List Entry) (taken : List (Update T)) (key : List ℤ)
       (front : List T) (us : List (Update T)) : Type 0 where
     pub keyed : IsTrue (list_all (of_key k key) us)

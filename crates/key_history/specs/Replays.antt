@@ -1,4 +1,5 @@
--- The updates of a key, replayed in order of time: each may be moved forward as far as the times to come allow.
+-- The updates of a key, replayed in order of time: each may be moved forward as far as the times to
+-- come allow.
 use Rattle.std.specs.Prelude.{ℕ, ◌≤◌, Bool, List, ◌++◌, ℤ, IsTrue, drop, map}
 use Rattle.std.specs.List.{list_all}
 use Rattle.std.specs.List.Sorted.{IsSortedBy}
@@ -14,8 +15,8 @@ abbrev pub moved_to : {T : Type 0} → (T → T → T) → T → List (Update T)
 moved_to joined m us = map (λ u. record { time = joined u.time m; row = u.row; diff = u.diff }) us
 
 module _ {T : Type 0} (below : T → T → Bool) where
-  -- these updates stand in for others at each time at or after `m`: they sum to the same there, they are no larger, and
-  -- they have no other rows
+  -- these updates stand in for others at each time at or after `m`: they sum to the same there,
+  -- they are no larger, and they have no other rows
   pub record StandsFrom (m : T) (us vs : List (Update T)) : Type 0 where
     pub sums : (t : T) → IsTrue (below m t) → Alike (as_of below t vs) (as_of below t us)
     pub smaller : size vs ≤ size us

@@ -1,4 +1,5 @@
--- Over the pending times of one key, in order: those that the frontier has passed are corrected, and the others stay.
+-- Over the pending times of one key, in order: those that the frontier has passed are corrected,
+-- and the others stay.
 use Rattle.std.specs.Prelude.{◌≡◌, ◌≢◌, ℕ, Bool, true, false, List, [], ◌∷◌, ◌++◌, ℤ, pos, take, drop, IsTrue, ◌⊎◌}
 use Rattle.std.specs.List.{filter, AllByRecursion}
 use Rattle.lattice.specs.Frontiers.{is_beyond}

@@ -1,5 +1,5 @@
--- What a reduction is to keep of each key: which of its joined times are pending, and that at each other one the
--- updates that were given are right.
+-- What a reduction is to keep of each key: which of its joined times are pending, and that at each
+-- other one the updates that were given are right.
 use Rattle.std.specs.Prelude.{◌≡◌, ℕ, ◌≤◌, Bool, true, List, ℤ, length, take, nat_le, ◌⊎◌}
 use Rattle.std.specs.List.{filter, list_all}
 use Rattle.update.specs.Bags.{Entry, count_of, same_row}
@@ -29,7 +29,8 @@ module _ {T : Type 0} (below : T → T → Bool) where
   abbrev pub IsSettledAt : List T → T → Type 0
   IsSettledAt due t = (s : T) → Member s due → below s t ≡ true → ⊥
 
-  -- these updates stand in for what was given of a key: their rows sum to the same at every time, and they are no larger
+  -- these updates stand in for what was given of a key: their rows sum to the same at every time,
+  -- and they are no larger
   pub record Shows (k : ℕ) (key : List ℤ) (stored given : List (Update T)) : Type 0 where
     pub sums : (t : T) (row : List ℤ) → same_row (take k row) key ≡ true
         → count_of (as_of below t stored) row ≡ count_of (as_of below t given) row

@@ -1,4 +1,5 @@
--- A sweep over the times of a key: its replayed rows, and what was given of it, stand in for the whole lists.
+-- A sweep over the times of a key: its replayed rows, and what was given of it, stand in for the
+-- whole lists.
 use Rattle.std.specs.Prelude.{◌≡◌, ℕ, ◌<◌, Bool, List, ◌∷◌, ◌++◌, ℤ, IsTrue, Option, Some, None, IfSome, drop, get_or, length}
 use Rattle.std.specs.List.{list_all}
 use Rattle.std.specs.declared.cmp.Ordering.{Ordering}
@@ -30,7 +31,8 @@ module _ {T : Type 0} (below : T → T → Bool) where
         → IsTrue (list_all (λ e. p e.row) base) × IsTrue (list_all (λ u. p u.row) vs)
 
 module _ {T : Type 0} (below : T → T → Bool) (cmp : T → T → Ordering) where
-  -- at the times to do both replays stand in for the whole lists; what was given does so at the last evaluation's time too
+  -- at the times to do both replays stand in for the whole lists; what was given does so at the
+  -- last evaluation's time too
   pub record IsSweep (todo : List T) (rows given : List (Update T)) (s : Sweep T) : Type 0 where
     pub rows_ascend : Ascends cmp s.rows.later.items
     pub had_ascend : Ascends cmp s.had.later.items

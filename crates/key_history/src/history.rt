@@ -1,8 +1,10 @@
-//! The history of one key: its joined times, which of them are pending, and what was given of it. A history is changed in
-//! place, so a change costs what is new and not what the key has been through. Only [`KeyHistory::give`] takes memory, and
-//! what it appends can be taken back. So a call that is refused on its way can leave each history as it was.
+//! The history of one key: its joined times, which of them are pending, and what was given of it. A
+//! history is changed in place, so a change costs what is new and not what the key has been
+//! through. Only [`KeyHistory::give`] takes memory, and what it appends can be taken back. So a
+//! call that is refused on its way can leave each history as it was.
 //!
-//! Beside what was given stands its past, which is a shorter list for the times to come. A contract does not see it.
+//! Beside what was given stands its past, which is a shorter list for the times to come. A contract
+//! does not see it.
 ghost use Rattle.std.specs.Prelude.{◌≡◌, ◌≤◌, ◌+◌, ◌++◌, List, [], ℤ, IfErr, OnErr, OnOk, length, vec_capacity, vec_len};
 ghost use Rattle.update.specs.declared.refusal.Refusal.{Refusal};
 ghost use Rattle.key_history.specs.States.{HistoryState, given_more, given_less, due_left, times_put};
@@ -15,7 +17,8 @@ use std::alloc::Global;
 use std::marker::Model;
 use update::{Refusal, Update};
 
-/// A key with its joined times, the pending ones among them, and what was given of it, as a contract sees it.
+/// A key with its joined times, the pending ones among them, and what was given of it, as a
+/// contract sees it.
 #[derive(Drop)]
 pub struct KeyHistory<T: Lattice> {
     key: Row,
@@ -41,7 +44,8 @@ impl<T: Lattice> Model for KeyHistory<T> {
     ghost invariant = { λ h. IsPast T.below h.given.items h.past };
 }
 
-// Makes room for so many more updates. A first list gets no more room than that, since many keys get no second one.
+// Makes room for so many more updates. A first list gets no more room than that, since many keys
+// get no second one.
 fn make_room<T: Lattice>(list: &mut Vec<Update<T>>, more: usize) -> Result<(), Refusal>
     ensures items { list.new.items ≡ list.old.items }
     ensures room { OnOk result (vec_len list.new + more ≤ vec_capacity list.new) }
@@ -112,7 +116,8 @@ impl<T: Lattice> KeyHistory<T> {
         self.given.as_slice()
     }
 
-    /// What was given of the key, as the times at or after `meet` see it: the updates of two lists. Takes no memory.
+    /// What was given of the key, as the times at or after `meet` see it: the updates of two lists.
+    /// Takes no memory.
     pub(crate) fn seen_from(&self, meet: T) -> (&[Update<T>], &[Update<T>])
         ensures { StandsFrom T.below meet self.now.given (result.0.now ++ result.1.now) }
     {
@@ -124,10 +129,11 @@ impl<T: Lattice> KeyHistory<T> {
         }
     }
 
-    /// Folds what was given, as the times at or after `since` see it, if that is worth it and memory for it is there. Nothing
-    /// that a contract sees is changed.
+    /// Folds what was given, as the times at or after `since` see it, if that is worth it and
+    /// memory for it is there. Nothing that a contract sees is changed.
     ///
-    /// Cost: none for most calls. All folds of a key together cost n log n in the number of updates that were given.
+    /// Cost: none for most calls. All folds of a key together cost n log n in the number of updates
+    /// that were given.
     pub fn fold(&mut self, alloc: Global, since: T)
         ensures { self.new ≡ self.old }
     {
@@ -141,11 +147,13 @@ impl<T: Lattice> KeyHistory<T> {
         }
     }
 
-    /// Appends copies of updates to what was given. If the call is refused, then nothing has changed.
+    /// Appends copies of updates to what was given. If the call is refused, then nothing has
+    /// changed.
     ///
     /// [`Refusal::OutOfMemory`] only if memory for the copies was refused.
     ///
-    /// Cost: a copy of `more`. If there is no room for it, then the list of what was given moves to one of twice the room.
+    /// Cost: a copy of `more`. If there is no room for it, then the list of what was given moves to
+    /// one of twice the room.
     pub fn give(&mut self, more: &[Update<T>]) -> Result<(), Refusal>
         ensures given { OnOk result (self.new ≡ given_more more.now self.old) }
         ensures same { OnErr result (self.new ≡ self.old) }

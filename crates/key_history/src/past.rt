@@ -1,16 +1,18 @@
 //! The past of a key: what was given of it, as the times to come see it.
 //!
-//! A late correction makes many times of its key pending, and at each of them it asks what was given before. All that was
-//! given is a long list: a correction gives anew at each later time. But the times at or after a frontier tell little of it
-//! apart. So a past keeps the updates at the join of their times with the meet of a frontier, added up. How many these are
-//! depends on how many times the key has there, and not on how often it was corrected.
+//! A late correction makes many times of its key pending, and at each of them it asks what was
+//! given before. All that was given is a long list: a correction gives anew at each later time. But
+//! the times at or after a frontier tell little of it apart. So a past keeps the updates at the
+//! join of their times with the meet of a frontier, added up. How many these are depends on how
+//! many times the key has there, and not on how often it was corrected.
 //!
-//! What was given stays whole beside it, since it is right at every time. The invariant (`IsPast` in `specs/Pasts.antt`): at
-//! each time at or after `since`, the folded updates sum to what the first `count` of those given sum to. Who asks for an
-//! earlier time reads the whole list.
+//! What was given stays whole beside it, since it is right at every time. The invariant (`IsPast`
+//! in `specs/Pasts.antt`): at each time at or after `since`, the folded updates sum to what the
+//! first `count` of those given sum to. Who asks for an earlier time reads the whole list.
 //!
-//! A past is kept only if it is at most half as long as what it stands for, so it takes at most half as much memory again.
-//! It is made anew once more was given since than it has. So all folds of a key together cost n log n in what was given.
+//! A past is kept only if it is at most half as long as what it stands for, so it takes at most
+//! half as much memory again. It is made anew once more was given since than it has. So all folds
+//! of a key together cost n log n in what was given.
 ghost use Rattle.std.specs.Prelude.{◌≡◌, ◌≤◌, ◌++◌, List, [], IfOk, IfErr, OnOk, length, take, drop};
 ghost use Rattle.update.specs.declared.change.Update.{Update};
 ghost use Rattle.update.specs.declared.refusal.Refusal.{Refusal};
@@ -35,7 +37,8 @@ pub(crate) struct Past<T> {
     pub(crate) limit: usize,
 }
 
-// How many updates may be given before the first are folded: a shorter list is read as fast as it is.
+// How many updates may be given before the first are folded: a shorter list is read as fast as it
+// is.
 const SHORT: usize = 16;
 
 impl<T: Lattice> Past<T> {
@@ -51,7 +54,8 @@ impl<T: Lattice> Past<T> {
         }
     }
 
-    // The past of so many updates, which these ones stand for. None is kept unless they are at most half as many.
+    // The past of so many updates, which these ones stand for. None is kept unless they are at most
+    // half as many.
     fn if_short(alloc: Global, near: Vec<Update<T>>, count: usize, since: T) -> Past<T>
         ensures past { (given : List (Update T)) → count ≡ length given
             → StandsFrom T.below since given near.items → IsPast T.below given result }
@@ -101,7 +105,8 @@ impl<T: Lattice> Past<T> {
         given > self.limit
     }
 
-    /// Forgets what is folded, if it stands for more updates than the first `left`. Takes no memory.
+    /// Forgets what is folded, if it stands for more updates than the first `left`. Takes no
+    /// memory.
     pub(crate) fn cut(&mut self, left: usize)
         ensures past { (given : List (Update T)) → IsPast T.below given self.old
             → IsPast T.below (take left given) self.new }

@@ -1,12 +1,14 @@
-//! The updates of a key, replayed in order of time: each comes in once the time is reached after which it may matter.
+//! The updates of a key, replayed in order of time: each comes in once the time is reached after
+//! which it may matter.
 //!
-//! The times of a key come in `Ord` order, and each time to come is at or after the meet of all that are to come. By the
-//! laws of a lattice, no time at or after that meet tells an update from the same update at the join of its time with the
-//! meet. So what has come in is moved there, and what falls on one time is added up. A long history becomes a short list,
-//! and a sum at the next time looks at that list alone.
+//! The times of a key come in `Ord` order, and each time to come is at or after the meet of all
+//! that are to come. By the laws of a lattice, no time at or after that meet tells an update from
+//! the same update at the join of its time with the meet. So what has come in is moved there, and
+//! what falls on one time is added up. A long history becomes a short list, and a sum at the next
+//! time looks at that list alone.
 //!
-//! The invariant: what has come in, with what comes in later, sums at each time to come to what the whole list sums to
-//! (`StandsOn` in `specs/Replays.antt`).
+//! The invariant: what has come in, with what comes in later, sums at each time to come to what the
+//! whole list sums to (`StandsOn` in `specs/Replays.antt`).
 ghost use Rattle.std.specs.Prelude.{◌≡◌, ◌⊎◌, ◌≤◌, ◌<◌, ◌+◌, ◌++◌, ◌∷◌, [], List, ℤ, Bool, true, IsTrue, IfOk, IfErr, OnOk, IsSomeAnd, drop, length, slice_get, false};
 ghost use Rattle.std.specs.List.{list_all};
 ghost use Rattle.update.specs.Bags.{Alike};
@@ -57,8 +59,9 @@ fn moved<T: Lattice>(
     Ok(out)
 }
 
-/// The updates as of the times at or after `meet`: moved there, and added up. A total that is too large there need be none
-/// at the times to come, so it is no cause to refuse: the updates then stay as they are.
+/// The updates as of the times at or after `meet`: moved there, and added up. A total that is too
+/// large there need be none at the times to come, so it is no cause to refuse: the updates then
+/// stay as they are.
 ///
 /// Cost: a copy of the updates, and n log n in their number.
 pub(crate) fn nearer<T: Lattice>(
@@ -76,7 +79,8 @@ pub(crate) fn nearer<T: Lattice>(
     }
 }
 
-// How many updates more than twice those that were left by the last move may come in before the next one.
+// How many updates more than twice those that were left by the last move may come in before the
+// next one.
 const SLACK: usize = 8;
 
 // How many updates may have come in before they are moved, if so many are left now.
@@ -95,10 +99,12 @@ fn add_early<T: Lattice>(base: &mut Tally, update: &Update<T>, meet: T) -> bool
     update.time.less_equal(&meet) && base.add(&update.row, update.diff)
 }
 
-// With fewer times to come, a first move of what has come in does not pay back: it copies and sorts.
+// With fewer times to come, a first move of what has come in does not pay back: it copies and
+// sorts.
 const MANY_TIMES: usize = 16;
 
-// How many updates may have come in before the first move, if so many come in at once and so many times are to come.
+// How many updates may have come in before the first move, if so many come in at once and so many
+// times are to come.
 fn first_limit(come_in: usize, times: usize) -> usize {
     if times < MANY_TIMES {
         limit_after(come_in)
@@ -116,8 +122,8 @@ pub(crate) struct Replay<T> {
     pub(crate) later: Vec<Update<T>>,
     /// How many of `later` have come in.
     pub(crate) entered: usize,
-    /// How many may have come in before they are moved again: more than twice as many as were left by the last move, so
-    /// that all moves together cost n log n.
+    /// How many may have come in before they are moved again: more than twice as many as were left
+    /// by the last move, so that all moves together cost n log n.
     pub(crate) limit: usize,
 }
 
@@ -155,10 +161,11 @@ impl<T: Lattice> Replay<T> {
         Ok(())
     }
 
-    /// The updates of two lists on the way to a first time, after which so many times are to come. Those whose time does
-    /// not come after the first one have come in.
+    /// The updates of two lists on the way to a first time, after which so many times are to come.
+    /// Those whose time does not come after the first one have come in.
     ///
-    /// Cost: a copy of the updates, and n log n in the number of those whose time comes after the first one.
+    /// Cost: a copy of the updates, and n log n in the number of those whose time comes after the
+    /// first one.
     pub(crate) fn of(
         alloc: Global,
         updates: &[Update<T>],
@@ -211,8 +218,8 @@ impl<T: Lattice> Replay<T> {
         Ok(())
     }
 
-    /// Lets the updates come in whose time does not come after this one. Those that have come in then sum to what all sum
-    /// to, at the time and at each one before it.
+    /// Lets the updates come in whose time does not come after this one. Those that have come in
+    /// then sum to what all sum to, at the time and at each one before it.
     ///
     /// Cost: a copy of each update that comes in.
     pub(crate) fn reach(&mut self, time: T) -> Result<(), Refusal>
@@ -233,10 +240,11 @@ impl<T: Lattice> Replay<T> {
         Ok(())
     }
 
-    /// Moves those that have come in to a time that is at or before all times to come, if they are more than twice as many
-    /// as the last move left.
+    /// Moves those that have come in to a time that is at or before all times to come, if they are
+    /// more than twice as many as the last move left.
     ///
-    /// Cost: that of [`nearer`]. All moves of one way together cost n log n in the number of updates that come in.
+    /// Cost: that of [`nearer`]. All moves of one way together cost n log n in the number of
+    /// updates that come in.
     pub(crate) fn advance(&mut self, alloc: Global, meet: T) -> Result<(), Refusal>
         ensures stands { OnOk result (StandsFrom T.below meet
             (on_the_way self.old.near.items self.old.later.items self.old.entered)
@@ -263,7 +271,8 @@ impl<T: Lattice> Replay<T> {
         false
     }
 
-    // Adds an update to a tally if it is at or before `meet`, and else puts it with those that have come in.
+    // Adds an update to a tally if it is at or before `meet`, and else puts it with those that have
+    // come in.
     fn settle(&mut self, update: Update<T>, base: &mut Tally, meet: T) -> Result<(), Refusal>
         ensures settles { OnOk result (Settles T.below meet base.old
             (self.old.near.items ++ update ∷ []) base.new self.new.near.items) }
@@ -278,12 +287,12 @@ impl<T: Lattice> Replay<T> {
         Ok(())
     }
 
-    /// Adds those that have come in to a tally, if they are at or before `meet`, a time that is at or before all times to
-    /// come: each of these times sees them. One that would make a count too large stays as it is, since others may take
-    /// from the count again.
+    /// Adds those that have come in to a tally, if they are at or before `meet`, a time that is at
+    /// or before all times to come: each of these times sees them. One that would make a count too
+    /// large stays as it is, since others may take from the count again.
     ///
-    /// Cost: a look at each of those that have come in; if some are added, a binary search in the tally for each of these,
-    /// and a move of the others.
+    /// Cost: a look at each of those that have come in; if some are added, a binary search in the
+    /// tally for each of these, and a move of the others.
     pub(crate) fn settle_into(
         &mut self,
         alloc: Global,

@@ -1,12 +1,14 @@
-//! A sweep over the pending times of one key, in `Ord` order. Those that the frontier has passed are corrected, and the
-//! others stay pending. The order extends the partial one, so at each correction all that was given up to that time is
-//! there, and no time that is still pending is at or before it. That is why one pass is enough.
+//! A sweep over the pending times of one key, in `Ord` order. Those that the frontier has passed
+//! are corrected, and the others stay pending. The order extends the partial one, so at each
+//! correction all that was given up to that time is there, and no time that is still pending is at
+//! or before it. That is why one pass is enough.
 //!
-//! The key's rows and what was given of it are replayed beside the sweep, in order of time, and what no later time
-//! tells apart is folded. So a correction looks at what may differ from the time before, and not at the whole history.
-//! The invariant (`IsSweep` in `specs/Sweeps.antt`): at each time to do, and at that of the last evaluation, both
-//! replays sum to what the whole lists sum to. The last evaluation is kept only if its time is at or before the next
-//! one; its time is then one of those that updates may not be moved past.
+//! The key's rows and what was given of it are replayed beside the sweep, in order of time, and
+//! what no later time tells apart is folded. So a correction looks at what may differ from the time
+//! before, and not at the whole history. The invariant (`IsSweep` in `specs/Sweeps.antt`): at each
+//! time to do, and at that of the last evaluation, both replays sum to what the whole lists sum to.
+//! The last evaluation is kept only if its time is at or before the next one; its time is then one
+//! of those that updates may not be moved past.
 //!
 //! Nothing of the key's history is changed here. What is given is gathered aside.
 ghost use Rattle.std.specs.Prelude.{ℕ, ◌<◌, ◌+◌, get_or, ◌≡◌, ◌≢◌, ◌⊎◌, ◌≤◌, ◌++◌, ◌∷◌, drop, None, false, IfOk, IfErr, IfSome, OnOk, IsTrue, List, length, pos};
@@ -130,7 +132,8 @@ fn lead<T: Lattice>(alloc: Global, time: T, meet: T, sweep: &mut Sweep<T>) -> Re
 {
     forget_unless_before(&mut sweep.last, time);
     let behind = meet_with_last(&sweep.last, meet);
-    // What all times to come see goes into the tally first: then it need not be moved and sorted with the rest.
+    // What all times to come see goes into the tally first: then it need not be moved and sorted
+    // with the rest.
     sweep.rows.settle_into(alloc, &mut sweep.base, meet)?;
     sweep.rows.advance(alloc, meet)?;
     sweep.had.advance(alloc, behind)?;
@@ -243,16 +246,17 @@ fn first_of<T: Lattice>(times: &[T]) -> T
     }
 }
 
-/// What is given of a key at those of its pending times that the frontier has passed, if `rows` are the updates of its
-/// rows.
+/// What is given of a key at those of its pending times that the frontier has passed, if `rows` are
+/// the updates of its rows.
 ///
 /// - [`Refusal::Overflow`] only if what the key is owed is too large.
 /// - [`Refusal::OutOfMemory`] only if memory was refused.
 ///
-/// Cost: a copy of the key's rows and of what was given of it, as the first pending time and those after it see it; a sort of
-/// the rows, and one of those updates that come after the first pending time. For each pending time one comparison with the
-/// frontier. For each one that has passed, that of an answer and of a correction (`answer_at` and `correct`) with the replayed
-/// updates: those that not all times to come see, each once for all that these times do not tell apart.
+/// Cost: a copy of the key's rows and of what was given of it, as the first pending time and those
+/// after it see it; a sort of the rows, and one of those updates that come after the first pending
+/// time. For each pending time one comparison with the frontier. For each one that has passed, that
+/// of an answer and of a correction (`answer_at` and `correct`) with the replayed updates: those
+/// that not all times to come see, each once for all that these times do not tell apart.
 pub fn sweep_key<T: Lattice, R: Reducer>(
     alloc: Global,
     reducer: &R,

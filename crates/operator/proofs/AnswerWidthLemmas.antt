@@ -53,7 +53,8 @@ same_answers Max k width room es row = refl
 pub alike_answers : (kind : Kind) (k : ℕ) (a b : List Entry) → Alike a b → Alike (reduction_output k (reduction_answer kind) a) (reduction_output k (reduction_answer kind) b)
 alike_answers kind k a b h = given_alike k (Reduce kind 0) (λ port. a) (λ port. b) (λ port e. h)
 
--- for rows of one width the reducers answer by the key of the state what the plan's reduction answers
+-- for rows of one width the reducers answer by the key of the state what the plan's reduction
+-- answers
 pub plan_answers : (kind : Kind) (k key width : ℕ) → k ≡ state_key kind key width → HasRoom kind key width → (es : List Entry) → list_all (λ (e : Entry). eqb (length e.row) width) es ≡ true
     → Alike (reduction_output k (kind_answer kind) es) (reduction_output key (reduction_answer kind) es)
 plan_answers kind k key width goes room es wide row =

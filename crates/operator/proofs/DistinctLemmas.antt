@@ -1,5 +1,5 @@
--- A distinct may go by whole rows. For rows of one width it answers the same by any number of their columns: each row that
--- counts more than 0 times, once.
+-- A distinct may go by whole rows. For rows of one width it answers the same by any number of their
+-- columns: each row that counts more than 0 times, once.
 use Rattle.std.proofs.Common.{◌≡◌, ◌≤◌, ◌<◌, ℕ, Bool, true, false, cond, eqb, List, take, length, refl, ap, sym, subst, ◌∙◌, arith}
 use Rattle.std.specs.Prelude.{ℤ, pos, int_lt, nat_le}
 use Rattle.std.specs.List.{filter, list_all}
@@ -31,7 +31,8 @@ own_count k es row =
     count_of-filter (λ other. same_row (take k other) (take k row)) es row
     ∙ ap (λ b. cond b (count_of es row) (pos 0)) (row_itself (take k row))
 
--- by any number of the columns that all rows have, distinct answers each row that counts more than 0 times, once
+-- by any number of the columns that all rows have, distinct answers each row that counts more than
+-- 0 times, once
 distinct_at : (k width : ℕ) (es : List Entry) → k ≤ width → list_all (λ (e : Entry). eqb (length e.row) width) es ≡ true → (row : List ℤ)
     → count_of (reduction_output k (reduction_answer Distinct) es) row ≡ once (count_of es row)
 distinct_at k width es within wide row =
@@ -52,7 +53,8 @@ distinct_by_any a b width es a_within b_within wide row = distinct_at a width es
 
 -- ---- the key of the state and the key of the plan
 
--- for rows of one width a reduction answers the same by the key of its state and by the key of the plan
+-- for rows of one width a reduction answers the same by the key of its state and by the key of the
+-- plan
 pub by_state_key : (kind : Kind) (key width : ℕ) (es : List Entry) → key ≤ width → list_all (λ (e : Entry). eqb (length e.row) width) es ≡ true
     → Alike (reduction_output (state_key kind key width) (reduction_answer kind) es) (reduction_output key (reduction_answer kind) es)
 by_state_key Count key width es within wide row = refl

@@ -1,4 +1,5 @@
--- The least times of some updates: a step of the loops that find them, and what they are as a frontier.
+-- The least times of some updates: a step of the loops that find them, and what they are as a
+-- frontier.
 use Rattle.std.proofs.Common.{◌≡◌, ℕ, suc, ◌+◌, ◌<◌, Bool, true, false, cond, ◌||◌, List, [], ◌∷◌, ◌++◌, IsTrue, length, drop, get_or, add-one, drop-cons, refl, sym, ◌∙◌, ap}
 use Rattle.lattice.specs.Order.{PartialOrderLaws}
 use Rattle.lattice.specs.Frontiers.{is_beyond, all_beyond}

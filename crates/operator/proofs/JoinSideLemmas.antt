@@ -55,7 +55,8 @@ module _ {T : Type 0} {below : T → T → Bool} (o : PartialOrderLaws below) (m
     since = since;
   }
 
-  -- a spine that still stands for the insertions and still has the boundary may take the place of another
+  -- a spine that still stands for the insertions and still has the boundary may take the place of
+  -- another
   pub side_kept : (s r : SpineState T) (inserted taken : List (Insertion T)) (boundary : List T) → (Stands below s inserted → Stands below r inserted) → r.list.start ≡ s.list.start → r.since ≡ s.since → Contains (boundaries r) boundary
       → IsSide below minimum s inserted taken boundary → IsSide below minimum r inserted taken boundary
   side_kept s r inserted taken boundary stands start since readable is = record {
@@ -161,7 +162,8 @@ module _ {T : Type 0} {below : T → T → Bool} (o : PartialOrderLaws below) wh
   first_in_turn start [] taken all = all
   first_in_turn start (i ∷ later) taken all = (first_in_turn start later (i ∷ taken) all).1
 
-  -- what was inserted later ends beyond what was inserted first, and the updates of the later ones are in between
+  -- what was inserted later ends beyond what was inserted first, and the updates of the later ones
+  -- are in between
   later_between : (start : List T) (later taken : List (Insertion T)) → AreInTurn below start (on_top later taken)
       → IsTrue (all_beyond below (reached start taken) (reached start (on_top later taken)))
       × IsTrue (all_between below (reached start taken) (reached start (on_top later taken)) (all_updates later))
@@ -178,7 +180,8 @@ module _ {T : Type 0} {below : T → T → Bool} (o : PartialOrderLaws below) wh
             (between_wider from i.upper end end turn.forward (beyond_itself o end) (all_updates later) rest.1),
       )
 
-  -- the updates that a side has still to take are between its boundary and the frontier that its spine has reached
+  -- the updates that a side has still to take are between its boundary and the frontier that its
+  -- spine has reached
   pub side_waits : (minimum : T) (s : SpineState T) (inserted taken : List (Insertion T)) (boundary : List T) → (is : IsSide below minimum s inserted taken boundary)
       → IsTrue (is_interval_of below boundary (upper_of s) (all_updates is.later))
   side_waits minimum s inserted taken boundary is =

@@ -301,7 +301,8 @@ module _ {T : Type 0} {below : T → T → Bool} (o : PartialOrderLaws below) wh
 -- ---- what stands
 
 module _ {T : Type 0} {below : T → T → Bool} {joined met : T → T → T} (o : PartialOrderLaws below) (l : LatticeLaws below joined met) where
-  -- where nothing is pending, what was given is what the plan's reduction makes of what was received
+  -- where nothing is pending, what was given is what the plan's reduction makes of what was
+  -- received
   pub answer_at : (r : ReducingView T) (received emitted : List (Update T)) → HasRoom r.state.reducer r.key r.width → r.state.key ≡ state_key r.state.reducer r.key r.width → IsReduced below joined r received emitted
       → (t : T) → IsTrue (has_passed below (pending_of r) t) → IsAnswerAt below r received emitted t
   answer_at r received emitted room goes w t h row =

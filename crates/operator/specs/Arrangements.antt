@@ -1,4 +1,5 @@
--- What a contract sees of an arrangement, and what each one keeps (McSherry et al., Shared Arrangements, VLDB 2020).
+-- What a contract sees of an arrangement, and what each one keeps (McSherry et al., Shared
+-- Arrangements, VLDB 2020).
 use Rattle.std.specs.Prelude.{◌≡◌, ◌≢◌, ℕ, ◌<◌, Bool, List, [], ◌∷◌, ◌++◌, map, length, eqb, slice_get, IsTrue, ⊤}
 use Rattle.std.specs.List.{All, Contains, list_all}
 use Rattle.lattice.specs.Frontiers.{is_beyond, all_beyond}
@@ -11,8 +12,8 @@ use Rattle.trace.specs.Holds.{HoldState}
 use Rattle.spine.specs.Holding.{AreSameHolds}
 use Rattle.spine.specs.Spines.{SpineState, Stands, boundaries, stored}
 
--- how many columns the rows have, the batches that were inserted, the updates whose times the input frontier has not
--- passed, and the holds: the arrangement's own, and then one for each reader
+-- how many columns the rows have, the batches that were inserted, the updates whose times the input
+-- frontier has not passed, and the holds: the arrangement's own, and then one for each reader
 pub record ArrangementState (T : Type 0) : Type 0 where
   pub width : ℕ
   pub spine : SpineState T
@@ -47,7 +48,8 @@ module _ {T : Type 0} (below : T → T → Bool) where
     pub boundary : Contains (boundaries s) hold.physical
     pub behind : IsTrue (all_beyond below hold.physical (upper_of s))
 
-  -- the holds are those of the spine, every time may be read, and all rows and times are as they should be
+  -- the holds are those of the spine, every time may be read, and all rows and times are as they
+  -- should be
   pub record IsArrangement (least : T) (a : ArrangementState T) : Type 0 where
     pub holds : AreSameHolds a.holds a.spine.holds
     pub own : 0 < length a.holds
@@ -68,7 +70,8 @@ module _ {T : Type 0} (below : T → T → Bool) where
     pub begin : All (λ hold. hold ≡ record { logical = least ∷ []; physical = least ∷ [] }) a.holds
     pub stands : Stands below a.spine []
 
-  -- the insertion goes on from a frontier: it ends at one beyond it, and has updates, all with times in between
+  -- the insertion goes on from a frontier: it ends at one beyond it, and has updates, all with
+  -- times in between
   pub record IsInTurn (from : List T) (i : Insertion T) : Type 0 where
     pub forward : IsTrue (all_beyond below from i.upper)
     pub some : i.updates ≢ []
@@ -79,7 +82,8 @@ module _ {T : Type 0} (below : T → T → Bool) where
   AreInTurn start [] = ⊤
   AreInTurn start (i ∷ h) = IsInTurn (reached start h) i × AreInTurn start h
 
--- the arrangement after it kept a batch: one without updates is not inserted. The readers' holds stay
+-- the arrangement after it kept a batch: one without updates is not inserted. The readers' holds
+-- stay
 pub record IsKeptWith {T : Type 0} (below : T → T → Bool) (a b : ArrangementState T) (batch : BatchState T) : Type 0 where
   pub width : b.width ≡ a.width
   pub start : b.spine.list.start ≡ a.spine.list.start

@@ -11,8 +11,8 @@ use Rattle.join.specs.Sides.{Acknowledged}
 use Rattle.operator.specs.Arrangements.{AreInTurn}
 use Rattle.operator_laws.specs.Joining.{on_top}
 
--- how far each side was acknowledged, the number of the hold at each side's arrangement, and the columns of each side's
--- rows
+-- how far each side was acknowledged, the number of the hold at each side's arrangement, and the
+-- columns of each side's rows
 pub record JoiningView (T : Type 0) : Type 0 where
   pub state : Acknowledged T
   pub left_hold : ℕ
@@ -20,14 +20,16 @@ pub record JoiningView (T : Type 0) : Type 0 where
   pub left_width : ℕ
   pub right_width : ℕ
 
--- rows of these widths can be joined by a key of k columns: both sides have the key, and a pair has at most 8 columns
+-- rows of these widths can be joined by a key of k columns: both sides have the key, and a pair has
+-- at most 8 columns
 pub record IsFitting (k left right : ℕ) : Type 0 where
   pub some : 1 ≤ k
   pub left_key : k ≤ left
   pub right_key : k ≤ right
   pub narrow : left + right ≤ 8 + k
 
--- the updates of a batch stand in for some updates: they have the same sums, no other rows or times, and are no larger
+-- the updates of a batch stand in for some updates: they have the same sums, no other rows or
+-- times, and are no larger
 pub record IsBatchOf {T : Type 0} (below : T → T → Bool) (us batch : List (Update T)) : Type 0 where
   pub sums : (t : T) → Alike (as_of below t batch) (as_of below t us)
   pub smaller : size batch ≤ size us
@@ -36,8 +38,8 @@ pub record IsBatchOf {T : Type 0} (below : T → T → Bool) (us batch : List (U
       → IsTrue (list_all (λ u. p u.row u.time) batch)
 
 module _ {T : Type 0} (below : T → T → Bool) (minimum : T) where
-  -- a side of a join has taken the oldest of the insertions for which its spine stands, up to its boundary; each time
-  -- of the spine may be read
+  -- a side of a join has taken the oldest of the insertions for which its spine stands, up to its
+  -- boundary; each time of the spine may be read
   pub record IsSide (s : SpineState T) (inserted taken : List (Insertion T)) (boundary : List T) : Type 0 where
     pub stands : Stands below s inserted
     pub start : s.list.start ≡ minimum ∷ []

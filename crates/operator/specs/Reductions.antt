@@ -16,15 +16,16 @@ use Rattle.reduce.specs.Histories.{HistoryState, ReduceView}
 use Rattle.reduce.specs.Kinds.{kind_answer}
 use Rattle.reduce.specs.Reductions.{StandsFor, IsOpenTo}
 
--- a reduction of a plan's kind: its state, the number of columns by which the plan reduces, and the number of columns of
--- the rows that it takes. The state goes by `state.key` columns, which for a distinct are all columns
+-- a reduction of a plan's kind: its state, the number of columns by which the plan reduces, and the
+-- number of columns of the rows that it takes. The state goes by `state.key` columns, which for a
+-- distinct are all columns
 pub record ReducingView (T : Type 0) : Type 0 where
   pub state : ReduceView T Kind
   pub key : ℕ
   pub width : ℕ
 
--- the number of columns by which the state goes, from the number by which the plan reduces and the width of the rows: a
--- distinct goes by whole rows, every other reduction as the plan says
+-- the number of columns by which the state goes, from the number by which the plan reduces and the
+-- width of the rows: a distinct goes by whole rows, every other reduction as the plan says
 abbrev pub state_key : Kind → ℕ → ℕ → ℕ
 state_key Count key width = key
 state_key Distinct key width = width
@@ -54,15 +55,16 @@ module _ {T : Type 0} where
       → IsTrue (list_all (λ u. p u.row u.time) vs)
       → IsTrue (list_all (λ u. p u.row u.time) us)
 
--- a key that a plan allows: it is part of the rows, and the rows that are given have at most 8 columns
+-- a key that a plan allows: it is part of the rows, and the rows that are given have at most 8
+-- columns
 pub record HasRoom (kind : Kind) (key width : ℕ) : Type 0 where
   pub some : 1 ≤ key
   pub within : key ≤ width
   pub room : reduced_width kind key width ≤ 8
 
 module _ {T : Type 0} (below : T → T → Bool) where
-  -- the updates may be read in the place of others: they sum to the same at every time, no row and no time is new, and
-  -- they are no larger
+  -- the updates may be read in the place of others: they sum to the same at every time, no row and
+  -- no time is new, and they are no larger
   pub record StandIn (us vs : List (Update T)) : Type 0 where
     pub sums : (t : T) → Alike (as_of below t us) (as_of below t vs)
     pub among : AreAmong us vs
@@ -74,23 +76,24 @@ module _ {T : Type 0} (below : T → T → Bool) where
       (t : T) → IsTrue (has_passed below frontier t)
       → Alike (as_of below t inserted) (as_of below t received)
 
-  -- what a reduction gave sums at a time to the answers for what it received; these are the words of a plan's operator
+  -- what a reduction gave sums at a time to the answers for what it received; these are the words
+  -- of a plan's operator
   abbrev pub IsAnswerAt : ReducingView T → List (Update T) → List (Update T) → T → Type 0
   IsAnswerAt r received emitted t =
       Alike (as_of below t emitted)
       (reduction_output r.key (reduction_answer r.state.reducer) (as_of below t received))
 
-  -- with these updates these times are pending: nothing of what was pending comes before, where none of them has come the
-  -- updates sum to nothing, and nothing else is pending
+  -- with these updates these times are pending: nothing of what was pending comes before, where
+  -- none of them has come the updates sum to nothing, and nothing else is pending
   pub record IsPendingAfter (pending : List T) (us : List (Update T)) (more : List T) : Type 0 where
     pub old : IsTrue (all_beyond below more pending)
     pub none : (t : T) → IsTrue (has_passed below more t) → Alike (as_of below t us) []
     pub beyond : (frontier : List T) → IsTrue (all_beyond below frontier pending)
         → IsTrue (all_beyond below frontier (times us)) → IsTrue (all_beyond below frontier more)
 
-  -- updates of the rows of one key of the state up to some step of a computation, each row at most once at each time, and
-  -- each at a time that the frontier has passed: at or before each of their times they sum to what is to be given of the
-  -- key
+  -- updates of the rows of one key of the state up to some step of a computation, each row at most
+  -- once at each time, and each at a time that the frontier has passed: at or before each of their
+  -- times they sum to what is to be given of the key
   pub record AreOwedOf (r : ReducingView T) (received : List (Update T)) (frontier : List T) (key : List ℤ)
       (us : List (Update T)) : Type 0 where
     pub apart : AreApart below us
@@ -107,8 +110,8 @@ module _ {T : Type 0} (below : T → T → Bool) where
       × (2 ^ 63 ≤ size us))
 
 module _ {T : Type 0} (below : T → T → Bool) (joined : T → T → T) where
-  -- a reduction that has received these updates and given those, each list with the newest first. What it has taken
-  -- stands in for what was received
+  -- a reduction that has received these updates and given those, each list with the newest first.
+  -- What it has taken stands in for what was received
   pub record IsReduced (r : ReducingView T) (received emitted : List (Update T)) : Type 0 where
     pub taken : List (Update T)
     pub same : StandIn below taken received

@@ -1,13 +1,15 @@
-//! What one worker keeps at an arrange node of a plan: the updates whose times the node's input frontier has not
-//! passed, and a spine of all batches that it has made of the others. Every join and reduction that reads the node
-//! reads this one spine (McSherry et al., Shared Arrangements, VLDB 2020).
+//! What one worker keeps at an arrange node of a plan: the updates whose times the node's input
+//! frontier has not passed, and a spine of all batches that it has made of the others. Every join
+//! and reduction that reads the node reads this one spine (McSherry et al., Shared Arrangements,
+//! VLDB 2020).
 //!
-//! The arrangement keeps the holds of all its readers. Hold 0 is its own. The others are for the ports of the readers,
-//! in the order of the caller. A reader that has taken a batch acknowledges it, and the spine may merge across the
-//! boundaries before. Every reader sums at all times, so each logical frontier stays at the least time.
+//! The arrangement keeps the holds of all its readers. Hold 0 is its own. The others are for the
+//! ports of the readers, in the order of the caller. A reader that has taken a batch acknowledges
+//! it, and the spine may merge across the boundaries before. Every reader sums at all times, so
+//! each logical frontier stays at the least time.
 //!
-//! The invariant is the record `IsArrangement`: the holds are the spine's, each asks for a boundary that the spine has,
-//! and rows and times are as the plan says.
+//! The invariant is the record `IsArrangement`: the holds are the spine's, each asks for a boundary
+//! that the spine has, and rows and times are as the plan says.
 ghost use Rattle.std.specs.Prelude.{◌≡◌, ◌≢◌, ◌<◌, ◌≤◌, ◌∷◌, ◌++◌, [], true, suc, set, length, vec_len, vec_capacity, List, ℤ, Bool, IfOk, IfErr, OnOk, OnErr, IsTrue};
 ghost use Rattle.lattice.specs.Frontiers.{all_beyond};
 ghost use Rattle.update.specs.declared.refusal.Refusal.{Refusal};
@@ -35,8 +37,9 @@ use std::marker::Model;
 use trace::{Hold, Trace, all_batches};
 use update::{Refusal, Update};
 
-/// Updates that wait, and the batches of those that do not, with the holds of the readers. A contract sees the width of
-/// the rows, the spine, the updates that wait, in the order in which they came, and the holds.
+/// Updates that wait, and the batches of those that do not, with the holds of the readers. A
+/// contract sees the width of the rows, the spine, the updates that wait, in the order in which
+/// they came, and the holds.
 pub struct Arrangement<T: Minimum> {
     width: usize,
     spine: Spine<T>,
@@ -82,7 +85,8 @@ impl<T: Minimum> Drop for Arrangement<T> {
     }
 }
 
-// Tells the prover that a batch ends at a frontier beyond the one at which it begins. Costs nothing.
+// Tells the prover that a batch ends at a frontier beyond the one at which it begins. Costs
+// nothing.
 fn known_forward<T: Lattice>(batch: &Batch<T>)
     ensures { IsTrue
         (all_beyond T.below batch.now.description.lower batch.now.description.upper) }
@@ -99,7 +103,8 @@ fn updates_in<B: BatchReader>(batches: &[B]) -> u64 {
     updates
 }
 
-// Twice the number of updates for each batch and for one more, and what was saved; or the greatest number.
+// Twice the number of updates for each batch and for one more, and what was saved; or the greatest
+// number.
 fn fuel_for(saved: u64, updates: u64, batches: u64) -> u64 {
     let rounds = batches.saturating_add(1).saturating_mul(2);
     updates.saturating_mul(rounds).saturating_add(saved)
@@ -122,8 +127,9 @@ fn room_for_one<T: Lattice>(alloc: Global) -> Result<Vec<Hold<T>>, Refusal>
 }
 
 impl<T: Minimum> Arrangement<T> {
-    /// An arrangement of rows of `width` columns, without updates, with a hold of its own and one for each of so many
-    /// readers. It begins at the least time. [`Refusal::OutOfMemory`] only if memory for the holds was refused.
+    /// An arrangement of rows of `width` columns, without updates, with a hold of its own and one
+    /// for each of so many readers. It begins at the least time. [`Refusal::OutOfMemory`] only if
+    /// memory for the holds was refused.
     pub fn new(
         alloc: Global,
         worker: usize,
@@ -172,8 +178,8 @@ impl<T: Minimum> Arrangement<T> {
         }
     }
 
-    /// One more hold, from the upper frontier of the spine on, and its number. If it is refused, then nothing has changed:
-    /// [`Refusal::OutOfMemory`] only.
+    /// One more hold, from the upper frontier of the spine on, and its number. If it is refused,
+    /// then nothing has changed: [`Refusal::OutOfMemory`] only.
     pub fn add_reader(&mut self, alloc: Global) -> Result<usize, Refusal>
         ensures number { IfOk result
             (λ number. (number ≡ length self.old.holds) × (0 < number)) }
@@ -196,9 +202,9 @@ impl<T: Minimum> Arrangement<T> {
         Ok(number)
     }
 
-    /// Keeps updates until the input frontier has passed their times. Their rows have the width of the arrangement, and
-    /// their times are at or after the least one. If memory was refused, then the updates are dropped and nothing has
-    /// changed: [`Refusal::OutOfMemory`] only.
+    /// Keeps updates until the input frontier has passed their times. Their rows have the width of
+    /// the arrangement, and their times are at or after the least one. If memory was refused, then
+    /// the updates are dropped and nothing has changed: [`Refusal::OutOfMemory`] only.
     ///
     /// Cost: each time is compared with all times of which none is before another.
     pub fn take_in(&mut self, updates: Vec<Update<T>>) -> Result<(), Refusal>
@@ -212,8 +218,8 @@ impl<T: Minimum> Arrangement<T> {
         self.waiting.take_in(updates)
     }
 
-    /// The times that the arrangement holds: the least of the times of what waits. [`Refusal::OutOfMemory`] only if
-    /// memory for these times was refused.
+    /// The times that the arrangement holds: the least of the times of what waits.
+    /// [`Refusal::OutOfMemory`] only if memory for these times was refused.
     pub fn held(&self, alloc: Global) -> Result<Vec<T>, Refusal>
         ensures covers { IfOk result (λ held. IsTrue
             (all_beyond T.below held.items (times_of self.now.waiting))) }
@@ -224,15 +230,18 @@ impl<T: Minimum> Arrangement<T> {
         self.waiting.held(alloc)
     }
 
-    /// Makes a batch of the updates that wait and whose times `upper` has passed. The batch continues the spine, and
-    /// is to be inserted next. The others wait on. If it is refused, then nothing has changed. Nobody sees the batch
-    /// before it is inserted, so a caller may give other memory back, or give up, in between.
+    /// Makes a batch of the updates that wait and whose times `upper` has passed. The batch
+    /// continues the spine, and is to be inserted next. The others wait on. If it is refused, then
+    /// nothing has changed. Nobody sees the batch before it is inserted, so a caller may give other
+    /// memory back, or give up, in between.
     ///
-    /// - [`Refusal::Overflow`] only if the total of some row at some time over the passed updates is no 64-bit number.
-    /// - [`Refusal::OutOfMemory`] only if memory for copies of these updates, or for frontiers, was refused.
+    /// - [`Refusal::Overflow`] only if the total of some row at some time over the passed updates
+    ///   is no 64-bit number.
+    /// - [`Refusal::OutOfMemory`] only if memory for copies of these updates, or for frontiers, was
+    ///   refused.
     ///
-    /// Cost: n log n comparisons in the number of passed updates, and a constant number of comparisons of each update
-    /// that waits with each element of the frontiers.
+    /// Cost: n log n comparisons in the number of passed updates, and a constant number of
+    /// comparisons of each update that waits with each element of the frontiers.
     pub fn seal(&mut self, upper: &Antichain<T>) -> Result<Batch<T>, Refusal>
         requires { IsTrue (is_interval_of T.below (upper_of self.old.spine) upper.now
             (passed_updates T.below upper.now self.old.waiting)) }
@@ -268,8 +277,8 @@ impl<T: Minimum> Arrangement<T> {
         Ok(batch)
     }
 
-    /// Makes room for one more batch, so that the next [`insert`](Arrangement::insert) takes no memory. If memory was
-    /// refused, then nothing has changed: [`Refusal::OutOfMemory`] only.
+    /// Makes room for one more batch, so that the next [`insert`](Arrangement::insert) takes no
+    /// memory. If memory was refused, then nothing has changed: [`Refusal::OutOfMemory`] only.
     pub fn reserve(&mut self) -> Result<(), Refusal>
         ensures room { OnOk result (self.new ≡ record self.old {
           spine = record self.old.spine {
@@ -285,8 +294,8 @@ impl<T: Minimum> Arrangement<T> {
         Ok(())
     }
 
-    /// Inserts a batch into the spine, for all readers at once. The batch continues the spine, its rows have the width
-    /// of the arrangement, and there is room for it. Takes no memory.
+    /// Inserts a batch into the spine, for all readers at once. The batch continues the spine, its
+    /// rows have the width of the arrangement, and there is room for it. Takes no memory.
     ///
     /// Cost: two comparisons of frontiers; the batch is moved, and no update is copied.
     pub fn insert(&mut self, batch: Batch<T>)
@@ -311,13 +320,14 @@ impl<T: Minimum> Arrangement<T> {
         self.spine.insert(batch).unwrap();
     }
 
-    /// Lets the spine merge batches, with fuel for so many more updates that were inserted, and what earlier calls did
-    /// not spend. What is saved is at most a unit for each update of the spine: that is enough for any merge, and with
-    /// more a spine would merge all that it has at each small insertion. No reader notices. If a merge is refused, then
-    /// it is left out, and may be done by a later call.
+    /// Lets the spine merge batches, with fuel for so many more updates that were inserted, and
+    /// what earlier calls did not spend. What is saved is at most a unit for each update of the
+    /// spine: that is enough for any merge, and with more a spine would merge all that it has at
+    /// each small insertion. No reader notices. If a merge is refused, then it is left out, and may
+    /// be done by a later call.
     ///
-    /// Cost: the fuel is twice as many units as there are updates and batches, multiplied. A merge spends one for each
-    /// update that it reads, and one more.
+    /// Cost: the fuel is twice as many units as there are updates and batches, multiplied. A merge
+    /// spends one for each update that it reads, and one more.
     pub fn work(&mut self, more: usize)
         ensures kept { self.new ≡ record self.old {
           spine = record self.old.spine {
@@ -342,9 +352,10 @@ impl<T: Minimum> Arrangement<T> {
         self.saved = left.min(updates_in(all_batches(&self.spine)));
     }
 
-    /// Tells the spine that a reader, by the number of its hold, has taken all that was inserted, up to the frontier
-    /// that the spine has reached. From then on the reader asks for boundaries from there on, and the spine may merge
-    /// what is before. If memory for frontiers was refused, then nothing has changed: [`Refusal::OutOfMemory`] only.
+    /// Tells the spine that a reader, by the number of its hold, has taken all that was inserted,
+    /// up to the frontier that the spine has reached. From then on the reader asks for boundaries
+    /// from there on, and the spine may merge what is before. If memory for frontiers was refused,
+    /// then nothing has changed: [`Refusal::OutOfMemory`] only.
     pub fn acknowledge(
         &mut self,
         alloc: Global,
@@ -371,8 +382,8 @@ impl<T: Minimum> Arrangement<T> {
         Ok(())
     }
 
-    /// The frontier that the spine has reached, as an antichain. [`Refusal::OutOfMemory`] only if it has more than four
-    /// elements.
+    /// The frontier that the spine has reached, as an antichain. [`Refusal::OutOfMemory`] only if
+    /// it has more than four elements.
     pub fn upper(&self, alloc: Global) -> Result<Antichain<T>, Refusal>
         ensures is { IfOk result (λ upper. upper ≡ upper_of self.now.spine) }
         ensures only { IfErr result (λ refused. refused ≡ Refusal.OutOfMemory) }
@@ -380,8 +391,8 @@ impl<T: Minimum> Arrangement<T> {
         antichain_of(alloc, self.spine.upper())
     }
 
-    /// The spine, for its readers. Whatever was inserted, each time may be read, all rows have the width of the
-    /// arrangement, and each hold asks for a boundary of the spine. Takes no memory.
+    /// The spine, for its readers. Whatever was inserted, each time may be read, all rows have the
+    /// width of the arrangement, and each hold asks for a boundary of the spine. Takes no memory.
     pub fn trace(&self) -> &Spine<T>
         ensures value { result.now ≡ self.now.spine }
         ensures known { IsArrangement T.below T.least self.now }

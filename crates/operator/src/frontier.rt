@@ -1,7 +1,8 @@
 //! The least of some times, as a list, and the antichain of a frontier that is a list.
 //!
-//! What a worker holds at a node is the least of the times that wait there. The list has no time at or after another one
-//! of it, and the same times are beyond it as are at or after one of those that were put in.
+//! What a worker holds at a node is the least of the times that wait there. The list has no time at
+//! or after another one of it, and the same times are beyond it as are at or after one of those
+//! that were put in.
 ghost use Rattle.std.specs.Prelude.{◌≡◌, ◌||◌, IfOk, IfErr, OnOk};
 ghost use Rattle.lattice.specs.Frontiers.{is_beyond};
 ghost use Rattle.antichain.specs.Antichains.{IsFrontier};

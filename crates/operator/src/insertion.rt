@@ -37,8 +37,8 @@ pub fn updates_of<T: Lattice>(alloc: Global, batch: &Batch<T>) -> Result<Vec<Upd
     Ok(updates)
 }
 
-/// Inserts a batch that was given, unless it is empty, and lets the spine merge. `upper` is the frontier at which the
-/// batch ends. Refused only with `OutOfMemory`.
+/// Inserts a batch that was given, unless it is empty, and lets the spine merge. `upper` is the
+/// frontier at which the batch ends. Refused only with `OutOfMemory`.
 pub fn keep<T: Minimum>(
     alloc: Global,
     arrangement: &mut Arrangement<T>,

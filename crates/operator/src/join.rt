@@ -1,11 +1,12 @@
-//! What one worker keeps at a join of a plan. The join reads the spines of the two arrange nodes that it joins, and
-//! keeps no update itself: only up to which boundary each side was acknowledged, and which hold at the arrangement of
-//! that side keeps the boundary.
+//! What one worker keeps at a join of a plan. The join reads the spines of the two arrange nodes
+//! that it joins, and keeps no update itself: only up to which boundary each side was acknowledged,
+//! and which hold at the arrangement of that side keeps the boundary.
 //!
-//! Bundles come at two ports. What waits at a port is what the spine of that side has inserted since the boundary up to
-//! which the side is acknowledged. A side is always taken as a whole: all that waits is paired with what the other side
-//! has acknowledged, and the side is then acknowledged up to its spine's upper frontier. So each pair is formed once,
-//! whichever side is taken first.
+//! Bundles come at two ports. What waits at a port is what the spine of that side has inserted
+//! since the boundary up to which the side is acknowledged. A side is always taken as a whole: all
+//! that waits is paired with what the other side has acknowledged, and the side is then
+//! acknowledged up to its spine's upper frontier. So each pair is formed once, whichever side is
+//! taken first.
 ghost use Rattle.std.specs.Prelude.{◌≡◌, ◌≤◌, ◌+◌, ◌-◌, ◌*◌, ◌^◌, ◌⊎◌, ◌∷◌, [], List, IfOk, IfErr, OnOk, OnErr, IsTrue};
 ghost use Rattle.std.specs.List.{Contains};
 ghost use Rattle.lattice.specs.Frontiers.{is_beyond};
@@ -32,8 +33,9 @@ use std::alloc::Global;
 use std::marker::Model;
 use update::{Refusal, Update};
 
-/// A join of two spines by the first columns of their rows. A contract sees the boundary up to which each side was
-/// acknowledged, the number of the hold at each side's arrangement, and the widths of both sides' rows.
+/// A join of two spines by the first columns of their rows. A contract sees the boundary up to
+/// which each side was acknowledged, the number of the hold at each side's arrangement, and the
+/// widths of both sides' rows.
 #[derive(Drop)]
 pub struct Joining<T: Minimum> {
     state: JoinState<T, Spine<T>, Spine<T>>,
@@ -90,9 +92,10 @@ fn sealed_between<T: Minimum>(
 }
 
 impl<T: Minimum> Joining<T> {
-    /// A join by the first `key` columns of rows of these widths, which has taken nothing: both sides are acknowledged
-    /// up to the least time. The holds are the numbers of this join's holds at the arrangements of both sides.
-    /// [`Refusal::OutOfMemory`] only if memory for two times was refused.
+    /// A join by the first `key` columns of rows of these widths, which has taken nothing: both
+    /// sides are acknowledged up to the least time. The holds are the numbers of this join's holds
+    /// at the arrangements of both sides. [`Refusal::OutOfMemory`] only if memory for two times was
+    /// refused.
     pub fn new(
         alloc: Global,
         key: usize,
@@ -136,7 +139,8 @@ impl<T: Minimum> Joining<T> {
         self.right_hold
     }
 
-    /// Tells the prover that the widths fit the key, and that both boundaries are frontiers. Costs nothing.
+    /// Tells the prover that the widths fit the key, and that both boundaries are frontiers. Costs
+    /// nothing.
     pub fn known(&self)
         ensures fitting { IsFitting self.now.state.key self.now.left_width self.now.right_width }
         ensures left { IsFrontier T.below T.cmp self.now.state.left }
@@ -146,23 +150,24 @@ impl<T: Minimum> Joining<T> {
         let _right = self.state.right();
     }
 
-    /// How many updates of the other side were read in all answered calls. It stays at its greatest value. Takes no
-    /// memory.
+    /// How many updates of the other side were read in all answered calls. It stays at its greatest
+    /// value. Takes no memory.
     pub fn looked(&self) -> u64
         ensures { result ≡ self.now.state.looked }
     {
         self.state.looked()
     }
 
-    /// Takes all updates that wait at the left port, and returns their pairs with all that the right side has
-    /// acknowledged, consolidated. `upper` is the frontier that the left spine has reached: the left side is then
-    /// acknowledged up to it.
+    /// Takes all updates that wait at the left port, and returns their pairs with all that the
+    /// right side has acknowledged, consolidated. `upper` is the frontier that the left spine has
+    /// reached: the left side is then acknowledged up to it.
     ///
-    /// The times of the updates are between the left boundary and `upper`. The right spine has the right boundary and may
-    /// be read at all times. Rows have the widths of their sides. If the call is refused, then the join stays as it was.
+    /// The times of the updates are between the left boundary and `upper`. The right spine has the
+    /// right boundary and may be read at all times. Rows have the widths of their sides. If the
+    /// call is refused, then the join stays as it was.
     ///
-    /// - [`Refusal::Overflow`] only if the size of the updates, or that size times the size of what the right side has
-    ///   acknowledged, is at least 2^63.
+    /// - [`Refusal::Overflow`] only if the size of the updates, or that size times the size of what
+    ///   the right side has acknowledged, is at least 2^63.
     /// - [`Refusal::OutOfMemory`] only if memory was refused: for pairs, or for frontiers.
     ///
     /// Cost: n log n for the updates, and then as [`JoinState::take_left`].
@@ -204,9 +209,9 @@ impl<T: Minimum> Joining<T> {
         self.state.take_left(alloc, &batch, right)
     }
 
-    /// Takes all updates that wait at the right port, and returns their pairs with all that the left side has
-    /// acknowledged, consolidated. It is [`take_left`](Joining::take_left) with both sides exchanged: the left row comes
-    /// first in each pair, and refusals and cost are the same.
+    /// Takes all updates that wait at the right port, and returns their pairs with all that the
+    /// left side has acknowledged, consolidated. It is [`take_left`](Joining::take_left) with both
+    /// sides exchanged: the left row comes first in each pair, and refusals and cost are the same.
     pub fn take_right(
         &mut self,
         alloc: Global,

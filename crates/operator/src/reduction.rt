@@ -1,16 +1,17 @@
-//! A reduction of a plan at one worker. It takes the updates that come to it, and gives the differences that a frontier
-//! has passed. The arrangement that it reads is the trace.
+//! A reduction of a plan at one worker. It takes the updates that come to it, and gives the
+//! differences that a frontier has passed. The arrangement that it reads is the trace.
 //!
-//! Updates come in bundles, which may be in any order and may cancel one another. A bundle is sealed into a batch before
-//! it is taken. So what was taken is not the list that was received; it only stands in for it. The contracts speak of
-//! what was received and of what was given, each as one list with the newest first.
+//! Updates come in bundles, which may be in any order and may cancel one another. A bundle is
+//! sealed into a batch before it is taken. So what was taken is not the list that was received; it
+//! only stands in for it. The contracts speak of what was received and of what was given, each as
+//! one list with the newest first.
 //!
-//! The invariant: no pending time comes before the least time. So wherever a time is due, a trace whose since is the
-//! least time can be read.
+//! The invariant: no pending time comes before the least time. So wherever a time is due, a trace
+//! whose since is the least time can be read.
 //!
-//! A distinct goes by whole rows, whatever the plan's key is: of each row it answers from the count of that row alone. So a
-//! correction looks at one row, and not at all rows of a key. It costs a history for each row in place of one for each
-//! key. What is given is the same.
+//! A distinct goes by whole rows, whatever the plan's key is: of each row it answers from the count
+//! of that row alone. So a correction looks at one row, and not at all rows of a key. It costs a
+//! history for each row in place of one for each key. What is given is the same.
 ghost use Rattle.std.specs.Prelude.{◌≡◌, ◌≢◌, ◌≤◌, ◌^◌, ◌++◌, ◌∷◌, [], List, Bool, ℤ, pos, IfErr, IfOk, OnErr, OnOk, IsTrue};
 ghost use Rattle.std.specs.List.{AllByRecursion, list_all};
 ghost use Rattle.lattice.specs.Frontiers.{is_beyond, all_beyond};
@@ -35,8 +36,8 @@ use std::alloc::Global;
 use std::marker::Model;
 use update::{Refusal, Update};
 
-/// A reduction at one worker. A contract sees the state of the reduction, by how many columns the plan reduces, and how
-/// many columns the rows have that it takes.
+/// A reduction at one worker. A contract sees the state of the reduction, by how many columns the
+/// plan reduces, and how many columns the rows have that it takes.
 #[derive(Drop)]
 pub struct Reducing<T: Minimum> {
     state: ReduceState<T, Kind>,
@@ -58,7 +59,8 @@ impl<T: Minimum> Model for Reducing<T> {
         × IsTrue (all_beyond T.below (T.least ∷ []) (pending_in r.state.histories)) };
 }
 
-// By how many columns the state of a reduction goes whose plan reduces by `key` columns: a distinct by all columns.
+// By how many columns the state of a reduction goes whose plan reduces by `key` columns: a distinct
+// by all columns.
 fn columns_of(kind: Kind, key: usize, width: usize) -> usize
     ensures { result ≡ state_key kind key width }
 {
@@ -86,8 +88,9 @@ fn sealed<T: Minimum>(
 }
 
 impl<T: Minimum> Reducing<T> {
-    /// A reduction of rows of `width` columns by their first `key` columns, which has received nothing. Its state goes by
-    /// these columns, for a distinct by all columns: there each row is a matter of its own. Takes no memory.
+    /// A reduction of rows of `width` columns by their first `key` columns, which has received
+    /// nothing. Its state goes by these columns, for a distinct by all columns: there each row is a
+    /// matter of its own. Takes no memory.
     pub fn new(alloc: Global, key: usize, kind: Kind, width: usize) -> Reducing<T>
         requires { HasRoom kind key width }
         ensures key { result.key ≡ key }
@@ -112,8 +115,8 @@ impl<T: Minimum> Reducing<T> {
         self.width
     }
 
-    /// The least pending times. As long as the trace's since is not beyond them, whatever comes to be due can be read.
-    /// [`Refusal::OutOfMemory`] only if memory for these times was refused.
+    /// The least pending times. As long as the trace's since is not beyond them, whatever comes to
+    /// be due can be read. [`Refusal::OutOfMemory`] only if memory for these times was refused.
     ///
     /// Cost: each pending time is compared with the least ones so far.
     pub fn held(&self, alloc: Global) -> Result<Vec<T>, Refusal>
@@ -130,14 +133,17 @@ impl<T: Minimum> Reducing<T> {
         Ok(held)
     }
 
-    /// Takes updates, in any order. Their times become pending, and with them all joins of the times of a key that hold
-    /// one of these. The time of updates that cancel one another need not become pending. If the call is refused, then
-    /// nothing has changed. `start` is the frontier of the least time.
+    /// Takes updates, in any order. Their times become pending, and with them all joins of the
+    /// times of a key that hold one of these. The time of updates that cancel one another need not
+    /// become pending. If the call is refused, then nothing has changed. `start` is the frontier of
+    /// the least time.
     ///
     /// - [`Refusal::Overflow`] only if the absolute diffs of the updates add up to 2^63 or more.
-    /// - [`Refusal::OutOfMemory`] only if memory for the times, or for the histories of the keys, was refused.
+    /// - [`Refusal::OutOfMemory`] only if memory for the times, or for the histories of the keys,
+    ///   was refused.
     ///
-    /// Cost: n log n comparisons in the number of updates; for each of their keys that of [`ReduceState::take`].
+    /// Cost: n log n comparisons in the number of updates; for each of their keys that of
+    /// [`ReduceState::take`].
     pub fn take(
         &mut self,
         alloc: Global,
@@ -174,14 +180,16 @@ impl<T: Minimum> Reducing<T> {
         Ok(())
     }
 
-    /// Gives the differences at the pending times that the frontier has passed. These times are pending no longer. If the
-    /// call is refused, then nothing has changed.
+    /// Gives the differences at the pending times that the frontier has passed. These times are
+    /// pending no longer. If the call is refused, then nothing has changed.
     ///
-    /// The trace is the arrangement that the reduction reads. That it sums, at the times that the frontier has passed, to
-    /// what was received is a premise of the promises and not a condition of the call.
+    /// The trace is the arrangement that the reduction reads. That it sums, at the times that the
+    /// frontier has passed, to what was received is a premise of the promises and not a condition
+    /// of the call.
     ///
-    /// - [`Refusal::Overflow`] only if the absolute diffs of what was received add up to 2^63 or more, or those of a list
-    ///   of updates of one key that is owed: up to some step of the computation it is what the reduction is to give.
+    /// - [`Refusal::Overflow`] only if the absolute diffs of what was received add up to 2^63 or
+    ///   more, or those of a list of updates of one key that is owed: up to some step of the
+    ///   computation it is what the reduction is to give.
     /// - [`Refusal::OutOfMemory`] only if memory was refused.
     ///
     /// Cost: as for [`ReduceState::ready`].

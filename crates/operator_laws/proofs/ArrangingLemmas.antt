@@ -52,7 +52,8 @@ use Rattle.operator_laws.proofs.GatheringLemmas.{size_none, times_both, over_tim
 -- Beyond and passed
 
 module _ {T : Type 0} (below : T → T → Bool) (o : PartialOrderLaws below) where
-  -- if a later frontier has passed what an earlier one has, then what is beyond the later is beyond the earlier
+  -- if a later frontier has passed what an earlier one has, then what is beyond the later is beyond
+  -- the earlier
   beyond_back : (F G : List T) → NeverGoesBack below F G → (t : T) → is_beyond below G t ≡ true → is_beyond below F t ≡ true
   beyond_back F G h t b = step (is_beyond below F t) refl
     where

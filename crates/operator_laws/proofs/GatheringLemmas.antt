@@ -1,4 +1,5 @@
--- What each event makes of what a worker has gathered at a node, and why it may be given or held back.
+-- What each event makes of what a worker has gathered at a node, and why it may be given or held
+-- back.
 use Rattle.std.proofs.Common.{◌≡◌, ◌≢◌, ℕ, ◌+◌, ◌≤◌, Bool, true, false, cond, ◌&&◌, eqb, not, List, [], ◌∷◌, ◌++◌, Option, Some, None, IsTrue, sym, refl, ap, ◌∙◌, arith, ⊎_elim}
 use Rattle.std.specs.List.{filter, list_all}
 use mathlib.Core.Path.{fun_ext}
@@ -92,7 +93,8 @@ module _ {T : Type 0} (below : T → T → Bool) where
 
 -- Events elsewhere
 
--- at a node a worker received, gave and holds the same in both states, and has the node in hand only if it had
+-- at a node a worker received, gave and holds the same in both states, and has the node in hand
+-- only if it had
 pub record IsSameAt {T : Type 0} (w v : State T) (n k : ℕ) : Type 0 where
   pub emitted : emitted_by n k v.emitted ≡ emitted_by n k w.emitted
   pub received : (port : ℕ) → received_at v n k port ≡ received_at w n k port
@@ -126,7 +128,8 @@ held_both : {T : Type 0} (n k : ℕ) (xs ys : List (HeldTime T)) → held_at n k
 held_both {T} n k xs ys = flat_map-append (λ (m : HeldTime T). cond (eqb m.node n && eqb m.worker k) (m.time ∷ []) []) xs ys
 
 module _ {T : Type 0} (below : T → T → Bool) (p : Dataflow) where
-  -- an event that is not of this node and worker leaves all that the invariants of the node and worker speak of
+  -- an event that is not of this node and worker leaves all that the invariants of the node and
+  -- worker speak of
   pub same_after : (w : State T) (n k : ℕ) (e : Event T) → IsAllowed below p w e → is_of n k e ≡ false → IsSameAt w (next_state below p w e) n k
   same_after w n k (Take j b) a d = record {
     emitted = refl;

@@ -1,4 +1,5 @@
--- What a worker has at an arrange node: what it gave is in its trace, and what it gathered waits behind it.
+-- What a worker has at an arrange node: what it gave is in its trace, and what it gathered waits
+-- behind it.
 use Rattle.std.specs.Prelude.{◌≡◌, ℕ, ◌≤◌, Bool, List, ℤ, IsTrue}
 use Rattle.std.specs.declared.cmp.Ordering.{Ordering}
 use Rattle.lattice.specs.Frontiers.{all_beyond}
@@ -14,8 +15,8 @@ use Rattle.machine.specs.Histories.Promises.{NeverGoesBack}
 use Rattle.operator_laws.specs.Gathering.{IsGathering}
 
 module _ {T : Type 0} (below : T → T → Bool) where
-  -- the trace began at a boundary and stands for these insertions: they are what was given; what waits is beyond their
-  -- boundary, and so is whatever may still come
+  -- the trace began at a boundary and stands for these insertions: they are what was given; what
+  -- waits is beyond their boundary, and so is whatever may still come
   pub record IsArranging (p : Dataflow) (w : State T) (n k : ℕ) (start : List T) (inserted : List (Insertion T)) (waiting : List (Update T)) : Type 0 where
     pub source : ℕ
     pub key : ℕ

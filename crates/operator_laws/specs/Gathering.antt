@@ -1,5 +1,5 @@
--- What a worker has computed at a node and has not given yet. It holds the times of it back, so that no frontier passes
--- them.
+-- What a worker has computed at a node and has not given yet. It holds the times of it back, so
+-- that no frontier passes them.
 use Rattle.std.specs.Prelude.{◌≡◌, ◌≢◌, ℕ, ◌+◌, ◌≤◌, ◌<◌, Bool, false, ◌&&◌, eqb, List, ◌++◌, Some, IsTrue}
 use Rattle.lattice.specs.Frontiers.{all_beyond}
 use Rattle.update.specs.Bags.{Alike}
@@ -35,8 +35,8 @@ pub record IsInHand {T : Type 0} (p : Dataflow) (w : State T) (n k : ℕ) : Type
   pub hand : w.hand k ≡ Some n
 
 module _ {T : Type 0} (below : T → T → Bool) where
-  -- the bundles carry exactly the given updates, and none is empty; if the updates are beyond everything held, so are the
-  -- bundles' stamps, and each bundle's updates are beyond its stamp
+  -- the bundles carry exactly the given updates, and none is empty; if the updates are beyond
+  -- everything held, so are the bundles' stamps, and each bundle's updates are beyond its stamp
   pub record IsCut (p : Dataflow) (g : Emission T) (sent : List (Bundle T)) : Type 0 where
     pub whole : AreShares p g sent
     pub filled : IsTrue (are_filled sent)
@@ -47,8 +47,8 @@ module _ {T : Type 0} (below : T → T → Bool) where
   abbrev pub IsStamped : Bundle T → Type 0
   IsStamped bundle = IsTrue (all_beyond below bundle.stamp (times bundle.updates))
 
-  -- one more bundle at a port, where these were received before, makes these: at every time, within the load, and none of
-  -- them before the bundle
+  -- one more bundle at a port, where these were received before, makes these: at every time, within
+  -- the load, and none of them before the bundle
   pub record IsPiece (k : ℕ) (node : Node) (received : ℕ → List (Update T)) (port : ℕ) (us out : List (Update T)) : Type 0 where
     pub sums : (made : List (Update T)) (t : T)
         → Alike (as_of below t made) (operator_output k node (λ i. as_of below t (received i)))
@@ -68,13 +68,14 @@ module _ {T : Type 0} (below : T → T → Bool) where
     pub rest_beyond : (frontier : List T) → IsTrue (all_beyond below frontier (times waiting))
         → IsTrue (all_beyond below frontier (times rest))
 
-  -- holding the one list of times is holding the other: each time of either is beyond some time of the other
+  -- holding the one list of times is holding the other: each time of either is beyond some time of
+  -- the other
   pub record IsHeldFor (held ts : List T) : Type 0 where
     pub covers : IsTrue (all_beyond below held ts)
     pub tight : IsTrue (all_beyond below ts held)
 
-  -- what a worker gave at a node and what waits are together what the node makes of what was received; the worker holds
-  -- the times of what waits, and between two pieces no earlier ones
+  -- what a worker gave at a node and what waits are together what the node makes of what was
+  -- received; the worker holds the times of what waits, and between two pieces no earlier ones
   pub record IsGathering (p : Dataflow) (w : State T) (n k : ℕ) (waiting : List (Update T)) : Type 0 where
     pub kind : is_reduction (node_of p n) ≡ false
     pub sums : (t : T) → Alike (as_of below t (waiting ++ emitted_by n k w.emitted))

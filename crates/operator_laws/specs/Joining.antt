@@ -1,4 +1,5 @@
--- What a worker has at a join: of both sources' traces as much as it took, and what it has still to take.
+-- What a worker has at a join: of both sources' traces as much as it took, and what it has still to
+-- take.
 use Rattle.std.specs.Prelude.{◌≡◌, ℕ, suc, ◌*◌, ◌≤◌, Bool, false, ◌&&◌, eqb, List, [], ◌∷◌, map, length, IsTrue}
 use Rattle.lattice.specs.Frontiers.{all_beyond}
 use Rattle.update.specs.Bags.{Alike}
@@ -29,7 +30,8 @@ abbrev pub on_top : {T : Type 0} → List (Insertion T) → List (Insertion T) �
 on_top [] taken = taken
 on_top (i ∷ later) taken = on_top later (i ∷ taken)
 
--- of what was inserted at the source, these were taken at the port; the rest waits there, a bundle for each
+-- of what was inserted at the source, these were taken at the port; the rest waits there, a bundle
+-- for each
 pub record IsQueued {T : Type 0} (w : State T) (n port k : ℕ) (inserted taken : List (Insertion T)) : Type 0 where
   pub later : List (Insertion T)
   pub all : inserted ≡ on_top later taken
@@ -42,7 +44,8 @@ pub record IsReadAt {T : Type 0} (w : State T) (n port k : ℕ) (inserted taken 
   pub few : length inserted ≤ suc (length taken)
 
 module _ {T : Type 0} (below : T → T → Bool) where
-  -- what a join answers of a bundle: the pairs with what it took at the other port, consolidated or not
+  -- what a join answers of a bundle: the pairs with what it took at the other port, consolidated or
+  -- not
   pub record IsAnswer (pairs us others out : List (Update T)) : Type 0 where
     pub sums : (t : T) → Alike (as_of below t out) (as_of below t pairs)
     pub smaller : size out ≤ size us * size others

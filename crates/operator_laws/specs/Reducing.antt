@@ -15,8 +15,9 @@ use Rattle.machine.specs.Histories.NodeLaws.{received_at, was_passed}
 use Rattle.machine.specs.Histories.Promises.{NeverGoesBack}
 
 module _ {T : Type 0} (below : T → T → Bool) where
-  -- what a reduction gave is right wherever no pending time has come; it is final: of times that the boundary has passed,
-  -- beyond which all that is pending and all that may still come lies; the worker holds the pending times
+  -- what a reduction gave is right wherever no pending time has come; it is final: of times that
+  -- the boundary has passed, beyond which all that is pending and all that may still come lies; the
+  -- worker holds the pending times
   pub record IsReducing (p : Dataflow) (w : State T) (n k : ℕ) (upper pending : List T) : Type 0 where
     pub kind : Kind
     pub source : ℕ
@@ -32,14 +33,16 @@ module _ {T : Type 0} (below : T → T → Bool) where
     pub held : IsTrue (all_beyond below (held_at n k w.held) pending)
     pub tight : w.hand k ≢ Some n → IsTrue (all_beyond below pending (held_at n k w.held))
 
-  -- with these updates these times are pending: nothing of them and of what was pending comes before, and nothing else
+  -- with these updates these times are pending: nothing of them and of what was pending comes
+  -- before, and nothing else
   pub record IsPendingWith (pending : List T) (us : List (Update T)) (more : List T) : Type 0 where
     pub old : IsTrue (all_beyond below more pending)
     pub new : IsTrue (all_beyond below more (times us))
     pub beyond : (frontier : List T) → IsTrue (all_beyond below frontier pending)
         → IsTrue (all_beyond below frontier (times us)) → IsTrue (all_beyond below frontier more)
 
-  -- of what is pending these answers were found, at times that a frontier has passed, and the rest stays pending
+  -- of what is pending these answers were found, at times that a frontier has passed, and the rest
+  -- stays pending
   pub record IsFound (p : Dataflow) (w : State T) (n k : ℕ) (upper pending frontier : List T) (out : List (Update T)) (rest : List T) : Type 0 where
     pub law : (t : T) → IsTrue (has_passed below rest t)
         → Alike (as_of below t (out ++ emitted_by n k w.emitted))

@@ -62,7 +62,8 @@ module _ {T : Type 0} (below : T → T → Bool) (p : Dataflow) (w : State T) (k
   abbrev pub IsWorking : Type 0
   IsWorking = (n : ℕ) → n < length p.nodes → IsWorkingAt n (node_of p n)
 
--- at all nodes but one the same is kept. What was inserted is left out: gives that insert say more of it
+-- at all nodes but one the same is kept. What was inserted is left out: gives that insert say more
+-- of it
 pub record IsSameBut {T : Type 0} (n : ℕ) (works next : Works T) : Type 0 where
   pub waiting : (m : ℕ) → m ≢ n → next.waiting m ≡ works.waiting m
   pub start : (m : ℕ) → m ≢ n → next.start m ≡ works.start m

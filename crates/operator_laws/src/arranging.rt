@@ -1,4 +1,5 @@
-//! What the events of a worker make of an arrange node's trace, and of what waits behind it. The functions do nothing.
+//! What the events of a worker make of an arrange node's trace, and of what waits behind it. The
+//! functions do nothing.
 ghost use Rattle.std.specs.Prelude.{◌≡◌, ℕ, List, [], ◌∷◌, ◌++◌, IsTrue, false};
 ghost use Rattle.lattice.specs.Frontiers.{all_beyond};
 ghost use Rattle.update.specs.declared.change.Update.{Update};
@@ -26,7 +27,7 @@ pub fn arranging_begins<T: Minimum>()
         → IsArranging T.below p (initial_state T.below T.least p) n k (T.least ∷ []) [] [] }
 {}
 
-/// Whatever else happens leaves it, and so does turning to held times.
+/// Every other event preserves the invariant, and so does turning to held times.
 pub fn arranged_elsewhere<T: Minimum>()
     ensures { (p : Dataflow) → IsDataflow p
         → (w : State T) (n k : ℕ) (start : List T) (inserted : List (Insertion T))
@@ -56,7 +57,8 @@ pub fn arranged_in_any_order<T: Minimum>()
         → IsArranging T.below p w n k start inserted (vs ++ us) }
 {}
 
-/// Nothing may be given, and what waits be held back, consolidated or not. Then nothing is inserted.
+/// Nothing may be given, and what waits be held back, consolidated or not. Then nothing is
+/// inserted.
 pub fn arranged_holds_back<T: Minimum>()
     ensures { (p : Dataflow) → IsDataflow p
         → (w : State T) (n k : ℕ) (start : List T) (inserted : List (Insertion T))
@@ -69,8 +71,9 @@ pub fn arranged_holds_back<T: Minimum>()
         n k start inserted rest }
 {}
 
-/// What waits and a frontier has passed may be sealed between the trace's boundary and that frontier, if the frontier has
-/// passed all that the boundary has, as the node's input frontier has. It is never stray.
+/// What waits and a frontier has passed may be sealed between the trace's boundary and that
+/// frontier, if the frontier has passed all that the boundary has, as the node's input frontier
+/// has. It is never stray.
 pub fn may_seal<T: Minimum>()
     ensures { (p : Dataflow) (w : State T) (n k : ℕ) (start : List T)
         → (inserted : List (Insertion T)) (waiting : List (Update T)) (frontier : List T)
@@ -87,8 +90,9 @@ pub fn sealed_splits<T: Minimum>()
         → IsSplit T.below waiting out (open_updates T.below frontier waiting) }
 {}
 
-/// A batch may be given up to any frontier that the input frontier has come to or passed, and beyond which all the rest
-/// is. From then on the trace has it, and that frontier has not passed what is held.
+/// A batch may be given up to any frontier that the input frontier has come to or passed, and
+/// beyond which all the rest is. From then on the trace has it, and that frontier has not passed
+/// what is held.
 pub fn arranged_inserts<T: Minimum>()
     ensures { (p : Dataflow) → IsDataflow p
         → (w : State T) (g : Emission T) (sent : List (Bundle T)) (start : List T)

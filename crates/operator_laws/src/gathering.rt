@@ -1,4 +1,5 @@
-//! What the events of a worker make of what it has computed at a node and not given yet. The functions do nothing.
+//! What the events of a worker make of what it has computed at a node and not given yet. The
+//! functions do nothing.
 ghost use Rattle.std.specs.Prelude.{◌≡◌, ◌≤◌, ℕ, ℤ, Bool, List, [], ◌++◌, IsTrue, false};
 ghost use Rattle.std.specs.List.{list_all};
 ghost use Rattle.update.specs.Bags.{Alike};
@@ -26,8 +27,8 @@ pub fn gathering_begins<T: Minimum>()
         → IsGathering T.below p (initial_state T.below T.least p) n k [] }
 {}
 
-/// Whatever else happens leaves it: what clients and other workers do, what the worker itself does at other nodes, and
-/// that it turns to held times.
+/// Every other event preserves the invariant: what clients and other workers do, what the worker
+/// itself does at other nodes, and that it turns to held times.
 pub fn gathered_elsewhere<T: Minimum>()
     ensures { (p : Dataflow) (w : State T) (n k : ℕ) (waiting : List (Update T))
         → IsGathering T.below p w n k waiting
@@ -64,8 +65,8 @@ pub fn linear_piece<T: Minimum>()
         → IsPiece T.below k node received port us (linear_output node us) }
 {}
 
-/// Any part of what waits may be given, and the rest held back. What is then held may be any list of times that is held
-/// for the rest.
+/// Any part of what waits may be given, and the rest held back. What is then held may be any list
+/// of times that is held for the rest.
 pub fn gathering_gives<T: Minimum>()
     ensures { (p : Dataflow) (w : State T) (g : Emission T) (waiting rest : List (Update T))
         → (held : List T) (sent : List (Bundle T))
@@ -76,7 +77,7 @@ pub fn gathering_gives<T: Minimum>()
         × IsGathering T.below p (give_state T.below p w g held sent) g.node g.worker rest }
 {}
 
-/// So may nothing be given, and all of it be held back.
+/// A worker may also give nothing and hold everything back.
 pub fn gathering_holds_back<T: Minimum>()
     ensures { (p : Dataflow) (w : State T) (n k : ℕ) (waiting : List (Update T)) (held : List T)
         → IsGathering T.below p w n k waiting → IsInHand p w n k

@@ -31,7 +31,7 @@ pub fn join_piece<T: Minimum>()
         → IsPiece T.below k node received 1 us out }
 {}
 
-/// Whatever else happens leaves it.
+/// Every other event preserves the invariant.
 pub fn joined_elsewhere<T: Minimum>()
     ensures { (p : Dataflow) (w : State T) (n k : ℕ) (left right : List (Insertion T))
         → (waiting : List (Update T))
@@ -40,7 +40,8 @@ pub fn joined_elsewhere<T: Minimum>()
         → IsJoining T.below p (next_state T.below p w e) n k left right waiting }
 {}
 
-/// At its left port a join takes the oldest insertion that waits. What it answers of it with the right side's waits.
+/// At its left port a join takes the oldest insertion that waits. What it answers of it with the
+/// right side's waits.
 pub fn joined_takes_left<T: Minimum>()
     ensures { (p : Dataflow) (w : State T) (n k : ℕ) (left right inserted : List (Insertion T))
         → (waiting out : List (Update T)) (bundle : Bundle T)
@@ -83,8 +84,8 @@ pub fn joined_gives<T: Minimum>()
         × IsJoining T.below p (give_state T.below p w g held sent) g.node g.worker left right rest }
 {}
 
-/// What waits at a port that reads a trace on its own worker stays, whatever happens but a take from it and a give at the
-/// source.
+/// What waits at a port that reads a trace on its own worker stays, whatever happens but a take
+/// from it and a give at the source.
 pub fn queued_elsewhere<T: Minimum>()
     ensures { (p : Dataflow) (w : State T) (n port k source : ℕ)
         → source_of p n port ≡ Some source → arranged_by (node_of p n) ≡ None

@@ -24,7 +24,7 @@ pub fn reducing_begins<T: Minimum>()
         → IsReducing T.below p (initial_state T.below T.least p) n k (T.least ∷ []) [] }
 {}
 
-/// Whatever else happens leaves it, and so does turning to held times.
+/// Every other event preserves the invariant, and so does turning to held times.
 pub fn reduced_elsewhere<T: Minimum>()
     ensures { (p : Dataflow) → IsDataflow p
         → (w : State T) (n k : ℕ) (upper pending : List T)

@@ -36,9 +36,9 @@ pub fn workers_are_apart<T: Minimum>()
         → IsWorking T.below p (next_state T.below p w e) k works }
 {}
 
-/// If a node's input frontier has passed a time, then a worker received there, along an edge that stays on the worker,
-/// all that it gave at the source up to that time. So a reader of the source's trace reads at such times what the node
-/// received.
+/// If a node's input frontier has passed a time, then a worker received there, along an edge that
+/// stays on the worker, all that it gave at the source up to that time. So a reader of the source's
+/// trace reads at such times what the node received.
 pub fn reader_has_all<T: Minimum>()
     ensures { (p : Dataflow) → IsDataflow p
         → (h : List (Event T)) → IsLegal T.below T.least p h
@@ -61,8 +61,8 @@ pub fn takes_at_one_node<T: Minimum>()
         bundle.place.worker next }
 {}
 
-/// A worker's own give leaves what it keeps at all other nodes too, if no bundle of it waits at a join. That is so if it
-/// gives nothing, or if no join reads the node.
+/// A worker's own give leaves what it keeps at all other nodes too, if no bundle of it waits at a
+/// join. That is so if it gives nothing, or if no join reads the node.
 pub fn gives_at_one_node<T: Minimum>()
     ensures { (p : Dataflow) → IsDataflow p
         → (w : State T) (g : Emission T) (ts : List T) (sent : List (Bundle T))
@@ -75,8 +75,8 @@ pub fn gives_at_one_node<T: Minimum>()
         → IsWorking T.below p (give_state T.below p w g ts sent) g.worker next }
 {}
 
-/// If a worker gives a batch and inserts it, and the batch is cut as a routing cuts it, then it waits as one more bundle
-/// at each join that reads the node.
+/// If a worker gives a batch and inserts it, and the batch is cut as a routing cuts it, then it
+/// waits as one more bundle at each join that reads the node.
 pub fn inserts_at_one_node<T: Minimum>()
     ensures { (p : Dataflow) → IsDataflow p
         → (w : State T) (g : Emission T) (ts upper : List T) (works next : Works T)
@@ -91,8 +91,8 @@ pub fn inserts_at_one_node<T: Minimum>()
         → IsWorking T.below p (give_state T.below p w g ts (cut T.below p g)) g.worker next }
 {}
 
-/// All is quiet if nothing is in flight, no worker has a piece in hand, and each time that a worker still has to give
-/// could still receive input.
+/// All is quiet if nothing is in flight, no worker has a piece in hand, and each time that a worker
+/// still has to give could still receive input.
 pub fn quiet_while_it_waits<T: Minimum>()
     ensures { (p : Dataflow) → IsDataflow p
         → (h : List (Event T)) → IsLegal T.below T.least p h → (works : ℕ → Works T)
@@ -106,8 +106,8 @@ pub fn quiet_while_it_waits<T: Minimum>()
         → IsQuiet T.below p (state_after T.below T.least p h) }
 {}
 
-/// What is given at a node that is not an arrange node waits at no join, since the joins of a plan read arrange nodes
-/// alone.
+/// What is given at a node that is not an arrange node waits at no join, since the joins of a plan
+/// read arrange nodes alone.
 pub fn joins_read_arranged_nodes<T: Minimum>()
     ensures { (p : Dataflow) → IsDataflow p
         → (g : Emission T) (sent : List (Bundle T)) → arranged_by (node_of p g.node) ≡ None

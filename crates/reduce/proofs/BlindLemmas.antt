@@ -1,4 +1,5 @@
--- A reducer that does not look at rows answers the same where the key stands in place of each of its rows.
+-- A reducer that does not look at rows answers the same where the key stands in place of each of
+-- its rows.
 use Rattle.std.proofs.Common.{◌≡◌, ℕ, ◌+◌, ◌≤◌, ◌^◌, Bool, true, false, cond, not, List, [], ◌∷◌, ◌++◌, map, take, drop, length, IsTrue, inl, inr, ⊎_elim, refl, sym, ap, subst, ◌∙◌}
 use Rattle.std.specs.Prelude.{ℤ, pos, unsigned_abs}
 use Rattle.std.specs.List.{filter, list_all}
@@ -227,8 +228,8 @@ module _ {T : Type 0} (sees : Bool) (key : List ℤ) (content rows : List (Updat
   seen_length = ap length read ∙ length-map (filter (of_key (length key) key) content) (as_seen sees key)
 
   module _ (below : T → T → Bool) (joined : T → T → T) (reduce : List ℤ → List Entry → List Entry) (blind : sees ≡ false → IsBlind (length key) reduce) (stored : List (Update T)) (front due : List T) where
-    -- whatever can be said of all updates whose part of the key was given and carries over from those without rows, can
-    -- be said of the updates
+    -- whatever can be said of all updates whose part of the key was given and carries over from
+    -- those without rows, can be said of the updates
     carried : (P : List (Update T) → Type 0) → (IsBlind (length key) reduce → P (without_rows (length key) key content) → P content)
         → ((us : List (Update T)) → rows ≡ filter (of_key (length key) key) us → P us) → P content
     carried P with_rows h = step sees refl

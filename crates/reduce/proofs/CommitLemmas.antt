@@ -1,5 +1,5 @@
--- Changes of some histories, one after the other: what is given is appended first, and then the other pending times are
--- put in place. What was appended can be taken back.
+-- Changes of some histories, one after the other: what is given is appended first, and then the
+-- other pending times are put in place. What was appended can be taken back.
 use Rattle.std.proofs.Common.{◌≡◌, ℕ, zero, suc, ◌+◌, ◌-◌, ◌<◌, ◌≤◌, List, [], ◌∷◌, ◌++◌, ℤ, map, set, take, drop, length, get_or, slice_get, Some, IsSomeAnd, refl, sym, ap, ◌∙◌, subst, inl, inr, arith, add-one, drop-cons, length-take}
 use Rattle.std.proofs.lemmas.List.{take_more, length-append}
 use Rattle.std.proofs.lemmas.Option.{same_Some}

@@ -1,4 +1,5 @@
--- What holds once all visits are put in place: of the histories as they were and as they are, and of what is given.
+-- What holds once all visits are put in place: of the histories as they were and as they are, and
+-- of what is given.
 use Rattle.std.proofs.Common.{◌≡◌, ◌≢◌, ℕ, Bool, false, List, [], ◌++◌, map, take, length, slice_get, IsSomeAnd, IsTrue, sym, ap, subst, ◌∙◌}
 use Rattle.std.specs.Prelude.{flat_map, ℤ, pos}
 use Rattle.std.specs.List.{filter, AllByRecursion}
@@ -58,8 +59,8 @@ module _ {T : Type 0} {below : T → T → Bool} {joined met : T → T → T} (c
     all : (i : ℕ) → IsSomeAnd (slice_get hs i) (λ h. h.due ≡ [] → ⊥) → Member i (map (λ v. v.place) visits)
     all i s = subst (Member i) (sym g.places_are) ((waits.exact i).1 s)
 
-    -- what is gathered has no row twice at one time, and no difference 0, and is at pending times that the frontier has
-    -- passed
+    -- what is gathered has no row twice at one time, and no difference 0, and is at pending times
+    -- that the frontier has passed
     pub final_once : AreApart below gathered
     final_once = subst (AreApart below) (sym g.out_is) (apart_raw cmp o l k reduce content front hs known apart visits g.visits_are once)
 

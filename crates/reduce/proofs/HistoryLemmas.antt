@@ -1,5 +1,5 @@
--- Histories of which no two have the same key: what they have of a key, and how that changes when a history is added or
--- replaced.
+-- Histories of which no two have the same key: what they have of a key, and how that changes when a
+-- history is added or replaced.
 use Rattle.std.proofs.Common.{◌≡◌, ℕ, zero, suc, ◌<◌, Bool, true, false, cond, ◌||◌, List, [], ◌∷◌, ◌++◌, ℤ, map, set, length, get_or, slice_get, position, Option, Some, None, if◌then◌else◌, flat_map, refl, sym, ap, ◌∙◌, subst}
 use Rattle.std.specs.List.{list_any}
 use Rattle.std.specs.Option.{IfSome, IsSomeAnd}
@@ -128,8 +128,8 @@ module _ {T : Type 0} where
         ap (λ xs. cond (same_row g.key key) (f g) [] ++ xs) (of_pushed key hs h)
         ∙ sym (append_assoc (cond (same_row g.key key) (f g) []) (of_history f key hs) (cond (same_row h.key key) (f h) []))
 
-    -- if a history replaces another one of its key, then they have of that key what the new history has, and of every
-    -- other key what they had before
+    -- if a history replaces another one of its key, then they have of that key what the new history
+    -- has, and of every other key what they had before
     pub of_replaced : (key : List ℤ) (hs : List (HistoryState T)) (i : ℕ) (old new : HistoryState T) → AreKeysApart hs → slice_get hs i ≡ Some old → old.key ≡ new.key
         → of_history f key (set hs i new) ≡ (if same_row new.key key then f new else of_history f key hs)
     of_replaced key [] i old new apart e k = absurd (none-some old e)

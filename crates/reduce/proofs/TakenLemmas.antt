@@ -76,7 +76,8 @@ module _ {T : Type 0} where
   history_at cmp k (g ∷ gs) zero h all is = subst (IsHistory cmp k) (sym is) all.0
   history_at cmp k (g ∷ gs) (suc i) h all is = history_at cmp k gs i h all.1 is
 
-  -- new times that were made from those of the history that stands for a key make the key's new history
+  -- new times that were made from those of the history that stands for a key make the key's new
+  -- history
   pub renewed_from : (joined : T → T → T) (cmp : T → T → Ordering) (hs : List (HistoryState T)) (key : List ℤ) (old : HistoryState T) (new : List T) (r : Renewal T) → StandsFor hs key old → IsHistory cmp (length old.key) old → r.key ≡ key
       → IsStrictlySortedBy cmp r.times.items → IsStrictlySortedBy cmp r.due.items
       → ((before : List T) → SameMembers old.times (joins_of joined before) → SameMembers r.times.items (joins_of joined (new ++ before)))

@@ -124,7 +124,8 @@ module _ {T : Type 0} where
   histories_parts cmp k [] h all = (tt, all.0)
   histories_parts cmp k (y ∷ ys) h all = let parts = histories_parts cmp k ys h all.1 in ((all.0, parts.0), parts.1)
 
-  -- the next one is made as of the histories that were there first, and is placed among those that are there now
+  -- the next one is made as of the histories that were there first, and is placed among those that
+  -- are there now
   module _ (old mid : List (HistoryState T)) (ys : List (Renewal T)) (r : Renewal T) (rest : List (Renewal T)) (apart : AreKeysApart (map (made_from old) ys ++ made_from old r ∷ map (made_from old) rest))
       (found : (key : List ℤ) → history_of key mid ≡ or_else (history_of key (map (made_from old) ys)) (history_of key old)) where
     still : history_of r.key mid ≡ history_of r.key old

@@ -1,5 +1,5 @@
--- The places of the histories that have pending times, when a history with pending times is appended or replaces another
--- one.
+-- The places of the histories that have pending times, when a history with pending times is
+-- appended or replaces another one.
 use Rattle.std.proofs.Common.{◌≡◌, ◌≢◌, ◌↔◌, ℕ, zero, suc, List, [], ◌∷◌, ◌++◌, set, length, slice_get, Some, ◌⊎◌, inl, inr, ⊎_elim, refl, sym, ap, subst, arith}
 use Rattle.std.specs.Option.{IsSomeAnd}
 use Rattle.std.proofs.lemmas.Option.{none-some}

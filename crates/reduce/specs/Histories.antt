@@ -8,8 +8,8 @@ use Rattle.update.specs.declared.change.Update.{Update}
 use Rattle.joined_times.specs.Joined.{Member, AreOnce, of_key}
 pub use Rattle.key_history.specs.States.{HistoryState, given_more, given_less, due_left, times_put}
 
--- the number of columns of a key, the reducer, the history of each key, the places of the keys that have pending times,
--- and how many updates were read
+-- the number of columns of a key, the reducer, the history of each key, the places of the keys that
+-- have pending times, and how many updates were read
 pub record ReduceView (T R : Type 0) : Type 0 where
   pub key : ℕ
   pub reducer : R

@@ -1,4 +1,5 @@
--- The definitions of a reduction, with those of the crates below and of orders and frontiers that its contracts name.
+-- The definitions of a reduction, with those of the crates below and of orders and frontiers that
+-- its contracts name.
 pub use Rattle.lattice.specs.Order
 pub use Rattle.lattice.specs.Frontiers
 pub use Rattle.joined_times.specs.Joined

@@ -28,7 +28,8 @@ module _ {T : Type 0} (below : T → T → Bool) where
   abbrev pub IsQuietAt : List (HistoryState T) → T → Type 0
   IsQuietAt hs t = (key : List ℤ) → IsSettledAt below (due_of key hs) t
 
-  -- at the times beyond the since that the frontier has passed, what was inserted sums to what was taken
+  -- at the times beyond the since that the frontier has passed, what was inserted sums to what was
+  -- taken
   abbrev pub SumsToTaken : List T → List T → List (Update T) → List (Update T) → Type 0
   SumsToTaken since front inserted taken =
       (t : T) → IsTrue (is_beyond below since t) → is_beyond below front t ≡ false

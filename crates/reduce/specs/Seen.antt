@@ -4,7 +4,8 @@ use Rattle.update.specs.declared.change.Update.{Update}
 use Rattle.joined_times.specs.Joined.{of_key}
 
 module _ {T : Type 0} where
-  -- an update of a key as a reducer is given it: a reducer that does not see rows is given the key in place of the row
+  -- an update of a key as a reducer is given it: a reducer that does not see rows is given the key
+  -- in place of the row
   abbrev pub as_seen : Bool → List ℤ → Update T → Update T
   as_seen sees key u = record u { row = if sees then u.row else key }
 

@@ -1,4 +1,5 @@
--- How a reduction goes through the keys that wait: each is visited once, and then its history is changed in place.
+-- How a reduction goes through the keys that wait: each is visited once, and then its history is
+-- changed in place.
 use Rattle.std.specs.Prelude.{◌≡◌, ◌<◌, ◌≤◌, ℕ, Bool, not, List, [], ◌∷◌, ◌++◌, map, set, take, drop, slice_get, Some, if◌then◌else◌, flat_map, length, sum_by, nat_eq, ℤ}
 use Rattle.std.specs.List.{filter, list_any}
 use Rattle.lattice.specs.Frontiers.{is_beyond}
@@ -8,7 +9,8 @@ use Rattle.joined_times.specs.Joined.{Member, of_key}
 use Rattle.reduce.specs.Histories.{HistoryState, changed_at, given_more, given_less, due_left}
 use Rattle.key_history.specs.Settling.{Settling}
 
--- the place of a history, the history as it was, what is given of its key, and the times that are still pending
+-- the place of a history, the history as it was, what is given of its key, and the times that are
+-- still pending
 pub record Visit (T : Type 0) : Type 0 where
   pub place : ℕ
   pub history : HistoryState T
@@ -33,7 +35,8 @@ module _ {T : Type 0} where
   abbrev pub waits_on : Visit T → List ℕ
   waits_on v = waiting_at v.place v.rest
 
--- what is new of a key: the place of its history, how many updates are given of it, and the times that are still pending
+-- what is new of a key: the place of its history, how many updates are given of it, and the times
+-- that are still pending
 pub record ChangeState (T : Type 0) : Type 0 where
   pub place : ℕ
   pub many : ℕ
@@ -64,7 +67,8 @@ module _ {T : Type 0} where
   all_left [] hs = hs
   all_left (c ∷ cs) hs = all_left cs (changed_at c.place (due_left c.rest) hs)
 
-  -- the histories with both: what is given is appended, and the times that are still pending are put in place
+  -- the histories with both: what is given is appended, and the times that are still pending are
+  -- put in place
   abbrev pub all_changed : List (ChangeState T) → List (Update T) → List (HistoryState T) → List (HistoryState T)
   all_changed [] out hs = hs
   all_changed (c ∷ cs) out hs = all_changed cs (drop c.many out) (changed_at c.place (λ h. due_left c.rest (given_more (take c.many out) h)) hs)

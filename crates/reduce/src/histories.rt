@@ -1,13 +1,13 @@
-//! The histories of all keys, in order of arrival. A key is found by one look-up of its hash, so a search does not get
-//! slower as keys are added.
+//! The histories of all keys, in order of arrival. A key is found by one look-up of its hash, so a
+//! search does not get slower as keys are added.
 //!
-//! A set holds the keys, and a list holds the histories. The invariant: key `i` of the set is the key of history `i`, and
-//! no key occurs twice. No history is ever removed. So the index of a history never changes, and other tables can refer
-//! to a history by its index.
+//! A set holds the keys, and a list holds the histories. The invariant: key `i` of the set is the
+//! key of history `i`, and no key occurs twice. No history is ever removed. So the index of a
+//! history never changes, and other tables can refer to a history by its index.
 //!
-//! A history is changed at its index, and keeps its key. Only [`Histories::reserve`] and [`Histories::give`] take memory. A
-//! caller that pushes histories reserves room first, and then no later step can be refused. What was given can be taken
-//! back.
+//! A history is changed at its index, and keeps its key. Only [`Histories::reserve`] and
+//! [`Histories::give`] take memory. A caller that pushes histories reserves room first, and then no
+//! later step can be refused. What was given can be taken back.
 ghost use Rattle.std.specs.Prelude.{◌≡◌, ◌≤◌, ◌<◌, ◌+◌, ◌++◌, ◌∷◌, [], None, false, IfErr, IfSome, IsSomeAnd, OnErr, OnOk, length, slice_get};
 ghost use Rattle.std.specs.List.{list_any};
 ghost use Rattle.update.specs.Bags.{same_row};
@@ -22,8 +22,8 @@ use std::alloc::Global;
 use std::marker::Model;
 use update::{Refusal, Update};
 
-/// The histories of all keys, each key once. A contract sees the histories in order of arrival, and how many more there
-/// is room for.
+/// The histories of all keys, each key once. A contract sees the histories in order of arrival, and
+/// how many more there is room for.
 #[derive(Drop)]
 pub(crate) struct Histories<T: Lattice> {
     // The key of each history, at the same index.
@@ -94,8 +94,8 @@ impl<T: Lattice> Histories<T> {
         &self.histories[i]
     }
 
-    /// Makes room for `more` histories, so that as many calls of [`push`](Histories::push) take no memory. A call that is
-    /// refused changes no history, and no room is lost.
+    /// Makes room for `more` histories, so that as many calls of [`push`](Histories::push) take no
+    /// memory. A call that is refused changes no history, and no room is lost.
     ///
     /// [`Refusal::OutOfMemory`] only if memory for the keys or the histories was refused.
     pub(crate) fn reserve(&mut self, more: usize) -> Result<(), Refusal>
@@ -122,8 +122,8 @@ impl<T: Lattice> Histories<T> {
         self.histories.push(history).unwrap();
     }
 
-    /// Puts other joined times of the key at an index in place, and the pending ones among them. What was given of the key
-    /// stays. Takes no memory.
+    /// Puts other joined times of the key at an index in place, and the pending ones among them.
+    /// What was given of the key stays. Takes no memory.
     pub(crate) fn put_times(&mut self, i: usize, times: Vec<T>, due: Vec<T>)
         requires { i < length self.old.items }
         ensures items { self.new.items
@@ -134,8 +134,8 @@ impl<T: Lattice> Histories<T> {
         history.put_times(times, due);
     }
 
-    /// Folds what was given of the key at an index, as the times at or after `since` see it. Nothing that a contract sees is
-    /// changed.
+    /// Folds what was given of the key at an index, as the times at or after `since` see it.
+    /// Nothing that a contract sees is changed.
     ///
     /// Cost: that of [`KeyHistory::fold`].
     pub(crate) fn fold(&mut self, alloc: Global, i: usize, since: T)
@@ -146,8 +146,8 @@ impl<T: Lattice> Histories<T> {
         history.fold(alloc, since);
     }
 
-    /// Appends copies of updates to what was given of the key at an index. If the call is refused, then no history has
-    /// changed.
+    /// Appends copies of updates to what was given of the key at an index. If the call is refused,
+    /// then no history has changed.
     ///
     /// [`Refusal::OutOfMemory`] only if memory for the copies was refused.
     ///

@@ -1,5 +1,5 @@
-//! What follows from the definitions alone. The functions do nothing: they are called, or their clauses cited, for what
-//! they promise in every lattice and of every reducer.
+//! What follows from the definitions alone. The functions do nothing: they are called, or their
+//! clauses cited, for what they promise in every lattice and of every reducer.
 ghost use Rattle.std.specs.Prelude.{◌≡◌, ◌≢◌, ◌⊎◌, ◌++◌, Bool, ℕ, ℤ, List, [], IsTrue, pos, true};
 ghost use Rattle.std.specs.List.{AllByRecursion, filter, list_all};
 ghost use Rattle.std.specs.List.Sorted.{IsPermutation};
@@ -16,9 +16,9 @@ ghost use Rattle.reduce.specs.Reductions.{StandsFor, IsQuietAt};
 
 use lattice::Lattice;
 
-/// The answer for a key changes at joined times alone. At every time, either no update of the key is there yet, and the
-/// answer is empty; or there is a greatest joined time at or before it, at which the rows of the key are just the same.
-/// Costs nothing.
+/// The answer for a key changes at joined times alone. At every time, either no update of the key
+/// is there yet, and the answer is empty; or there is a greatest joined time at or before it, at
+/// which the rows of the key are just the same. Costs nothing.
 pub fn outputs_change_at_joined_times<T: Lattice>()
     ensures joined { (k : ℕ) (reduce : List ℤ → List Entry → List Entry) → IsReducer k reduce
         → (us : List (Update T)) (key : List ℤ) (t : T)
@@ -29,8 +29,8 @@ pub fn outputs_change_at_joined_times<T: Lattice>()
         ≡ filter (has_key k key) (as_of T.below t us))) }
 {}
 
-/// The joins of some times have each of these times, and with any two of them their join. They are the least list that
-/// has both. Costs nothing.
+/// The joins of some times have each of these times, and with any two of them their join. They are
+/// the least list that has both. Costs nothing.
 pub fn joined_times_are_closed<T: Lattice>()
     ensures times { (ts : List T) (t : T) → Member t ts → Member t (joins_of T.joined ts) }
     ensures joins { (ts : List T) (s t : T) → Member s (joins_of T.joined ts)
@@ -40,8 +40,8 @@ pub fn joined_times_are_closed<T: Lattice>()
         → (t : T) → Member t (joins_of T.joined ts) → Member t us }
 {}
 
-/// Where nothing is pending at or before a time, what was given sums there to the reduction of what was taken. Costs
-/// nothing.
+/// Where nothing is pending at or before a time, what was given sums there to the reduction of what
+/// was taken. Costs nothing.
 pub fn settled_is_right<T: Lattice>()
     ensures sums { (k : ℕ) (reduce : List ℤ → List Entry → List Entry) → IsReducer k reduce
         → (hs : List (HistoryState T)) (taken given : List (Update T))
@@ -50,10 +50,11 @@ pub fn settled_is_right<T: Lattice>()
         → Alike (as_of T.below t given) (reduction_output k reduce (as_of T.below t taken)) }
 {}
 
-/// If a frontier has passed only times at or before which nothing is pending, and has passed the time of each update
-/// that was given, then the consolidation of what was given is the one consolidated list of passed updates that sums, at
-/// each passed time, to the reduction of what was taken. So it does not matter in which pieces updates were taken, nor
-/// when a frontier moved: the list is the same. Costs nothing.
+/// If a frontier has passed only times at or before which nothing is pending, and has passed the
+/// time of each update that was given, then the consolidation of what was given is the one
+/// consolidated list of passed updates that sums, at each passed time, to the reduction of what was
+/// taken. So it does not matter in which pieces updates were taken, nor when a frontier moved: the
+/// list is the same. Costs nothing.
 pub fn answers_are_the_differences<T: Lattice>()
     ensures one { (k : ℕ) (reduce : List ℤ → List Entry → List Entry) → IsReducer k reduce
         → (frontier : List T) (hs : List (HistoryState T)) (taken given us vs : List (Update T))
@@ -69,8 +70,9 @@ pub fn answers_are_the_differences<T: Lattice>()
         → us ≡ vs }
 {}
 
-/// What a reduction stands for does not depend on the order in which updates were taken, nor on the order of those that
-/// were given. So a worker may list what it received in whatever order it came. Costs nothing.
+/// What a reduction stands for does not depend on the order in which updates were taken, nor on the
+/// order of those that were given. So a worker may list what it received in whatever order it came.
+/// Costs nothing.
 pub fn order_does_not_matter<T: Lattice>()
     ensures stands { (k : ℕ) (reduce : List ℤ → List Entry → List Entry) → IsReducer k reduce
         → (hs : List (HistoryState T)) (taken taken2 given given2 : List (Update T))
@@ -79,9 +81,10 @@ pub fn order_does_not_matter<T: Lattice>()
         → StandsFor T.below T.joined k reduce hs taken2 given2 }
 {}
 
-/// No row is given that no answer has. If a test passes for each row of the answers at the times that a frontier has
-/// passed, and for each row that was given before, then it passes for each row that `ready` gives as of that frontier. So
-/// what is given has the width of the answers. Costs nothing.
+/// No row is given that no answer has. If a test passes for each row of the answers at the times
+/// that a frontier has passed, and for each row that was given before, then it passes for each row
+/// that `ready` gives as of that frontier. So what is given has the width of the answers. Costs
+/// nothing.
 pub fn rows_given_are_answered<T: Lattice>()
     ensures rows { (k : ℕ) (reduce : List ℤ → List Entry → List Entry) → IsReducer k reduce
         → (p : List ℤ → Bool) (frontier : List T) (hs : List (HistoryState T))

@@ -1,22 +1,26 @@
-//! Reductions that are kept up to date: count, distinct, min and max, or any reducer, by the first columns of rows.
+//! Reductions that are kept up to date: count, distinct, min and max, or any reducer, by the first
+//! columns of rows.
 //!
-//! A correction of the past alters what was answered since, and not only at its own time. The rows of two corrections are
-//! first seen together at the join of their times, a time that no input may have. So an answer can change at joins of the
-//! times of a key's updates, and at no others. A reduction keeps these joined times key by key. It evaluates each one once
-//! a frontier has passed it, and again whenever an update comes in at or before it.
+//! A correction of the past alters what was answered since, and not only at its own time. The rows
+//! of two corrections are first seen together at the join of their times, a time that no input may
+//! have. So an answer can change at joins of the times of a key's updates, and at no others. A
+//! reduction keeps these joined times key by key. It evaluates each one once a frontier has passed
+//! it, and again whenever an update comes in at or before it.
 //!
 //! - [`ReduceState`] takes batches and gives the differences that a frontier has passed.
-//! - The laws say what follows from the definitions: where answers can change, and that what is given is one list in
-//!   whatever pieces it was taken.
+//! - The laws say what follows from the definitions: where answers can change, and that what is
+//!   given is one list in whatever pieces it was taken.
 //!
-//! This crate goes through all keys. It stands on four others, and hands on what a caller needs of them:
+//! This crate goes through all keys. It stands on four others, and hands on what a caller needs of
+//! them:
 //!
-//! - `reducer`: what a key's rows are reduced to. A [`Reducer`] is a function of a bag; [`Count`], [`Distinct`], [`Min`] and
-//!   [`Max`] are those of plans. [`RowCounts`] is how it reads the rows of a key, and a [`Tally`] has them with counts that
-//!   change in place.
+//! - `reducer`: what a key's rows are reduced to. A [`Reducer`] is a function of a bag; [`Count`],
+//!   [`Distinct`], [`Min`] and [`Max`] are those of plans. [`RowCounts`] is how it reads the rows
+//!   of a key, and a [`Tally`] has them with counts that change in place.
 //! - `joined_times`: which times are joined times, after new ones came.
 //! - `correction`: what is given of one key at one time.
-//! - `key_history`: what is kept of one key, a [`KeyHistory`], and what is given of it as of a frontier.
+//! - `key_history`: what is kept of one key, a [`KeyHistory`], and what is given of it as of a
+//!   frontier.
 //!
 //! What a reduction stands for is defined in `specs/Reductions.antt`, by what is right for each key
 //! (`key_history/specs/Standing.antt`).

@@ -1,7 +1,8 @@
-//! A list of places: the indices of the histories that have pending times, so that a reduction visits these and no
-//! others.
+//! A list of places: the indices of the histories that have pending times, so that a reduction
+//! visits these and no others.
 //!
-//! Only [`Places::reserve`] takes memory. A caller reserves room first, and then no later step can be refused.
+//! Only [`Places::reserve`] takes memory. A caller reserves room first, and then no later step can
+//! be refused.
 ghost use Rattle.std.specs.Prelude.{◌≡◌, ◌≤◌, ◌+◌, ◌++◌, ◌∷◌, [], IfErr, OnOk};
 ghost use Rattle.update.specs.declared.refusal.Refusal.{Refusal};
 
@@ -9,7 +10,8 @@ use std::alloc::Global;
 use std::marker::Model;
 use update::Refusal;
 
-/// Places in a list, in order of arrival. A contract sees the list of them, and how many more there is room for.
+/// Places in a list, in order of arrival. A contract sees the list of them, and how many more there
+/// is room for.
 #[derive(Drop)]
 pub(crate) struct Places {
     list: Vec<usize>,
@@ -51,8 +53,8 @@ impl Places {
         self.list.as_slice()
     }
 
-    /// Makes room for `more` places, so that as many calls of [`push`](Places::push) take no memory. A call that is
-    /// refused changes no place, and no room is lost.
+    /// Makes room for `more` places, so that as many calls of [`push`](Places::push) take no
+    /// memory. A call that is refused changes no place, and no room is lost.
     ///
     /// [`Refusal::OutOfMemory`] only if memory for the places was refused.
     pub(crate) fn reserve(&mut self, more: usize) -> Result<(), Refusal>

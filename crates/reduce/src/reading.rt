@@ -1,6 +1,6 @@
-//! The rows of one key in the batches of a trace, read once for all of the key's times. A reducer that does not see rows
-//! is given the key in the place of each of them. So all updates of a key have one row and fall together when they are
-//! summed, however many different rows the key has.
+//! The rows of one key in the batches of a trace, read once for all of the key's times. A reducer
+//! that does not see rows is given the key in the place of each of them. So all updates of a key
+//! have one row and fall together when they are summed, however many different rows the key has.
 ghost use Rattle.std.specs.Prelude.{◌≡◌, ◌≤◌, ◌<◌, ◌++◌, IfErr, IfOk, IsSomeAnd, OnOk, if◌then◌else◌, length, map, slice_get, slice_range};
 ghost use Rattle.std.specs.List.{filter};
 ghost use Rattle.update.specs.declared.refusal.Refusal.{Refusal};
@@ -60,11 +60,11 @@ fn read_range<B: BatchReader>(
     Ok(())
 }
 
-/// Copies of the updates of a key's rows in all batches, with the key in the place of each row if the reducer sees no
-/// rows.
+/// Copies of the updates of a key's rows in all batches, with the key in the place of each row if
+/// the reducer sees no rows.
 ///
-/// Cost: two binary searches in each batch, and one step for each update that is read. Its row is read only if the
-/// reducer sees rows.
+/// Cost: two binary searches in each batch, and one step for each update that is read. Its row is
+/// read only if the reducer sees rows.
 pub(crate) fn rows_of<R: Reducer, B: BatchReader>(
     alloc: Global,
     reducer: &R,

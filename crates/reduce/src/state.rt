@@ -1,13 +1,16 @@
-//! A reduction that is kept up to date. Updates are taken batch by batch; each one makes joined times of its key pending.
-//! Once a frontier has passed a pending time, what the reduction answers there is compared with what was given before,
-//! and the difference is given. No other times and no other keys are looked at.
+//! A reduction that is kept up to date. Updates are taken batch by batch; each one makes joined
+//! times of its key pending. Once a frontier has passed a pending time, what the reduction answers
+//! there is compared with what was given before, and the difference is given. No other times and no
+//! other keys are looked at.
 //!
-//! The invariant: with a pending time all joined times of its key at or after it are pending, and at each other joined
-//! time what was given is right. So a correction of the past, which makes its time and all later joined times pending,
-//! is given at each of them once, whichever way it alters the answers.
+//! The invariant: with a pending time all joined times of its key at or after it are pending, and
+//! at each other joined time what was given is right. So a correction of the past, which makes its
+//! time and all later joined times pending, is given at each of them once, whichever way it alters
+//! the answers.
 //!
-//! A call gathers all that it changes aside, and changes the histories in place at its end. What it has appended by then is
-//! taken back if memory for more is refused. So a refusal leaves the state as it was.
+//! A call gathers all that it changes aside, and changes the histories in place at its end. What it
+//! has appended by then is taken back if memory for more is refused. So a refusal leaves the state
+//! as it was.
 ghost use Rattle.std.specs.Prelude.{◌≡◌, ◌≢◌, ◌↔◌, ◌⊎◌, ◌≤◌, ◌<◌, ◌+◌, ◌-◌, ◌^◌, ◌++◌, ◌||◌, [], ℕ, ℤ, List, false, true, length, min, pos, take, slice_get, IfErr, IfOk, IsSomeAnd, OnErr, OnOk, IsTrue};
 ghost use Rattle.std.specs.List.{AllByRecursion, filter};
 ghost use Rattle.lattice.specs.Frontiers.{is_beyond};
@@ -38,8 +41,9 @@ use std::marker::Model;
 use trace::Trace;
 use update::{Refusal, Update};
 
-/// A reduction by a reducer `R` of rows by their first columns, at times `T`. A contract sees the number of these
-/// columns, the reducer, the history of each key, the places of the keys that wait, and how many updates were read.
+/// A reduction by a reducer `R` of rows by their first columns, at times `T`. A contract sees the
+/// number of these columns, the reducer, the history of each key, the places of the keys that wait,
+/// and how many updates were read.
 #[derive(Drop)]
 pub struct ReduceState<T: Lattice, R> {
     key: usize,
@@ -47,7 +51,8 @@ pub struct ReduceState<T: Lattice, R> {
     histories: Histories<T>,
     waiting: Places,
     looked: u64,
-    // A time at or before those that come to be due from now on, if the frontiers of `ready` do not go back.
+    // A time at or before those that come to be due from now on, if the frontiers of `ready` do not
+    // go back.
     since: T,
 }
 
@@ -138,8 +143,8 @@ impl<T: Lattice, R: Reducer> ReduceState<T, R> {
         self.waiting.as_slice()
     }
 
-    /// The history of the key at a place: the key, its joined times, which of them are pending, and what was given of
-    /// it. Takes no memory.
+    /// The history of the key at a place: the key, its joined times, which of them are pending, and
+    /// what was given of it. Takes no memory.
     pub fn history(&self, place: usize) -> &KeyHistory<T>
         requires { place < length self.now.histories }
         ensures value { IsSomeAnd (slice_get self.now.histories place) (λ h. result.now ≡ h) }
@@ -148,17 +153,17 @@ impl<T: Lattice, R: Reducer> ReduceState<T, R> {
         self.histories.get(place)
     }
 
-    /// How many updates were read in all answered calls, those of a key once in each call in which one of its times was
-    /// due. It stays at its greatest value. Takes no memory.
+    /// How many updates were read in all answered calls, those of a key once in each call in which
+    /// one of its times was due. It stays at its greatest value. Takes no memory.
     pub fn looked(&self) -> u64
         ensures { result ≡ self.now.looked }
     {
         self.looked
     }
 
-    /// The least of all pending times: exactly the times at or after a pending time are beyond this frontier. As long as
-    /// the trace's since is not beyond it, whatever comes to be due can be read. [`Refusal::OutOfMemory`] only if memory
-    /// for more than four times was refused.
+    /// The least of all pending times: exactly the times at or after a pending time are beyond this
+    /// frontier. As long as the trace's since is not beyond it, whatever comes to be due can be
+    /// read. [`Refusal::OutOfMemory`] only if memory for more than four times was refused.
     ///
     /// Cost: each pending time is compared with the least ones so far.
     pub fn held(&self, alloc: Global) -> Result<Antichain<T>, Refusal>
@@ -175,15 +180,17 @@ impl<T: Lattice, R: Reducer> ReduceState<T, R> {
         Ok(held)
     }
 
-    /// Takes a batch. Of each of its keys the times of its updates become pending, and with them all joins of sets of
-    /// times that hold one of these. If the call is refused, then nothing has changed.
+    /// Takes a batch. Of each of its keys the times of its updates become pending, and with them
+    /// all joins of sets of times that hold one of these. If the call is refused, then nothing has
+    /// changed.
     ///
-    /// Each row of the batch has at least as many columns as the key. [`Refusal::OutOfMemory`] only if memory for the
-    /// times, or for the histories of the keys, was refused.
+    /// Each row of the batch has at least as many columns as the key. [`Refusal::OutOfMemory`] only
+    /// if memory for the times, or for the histories of the keys, was refused.
     ///
-    /// Cost: for each key of the batch one look-up of a hash, a copy of its times, and a sort of the joined times that are
-    /// new. One new time of a key is joined with each joined time that the key has. Many new times are joined half by half,
-    /// which costs n log n for times in one revision. What was given of a key is not touched.
+    /// Cost: for each key of the batch one look-up of a hash, a copy of its times, and a sort of
+    /// the joined times that are new. One new time of a key is joined with each joined time that
+    /// the key has. Many new times are joined half by half, which costs n log n for times in one
+    /// revision. What was given of a key is not touched.
     pub fn take<B: BatchReader<Time = T>>(
         &mut self,
         alloc: Global,
@@ -225,7 +232,8 @@ impl<T: Lattice, R: Reducer> ReduceState<T, R> {
         Ok(())
     }
 
-    // Folds what was given of the keys that wait, as the times to come see it. Nothing that a contract sees is changed.
+    // Folds what was given of the keys that wait, as the times to come see it. Nothing that a
+    // contract sees is changed.
     fn fold(&mut self, alloc: Global)
         ensures { self.new ≡ self.old }
     {
@@ -237,26 +245,31 @@ impl<T: Lattice, R: Reducer> ReduceState<T, R> {
         );
     }
 
-    /// Gives the differences at the pending times that the frontier has passed: at each of these times what the reducer
-    /// makes of the rows of the key, less what was given up to it. These times are pending no longer. After the call,
-    /// what was given sums at each time that the frontier has passed to the reduction of what was taken. No row is given
-    /// twice at one time, and none with difference 0. The list comes key by key, and is in no order that is promised.
+    /// Gives the differences at the pending times that the frontier has passed: at each of these
+    /// times what the reducer makes of the rows of the key, less what was given up to it. These
+    /// times are pending no longer. After the call, what was given sums at each time that the
+    /// frontier has passed to the reduction of what was taken. No row is given twice at one time,
+    /// and none with difference 0. The list comes key by key, and is in no order that is promised.
     ///
-    /// The frontier is the slice of its elements. The trace is read whole, and may have moved times together, as of its
-    /// since: the pending times that the frontier has passed are to be beyond it. That the trace sums, at the times that
-    /// the frontier has passed, to what was taken is a premise of the promises and not a condition of the call. If the
-    /// call is refused, then nothing has changed.
+    /// The frontier is the slice of its elements. The trace is read whole, and may have moved times
+    /// together, as of its since: the pending times that the frontier has passed are to be beyond
+    /// it. That the trace sums, at the times that the frontier has passed, to what was taken is a
+    /// premise of the promises and not a condition of the call. If the call is refused, then
+    /// nothing has changed.
     ///
-    /// - [`Refusal::Overflow`] only if the absolute diffs of what was taken add up to 2^63 or more, or those of a list of
-    ///   updates of one key that is owed: up to some step of the computation it is what the reduction is to give.
+    /// - [`Refusal::Overflow`] only if the absolute diffs of what was taken add up to 2^63 or more,
+    ///   or those of a list of updates of one key that is owed: up to some step of the computation
+    ///   it is what the reduction is to give.
     /// - [`Refusal::OutOfMemory`] only if memory was refused.
     ///
-    /// Cost: a comparison with the frontier for each pending time. For each key of which some time is due two binary
-    /// searches in each batch, a copy and a sort of its rows, and a copy of what was given of it, as the times after the
-    /// frontier of the last call see it: a correction does not pay for the corrections before it. For each due time a look
-    /// at those rows and answers that not all times to come see, each once for all that these times do not tell apart, a
-    /// search in the key's rows for each, and the reducer's own cost. So times of one revision cost n log n. What is given is
-    /// copied once, into the histories of its keys; what was given before stays where it is. No other key is read.
+    /// Cost: a comparison with the frontier for each pending time. For each key of which some time
+    /// is due two binary searches in each batch, a copy and a sort of its rows, and a copy of what
+    /// was given of it, as the times after the frontier of the last call see it: a correction does
+    /// not pay for the corrections before it. For each due time a look at those rows and answers
+    /// that not all times to come see, each once for all that these times do not tell apart, a
+    /// search in the key's rows for each, and the reducer's own cost. So times of one revision cost
+    /// n log n. What is given is copied once, into the histories of its keys; what was given before
+    /// stays where it is. No other key is read.
     pub fn ready<S: Trace<Time = T>>(
         &mut self,
         alloc: Global,

@@ -1,11 +1,12 @@
 //! Taking a batch: what it makes of the histories of its keys.
 //!
-//! A batch is in order of row, so the updates of one key are neighbours: a run. The batch is read run by run, and each
-//! run makes the new times of one key. The invariant: the keys that have new times are those of the runs that were read,
-//! and no later run has one of these keys.
+//! A batch is in order of row, so the updates of one key are neighbours: a run. The batch is read
+//! run by run, and each run makes the new times of one key. The invariant: the keys that have new
+//! times are those of the runs that were read, and no later run has one of these keys.
 //!
-//! All new times are made before any of them is put in place. If making them is refused, nothing has changed. Putting
-//! them in place takes no memory, so a batch is never taken in part. What was given of a key stays where it is.
+//! All new times are made before any of them is put in place. If making them is refused, nothing
+//! has changed. Putting them in place takes no memory, so a batch is never taken in part. What was
+//! given of a key stays where it is.
 ghost use Rattle.std.specs.Prelude.{◌≡◌, ◌≢◌, ◌≤◌, ◌<◌, ◌+◌, ◌∷◌, [], ℕ, ℤ, List, IsTrue, IsSomeAnd, IfOk, IfErr, length, map, slice_get, slice_range, take};
 ghost use Rattle.std.specs.List.{AllByRecursion};
 ghost use Rattle.update.specs.declared.refusal.Refusal.{Refusal};
@@ -24,8 +25,8 @@ use std::alloc::Global;
 use std::ops::Range;
 use update::Refusal;
 
-/// What a batch makes of a key: its joined times, and which of them are pending. `place` is that of its history, if it
-/// has one.
+/// What a batch makes of a key: its joined times, and which of them are pending. `place` is that of
+/// its history, if it has one.
 #[derive(Drop)]
 pub(crate) struct Renewal<T> {
     key: Row,
@@ -65,7 +66,8 @@ fn times_in<B: BatchReader>(
     Ok(times)
 }
 
-// What the run of a key's updates in the batch makes of the key. If the key has no history yet, it begins with no times.
+// What the run of a key's updates in the batch makes of the key. If the key has no history yet, it
+// begins with no times.
 fn renewed_run<T: Lattice, B: BatchReader<Time = T>>(
     alloc: Global,
     key: Row,
@@ -111,13 +113,13 @@ fn renewed_run<T: Lattice, B: BatchReader<Time = T>>(
     }
 }
 
-/// What a batch makes of its keys, one renewal for each. It has the old joined and pending times of the key with the new
-/// ones added. None is put in place yet.
+/// What a batch makes of its keys, one renewal for each. It has the old joined and pending times of
+/// the key with the new ones added. None is put in place yet.
 ///
 /// [`Refusal::OutOfMemory`] only if memory for the new times was refused.
 ///
-/// Cost: for each key of the batch one look-up of a hash, a seek for the end of its run, and the cost of [`with_times`] for
-/// its times in the batch.
+/// Cost: for each key of the batch one look-up of a hash, a seek for the end of its run, and the
+/// cost of [`with_times`] for its times in the batch.
 pub(crate) fn renewed_by<T: Lattice, B: BatchReader<Time = T>>(
     alloc: Global,
     k: usize,
@@ -194,10 +196,11 @@ fn put_one<T: Lattice>(
     }
 }
 
-/// Puts the new times of keys in place: in their histories, or in new ones behind all. Takes no memory, so nothing here
-/// can be refused.
+/// Puts the new times of keys in place: in their histories, or in new ones behind all. Takes no
+/// memory, so nothing here can be refused.
 ///
-/// Cost: one look-up of a hash for each new key. A history that is there already keeps what was given of its key.
+/// Cost: one look-up of a hash for each new key. A history that is there already keeps what was
+/// given of its key.
 pub(crate) fn put_all<T: Lattice>(
     alloc: Global,
     histories: &mut Histories<T>,

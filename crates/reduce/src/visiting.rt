@@ -1,10 +1,12 @@
-//! The keys that wait, one after the other. The pending times of each are settled, and what comes of it is gathered
-//! aside: what is given, which times of a key are still pending, and which keys still wait. The histories themselves
-//! stay as they are until all is gathered. A key of which no time is due is not read.
+//! The keys that wait, one after the other. The pending times of each are settled, and what comes
+//! of it is gathered aside: what is given, which times of a key are still pending, and which keys
+//! still wait. The histories themselves stay as they are until all is gathered. A key of which no
+//! time is due is not read.
 //!
-//! Then the histories are changed in place. What is given of a key is appended to its history, which may want memory. If
-//! it is refused, then what was appended so far is taken back, so the histories are as they were. The times that are
-//! still pending are put in place after that, which takes no memory.
+//! Then the histories are changed in place. What is given of a key is appended to its history,
+//! which may want memory. If it is refused, then what was appended so far is taken back, so the
+//! histories are as they were. The times that are still pending are put in place after that, which
+//! takes no memory.
 ghost use Rattle.std.specs.Prelude.{get_or, ◌≡◌, ◌≢◌, ◌≤◌, ◌<◌, ◌+◌, ◌-◌, ◌^◌, ◌++◌, ◌∷◌, ℕ, List, [], not, min, IfErr, IfOk, IsSomeAnd, IsTrue, OnErr, OnOk, length, map, slice_get};
 ghost use Rattle.std.specs.List.{list_any, filter};
 ghost use Rattle.lattice.specs.Frontiers.{is_beyond};
@@ -27,8 +29,8 @@ use std::alloc::Global;
 use std::marker::Model;
 use update::{Refusal, Update};
 
-/// What is new of the key at a place. A contract sees the place, how many of the updates that are given are the key's,
-/// and the times that are still pending.
+/// What is new of the key at a place. A contract sees the place, how many of the updates that are
+/// given are the key's, and the times that are still pending.
 #[derive(Drop)]
 pub(crate) struct Change<T> {
     place: usize,
@@ -120,7 +122,8 @@ impl<T: Lattice> Gathered<T> {
     }
 }
 
-/// Folds what was given of the keys that wait, as the times at or after `since` see it. Nothing that a contract sees is changed.
+/// Folds what was given of the keys that wait, as the times at or after `since` see it. Nothing
+/// that a contract sees is changed.
 ///
 /// Cost: that of [`Histories::fold`] for each of them.
 pub(crate) fn fold_all<T: Lattice>(
@@ -181,8 +184,8 @@ fn visit<T: Lattice, R: Reducer, B: BatchReader<Time = T>>(
 
 /// Visits the keys at these places. `looked` is how many updates had been read before.
 ///
-/// Cost: one comparison with the frontier for each pending time. Each key of which some time is due is read once, as for
-/// [`rows_of`], and settled, as for [`sweep_key`].
+/// Cost: one comparison with the frontier for each pending time. Each key of which some time is due
+/// is read once, as for [`rows_of`], and settled, as for [`sweep_key`].
 pub(crate) fn visit_all<T: Lattice, R: Reducer, B: BatchReader<Time = T>>(
     alloc: Global,
     reducer: &R,
@@ -234,8 +237,8 @@ fn take_back<T: Lattice>(histories: &mut Histories<T>, changes: &[Change<T>])
     }
 }
 
-// Appends what is given at each change to its history. `out` has what is given, key by key. If the call is refused, then
-// the histories are as they were.
+// Appends what is given at each change to its history. `out` has what is given, key by key. If the
+// call is refused, then the histories are as they were.
 fn give_all<T: Lattice>(
     histories: &mut Histories<T>,
     changes: &[Change<T>],
@@ -276,13 +279,13 @@ fn leave_all<T: Lattice>(histories: &mut Histories<T>, changes: Vec<Change<T>>)
     }
 }
 
-/// Changes the histories in place. `out` has what is given, key by key, in the order of the changes. If the call is
-/// refused, then the histories are as they were.
+/// Changes the histories in place. `out` has what is given, key by key, in the order of the
+/// changes. If the call is refused, then the histories are as they were.
 ///
 /// - [`Refusal::OutOfMemory`] only if memory for what is given was refused.
 ///
-/// Cost: a copy of what is given. What was given before stays where it is, but in a history that has no room for more: its
-/// list moves to one of twice the room.
+/// Cost: a copy of what is given. What was given before stays where it is, but in a history that
+/// has no room for more: its list moves to one of twice the room.
 pub(crate) fn change_all<T: Lattice>(
     histories: &mut Histories<T>,
     changes: Vec<Change<T>>,

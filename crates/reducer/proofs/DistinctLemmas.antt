@@ -1,4 +1,5 @@
--- Distinct: of rows in order, each once, those with a count above 0 are what distinct answers, and so are those that a loop writes.
+-- Distinct: of rows in order, each once, those with a count above 0 are what distinct answers, and
+-- so are those that a loop writes.
 use Rattle.std.proofs.Common.{◌≡◌, ℕ, ◌+◌, ◌<◌, Bool, true, false, cond, List, [], ◌∷◌, ◌++◌, ℤ, map, take, length, get_or, refl, ap, sym, subst, ◌∙◌, append_assoc, w64, FitsSigned, rules, arith}
 use Rattle.std.specs.Prelude.{pos, ◌+ℤ◌, int_lt}
 use Rattle.std.specs.Cmp.Lexicographic.{slice_cmp, lists_ties, lists_total}

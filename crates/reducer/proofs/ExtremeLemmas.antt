@@ -1,4 +1,5 @@
--- Min and max: of rows in order, each once, with a count above 0, the first is the least and the last the greatest.
+-- Min and max: of rows in order, each once, with a count above 0, the first is the least and the
+-- last the greatest.
 use Rattle.std.proofs.Common.{◌≡◌, ℕ, zero, suc, ◌+◌, ◌<◌, ◌≤◌, Bool, true, false, cond, List, [], ◌∷◌, ℤ, length, get_or, IsTrue, ⊎_elim, refl, ap, sym, ◌∙◌, ◌↔◌, eq-or-lt_of_le, arith}
 use Rattle.std.specs.Prelude.{pos, ◌+ℤ◌, int_lt}
 use Rattle.std.specs.Cmp.{IsTotalOrder}

@@ -1,4 +1,5 @@
--- What the reducers of the four reductions of a plan answer, with the laws of a reducer, and the rows that they look for.
+-- What the reducers of the four reductions of a plan answer, with the laws of a reducer, and the
+-- rows that they look for.
 use Rattle.std.specs.Prelude.{◌≡◌, ℕ, Bool, true, false, if◌then◌else◌, List, [], ℤ, pos, int_lt, length, map, nat_le, refl}
 use Rattle.std.specs.List.{filter}
 use Rattle.std.proofs.Common.{ap}
@@ -22,7 +23,8 @@ positive_rows entries = map (λ e. single e.row) (filter is_positive entries)
 
 -- ---- answers
 
--- the answer of count for a key of at most 7 columns; the row of a longer key has no room for the sum
+-- the answer of count for a key of at most 7 columns; the row of a longer key has no room for the
+-- sum
 abbrev pub count_within : List ℤ → List Entry → List Entry
 count_within key entries = if nat_le (length key) 7 then reduction_answer Count key entries else []
 

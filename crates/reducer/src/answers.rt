@@ -1,5 +1,5 @@
-//! What the reducers have in common: they read the entries of a key by index, and most answer one row or none. In such
-//! an answer no count is above 1, so only memory can be refused.
+//! What the reducers have in common: they read the entries of a key by index, and most answer one
+//! row or none. In such an answer no count is above 1, so only memory can be refused.
 ghost use Rattle.std.specs.Prelude.{◌≡◌, ◌<◌, ◌∷◌, [], length, slice_index_or, IfOk, IfErr};
 ghost use Rattle.update.specs.Bags.{Entry, Alike, IsBag};
 ghost use Rattle.plan.specs.Reductions.{single};

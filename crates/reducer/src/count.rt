@@ -1,6 +1,7 @@
-//! Count: the key followed by the sum of all counts. The counts are added up in 128 bits, and only the sum is converted
-//! to 64 bits. So no sum on the way is refused. If the last one is, then the counts are too large however the bag is
-//! written, because alike bags have the same sum. Nothing but the sum matters, so count does not look at rows.
+//! Count: the key followed by the sum of all counts. The counts are added up in 128 bits, and only
+//! the sum is converted to 64 bits. So no sum on the way is refused. If the last one is, then the
+//! counts are too large however the bag is written, because alike bags have the same sum. Nothing
+//! but the sum matters, so count does not look at rows.
 ghost use Rattle.std.specs.Prelude.{◌≡◌, IfOk, IfErr};
 ghost use Rattle.plan.specs.Reductions.{sum_of_counts};
 ghost use Rattle.reducer.specs.Refusals.{IsTooLarge};
@@ -11,8 +12,9 @@ use row::{MAX_WIDTH, Row};
 use std::alloc::Global;
 use update::{Bag, Refusal};
 
-/// Answers the key followed by the sum of all counts, with count 1, unless the sum is 0. A key of 8 columns has no
-/// answer, because its row would have 9. Its refusals are those of [`Reducer::reduce`].
+/// Answers the key followed by the sum of all counts, with count 1, unless the sum is 0. A key of 8
+/// columns has no answer, because its row would have 9. Its refusals are those of
+/// [`Reducer::reduce`].
 ///
 /// Cost: one pass over the counts.
 #[derive(Clone, Copy)]

@@ -1,5 +1,5 @@
-//! Distinct: each row whose count is above 0, once. A reducer reads each row only once, so one pass over the entries
-//! finds these rows, and no count in the answer can be too large.
+//! Distinct: each row whose count is above 0, once. A reducer reads each row only once, so one pass
+//! over the entries finds these rows, and no count in the answer can be too large.
 ghost use Rattle.std.specs.Prelude.{◌≡◌, ◌++◌, IfErr, OnOk};
 ghost use Rattle.reducer.specs.Kinds.{positive_rows};
 

@@ -1,5 +1,6 @@
-//! Min and max: the least and the greatest row whose count is above 0, once. The rows that a reducer reads are in order,
-//! so the least is the first such row and the greatest is the last. The search for either ends at the row that it finds.
+//! Min and max: the least and the greatest row whose count is above 0, once. The rows that a
+//! reducer reads are in order, so the least is the first such row and the greatest is the last. The
+//! search for either ends at the row that it finds.
 ghost use Rattle.std.specs.Prelude.{◌≡◌, ◌<◌, ◌+◌, true, false, None, length, slice_index_or, IfSome};
 ghost use Rattle.std.specs.List.{AllWithin};
 ghost use Rattle.update.specs.Bags.{Entry};
@@ -10,13 +11,15 @@ use crate::{Reducer, RowCounts};
 use std::alloc::Global;
 use update::{Bag, Refusal};
 
-/// Answers the least row whose count is above 0, once. Its refusals are those of [`Reducer::reduce`].
+/// Answers the least row whose count is above 0, once. Its refusals are those of
+/// [`Reducer::reduce`].
 ///
 /// Cost: reads the counts from the first row up to the answer.
 #[derive(Clone, Copy)]
 pub struct Min;
 
-/// Answers the greatest row whose count is above 0, once. Its refusals are those of [`Reducer::reduce`].
+/// Answers the greatest row whose count is above 0, once. Its refusals are those of
+/// [`Reducer::reduce`].
 ///
 /// Cost: reads the counts from the last row back to the answer.
 #[derive(Clone, Copy)]

@@ -1,6 +1,7 @@
-//! The four reducers are the four reductions of a plan, and a node's kind is a reducer itself: code that has nodes of all
-//! kinds in one list uses that one. The function does nothing: it is called, or its clauses cited, for what it promises.
-//! With the contract of [`Reducer`](crate::Reducer) this is all that a layer above needs.
+//! The four reducers are the four reductions of a plan, and a node's kind is a reducer itself: code
+//! that has nodes of all kinds in one list uses that one. The function does nothing: it is called,
+//! or its clauses cited, for what it promises. With the contract of [`Reducer`](crate::Reducer)
+//! this is all that a layer above needs.
 ghost use Rattle.std.specs.Prelude.{◌≡◌, ◌≤◌, List, ℤ, length};
 ghost use Rattle.update.specs.Bags.{Entry};
 ghost use Rattle.plan.specs.Reductions.{reduction_answer};
@@ -14,8 +15,8 @@ use plan::Kind;
 use std::alloc::Global;
 use update::{Bag, Refusal};
 
-/// The reduction of a plan's node, by its kind. It answers what the reducer of that kind answers, and refuses when that
-/// one does.
+/// The reduction of a plan's node, by its kind. It answers what the reducer of that kind answers,
+/// and refuses when that one does.
 impl Reducer for Kind {
     ghost use Rattle.reducer.specs.Kinds.{kind_answer, kind_sees_rows, kind_reduces, kind_is_blind};
 
@@ -46,8 +47,8 @@ impl Reducer for Kind {
     ghost blind = { kind_is_blind };
 }
 
-/// Each of the four reducers answers what the reduction of its kind answers. For count the key has at most 7 columns, as
-/// in every plan. Costs nothing.
+/// Each of the four reducers answers what the reduction of its kind answers. For count the key has
+/// at most 7 columns, as in every plan. Costs nothing.
 pub fn kinds_are_reductions()
     ensures count { (self : Count) (key : List ℤ) (entries : List Entry) → length key ≤ 7
         → ⟦<Count as Reducer>⟧.reduces self key entries ≡ reduction_answer Kind.Count key entries }

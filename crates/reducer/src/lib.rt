@@ -1,17 +1,19 @@
 //! Reducers: functions from a key and the bag of its rows to the bag that is answered for the key.
 //!
-//! A reducer knows nothing of times. It is asked again and again for the same key, at each time at which the key's rows
-//! differ. So it reads its rows where they are, as entries in order, and whoever asks changes counts in place from one
-//! time to the next instead of copying the rows.
+//! A reducer knows nothing of times. It is asked again and again for the same key, at each time at
+//! which the key's rows differ. So it reads its rows where they are, as entries in order, and
+//! whoever asks changes counts in place from one time to the next instead of copying the rows.
 //!
-//! - [`Reducer`] is such a function, with its laws: alike bags get alike answers, an empty bag gets an empty answer, and
-//!   each row of an answer begins with the key.
-//! - [`Count`], [`Distinct`], [`Min`] and [`Max`] are the reducers of plans. A plan's `Kind` is a reducer, too.
-//! - [`RowCounts`] is how a reducer reads the rows of a key. A bag is read so, and so is a [`Tally`], whose counts change
-//!   in place and are set back by what was noted of them ([`Undone`]).
+//! - [`Reducer`] is such a function, with its laws: alike bags get alike answers, an empty bag gets
+//!   an empty answer, and each row of an answer begins with the key.
+//! - [`Count`], [`Distinct`], [`Min`] and [`Max`] are the reducers of plans. A plan's `Kind` is a
+//!   reducer, too.
+//! - [`RowCounts`] is how a reducer reads the rows of a key. A bag is read so, and so is a
+//!   [`Tally`], whose counts change in place and are set back by what was noted of them
+//!   ([`Undone`]).
 //!
-//! What the four reducers answer is defined in `specs/Kinds.antt`, and what a reducer that does not look at rows owes in
-//! `specs/Blind.antt`.
+//! What the four reducers answer is defined in `specs/Kinds.antt`, and what a reducer that does not
+//! look at rows owes in `specs/Blind.antt`.
 #![tactic(auto)]
 
 mod answers;

@@ -1,5 +1,6 @@
-//! What a reducer reads: rows in order, each once, with their counts. A bag is read so, and so is a tally, whose counts
-//! change in place and may be 0. So one reducer serves both, and none copies the rows.
+//! What a reducer reads: rows in order, each once, with their counts. A bag is read so, and so is a
+//! tally, whose counts change in place and may be 0. So one reducer serves both, and none copies
+//! the rows.
 ghost use Rattle.std.specs.Prelude.{◌≡◌, ◌<◌, length, slice_get, IsSomeAnd};
 ghost use Rattle.reducer.specs.Tallies.{AreInOrder};
 
@@ -7,7 +8,8 @@ use crate::Tally;
 use row::Row;
 use update::Bag;
 
-/// Rows in order, each once, with a count each that may be 0. The ghost member `entries` is the list of them.
+/// Rows in order, each once, with a count each that may be 0. The ghost member `entries` is the
+/// list of them.
 pub trait RowCounts {
     ghost use Rattle.std.specs.Prelude.{List};
     ghost use Rattle.update.specs.Bags.{Entry};

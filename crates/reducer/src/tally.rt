@@ -1,12 +1,12 @@
-//! A tally: the different rows of a key, each once and in order, with counts that are changed in place. A sweep over the
-//! times of a key adds to it what each time sees, and takes back what the next one does not. So no time copies the rows
-//! of the time before.
+//! A tally: the different rows of a key, each once and in order, with counts that are changed in
+//! place. A sweep over the times of a key adds to it what each time sees, and takes back what the
+//! next one does not. So no time copies the rows of the time before.
 //!
-//! Its one invariant is that there are as many counts as rows, and that the rows rise. A count may be 0: rows stay where
-//! they are while their counts change, so a row is found by binary search.
+//! Its one invariant is that there are as many counts as rows, and that the rows rise. A count may
+//! be 0: rows stay where they are while their counts change, so a row is found by binary search.
 //!
-//! A change is taken back exactly. Each one notes the place and the count that was there, and the notes are set back
-//! from the last to the first.
+//! A change is taken back exactly. Each one notes the place and the count that was there, and the
+//! notes are set back from the last to the first.
 ghost use Rattle.std.specs.Prelude.{◌≡◌, ◌<◌, ◌++◌, ◌∷◌, ◌+ℤ◌, [], Bool, List, ℤ, false, length, map, replicate, pos, slice_get, IsTrue, IsSomeAnd, IfOk, IfErr, IfSome};
 ghost use Rattle.std.specs.List.{list_all};
 ghost use Rattle.update.specs.Bags.{Alike, Entry, entry_of};
@@ -19,8 +19,8 @@ use std::alloc::Global;
 use std::marker::Model;
 use update::{Refusal, Update};
 
-/// The different rows of a key, each once and in order, with a count each that may be 0. A contract sees the list of
-/// entries.
+/// The different rows of a key, each once and in order, with a count each that may be 0. A contract
+/// sees the list of entries.
 #[derive(Drop)]
 pub struct Tally {
     rows: Vec<Row>,
@@ -67,7 +67,8 @@ fn no_counts(alloc: Global, len: usize) -> Result<Vec<i64>, Refusal>
 }
 
 impl Tally {
-    /// The different rows of updates, each with count 0. [`Refusal::OutOfMemory`] only if memory for them was refused.
+    /// The different rows of updates, each with count 0. [`Refusal::OutOfMemory`] only if memory
+    /// for them was refused.
     ///
     /// Cost: copies and sorts the rows.
     pub fn of<T: Lattice>(alloc: Global, updates: &[Update<T>]) -> Result<Tally, Refusal>
@@ -141,7 +142,8 @@ impl Tally {
         }
     }
 
-    // The place of a row, and its count with a difference added, if the tally has the row and the count fits.
+    // The place of a row, and its count with a difference added, if the tally has the row and the
+    // count fits.
     fn moved(&self, row: &Row, diff: i64) -> Option<(usize, i64)>
         ensures { IfSome result (λ p. IsSomeAnd (slice_get self.now p.0)
             (λ e. (e.row ≡ row.now) × (p.1 ≡ e.count +ℤ diff))) }
@@ -151,8 +153,8 @@ impl Tally {
         Some((place, count))
     }
 
-    /// Adds to the count of a row. False, and nothing is changed, if the row is not among the rows or the new count is
-    /// no 64-bit number. Takes no memory.
+    /// Adds to the count of a row. False, and nothing is changed, if the row is not among the rows
+    /// or the new count is no 64-bit number. Takes no memory.
     ///
     /// Cost: a binary search.
     pub fn add(&mut self, row: &Row, diff: i64) -> bool

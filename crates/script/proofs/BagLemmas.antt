@@ -1,4 +1,5 @@
--- If entries are inserted one by one into a list in row order, the result is the only bag with the same counts.
+-- If entries are inserted one by one into a list in row order, the result is the only bag with the
+-- same counts.
 use Rattle.std.proofs.Common.{◌≡◌, ◌≢◌, Bool, true, false, cond, List, [], ◌∷◌, ℤ, pos, ◌+ℤ◌, refl, sym, ◌∙◌, ap, arith}
 use Rattle.std.proofs.lemmas.Int.{ints}
 use Rattle.std.proofs.lemmas.Bool.{true≢false}

@@ -1,8 +1,9 @@
--- If a number is too large, the bound of some node is too large. Each node of a plan has a list of updates that
--- sums to the query at every time, and whose size is at most the node's bound: what a linear node makes of the
--- lists of its sources, the pairs of a join, and the differences of a reduction. So at no time is the count of a
--- row larger than the bound, and neither are a total of a view's changes, the product of two counts that a join
--- forms, and the total of a key that a count counts.
+-- If a number is too large, the bound of some node is too large. Each node of a plan has a list of
+-- updates that sums to the query at every time, and whose size is at most the node's bound: what a
+-- linear node makes of the lists of its sources, the pairs of a join, and the differences of a
+-- reduction. So at no time is the count of a row larger than the bound, and neither are a total of
+-- a view's changes, the product of two counts that a join forms, and the total of a key that a
+-- count counts.
 use Rattle.std.proofs.Common.{◌≡◌, ℕ, ◌+◌, ◌*◌, ◌<◌, ◌≤◌, ◌^◌, Bool, true, false, cond, ◌&&◌, mul-le-mul, List, [], ◌∷◌, ◌++◌, map, length, Option, Some, None, slice_get, IsTrue, ⊎_elim, refl, sym, ◌∙◌, ap, ap₂, subst, arith, w64, FitsSigned}
 use Rattle.std.specs.Cmp.{IsTotalOrder}
 use Rattle.std.specs.Prelude.{ℤ, pos, neg_ℤ, ◌+ℤ◌, ◌*ℤ◌, take, unsigned_abs}

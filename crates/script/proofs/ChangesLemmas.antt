@@ -1,5 +1,5 @@
--- The list that is built time by time is consolidated, sums to the query at each time that has passed, and is
--- the only such list.
+-- The list that is built time by time is consolidated, sums to the query at each time that has
+-- passed, and is the only such list.
 use Rattle.std.proofs.Common.{◌≡◌, ℕ, zero, suc, ◌+◌, ◌<◌, ◌≤◌, Bool, true, false, cond, not, List, [], ◌∷◌, ◌++◌, map, take, drop, length, get_or, IsTrue, ◌⊎◌, inl, inr, ⊎_elim, refl, sym, ◌∙◌, ap, subst, take_all, eqb, arith}
 use Rattle.std.specs.Cmp.{IsTotalOrder}
 use Rattle.std.specs.List.{filter, list_all, Contains}

@@ -1,5 +1,6 @@
--- Every node of a plan has a bound. The changes of all inputs are put into one list of accepted changes. From
--- such a list each node has its differences, and their size is the own bound of a reduction.
+-- Every node of a plan has a bound. The changes of all inputs are put into one list of accepted
+-- changes. From such a list each node has its differences, and their size is the own bound of a
+-- reduction.
 use Rattle.std.proofs.Common.{◌≡◌, ℕ, ◌<◌, Bool, cond, List, [], ◌∷◌, map, length, eqb, ⊎_elim, refl, sym, ◌∙◌, ap}
 use Rattle.std.specs.Cmp.{IsTotalOrder}
 use Rattle.std.specs.List.{flat_map}

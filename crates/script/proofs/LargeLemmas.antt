@@ -1,6 +1,6 @@
--- If the plain query meets a number that is too large, the bound of some node is too large. The numbers are those
--- that the oracle names: the count of a row, the product of two counts in a join, the total of a key in a count,
--- and the difference of a row at a time.
+-- If the plain query meets a number that is too large, the bound of some node is too large. The
+-- numbers are those that the oracle names: the count of a row, the product of two counts in a join,
+-- the total of a key in a count, and the difference of a row at a time.
 use Rattle.std.proofs.Common.{◌≡◌, ℕ, ◌<◌, Bool, List, ℤ, length, Some, IsTrue, inl, inr, refl, sym, ◌∙◌, ap, ap₂, subst, slice_get, arith}
 use Rattle.std.specs.Int.{w64}
 use Rattle.std.specs.Prelude.{FitsSigned, neg_ℤ, ◌+ℤ◌, ◌*ℤ◌}

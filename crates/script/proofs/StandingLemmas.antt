@@ -1,4 +1,5 @@
--- The board engine still stands for a session after its client's events, whatever others did in between.
+-- The board engine still stands for a session after its client's events, whatever others did in
+-- between.
 use Rattle.std.proofs.Common.{◌≡◌, ℕ, suc, ◌++◌, ◌∷◌, ◌<◌, Bool, ltb-true, List, [], length, Option, Some, None, Result, Ok, Err, IsTrue, refl, sym, ◌∙◌, ap, subst, inl, inr, ◌⊎◌}
 use Rattle.std.specs.Cmp.{IsTotalOrder}
 use Rattle.std.specs.Prelude.{IfErr, OnOk, OnErr}
@@ -70,7 +71,8 @@ none_from (Some x) none = absurd (none x refl)
 -- ---- a tenure of the only client
 
 module _ {T : Type 0} (below : T → T → Bool) (minimum : T) (o : PartialOrderLaws below) where
-  -- what a tenure of the only client is: nobody else changed what clients change, and a quiet board has stayed as it was
+  -- what a tenure of the only client is: nobody else changed what clients change, and a quiet board
+  -- has stayed as it was
   pub record IsClientStep (old new : Known (Doing T)) (event : Event T) : Type 0 where
     pub number : new.number ≡ old.number
     pub terms : terms_in new.seen ≡ terms_in old.seen

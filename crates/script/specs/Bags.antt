@@ -1,5 +1,5 @@
--- The bag of a list of entries, as a function. Of all lists with the same counts, it is the one in row order
--- without zeros.
+-- The bag of a list of entries, as a function. Of all lists with the same counts, it is the one in
+-- row order without zeros.
 use Rattle.std.specs.Prelude.{List, [], ◌∷◌, if◌then◌else◌, pos, ◌+ℤ◌}
 use Rattle.std.specs.Cmp.Lexicographic.{slice_cmp}
 use Rattle.std.specs.Ordering.{int_cmp, int_eq}
@@ -11,8 +11,8 @@ use Rattle.update.specs.Bags.{Entry}
 abbrev pub in_front : Entry → List Entry → List Entry
 in_front e rest = if int_eq e.count (pos 0) then rest else e ∷ rest
 
--- the entry inserted into a list that begins with x: in front of x if its row is less, added to x if the rows
--- are equal, and otherwise behind x
+-- the entry inserted into a list that begins with x: in front of x if its row is less, added to x
+-- if the rows are equal, and otherwise behind x
 abbrev pub beside : Ordering → Entry → Entry → List Entry → List Entry → List Entry
 beside Less e x xs behind = in_front e (x ∷ xs)
 beside Equal e x xs behind = in_front (record x { count = e.count +ℤ x.count }) xs

@@ -1,5 +1,5 @@
--- When a run may end because a number is too large: the changes that it accepted give some node a bound that
--- does not fit in 64 bits.
+-- When a run may end because a number is too large: the changes that it accepted give some node a
+-- bound that does not fit in 64 bits.
 use Rattle.std.specs.Prelude.{List}
 use Rattle.std.proofs.Common.{inl, inr}
 use Rattle.update.specs.declared.refusal.Refusal.{Refusal}
@@ -17,8 +17,8 @@ use Rattle.lattice.specs.Bitimes.{bitime_cmp, bitime_below}
 abbrev pub IsLarge : List Node → BitemporalSession → Type 0
 IsLarge p s = HasLargeBound bitime_below bitime_cmp p (λ i. fed_to i s.fed)
 
--- a refusal that ends a run without threads: memory was refused, or a number is too large and the session is
--- large
+-- a refusal that ends a run without threads: memory was refused, or a number is too large and the
+-- session is large
 abbrev pub EndsByBound : List Node → BitemporalSession → Refusal → Type 0
 EndsByBound p s refusal = IsMemoryOrOverflow (IsLarge p s) refusal
 

@@ -1,5 +1,6 @@
--- The changes of a view, as a function: the one consolidated list of updates that sums to the wanted rows at
--- each passed time (McSherry et al., Differential Dataflow, CIDR 2013). It is built time by time, in order.
+-- The changes of a view, as a function: the one consolidated list of updates that sums to the
+-- wanted rows at each passed time (McSherry et al., Differential Dataflow, CIDR 2013). It is built
+-- time by time, in order.
 use Rattle.std.specs.Prelude.{Bool, List, [], ◌∷◌, ◌++◌, map, if◌then◌else◌}
 use Rattle.std.specs.declared.cmp.Ordering.{Ordering}
 use Rattle.update.specs.Bags.{Entry}
@@ -17,8 +18,8 @@ module _ {T : Type 0} (below : T → T → Bool) where
   abbrev pub missing : List Entry → T → List (Update T) → List Entry
   missing wanted t listed = consolidated_bag (wanted ++ map negated_entry (as_of below t listed))
 
-  -- at each of these times that has passed, the missing rows are listed after the updates that are already
-  -- there
+  -- at each of these times that has passed, the missing rows are listed after the updates that are
+  -- already there
   abbrev pub listed_along : List T → (T → List Entry) → List T → List (Update T) → List (Update T)
   listed_along frontier wanted [] listed = listed
   listed_along frontier wanted (t ∷ ts) listed =

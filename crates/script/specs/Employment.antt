@@ -28,7 +28,8 @@ module _ {T : Type 0} (below : T → T → Bool) (minimum : T) where
     pub goes_on : new.stopped ≡ None
     pub quiet : IsCalm old new.known → IsQuiet below (dataflow_of old) (state_left below minimum new.known)
 
-  -- the worker has stopped, and looked once more, when it told that a number was too large with the changes that it had seen
+  -- the worker has stopped, and looked once more, when it told that a number was too large with the
+  -- changes that it had seen
   pub record HasTold (cmp : T → T → Ordering) (new : Employed T) : Type 0 where
     pub stopped : new.stopped ≡ Some Overflow
     pub before : Known (Doing T)

@@ -16,8 +16,8 @@ pub record IsTextBefore (Holds : BitemporalSession → Type 0) (t : ScriptModel)
   pub cause : Holds (after_lines t.plan s before)
   pub written : part ≡ lines_text t s before
 
--- the text of a script before a question that overflowed; the changes before the question give some node a
--- large bound
+-- the text of a script before a question that overflowed; the changes before the question give some
+-- node a large bound
 abbrev pub IsTextBeforeOverflow : ScriptModel → List ℕ → Type 0
 IsTextBeforeOverflow t part =
     IsTextBefore (IsLarge t.plan) t (opening_session t.plan) t.commands part

@@ -6,33 +6,33 @@ use Rattle.update.specs.Refusals.{code_of}
 use Rattle.script.specs.declared.fault.RunFault.{RunFault}
 use Rattle.script.specs.declared.fault.RunFault.TheVariants as fault
 
--- a refusal that ends the run and is not printed as a line: memory was refused, a number is too large, or a
--- thread did not start
+-- a refusal that ends the run and is not printed as a line: memory was refused, a number is too
+-- large, or a thread did not start
 abbrev pub EndsRun : Refusal → Type 0
 EndsRun refusal = (refusal ≡ OutOfMemory) ⊎ ((refusal ≡ Overflow) ⊎ (refusal ≡ NoThread))
 
--- an answer to a command that changes an input. Ok: nothing refuses the command, and it takes effect. Err: the answer
--- is the command's refusal, and nothing changes; or memory was refused
+-- an answer to a command that changes an input. Ok: nothing refuses the command, and it takes
+-- effect. Err: the answer is the command's refusal, and nothing changes; or memory was refused
 abbrev pub IsTold : Option Refusal → Type 0 → Type 0 → Result (Unit {0}) Refusal → Type 0
 IsTold refusal Accepted Stays (Ok x) = (refusal ≡ None) × Accepted
 IsTold refusal Accepted Stays (Err r) = ((refusal ≡ Some r) × Stays) ⊎ (r ≡ OutOfMemory)
 
--- an answer to a question. Ok: nothing refuses the question, and this is the wanted answer. Err: it is the question's
--- refusal, or one that ends the run
+-- an answer to a question. Ok: nothing refuses the question, and this is the wanted answer. Err: it
+-- is the question's refusal, or one that ends the run
 abbrev pub IsFound : {X : Type 0} → (Refusal → Type 0) → Option Refusal → X → Result X Refusal
     → Type 0
 IsFound Ends refusal wanted (Ok found) = (refusal ≡ None) × (found ≡ wanted)
 IsFound Ends refusal wanted (Err r) = (refusal ≡ Some r) ⊎ Ends r
 
--- why a run may end early: the output failed, memory was refused, or the engine gave a refusal that ends the
--- run
+-- why a run may end early: the output failed, memory was refused, or the engine gave a refusal that
+-- ends the run
 abbrev pub IsEnd : (Refusal → Type 0) → RunFault → Type 0
 IsEnd Ends (fault.Refused code) = (code ≡ 1)
     ⊎ ((refusal : Refusal) × (code ≡ code_of refusal) × Ends refusal)
 IsEnd Ends fault.Write = Unit {0}
 
--- why a run by one worker may end early: the output failed, memory was refused, or a number is too large for
--- this cause
+-- why a run by one worker may end early: the output failed, memory was refused, or a number is too
+-- large for this cause
 abbrev pub IsRunEnd : Type 0 → RunFault → Type 0
 IsRunEnd Large (fault.Refused code) = (code ≡ 1) ⊎ ((code ≡ 10) × Large)
 IsRunEnd Large fault.Write = Unit {0}

@@ -38,8 +38,8 @@ module _ {T : Type 0} where
   abbrev pub with_input : ℕ → List T → Register T → Register T
   with_input i ts r = record r { inputs = set r.inputs i ts }
 
--- the changes and the frontiers of the inputs are those of the session; each view may be read from the least
--- time on
+-- the changes and the frontiers of the inputs are those of the session; each view may be read from
+-- the least time on
 pub record Records {T : Type 0} (minimum : T) (r : Register T) (s : Session T) : Type 0 where
   pub changes : (input : ℕ) → IsTrue (is_input_of r.plan input)
       → list_of r.plan r.changes input ≡ reverse (fed_to input s.fed)
@@ -56,7 +56,8 @@ module _ {T : Type 0} (below : T → T → Bool) where
   abbrev pub input_refusal : Register T → ℕ → List T → Option Refusal
   input_refusal r i ts = first_refusal (advance_faults below (front_at i r.inputs) ts)
 
-  -- each of these frontiers, listed by input, has the same times beyond it as the input's own frontier
+  -- each of these frontiers, listed by input, has the same times beyond it as the input's own
+  -- frontier
   abbrev pub AreFrontiers : List Node → List (List T) → List (List T) → Type 0
   AreFrontiers p inputs frontiers = (input : ℕ) → IsTrue (is_input_of p input)
       → (t : T)

@@ -6,14 +6,15 @@ abbrev pub IsBeginning : List ℕ → List ℕ → Type 0
 IsBeginning part whole = (rest : List ℕ) × (part ++ rest ≡ whole)
 
 module _ {W : Type 0} (took : W → List ℕ → ℕ → W → Type 0) where
-  -- the bytes were written after those that waited; the output took a beginning of both together, and the rest
-  -- waits
+  -- the bytes were written after those that waited; the output took a beginning of both together,
+  -- and the rest waits
   pub record Wrote (out : W) (waiting bytes : List ℕ) (later : W) (left : List ℕ) : Type 0 where
     pub part : List ℕ
     pub taken : took out part 0 later
     pub in_order : waiting ++ bytes ≡ part ++ left
 
-  -- the output took only a beginning of the waiting bytes followed by the new ones, and this many calls failed
+  -- the output took only a beginning of the waiting bytes followed by the new ones, and this many
+  -- calls failed
   pub record Broke (out : W) (waiting bytes : List ℕ) (failures : ℕ) (later : W) : Type 0 where
     pub part : List ℕ
     pub taken : took out part failures later

@@ -1,5 +1,5 @@
--- A session by definition: the accepted changes, the inputs' frontiers, and the frontier from which each view
--- may be read. It knows neither workers nor differences.
+-- A session by definition: the accepted changes, the inputs' frontiers, and the frontier from which
+-- each view may be read. It knows neither workers nor differences.
 use Rattle.std.specs.Prelude.{ℕ, Bool, not, List, [], ◌∷◌, length, map, set, Option}
 use Rattle.std.specs.declared.cmp.Ordering.{Ordering}
 use Rattle.lattice.specs.Frontiers.{is_beyond}
@@ -29,8 +29,8 @@ pub record Session (T : Type 0) : Type 0 where
   pub since : ℕ → List T
 
 module _ {T : Type 0} where
-  -- before the first command nothing has been accepted, each input's frontier is the least time, and each view
-  -- may be read from there on
+  -- before the first command nothing has been accepted, each input's frontier is the least time,
+  -- and each view may be read from there on
   abbrev pub first_session : T → List Node → Session T
   first_session minimum p =
       record { fed = []; inputs = first_inputs minimum p; since = λ _. minimum ∷ [] }
@@ -75,8 +75,8 @@ module _ {T : Type 0} (below : T → T → Bool) (p : List Node) (s : Session T)
   abbrev pub frontier_at : (T → T → Ordering) → ℕ → List T
   frontier_at cmp v = in_order cmp (view_frontier v)
 
-  -- the changes of a view at the times that its frontier has passed: the one list of updates that sums, at each
-  -- of these times, to the query, from scratch, on the accepted changes
+  -- the changes of a view at the times that its frontier has passed: the one list of updates that
+  -- sums, at each of these times, to the query, from scratch, on the accepted changes
   abbrev pub changes_at : (T → T → Ordering) → (T → T → T) → ℕ → List (Update T)
   changes_at cmp joined v =
       changes_along below cmp joined (view_frontier v) (λ t. query_at below p (λ i. fed_to i s.fed) v t) (map (λ f. f.update.time) s.fed)

@@ -10,8 +10,8 @@ use Rattle.worker.specs.Tenures.{state_left}
 use Rattle.script.specs.Sessions.{Session}
 
 module _ {T : Type 0} where
-  -- a state of the machine has the session's changes, the session's input frontiers, and the session's frontiers from which
-  -- views may be read
+  -- a state of the machine has the session's changes, the session's input frontiers, and the
+  -- session's frontiers from which views may be read
   pub record HasSession (p : Dataflow) (w : State T) (s : Session T) : Type 0 where
     pub fed : w.fed ≡ s.fed
     pub inputs : (i : ℕ) → open_at i w.open_times ≡ front_at i s.inputs

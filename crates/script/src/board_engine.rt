@@ -1,9 +1,11 @@
-//! The board engine: a board that one client and one worker reach through a hub, on the caller's thread. Commands are events
-//! of the client. The worker carries on what is in flight only before a question is answered.
+//! The board engine: a board that one client and one worker reach through a hub, on the caller's
+//! thread. Commands are events of the client. The worker carries on what is in flight only before a
+//! question is answered.
 //!
-//! The engine stands for a session by what its client has seen. The client is the only one who changes inputs, so whatever
-//! others did since its last event, the changes, the inputs' frontiers and the sinces are as it left them. Once it has found the
-//! board quiet, the board stays so until it acts. So the worker does not occur in what a question's answer rests on.
+//! The engine stands for a session by what its client has seen. The client is the only one who
+//! changes inputs, so whatever others did since its last event, the changes, the inputs' frontiers
+//! and the sinces are as it left them. Once it has found the board quiet, the board stays so until
+//! it acts. So the worker does not occur in what a question's answer rests on.
 ghost use Rattle.std.specs.Prelude.{◌≡◌, ◌++◌, ◌∷◌, [], true, Some, IfErr, IfOk, OnOk, length};
 ghost use Rattle.update.specs.declared.refusal.Refusal.TheVariants.{OutOfMemory};
 ghost use Rattle.machine.specs.Histories.Readings.{IsQuiet};

@@ -1,11 +1,12 @@
-//! An engine carries out the commands of a script. The loop over the lines knows two things of it: for which
-//! session it stands, and that it answers each command as the definition of that session says. How the engine
-//! stores rows is its own business.
+//! An engine carries out the commands of a script. The loop over the lines knows two things of it:
+//! for which session it stands, and that it answers each command as the definition of that session
+//! says. How the engine stores rows is its own business.
 //!
-//! An engine answers questions once it has caught up, which means that no accepted change is still in flight.
-//! Catching up is a trait of its own, because workers on threads need more for it than one worker on the
-//! caller's thread. An engine may end the run if memory is refused, or by refusals that have a cause in the
-//! session. For example, it may refuse with `Overflow` if the accepted changes give some node a large bound.
+//! An engine answers questions once it has caught up, which means that no accepted change is still
+//! in flight. Catching up is a trait of its own, because workers on threads need more for it than
+//! one worker on the caller's thread. An engine may end the run if memory is refused, or by
+//! refusals that have a cause in the session. For example, it may refuse with `Overflow` if the
+//! accepted changes give some node a large bound.
 ghost use Rattle.std.specs.Prelude.{◌≡◌, IsTrue, List, IfErr, OnOk};
 ghost use Rattle.update.specs.declared.refusal.Refusal.{Refusal};
 ghost use Rattle.plan.specs.declared.node.Node.{Node};
@@ -88,7 +89,8 @@ pub(crate) trait Engine {
 
 /// An engine that catches up on the caller's thread.
 pub(crate) trait CatchUp: Engine {
-    /// Carries out everything that is still in flight. After a refusal the engine may stand for no session.
+    /// Carries out everything that is still in flight. After a refusal the engine may stand for no
+    /// session.
     fn catch_up(&mut self, alloc: Global) -> Result<(), Refusal>
         ensures plan { Self.plan self.new ≡ Self.plan self.old }
         ensures stands { (s : BitemporalSession) → Self.stands self.old s

@@ -6,13 +6,13 @@ use std::alloc::AllocError;
 use thiserror::Error;
 use update::Refusal;
 
-/// Why a run ended early. A beginning of the script's text has been written. If a number was too large, it is
-/// the whole text of the lines before the one that asked for it.
+/// Why a run ended early. A beginning of the script's text has been written. If a number was too
+/// large, it is the whole text of the lines before the one that asked for it.
 #[derive(Clone, Copy, Debug, PartialEq, Eq, Error)]
 pub enum RunFault {
-    /// The engine refused, with this code of [`Refusal::code`]: 1 if memory was refused, 10 if a number does
-    /// not fit in 64 bits, 23 if the number of workers is not supported. No run returns 24, which is reserved for
-    /// a thread that does not start.
+    /// The engine refused, with this code of [`Refusal::code`]: 1 if memory was refused, 10 if a
+    /// number does not fit in 64 bits, 23 if the number of workers is not supported. No run returns
+    /// 24, which is reserved for a thread that does not start.
     #[error("refused with {0}")]
     Refused(u8),
     /// A call of the output failed.

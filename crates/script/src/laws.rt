@@ -1,4 +1,5 @@
-//! Laws of the definitions. Each law is a function with an empty body. Callers call it, or cite its clauses.
+//! Laws of the definitions. Each law is a function with an empty body. Callers call it, or cite its
+//! clauses.
 ghost use Rattle.std.specs.Prelude.{◌≡◌, ◌<◌, ℕ, List, length};
 ghost use Rattle.std.specs.List.Sorted.{IsStrictlySortedBy};
 ghost use Rattle.antichain.specs.Antichains.{SameElements};
@@ -16,8 +17,8 @@ ghost use Rattle.script.specs.Sessions.{Session, view_frontier, frontier_at, cha
 
 use lattice::Lattice;
 
-/// If entries are inserted one by one into a list in row order, the result is a bag with the same counts, and
-/// it is the only such bag.
+/// If entries are inserted one by one into a list in row order, the result is a bag with the same
+/// counts, and it is the only such bag.
 pub fn the_bag_of_entries()
     ensures bag { (entries : List Entry) → IsBag (consolidated_bag entries) }
     ensures alike { (entries : List Entry) → Alike (consolidated_bag entries) entries }
@@ -25,8 +26,9 @@ pub fn the_bag_of_entries()
         → bag ≡ consolidated_bag entries }
 {}
 
-/// The changes of a view are a consolidated list at times that its frontier has passed. At each of these times,
-/// the list sums to the query, computed from scratch on the accepted changes. There is no other such list.
+/// The changes of a view are a consolidated list at times that its frontier has passed. At each of
+/// these times, the list sums to the query, computed from scratch on the accepted changes. There is
+/// no other such list.
 pub fn the_changes_of_a_view<T: Lattice>()
     ensures differences { (p : List Node) → IsPlan p → (s : Session T) (view : ℕ) → view < length p
         → AreDifferences T.below T.cmp p (λ input. fed_to input s.fed)
@@ -45,9 +47,10 @@ pub fn the_frontier_of_a_view<T: Lattice>()
         → IsStrictlySortedBy T.cmp (frontier_at T.below p s T.cmp view) }
 {}
 
-/// If the plain query overflows, then some node has a bound of 2 to the 63 or more. The clause `above` is of the cause
-/// that `oracle::evaluate` states, and `differences` of that of `oracle::differences`. `lists` has the changes of each
-/// input, in the order of the inputs' numbers. So who keeps the bounds small never meets these refusals.
+/// If the plain query overflows, then some node has a bound of 2 to the 63 or more. The clause
+/// `above` is of the cause that `oracle::evaluate` states, and `differences` of that of
+/// `oracle::differences`. `lists` has the changes of each input, in the order of the inputs'
+/// numbers. So who keeps the bounds small never meets these refusals.
 pub fn large_numbers_have_large_bounds<T: Lattice>()
     ensures above { (p : List Node) → IsPlan p → (lists : List (List (Update T))) (view : ℕ)
         → view < length p → (t : T) → HasLargeAbove p (sums_at T.below p lists t) view
@@ -58,8 +61,8 @@ pub fn large_numbers_have_large_bounds<T: Lattice>()
         → HasLargeBound T.below T.cmp p (list_of p lists) }
 {}
 
-/// Every node of a plan has a bound, for any changes that its inputs were fed. So the bound that other laws
-/// speak of exists. By `plan::bounds_are_determined` there is only one.
+/// Every node of a plan has a bound, for any changes that its inputs were fed. So the bound that
+/// other laws speak of exists. By `plan::bounds_are_determined` there is only one.
 pub fn bounds_exist<T: Lattice>()
     ensures { (p : List Node) → IsPlan p → (changes : ℕ → List (Update T)) → (n : ℕ)
         → (bound : ℕ) × IsBound T.below T.cmp p changes n bound }

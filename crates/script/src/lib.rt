@@ -1,25 +1,25 @@
 //! Runs of command files: what a script writes, and how it comes to be written.
 //!
-//! What a script writes is a definition, its text (`specs/Text`). A session is the changes accepted so far, the
-//! inputs' frontiers, and the frontier from which each view may be read (`specs/Sessions`). The session alone
-//! decides whether a command is refused or accepted. The rows of a read are the query, computed from scratch on
-//! the accepted changes at or before its time. The definition of the text mentions no workers, differences,
-//! batches or boards.
+//! What a script writes is a definition, its text (`specs/Text`). A session is the changes accepted
+//! so far, the inputs' frontiers, and the frontier from which each view may be read
+//! (`specs/Sessions`). The session alone decides whether a command is refused or accepted. The rows
+//! of a read are the query, computed from scratch on the accepted changes at or before its time.
+//! The definition of the text mentions no workers, differences, batches or boards.
 //!
-//! [`run_script`] and [`plain_script`] write exactly that text, or a beginning of it followed by a fault. If
-//! the fault is a number that is too large, the text of all earlier lines has been written whole
-//! (`specs/Ends`). Both rest on three parts, each independent of the others:
+//! [`run_script`] and [`plain_script`] write exactly that text, or a beginning of it followed by a
+//! fault. If the fault is a number that is too large, the text of all earlier lines has been
+//! written whole (`specs/Ends`). Both rest on three parts, each independent of the others:
 //!
-//! - The loop over the lines (`run`, `line`) talks to an `Engine`, which carries out commands and stands for a
-//!   session. A command either changes an input or asks about a view. Before a question, the loop lets the
-//!   engine catch up.
-//! - There are two engines. `board_engine` reaches a board of crate `machine` through a hub: commands are events
-//!   of its client there, and its worker (`sole_worker`, over crate `worker`) carries on what is in flight. The
-//!   theorems about histories then say that its views are right. `oracle_engine` keeps the changes and computes
-//!   each answer from scratch, by crate `oracle`. So the text of the first engine can be compared with that of the
-//!   second.
-//! - Printed text (`printer`) is collected in an `output_buffer` and goes in large pieces to an [`Out`], whose
-//!   contract says which bytes it took.
+//! - The loop over the lines (`run`, `line`) talks to an `Engine`, which carries out commands and
+//!   stands for a session. A command either changes an input or asks about a view. Before a
+//!   question, the loop lets the engine catch up.
+//! - There are two engines. `board_engine` reaches a board of crate `machine` through a hub:
+//!   commands are events of its client there, and its worker (`sole_worker`, over crate `worker`)
+//!   carries on what is in flight. The theorems about histories then say that its views are right.
+//!   `oracle_engine` keeps the changes and computes each answer from scratch, by crate `oracle`. So
+//!   the text of the first engine can be compared with that of the second.
+//! - Printed text (`printer`) is collected in an `output_buffer` and goes in large pieces to an
+//!   [`Out`], whose contract says which bytes it took.
 #![tactic(auto)]
 
 mod board_engine;

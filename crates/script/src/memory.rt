@@ -1,4 +1,5 @@
-//! An output that keeps the bytes it took. It serves tests, and callers that want a run's text as bytes.
+//! An output that keeps the bytes it took. It serves tests, and callers that want a run's text as
+//! bytes.
 ghost use Rattle.std.specs.Prelude.{◌≡◌, []};
 
 use crate::outputs::{Out, OutFault};

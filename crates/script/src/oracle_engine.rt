@@ -1,11 +1,12 @@
-//! The oracle engine: it answers commands by the plain query of crate `oracle` alone. It has no workers, boards
-//! or batches, and it stores no differences.
+//! The oracle engine: it answers commands by the plain query of crate `oracle` alone. It has no
+//! workers, boards or batches, and it stores no differences.
 //!
-//! It keeps the accepted changes of each input, in the order in which they came, and the inputs' frontiers.
-//! Each answer is computed from these, from scratch. The invariant is what the query requires: each input has a
-//! list, at its index among the inputs, and the rows in it have the input's width. Nothing computed is stored,
-//! so nothing can be out of date. This engine is slow, but it is easy to see why it is right. It tests commands
-//! with the same function as a board (crate `machine`), so both refuse alike.
+//! It keeps the accepted changes of each input, in the order in which they came, and the inputs'
+//! frontiers. Each answer is computed from these, from scratch. The invariant is what the query
+//! requires: each input has a list, at its index among the inputs, and the rows in it have the
+//! input's width. Nothing computed is stored, so nothing can be out of date. This engine is slow,
+//! but it is easy to see why it is right. It tests commands with the same function as a board
+//! (crate `machine`), so both refuse alike.
 ghost use Rattle.std.specs.Prelude.{◌≡◌, ◌<◌, ◌++◌, ℕ, List, [], ◌∷◌, None, Some, length, map, replicate, set, slice_index_or, IfErr, IfOk, IsTrue, OnErr, OnOk};
 ghost use Rattle.lattice.specs.declared.product.Pair.{Pair};
 ghost use Rattle.lattice.specs.Frontiers.{is_beyond};
@@ -38,8 +39,8 @@ use std::alloc::Global;
 use std::marker::Model;
 use update::{Bag, Refusal, Times, Update, Updates};
 
-/// The accepted changes and the inputs' frontiers, and nothing derived from them. A contract sees the plan, the
-/// changes and the frontiers.
+/// The accepted changes and the inputs' frontiers, and nothing derived from them. A contract sees
+/// the plan, the changes and the frontiers.
 #[derive(Drop)]
 pub(crate) struct OracleEngine {
     plan: Plan,
@@ -99,7 +100,8 @@ fn push_change(
     Ok(())
 }
 
-// The times that are still open for a view: the elements of the frontiers of all inputs that feed it.
+// The times that are still open for a view: the elements of the frontiers of all inputs that feed
+// it.
 fn open_for(
     alloc: Global,
     plan: &Plan,
@@ -260,11 +262,12 @@ impl CatchUp for OracleEngine {
     }
 }
 
-/// Runs a script without workers and writes its text. Every view is computed from scratch each time it is asked
-/// for.
+/// Runs a script without workers and writes its text. Every view is computed from scratch each time
+/// it is asked for.
 ///
-/// If the result is Ok, exactly the script's text was taken. After a fault, a beginning of it was. After
-/// `Refused(10)`, that beginning is the whole text of the lines before the one that overflowed:
+/// If the result is Ok, exactly the script's text was taken. After a fault, a beginning of it was.
+/// After `Refused(10)`, that beginning is the whole text of the lines before the one that
+/// overflowed:
 ///
 /// | Fault | When |
 /// |---|---|
@@ -274,12 +277,12 @@ impl CatchUp for OracleEngine {
 ///
 /// `Refused(10)` comes only if the accepted changes give some node a bound of 2 to the 63 or more.
 ///
-/// Cost: a change is linear in the nodes of the plan and in the elements of the inputs' frontiers. A read goes
-/// over all earlier changes, and sorts what each node above the view reads and writes. So a script of reads and
-/// changes takes time quadratic in its length. The changes of a view take one such query for each time of the
-/// join closure, that is, for the passed times of the changes of the inputs that feed it and all passed joins of
-/// these times. The closure has at most as many times as the number of distinct valid times multiplied by the
-/// number of distinct system times.
+/// Cost: a change is linear in the nodes of the plan and in the elements of the inputs' frontiers.
+/// A read goes over all earlier changes, and sorts what each node above the view reads and writes.
+/// So a script of reads and changes takes time quadratic in its length. The changes of a view take
+/// one such query for each time of the join closure, that is, for the passed times of the changes
+/// of the inputs that feed it and all passed joins of these times. The closure has at most as many
+/// times as the number of distinct valid times multiplied by the number of distinct system times.
 pub fn plain_script<W: Out>(alloc: Global, script: &Script, out: &mut W) -> Result<(), RunFault>
     ensures written { OnOk result (W.took out.old (text script.now) 0 out.new) }
     ensures beginning { IfErr result (λ fault. (part : List ℕ) × IsBeginning part (text script.now)

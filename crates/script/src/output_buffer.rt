@@ -1,8 +1,8 @@
 //! Text on its way to an output, collected and written in large pieces.
 //!
-//! A run prints many short lines, and each call of an output may cost a system call. So text waits here until a
-//! piece is large enough. Numbers and rows are printed straight into the waiting text, without an allocation
-//! for each.
+//! A run prints many short lines, and each call of an output may cost a system call. So text waits
+//! here until a piece is large enough. Numbers and rows are printed straight into the waiting text,
+//! without an allocation for each.
 ghost use Rattle.std.specs.Prelude.{◌≡◌, ◌++◌, ℕ, List, [], OnErr, OnOk};
 ghost use Rattle.script.specs.Outs.{IsBeginning, Wrote, Broke};
 ghost use Rattle.script.specs.Printing.{refused_text, read_text, count_text, update_text, element_text};

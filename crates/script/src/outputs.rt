@@ -1,7 +1,7 @@
 //! Outputs: which bytes they took, and how many calls failed.
 //!
-//! An output may take fewer bytes than it is given, as a pipe does. The writer then puts the rest, until
-//! nothing is left. The contract does not say where the bytes go: that is up to each output.
+//! An output may take fewer bytes than it is given, as a pipe does. The writer then puts the rest,
+//! until nothing is left. The contract does not say where the bytes go: that is up to each output.
 ghost use Rattle.std.specs.Prelude.{ℕ, ◌<◌, ◌≤◌, ◌+◌, ◌++◌, List, [], IfOk, OnErr, OnOk, length, take};
 ghost use Rattle.script.specs.Outs.{IsBeginning};
 
@@ -14,10 +14,12 @@ pub struct OutFault;
 
 /// A place to write bytes to.
 pub trait Out {
-    /// Between the two states of the output, these bytes were taken, in this order, and this many calls failed.
+    /// Between the two states of the output, these bytes were taken, in this order, and this many
+    /// calls failed.
     ghost took: { Self → List ℕ → ℕ → Self → Type 0 };
 
-    /// Takes at least one byte from the front and returns how many it took; or fails and takes none.
+    /// Takes at least one byte from the front and returns how many it took; or fails and takes
+    /// none.
     fn put(&mut self, bytes: &[u8]) -> Result<usize, OutFault>
         requires { 0 < length bytes.now }
         ensures some { IfOk result (λ n. (0 < n) × (n ≤ length bytes.now)

@@ -52,8 +52,8 @@ fn run_lines<E: CatchUp, W: Out>(
     Ok(())
 }
 
-/// Carries out a script on an engine that has its plan. The output takes what the lines write in the session
-/// for which the engine stands.
+/// Carries out a script on an engine that has its plan. The output takes what the lines write in
+/// the session for which the engine stands.
 pub(crate) fn run<E: CatchUp, W: Out>(
     alloc: Global,
     engine: &mut E,
@@ -83,10 +83,12 @@ pub(crate) fn run<E: CatchUp, W: Out>(
     Ok(())
 }
 
-/// Runs a script with workers and writes its text. All of it runs on the caller's thread; the runtime is that of the program.
+/// Runs a script with workers and writes its text. All of it runs on the caller's thread; the
+/// runtime is that of the program.
 ///
-/// If the result is Ok, exactly the script's text was taken. After a fault, a beginning of it was. After
-/// `Refused(10)`, that beginning is the whole text of the lines before the one that overflowed:
+/// If the result is Ok, exactly the script's text was taken. After a fault, a beginning of it was.
+/// After `Refused(10)`, that beginning is the whole text of the lines before the one that
+/// overflowed:
 ///
 /// | Fault | When |
 /// |---|---|
@@ -97,12 +99,13 @@ pub(crate) fn run<E: CatchUp, W: Out>(
 ///
 /// `Refused(10)` comes only if the accepted changes give some node a bound of 2 to the 63 or more.
 ///
-/// Cost: a line that changes an input costs what its event costs on the board. Everything that waits is carried
-/// on at the next question, node by node: a linear node costs its updates, an arrange node merges of batches, a join
-/// the pairs that it makes, and a reduction what crate `reduce` says. A `concat` node with two sources sorts
-/// what it gives, so that equal updates are one from there on. A read costs the size of its view's rows plus the
-/// number of updates captured since the view's last read, if that read was at a time at or before this one.
-/// Otherwise it costs a sort of everything that the view captured up to its time. A question for changes sorts
+/// Cost: a line that changes an input costs what its event costs on the board. Everything that
+/// waits is carried on at the next question, node by node: a linear node costs its updates, an
+/// arrange node merges of batches, a join the pairs that it makes, and a reduction what crate
+/// `reduce` says. A `concat` node with two sources sorts what it gives, so that equal updates are
+/// one from there on. A read costs the size of its view's rows plus the number of updates captured
+/// since the view's last read, if that read was at a time at or before this one. Otherwise it costs
+/// a sort of everything that the view captured up to its time. A question for changes sorts
 /// everything that the view captured at passed times.
 pub fn run_script<R: Wait, W: Out>(
     runtime: &R,

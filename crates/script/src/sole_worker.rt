@@ -1,7 +1,8 @@
 //! The only worker of a board, with all that its passes need.
 //!
-//! A pass goes over the plan once. It leaves the board quiet, if no client changed anything meanwhile. Only a number that is too
-//! large stops the worker before, or want of memory. It may then have a bundle in hand, so it makes no further pass.
+//! A pass goes over the plan once. It leaves the board quiet, if no client changed anything
+//! meanwhile. Only a number that is too large stops the worker before, or want of memory. It may
+//! then have a bundle in hand, so it makes no further pass.
 ghost use Rattle.std.specs.Prelude.{◌≡◌, None, IfErr, IfOk, OnOk};
 ghost use Rattle.lattice.specs.Bitimes.{bitime_below, bitime_cmp};
 ghost use Rattle.lattice.specs.Pairs.{make_pair};
@@ -50,7 +51,8 @@ impl<'a, R: Wait> Model for SoleWorker<'a, R> {
 }
 
 impl<'a, R: Wait> SoleWorker<'a, R> {
-    /// A worker that has made no pass, from an actor that has looked once. Refused only with `OutOfMemory`.
+    /// A worker that has made no pass, from an actor that has looked once. Refused only with
+    /// `OutOfMemory`.
     pub(crate) fn new(
         runtime: &'a R,
         alloc: Global,
@@ -75,8 +77,9 @@ impl<'a, R: Wait> SoleWorker<'a, R> {
         })
     }
 
-    /// One pass. What is too large the worker tells, and then the clients hear of it. Refused only with `OutOfMemory`. A worker
-    /// that was stopped does nothing more, and is refused again if it was for want of memory.
+    /// One pass. What is too large the worker tells, and then the clients hear of it. Refused only
+    /// with `OutOfMemory`. A worker that was stopped does nothing more, and is refused again if it
+    /// was for want of memory.
     ///
     /// Cost: that of [`relay`].
     pub(crate) fn carry_on(&mut self, alloc: Global) -> Result<(), Refusal>

@@ -90,7 +90,8 @@ module _ {T : Type 0} (below : T → T → Bool) where
       };
     }
 
-    -- a give that a worker may make in one state it may make in each state that agrees on what is its own
+    -- a give that a worker may make in one state it may make in each state that agrees on what is
+    -- its own
     pub give_apart : IsGive below p w g ts sent → IsGive below p v g ts sent
     give_apart a = record {
       worker = a.worker;

@@ -1,4 +1,5 @@
--- What an actor found in its tenure, in the words of its clauses: of the actor as it was before the call, and as it is then.
+-- What an actor found in its tenure, in the words of its clauses: of the actor as it was before the
+-- call, and as it is then.
 use Rattle.std.specs.Prelude.{ℕ, Bool, List, Option}
 use Rattle.std.specs.declared.cmp.Ordering.{Ordering}
 use Rattle.update.specs.Bags.{Entry}

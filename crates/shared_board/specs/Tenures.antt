@@ -1,4 +1,5 @@
--- A board in a hub: which of them may be handed over after which tenures, and what an actor knows from its own.
+-- A board in a hub: which of them may be handed over after which tenures, and what an actor knows
+-- from its own.
 use Rattle.std.specs.Prelude.{◌≡◌, ℕ, ◌+◌, ◌<◌, Bool, true, false, not, List, [], ◌∷◌, ◌++◌, map, length, Option, Some, IsTrue, ⊤}
 use Rattle.std.specs.List.{filter}
 use Rattle.std.specs.declared.cmp.Ordering.{Ordering}
@@ -30,7 +31,8 @@ use Rattle.machine.specs.Boards.Loads.{Lot, queue_of}
 use Rattle.shared_board.specs.declared.event.Doing.{Doing}
 use Rattle.shared_board.specs.Large.{HasNoSmallBound}
 
--- how a board was opened: its dataflow, and how many actors share it. Workers are numbered from 0, and clients follow
+-- how a board was opened: its dataflow, and how many actors share it. Workers are numbered from 0,
+-- and clients follow
 pub record Terms : Type 0 where
   pub dataflow : Dataflow
   pub actors : ℕ
@@ -72,7 +74,8 @@ module _ {T : Type 0} where
   abbrev pub doing_on : SharedState T → Doing T
   doing_on b = doing (terms_of_board b) b.board.last
 
-  -- the event changes what clients may change: the inputs, or from which times on a view may be read
+  -- the event changes what clients may change: the inputs, or from which times on a view may be
+  -- read
   abbrev pub is_change : Event T → Bool
   is_change (Feed client f) = true
   is_change (Advance client i ts) = true
@@ -82,7 +85,8 @@ module _ {T : Type 0} where
   is_change (TakeHeld k n) = false
   is_change (Give g ts sent) = false
 
-  -- the entry is of a board on these terms, and by the actor of its event; only an actor of the board makes changes
+  -- the entry is of a board on these terms, and by the actor of its event; only an actor of the
+  -- board makes changes
   pub record IsOn (t : Terms) (e : Entry (Doing T)) : Type 0 where
     pub terms : terms_of e.event ≡ t
     pub own : actor_of e.event.event ≡ e.by
@@ -97,8 +101,8 @@ module _ {T : Type 0} where
     abbrev pub left_by : Dataflow → List (Entry (Doing T)) → State T
     left_by p es = state_after below minimum p (events es)
 
-    -- which entries a board may stand for: it stands for their events, each was on the board's terms, and what the actors
-    -- tell one another is right
+    -- which entries a board may stand for: it stands for their events, each was on the board's
+    -- terms, and what the actors tell one another is right
     pub record StandsFor (cmp : T → T → Ordering) (b : SharedState T) (es : List (Entry (Doing T))) : Type 0 where
       pub dataflow : IsDataflow b.board.dataflow
       pub stands : Stands below minimum b.board (events es)
@@ -121,14 +125,14 @@ module _ {T : Type 0} where
     abbrev pub changes_refusal_in : T → State T → ℕ → Option Refusal
     changes_refusal_in minimum w v = first_refusal ((not (is_from_start below minimum (w.since v)), GivenUp) ∷ [])
 
-    -- how a read in a state may be refused: with a fault, for want of memory, or because a row of the query occurs more often
-    -- than 64-bit numbers can say
+    -- how a read in a state may be refused: with a fault, for want of memory, or because a row of
+    -- the query occurs more often than 64-bit numbers can say
     abbrev pub IsReadRefusalIn : Dataflow → State T → ℕ → T → Refusal → Type 0
     IsReadRefusalIn p w v t refusal =
         IsRefusalOr (HasLargeCount (query_at below p.nodes (changes_in w) v t)) (read_refusal_in p w v t) refusal
 
-    -- some list of updates sums to the query at each time that the view's frontier has passed, and at some of these times
-    -- its total of a row does not fit in 64 bits
+    -- some list of updates sums to the query at each time that the view's frontier has passed, and
+    -- at some of these times its total of a row does not fit in 64 bits
     pub record HasLargeListed (p : Dataflow) (w : State T) (v : ℕ) : Type 0 where
       pub listed : List (Update T)
       pub sums : (t : T) → IsTrue (has_passed below (frontier below p w v) t) → Alike (as_of below t listed) (query_at below p.nodes (changes_in w) v t)
@@ -157,7 +161,8 @@ module _ {T : Type 0} where
   abbrev pub found_last : Known (Doing T) → List (Entry (Doing T))
   found_last k = but_last k.seen
 
-  -- after one more tenure: events of others alone on top of what the actor had seen, and then its own
+  -- after one more tenure: events of others alone on top of what the actor had seen, and then its
+  -- own
   pub record Adds (old : Known (Doing T)) (event : Event T) (new : Known (Doing T)) : Type 0 where
     pub others : List (Entry (Doing T))
     pub apart : NoneBy old.number others
@@ -178,16 +183,16 @@ module _ {T : Type 0} where
     abbrev pub state_left : Known (Doing T) → State T
     state_left k = left_by below minimum (terms_in k.seen).dataflow k.seen
 
-    -- what an actor knows is right: the entries that it has seen are on the board's terms, and they are a legal history of
-    -- a dataflow, and it is one of the actors
+    -- what an actor knows is right: the entries that it has seen are on the board's terms, and they
+    -- are a legal history of a dataflow, and it is one of the actors
     pub record IsActor (k : Known (Doing T)) : Type 0 where
       pub known : AreKnown k.seen
       pub dataflow : IsDataflow (terms_in k.seen).dataflow
       pub legal : IsLegal below minimum (terms_in k.seen).dataflow (events k.seen)
       pub actor : k.number < (terms_in k.seen).actors
 
--- whether a bundle waits for a worker at a node: if so then at some port, and if not then at none. First on a board, and
--- then in a state
+-- whether a bundle waits for a worker at a node: if so then at some port, and if not then at none.
+-- First on a board, and then in a state
 abbrev pub WaitsOrNot : {T : Type 0} → Bool → ℕ → ℕ → List (List (Lot T)) → Type 0
 WaitsOrNot more n k stations =
     (IsTrue more → (port : ℕ) × (0 < length (queue_of stations (place n port k))))

@@ -1,7 +1,8 @@
 //! An actor at a hub: it enters, does one thing with the board, and leaves.
 //!
-//! Each call is one tenure, and so one event of this actor. What others did since its last tenure lies below that event, and
-//! the answers are right for all that was done by then. Each call waits until the board is at home.
+//! Each call is one tenure, and so one event of this actor. What others did since its last tenure
+//! lies below that event, and the answers are right for all that was done by then. Each call waits
+//! until the board is at home.
 ghost use Rattle.std.specs.Prelude.{◌≡◌, ◌≤◌, ◌<◌, ◌+◌, ◌↔◌, [], false, ℕ, None, Some, IfOk, IfErr, IfSome, OnOk, OnErr, IsTrue, length};
 ghost use Rattle.std.specs.List.{list_any};
 ghost use Rattle.std.specs.Arc.{arc_value};
@@ -67,8 +68,8 @@ impl<T: Minimum, P: BoardProtocol<T>> Model for Actor<T, P> {
 }
 
 impl<T: Minimum, P: BoardProtocol<T>> Actor<T, P> {
-    // The actor of a pass that has seen nothing. It looks once, so that it knows the terms of the board. A board on other
-    // terms, which cannot be there, is answered with `OutOfMemory`.
+    // The actor of a pass that has seen nothing. It looks once, so that it knows the terms of the
+    // board. A board on other terms, which cannot be there, is answered with `OutOfMemory`.
     pub(crate) fn first<R: Wait>(
         rt: &R,
         hub: Arc<Hub<P>, Global>,
@@ -147,8 +148,8 @@ impl<T: Minimum, P: BoardProtocol<T>> Actor<T, P> {
         answer
     }
 
-    /// A client moves an input's frontier forward. Refused as `Board::advance` says; then the event is a look. Takes no
-    /// memory.
+    /// A client moves an input's frontier forward. Refused as `Board::advance` says; then the event
+    /// is a look. Takes no memory.
     pub fn advance<R: Wait>(
         &mut self,
         rt: &R,
@@ -212,8 +213,8 @@ impl<T: Minimum, P: BoardProtocol<T>> Actor<T, P> {
         answer
     }
 
-    /// A view's rows at a time: the query, computed from scratch, on the changes fed up to that time. Refused as
-    /// `Board::read` says.
+    /// A view's rows at a time: the query, computed from scratch, on the changes fed up to that
+    /// time. Refused as `Board::read` says.
     pub fn read<R: Wait>(&mut self, rt: &R, view: NodeId, t: T) -> Result<Bag, Refusal>
         requires within { view < length (terms_in self.old.seen).dataflow.nodes }
         requires view { IsTrue (is_output (node_of (terms_in self.old.seen).dataflow view)) }
@@ -237,7 +238,8 @@ impl<T: Minimum, P: BoardProtocol<T>> Actor<T, P> {
         answer
     }
 
-    /// A view's changes at the times that its frontier has passed. Refused as `Board::changes` says.
+    /// A view's changes at the times that its frontier has passed. Refused as `Board::changes`
+    /// says.
     pub fn changes<R: Wait>(&mut self, rt: &R, view: NodeId) -> Result<Vec<Update<T>>, Refusal>
         requires within { view < length (terms_in self.old.seen).dataflow.nodes }
         requires view { IsTrue (is_output (node_of (terms_in self.old.seen).dataflow view)) }
@@ -262,7 +264,8 @@ impl<T: Minimum, P: BoardProtocol<T>> Actor<T, P> {
 
     /// Whether the board is quiet. Takes no memory.
     ///
-    /// Cost: linear in the nodes times the workers, and that of `Board::input_has_passed` for each held time.
+    /// Cost: linear in the nodes times the workers, and that of `Board::input_has_passed` for each
+    /// held time.
     pub fn is_quiet<R: Wait>(&mut self, rt: &R) -> bool
         ensures looked { Adds self.old (Look self.old.number) self.new }
         ensures quiet { IsTrue result ↔ WasQuiet T.below T.least self.old self.new }
@@ -278,9 +281,9 @@ impl<T: Minimum, P: BoardProtocol<T>> Actor<T, P> {
         answer
     }
 
-    /// A worker with nothing in hand takes the first bundle that waits for it at a node. With it comes whether more wait there.
-    /// `None` if no bundle waits. Refused only with `OutOfMemory`. The event is a take only if there is a bundle in the answer;
-    /// otherwise it is a look.
+    /// A worker with nothing in hand takes the first bundle that waits for it at a node. With it
+    /// comes whether more wait there. `None` if no bundle waits. Refused only with `OutOfMemory`.
+    /// The event is a take only if there is a bundle in the answer; otherwise it is a look.
     pub fn take_first<R: Wait>(
         &mut self,
         rt: &R,
@@ -310,9 +313,10 @@ impl<T: Minimum, P: BoardProtocol<T>> Actor<T, P> {
         answer
     }
 
-    /// A worker with nothing in hand turns to the times that it holds at a node, if the node's input frontier has passed one
-    /// of them. The answer is that frontier, as the tenure found it. Refused only with `OutOfMemory`. The event is a turn only
-    /// if there is a frontier in the answer; otherwise it is a look.
+    /// A worker with nothing in hand turns to the times that it holds at a node, if the node's
+    /// input frontier has passed one of them. The answer is that frontier, as the tenure found it.
+    /// Refused only with `OutOfMemory`. The event is a turn only if there is a frontier in the
+    /// answer; otherwise it is a look.
     pub fn turn<R: Wait>(&mut self, rt: &R, node: NodeId) -> Result<Option<Antichain<T>>, Refusal>
         requires worker { self.old.number < (terms_in self.old.seen).dataflow.workers }
         requires within { node < length (terms_in self.old.seen).dataflow.nodes }
@@ -339,8 +343,9 @@ impl<T: Minimum, P: BoardProtocol<T>> Actor<T, P> {
         answer
     }
 
-    /// A worker gives what it computed at the node that it has in hand. The give must be allowed in the state that the worker
-    /// left last; then it is allowed whatever others have done meanwhile. Refused only with `OutOfMemory`; then all arguments come back, and the event is a look.
+    /// A worker gives what it computed at the node that it has in hand. The give must be allowed in
+    /// the state that the worker left last; then it is allowed whatever others have done meanwhile.
+    /// Refused only with `OutOfMemory`; then all arguments come back, and the event is a look.
     pub fn give<R: Wait>(
         &mut self,
         rt: &R,
@@ -368,8 +373,8 @@ impl<T: Minimum, P: BoardProtocol<T>> Actor<T, P> {
         answer
     }
 
-    /// A worker tells that a number is too large with the changes that it has seen. The others can see it, unless more changes
-    /// were accepted meanwhile. Takes no memory.
+    /// A worker tells that a number is too large with the changes that it has seen. The others can
+    /// see it, unless more changes were accepted meanwhile. Takes no memory.
     pub fn tell_too_large<R: Wait>(&mut self, rt: &R)
         requires cause { HasNoSmallBound T.below T.cmp (terms_in self.old.seen).dataflow.nodes
             (changes_in (state_left T.below T.least self.old)) }
@@ -385,7 +390,8 @@ impl<T: Minimum, P: BoardProtocol<T>> Actor<T, P> {
         self.pass = Some(tenure.leave());
     }
 
-    /// Whether a worker told that a number is too large with the changes accepted so far. Takes no memory.
+    /// Whether a worker told that a number is too large with the changes accepted so far. Takes no
+    /// memory.
     pub fn is_too_large<R: Wait>(&mut self, rt: &R) -> bool
         ensures looked { Adds self.old (Look self.old.number) self.new }
         ensures cause { IsTrue result → WasTooLarge T.below T.least self.old self.new T.cmp }

@@ -1,12 +1,13 @@
 //! The board that actors share, and what they tell one another beside it.
 //!
-//! Each call that changes something is one event of the board, by the actor that is named. So each contract has two parts:
-//! whatever entries the board stood for before the call, it stands afterwards for one more; and the answer is right for each
-//! list of entries that it stood for. A tenure of a hub makes just one such call.
+//! Each call that changes something is one event of the board, by the actor that is named. So each
+//! contract has two parts: whatever entries the board stood for before the call, it stands
+//! afterwards for one more; and the answer is right for each list of entries that it stood for. A
+//! tenure of a hub makes just one such call.
 //!
-//! Beside the board lies whether some worker found a number too large. That must be told with care, since a bound may shrink
-//! when a change is accepted. So the board counts the changes that it accepted. A worker tells only if there are as many as
-//! when it last came, for then they are the same; and the next change that is accepted takes the word back.
+//! `too_large` records that a worker found a number too large. A bound may shrink when a change is
+//! accepted, so the board counts the changes that it accepted. A report counts only if no change
+//! was accepted since the worker last looked. The next accepted change clears it.
 ghost use Rattle.std.specs.Prelude.{◌≡◌, ◌<◌, ◌↔◌, ℕ, ◌≤◌, ◌+◌, ◌^◌, List, [], ◌∷◌, ◌++◌, false, None, Some, IfOk, IfErr, IfSome, OnOk, OnErr, IsTrue, length, get_or};
 ghost use Rattle.std.specs.List.{list_any};
 ghost use Rattle.hub.specs.declared.view.Entry.{Entry};
@@ -36,7 +37,8 @@ use std::alloc::Global;
 use std::marker::Model;
 use update::{Bag, Refusal, Times, Update};
 
-/// A board, and what its actors tell one another beside it. A contract sees all of it as a `SharedState`.
+/// A board, and what its actors tell one another beside it. A contract sees all of it as a
+/// `SharedState`.
 #[derive(Drop)]
 pub struct SharedBoard<T: Minimum> {
     board: Board<T>,
@@ -81,8 +83,8 @@ fn is_same_count(now: Option<u64>, then: Option<u64>) -> bool
 }
 
 impl<T: Minimum> SharedBoard<T> {
-    /// A board of a plan on which nothing has happened yet, for this many workers and clients. Refused only with
-    /// `OutOfMemory`.
+    /// A board of a plan on which nothing has happened yet, for this many workers and clients.
+    /// Refused only with `OutOfMemory`.
     pub fn open(
         alloc: Global,
         plan: Plan,
@@ -106,7 +108,8 @@ impl<T: Minimum> SharedBoard<T> {
         })
     }
 
-    /// Whether the board is of this plan, for this many workers and clients. Takes no memory. Cost: one comparison of plans.
+    /// Whether the board is of this plan, for this many workers and clients. Takes no memory. Cost:
+    /// one comparison of plans.
     pub fn is_on(&self, plan: &Plan, workers: usize, clients: usize) -> bool
         ensures { IsTrue result ↔ (terms_of_board self.now ≡ terms_for plan.now workers clients) }
     {
@@ -128,7 +131,8 @@ impl<T: Minimum> SharedBoard<T> {
         self.board.look(actor);
     }
 
-    /// A client changes an input's table. Refused as [`Board::feed`] says; then the event is a look.
+    /// A client changes an input's table. Refused as [`Board::feed`] says; then the event is a
+    /// look.
     pub fn feed(&mut self, client: usize, input: NodeId, update: Update<T>) -> Result<(), Refusal>
         requires client { self.old.board.dataflow.workers ≤ client }
         requires actor { client < self.old.actors }
@@ -157,8 +161,8 @@ impl<T: Minimum> SharedBoard<T> {
         Ok(())
     }
 
-    /// A client moves an input's frontier forward. Refused as [`Board::advance`] says; then the event is a look. Takes no
-    /// memory.
+    /// A client moves an input's frontier forward. Refused as [`Board::advance`] says; then the
+    /// event is a look. Takes no memory.
     pub fn advance(&mut self, client: usize, input: NodeId, times: Times<T>) -> Result<(), Refusal>
         requires client { self.old.board.dataflow.workers ≤ client }
         requires actor { client < self.old.actors }
@@ -246,7 +250,8 @@ impl<T: Minimum> SharedBoard<T> {
         found
     }
 
-    /// A view's changes at the times that its frontier has passed. The event is a look. Refused as [`Board::changes`] says.
+    /// A view's changes at the times that its frontier has passed. The event is a look. Refused as
+    /// [`Board::changes`] says.
     pub fn changes(&mut self, client: usize, view: NodeId) -> Result<Vec<Update<T>>, Refusal>
         requires within { view < length self.old.board.dataflow.nodes }
         requires view { IsTrue (is_output (node_of self.old.board.dataflow view)) }
@@ -277,7 +282,8 @@ impl<T: Minimum> SharedBoard<T> {
         found
     }
 
-    /// Whether the board is quiet. The event is a look. Takes no memory. Cost: that of [`Board::is_quiet`].
+    /// Whether the board is quiet. The event is a look. Takes no memory. Cost: that of
+    /// [`Board::is_quiet`].
     pub fn is_quiet(&mut self, actor: usize) -> bool
         ensures terms { terms_of_board self.new ≡ terms_of_board self.old }
         ensures beside { IsKeptBeside self.old self.new }
@@ -294,8 +300,9 @@ impl<T: Minimum> SharedBoard<T> {
         quiet
     }
 
-    /// A worker with nothing in hand takes the first bundle that waits for it at a node. With it comes whether more wait there.
-    /// `None` if no bundle waits; then the event is a look. Refused only with `OutOfMemory`; then it is a look too.
+    /// A worker with nothing in hand takes the first bundle that waits for it at a node. With it
+    /// comes whether more wait there. `None` if no bundle waits; then the event is a look. Refused
+    /// only with `OutOfMemory`; then it is a look too.
     pub fn take_first(
         &mut self,
         worker: usize,
@@ -340,8 +347,9 @@ impl<T: Minimum> SharedBoard<T> {
         self.board.waiting_at(node, worker).is_some()
     }
 
-    /// A worker with nothing in hand turns to the times that it holds at a node, if the node's input frontier has passed one
-    /// of them, and gets that frontier. Otherwise the event is a look. Refused only with `OutOfMemory`; then it is a look too.
+    /// A worker with nothing in hand turns to the times that it holds at a node, if the node's
+    /// input frontier has passed one of them, and gets that frontier. Otherwise the event is a
+    /// look. Refused only with `OutOfMemory`; then it is a look too.
     pub fn turn(&mut self, worker: usize, node: NodeId) -> Result<Option<Antichain<T>>, Refusal>
         requires worker { worker < self.old.board.dataflow.workers }
         requires within { node < length self.old.board.dataflow.nodes }
@@ -381,8 +389,8 @@ impl<T: Minimum> SharedBoard<T> {
         }
     }
 
-    /// A worker gives what it computed at the node that it has in hand. Refused as [`Board::give`] says; then the event is a
-    /// look.
+    /// A worker gives what it computed at the node that it has in hand. Refused as [`Board::give`]
+    /// says; then the event is a look.
     pub fn give(
         &mut self,
         emission: Emission<T>,
@@ -412,8 +420,9 @@ impl<T: Minimum> SharedBoard<T> {
         self.accepted
     }
 
-    /// A worker tells that a number is too large with the changes that the board had accepted when it last came, if no more
-    /// were accepted since. `accepted` is how many there were then. The event is a look. Takes no memory.
+    /// A worker tells that a number is too large with the changes that the board had accepted when
+    /// it last came, if no more were accepted since. `accepted` is how many there were then. The
+    /// event is a look. Takes no memory.
     pub fn tell_too_large(&mut self, worker: usize, accepted: Option<u64>)
         ensures terms { terms_of_board self.new ≡ terms_of_board self.old }
         ensures looked { self.new.board.last ≡ Look worker }

@@ -14,8 +14,9 @@ ghost use Rattle.shared_board.specs.Tenures.{AreOn, Terms, events, left_by};
 
 use lattice::Minimum;
 
-/// What others did changes nothing of a worker: what it received and gave, the times that it holds, its piece in hand, and the
-/// input frontiers that its takes recorded. So a worker knows these without a look at the board.
+/// What others did changes nothing of a worker: what it received and gave, the times that it holds,
+/// its piece in hand, and the input frontiers that its takes recorded. So a worker knows these
+/// without a look at the board.
 pub fn others_change_nothing_of_a_worker<T: Minimum>()
     ensures { (t : Terms) (k : ℕ) (others seen : List (Entry (Doing T))) → NoneBy k others
         → AreOn t (others ++ seen)
@@ -23,8 +24,9 @@ pub fn others_change_nothing_of_a_worker<T: Minimum>()
         (left_by T.below T.least t.dataflow (others ++ seen)) }
 {}
 
-/// If there is one client, then what others did changes nothing that clients change: the changes fed, the frontiers of the
-/// inputs, and the sinces of the views. So the client knows these without a look at the board.
+/// If there is one client, then what others did changes nothing that clients change: the changes
+/// fed, the frontiers of the inputs, and the sinces of the views. So the client knows these without
+/// a look at the board.
 pub fn one_client_makes_all_changes<T: Minimum>()
     ensures { (t : Terms) → t.actors ≡ suc t.dataflow.workers
         → (others seen : List (Entry (Doing T))) → NoneBy t.dataflow.workers others
@@ -34,15 +36,16 @@ pub fn one_client_makes_all_changes<T: Minimum>()
         (left_by T.below T.least t.dataflow (others ++ seen)) }
 {}
 
-/// A worker may give in each state that agrees with one in which it may give on all that is its own.
+/// Whether a give is allowed depends only on the giver's own part of the state.
 pub fn gives_depend_on_their_worker<T: Minimum>()
     ensures { (p : Dataflow) (w v : State T) (g : Emission T) (ts : List T) (sent : List (Bundle T))
         → IsSameOfWorker g.worker w v → IsGive T.below p w g ts sent
         → IsGive T.below p v g ts sent }
 {}
 
-/// If there is one client and it leaves a quiet board, then the board stays as it is until that client changes something:
-/// others can only look. So what the client knows of a quiet board holds on, whatever workers do.
+/// If there is one client and it leaves a quiet board, then the board stays as it is until that
+/// client changes something: others can only look. So what the client knows of a quiet board holds
+/// on, whatever workers do.
 pub fn quiet_until_the_client_acts<T: Minimum>()
     ensures { (t : Terms) → t.actors ≡ suc t.dataflow.workers
         → (others seen : List (Entry (Doing T))) → NoneBy t.dataflow.workers others

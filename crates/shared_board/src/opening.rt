@@ -16,8 +16,9 @@ use std::boxed::Box;
 use std::sync::{Arc, Wait};
 use update::Refusal;
 
-/// Opens a hub with a board of a plan on which nothing has happened yet. The answer has an actor for each worker, in the order
-/// of their numbers, and then one for each client. Each has looked once, so it knows the plan. Refused only with `OutOfMemory`.
+/// Opens a hub with a board of a plan on which nothing has happened yet. The answer has an actor
+/// for each worker, in the order of their numbers, and then one for each client. Each has looked
+/// once, so it knows the plan. Refused only with `OutOfMemory`.
 ///
 /// Cost: that of `Board::open`, and one tenure for each actor.
 pub fn open<T: Minimum, P: BoardProtocol<T>, R: Wait>(

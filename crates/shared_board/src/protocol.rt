@@ -1,13 +1,15 @@
 //! The protocol of a hub that hands a board over.
 //!
-//! A shared board stands for a list of entries if the board stands for their events, if each entry is by the actor of its
-//! event, and if each names the terms on which the board was opened: its dataflow, and how many actors share it. So an actor
-//! that has seen one entry knows the plan for good, although a pass that has seen nothing knows nothing. Which boards stand
-//! for which entries is the record `StandsFor` (`specs/Tenures`).
+//! A shared board stands for a list of entries if the board stands for their events, if each entry
+//! is by the actor of its event, and if each names the terms on which the board was opened: its
+//! dataflow, and how many actors share it. So an actor that has seen one entry knows the plan for
+//! good, although a pass that has seen nothing knows nothing. Which boards stand for which entries
+//! is the record `StandsFor` (`specs/Tenures`).
 //!
-//! Actors know their protocol by the trait [`BoardProtocol`] alone. [`Boards`] is such a protocol for every type of times, for
-//! code that is generic in them. [`BitemporalBoards`] says the same of bitemporal times and has no parameter: code that holds
-//! actors of one type of times is covered by the borrow checker only if their protocol has none.
+//! Actors know their protocol by the trait [`BoardProtocol`] alone. [`Boards`] is such a protocol
+//! for every type of times, for code that is generic in them. [`BitemporalBoards`] says the same of
+//! bitemporal times and has no parameter: code that holds actors of one type of times is covered by
+//! the borrow checker only if their protocol has none.
 use crate::board::SharedBoard;
 use crate::event::Doing;
 use hub::Protocol;
@@ -16,8 +18,8 @@ use std::alloc::Global;
 use std::boxed::Box;
 use std::marker::PhantomData;
 
-/// A protocol of hubs that hand over boards. The laws say that its boards stand for the entries that `StandsFor` names, and
-/// that its last event is what was done last on the board.
+/// A protocol of hubs that hand over boards. The laws say that its boards stand for the entries
+/// that `StandsFor` names, and that its last event is what was done last on the board.
 pub trait BoardProtocol<T: Minimum>: Protocol<
     State = Box<SharedBoard<T>, Global>,
     Event = Doing<T>,
@@ -36,7 +38,8 @@ pub trait BoardProtocol<T: Minimum>: Protocol<
     ghost last_is: { (b : _) → Self.last b ≡ doing_on b.value };
 }
 
-/// The protocol of a hub that hands over a board. The board lies in a box, so that handing it over moves one pointer.
+/// The protocol of a hub that hands over a board. The board lies in a box, so that handing it over
+/// moves one pointer.
 pub struct Boards<T> {
     of: PhantomData<T>,
 }

@@ -1,4 +1,5 @@
--- A bundle that is taken at an arrange node or at a reduction, and held back; and a node that settles without one.
+-- A bundle that is taken at an arrange node or at a reduction, and held back; and a node that
+-- settles without one.
 use Rattle.std.proofs.Common.{◌≡◌, ℕ, suc, Bool, true, false, not, ◌||◌, ◌&&◌, List, [], ◌∷◌, ◌++◌, Some, IsTrue, sym, refl, ap, ◌∙◌, subst, arith}
 use Rattle.std.specs.List.{slice_get, list_any}
 use Rattle.std.proofs.lemmas.Bool.{false≢true}

@@ -1,4 +1,5 @@
--- States that differ in the order of bundles in flight alone: what a worker has to keep in mind is the same in both.
+-- States that differ in the order of bundles in flight alone: what a worker has to keep in mind is
+-- the same in both.
 use Rattle.std.proofs.Common.{◌≡◌, ℕ, ◌<◌, Bool, ◌||◌, not, List, [], ◌++◌, map, length, Option, sym, ap, ◌∙◌, subst}
 use Rattle.std.specs.List.{list_all, list_any}
 use Rattle.std.proofs.lemmas.List.Folds.{list_any-append}

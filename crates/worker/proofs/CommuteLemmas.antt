@@ -1,4 +1,5 @@
--- A give on top of what clients did leaves a state like the one that is left if the clients come after it.
+-- A give on top of what clients did leaves a state like the one that is left if the clients come
+-- after it.
 use Rattle.std.proofs.Common.{◌≡◌, ◌<◌, ℕ, Bool, true, false, cond, ◌&&◌, ◌||◌, eqb, not, List, [], ◌∷◌, ◌++◌, length, IsTrue, sym, refl, ap, ◌∙◌, subst}
 use Rattle.std.specs.List.{list_all, filter}
 use Rattle.std.proofs.lemmas.Bool.{and_parts, eqb-true}

@@ -48,7 +48,8 @@ get_own (z ∷ xs) zero x y e = refl
 get_own (z ∷ xs) (suc n) x y e = get_own xs n x y e
 
 module _ {T : Type 0} (below : T → T → Bool) where
-  -- the arrangement b stands for what the arrangement a does. It may have other holds, and its spine may have merged
+  -- the arrangement b stands for what the arrangement a does. It may have other holds, and its
+  -- spine may have merged
   pub record IsAsGood (a b : ArrangementState T) : Type 0 where
     pub width : b.width ≡ a.width
     pub start : b.spine.list.start ≡ a.spine.list.start

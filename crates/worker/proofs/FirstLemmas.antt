@@ -1,4 +1,5 @@
--- The bundle that waits first at a node to which a pass has come: it fits the node, and the worker may take it.
+-- The bundle that waits first at a node to which a pass has come: it fits the node, and the worker
+-- may take it.
 use Rattle.std.proofs.Common.{◌≡◌, ℕ, ◌^◌, ◌≤◌, Bool, cond, List, [], ◌∷◌, ◌++◌, Option, Some, None, IsTrue, refl, ap, ◌∙◌, subst, arith}
 use Rattle.std.specs.declared.cmp.Ordering.{Ordering}
 use Rattle.lattice.specs.Order.{PartialOrderLaws}

@@ -1,4 +1,5 @@
--- What is gathered at a linear node: bundle by bundle it is taken and held back, and then all of it is given.
+-- What is gathered at a linear node: bundle by bundle it is taken and held back, and then all of it
+-- is given.
 use Rattle.std.proofs.Common.{◌≡◌, ℕ, suc, ◌<◌, Bool, true, eqb, List, [], ◌++◌, length, Option, Some, None, IsTrue, sym, refl, ap, ◌∙◌, subst, arith}
 use Rattle.std.specs.List.{list_all}
 use Rattle.std.specs.Result.{IfOk, OnOk}
@@ -225,7 +226,8 @@ module _ {T : Type 0} (below : T → T → Bool) (joined : T → T → T) (minim
           desk = given_desk;
         }
 
-        -- what was settled still is, and the node is settled too: nothing waits there, and the worker holds nothing there
+        -- what was settled still is, and the node is settled too: nothing waits there, and the
+        -- worker holds nothing there
         pub gave_settled : HasNone n w → IsSettledTo below p w n → IsSettledTo below p (next_state below p w (Give made [] sent)) (suc n)
         gave_settled none settled =
             settled_passed below p q w n settled made [] sent refl (sent_later p q g.at.alone made staffed wide sent is_cut.whole is_cut.filled) none
@@ -308,7 +310,8 @@ module _ {T : Type 0} (below : T → T → Bool) (joined : T → T → T) (minim
             (took_large below joined minimum o (dataflow_of new) actor.dataflow (events (found_last new)) legal_found d n gathered linear_now plain_now (found d gathered g) bundle taken.node taken.worker taken.take cmp
             (subst (λ p. Overflows (node_of p n) bundle.updates) (sym same_dataflow) over))
 
-    -- a worker that is ready begins with nothing gathered, and if it still has nothing later on, it is ready again
+    -- a worker that is ready begins with nothing gathered, and if it still has nothing later on, it
+    -- is ready again
     pub begins : n < length (dataflow_of old).nodes → (d : DeskState T) → IsRunning below joined minimum old d n → IsGatheringOn below joined minimum old d n [] None
     begins within d run = record { number = run.number; gathering = none_gathered below joined minimum (dataflow_of old) (state_left below minimum old) d n within linear plain run.ready }
 

@@ -1,4 +1,5 @@
--- What a worker holds at a node that a pass leaves: nothing if nothing waits to be given, and else times not passed yet.
+-- What a worker holds at a node that a pass leaves: nothing if nothing waits to be given, and else
+-- times not passed yet.
 use Rattle.std.proofs.Common.{◌≡◌, ℕ, ◌<◌, Bool, true, false, ◌&&◌, ◌||◌, not, List, [], ◌∷◌, length, None, IsTrue, sym, refl, ◌∙◌, subst}
 use Rattle.std.specs.List.{list_any}
 use Rattle.std.proofs.lemmas.Bool.{false≢true}

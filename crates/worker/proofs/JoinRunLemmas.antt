@@ -73,7 +73,8 @@ or_none false = refl
 pub some_arrangement : {T : Type 0} {a b : ArrangementState T} → Some (Some a) ≡ Some (Some b) → a ≡ b
 some_arrangement {T} {a} {b} e = same_Some a b (same_Some (Some a) (Some b) e)
 
--- a worker is ready at a join in the state that it found last, and this lies on its desk for the join
+-- a worker is ready at a join in the state that it found last, and this lies on its desk for the
+-- join
 pub record IsAtJoin {T : Type 0} (below : T → T → Bool) (joined : T → T → T) (minimum : T) (k : Known (Doing T)) (d : DeskState T) (n l r : ℕ) (j : JoiningView T) : Type 0 where
   pub actor : IsActor below minimum k
   pub ready : IsReadyAt below joined minimum (dataflow_of k) (state_found below minimum k) d n

@@ -29,7 +29,8 @@ module _ {T : Type 0} (below : T → T → Bool) (minimum : T) (o : PartialOrder
         λ bound is. let small = takes_lem below minimum o p q cmp h legal n port source e k l bound is in omega (arith, small, large),
       )
 
-  -- what a node that is no reduction may make of what a worker received is more than 64-bit numbers can say
+  -- what a node that is no reduction may make of what a worker received is more than 64-bit numbers
+  -- can say
   pub large_load : (n k : ℕ) → n < length p.nodes → k < p.workers → is_reduction (node_of p n) ≡ false → 2 ^ 63 ≤ output_bound (node_of p n) 0 (λ port. size (received_at w n k port)) → HasNoSmallBound below cmp p.nodes (changes_in w)
   large_load n k within l e large = (
     n,

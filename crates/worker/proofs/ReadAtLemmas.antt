@@ -62,7 +62,8 @@ join_port p m port source e reads =
         nothing z = cc
 
 module _ {T : Type 0} (p : Dataflow) where
-  -- the joins at all nodes but one have read as much in the state v as in w, and `after` says what was inserted by then
+  -- the joins at all nodes but one have read as much in the state v as in w, and `after` says what
+  -- was inserted by then
   abbrev pub AreReadOn : State T → State T → ℕ → ℕ → (ℕ → List (Insertion T)) → (ℕ → List (Insertion T)) → Type 0
   AreReadOn w v k n inserted after = (m port source : ℕ) → m ≢ n → is_join (node_of p m) ≡ true → source_of p m port ≡ Some source → (taken : List (Insertion T))
       → IsReadAt w m port k (inserted source) taken → IsReadAt v m port k (after source) taken
@@ -135,7 +136,8 @@ module _ {T : Type 0} (below : T → T → Bool) (p : Dataflow) (q : IsDataflow 
     pub reads_given : arranged_by (node_of p g.node) ≡ None → IsCut below p g sent → AreReadOn p w (give_state below p w g ts sent) k n inserted inserted
     reads_given plain cut m port source d join reads taken x = still_read m port (inserted source) taken (none_for_joins below p q g sent plain cut k m port join) x
 
-  -- a batch that is given is one bundle more at each port that reads it, if all before it was taken there
+  -- a batch that is given is one bundle more at each port that reads it, if all before it was taken
+  -- there
   pub reads_inserted : (g : Emission T) (ts upper : List T) (after : ℕ → List (Insertion T)) → g.worker ≡ k → IsGive below p w g ts (cut below p g) → g.updates ≢ []
       → after g.node ≡ record { upper = upper; updates = g.updates } ∷ inserted g.node → ((m : ℕ) → m ≢ g.node → after m ≡ inserted m)
       → ((m port : ℕ) → is_join (node_of p m) ≡ true → source_of p m port ≡ Some g.node → queue (place m port k) w.in_flight ≡ [])

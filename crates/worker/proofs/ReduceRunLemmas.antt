@@ -1,4 +1,5 @@
--- The steps at a reduction: a bundle is taken and held back, and what the input frontier has passed is given.
+-- The steps at a reduction: a bundle is taken and held back, and what the input frontier has passed
+-- is given.
 use Rattle.std.proofs.Common.{◌≡◌, ℕ, suc, ◌^◌, ◌<◌, ◌≤◌, nat_lt, Bool, true, false, not, ◌||◌, eqb, List, [], ◌++◌, length, take, Some, None, IsTrue, sym, refl, ap, ◌∙◌, subst, arith, inl, inr}
 use Rattle.std.specs.Prelude.{Result, Ok, Err, unwrap_or}
 use Rattle.std.specs.Result.{OnOk}

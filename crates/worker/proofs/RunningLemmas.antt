@@ -102,7 +102,8 @@ module _ {T : Type 0} {below : T → T → Bool} {minimum : T} {old new : Known 
       step (Err e) is left = tt
       step (Ok e) is left = none_left below (dataflow_of old) w (state_left below minimum new) n other left (none is)
 
--- what holds in the state to which a give leads, holds in the state that the worker left if no client acted
+-- what holds in the state to which a give leads, holds in the state that the worker left if no
+-- client acted
 pub calm_on : {T P : Type 0} (result : Result (Unit {0}) Refusal) (Q : State T → Type 0) (v w : State T) → (P → Q w) → OnOk result P → OnOk result (v ≡ w) → OnOk result (Q v)
 calm_on (Ok x) Q v w f p e = subst Q (sym e) (f p)
 calm_on (Err x) Q v w f p e = tt

@@ -1,5 +1,5 @@
--- What a pass leaves behind it: where no client acts, nothing waits at earlier nodes and what is held there could still receive
--- input. So past the last node all is quiet.
+-- What a pass leaves behind it: where no client acts, nothing waits at earlier nodes and what is
+-- held there could still receive input. So past the last node all is quiet.
 use Rattle.std.proofs.Common.{◌≡◌, ℕ, zero, suc, ◌<◌, ◌≤◌, Bool, true, false, cond, ◌&&◌, eqb, not, List, [], ◌∷◌, ◌++◌, length, None, IsTrue, sym, refl, ap, ◌∙◌, subst, arith, inl, inr, ⊎_elim}
 use Rattle.std.specs.List.{list_all, filter}
 use Rattle.std.proofs.lemmas.Bool.{and_parts, and_from, eqb-true, eqb-false, eq-eqb, ne_eqb, false_from_ne_true}

@@ -1,4 +1,5 @@
--- What one tenure of the only worker is: others, who are clients, came before it, and then its own event.
+-- What one tenure of the only worker is: others, who are clients, came before it, and then its own
+-- event.
 use Rattle.std.proofs.Common.{◌≡◌, ℕ, ◌<◌, ◌+◌, cond, length, length-append, Bool, true, false, List, [], ◌∷◌, ◌++◌, Option, Some, None, sym, refl, ap, ◌∙◌, subst, arith}
 use Rattle.std.specs.Prelude.{Result, Ok, Err, IfOk, IfErr, IfSome, OnErr}
 use Rattle.std.specs.List.{filter}
@@ -133,7 +134,7 @@ module _ {T : Type 0} (below : T → T → Bool) (p : Dataflow) (w : State T) (g
       none = ap (λ x. share_from p x (arranged_by (node_of p site.node)) site.worker g) (input_reads_none (node_of p site.node) input site.port)
 
 module _ {T : Type 0} (below : T → T → Bool) (minimum : T) (old : Known (Doing T)) (single : (dataflow_of old).workers ≡ 1) (number : old.number ≡ 0) (g : Emission T) (ts : List T) (sent : List (Bundle T)) where
-  -- the state that a give leaves is as if the clients had come after it
+  -- a give commutes with what clients did before it
   pub left_of : (new : Known (Doing T)) → IsActor below minimum new → Adds old (Give g ts sent) new → IsLeftBy below (dataflow_of old) (next_state below (dataflow_of old) (state_left below minimum old) (Give g ts sent)) (state_left below minimum new)
   left_of new actor adds = subst (λ k. IsLeftBy below p (give_state below p w g ts sent) (state_left below minimum k)) (sym adds.new_is) (made (subst (IsActor below minimum) adds.new_is actor))
     where
@@ -156,7 +157,8 @@ module _ {T : Type 0} (below : T → T → Bool) (minimum : T) (old : Known (Doi
             alike = subst (λ u. IsAlike below (state_from below p (give_state below p w g ts sent) es) (give_state below p u g ts sent)) (sym x.1) (commuted below p g ts sent away w es x.0);
           }
 
-  -- and if nobody changed anything, then it is what the give makes of the state that the worker left
+  -- and if nobody changed anything, then it is what the give makes of the state that the worker
+  -- left
   pub calm_given : (new : Known (Doing T)) → IsActor below minimum new → Adds old (Give g ts sent) new → IsCalm old new → state_left below minimum new ≡ next_state below (dataflow_of old) (state_left below minimum old) (Give g ts sent)
   calm_given new actor adds calm =
       let step = step_of below minimum old single number (Give g ts sent) refl new actor adds in

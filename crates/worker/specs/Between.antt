@@ -43,8 +43,8 @@ module _ {T : Type 0} (below : T → T → Bool) where
     pub all : (test : Bundle T → Bool) → list_all test v.in_flight ≡ list_all test w.in_flight
     pub stamped : (test : Site → Bool) (t : T) → is_beyond below (stamps test v.in_flight) t ≡ is_beyond below (stamps test w.in_flight) t
 
-  -- a worker made an event that leads to the first state, but clients came in between: the second state is what is left
-  -- then. It is as if they had come afterwards
+  -- a worker made an event that leads to the first state, but clients came in between: the second
+  -- state is what is left then. It is as if they had come afterwards
   pub record IsLeftBy (p : Dataflow) (w v : State T) : Type 0 where
     pub after : State T
     pub clients : DoClientsLead p w after

@@ -36,7 +36,8 @@ module _ {T : Type 0} where
   abbrev pub with_join : ℕ → JoiningView T → DeskState T → DeskState T
   with_join n j d = record d { joins = set d.joins n (Some j) }
 
-  -- the number of the hold that a join has at the arrangement that it reads at a port, and how far it has taken there
+  -- the number of the hold that a join has at the arrangement that it reads at a port, and how far
+  -- it has taken there
   abbrev pub hold_at : ℕ → JoiningView T → ℕ
   hold_at zero j = j.left_hold
   hold_at (suc port) j = j.right_hold
@@ -52,15 +53,16 @@ module _ {T : Type 0} where
     pub reads : source_of p n port ≡ Some source
     pub there : slice_get d.joins n ≡ Some (Some j)
 
-  -- the arrangement of the source has a hold of this number, other than its own, for a reader that sums at all times and
-  -- has taken all up to the boundary
+  -- the arrangement of the source has a hold of this number, other than its own, for a reader that
+  -- sums at all times and has taken all up to the boundary
   pub record HasHold (minimum : T) (d : DeskState T) (source number : ℕ) (boundary : List T) : Type 0 where
     pub arrangement : ArrangementState T
     pub there : slice_get d.arrangements source ≡ Some (Some arrangement)
     pub other : 0 < number
     pub hold : slice_get arrangement.holds number ≡ Some (record { logical = minimum ∷ []; physical = boundary })
 
-  -- each join has a hold at the arrangements of both its sources, as far as it has taken there, and no two have one hold
+  -- each join has a hold at the arrangements of both its sources, as far as it has taken there, and
+  -- no two have one hold
   pub record AreSharing (minimum : T) (p : Dataflow) (d : DeskState T) : Type 0 where
     pub held : (n port source : ℕ) (j : JoiningView T) → ReadsAt p d n port source j
         → HasHold minimum d source (hold_at port j) (boundary_at port j)
@@ -85,7 +87,8 @@ module _ {T : Type 0} (below : T → T → Bool) (joined : T → T → T) (minim
     pub upper : List T
     pub reducing : IsReducing below p w n k upper (pending_of r)
 
-  -- the join has taken what was inserted at both its sources, l and r, up to its boundaries. Nothing waits to be given
+  -- the join has taken what was inserted at both its sources, l and r, up to its boundaries.
+  -- Nothing waits to be given
   pub record IsJoinedAt (n l r : ℕ) (at_left at_right : List (Insertion T)) (j : JoiningView T) : Type 0 where
     pub key : j.state.key ≡ key_width p.nodes (node_of p n)
     pub left_width : j.left_width ≡ width_of p.nodes l
@@ -99,7 +102,8 @@ module _ {T : Type 0} (below : T → T → Bool) (joined : T → T → T) (minim
     pub right_boundary : j.state.right ≡ reached (minimum ∷ []) right
 
   module _ (d : DeskState T) (inserted : ℕ → List (Insertion T)) where
-    -- what lies on the desk for a node is right; at a linear node that is not arranged nothing waits
+    -- what lies on the desk for a node is right; at a linear node that is not arranged nothing
+    -- waits
     abbrev pub IsDeskAt : ℕ → Node → Type 0
     IsDeskAt n (Arrange s key) = (a : ArrangementState T) × (slice_get d.arrangements n ≡ Some (Some a)) × IsArrangedAt n (inserted n) a
     IsDeskAt n (Reduce kind s) = (r : ReducingView T) × (slice_get d.reductions n ≡ Some (Some r)) × IsReducedAt n kind s r
@@ -117,7 +121,8 @@ module _ {T : Type 0} (below : T → T → Bool) (joined : T → T → T) (minim
     pub at : (n : ℕ) → n < length p.nodes → IsDeskAt d inserted n (node_of p n)
     pub sharing : AreSharing minimum p d
 
-  -- at node n, which is linear and not arranged, this waits to be given; at all other nodes the desk of worker k is right
+  -- at node n, which is linear and not arranged, this waits to be given; at all other nodes the
+  -- desk of worker k is right
   pub record IsDeskWith (d : DeskState T) (n : ℕ) (gathered : List (Update T)) : Type 0 where
     pub inserted : ℕ → List (Insertion T)
     pub others : (m : ℕ) → m < length p.nodes → m ≢ n → IsDeskAt d inserted m (node_of p m)

@@ -41,7 +41,8 @@ module _ {T : Type 0} (below : T → T → Bool) (joined : T → T → T) (minim
     pub right : j.state.right ≡ minimum ∷ []
 
   module _ (d : DeskState T) where
-    -- the join has a hold at each side's arrangement, and none of these holds is that of another join that reads there
+    -- the join has a hold at each side's arrangement, and none of these holds is that of another
+    -- join that reads there
     pub record HasOwnHolds (l r : ℕ) (j : JoiningView T) : Type 0 where
       pub left : HasHold minimum d l j.left_hold (minimum ∷ [])
       pub right : HasHold minimum d r j.right_hold (minimum ∷ [])

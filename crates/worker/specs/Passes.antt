@@ -1,4 +1,5 @@
--- One pass of a worker over the nodes, in the order of their numbers: how far it has come. There is one worker.
+-- One pass of a worker over the nodes, in the order of their numbers: how far it has come. There is
+-- one worker.
 use Rattle.std.specs.Prelude.{◌≡◌, ℕ, ◌≤◌, Bool, ◌&&◌, ◌||◌, eqb, nat_le, nat_lt, List, [], length, None, Some, unwrap_or, IsTrue}
 use Rattle.std.specs.List.{list_all}
 use Rattle.plan.specs.Nodes.{is_input, is_join}
@@ -14,20 +15,21 @@ use Rattle.machine.specs.Histories.States.{State, place, queue}
 abbrev pub width_at : Dataflow → Site → ℕ
 width_at p site = width_of p.nodes (unwrap_or (source_of p site.node site.port) site.node)
 
--- the bundle waits for worker 0 at a port, and its rows have the width of the node read there. It waits at node n or at a
--- later one, or it is a change that was fed to an input
+-- the bundle waits for worker 0 at a port, and its rows have the width of the node read there. It
+-- waits at node n or at a later one, or it is a change that was fed to an input
 abbrev pub is_due : {T : Type 0} → Dataflow → ℕ → Bundle T → Bool
 is_due p n b = ((nat_le n b.place.node || is_input (node_of p b.place.node)) && nat_lt b.place.node (length p.nodes))
     && ((is_port (node_of p b.place.node) b.place.port && eqb b.place.worker 0) && are_wide (width_at p b.place) b.updates)
 
--- at no port of a join that reads node n or a later node does a bundle wait: the joins have taken all that these nodes gave
+-- at no port of a join that reads node n or a later node does a bundle wait: the joins have taken
+-- all that these nodes gave
 abbrev pub JoinsHaveTaken : {T : Type 0} → Dataflow → ℕ → List (Bundle T) → Type 0
 JoinsHaveTaken p n bundles = (m port source : ℕ) → IsTrue (is_join (node_of p m)) → source_of p m port ≡ Some source
     → n ≤ source → queue (place m port 0) bundles ≡ []
 
 module _ {T : Type 0} (p : Dataflow) (w : State T) (n : ℕ) where
-  -- the pass has come to node n: what is in flight is due there, at later nodes or at inputs, and the joins have taken all
-  -- that node n and later nodes gave
+  -- the pass has come to node n: what is in flight is due there, at later nodes or at inputs, and
+  -- the joins have taken all that node n and later nodes gave
   pub record IsAtNode : Type 0 where
     pub alone : p.workers ≡ 1
     pub due : IsTrue (list_all (is_due p n) w.in_flight)

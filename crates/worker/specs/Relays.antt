@@ -1,4 +1,5 @@
--- One worker at a hub, all others being clients: what it has to keep in mind of the board between its steps.
+-- One worker at a hub, all others being clients: what it has to keep in mind of the board between
+-- its steps.
 use Rattle.std.specs.Prelude.{◌≡◌, ◌<◌, ◌≤◌, ℕ, Bool, List, [], length, Option, IsTrue}
 use Rattle.std.specs.List.{filter}
 use Rattle.std.specs.declared.cmp.Ordering.{Ordering}
@@ -34,13 +35,14 @@ abbrev pub HasSome : {T : Type 0} → ℕ → State T → Type 0
 HasSome n w = (port : ℕ) × (0 < length (queue (place n port 0) w.in_flight))
 
 module _ {T : Type 0} (below : T → T → Bool) (joined : T → T → T) (minimum : T) where
-  -- in this state the pass of worker 0 has come to node n, the worker has nothing in hand, and its desk is right
+  -- in this state the pass of worker 0 has come to node n, the worker has nothing in hand, and its
+  -- desk is right
   pub record IsReadyAt (p : Dataflow) (w : State T) (d : DeskState T) (n : ℕ) : Type 0 where
     pub free : IsFreeAtNode p w n
     pub desk : IsDesk below joined minimum p w 0 d
 
-  -- in this state the pass of worker 0 has come to node n, the worker has this in hand, and what it made of bundles there
-  -- waits to be given
+  -- in this state the pass of worker 0 has come to node n, the worker has this in hand, and what it
+  -- made of bundles there waits to be given
   pub record IsGatheringAt (p : Dataflow) (w : State T) (d : DeskState T) (n : ℕ) (gathered : List (Update T)) (hand : Option ℕ) : Type 0 where
     pub at : IsAtNode p w n
     pub has : w.hand 0 ≡ hand
@@ -75,7 +77,8 @@ module _ {T : Type 0} (below : T → T → Bool) (minimum : T) where
   abbrev pub IsTooLarge : (T → T → Ordering) → Known (Doing T) → Type 0
   IsTooLarge cmp k = HasNoSmallBound below cmp (dataflow_of k).nodes (changes_in (state_left below minimum k))
 
-  -- a step may be refused so: for want of memory, or with a number that is too large, which has its cause in the changes
+  -- a step may be refused so: for want of memory, or with a number that is too large, which has its
+  -- cause in the changes
   abbrev pub IsStopped : (T → T → Ordering) → Known (Doing T) → Refusal → Type 0
   IsStopped cmp k refusal = IsMemoryOrOverflow (IsTooLarge cmp k) refusal
 
@@ -95,7 +98,8 @@ module _ {T : Type 0} where
   abbrev pub IsCalm : Known (Doing T) → Known (Doing T) → Type 0
   IsCalm old new = changes_of new.seen ≡ changes_of old.seen
 
-  -- at the nodes before node n nothing waits, and each time that worker 0 holds there could still receive input
+  -- at the nodes before node n nothing waits, and each time that worker 0 holds there could still
+  -- receive input
   pub record IsSettledTo (below : T → T → Bool) (p : Dataflow) (w : State T) (n : ℕ) : Type 0 where
     pub none : (m : ℕ) → m < n → HasNone m w
     pub held : (m : ℕ) → m < n → IsTrue (all_beyond below (input_frontier below p w m) (held_at m 0 w.held))

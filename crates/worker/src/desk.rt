@@ -1,8 +1,8 @@
 //! A worker's desk: what it keeps at each node between two events.
 //!
-//! An arrange node has an [`Arrangement`], a reduction a [`Reducing`], and a join a [`Joining`]. All joins that read an
-//! arrange node share its spine, and each has a hold of its own there, or two if it reads the node at both ports. At the
-//! other nodes nothing is kept.
+//! An arrange node has an [`Arrangement`], a reduction a [`Reducing`], and a join a [`Joining`].
+//! All joins that read an arrange node share its spine, and each has a hold of its own there, or
+//! two if it reads the node at both ports. At the other nodes nothing is kept.
 //!
 //! Which desks are right for a state of the machine is the record `IsDesk` (`specs/Desks`).
 ghost use Rattle.std.specs.Prelude.{◌≡◌, ◌<◌, ◌++◌, ◌∷◌, ℕ, suc, set, [], Some, IfOk, IfErr, OnOk, length, slice_get};
@@ -25,7 +25,8 @@ use std::alloc::Global;
 use std::marker::Model;
 use update::Refusal;
 
-/// What a worker keeps, by node. A contract sees the arrangements, the reductions and the joins, each as a list by node.
+/// What a worker keeps, by node. A contract sees the arrangements, the reductions and the joins,
+/// each as a list by node.
 #[derive(Drop)]
 pub struct Desk<T: Minimum> {
     pub(crate) arrangements: Vec<Option<Arrangement<T>>>,
@@ -110,8 +111,9 @@ fn add_reader_at<T: Minimum>(
 }
 
 impl<T: Minimum> Desk<T> {
-    /// The desk of the only worker of a plan, before the first event: nothing waits, nothing was inserted, and nothing is
-    /// pending. [`Refusal::OutOfMemory`] only if memory for holds and frontiers was refused.
+    /// The desk of the only worker of a plan, before the first event: nothing waits, nothing was
+    /// inserted, and nothing is pending. [`Refusal::OutOfMemory`] only if memory for holds and
+    /// frontiers was refused.
     ///
     /// Cost: linear in the plan.
     pub fn open(alloc: Global, plan: &Plan) -> Result<Desk<T>, Refusal>

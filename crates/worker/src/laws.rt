@@ -20,7 +20,8 @@ pub fn clients_leave_it_ready<T: Minimum>()
         → IsReadyAt T.below T.joined T.least p v d n }
 {}
 
-/// The only worker of a plan, whose desk was laid out for it, is ready for its first pass once it has looked.
+/// The only worker of a plan, whose desk was laid out for it, is ready for its first pass once it
+/// has looked.
 pub fn the_first_pass_may_begin<T: Minimum>()
     ensures { (t : Terms) → t.dataflow.workers ≡ 1 → (k : Known (Doing T)) (d : DeskState T)
         → IsActor T.below T.least k → IsFirst t 0 k

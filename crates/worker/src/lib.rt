@@ -10,10 +10,10 @@
 //! [`Desk`]: the arrangement, reduction or join of each node, with a hold for each side of a join
 //! at the spine that it reads.
 //!
-//! Who runs a plan calls [`open`] and [`Desk::open`] once, and before each question [`relay`] until
-//! its client finds all quiet. [`the_first_pass_may_begin`] says that the first pass may begin, and
-//! [`clients_leave_it_ready`] that clients do not hinder the next one. The other names are there to
-//! write another worker with.
+//! To run a plan, call [`open`] and [`Desk::open`] once. Before each question, call [`relay`] until
+//! the client finds the board quiet. [`the_first_pass_may_begin`] says that the first pass may
+//! begin, and [`clients_leave_it_ready`] that clients do not hinder the next one. The other names
+//! are there to write another worker with.
 #![tactic(auto)]
 
 mod desk;

@@ -1,12 +1,13 @@
 //! One worker at a hub, and clients: the worker carries on what is in flight.
 //!
-//! It visits the nodes once, in the order of their numbers. The readers of a node have greater numbers, so nothing is
-//! sent to a node that was already visited. At an arrange node all that the input frontier has passed is given in one piece.
-//! So a join has at most one bundle waiting at each port when the pass comes to it, and afterwards it has taken all that its
-//! sources gave.
+//! It visits the nodes once, in the order of their numbers. The readers of a node have greater
+//! numbers, so nothing is sent to a node that was already visited. At an arrange node all that the
+//! input frontier has passed is given in one piece. So a join has at most one bundle waiting at
+//! each port when the pass comes to it, and afterwards it has taken all that its sources gave.
 //!
-//! Clients may act between any two steps. What they feed waits at an input, and if the pass was there already, then it waits for
-//! the next pass. All else that a step found before they acted is as right after it (`steps`).
+//! Clients may act between any two steps. What they feed waits at an input, and if the pass was
+//! there already, then it waits for the next pass. All else that a step found before they acted is
+//! as right after it (`steps`).
 ghost use Rattle.std.specs.Prelude.{◌≡◌, IfErr, OnOk};
 ghost use Rattle.machine.specs.Histories.Readings.{IsQuiet};
 ghost use Rattle.shared_board.specs.Found.{dataflow_of};
@@ -30,20 +31,23 @@ use std::alloc::Global;
 use std::sync::Wait;
 use update::Refusal;
 
-/// One pass of the only worker of a board: it carries on through the plan what was in flight when it came to each node. If no
-/// client changed anything meanwhile, then all is quiet afterwards. A client asks by `is_quiet`. The plan and the routing are
-/// those of the board.
+/// One pass of the only worker of a board: it carries on through the plan what was in flight when
+/// it came to each node. If no client changed anything meanwhile, then all is quiet afterwards. A
+/// client asks by `is_quiet`. The plan and the routing are those of the board.
 ///
-/// - [`Refusal::Overflow`] only if, with the changes that the worker has seen, some node has no bound below 2^63.
+/// - [`Refusal::Overflow`] only if, with the changes that the worker has seen, some node has no
+///   bound below 2^63.
 /// - [`Refusal::OutOfMemory`] only if memory was refused.
 ///
 /// After a refusal the desk is of no further use.
 ///
-/// Each step waits until the board is at home. The pass does not end while clients feed an input faster than the worker takes.
+/// Each step waits until the board is at home. The pass does not end while clients feed an input
+/// faster than the worker takes.
 ///
-/// Cost: linear in the nodes, plus what each node costs. A linear node costs its updates, and n log n of them where it is a
-/// `concat` of two sources. An arrange node sorts what has passed, and merges batches. A join costs n log n in the pairs
-/// that it makes, also in those that cancel. A reduction costs what crate `reduce` says.
+/// Cost: linear in the nodes, plus what each node costs. A linear node costs its updates, and n log
+/// n of them where it is a `concat` of two sources. An arrange node sorts what has passed, and
+/// merges batches. A join costs n log n in the pairs that it makes, also in those that cancel. A
+/// reduction costs what crate `reduce` says.
 pub fn relay<T: Minimum, P: BoardProtocol<T>, R: Wait>(
     alloc: Global,
     rt: &R,

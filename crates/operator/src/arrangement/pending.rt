@@ -1,5 +1,5 @@
-//! The updates that wait until a frontier has passed their times. The least of these times are kept beside them, so
-//! that nobody goes through all updates to ask which times are still held.
+//! The updates that wait until a frontier has passed their times. The least of these times are kept
+//! beside them, so that nobody goes through all updates to ask which times are still held.
 ghost use Rattle.std.specs.Prelude.{◌≡◌, ◌≤◌, ◌∷◌, ◌++◌, [], List, ℤ, Bool, IfOk, IfErr, OnOk, OnErr, IsTrue};
 ghost use Rattle.std.specs.List.{list_all};
 ghost use Rattle.lattice.specs.Frontiers.{all_beyond};
@@ -19,8 +19,8 @@ use std::alloc::Global;
 use std::marker::Model;
 use update::{Refusal, Update};
 
-/// Updates of one worker at one node, with the least of their times. A contract sees both numbers, and the updates in
-/// the order in which they came.
+/// Updates of one worker at one node, with the least of their times. A contract sees both numbers,
+/// and the updates in the order in which they came.
 #[derive(Drop)]
 pub(crate) struct Waiting<T: Lattice> {
     worker: usize,
@@ -80,7 +80,8 @@ impl<T: Lattice> Waiting<T> {
 }
 
 impl<T: Minimum> Waiting<T> {
-    // Seals copies of the updates that the upper frontier has passed, and only then drops them here.
+    // Seals copies of the updates that the upper frontier has passed, and only then drops them
+    // here.
     pub(crate) fn seal(&mut self, lower: &[T], upper: &Antichain<T>) -> Result<Batch<T>, Refusal>
         requires frontier { IsFrontier T.below T.cmp lower.now }
         requires interval { IsTrue (is_interval_of T.below lower.now upper.now

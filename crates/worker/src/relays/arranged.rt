@@ -1,5 +1,6 @@
-//! Arrange nodes: what comes waits in the arrangement, and the worker holds its times. Once the input frontier has passed
-//! some of it, that is sealed, given in one piece, and inserted into the spine.
+//! Arrange nodes: what comes waits in the arrangement, and the worker holds its times. Once the
+//! input frontier has passed some of it, that is sealed, given in one piece, and inserted into the
+//! spine.
 ghost use Rattle.std.specs.Prelude.{◌≡◌, ◌<◌, ℕ, suc, Some, false, IfErr, IfOk, OnOk, length, slice_get};
 ghost use Rattle.plan.specs.declared.node.Node.TheVariants.{Arrange};
 ghost use Rattle.machine.specs.Histories.Dataflows.{node_of};
@@ -19,8 +20,9 @@ use std::alloc::Global;
 use std::sync::Wait;
 use update::Refusal;
 
-/// Takes the first bundle that waits at an arrange node, if there is one. It waits in the arrangement from then on, and the
-/// worker holds its times. The answer is whether more bundles wait.
+/// Takes the first bundle that waits at an arrange node, if there is one. It waits in the
+/// arrangement from then on, and the worker holds its times. The answer is whether more bundles
+/// wait.
 pub(crate) fn absorb<T: Minimum, P: BoardProtocol<T>, R: Wait>(
     alloc: Global,
     rt: &R,
@@ -61,9 +63,9 @@ pub(crate) fn absorb<T: Minimum, P: BoardProtocol<T>, R: Wait>(
     Ok(more)
 }
 
-/// Gives what waits at an arrange node and the node's input frontier has passed, in one piece, and keeps it in the spine.
-/// `upper` is that frontier. It is the last step at the node: no bundle waits there. Afterwards each join that reads the node
-/// has one bundle waiting, or none.
+/// Gives what waits at an arrange node and the node's input frontier has passed, in one piece, and
+/// keeps it in the spine. `upper` is that frontier. It is the last step at the node: no bundle
+/// waits there. Afterwards each join that reads the node has one bundle waiting, or none.
 pub(crate) fn settle<T: Minimum, P: BoardProtocol<T>, R: Wait>(
     alloc: Global,
     rt: &R,
@@ -148,8 +150,9 @@ fn absorb_all<T: Minimum, P: BoardProtocol<T>, R: Wait>(
     unreachable!()
 }
 
-/// Takes all that waits at an arrange node, and gives what the node's input frontier has passed. Then the pass goes on to the
-/// next node. `_start` is not used: generic code with a local antichain needs the type in its signature.
+/// Takes all that waits at an arrange node, and gives what the node's input frontier has passed.
+/// Then the pass goes on to the next node. `_start` is not used: generic code with a local
+/// antichain needs the type in its signature.
 pub(crate) fn relay_arranged<T: Minimum, P: BoardProtocol<T>, R: Wait>(
     alloc: Global,
     rt: &R,

@@ -1,5 +1,6 @@
-//! Joins: what an arrange node gave waits at each port that reads it, as one bundle. It is paired with all that the
-//! other side has taken, the pairs are given, and the join's hold moves on to where the spine of this side has come.
+//! Joins: what an arrange node gave waits at each port that reads it, as one bundle. It is paired
+//! with all that the other side has taken, the pairs are given, and the join's hold moves on to
+//! where the spine of this side has come.
 ghost use Rattle.std.specs.Prelude.{◌≡◌, ◌<◌, ◌+◌, ◌-◌, [], ◌∷◌, ℕ, suc, set, List, Some, false, IfErr, IfOk, IsTrue, OnOk, length, slice_get};
 ghost use Rattle.update.specs.declared.refusal.Refusal.TheVariants.{OutOfMemory};
 ghost use Rattle.update.specs.declared.change.Update.{Update};
@@ -69,8 +70,8 @@ fn acknowledge_at<T: Minimum>(
     }
 }
 
-// Pairs a bundle that was taken at the left port with what the right side has taken. `upper` is where the left spine
-// has come.
+// Pairs a bundle that was taken at the left port with what the right side has taken. `upper` is
+// where the left spine has come.
 fn pair_left<T: Minimum, P: BoardProtocol<T>>(
     alloc: Global,
     worker: &Actor<T, P>,
@@ -111,11 +112,13 @@ fn pair_left<T: Minimum, P: BoardProtocol<T>>(
     joining.take_left(alloc, updates.into_vec(), upper, other)
 }
 
-/// Pairs a bundle that was taken at the left port of a join with what the right side has taken, and gives the pairs.
-/// `arrangements` has the arrangement of each arrange node, by node. Both sides may read one of them. `_start` is not
-/// used: generic code with a local antichain needs the type in its signature.
+/// Pairs a bundle that was taken at the left port of a join with what the right side has taken, and
+/// gives the pairs. `arrangements` has the arrangement of each arrange node, by node. Both sides
+/// may read one of them. `_start` is not used: generic code with a local antichain needs the type
+/// in its signature.
 ///
-/// - [`Refusal::Overflow`] only if some node has no bound below 2^63 with the changes that the worker has seen.
+/// - [`Refusal::Overflow`] only if some node has no bound below 2^63 with the changes that the
+///   worker has seen.
 /// - [`Refusal::OutOfMemory`] only if memory was refused.
 ///
 /// Cost: as for [`Joining::take_left`].
@@ -182,8 +185,8 @@ pub(crate) fn take_left<T: Minimum, P: BoardProtocol<T>, R: Wait>(
     give_on(alloc, rt, routing, worker, pairs, Vec::new(alloc))
 }
 
-// Pairs a bundle that was taken at the right port with what the left side has taken. `upper` is where the right spine
-// has come.
+// Pairs a bundle that was taken at the right port with what the left side has taken. `upper` is
+// where the right spine has come.
 fn pair_right<T: Minimum, P: BoardProtocol<T>>(
     alloc: Global,
     worker: &Actor<T, P>,
@@ -224,10 +227,11 @@ fn pair_right<T: Minimum, P: BoardProtocol<T>>(
     joining.take_right(alloc, updates.into_vec(), upper, other)
 }
 
-/// Pairs a bundle that was taken at the right port of a join with what the left side has taken, and gives the pairs. It
-/// is [`take_left`] with both sides exchanged.
+/// Pairs a bundle that was taken at the right port of a join with what the left side has taken, and
+/// gives the pairs. It is [`take_left`] with both sides exchanged.
 ///
-/// - [`Refusal::Overflow`] only if some node has no bound below 2^63 with the changes that the worker has seen.
+/// - [`Refusal::Overflow`] only if some node has no bound below 2^63 with the changes that the
+///   worker has seen.
 /// - [`Refusal::OutOfMemory`] only if memory was refused.
 ///
 /// Cost: as for [`Joining::take_right`].
@@ -294,8 +298,8 @@ pub(crate) fn take_right<T: Minimum, P: BoardProtocol<T>, R: Wait>(
     give_on(alloc, rt, routing, worker, pairs, Vec::new(alloc))
 }
 
-// Takes the first bundle that waits at a join, if there is one, and gives its pairs. The answer is whether more bundles
-// wait.
+// Takes the first bundle that waits at a join, if there is one, and gives its pairs. The answer is
+// whether more bundles wait.
 fn take_one<T: Minimum, P: BoardProtocol<T>, R: Wait>(
     alloc: Global,
     rt: &R,
@@ -367,8 +371,8 @@ fn take_one<T: Minimum, P: BoardProtocol<T>, R: Wait>(
     Ok(more)
 }
 
-/// Takes all that waits at a join, and gives its pairs. The worker holds nothing there. Then the pass goes on to the next
-/// node.
+/// Takes all that waits at a join, and gives its pairs. The worker holds nothing there. Then the
+/// pass goes on to the next node.
 pub(crate) fn relay_joined<T: Minimum, P: BoardProtocol<T>, R: Wait>(
     alloc: Global,
     rt: &R,

@@ -1,4 +1,5 @@
-//! One node of a pass: all that waits there is taken, and what its input frontier has passed is given.
+//! One node of a pass: all that waits there is taken, and what its input frontier has passed is
+//! given.
 ghost use Rattle.std.specs.Prelude.{◌≡◌, ◌<◌, ℕ, suc, IfErr, OnOk, length};
 ghost use Rattle.plan.specs.declared.node.Kind.{Kind};
 ghost use Rattle.plan.specs.declared.node.Node.TheVariants.{Arrange, Join, Reduce};
@@ -127,8 +128,8 @@ fn visit_joined<T: Minimum, P: BoardProtocol<T>, R: Wait>(
     }
 }
 
-/// Takes all that waits at a node, and gives all that its input frontier has passed there. Afterwards the pass has come
-/// to the next node. `plan` is that of the board.
+/// Takes all that waits at a node, and gives all that its input frontier has passed there.
+/// Afterwards the pass has come to the next node. `plan` is that of the board.
 pub(crate) fn relay_node<T: Minimum, P: BoardProtocol<T>, R: Wait>(
     alloc: Global,
     rt: &R,

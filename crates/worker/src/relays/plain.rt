@@ -1,9 +1,10 @@
-//! Linear nodes that are not arranged. All that waits at such a node is taken, bundle by bundle, and what the node makes
-//! of it is gathered. Until the last bundle is taken the worker gives nothing and holds the times of what it gathered.
-//! Then it gives everything in one piece. So later nodes see few large bundles, however many small ones came.
+//! Linear nodes that are not arranged. All that waits at such a node is taken, bundle by bundle,
+//! and what the node makes of it is gathered. Until the last bundle is taken the worker gives
+//! nothing and holds the times of what it gathered. Then it gives everything in one piece. So later
+//! nodes see few large bundles, however many small ones came.
 //!
-//! A node with two sources may get the same updates at both ports. There the piece is consolidated, so a tower of such
-//! nodes does not grow with each floor.
+//! A node with two sources may get the same updates at both ports. There the piece is consolidated,
+//! so a tower of such nodes does not grow with each floor.
 ghost use Rattle.std.specs.Prelude.{◌≡◌, ◌<◌, ◌++◌, ℕ, suc, [], None, Some, IfErr, IfOk, IfSome, IsTrue, OnOk, List, length};
 ghost use Rattle.lattice.specs.Frontiers.{is_beyond};
 ghost use Rattle.update.specs.declared.change.Update.{Update};
@@ -29,8 +30,8 @@ use std::alloc::Global;
 use std::sync::Wait;
 use update::{Refusal, Update, consolidate};
 
-// Takes the first bundle that waits at a node, and returns what the node makes of it. The worker then has the node in hand. With
-// it comes whether more bundles wait. `None` if no bundle waits.
+// Takes the first bundle that waits at a node, and returns what the node makes of it. The worker
+// then has the node in hand. With it comes whether more bundles wait. `None` if no bundle waits.
 fn take_in<T: Minimum, P: BoardProtocol<T>, R: Wait>(
     rt: &R,
     worker: &mut Actor<T, P>,
@@ -73,8 +74,8 @@ fn take_in<T: Minimum, P: BoardProtocol<T>, R: Wait>(
     Ok(Some((out, more)))
 }
 
-// Holds back what is gathered, whose least times are the front, and gathers what the node makes of one bundle more. The answer
-// is whether more bundles wait.
+// Holds back what is gathered, whose least times are the front, and gathers what the node makes of
+// one bundle more. The answer is whether more bundles wait.
 fn gather_more<T: Minimum, P: BoardProtocol<T>, R: Wait>(
     alloc: Global,
     rt: &R,
@@ -120,7 +121,8 @@ fn gather_more<T: Minimum, P: BoardProtocol<T>, R: Wait>(
     Ok(more)
 }
 
-// Gathers what a linear node makes of all that waits there. The worker then has the node in hand. `None` if nothing waits.
+// Gathers what a linear node makes of all that waits there. The worker then has the node in hand.
+// `None` if nothing waits.
 fn gather<T: Minimum, P: BoardProtocol<T>, R: Wait>(
     alloc: Global,
     rt: &R,
@@ -216,14 +218,15 @@ fn give_all<T: Minimum, P: BoardProtocol<T>, R: Wait>(
     give_on(alloc, rt, routing, worker, emission, Vec::new(alloc))
 }
 
-/// Carries all that waits at a linear node on, in one piece. Then the pass goes on to the next node. The worker keeps
-/// nothing at this one. `operator` is the node.
+/// Carries all that waits at a linear node on, in one piece. Then the pass goes on to the next
+/// node. The worker keeps nothing at this one. `operator` is the node.
 ///
-/// - [`Refusal::Overflow`] only if some node has no bound below 2^63 with the changes that the worker has seen.
+/// - [`Refusal::Overflow`] only if some node has no bound below 2^63 with the changes that the
+///   worker has seen.
 /// - [`Refusal::OutOfMemory`] only if memory was refused.
 ///
-/// Cost: linear in the updates, and for each bundle the least times of those before it. At a node with two sources n
-/// log n comparisons in the number of updates.
+/// Cost: linear in the updates, and for each bundle the least times of those before it. At a node
+/// with two sources n log n comparisons in the number of updates.
 pub(crate) fn relay_plain<T: Minimum, P: BoardProtocol<T>, R: Wait>(
     alloc: Global,
     rt: &R,

@@ -1,5 +1,6 @@
-//! Reductions: the times of what comes are pending, and the worker holds the least of them. Once the input frontier has passed
-//! some of them, the answers at these times are computed from the spine of the source, and given in one piece.
+//! Reductions: the times of what comes are pending, and the worker holds the least of them. Once
+//! the input frontier has passed some of them, the answers at these times are computed from the
+//! spine of the source, and given in one piece.
 ghost use Rattle.std.specs.Prelude.{◌≡◌, ◌<◌, ℕ, suc, [], ◌∷◌, Some, false, IfErr, IfOk, OnOk, length, slice_get};
 ghost use Rattle.plan.specs.declared.node.Kind.{Kind};
 ghost use Rattle.plan.specs.declared.node.Node.TheVariants.{Reduce};
@@ -20,10 +21,12 @@ use std::alloc::Global;
 use std::sync::Wait;
 use update::Refusal;
 
-/// Takes the first bundle that waits at a reduction, if there is one. Its times are pending from then on, and the worker holds
-/// the least pending times. The answer is whether more bundles wait. `start` is the frontier of the least time.
+/// Takes the first bundle that waits at a reduction, if there is one. Its times are pending from
+/// then on, and the worker holds the least pending times. The answer is whether more bundles wait.
+/// `start` is the frontier of the least time.
 ///
-/// - [`Refusal::Overflow`] only if some node has no bound below 2^63 with the changes that the worker has seen.
+/// - [`Refusal::Overflow`] only if some node has no bound below 2^63 with the changes that the
+///   worker has seen.
 /// - [`Refusal::OutOfMemory`] only if memory was refused.
 ///
 /// Cost: as for [`Reducing::take`] and [`Reducing::held`].
@@ -69,11 +72,13 @@ pub(crate) fn absorb<T: Minimum, P: BoardProtocol<T>, R: Wait>(
     Ok(more)
 }
 
-/// Gives the answers of a reduction at the pending times that the node's input frontier has passed. `upper` is that frontier.
-/// Afterwards the worker holds the least of the times that are still pending. Nothing is sent to the node itself. `source` is
-/// the arrangement of the node that the reduction reads.
+/// Gives the answers of a reduction at the pending times that the node's input frontier has passed.
+/// `upper` is that frontier. Afterwards the worker holds the least of the times that are still
+/// pending. Nothing is sent to the node itself. `source` is the arrangement of the node that the
+/// reduction reads.
 ///
-/// - [`Refusal::Overflow`] only if some node has no bound below 2^63 with the changes that the worker has seen.
+/// - [`Refusal::Overflow`] only if some node has no bound below 2^63 with the changes that the
+///   worker has seen.
 /// - [`Refusal::OutOfMemory`] only if memory was refused.
 ///
 /// Cost: as for [`Reducing::ready`] and [`Reducing::held`].
@@ -162,8 +167,9 @@ fn absorb_all<T: Minimum, P: BoardProtocol<T>, R: Wait>(
     unreachable!()
 }
 
-/// Takes all that waits at a reduction, and gives the answers at the times that the node's input frontier has passed. Then the
-/// pass goes on to the next node. `source` is the arrangement of the node that the reduction reads.
+/// Takes all that waits at a reduction, and gives the answers at the times that the node's input
+/// frontier has passed. Then the pass goes on to the next node. `source` is the arrangement of the
+/// node that the reduction reads.
 pub(crate) fn relay_reduced<T: Minimum, P: BoardProtocol<T>, R: Wait>(
     alloc: Global,
     rt: &R,

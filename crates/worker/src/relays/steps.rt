@@ -1,8 +1,10 @@
-//! The steps of the only worker at a hub: each is one tenure, and clients may act between any two of them.
+//! The steps of the only worker at a hub: each is one tenure, and clients may act between any two
+//! of them.
 //!
-//! Each step says what clients may have done before it. A step that takes finds a state to which clients led from the one that
-//! the worker left (`DoClientsLead`). A step that gives leaves a state as if the clients had come afterwards (`IsLeftBy`). What a
-//! worker keeps is right in all these states alike, so its computing knows nothing of entries and tenures.
+//! Each step says what clients may have done before it. A step that takes finds a state to which
+//! clients led from the one that the worker left (`DoClientsLead`). A give commutes with what
+//! clients did before it (`IsLeftBy`). What a worker keeps is right in all these states alike, so
+//! its computing knows nothing of entries and tenures.
 ghost use Rattle.std.specs.Prelude.{◌≡◌, ◌≢◌, ◌<◌, ℕ, [], false, None, Some, IfErr, IfOk, IfSome, IsTrue, OnOk, OnErr, length};
 ghost use Rattle.std.specs.List.{list_any};
 ghost use Rattle.update.specs.declared.refusal.Refusal.TheVariants.{OutOfMemory};
@@ -27,8 +29,8 @@ use std::alloc::Global;
 use std::sync::Wait;
 use update::Refusal;
 
-/// Takes the first bundle that waits at a node. With it comes whether more wait there. `None` if no bundle waits. Refused only
-/// with `OutOfMemory`.
+/// Takes the first bundle that waits at a node. With it comes whether more wait there. `None` if no
+/// bundle waits. Refused only with `OutOfMemory`.
 pub(crate) fn take_at<T: Minimum, P: BoardProtocol<T>, R: Wait>(
     rt: &R,
     worker: &mut Actor<T, P>,
@@ -59,8 +61,8 @@ pub(crate) fn take_at<T: Minimum, P: BoardProtocol<T>, R: Wait>(
     found
 }
 
-/// Turns to the times that the worker holds at a node, if the node's input frontier has passed one of them. The answer is that
-/// frontier. Refused only with `OutOfMemory`.
+/// Turns to the times that the worker holds at a node, if the node's input frontier has passed one
+/// of them. The answer is that frontier. Refused only with `OutOfMemory`.
 pub(crate) fn turn_at<T: Minimum, P: BoardProtocol<T>, R: Wait>(
     rt: &R,
     worker: &mut Actor<T, P>,
@@ -92,8 +94,9 @@ pub(crate) fn turn_at<T: Minimum, P: BoardProtocol<T>, R: Wait>(
     found
 }
 
-/// Cuts what the worker computed into bundles and gives it. The worker holds these times at the node from then on. The give must
-/// be allowed in the state that the worker left. Refused only with `OutOfMemory`.
+/// Cuts what the worker computed into bundles and gives it. The worker holds these times at the
+/// node from then on. The give must be allowed in the state that the worker left. Refused only with
+/// `OutOfMemory`.
 pub(crate) fn give_on<T: Minimum, P: BoardProtocol<T>, R: Wait>(
     alloc: Global,
     rt: &R,
@@ -134,8 +137,9 @@ pub(crate) fn give_on<T: Minimum, P: BoardProtocol<T>, R: Wait>(
     }
 }
 
-/// Gives nothing, so that the piece in hand is done. The worker holds these times at the node from then on. The give must be
-/// allowed in the state that the worker left. Refused only with `OutOfMemory`.
+/// Gives nothing, so that the piece in hand is done. The worker holds these times at the node from
+/// then on. The give must be allowed in the state that the worker left. Refused only with
+/// `OutOfMemory`.
 pub(crate) fn hold_back<T: Minimum, P: BoardProtocol<T>, R: Wait>(
     alloc: Global,
     rt: &R,

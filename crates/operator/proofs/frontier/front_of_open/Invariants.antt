@@ -4,7 +4,8 @@ use Rattle.batch.specs.Intervals.{open_updates}
 use Rattle.operator.specs.Arrangements.{times_of}
 use Rattle.operator.proofs.frontier.front_of_open.Given as goal
 
--- a time is beyond the front so far or an open update that is still to come, or else it is beyond none of them
+-- a time is beyond the front so far or an open update that is still to come, or else it is beyond
+-- none of them
 abbrev pub invariant-loop-update : goal.invariant-loop-update
 invariant-loop-update g l =
     let below = g.T.PartialOrder.below in

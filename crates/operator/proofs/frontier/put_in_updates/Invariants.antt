@@ -3,7 +3,8 @@ use Rattle.lattice.specs.Frontiers.{is_beyond}
 use Rattle.operator.specs.Arrangements.{times_of}
 use Rattle.operator.proofs.frontier.put_in_updates.Given as goal
 
--- a time is beyond the front so far or an update that is still to come, or else it is beyond none of them
+-- a time is beyond the front so far or an update that is still to come, or else it is beyond none
+-- of them
 abbrev pub invariant-loop-update : goal.invariant-loop-update
 invariant-loop-update g l =
     let below = g.T.PartialOrder.below in

@@ -8,7 +8,8 @@ use Rattle.worker.specs.Relays.{IsCalm, IsGatheringOn, IsRunning, IsSameActor, I
 use Rattle.shared_board.specs.Tenures.{WaitsOrNotIn, state_left}
 use Rattle.worker.proofs.relays.plain.gather.Given as goal
 
--- what the bundles so far gave is gathered, and the front has its least times; and what was settled still is if no client acted
+-- what the bundles so far gave is gathered, and the front has its least times; and what was settled
+-- still is if no client acted
 abbrev pub invariant-loop : goal.invariant-loop
 invariant-loop g l = record {
   gathered : (d : DeskState g.row.T.Denot) → IsRunning g.T.PartialOrder.below g.T.Lattice.joined g.T.Minimum.least l.fn.worker d l.fn.node
