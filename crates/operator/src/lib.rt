@@ -19,11 +19,11 @@
 mod arrangement;
 mod frontier;
 mod insertion;
-mod join;
+mod joins;
 mod reduction;
 
-pub use crate::join::Joining;
 pub use arrangement::{Arrangement, what_is_taken_is_up_to_a_boundary};
 pub use frontier::{front_with, put_in_updates};
 pub use insertion::{keep, updates_of};
+pub use joins::Joining;
 pub use reduction::Reducing;

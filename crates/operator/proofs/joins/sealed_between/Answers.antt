@@ -5,7 +5,7 @@ use Rattle.batch.specs.Descriptions.{DescriptionState, BatchState, BuilderState}
 use Rattle.batch.specs.Intervals.{is_interval_of}
 use Rattle.join.proofs.LargeLemmas.{large_size}
 use Rattle.operator.proofs.JoinAnswerLemmas.{sealed_stands, seal_refused}
-use Rattle.operator.proofs.join.sealed_between.Goals as goal
+use Rattle.operator.proofs.joins.sealed_between.Goals as goal
 
 pub returns-clause-lower : goal.returns-clause-lower
 returns-clause-lower g c =

@@ -1,5 +1,5 @@
 use Rattle.antichain.proofs.AntichainLemmas.{frontier_one_time}
-use Rattle.operator.proofs.join.least_time.Goals as goal
+use Rattle.operator.proofs.joins.least_time.Goals as goal
 
 pub returns-clause-frontier : goal.returns-clause-frontier
 returns-clause-frontier g c =

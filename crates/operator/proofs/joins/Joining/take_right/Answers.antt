@@ -11,7 +11,7 @@ use Rattle.operator_laws.specs.Joining.{IsAnswer}
 use Rattle.operator.specs.Joins.{JoiningView, IsSide, IsFitting}
 use Rattle.operator.proofs.JoinAnswerLemmas.{right_answers, either_way, grown_right, wide_rows, right_rows_fit, rows_of_batch, pair_width, times_read}
 use Rattle.operator.proofs.JoinSideLemmas.{side_inserted}
-use Rattle.operator.proofs.join.Joining.take_right.Goals as goal
+use Rattle.operator.proofs.joins.Joining.take_right.Goals as goal
 
 pub returns-in_err-batch-clause-refused : goal.returns-in_err-batch-clause-refused
 returns-in_err-batch-clause-refused g c =
