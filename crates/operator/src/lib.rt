@@ -6,14 +6,14 @@
 //! their own: they read the spine of an arrangement, where each join has a hold for each side
 //! (McSherry et al., Shared Arrangements, VLDB 2020).
 //!
-//! What comes to a node may be in any order, and may cancel one another; it is sealed into batches
-//! here. Whatever must wait is kept back by the least of its times, which [`front_with`] and
-//! [`put_in_updates`] find.
+//! Updates come to a node in any order, and they may cancel one another. They are sealed into
+//! batches here. For updates that must wait, the worker holds back the least of their times
+//! ([`front_with`], [`put_in_updates`]).
 //!
-//! A call here is no event: the worker makes it between two of them, and nobody else sees what it
-//! does. For which states of the machine the answers are right, and what may be given of them, say
-//! the laws (crate `operator_laws`), whose words `IsAnswer` and `IsPendingWith` these contracts
-//! use.
+//! A call here is not an event of the machine. The worker makes it between two events, and nobody
+//! else sees what it does. Crate `operator_laws` says in which states of the machine the answers
+//! are right, and what may be given of them. It stands below this crate, since these contracts use
+//! its words `IsAnswer`, `IsPendingWith` and `on_top`.
 #![tactic(auto)]
 
 mod arrangement;

@@ -5,10 +5,10 @@
 //! far. [`open`] makes an [`Actor`] for each worker and each client. Each of its calls is one
 //! tenure and one event, and the answer is right for all that was done by then.
 //!
-//! An actor knows what it has seen, and in the clauses of a call this is all it answers for: the
-//! state that it found, and the state that it left. The laws of sharing say what an actor need not
-//! mind of the others. All of it holds for any number of workers and clients. What a worker
-//! computes between two tenures stands elsewhere (crates `operator` and `worker`).
+//! An actor knows what it has seen. The clauses of a call are about the state that the call found
+//! and the state that it left. The laws of sharing say which events of other actors do not matter.
+//! All of this holds for any number of workers and clients. A worker computes between two tenures,
+//! without the board (crates `operator` and `worker`).
 #![tactic(auto)]
 
 mod actor;

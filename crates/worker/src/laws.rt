@@ -1,5 +1,5 @@
-//! What a worker may count on between two passes: it is ready for the first one, and clients leave
-//! it ready. The functions do nothing.
+//! The worker is ready for its first pass, and clients leave it ready for the next one. The
+//! functions do nothing.
 ghost use Rattle.std.specs.Prelude.{◌≡◌, ℕ};
 ghost use Rattle.hub.specs.Known.{Known};
 ghost use Rattle.machine.specs.Histories.Dataflows.{Dataflow, IsDataflow};

@@ -1,16 +1,16 @@
 //! Worker: one worker that carries on what clients feed to a board.
 //!
-//! A worker takes bundles, computes, and gives. What it computes with at one node is in crate
-//! `operator`, the board that it shares with clients through a hub is in `shared_board`, and
-//! `operator_laws` says which gives are allowed. Here they come together. This crate hands on the
-//! public names of these three, so that a caller needs no other one.
+//! A worker takes bundles, computes, and gives. Crate `operator` has what it keeps at one node and
+//! computes there. `shared_board` has the board that it shares with clients through a hub.
+//! `operator_laws` says which gives are allowed. Here the three come together, and their names are
+//! handed on, so that a caller imports this crate alone.
 //!
 //! [`relay`] is the only worker of a board. It passes once over all nodes, and if no client changed
 //! anything meanwhile, then all is quiet afterwards. What the worker keeps between two passes is a
 //! [`Desk`]: the arrangement, reduction or join of each node, with a hold for each side of a join
 //! at the spine that it reads.
 //!
-//! To run a plan, call [`open`] and [`Desk::open`] once. Before each question, call [`relay`] until
+//! To run a plan, call [`open`] and [`Desk::open`] once; before each question call [`relay`] until
 //! the client finds the board quiet. [`the_first_pass_may_begin`] says that the first pass may
 //! begin, and [`clients_leave_it_ready`] that clients do not hinder the next one. The other names
 //! are there to write another worker with.
