@@ -3,7 +3,6 @@ ghost use Rattle.std.specs.Prelude.{◌≡◌, ◌≢◌, ℕ, List, [], ◌∷�
 ghost use Rattle.lattice.specs.Frontiers.{all_beyond};
 ghost use Rattle.update.specs.Bags.{Alike};
 ghost use Rattle.update.specs.Updates.{as_of};
-ghost use Rattle.update.specs.declared.change.Update.{Update};
 ghost use Rattle.plan.specs.Changes.{has_passed};
 ghost use Rattle.plan.specs.Nodes.{arranged_by};
 ghost use Rattle.machine.specs.declared.histories.event.Bundle.{Bundle};
@@ -16,7 +15,6 @@ ghost use Rattle.machine.specs.Histories.States.{State, emitted_by};
 ghost use Rattle.machine.specs.Histories.NodeLaws.{received_at};
 ghost use Rattle.machine.specs.Histories.Readings.{IsQuiet};
 ghost use Rattle.machine.specs.Histories.{initial_state, next_state, give_state, state_after, input_frontier_after, IsTake, IsGive, IsAllowed, IsLegal};
-ghost use Rattle.machine.specs.Boards.{BoardState, Stands};
 ghost use Rattle.operator_laws.specs.Gathering.{IsCut};
 ghost use Rattle.operator_laws.specs.Working.{Works, IsWorking, IsWorkingAt, IsSameBut, IsForNoJoin, first_works, is_by, still_to_give};
 
