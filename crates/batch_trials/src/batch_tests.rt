@@ -96,6 +96,25 @@ fn strays_and_large_totals_are_refused(rt: HostRuntime) -> Result<(), Fail> {
     Ok(())
 }
 
+// Memory is ample here, so a total that is too large is not told as want of memory. The updates stay
+// in the builder. Two batches that follow one another have no time in common, so no merge of them can
+// have such a total.
+#[test]
+fn a_seal_of_what_is_passed_tells_large_totals(rt: HostRuntime) -> Result<(), Fail> {
+    let large = list(
+        rt.alloc(),
+        &[((0, 3), &[7], 9223372036854775807), ((0, 3), &[7], 1)],
+    )?;
+    let mut builder = Builder::of(0, 0, large);
+    let lower = Antichain::from_elem(rt.alloc(), at((0, 0)));
+    let upper = Antichain::from_elem(rt.alloc(), at((4, 4)));
+    let refused = builder.seal_passed(&lower, &upper);
+    assert!(rt; matches!(refused, Err(Refusal::Overflow)));
+    let refused = builder.seal_passed(&lower, &upper);
+    assert!(rt; matches!(refused, Err(Refusal::Overflow)));
+    Ok(())
+}
+
 // The two batches leave a gap from (4, 4) to (4, 5), in which something may have happened.
 #[test]
 fn batches_with_a_gap_are_not_merged(rt: HostRuntime) -> Result<(), Fail> {
