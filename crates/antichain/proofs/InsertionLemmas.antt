@@ -152,7 +152,8 @@ module _ {T : Type 0} (below : T → T → Bool) where
         | false ↦ and_from _ _ (all_test_placed cmp (is_incomparable below x) t xs (incomparable_back t x apart.0) parts.0) (antichain_placed cmp t xs apart.1 parts.1)
       ]
 
-  -- a time that is not beyond the frontier cannot be compared with the elements that it is not at or before
+  -- a time that is not beyond the frontier cannot be compared with the elements that it is not at
+  -- or before
   pub apart_from_rest : (t : T) (xs : List T) → is_beyond below xs t ≡ false → IsTrue (list_all (is_incomparable below t) (not_above below t xs))
   apart_from_rest t xs h =
       all_from (is_incomparable below t) (not_above below t xs)
@@ -253,7 +254,8 @@ module _ {T : Type 0} {below : T → T → Bool} (order : PartialOrderLaws below
       ap (λ b. b || (below f s && is_beyond below rest s)) (e ∙ ap (λ b. b || is_beyond below F s) j)
       ∙ joins_turn (below f s) (below g s) (is_beyond below F s) (is_beyond below rest s) ∙ h
 
-  -- a step of the loop in `joined`: the joins of f with all elements of the other antichain have gone in
+  -- a step of the loop in `joined`: the joins of f with all elements of the other antichain have
+  -- gone in
   pub joined_step : (F G rest others : List T) (f s : T) (all : Bool) → is_beyond below G s ≡ (is_beyond below F s || (below f s && is_beyond below others s)) → (is_beyond below F s || (is_beyond below (f ∷ rest) s && is_beyond below others s)) ≡ all → (is_beyond below G s || (is_beyond below rest s && is_beyond below others s)) ≡ all
   joined_step F G rest others f s all e h =
       ap (λ b. b || (is_beyond below rest s && is_beyond below others s)) e

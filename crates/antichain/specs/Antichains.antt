@@ -1,5 +1,5 @@
--- Antichains, and the least of some times, each as a list of elements (Murray et al., Naiad, SOSP 2013, section 2.3;
--- Abadi and Isard, Timely Dataflow: A Model, 2015).
+-- Antichains, and the least of some times, each as a list of elements (Murray et al., Naiad, SOSP
+-- 2013, section 2.3; Abadi and Isard, Timely Dataflow: A Model, 2015).
 use Rattle.std.specs.Prelude.{Bool, true, not, ◌&&◌, ◌||◌, List, [], ◌∷◌, IsTrue, Contains}
 use Rattle.std.specs.List.{filter, list_all}
 use Rattle.std.specs.List.Sorted.{IsStrictlySortedBy}
@@ -28,7 +28,8 @@ module _ {T : Type 0} (below : T → T → Bool) where
   unfoldable pub least : List T → List T
   least times = filter (is_least times) times
 
-  -- an antichain in the order of sorting; of all lists with the same elements, a contract sees this one
+  -- an antichain in the order of sorting; of all lists with the same elements, a contract sees this
+  -- one
   pub record IsFrontier (cmp : T → T → Ordering) (times : List T) : Type 0 where
     pub antichain : IsTrue (is_antichain times)
     pub ascending : IsStrictlySortedBy cmp times

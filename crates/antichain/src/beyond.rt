@@ -1,5 +1,5 @@
-//! Whether times are beyond a frontier that is kept as a plain list, such as the frontiers in the description of a
-//! batch. [`Antichain`] asks the same of its elements.
+//! Whether times are beyond a frontier that is kept as a plain list, such as the frontiers in the
+//! description of a batch. [`Antichain`] asks the same of its elements.
 //!
 //! [`Antichain`]: crate::Antichain
 ghost use Rattle.std.specs.Prelude.{◌≡◌};
@@ -7,8 +7,8 @@ ghost use Rattle.lattice.specs.Frontiers.{is_beyond, all_beyond};
 
 use lattice::PartialOrder;
 
-/// Whether the time is beyond the frontier, which means that some element of the frontier is at or before the time.
-/// Otherwise the frontier has passed the time. Takes no memory.
+/// Whether the time is beyond the frontier, which means that some element of the frontier is at or
+/// before the time. Otherwise the frontier has passed the time. Takes no memory.
 ///
 /// Cost: one comparison for each element.
 pub fn is_beyond<T: PartialOrder>(frontier: &[T], t: &T) -> bool

@@ -1,6 +1,7 @@
-//! The steps of an insertion, as edits of the list of elements. First the elements that the new time makes superfluous
-//! are removed. If there are none, room is made for one more. Then the time is inserted at its place in `Ord` order.
-//! Only making room can be refused, and then nothing has changed.
+//! The steps of an insertion, as edits of the list of elements. First the elements that the new
+//! time makes superfluous are removed. If there are none, room is made for one more. Then the time
+//! is inserted at its place in `Ord` order. Only making room can be refused, and then nothing has
+//! changed.
 ghost use Rattle.std.specs.Prelude.{◌≡◌, ◌≤◌, length, OnOk, OnErr};
 ghost use Rattle.std.specs.List.{insert};
 ghost use Rattle.smallvec.specs.SmallVec.{small_vec_len, HasRoomFor};
@@ -10,8 +11,8 @@ use crate::NoMemory;
 use lattice::Lattice;
 use smallvec::SmallVec;
 
-// Inserts `t` into elements in `Ord` order, and removes those that it is at or before. Refused only if there are none
-// of these and there is no room.
+// Inserts `t` into elements in `Ord` order, and removes those that it is at or before. Refused only
+// if there are none of these and there is no room.
 pub(crate) fn insert_new<T: Lattice>(elements: &mut SmallVec<T, 4>, t: T) -> Result<(), NoMemory>
     ensures ok { OnOk result
         (elements.new.items ≡ insertion T.cmp t (not_above T.below t elements.old.items)) }
@@ -27,7 +28,8 @@ pub(crate) fn insert_new<T: Lattice>(elements: &mut SmallVec<T, 4>, t: T) -> Res
     Ok(())
 }
 
-// Removes the elements that `t` is at or before. If there are none, makes room for one more element.
+// Removes the elements that `t` is at or before. If there are none, makes room for one more
+// element.
 fn make_way<T: Lattice>(elements: &mut SmallVec<T, 4>, t: T) -> Result<(), NoMemory>
     ensures rest { OnOk result (elements.new.items ≡ not_above T.below t elements.old.items) }
     ensures room { OnOk result (HasRoomFor elements.new 1) }
@@ -53,7 +55,8 @@ fn remove_above<T: Lattice>(elements: &mut SmallVec<T, 4>, t: T)
     elements.retain(|e| !t.less_equal(e));
 }
 
-// The index of the first element that is greater than `t` in `Ord` order, or the length if there is none.
+// The index of the first element that is greater than `t` in `Ord` order, or the length if there is
+// none.
 fn place_of<T: Lattice>(elements: &[T], t: T) -> usize
     ensures within { result ≤ length elements.now }
     ensures place { insert elements.now result t ≡ insertion T.cmp t elements.now }

@@ -1,5 +1,5 @@
-//! The antichain itself. The elements are private. In every value no two of them can be compared and they are in `Ord`
-//! order, so a contract can name the list of elements and mean the set.
+//! The antichain itself. The elements are private. In every value no two of them can be compared
+//! and they are in `Ord` order, so a contract can name the list of elements and mean the set.
 ghost use Rattle.std.specs.Prelude.{◌≡◌, ◌+◌, ◌*◌, ◌<◌, ◌≤◌, ◌↔◌, not, ◌&&◌, ◌||◌, [], ◌∷◌, length, IsTrue, IsOk, IfOk, OnOk, OnErr};
 ghost use Rattle.std.specs.List.{list_all};
 ghost use Rattle.lattice.specs.Frontiers.{is_beyond, all_beyond};
@@ -13,8 +13,9 @@ use smallvec::SmallVec;
 use std::alloc::{AllocError, Global};
 use std::marker::Model;
 
-/// A set of times of which no two can be compared, as in timely dataflow. A contract sees the list of its elements in
-/// `Ord` order, so that equal sets are equal lists. Up to four elements take no memory.
+/// A set of times of which no two can be compared, as in timely dataflow. A contract sees the list
+/// of its elements in `Ord` order, so that equal sets are equal lists. Up to four elements take no
+/// memory.
 #[derive(Drop)]
 pub struct Antichain<T: Lattice> {
     elements: SmallVec<T, 4>,
@@ -54,11 +55,12 @@ impl<T: Lattice> Antichain<T> {
         }
     }
 
-    /// The least of the times, which may be given in any order and repeated. [`NoMemory`] only if there are more than
-    /// four times.
+    /// The least of the times, which may be given in any order and repeated. [`NoMemory`] only if
+    /// there are more than four times.
     ///
-    /// Cost: each time is compared with all elements held at that moment. There may be more of them on the way than in
-    /// the result, so the cost is linear in the number of times multiplied by the most elements that are ever held.
+    /// Cost: each time is compared with all elements held at that moment. There may be more of them
+    /// on the way than in the result, so the cost is linear in the number of times multiplied by
+    /// the most elements that are ever held.
     pub fn least_of(alloc: Global, times: &[T]) -> Result<Self, NoMemory>
         ensures least { IfOk result (λ frontier. SameElements frontier (least T.below times.now)) }
         ensures beyond { IfOk result (λ frontier. (s : T)
@@ -101,8 +103,8 @@ impl<T: Lattice> Antichain<T> {
         self.elements.is_empty()
     }
 
-    /// Whether the time is beyond the antichain, which means that some element is at or before it. Otherwise the
-    /// antichain has passed the time. Takes no memory.
+    /// Whether the time is beyond the antichain, which means that some element is at or before it.
+    /// Otherwise the antichain has passed the time. Takes no memory.
     ///
     /// Cost: one comparison for each element.
     pub fn less_equal(&self, t: &T) -> bool
@@ -111,8 +113,8 @@ impl<T: Lattice> Antichain<T> {
         is_beyond(self.elements.as_slice(), t)
     }
 
-    /// Whether this antichain is beyond the other: each of its elements is beyond the other, and so is each time beyond
-    /// it. The empty antichain is beyond every antichain. Takes no memory.
+    /// Whether this antichain is beyond the other: each of its elements is beyond the other, and so
+    /// is each time beyond it. The empty antichain is beyond every antichain. Takes no memory.
     ///
     /// Cost: one comparison for each pair of elements.
     pub fn is_beyond(&self, other: &Antichain<T>) -> bool
@@ -123,11 +125,11 @@ impl<T: Lattice> Antichain<T> {
         all_beyond(other.elements.as_slice(), self.elements.as_slice())
     }
 
-    /// Adds a time: the elements are then the least of the old elements and the time. Returns true if the time was not
-    /// beyond the antichain; otherwise nothing changes.
+    /// Adds a time: the elements are then the least of the old elements and the time. Returns true
+    /// if the time was not beyond the antichain; otherwise nothing changes.
     ///
-    /// [`NoMemory`] only if the set would grow past four elements, which means that there are at least four and none of
-    /// them can be compared with the time. Then nothing changes.
+    /// [`NoMemory`] only if the set would grow past four elements, which means that there are at
+    /// least four and none of them can be compared with the time. Then nothing changes.
     ///
     /// Cost: linear in the number of elements.
     pub fn insert(&mut self, t: T) -> Result<bool, NoMemory>
@@ -150,12 +152,13 @@ impl<T: Lattice> Antichain<T> {
         Ok(true)
     }
 
-    /// The antichain of the times that are beyond both: a time is beyond the result if and only if it is beyond this
-    /// antichain and beyond the other. [`NoMemory`] only if there are more than four pairs of elements.
+    /// The antichain of the times that are beyond both: a time is beyond the result if and only if
+    /// it is beyond this antichain and beyond the other. [`NoMemory`] only if there are more than
+    /// four pairs of elements.
     ///
-    /// Cost: the join of each pair of elements is compared with all elements held at that moment. There may be more of
-    /// them on the way than in the result, so the cost is linear in the number of pairs multiplied by the most elements
-    /// that are ever held.
+    /// Cost: the join of each pair of elements is compared with all elements held at that moment.
+    /// There may be more of them on the way than in the result, so the cost is linear in the number
+    /// of pairs multiplied by the most elements that are ever held.
     pub fn joined(&self, other: &Antichain<T>) -> Result<Antichain<T>, NoMemory>
         ensures beyond { IfOk result (λ both. (t : T)
             → is_beyond T.below both t

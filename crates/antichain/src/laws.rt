@@ -1,12 +1,13 @@
-//! Why a list can stand for a set, and the least of some times for all of them. The functions do nothing: they are
-//! called, or their clauses cited, for what they promise in every lattice.
+//! Why a list can stand for a set, and the least of some times for all of them. The functions do
+//! nothing: they are called, or their clauses cited, for what they promise in every lattice.
 ghost use Rattle.std.specs.Prelude.{◌≡◌, List, IsTrue};
 ghost use Rattle.lattice.specs.Frontiers.{is_beyond};
 ghost use Rattle.antichain.specs.Antichains.{SameElements, IsFrontier, is_antichain, least};
 
 use lattice::Lattice;
 
-/// A frontier, as a contract sees it, is determined by its elements, and also by the times that are beyond it.
+/// A frontier, as a contract sees it, is determined by its elements, and also by the times that are
+/// beyond it.
 pub fn frontiers_are_determined<T: Lattice>()
     ensures elements { (F G : List T) → IsFrontier T.below T.cmp F → IsFrontier T.below T.cmp G
         → SameElements F G → F ≡ G }
@@ -14,8 +15,8 @@ pub fn frontiers_are_determined<T: Lattice>()
         → ((t : T) → is_beyond T.below F t ≡ is_beyond T.below G t) → F ≡ G }
 {}
 
-/// The least of some times stand for all of them: the same times are beyond them. And they are the only antichain for
-/// which this is so.
+/// The least of some times stand for all of them: the same times are beyond them. And they are the
+/// only antichain for which this is so.
 pub fn least_elements_stand_for_all<T: Lattice>()
     ensures beyond { (times : List T) (t : T)
         → is_beyond T.below (least T.below times) t ≡ is_beyond T.below times t }

@@ -1,5 +1,6 @@
-//! The one refusal of this crate. The numbered list of refusals is in the crate `update`, which stands on this one. So
-//! this refusal has a type of its own, and `From` turns it into one of that list.
+//! The one refusal of this crate. The numbered list of refusals is in the crate `update`, which
+//! stands on this one. So this refusal has a type of its own, and `From` turns it into one of that
+//! list.
 ghost use Rattle.std.specs.Prelude.{◌≡◌};
 
 use std::alloc::{AllocError, AllocFailed};

@@ -41,7 +41,8 @@ module _ {T : Type 0} {below : T → T → Bool} (o : PartialOrderLaws below) wh
     all_wider A D C D (subst (λ E. IsTrue (all_beyond below A E)) e f) (beyond_itself o D) vs k,
   )
 
-  -- times beyond the lower frontier of the second of two neighbouring intervals are beyond that of the first
+  -- times beyond the lower frontier of the second of two neighbouring intervals are beyond that of
+  -- the first
   pub joined_beyond : (A B C : List T) → IsTrue (all_beyond below A B) → B ≡ C → (vs : List (Update T)) → IsTrue (all_times_beyond below C vs) → IsTrue (all_times_beyond below A vs)
   joined_beyond A B C f e vs k =
       all_more (λ (v : Update T). is_beyond below C v.time) (λ v. is_beyond below A v.time) (λ v h. beyond_later o A C v.time (subst (λ E. IsTrue (all_beyond below A E)) e f) h) vs k

@@ -17,7 +17,8 @@ use Rattle.update.specs.declared.change.Update.{Update}
 use Rattle.batch.specs.Batches.{by_row_then_time, begins_with, at_key, AllBefore, AllAfter}
 
 module _ {X : Type 0} where
-  -- if a test that passes at an element also passes at all earlier elements, then it splits a sorted list in two
+  -- if a test that passes at an element also passes at all earlier elements, then it splits a
+  -- sorted list in two
   pub parted : (c : X → X → Ordering) (p : X → Bool) → ((x y : X) → c x y ≡ Less → p y ≡ true → p x ≡ true) → (xs : List X) → IsStrictlySortedBy c xs → IsPartitionedBy p xs
   parted c p keeps [] s i j d le lt h = absurd (omega (arith, lt))
   parted c p keeps (x ∷ xs) s zero zero d le lt h = h

@@ -42,7 +42,8 @@ module _ {X : Type 0} (P : X → Type 0) where
   second_part [] ys a = a
   second_part (x ∷ xs) ys a = second_part xs ys a.1
 
--- a step of a loop over a list: if the property holds of element i, then it holds of one element more
+-- a step of a loop over a list: if the property holds of element i, then it holds of one element
+-- more
 pub one_more : {X : Type 0} (P : X → Type 0) (xs : List X) (i : ℕ) (x : X) → i < length xs → x ≡ get_or xs i x → AllByRecursion P (take i xs) → P x → AllByRecursion P (take (i + 1) xs)
 one_more P xs i x h e a p =
     let more : take (i + 1) xs ≡ take i xs ++ x ∷ [] = take_more xs i x h ∙ ap (λ y. take i xs ++ (y ∷ [])) (sym e) in
@@ -179,7 +180,8 @@ module _ {T : Type 0} {cmp : T → T → Ordering} (total : IsTotalOrder cmp) wh
   }
 
   module _ {us vs : List (Update T)} where
-    -- the two lists of a merge may be exchanged, so steps on the right follow from steps on the left
+    -- the two lists of a merge may be exchanged, so steps on the right follow from steps on the
+    -- left
     pub turned : (out xs ys : List (Update T)) → IsMerging cmp us vs out xs ys → IsMerging cmp vs us out ys xs
     turned out xs ys m = record {
       ascending_left = m.ascending_right;
@@ -375,7 +377,8 @@ module _ {T : Type 0} {below : T → T → Bool} {cmp : T → T → Ordering} (o
       let later = none_after x xs (sorted_head (by_row_then_time cmp) x xs s) in
       (λ i. cond (here i) x.diff (pos 0) +ℤ later i) ∙ +ℤ_idr x.diff
 
-  -- if two diffs of one row and time add up to no 64-bit number, then neither does that total of both lists
+  -- if two diffs of one row and time add up to no 64-bit number, then neither does that total of
+  -- both lists
   pub too_large : {us vs : List (Update T)} (out xs ys : List (Update T)) (x y : Update T) → x.row ≡ y.row → x.time ≡ y.time → (FitsSigned w64 (x.diff +ℤ y.diff) → ⊥) → IsMerging cmp us vs out (x ∷ xs) (y ∷ ys) → HasLargeTotal below (us ++ vs)
   too_large {us} {vs} out xs ys x y e d large m =
       let p : List ℤ → T → Bool = λ r s. same_row r x.row && (below s x.time && below x.time s) in
@@ -387,8 +390,8 @@ module _ {T : Type 0} {below : T → T → Bool} {cmp : T → T → Ordering} (o
       let sum : total_at below x.row x.time (us ++ vs) ≡ (x.diff +ℤ y.diff) = omega (arith, ints) in
       (x.row, x.time, λ f. large (subst (FitsSigned w64) sum f))
 
-  -- if the sum at the cursors is no 64-bit number, then both lists have a total that is too large, so `Overflow` is
-  -- right
+  -- if the sum at the cursors is no 64-bit number, then both lists have a total that is too large,
+  -- so `Overflow` is right
   pub large_at : {us vs out : List (Update T)} (i j : ℕ) (u v : Update T) → i < length us → j < length vs → u ≡ get_or us i u → v ≡ get_or vs j v → ((s t : T) → cmp s t ≡ Equal → s ≡ t) → by_row_then_time cmp u v ≡ Equal → (FitsSigned w64 (u.diff +ℤ v.diff) → ⊥) → IsMerging cmp us vs out (drop i us) (drop j vs) → HasLargeTotal below (us ++ vs)
   large_at {us} {vs} {out} i j u v h k e d exact l large m =
       let left = standing us i u h e in

@@ -1,5 +1,5 @@
--- A gallop over a sorted list ends at the first update that is not left behind. What a reader finds by seeking a key, and
--- then past it, are the rows of the key.
+-- A gallop over a sorted list ends at the first update that is not left behind. What a reader finds
+-- by seeking a key, and then past it, are the rows of the key.
 use Rattle.std.proofs.Common.{◌≡◌, ◌≢◌, ℕ, zero, suc, ◌+◌, ◌-◌, ◌<◌, ◌≤◌, ⊎_elim, Bool, true, false, cond, List, [], ◌∷◌, length, get_or, take, drop, ℤ, refl, sym, ap, ◌∙◌, subst, length-take, length-drop, arith}
 use Rattle.std.specs.Prelude.{slice_range}
 use Rattle.std.specs.List.{All, AllWithin, filter}
@@ -99,7 +99,8 @@ gone_not_after key us i j a = all_between_places (λ u. at_key key u ≢ Greater
 pub rest_after : {T : Type 0} (key : List ℤ) (us : List (Update T)) (j : ℕ) → AllWithin (λ u. is_left_behind key true u ≡ false) us j (length us) → AllAfter key (drop j us)
 rest_after key us j a = all_dropped (λ u. at_key key u ≡ Greater) us j (λ k d g h. greater_from_test (at_key key (get_or us k d)) (a k d g h))
 
--- the update's row begins with the key if and only if it is neither before nor after the rows of the key
+-- the update's row begins with the key if and only if it is neither before nor after the rows of
+-- the key
 begins_is : {T : Type 0} (key : List ℤ) (u : Update T) → begins_with key u ≡ is_eq (at_key key u)
 begins_is key u = lists_ties int_cmp (λ x y. refl) (take (length key) u.row) key
 
@@ -138,7 +139,8 @@ filter_past p (x ∷ xs) (suc n) a =
     filter_past p xs n (λ k d h. a (suc k) d (omega (arith, h))) ∙ ap (λ b. cond b (x ∷ filter p xs) (filter p xs)) (sym first)
 
 module _ {T : Type 0} (us : List (Update T)) (key : List ℤ) where
-  -- what a reader finds by seeking a key, and then past it, are the rows of the key from its place on
+  -- what a reader finds by seeking a key, and then past it, are the rows of the key from its place
+  -- on
   pub found_is_filter : (from start end : ℕ) → from ≤ start → start ≤ end → end ≤ length us → AllBefore key (slice_range us from start) → NoneBefore key (drop start us) → NoneAfter key (slice_range us start end) → AllAfter key (drop end us) → slice_range us start end ≡ filter (begins_with key) (drop from us)
   found_is_filter from start end g h l before here inside after =
       let rest = drop from us in

@@ -1,5 +1,5 @@
--- Batches: updates in an order that brings the rows of a key together (McSherry et al., Shared Arrangements, VLDB
--- 2020).
+-- Batches: updates in an order that brings the rows of a key together (McSherry et al., Shared
+-- Arrangements, VLDB 2020).
 use Rattle.std.specs.Prelude.{◌≡◌, ◌≢◌, Bool, List, ℤ, pos, length, take}
 use Rattle.std.specs.List.{All, AllByRecursion}
 use Rattle.std.specs.List.Sorted.{IsStrictlySortedBy}

@@ -5,8 +5,8 @@ use Rattle.lattice.specs.Frontiers.{all_beyond}
 use Rattle.antichain.specs.Antichains.{IsFrontier}
 use Rattle.update.specs.declared.change.Update.{Update}
 
--- whose updates these are, the frontiers between which their times lie, and the frontier as of which their times may
--- have been moved
+-- whose updates these are, the frontiers between which their times lie, and the frontier as of
+-- which their times may have been moved
 pub record DescriptionState (T : Type 0) : Type 0 where
   pub worker : ℕ
   pub node : ℕ

@@ -1,5 +1,5 @@
--- The state of a merge: some updates of two sealed lists have been written, and the rest of both lists is still to
--- come.
+-- The state of a merge: some updates of two sealed lists have been written, and the rest of both
+-- lists is still to come.
 use Rattle.std.specs.Prelude.{◌≡◌, ◌≢◌, ◌≤◌, ◌+◌, Bool, IsTrue, List, ◌++◌, ℤ, pos, ◌+ℤ◌, FitsSigned}
 use Rattle.std.specs.Int.{w64}
 use Rattle.std.specs.List.{AllByRecursion}
@@ -9,9 +9,9 @@ use Rattle.update.specs.declared.change.Update.{Update}
 use Rattle.update.specs.Updates.{total_where, size}
 use Rattle.batch.specs.Batches.{by_row_then_time}
 
--- `out` has been written, and `xs` and `ys` are the rest of `us` and `vs`. Nothing in `xs` or `ys` belongs before what
--- was written. The totals are those of `us` and `vs`, the size is no larger than theirs, and what holds for all their
--- rows and times still does.
+-- `out` has been written, and `xs` and `ys` are the rest of `us` and `vs`. Nothing in `xs` or `ys`
+-- belongs before what was written. The totals are those of `us` and `vs`, the size is no larger
+-- than theirs, and what holds for all their rows and times still does.
 pub record IsMerging {T : Type 0} (cmp : T → T → Ordering) (us vs out xs ys : List (Update T)) : Type 0 where
   pub ascending_left : IsStrictlySortedBy (by_row_then_time cmp) (out ++ xs)
   pub ascending_right : IsStrictlySortedBy (by_row_then_time cmp) (out ++ ys)

@@ -1,4 +1,5 @@
--- How a reader walks through a batch: from one update on, past all that come before a key, or past the key as well.
+-- How a reader walks through a batch: from one update on, past all that come before a key, or past
+-- the key as well.
 use Rattle.std.specs.Prelude.{Bool, cond, List, ℤ}
 use Rattle.std.specs.Ordering.{is_lt, is_le}
 use Rattle.update.specs.declared.change.Update.{Update}

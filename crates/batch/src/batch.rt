@@ -1,5 +1,5 @@
-//! The batch itself: a description and sealed updates, neither of which ever changes. The updates are in one list, in
-//! the order in which they are read.
+//! The batch itself: a description and sealed updates, neither of which ever changes. The updates
+//! are in one list, in the order in which they are read.
 ghost use Rattle.std.specs.Prelude.{◌≡◌};
 ghost use Rattle.batch.specs.Batches.{IsSealed};
 
@@ -14,9 +14,11 @@ use std::marker::Model;
 use std::ops::Range;
 use update::Update;
 
-/// A sealed list of updates with its description. It never changes. A contract sees the description and the list.
+/// A sealed list of updates with its description. It never changes. A contract sees the description
+/// and the list.
 ///
-/// Cost: an update is read by its index in constant time; the range of a key is found by two binary searches.
+/// Cost: an update is read by its index in constant time; the range of a key is found by two binary
+/// searches.
 #[derive(Drop)]
 pub struct Batch<T: Lattice> {
     description: Description<T>,

@@ -1,8 +1,9 @@
-//! How a batch is built. Updates are pushed as they come, in any order, and sealed once their interval is over. Nothing
-//! is sorted or added up before that, so a push costs next to nothing.
+//! How a batch is built. Updates are pushed as they come, in any order, and sealed once their
+//! interval is over. Nothing is sorted or added up before that, so a push costs next to nothing.
 //!
-//! A builder may be sealed as a whole, which takes it, or again and again, each time as far as the frontier has come.
-//! The second way copies the updates that it seals, so that a refusal leaves the builder as it was.
+//! A builder may be sealed as a whole, which takes it, or again and again, each time as far as the
+//! frontier has come. The second way copies the updates that it seals, so that a refusal leaves the
+//! builder as it was.
 ghost use Rattle.std.specs.Prelude.{◌≡◌, ◌≤◌, ◌↔◌, ◌⊎◌, ◌∷◌, ◌++◌, [], List, ℤ, Bool, Err, IfOk, IfErr, OnOk, OnErr, IsTrue, ◌&&◌};
 ghost use Rattle.std.specs.List.{list_all};
 ghost use Rattle.lattice.specs.Frontiers.{all_beyond};
@@ -21,8 +22,8 @@ use std::alloc::Global;
 use std::marker::Model;
 use update::{Refusal, Update};
 
-/// Updates of one worker at one node that are to become a batch. A contract sees both numbers and the list of what was
-/// pushed, the latest last.
+/// Updates of one worker at one node that are to become a batch. A contract sees both numbers and
+/// the list of what was pushed, the latest last.
 #[derive(Drop)]
 pub struct Builder<T: Lattice> {
     worker: usize,
@@ -61,8 +62,8 @@ impl<T: Lattice> Builder<T> {
         }
     }
 
-    /// Adds an update with any row, time and difference. [`Refusal::OutOfMemory`] only if memory for one more was
-    /// refused; the update is then dropped, and the builder stays as it was.
+    /// Adds an update with any row, time and difference. [`Refusal::OutOfMemory`] only if memory
+    /// for one more was refused; the update is then dropped, and the builder stays as it was.
     pub fn push(&mut self, update: Update<T>) -> Result<(), Refusal>
         ensures ok { OnOk result
             (self.new ≡ record self.old { updates = self.old.updates ++ update ∷ [] }) }
@@ -75,18 +76,21 @@ impl<T: Lattice> Builder<T> {
 }
 
 impl<T: Minimum> Builder<T> {
-    /// Seals what was pushed. The batch has the only list that is sealed (consolidated, in order of row, then time) and
-    /// has the same total of each row at each time. It has rows and times of the pushed updates only. All its times are
-    /// between the frontiers: beyond `lower` and passed by `upper`. No time has been moved, so its since is the least
-    /// time. On a refusal the updates are dropped; [`Builder::seal_passed`] loses none.
+    /// Seals what was pushed. The batch has the only list that is sealed (consolidated, in order of
+    /// row, then time) and has the same total of each row at each time. It has rows and times of
+    /// the pushed updates only. All its times are between the frontiers: beyond `lower` and passed
+    /// by `upper`. No time has been moved, so its since is the least time. On a refusal the updates
+    /// are dropped; [`Builder::seal_passed`] loses none.
     ///
-    /// - [`Refusal::Stray`] if and only if `upper` is not beyond `lower`, or the time of a pushed update is not between
-    ///   them, even if another update cancels it.
-    /// - Otherwise [`Refusal::Overflow`] if and only if the total of some row at some time is no 64-bit number.
-    /// - Otherwise [`Refusal::OutOfMemory`] only if memory for the frontiers was refused; the updates take none.
+    /// - [`Refusal::Stray`] if and only if `upper` is not beyond `lower`, or the time of a pushed
+    ///   update is not between them, even if another update cancels it.
+    /// - Otherwise [`Refusal::Overflow`] if and only if the total of some row at some time is no
+    ///   64-bit number.
+    /// - Otherwise [`Refusal::OutOfMemory`] only if memory for the frontiers was refused; the
+    ///   updates take none.
     ///
-    /// Cost: n log n comparisons in the number of updates, for two sorts in place, and one comparison of each update
-    /// with each element of the frontiers.
+    /// Cost: n log n comparisons in the number of updates, for two sorts in place, and one
+    /// comparison of each update with each element of the frontiers.
     pub fn seal(self, lower: &Antichain<T>, upper: &Antichain<T>) -> Result<Batch<T>, Refusal>
         ensures described { IfOk result (λ batch. batch.description ≡ record {
           worker = self.worker;
@@ -128,19 +132,22 @@ impl<T: Minimum> Builder<T> {
         Ok(Batch::of(description, sealed))
     }
 
-    /// Seals the updates whose times `upper` has passed, and keeps the others in their order. So a worker seals again
-    /// and again as its frontier moves on. The batch is as after [`Builder::seal`], for the passed updates alone. After
-    /// any refusal the builder is as it was, and the same call may succeed later.
+    /// Seals the updates whose times `upper` has passed, and keeps the others in their order. So a
+    /// worker seals again and again as its frontier moves on. The batch is as after
+    /// [`Builder::seal`], for the passed updates alone. After any refusal the builder is as it was,
+    /// and the same call may succeed later.
     ///
-    /// - [`Refusal::Stray`] if and only if `upper` is not beyond `lower`, or the time of a passed update is not beyond
-    ///   `lower`, even if another update cancels it.
-    /// - Otherwise [`Refusal::Overflow`] only if the total of some row at some time over the passed updates is no
-    ///   64-bit number, and no batch is given in that case.
-    /// - Otherwise [`Refusal::OutOfMemory`] only if memory for copies of the passed updates or for the frontiers was
-    ///   refused. The copies are made before totals are computed, so this may come in place of an overflow.
+    /// - [`Refusal::Stray`] if and only if `upper` is not beyond `lower`, or the time of a passed
+    ///   update is not beyond `lower`, even if another update cancels it.
+    /// - Otherwise [`Refusal::Overflow`] only if the total of some row at some time over the passed
+    ///   updates is no 64-bit number, and no batch is given in that case.
+    /// - Otherwise [`Refusal::OutOfMemory`] only if memory for copies of the passed updates or for
+    ///   the frontiers was refused. The copies are made before totals are computed, so this may
+    ///   come in place of an overflow.
     ///
-    /// Cost: n log n comparisons in the number of passed updates, for two sorts of their copies, and a constant number
-    /// of comparisons of each update of the builder with each element of the frontiers.
+    /// Cost: n log n comparisons in the number of passed updates, for two sorts of their copies,
+    /// and a constant number of comparisons of each update of the builder with each element of the
+    /// frontiers.
     pub fn seal_passed(
         &mut self,
         lower: &Antichain<T>,

@@ -1,9 +1,10 @@
-//! The description of a batch: whose updates it has, the interval of their times, and the frontier as of which their
-//! times may have been moved. A spine will fit batches together by their descriptions alone.
+//! The description of a batch: whose updates it has, the interval of their times, and the frontier
+//! as of which their times may have been moved. A spine will fit batches together by their
+//! descriptions alone.
 //!
-//! The frontiers are antichains, kept as plain lists, so that the size of a description does not depend on the type of
-//! times. The invariant: the three are antichains in `Ord` order, and the upper one is beyond the lower one, so no
-//! interval goes backwards.
+//! The frontiers are antichains, kept as plain lists, so that the size of a description does not
+//! depend on the type of times. The invariant: the three are antichains in `Ord` order, and the
+//! upper one is beyond the lower one, so no interval goes backwards.
 ghost use Rattle.std.specs.Prelude.{◌≡◌, ◌↔◌, ◌⊎◌, Err, IfOk, IfErr, OnOk, IsTrue};
 ghost use Rattle.lattice.specs.Frontiers.{all_beyond};
 ghost use Rattle.antichain.specs.Antichains.{IsFrontier};
@@ -15,8 +16,8 @@ use std::alloc::Global;
 use std::marker::Model;
 use update::Refusal;
 
-/// Whose updates a batch has, and between which frontiers. A contract sees the worker, the node and the frontiers, each
-/// as the list of its elements in `Ord` order.
+/// Whose updates a batch has, and between which frontiers. A contract sees the worker, the node and
+/// the frontiers, each as the list of its elements in `Ord` order.
 #[derive(Drop)]
 pub struct Description<T: Lattice> {
     worker: usize,
@@ -72,8 +73,9 @@ impl<T: Lattice> Description<T> {
         })
     }
 
-    // The description of this interval and the next one together. `Stray` if the next one does not begin where this one
-    // ends, or if the workers or nodes differ. Otherwise refused only if memory is refused.
+    // The description of this interval and the next one together. `Stray` if the next one does not
+    // begin where this one ends, or if the workers or nodes differ. Otherwise refused only if
+    // memory is refused.
     pub(crate) fn followed_by(
         &self,
         alloc: Global,
@@ -103,7 +105,8 @@ impl<T: Lattice> Description<T> {
         Description::new(alloc, worker, node, self.lower(), next.upper(), since)
     }
 
-    /// Whether the next interval begins where this one ends, and the worker and node are the same. Takes no memory.
+    /// Whether the next interval begins where this one ends, and the worker and node are the same.
+    /// Takes no memory.
     ///
     /// Cost: one comparison for each pair of elements at the same place of the two frontiers.
     pub fn is_followed_by(&self, next: &Description<T>) -> bool
@@ -143,7 +146,8 @@ impl<T: Lattice> Description<T> {
         self.lower.as_slice()
     }
 
-    /// The upper frontier, which has passed the times of the updates and is beyond the lower frontier. Takes no memory.
+    /// The upper frontier, which has passed the times of the updates and is beyond the lower
+    /// frontier. Takes no memory.
     pub fn upper(&self) -> &[T]
         ensures value { result.now ≡ self.now.upper }
         ensures frontier { IsFrontier T.below T.cmp self.now.upper }
@@ -152,7 +156,8 @@ impl<T: Lattice> Description<T> {
         self.upper.as_slice()
     }
 
-    /// The frontier as of which times may have been moved: reads at times beyond it are exact. Takes no memory.
+    /// The frontier as of which times may have been moved: reads at times beyond it are exact.
+    /// Takes no memory.
     pub fn since(&self) -> &[T]
         ensures value { result.now ≡ self.now.since }
         ensures frontier { IsFrontier T.below T.cmp self.now.since }

@@ -1,5 +1,6 @@
-//! Finding the rows of a key. In a list sorted by row, the rows that begin with the columns of a key are neighbours:
-//! the rows before them begin with less, and the rows after them with more. So two binary searches find both ends.
+//! Finding the rows of a key. In a list sorted by row, the rows that begin with the columns of a
+//! key are neighbours: the rows before them begin with less, and the rows after them with more. So
+//! two binary searches find both ends.
 ghost use Rattle.std.specs.Prelude.{◌≡◌, ◌≤◌, true, false, length, take, drop, slice_range};
 ghost use Rattle.std.specs.List.{filter};
 ghost use Rattle.std.specs.List.Sorted.{IsStrictlySortedBy, IsPartitionPoint};
@@ -13,7 +14,8 @@ use std::cmp::Ordering;
 use std::ops::Range;
 use update::Update;
 
-// Compares the beginning of the row, as many columns as the key has, with the key. A shorter row is compared whole.
+// Compares the beginning of the row, as many columns as the key has, with the key. A shorter row is
+// compared whole.
 pub(crate) fn compare_key(row: &Row, key: &[i64]) -> Ordering
     ensures { result ≡ slice_cmp int_cmp (take (length key.now) row.now) key.now }
 {

@@ -1,5 +1,6 @@
-//! Why a sealed list can stand for all lists with its totals, and what a walk from key to key finds. The functions do
-//! nothing: they are called, or their clauses cited, for what they promise in every lattice.
+//! Why a sealed list can stand for all lists with its totals, and what a walk from key to key
+//! finds. The functions do nothing: they are called, or their clauses cited, for what they promise
+//! in every lattice.
 ghost use Rattle.std.specs.Prelude.{◌≡◌, ◌≤◌, ℕ, List, ℤ, length, take, drop, slice_range};
 ghost use Rattle.std.specs.List.{filter};
 ghost use Rattle.update.specs.Bags.{Alike};
@@ -9,8 +10,8 @@ ghost use Rattle.batch.specs.Batches.{IsSealed, begins_with, AllBefore, NoneBefo
 
 use lattice::Lattice;
 
-/// A sealed list is determined by the total of each row at each time, and also by what it sums to at every time. So the
-/// totals that a seal or a merge preserves say which list it gives.
+/// A sealed list is determined by the total of each row at each time, and also by what it sums to
+/// at every time. So the totals that a seal or a merge preserves say which list it gives.
 pub fn sealed_lists_are_determined<T: Lattice>()
     ensures totals { (us vs : List (Update T)) → IsSealed T.cmp us → IsSealed T.cmp vs
         → ((row : List ℤ) (t : T) → total_at T.below row t us ≡ total_at T.below row t vs)
@@ -19,8 +20,9 @@ pub fn sealed_lists_are_determined<T: Lattice>()
         → ((t : T) → Alike (as_of T.below t us) (as_of T.below t vs)) → us ≡ vs }
 {}
 
-/// What `seek` and then `seek_past` find from a place on are exactly the rows of the key that are there. If all rows in
-/// front of that place come before the key, they are all rows of the key that the list has.
+/// What `seek` and then `seek_past` find from a place on are exactly the rows of the key that are
+/// there. If all rows in front of that place come before the key, they are all rows of the key that
+/// the list has.
 pub fn seeks_find_the_rows_of_a_key<T: Lattice>()
     ensures found { (us : List (Update T)) (key : List ℤ) (from start end : ℕ)
         → from ≤ start → start ≤ end → end ≤ length us

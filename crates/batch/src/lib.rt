@@ -1,25 +1,28 @@
 //! Batches: sealed, immutable lists of updates.
 //!
-//! A batch holds the updates of one node at one worker for an interval of times that can get no more changes. The
-//! updates are consolidated and put in order once, when the batch is sealed, and never change again. So it can be
-//! shared: a spine will keep many batches, and joins and reductions will read them without coordination, because nobody
-//! can change what another reads.
+//! A batch holds the updates of one node at one worker for an interval of times that can get no
+//! more changes. The updates are consolidated and put in order once, when the batch is sealed, and
+//! never change again. So it can be shared: a spine will keep many batches, and joins and
+//! reductions will read them without coordination, because nobody can change what another reads.
 //!
-//! The one invariant is the order: by row, then by time, with one update for each row and time, and none with
-//! difference 0. Rows come first, so that the updates of a key are neighbours, whatever the width of the key.
-//! [`BatchReader::key_range`] finds them by two binary searches. [`BatchReader::seek`] and [`BatchReader::seek_past`]
-//! gallop from one key to the next, so that a join can go through two batches side by side and skip what the other does
-//! not have. A list of updates that travels is sorted by time first. A batch is not, since its readers do not ask what
+//! The one invariant is the order: by row, then by time, with one update for each row and time, and
+//! none with difference 0. Rows come first, so that the updates of a key are neighbours, whatever
+//! the width of the key. [`BatchReader::key_range`] finds them by two binary searches.
+//! [`BatchReader::seek`] and [`BatchReader::seek_past`] gallop from one key to the next, so that a
+//! join can go through two batches side by side and skip what the other does not have. A list of
+//! updates that travels is sorted by time first. A batch is not, since its readers do not ask what
 //! happened at a time, but what happened to a key.
 //!
-//! - A [`Builder`] gathers updates in any order. It seals all of them between two frontiers, or those that a frontier
-//!   has passed, and then it keeps the others.
-//! - A [`Batch`] has a [`Description`], which names its worker, its node and the interval that it covers. It is read by
-//!   index through [`BatchReader`], which is all that operators will know of it.
+//! - A [`Builder`] gathers updates in any order. It seals all of them between two frontiers, or
+//!   those that a frontier has passed, and then it keeps the others.
+//! - A [`Batch`] has a [`Description`], which names its worker, its node and the interval that it
+//!   covers. It is read by index through [`BatchReader`], which is all that operators will know of
+//!   it.
 //! - [`merge`] makes one batch of two neighbouring ones, in one pass.
 //!
-//! Totals are computed as in the crate `update`, so the order of pushes never decides whether a seal is refused. A
-//! merge is refused for a total only if that total over its two batches is no 64-bit number.
+//! Totals are computed as in the crate `update`, so the order of pushes never decides whether a
+//! seal is refused. A merge is refused for a total only if that total over its two batches is no
+//! 64-bit number.
 #![tactic(auto)]
 
 mod batch;

@@ -1,9 +1,9 @@
-//! Merging two batches of neighbouring intervals into one. Both are in order, so one pass with a cursor in each is
-//! enough. The lesser of the two updates at the cursors is copied; if both have the same row and time, they become one
-//! update, or none if their differences add up to 0.
+//! Merging two batches of neighbouring intervals into one. Both are in order, so one pass with a
+//! cursor in each is enough. The lesser of the two updates at the cursors is copied; if both have
+//! the same row and time, they become one update, or none if their differences add up to 0.
 //!
-//! The lists that are read stay as they are, since readers may hold them, so the merged list is a new one. Times stay
-//! as they are too: the new `since` is recorded, and no time is moved to it.
+//! The lists that are read stay as they are, since readers may hold them, so the merged list is a
+//! new one. Times stay as they are too: the new `since` is recorded, and no time is moved to it.
 ghost use Rattle.std.specs.Prelude.{◌≡◌, ◌≤◌, ◌<◌, ◌+◌, ◌⊎◌, ◌∷◌, ◌++◌, [], List, drop, length, ℤ, ◌+ℤ◌, Bool, FitsSigned, IfOk, IfErr, OnOk, IsTrue};
 ghost use Rattle.std.specs.Int.{w64};
 ghost use Rattle.std.specs.List.{AllByRecursion, list_all};
@@ -68,7 +68,8 @@ fn push_sum<T: Lattice>(
     Ok(())
 }
 
-// Appends the lesser of the two updates at the cursors, or the sum of both if they have the same row and time.
+// Appends the lesser of the two updates at the cursors, or the sum of both if they have the same
+// row and time.
 fn take_next<T: Lattice>(
     out: &mut Vec<Update<T>>,
     us: &[Update<T>],
@@ -150,7 +151,8 @@ fn take_from_both<T: Lattice>(
     Ok(at)
 }
 
-// The only sealed list with the totals of both lists together. `Overflow` only if such a total is no 64-bit number.
+// The only sealed list with the totals of both lists together. `Overflow` only if such a total is
+// no 64-bit number.
 pub(crate) fn merged_list<T: Lattice>(
     alloc: Global,
     us: &[Update<T>],

@@ -1,5 +1,5 @@
-//! The public side of merging: which two batches can be merged, and what the merged batch is. The frontier `since` is a
-//! plain list, as in a description, since that is how a spine keeps it.
+//! The public side of merging: which two batches can be merged, and what the merged batch is. The
+//! frontier `since` is a plain list, as in a description, since that is how a spine keeps it.
 ghost use Rattle.std.specs.Prelude.{◌≡◌, ◌≤◌, ◌+◌, ◌↔◌, ◌⊎◌, ◌++◌, List, ℤ, Bool, Err, IfOk, IfErr, OnOk, IsTrue};
 ghost use Rattle.std.specs.List.{list_all};
 ghost use Rattle.antichain.specs.Antichains.{IsFrontier};
@@ -15,23 +15,26 @@ use crate::{Batch, BatchReader};
 use lattice::Lattice;
 use update::Refusal;
 
-/// Merges two neighbouring batches. The result reaches from the lower frontier of `a` to the upper frontier of `b`, and
-/// its list is the only sealed list in which each row at each time has its total over both batches. So at every time it
-/// sums to the sum of both. Both batches stay as they are. Times stay as they are too: `since` is recorded in the
-/// description, but no time is moved to it.
+/// Merges two neighbouring batches. The result reaches from the lower frontier of `a` to the upper
+/// frontier of `b`, and its list is the only sealed list in which each row at each time has its
+/// total over both batches. So at every time it sums to the sum of both. Both batches stay as they
+/// are. Times stay as they are too: `since` is recorded in the description, but no time is moved to
+/// it.
 ///
-/// The merged batch has rows and times of the two batches only. If all their times lie in their intervals, then so do
-/// those of the merged one. A batch whose times were moved to later ones may have times at or after its upper frontier;
-/// then the clauses `rows` and `beyond` still say what a merge keeps.
+/// The merged batch has rows and times of the two batches only. If all their times lie in their
+/// intervals, then so do those of the merged one. A batch whose times were moved to later ones may
+/// have times at or after its upper frontier; then the clauses `rows` and `beyond` still say what a
+/// merge keeps.
 ///
-/// - [`Refusal::Stray`] if and only if `b` does not begin at the frontier at which `a` ends, or their workers or nodes
-///   differ.
-/// - [`Refusal::Overflow`] only if the total of some row at some time over both batches is no 64-bit number, and no
-///   batch is given in that case.
+/// - [`Refusal::Stray`] if and only if `b` does not begin at the frontier at which `a` ends, or
+///   their workers or nodes differ.
+/// - [`Refusal::Overflow`] only if the total of some row at some time over both batches is no
+///   64-bit number, and no batch is given in that case.
 /// - [`Refusal::OutOfMemory`] only if memory for the new batch was refused.
 ///
-/// Cost: linear in the number of updates of both, in one pass: each step makes one comparison and finishes at least one
-/// update, and each update is copied at most once. Memory for the updates of both is allocated at once.
+/// Cost: linear in the number of updates of both, in one pass: each step makes one comparison and
+/// finishes at least one update, and each update is copied at most once. Memory for the updates of
+/// both is allocated at once.
 pub fn merge<T: Lattice>(a: &Batch<T>, b: &Batch<T>, since: &[T]) -> Result<Batch<T>, Refusal>
     requires { IsFrontier T.below T.cmp since.now }
     ensures described { IfOk result (λ both. both.description ≡ record {

@@ -1,5 +1,6 @@
-//! The updates of a builder whose times a frontier has passed. A worker seals these as its frontier moves on, and keeps
-//! the others for a later batch. They are copied before they are dropped, so that a refused seal loses nothing.
+//! The updates of a builder whose times a frontier has passed. A worker seals these as its frontier
+//! moves on, and keeps the others for a later batch. They are copied before they are dropped, so
+//! that a refused seal loses nothing.
 ghost use Rattle.std.specs.Prelude.{◌≡◌, IfOk, IfErr};
 ghost use Rattle.batch.specs.Intervals.{all_between, is_interval_of, passed_updates, open_updates};
 ghost use Rattle.update.specs.declared.refusal.Refusal.{Refusal};
@@ -9,7 +10,8 @@ use lattice::Lattice;
 use std::alloc::Global;
 use update::{Refusal, Update};
 
-// Whether the upper frontier is beyond the lower one, and each passed update's time is between them.
+// Whether the upper frontier is beyond the lower one, and each passed update's time is between
+// them.
 pub(crate) fn is_interval_of_passed<T: Lattice>(
     updates: &[Update<T>],
     lower: &Antichain<T>,

@@ -1,5 +1,5 @@
-//! How a batch is read. Operators are to be written against this trait and not against [`Batch`](crate::Batch), so that
-//! the layout of updates can change without them.
+//! How a batch is read. Operators are to be written against this trait and not against
+//! [`Batch`](crate::Batch), so that the layout of updates can change without them.
 ghost use Rattle.std.specs.Prelude.{◌≡◌, ◌<◌, ◌≤◌, List, length, take, drop, slice_get, slice_range, IsSomeAnd};
 ghost use Rattle.std.specs.List.{filter};
 ghost use Rattle.batch.specs.Batches.{IsSealed, begins_with, at_key, AllBefore, NoneBefore, AllAfter, NoneAfter};
@@ -10,8 +10,9 @@ use row::Row;
 use std::cmp::Ordering;
 use std::ops::Range;
 
-/// A list of updates that is read by index. It is in order of row, then time, with at most one update for each row and
-/// time, and none with difference 0. So the updates of a key are neighbours.
+/// A list of updates that is read by index. It is in order of row, then time, with at most one
+/// update for each row and time, and none with difference 0. So the updates of a key are
+/// neighbours.
 pub trait BatchReader {
     ghost use Rattle.update.specs.declared.change.Update.{Update};
     ghost use Rattle.batch.specs.Descriptions.{DescriptionState};
@@ -46,8 +47,9 @@ pub trait BatchReader {
         requires { i < length (content self.now) }
         ensures { IsSomeAnd (slice_get (content self.now) i) (λ u. result ≡ u.diff) };
 
-    /// The range of exactly those updates whose rows begin with the columns of the key. If there are none, the range is
-    /// empty and lies between the rows before the key and those after it. Takes no memory.
+    /// The range of exactly those updates whose rows begin with the columns of the key. If there
+    /// are none, the range is empty and lies between the rows before the key and those after it.
+    /// Takes no memory.
     ///
     /// Cost: two binary searches over the whole batch.
     fn key_range(&self, key: &[i64]) -> Range<usize>
@@ -58,10 +60,12 @@ pub trait BatchReader {
         ensures before { AllBefore key.now (take result.start (content self.now)) }
         ensures behind { AllAfter key.now (drop result.end (content self.now)) };
 
-    /// The first update from `from` on whose row is not before the key; the length if there is none. Takes no memory.
+    /// The first update from `from` on whose row is not before the key; the length if there is
+    /// none. Takes no memory.
     ///
-    /// Cost: a number of comparisons that is logarithmic in the distance from `from` to the result. So a reader that
-    /// seeks sorted keys, each from where the last one was found, pays for the distances and not for the batch.
+    /// Cost: a number of comparisons that is logarithmic in the distance from `from` to the result.
+    /// So a reader that seeks sorted keys, each from where the last one was found, pays for the
+    /// distances and not for the batch.
     fn seek(&self, from: usize, key: &[i64]) -> usize
         requires { from ≤ length (content self.now) }
         ensures ordered { from ≤ result }
@@ -69,8 +73,8 @@ pub trait BatchReader {
         ensures before { AllBefore key.now (slice_range (content self.now) from result) }
         ensures rest { NoneBefore key.now (drop result (content self.now)) };
 
-    /// The first update from `from` on whose row comes after all rows of the key; the length if there is none. Takes no
-    /// memory.
+    /// The first update from `from` on whose row comes after all rows of the key; the length if
+    /// there is none. Takes no memory.
     ///
     /// Cost: as for `seek`.
     fn seek_past(&self, from: usize, key: &[i64]) -> usize
@@ -80,8 +84,8 @@ pub trait BatchReader {
         ensures before { NoneAfter key.now (slice_range (content self.now) from result) }
         ensures rest { AllAfter key.now (drop result (content self.now)) };
 
-    /// How the row of update `i` compares with the rows of the key: it comes before them, is one of them, or comes
-    /// after them. Takes no memory, and copies no row.
+    /// How the row of update `i` compares with the rows of the key: it comes before them, is one of
+    /// them, or comes after them. Takes no memory, and copies no row.
     fn compare_key(&self, i: usize, key: &[i64]) -> Ordering
         requires { i < length (content self.now) }
         ensures { IsSomeAnd (slice_get (content self.now) i) (λ u. result ≡ at_key key.now u) };

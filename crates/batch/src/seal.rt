@@ -1,5 +1,5 @@
-//! Putting a list in the order of a batch: one sort by row and time, which makes neighbours of the updates of each row
-//! and time, and one pass that adds these up and keeps the order.
+//! Putting a list in the order of a batch: one sort by row and time, which makes neighbours of the
+//! updates of each row and time, and one pass that adds these up and keeps the order.
 ghost use Rattle.std.specs.Prelude.{◌≡◌, ◌≤◌, ◌↔◌, List, ℤ, Bool, IfOk, IfErr, IsErr, IsTrue};
 ghost use Rattle.std.specs.List.{list_all};
 ghost use Rattle.std.specs.List.Sorted.{IsPermutation, IsSortedBy};

@@ -1,6 +1,7 @@
-//! Walking through a batch from key to key. A reader that goes through sorted keys does not search the whole batch for
-//! each. It gallops on from where it stands, in steps of 1, 2, 4 and so on, until a step would lead too far. Then it
-//! searches that last step. So it pays for the logarithm of each distance: if the next key is near, a few comparisons.
+//! Walking through a batch from key to key. A reader that goes through sorted keys does not search
+//! the whole batch for each. It gallops on from where it stands, in steps of 1, 2, 4 and so on,
+//! until a step would lead too far. Then it searches that last step. So it pays for the logarithm
+//! of each distance: if the next key is near, a few comparisons.
 ghost use Rattle.std.specs.Prelude.{◌≡◌, ◌≤◌, ◌<◌, true, false, length, drop, slice_range, slice_index_or};
 ghost use Rattle.std.specs.List.{AllWithin};
 ghost use Rattle.std.specs.List.Sorted.{IsStrictlySortedBy};
@@ -25,7 +26,8 @@ fn is_left_behind<T: Lattice>(update: &Update<T>, key: &[i64], through: bool) ->
     }
 }
 
-// The last step of a gallop: the first update that is not left behind is in this range, or at its end.
+// The last step of a gallop: the first update that is not left behind is in this range, or at its
+// end.
 fn last_step<T: Lattice>(
     updates: &[Update<T>],
     from: usize,

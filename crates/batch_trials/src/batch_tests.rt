@@ -96,9 +96,9 @@ fn strays_and_large_totals_are_refused(rt: HostRuntime) -> Result<(), Fail> {
     Ok(())
 }
 
-// Memory is ample here, so a total that is too large is not told as want of memory. The updates stay
-// in the builder. Two batches that follow one another have no time in common, so no merge of them can
-// have such a total.
+// Memory is ample here, so a total that is too large is not told as want of memory. The updates
+// stay in the builder. Two batches that follow one another have no time in common, so no merge of
+// them can have such a total.
 #[test]
 fn a_seal_of_what_is_passed_tells_large_totals(rt: HostRuntime) -> Result<(), Fail> {
     let large = list(

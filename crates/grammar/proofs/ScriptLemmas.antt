@@ -1,5 +1,5 @@
--- What holds of every parsed script: each node has a name, each command is about a node of the kind that it
--- needs, and its printed words are those of its lines.
+-- What holds of every parsed script: each node has a name, each command is about a node of the kind
+-- that it needs, and its printed words are those of its lines.
 use Rattle.std.proofs.Common.{◌≡◌, ℕ, ◌+◌, ◌<◌, Bool, true, false, not, ◌&&◌, cond, ltb, ltb-true, lt-ltb, IsTrue, List, [], ◌∷◌, ◌++◌, length, map, Ok, inl, inr, refl, sym, ap, ap₂, subst, ◌∙◌, arith, codes, append_assoc, length-append}
 use Rattle.std.specs.List.{All, filter}
 use Rattle.std.proofs.lemmas.Bool.{and_parts, and_from}

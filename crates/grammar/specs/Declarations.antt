@@ -1,5 +1,5 @@
--- The lines that declare a node: what each says, or why it is refused. As in all lines, the order of the steps
--- is the order of the tests.
+-- The lines that declare a node: what each says, or why it is refused. As in all lines, the order
+-- of the steps is the order of the tests.
 use Rattle.std.specs.Prelude.{ℕ, List, [], ◌∷◌, ◌++◌, length, Option, Some, None, Result, Ok, Err, nat_lt, codes, if◌then◌else◌}
 use Rattle.std.specs.Str.{bytes_eq}
 use Rattle.update.specs.declared.refusal.Refusal.{Refusal}

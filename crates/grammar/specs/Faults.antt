@@ -11,7 +11,8 @@ abbrev pub error_code : LineError → ℕ
 error_code error.Memory = 1
 error_code (error.Refused refusal) = code_of refusal
 
--- the error is this refusal; running out of memory is kept apart, because it says nothing about the line
+-- the error is this refusal; running out of memory is kept apart, because it says nothing about the
+-- line
 abbrev pub IsErrorOf : Refusal → LineError → Type 0
 IsErrorOf refusal error.Memory = refusal ≡ OutOfMemory
 IsErrorOf refusal (error.Refused other) = (other ≡ refusal) × (refusal ≢ OutOfMemory)

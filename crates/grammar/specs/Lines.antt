@@ -1,5 +1,6 @@
--- The meaning of each line, or the refusal of the first test that fails. The order of the steps is the order of
--- the tests. If a line has another number of words than in the patterns here, it has too few or too many.
+-- The meaning of each line, or the refusal of the first test that fails. The order of the steps is
+-- the order of the tests. If a line has another number of words than in the patterns here, it has
+-- too few or too many.
 use Rattle.std.specs.Prelude.{ℕ, ◌%◌, Bool, true, false, not, ◌&&◌, List, [], ◌∷◌, ◌++◌, length, Option, Some, None, Result, Ok, Err, nat_lt, ◌==◌, codes, if◌then◌else◌}
 use Rattle.std.specs.Str.{bytes_eq, is_utf8}
 use Rattle.update.specs.declared.refusal.Refusal.{Refusal}

@@ -11,8 +11,8 @@ use Rattle.grammar.specs.Outcomes.{or_refused, unless}
 use Rattle.grammar.specs.Names.{is_name}
 use Rattle.grammar.specs.Commands.{is_input_of, is_view_of}
 
--- the nodes, their names in the same order, whether `start` has come, and the commands, each with the number of
--- its line
+-- the nodes, their names in the same order, whether `start` has come, and the commands, each with
+-- the number of its line
 pub record ParseState : Type 0 where
   pub names : List (List ℕ)
   pub plan : List Node

@@ -24,7 +24,8 @@ abbrev pub on_line : {A : Type 0} → ℕ → Result ParseState Refusal
 on_line n (Ok k) more = more k
 on_line n (Err refusal) more = Err (n, refusal)
 
--- the script after the lines from number n on, from this parse state; at the end `start` must have come
+-- the script after the lines from number n on, from this parse state; at the end `start` must have
+-- come
 unfoldable pub lines_from : ℕ → ParseState → List (List ℕ) → Result ScriptModel (ℕ × Refusal)
 lines_from n k [] = if k.started then Ok (model_of k) else Err (n, BadOrder)
 lines_from n k (line ∷ lines) = on_line n (line_of n k line) (λ k. lines_from (n + 1) k lines)
@@ -49,8 +50,8 @@ IsReached lines n = (before : List (List ℕ)) × (rest : List (List ℕ)) × (k
     × (lines ≡ before ++ rest) × (n ≡ length before + 1)
     × (parse_lines 1 first_parse_state before ≡ Ok k)
 
--- the lines before number n are in order, and line n is not; or all lines are in order, none of them is
--- `start`, and n is one past the last line
+-- the lines before number n are in order, and line n is not; or all lines are in order, none of
+-- them is `start`, and n is one past the last line
 abbrev pub IsFirstFault : List (List ℕ) → ℕ → Refusal → Type 0
 IsFirstFault lines n refusal =
     ((before : List (List ℕ)) × (line : List ℕ) × (rest : List (List ℕ)) × (k : ParseState) × (lines ≡ before ++ line ∷ rest) × (n ≡ length before + 1) × (parse_lines 1 first_parse_state before ≡ Ok k) × (line_of n k line ≡ Err refusal))

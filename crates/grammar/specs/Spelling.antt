@@ -125,8 +125,8 @@ script_words t = plan_words [] t.names t.plan
 abbrev pub kept_words : List (List ℕ) → List (List (List ℕ))
 kept_words lines = filter (λ words. not (is_skipped words)) (map words_of lines)
 
--- the printed lines of a script, each with its number; a script keeps the numbers of its commands' lines, but
--- not those of its nodes and of `start`, which are therefore `any`
+-- the printed lines of a script, each with its number; a script keeps the numbers of its commands'
+-- lines, but not those of its nodes and of `start`, which are therefore `any`
 abbrev pub script_lines : ℕ → ScriptModel → List (ℕ × List (List ℕ))
 script_lines any t = map (λ words. (any, words)) (plan_words [] t.names t.plan)
     ++ (any, codes "start" ∷ []) ∷ map (λ line. (line.line, command_words t.names line.command)) t.commands

@@ -1,7 +1,7 @@
-//! The commands of a script. A command either changes an input or asks about a view. These are two types, so
-//! that a function that takes one of them has no arm for the other. Names are already resolved: a command names
-//! a node by its number, and each [`Script`](crate::Script) promises that this node is an input, or a view if
-//! the command asks about one.
+//! The commands of a script. A command either changes an input or asks about a view. These are two
+//! types, so that a function that takes one of them has no arm for the other. Names are already
+//! resolved: a command names a node by its number, and each [`Script`](crate::Script) promises that
+//! this node is an input, or a view if the command asks about one.
 use lattice::Bitime;
 use plan::NodeId;
 use row::Row;
@@ -17,8 +17,8 @@ pub enum InputCommand {
         diff: i64,
         row: Row,
     },
-    /// Moves the input's frontier: every later change of the input must be at or after one of these times.
-    /// There is at least one.
+    /// Moves the input's frontier: every later change of the input must be at or after one of these
+    /// times. There is at least one.
     Advance {
         input: NodeId,
         times: Times<Bitime>,

@@ -1,5 +1,6 @@
-//! A script that is being read: what its lines so far have said. Each node has exactly one name. Names and
-//! nodes are kept in the order of the lines, so the index of a name is the number of its node.
+//! A script that is being read: what its lines so far have said. Each node has exactly one name.
+//! Names and nodes are kept in the order of the lines, so the index of a name is the number of its
+//! node.
 ghost use Rattle.std.specs.Prelude.{◌≡◌, None, IfOk, string_bytes};
 ghost use Rattle.plan.specs.Rules.{is_readable};
 ghost use Rattle.update.specs.declared.refusal.Refusal.TheVariants.{UnknownName};
@@ -127,8 +128,8 @@ impl Draft {
     }
 }
 
-// Adds the node to the plan. Plans grow through a builder. Turning a plan into a builder and back costs
-// nothing.
+// Adds the node to the plan. Plans grow through a builder. Turning a plan into a builder and back
+// costs nothing.
 fn push_node(alloc: Global, plan: &mut Plan, node: Node) -> Result<(), LineError>
     ensures { Gives (λ _. plan.new) result (plan_with plan.old node) }
 {

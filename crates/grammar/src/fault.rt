@@ -1,5 +1,6 @@
-//! What is wrong with a file: the number of a line and the code of a refusal. While a file is being read,
-//! running out of memory is kept apart from the refusals of its lines, because it says nothing about the file.
+//! What is wrong with a file: the number of a line and the code of a refusal. While a file is being
+//! read, running out of memory is kept apart from the refusals of its lines, because it says
+//! nothing about the file.
 ghost use Rattle.std.specs.Prelude.{◌≡◌};
 ghost use Rattle.grammar.specs.Faults.{error_code, IsErrorOf};
 
@@ -7,8 +8,8 @@ use std::alloc::{AllocError, AllocFailed};
 use thiserror::Error;
 use update::Refusal;
 
-/// The first faulty line, counted from 1, and the code of its refusal. Code 1 means that memory ran out while
-/// that line was being read.
+/// The first faulty line, counted from 1, and the code of its refusal. Code 1 means that memory ran
+/// out while that line was being read.
 #[derive(Clone, Copy, Debug, PartialEq, Eq, Error)]
 #[error("fault line {line} code {code}")]
 pub struct Fault {

@@ -1,5 +1,6 @@
-//! The words of `map` and `filter` lines: items, each a column or a constant, and tests that compare two items.
-//! The first byte of an item says which of the two it is. The rest is a number in its only form.
+//! The words of `map` and `filter` lines: items, each a column or a constant, and tests that
+//! compare two items. The first byte of an item says which of the two it is. The rest is a number
+//! in its only form.
 ghost use Rattle.std.specs.Prelude.{◌≡◌, map};
 ghost use Rattle.grammar.specs.Items.{item_of, item, items, comparison_of, comparison, filter_test};
 ghost use Rattle.grammar.specs.Outcomes.{Gives};

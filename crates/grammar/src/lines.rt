@@ -1,5 +1,5 @@
-//! One line: its bytes, its first word, and whether such a line may stand here. The tests are made in this
-//! order.
+//! One line: its bytes, its first word, and whether such a line may stand here. The tests are made
+//! in this order.
 ghost use Rattle.std.specs.Prelude.{map};
 ghost use Rattle.grammar.specs.ParseStates.{parse_state};
 ghost use Rattle.grammar.specs.Lines.{opening, keyword_line, words_line, line_of, with_command};
@@ -18,7 +18,8 @@ use crate::text::{opens_comment, text, words};
 use std::alloc::Global;
 use update::Refusal;
 
-// The keyword that the word spells; refused if it is not a keyword, or if such a line may not stand here.
+// The keyword that the word spells; refused if it is not a keyword, or if such a line may not stand
+// here.
 #[tactic(auto, unfolding(crate::specs::Lines::opening))]
 fn opening(draft: &Draft, word: &str) -> Result<Keyword, LineError>
     ensures { Gives (λ keyword. keyword) result (opening (parse_state draft.now) word.now) }

@@ -1,5 +1,6 @@
-//! The `node` lines. A line has its name before its kind, but the kind decides how many words it must have. So
-//! the kind is tested first, then the number of words, and then the words from left to right.
+//! The `node` lines. A line has its name before its kind, but the kind decides how many words it
+//! must have. So the kind is tested first, then the number of words, and then the words from left
+//! to right.
 ghost use Rattle.std.specs.Prelude.{map};
 ghost use Rattle.grammar.specs.ParseStates.{parse_state};
 ghost use Rattle.grammar.specs.Declarations.{map_line, filter_line, concat_line, negate_line, arrange_line, join_line, reduce_line, kind_line, node_line};

@@ -1,5 +1,5 @@
-//! Numbers in words. A word is a number only in the form in which that number is printed, so no two words are
-//! the same number. A whole number has no sign, no leading zero, and only ASCII digits.
+//! Numbers in words. A word is a number only in the form in which that number is printed, so no two
+//! words are the same number. A whole number has no sign, no leading zero, and only ASCII digits.
 ghost use Rattle.std.specs.Prelude.{◌≡◌, ◌<◌};
 ghost use Rattle.std.specs.List.{list_all};
 ghost use Rattle.std.specs.Char.{is_ascii_digit};

@@ -1,5 +1,5 @@
-//! A whole file, read line by line up to the first fault. Each line is read once, and the lines after a faulty
-//! one are not read.
+//! A whole file, read line by line up to the first fault. Each line is read once, and the lines
+//! after a faulty one are not read.
 ghost use Rattle.std.specs.Prelude.{◌≡◌, IfErr};
 ghost use Rattle.grammar.specs.Faults.{error_code};
 ghost use Rattle.grammar.specs.ParseStates.{parse_state};
@@ -47,10 +47,11 @@ fn take_lines(alloc: Global, draft: &mut Draft, bytes: &[u8]) -> Result<(), Faul
     }
 }
 
-/// Parses a command file: returns its script, or its first faulty line with the code of the refusal.
+/// Parses a command file: returns its script, or its first faulty line with the code of the
+/// refusal.
 ///
-/// The codes are those of [`Refusal::code`]: 13 to 21 and 31 to 37, and 1 if memory ran out while the line was
-/// being read.
+/// The codes are those of [`Refusal::code`]: 13 to 21 and 31 to 37, and 1 if memory ran out while
+/// the line was being read.
 ///
 /// Cost: linear in the bytes up to the fault.
 pub fn parse(alloc: Global, bytes: &[u8]) -> Result<Script, Fault>

@@ -1,4 +1,5 @@
-//! The lines after `start`. Each is one command. It looks up names and changes nothing in the draft.
+//! The lines after `start`. Each is one command. It looks up names and changes nothing in the
+//! draft.
 ghost use Rattle.std.specs.Prelude.{map};
 ghost use Rattle.grammar.specs.ParseStates.{parse_state};
 ghost use Rattle.grammar.specs.Lines.{change_line, advance_line, close_line, read_line, changes_line, frontier_line};

@@ -1,6 +1,6 @@
-//! A script that was read: a plan, a name for each of its nodes, and the commands in the order of their lines.
-//! The invariant saves a reader of the commands from testing them: each command names an input of the plan, or
-//! a view if it asks about one.
+//! A script that was read: a plan, a name for each of its nodes, and the commands in the order of
+//! their lines. The invariant saves a reader of the commands from testing them: each command names
+//! an input of the plan, or a view if it asks about one.
 ghost use Rattle.std.specs.Prelude.{◌≡◌, ◌<◌, length};
 ghost use Rattle.std.specs.List.{All};
 ghost use Rattle.grammar.specs.Commands.{IsAbout};
@@ -67,7 +67,8 @@ impl Script {
         self.plan.len() as u64
     }
 
-    /// The number of commands, which are the lines after `start` that are not skipped. Takes no memory.
+    /// The number of commands, which are the lines after `start` that are not skipped. Takes no
+    /// memory.
     pub fn commands(&self) -> u64
         ensures { result ≡ length self.now.commands }
     {
@@ -89,8 +90,8 @@ impl Script {
         self.names.get_index(id.number()).unwrap().as_str()
     }
 
-    /// The commands in the order of their lines. Each is about an input of the plan, or about a view if it is a
-    /// question. Takes no memory.
+    /// The commands in the order of their lines. Each is about an input of the plan, or about a
+    /// view if it is a question. Takes no memory.
     pub fn command_lines(&self) -> &[CommandLine]
         ensures lines { result.now ≡ self.now.commands }
         ensures about { All (λ line. IsAbout self.now.plan line.command) self.now.commands }

@@ -1,4 +1,5 @@
--- Each of the two kinds of step keeps the rule of the hub's table. So does dealing; and the rule tells what lies at home at the ends.
+-- Each of the two kinds of step keeps the rule of the hub's table. So does dealing; and the rule
+-- tells what lies at home at the ends.
 use Rattle.std.proofs.Common.{◌≡◌, ◌≢◌, ℕ, ◌+◌, ◌<◌, inl, inr, eqb, true, false, List, [], ◌∷◌, ◌++◌, length, set, slice_index, sym, refl, ap, ◌∙◌, subst, ⊎_elim, arith, length-append, length-set, append-nil}
 use Rattle.std.specs.Prelude.{Option, Some, None, IfSome}
 use Rattle.std.proofs.lemmas.Bool.{false≢true, false_from_ne_true}
@@ -25,7 +26,8 @@ module _ {S E : Type 0} (stands : S → List (Entry E) → Type 0) where
   abbrev At : List ℕ → List (Maybe O) → List V → State O V
   At ws hs vs = record { words = ws; homes = hs; views = vs }
 
-  -- from this state a seat can make a step that writes f of the word, keeps the rule and tells `then`
+  -- from this state a seat can make a step that writes f of the word, keeps the rule and tells
+  -- `then`
   abbrev Goes : State O V → ℕ → Me O V → (ℕ → ℕ) → (ℕ → Me O V → Type 0) → Type 0
   Goes s id me f then =
       let found = slice_index s.words 0 in
@@ -121,7 +123,8 @@ module _ {S E : Type 0} (stands : S → List (Entry E) → Type 0) where
           refl,
         )
 
-    -- a holder may give back a state that may stand after what it found and the event that the state names
+    -- a holder may give back a state that may stand after what it found and the event that the
+    -- state names
     gives_allowed : (st : _) (slots id : ℕ) (me : Me O V) (x : S) → me.1 ≡ (0, Some x) ∷ [] → me.0.away ≡ true
         → stands x (entry me.0.number (last x) ∷ me.0.seen) → Allows (Kept stands) slots id me 0 (λ _. 0) (AfterGive last st me)
     gives_allowed st slots id me x held gone legal s kept len at small =
@@ -190,7 +193,8 @@ module _ {S E : Type 0} (stands : S → List (Entry E) → Type 0) where
     place = inl (refl, each_end (λ j u. u.away ≡ false) [] first_view (none_at (λ j u. u.away ≡ false)) refl, (x, refl, legal));
   }
 
-  -- what lies at home when the table closes stands after a history that agrees with the view of the seat handed in
+  -- what lies at home when the table closes stands after a history that agrees with the view of the
+  -- seat handed in
   pub closes : (ws : List ℕ) (xs : List O) (id : ℕ) (v : V) (n : ℕ) (y : O) → Final (Seen (Kept stands) id v) ws xs
       → get_elem? ws 0 ≡ some n → n ≡ 0 → get_elem? xs 0 ≡ some y → IfSome y (λ x. (h : List (Entry E)) × Agrees v h × stands x h)
   closes ws xs id v n y (s, seen, words, len, values) word zeroed slot =

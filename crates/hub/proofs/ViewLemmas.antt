@@ -69,7 +69,8 @@ module _ {E : Type 0} where
   pub agrees_whole : (v : View E) (log : List (Entry E)) → v.seen ≡ log → Agrees v log
   agrees_whole v log e = ([], sym e, tt)
 
-  -- if one view learns something that is right, and the others are right about the new history, then all are
+  -- if one view learns something that is right, and the others are right about the new history,
+  -- then all are
   pub right_set : (views : List (View E)) (log after : List (Entry E)) (id : ℕ) (w : View E) → IsRight (length views) after id w
       → ((j : ℕ) (v : View E) → j ≢ id → get_elem? views j ≡ some v → IsRight (length views) after j v) → AllRight (set views id w) after
   right_set views log after id w mine others j v at =

@@ -11,7 +11,8 @@ abbrev pub hub_id : {Q S E : Type 0} → Hub Q S E → TableId
 hub_id h = h.table.shared.table_id
 
 module _ {E : Type 0} where
-  -- the passes of the hub with this id, in the order of their numbers, none of which has seen an event
+  -- the passes of the hub with this id, in the order of their numbers, none of which has seen an
+  -- event
   abbrev pub AreDealt : TableId → List (Known E) → Type 0
   AreDealt hub passes = (k : ℕ) (p : Known E) → slice_get passes k ≡ Some p → p ≡ record { hub = hub; number = k; seen = [] }
 

@@ -28,7 +28,8 @@ module _ {E : Type 0} where
   abbrev pub Agrees : View E → List (Entry E) → Type 0
   Agrees v history = (others : List (Entry E)) × (history ≡ others ++ v.seen) × NoneBy v.number others
 
-  -- a view among so many: it stands at its number, agrees with the history, and is the last one if it deals
+  -- a view among so many: it stands at its number, agrees with the history, and is the last one if
+  -- it deals
   pub record IsRight (count : ℕ) (log : List (Entry E)) (id : ℕ) (v : View E) : Type 0 where
     pub numbered : v.number ≡ id
     pub agrees : Agrees v log

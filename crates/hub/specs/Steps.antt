@@ -6,7 +6,8 @@ use Rattle.hub.specs.declared.view.View.{View}
 use Rattle.hub.specs.Histories.{entry, NoneBy}
 
 module _ {S E : Type 0} (stands : S → List (Entry E) → Type 0) where
-  -- a view that holds this state has seen entries of other passes on top of what it had seen, and the state may stand there
+  -- a view that holds this state has seen entries of other passes on top of what it had seen, and
+  -- the state may stand there
   abbrev pub Finds : View E → S → View E → Type 0
   Finds v x w = (others : List (Entry E)) × (w ≡ record { number = v.number; deals = v.deals; away = true; seen = others ++ v.seen }) × NoneBy v.number others × stands x w.seen
 

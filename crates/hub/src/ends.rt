@@ -1,8 +1,9 @@
 //! Ends: the first and the last moment of a hub.
 //!
-//! All passes are dealt when the hub opens, each cut from the seat that the table begins with. So their numbers are known,
-//! and none has seen anything. The caller of `close` owns the hub, so no tenure is under way then. The word is read all the
-//! same, since no clause says that each tenure was ended.
+//! All passes are dealt when the hub opens, each cut from the seat that the table begins with. So
+//! their numbers are known, and none has seen anything. The caller of `close` owns the hub, so no
+//! tenure is under way then. The word is read all the same, since no clause says that each tenure
+//! was ended.
 ghost use Rattle.std.specs.Prelude.{◌≡◌, ◌≤◌, ℕ, List, [], ◌∷◌, true, false, length, slice_get, Some, IfOk, IfSome};
 ghost use Rattle.hub.specs.Passes.{hub_id, AreDealt, AgreesWith};
 ghost use Rattle.hub.specs.Rules.{first_view};
@@ -38,7 +39,8 @@ fn deal<P: Protocol>(
 }
 
 impl<P: Protocol> Hub<P> {
-    /// Opens a hub with this state at home. Answers the hub, and its passes in the order of their numbers, from 0 on.
+    /// Opens a hub with this state at home. Answers the hub, and its passes in the order of their
+    /// numbers, from 0 on.
     ///
     /// `AllocError` if there is no memory. The state is dropped then.
     ///
@@ -65,7 +67,8 @@ impl<P: Protocol> Hub<P> {
 
     /// Ends a hub, and answers its state. It stands after a history that agrees with the pass.
     ///
-    /// `None` if the state is away. It is at home if each tenure was ended by [`Held::leave`](crate::Held::leave).
+    /// `None` if the state is away. It is at home if each tenure was ended by
+    /// [`Held::leave`](crate::Held::leave).
     ///
     /// Frees the hub's memory, and takes none.
     pub fn close(self, pass: Pass<P>) -> Option<P::State>

@@ -1,7 +1,7 @@
 //! Hub: the place of the state, and the passes that lead to it.
 //!
-//! A hub is a table of one word and one slot. The word says whether the state is at home. The slot is where it lies then.
-//! A pass is a seat of this table. It takes no bytes at run time.
+//! A hub is a table of one word and one slot. The word says whether the state is at home. The slot
+//! is where it lies then. A pass is a seat of this table. It takes no bytes at run time.
 ghost use Rattle.std.specs.Prelude.{◌≡◌};
 
 use crate::protocol::{Keeping, Protocol};
@@ -16,14 +16,16 @@ pub(crate) const HOME: u64 = 0;
 /// The word's value during a tenure.
 pub(crate) const AWAY: u64 = 1;
 
-/// One state, and the place where threads take it and give it back. Threads share a hub by reference or in an `Arc`.
+/// One state, and the place where threads take it and give it back. Threads share a hub by
+/// reference or in an `Arc`.
 #[derive(Drop)]
 pub struct Hub<P: Protocol> {
     pub(crate) table: Table<Option<P::State>, View<P::Event>, (), Keeping<P>, Global>,
     ghost sized: { (table.shared.table_id.words ≡ 1) × (table.shared.table_id.slots ≡ 1) },
 }
 
-/// The right to enter one hub, outside of a tenure. Contracts see it as its hub, its number and the history that it has seen.
+/// The right to enter one hub, outside of a tenure. Contracts see it as its hub, its number and the
+/// history that it has seen.
 #[derive(Drop)]
 pub struct Pass<P: Protocol> {
     pub(crate) seat: Seat<Option<P::State>, View<P::Event>>,

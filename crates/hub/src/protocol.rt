@@ -1,7 +1,8 @@
 //! Protocol: what a hub's state stands for.
 //!
-//! A protocol names the state and the events, and says which states may stand after which histories. The hub turns it into
-//! a rule of its table. [`Take`] and [`Give`] are what the two kinds of atomic step tell the thread that makes them.
+//! A protocol names the state and the events, and says which states may stand after which
+//! histories. The hub turns it into a rule of its table. [`Take`] and [`Give`] are what the two
+//! kinds of atomic step tell the thread that makes them.
 ghost use Rattle.std.specs.Prelude.{List};
 ghost use Rattle.hub.specs.declared.view.Entry.{Entry};
 

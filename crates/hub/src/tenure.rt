@@ -1,8 +1,9 @@
 //! Tenure: one holding of the state, from entering the hub to leaving it.
 //!
-//! A tenure begins with the word and then moves the state; it ends with the state and then changes the word. So whenever the
-//! word says that the state is at home, the state is in the slot. A tenure is not `Drop`: if one were dropped, then the state
-//! would stay away for good. So each path through a tenure ends by [`Held::leave`].
+//! A tenure begins with the word and then moves the state; it ends with the state and then changes
+//! the word. So whenever the word says that the state is at home, the state is in the slot. A
+//! tenure is not `Drop`: if one were dropped, then the state would stay away for good. So each path
+//! through a tenure ends by [`Held::leave`].
 ghost use Rattle.std.specs.Prelude.{◌≡◌, ◌++◌, ◌∷◌, [], MatchResult};
 ghost use Rattle.std.specs.Borrow.{sem};
 ghost use Rattle.std.specs.Borrow.{Lends};
@@ -18,7 +19,8 @@ use crossbeam_utils::Backoff;
 use std::marker::Model;
 use std::sync::Wait;
 
-/// A tenure: the state, and the history that it stood after when the tenure began. End it by [`Held::leave`].
+/// A tenure: the state, and the history that it stood after when the tenure began. End it by
+/// [`Held::leave`].
 pub struct Held<'a, P: Protocol> {
     pub(crate) hub: &'a Hub<P>,
     pub(crate) state: P::State,
@@ -102,8 +104,8 @@ impl<'a, P: Protocol> Held<'a, P> {
         &mut self.state
     }
 
-    /// Ends the tenure, and gives the state back. The pass has then seen all that the tenure found, and on top of it one event
-    /// of its own: the one that the state names as its last.
+    /// Ends the tenure, and gives the state back. The pass has then seen all that the tenure found,
+    /// and on top of it one event of its own: the one that the state names as its last.
     ///
     /// One exchange. Never waits and takes no memory.
     pub fn leave(self) -> Pass<P>

@@ -1,4 +1,5 @@
--- What a join answers: a list that stands in for the pairs with what is stored, said of the pairs with what was inserted.
+-- What a join answers: a list that stands in for the pairs with what is stored, said of the pairs
+-- with what was inserted.
 use Rattle.std.proofs.Common.{◌≡◌, ℕ, ◌+◌, ◌*◌, ◌-◌, ◌≤◌, Bool, true, false, cond, ◌&&◌, List, [], ◌∷◌, ◌++◌, map, take, drop, length, eqb, IsTrue, ℤ, refl, sym, ap, subst, ◌∙◌, arith, FitsSigned, w64}
 use Rattle.std.specs.List.{filter, list_all, list_any}
 use Rattle.std.specs.Prelude.{nat_le}

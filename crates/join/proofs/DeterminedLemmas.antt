@@ -1,4 +1,5 @@
--- Lists of updates that sum to alike bags at every time have the same totals for every test of row and time.
+-- Lists of updates that sum to alike bags at every time have the same totals for every test of row
+-- and time.
 use Rattle.std.proofs.Common.{◌≡◌, ℕ, zero, suc, ◌<◌, Bool, true, false, cond, not, ◌&&◌, List, ◌++◌, map, length, IsTrue, refl, sym, ◌∙◌, ap, ⊎_elim, arith}
 use Rattle.std.specs.Prelude.{ℤ, pos, ◌+ℤ◌, neg_ℤ}
 use Rattle.std.specs.List.{filter}
@@ -40,8 +41,8 @@ module _ {T : Type 0} {below : T → T → Bool} (o : PartialOrderLaws below) wh
           some (p v.row v.time) v.diff ∙ (λ i. cond (p (row i) (time i)) v.diff (pos 0))
       at v false h = none (p v.row v.time) v.diff ∙ (when_zero (p v.row v.time) ∙ sym (when_zero (p u.row u.time)))
 
-  -- if the total of each row at each time is 0, then so is the total of what passes a test; n bounds the number of
-  -- updates that pass, and each step removes those of one row and time
+  -- if the total of each row at each time is 0, then so is the total of what passes a test; n
+  -- bounds the number of updates that pass, and each step removes those of one row and time
   nothing_passes : (us : List (Update T)) → ((row : List ℤ) (t : T) → total_at below row t us ≡ pos 0)
       → (n : ℕ) (p : List ℤ → T → Bool) → length (filter (λ u. p u.row u.time) us) < n → total_where p us ≡ pos 0
   nothing_passes us z zero p l = absurd (omega arith)

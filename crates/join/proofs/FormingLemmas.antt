@@ -1,4 +1,5 @@
--- How pairs are formed, one after the other: what one update of the batch adds, and what stands in for what.
+-- How pairs are formed, one after the other: what one update of the batch adds, and what stands in
+-- for what.
 use Rattle.std.proofs.Common.{◌≡◌, ℕ, zero, suc, ◌+◌, ◌-◌, ◌≤◌, ◌<◌, ◌^◌, Bool, List, [], ◌∷◌, ◌++◌, map, take, drop, length, get_or, slice_get, IsTrue, IsSomeAnd, ◌∙◌, ap, arith, length-drop}
 use Rattle.std.specs.Prelude.{slice_range, unsigned_abs}
 use Rattle.std.specs.List.{list_all}

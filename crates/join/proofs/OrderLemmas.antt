@@ -1,5 +1,5 @@
--- A batch is sorted by row, so its keys come in order. What comes before one key comes before the later ones: the place
--- of a key may be sought from where an earlier one was found.
+-- A batch is sorted by row, so its keys come in order. What comes before one key comes before the
+-- later ones: the place of a key may be sought from where an earlier one was found.
 use Rattle.std.proofs.Common.{◌≡◌, ℕ, ◌+◌, ◌-◌, ◌≤◌, ◌<◌, true, List, [], take, drop, length, get_or, slice_get, IsTrue, IsSomeAnd, ℤ, refl, sym, ◌∙◌, ap, subst, arith, length-take, length-drop, ⊎_elim}
 use Rattle.std.specs.Prelude.{slice_range}
 use Rattle.std.specs.List.{filter, list_all}
@@ -64,7 +64,8 @@ module _ {T : Type 0} where
       (keys_rise cmp k us i j d sorted also g h)
       before
 
-  -- what comes before a key in front of a place, and from there to another one, comes before it in front of that one
+  -- what comes before a key in front of a place, and from there to another one, comes before it in
+  -- front of that one
   pub front_grows : (key : List ℤ) (vs : List (Update T)) (a b : ℕ) → a ≤ b → b ≤ length vs → AllBefore key (take a vs) → AllBefore key (slice_range vs a b) → AllBefore key (take b vs)
   front_grows key vs a b g l front more i d h =
       let long = length-take b vs in

@@ -49,7 +49,8 @@ module _ {T : Type 0} (below : T → T → Bool) (joined : T → T → T) (join_
       step true h = rw (join_below u.time v.time t, e) h
       step false h = h
 
-  -- at every time the pairs sum to the join of both sums; what is known of the operator on bags so holds of pairs
+  -- at every time the pairs sum to the join of both sums; what is known of the operator on bags so
+  -- holds of pairs
   pub pairs_at : (us vs : List (Update T)) → at (pairs joined k us vs) ≡ join_output k (at us) (at vs)
   pairs_at [] vs = refl
   pairs_at (u ∷ us) vs = as_of-append below t (pairs_with joined k u vs) (pairs joined k us vs) ∙ step (below u.time t) refl (pairs_at us vs)
@@ -86,7 +87,8 @@ module _ {T : Type 0} (joined : T → T → T) (k : ℕ) where
       let apart = add-mul (unsigned_abs u.diff) (summed_size us) (summed_size vs) in
       omega (arith, here, rest, both, apart)
 
-  -- the size of the pairs is at most the product of both sizes, so a product that fits cannot overflow
+  -- the size of the pairs is at most the product of both sizes, so a product that fits cannot
+  -- overflow
   pub size_pairs : (us vs : List (Update T)) → size (pairs joined k us vs) ≤ size us * size vs
   size_pairs us vs =
       subst (λ n. n ≤ size us * size vs) (summed_size_is (pairs joined k us vs))

@@ -1,5 +1,5 @@
--- Runs: the updates of one key in a batch, and the pairs of two runs. Whichever run the outer loop goes through, the same
--- pairs are formed, in another order.
+-- Runs: the updates of one key in a batch, and the pairs of two runs. Whichever run the outer loop
+-- goes through, the same pairs are formed, in another order.
 use Rattle.std.proofs.Common.{◌≡◌, ◌≢◌, ℕ, zero, suc, ◌+◌, ◌-◌, ◌*◌, ◌≤◌, ◌<◌, ◌^◌, Bool, true, List, [], ◌∷◌, ◌++◌, map, take, drop, length, get_or, slice_get, IsTrue, IsSomeAnd, min, ℤ, refl, sym, ◌∙◌, ap, subst, arith, length-take, length-drop, append_assoc, ⊎_elim}
 use Rattle.std.specs.Prelude.{slice_range, unsigned_abs}
 use Rattle.std.specs.List.{filter, flat_map, list_all}
@@ -222,7 +222,8 @@ module _ {T : Type 0} (joined : T → T → T) (k : ℕ) where
         ∙ flat_map-append ones (slice_range us a i) (u ∷ [])
         ∙ ap (λ ys. so_far ++ ys) (append-nil (ones u))
 
-    -- what stands in for the pairs so far, with those of one more update, stands in for the pairs with that update
+    -- what stands in for the pairs so far, with those of one more update, stands in for the pairs
+    -- with that update
     pub each_more : (old before new : List (Update T)) → i < length us → StandsIn before (old ++ so_far) → StandsIn new (before ++ ones u) → StandsIn new (old ++ formed_each side joined k (slice_range us a (i + 1)) vs)
     each_more old before new h s t =
         subst (StandsIn new)
@@ -305,7 +306,8 @@ module _ {T : Type 0} (cmp : T → T → Ordering) (k : ℕ) (us : List (Update 
           let tied : at_key key u ≡ Equal = ap (λ n. slice_cmp int_cmp (take n u.row) key) key_long ∙ tied_itself rows_total key in
           unequal (sym tied ∙ greater)
 
-  -- what comes before the key in front of one place, and from there to another one, comes before it in front of that one
+  -- what comes before the key in front of one place, and from there to another one, comes before it
+  -- in front of that one
   pub front_on : (vs : List (Update T)) (from to : ℕ) → from ≤ to → to ≤ length vs → IsSomeAnd (slice_get us i) (λ w. AllBefore (take k w.row) (take from vs)) → AllBefore (take k u.row) (slice_range vs from to) → AllBefore (take k u.row) (take to vs)
   front_on vs from to g l before more =
       let is = at_some (λ w. u ≡ w) us i e u in
@@ -384,7 +386,8 @@ module _ {T : Type 0} (side : Side) (joined : T → T → T) (k : ℕ) (us vs : 
   all_parts : (a b : ℕ) → a ≤ b → all (take b us) ≡ all (take a us) ++ all (slice_range us a b)
   all_parts a b g = ap all (sym (part_behind us a b g)) ∙ flat_map-append own (take a us) (slice_range us a b)
 
-  -- what stands in for the pairs so far, with those of the next run, stands in for the pairs with that run
+  -- what stands in for the pairs so far, with those of the next run, stands in for the pairs with
+  -- that run
   pub runs_more : (a b : ℕ) (old before new : List (Update T)) → a ≤ b → StandsIn before (old ++ all (take a us)) → StandsIn new (before ++ all (slice_range us a b)) → StandsIn new (old ++ all (take b us))
   runs_more a b old before new g s t =
       let run = all (slice_range us a b) in
@@ -398,7 +401,8 @@ module _ {T : Type 0} (side : Side) (joined : T → T → T) (k : ℕ) (us vs : 
       let more = ap length (all_parts a b g) ∙ length-append (all (take a us)) (all (slice_range us a b)) in
       omega (arith, more, s, t)
 
-  -- if the pairs so far are too large with those that are still to come, then all pairs are too large
+  -- if the pairs so far are too large with those that are still to come, then all pairs are too
+  -- large
   pub runs_large : (a : ℕ) (old before : List (Update T)) → StandsIn before (old ++ all (take a us)) → 2 ^ 63 ≤ size (before ++ all (drop a us)) → 2 ^ 63 ≤ size (old ++ all us)
   runs_large a old before s large =
       let smaller = s.smaller in

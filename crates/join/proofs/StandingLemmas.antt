@@ -108,14 +108,16 @@ module _ {T : Type 0} (side : Side) (joined : T → T → T) (k : ℕ) where
   abbrev all : List (Update T) → List (Update T) → List (Update T)
   all us vs = formed_all side joined k us vs
 
-  -- what stands in for the pairs so far, with the pairs of one more update, stands in for the pairs with that update
+  -- what stands in for the pairs so far, with the pairs of one more update, stands in for the pairs
+  -- with that update
   pub one_more : (us vs old before new : List (Update T)) (i : ℕ) (u : Update T) → IsSomeAnd (slice_get us i) (λ w. u ≡ w) → StandsIn before (old ++ all (take i us) vs) → StandsIn new (before ++ with u vs) → StandsIn new (old ++ all (take (i + 1) us) vs)
   one_more us vs old before new i u e a b =
       subst (StandsIn new)
       (append_assoc old (all (take i us) vs) (with u vs) ∙ ap (λ ys. old ++ ys) (sym (flat_map_more (λ w. with w vs) us i u e)))
       (stands_in_turn new (before ++ with u vs) ((old ++ all (take i us) vs) ++ with u vs) b (stands_before before (old ++ all (take i us) vs) (with u vs) a))
 
-  -- if the pairs so far are too large with the pairs of one more update, then all pairs are too large
+  -- if the pairs so far are too large with the pairs of one more update, then all pairs are too
+  -- large
   pub one_more_large : (us vs old before : List (Update T)) (i : ℕ) (u : Update T) → IsSomeAnd (slice_get us i) (λ w. u ≡ w) → StandsIn before (old ++ all (take i us) vs) → 2 ^ 63 ≤ size (before ++ with u vs) → 2 ^ 63 ≤ size (old ++ all us vs)
   one_more_large us vs old before i u e a large =
       let smaller = a.smaller in
@@ -204,7 +206,8 @@ module _ {T : Type 0} (side : Side) (joined : T → T → T) (k : ℕ) where
   }
 
   module _ {B : Type 0} (content : B → List (Update T)) where
-    -- what stands in for the pairs so far, with the pairs of one more batch, stands in for the pairs with that batch
+    -- what stands in for the pairs so far, with the pairs of one more batch, stands in for the
+    -- pairs with that batch
     pub one_more_batch : (us old before new : List (Update T)) (cs : List B) (i : ℕ) (c : B) → IsSomeAnd (slice_get cs i) (λ d. c ≡ d) → StandsIn before (old ++ every us (all_content content (take i cs))) → StandsIn new (before ++ every us (content c)) → StandsIn new (old ++ every us (all_content content (take (i + 1) cs)))
     one_more_batch us old before new cs i c e a b =
         let xs = all_content content (take i cs) in
@@ -234,7 +237,8 @@ module _ {T : Type 0} (side : Side) (joined : T → T → T) (k : ℕ) where
         let right = size_pieces us (content d) (all_content content cs) in
         omega (arith, rest, left, right)
 
-    -- if the pairs so far are too large with the pairs of one more batch, then all pairs are too large
+    -- if the pairs so far are too large with the pairs of one more batch, then all pairs are too
+    -- large
     pub one_more_batch_large : (us old before : List (Update T)) (cs : List B) (i : ℕ) (c : B) → IsSomeAnd (slice_get cs i) (λ d. c ≡ d) → StandsIn before (old ++ every us (all_content content (take i cs))) → 2 ^ 63 ≤ size (before ++ every us (content c)) → 2 ^ 63 ≤ size (old ++ every us (all_content content cs))
     one_more_batch_large us old before cs i c e a large =
         let smaller = a.smaller in

@@ -1,5 +1,5 @@
--- Totals of pairs are bilinear: a total of pairs is a double sum, so it adds up over pieces of either side and does not
--- depend on the order of either side.
+-- Totals of pairs are bilinear: a total of pairs is a double sum, so it adds up over pieces of
+-- either side and does not depend on the order of either side.
 use Rattle.std.proofs.Common.{◌≡◌, ℕ, cond, List, ◌++◌, take, Bool, sym, ◌∙◌, arith}
 use Rattle.std.specs.Prelude.{ℤ, pos, ◌+ℤ◌}
 use Rattle.std.specs.List.{filter}
@@ -79,7 +79,8 @@ module _ {T : Type 0} (joined : T → T → T) (k : ℕ) (p : List ℤ → T →
       ∙ total_by-same (row_adds vs) (row_adds xs) us (λ u. total_by-permutation (pair_adds u) vs xs moved)
       ∙ sym (total_pairs us xs)
 
-  -- what a new left piece makes with the old right side, and then a new right piece with the whole left side
+  -- what a new left piece makes with the old right side, and then a new right piece with the whole
+  -- left side
   pub left_first : (us ws vs xs : List (Update T)) → total (pairs joined k us vs ++ (pairs joined k ws vs ++ pairs joined k (us ++ ws) xs)) ≡ total (pairs joined k (us ++ ws) (vs ++ xs))
   left_first us ws vs xs =
       let whole = total-append (pairs joined k us vs) (pairs joined k ws vs ++ pairs joined k (us ++ ws) xs) in
@@ -88,7 +89,8 @@ module _ {T : Type 0} (joined : T → T → T) (k : ℕ) (p : List ℤ → T →
       let parts = total_pairs-both us ws vs xs in
       omega (arith, ints)
 
-  -- what a new right piece makes with the old left side, and then a new left piece with the whole right side
+  -- what a new right piece makes with the old left side, and then a new left piece with the whole
+  -- right side
   pub right_first : (us ws vs xs : List (Update T)) → total (pairs joined k us vs ++ (pairs joined k us xs ++ pairs joined k ws (vs ++ xs))) ≡ total (pairs joined k (us ++ ws) (vs ++ xs))
   right_first us ws vs xs =
       let whole = total-append (pairs joined k us vs) (pairs joined k us xs ++ pairs joined k ws (vs ++ xs)) in

@@ -1,4 +1,5 @@
--- A batch on the right forms the pairs of the definition in another order, so what it forms stands in for them.
+-- A batch on the right forms the pairs of the definition in another order, so what it forms stands
+-- in for them.
 use Rattle.std.proofs.Common.{◌≡◌, ℕ, ℤ, ◌*◌, ◌≤◌, Bool, true, false, cond, List, [], ◌∷◌, ◌++◌, map, take, refl, sym, ap, ◌∙◌, subst, arith}
 use Rattle.std.specs.List.{filter, flat_map}
 use Rattle.std.specs.List.Sorted.{IsPermutation}

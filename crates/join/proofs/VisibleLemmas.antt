@@ -1,4 +1,5 @@
--- Pairs at a time: what compaction of one side leaves unchanged, and what one more piece of input adds.
+-- Pairs at a time: what compaction of one side leaves unchanged, and what one more piece of input
+-- adds.
 use Rattle.std.proofs.Common.{◌≡◌, ℕ, zero, suc, Bool, true, false, cond, ◌&&◌, List, [], ◌∷◌, ◌++◌, map, refl, sym, ◌∙◌, ap, IsTrue}
 use Rattle.std.specs.Prelude.{ℤ, ◌+ℤ◌}
 use Rattle.std.specs.List.{filter}
@@ -95,7 +96,8 @@ module _ {T : Type 0} (below : T → T → Bool) (joined : T → T → T) (join_
   abbrev counted : T → List ℤ → List ℤ → T → Bool
   counted t row r s = same_row r row && below s t
 
-  -- if the emitted updates sum to the join of what was received, then the pairs of one more left piece keep it so
+  -- if the emitted updates sum to the join of what was received, then the pairs of one more left
+  -- piece keep it so
   pub left_goes_on : (k : ℕ) (us old vs emitted : List (Update T)) (t : T) → Alike (at t emitted) (join_output k (at t old) (at t vs)) → Alike (at t (pairs joined k us vs ++ emitted)) (join_output k (at t (us ++ old)) (at t vs))
   left_goes_on k us old vs emitted t before row =
       ap (λ es. count_of es row) (as_of-append below t (pairs joined k us vs) emitted)

@@ -1,5 +1,5 @@
--- What a join forms of a new batch: the pairs of each of its updates with the updates of its key on the other side. The
--- same definitions serve a batch on either side.
+-- What a join forms of a new batch: the pairs of each of its updates with the updates of its key on
+-- the other side. The same definitions serve a batch on either side.
 use Rattle.std.specs.Prelude.{◌≡◌, ◌≤◌, ℕ, Bool, List, map, take, ℤ, IsTrue}
 use Rattle.std.specs.List.{filter, flat_map, list_all}
 use Rattle.update.specs.Updates.{total_where, size}

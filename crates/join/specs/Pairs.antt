@@ -1,5 +1,6 @@
--- What a join makes of updates: each left update is paired with each right update of its key. A pair is visible only
--- from the join of both times (McSherry et al., Differential Dataflow, CIDR 2013).
+-- What a join makes of updates: each left update is paired with each right update of its key. A
+-- pair is visible only from the join of both times (McSherry et al., Differential Dataflow, CIDR
+-- 2013).
 use Rattle.std.specs.Prelude.{ℕ, ◌+◌, nat_le, Bool, List, ◌++◌, map, take, drop, length, ℤ, ◌*ℤ◌}
 use Rattle.std.specs.List.{filter, flat_map}
 use Rattle.update.specs.Bags.{same_row}
@@ -10,8 +11,8 @@ module _ {T : Type 0} where
   abbrev pub is_keyed : ℕ → List ℤ → Update T → Bool
   is_keyed k key u = same_row (take k u.row) key
 
-  -- the left row and the rest of the right row, at the join of both times; the diff is the product of both diffs
-  -- (McSherry et al., Differential Dataflow, CIDR 2013)
+  -- the left row and the rest of the right row, at the join of both times; the diff is the product
+  -- of both diffs (McSherry et al., Differential Dataflow, CIDR 2013)
   abbrev pub pair_of : (T → T → T) → ℕ → Update T → Update T → Update T
   pair_of joined k u v =
       record { time = joined u.time v.time; row = u.row ++ drop k v.row; diff = u.diff *ℤ v.diff }
@@ -20,8 +21,8 @@ module _ {T : Type 0} where
   abbrev pub pairs_with : (T → T → T) → ℕ → Update T → List (Update T) → List (Update T)
   pairs_with joined k u vs = map (pair_of joined k u) (filter (is_keyed k (take k u.row)) vs)
 
-  -- the pairs of all left updates with the right updates of their keys (McSherry et al., Differential Dataflow, CIDR
-  -- 2013)
+  -- the pairs of all left updates with the right updates of their keys (McSherry et al.,
+  -- Differential Dataflow, CIDR 2013)
   abbrev pub pairs : (T → T → T) → ℕ → List (Update T) → List (Update T) → List (Update T)
   pairs joined k us vs = flat_map (λ u. pairs_with joined k u vs) us
 

@@ -1,12 +1,13 @@
--- What a contract sees of a join: its key, how far each of its sides was acknowledged, and how much it has read.
+-- What a contract sees of a join: its key, how far each of its sides was acknowledged, and how much
+-- it has read.
 use Rattle.std.specs.Prelude.{◌≡◌, ℕ, Bool, List, take, length, eqb}
 use Rattle.std.specs.List.{list_all, list_any}
 use Rattle.update.specs.declared.change.Update.{Update}
 use Rattle.trace.specs.Readings.{Insertion, AreUpTo, all_updates}
 use Rattle.join.specs.Pairs.{is_keyed}
 
--- the number of columns of the key, the boundary up to which each side was acknowledged, and how many updates of the
--- other side were read
+-- the number of columns of the key, the boundary up to which each side was acknowledged, and how
+-- many updates of the other side were read
 pub record Acknowledged (T : Type 0) : Type 0 where
   pub key : ℕ
   pub left : List T
@@ -14,8 +15,8 @@ pub record Acknowledged (T : Type 0) : Type 0 where
   pub looked : ℕ
 
 module _ {T : Type 0} where
-  -- these updates were inserted into a trace up to a boundary, if the trace begins at `start`; `stands` tells for which
-  -- insertions it stands
+  -- these updates were inserted into a trace up to a boundary, if the trace begins at `start`;
+  -- `stands` tells for which insertions it stands
   abbrev pub WereInserted : (List (Insertion T) → Type 0) → List T → List T → List (Update T) → Type 0
   WereInserted stands start upto got =
       (h : List (Insertion T))

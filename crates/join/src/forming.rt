@@ -1,18 +1,19 @@
-//! Forming pairs: a new batch goes through each batch of the other side, from key to key. Both are sorted by row, so the
-//! place of a key is sought from the place of the key before it. What is read are the updates of keys that the batch
-//! has, and nothing besides.
+//! Forming pairs: a new batch goes through each batch of the other side, from key to key. Both are
+//! sorted by row, so the place of a key is sought from the place of the key before it. What is read
+//! are the updates of keys that the batch has, and nothing besides.
 //!
-//! Many pairs may have one row and one time: the join of a late time with any of many early ones is the late time. Two
-//! things keep the list of pairs short:
+//! Many pairs may have one row and one time: the join of a late time with any of many early ones is
+//! the late time. Two things keep the list of pairs short:
 //!
-//! - The inner loop goes through the shorter of two runs, so that one update meets all that a row of the other side went
-//!   through, one version after the other. Such pairs are neighbours, and a pair that has the row and the time of the one
-//!   before it is added to that one.
-//! - The list is consolidated each time that it has doubled, so it stays within twice what comes out. A list that is in
-//!   proportion to the batch is left alone: one consolidation at the end is enough.
+//! - The inner loop goes through the shorter of two runs, so that one update meets all that a row
+//!   of the other side went through, one version after the other. Such pairs are neighbours, and a
+//!   pair that has the row and the time of the one before it is added to that one.
+//! - The list is consolidated each time that it has doubled, so it stays within twice what comes
+//!   out. A list that is in proportion to the batch is left alone: one consolidation at the end is
+//!   enough.
 //!
-//! The invariant of every step: what is listed stands in for the pairs formed so far. It has their totals and no other
-//! rows and times, and is no larger.
+//! The invariant of every step: what is listed stands in for the pairs formed so far. It has their
+//! totals and no other rows and times, and is no larger.
 ghost use Rattle.std.specs.Prelude.{◌≡◌, ◌≤◌, ◌<◌, ◌+◌, ◌-◌, ◌*◌, ◌^◌, ◌+ℤ◌, ◌++◌, ◌∷◌, [], ℤ, Some, map, IfOk, IfErr, IfSome, IsErr, OnOk, IsTrue, IsSomeAnd, length, take, drop, slice_get, slice_index_or, slice_range, unsigned_abs, min};
 ghost use Rattle.std.specs.List.{list_all};
 ghost use Rattle.update.specs.Updates.{HasLargeTotal, IsConsolidated, size};
@@ -33,8 +34,8 @@ use std::mem;
 use std::ops::Range;
 use update::{Refusal, Update, Weight, consolidate};
 
-// The list is first consolidated when it has more pairs than so many for each update of the batch, and than so many at
-// least.
+// The list is first consolidated when it has more pairs than so many for each update of the batch,
+// and than so many at least.
 const FOR_EACH: usize = 4;
 
 const AT_LEAST: usize = 4096;
@@ -121,8 +122,8 @@ fn update_at<B: BatchReader>(batch: &B, i: usize) -> Update<B::Time>
     }
 }
 
-// The sum of a pair's difference and that of the last update of the list, if the pair has its row and time and the sum
-// fits in 64 bits.
+// The sum of a pair's difference and that of the last update of the list, if the pair has its row
+// and time and the sum fits in 64 bits.
 fn sum_with_last<T: Lattice>(updates: &[Update<T>], pair: &Update<T>) -> Option<i64>
     ensures some { IfSome result (λ _. 0 < length updates.now) }
     ensures sum { IfSome result (λ sum. IsSomeAnd (slice_get updates.now (length updates.now - 1))
@@ -266,7 +267,8 @@ impl<T: Lattice> Formed<T> {
         Ok(())
     }
 
-    // Forms the pairs of each update of one run with each update of another. `side` is that of the outer run.
+    // Forms the pairs of each update of one run with each update of another. `side` is that of the
+    // outer run.
     fn pair_runs<B: BatchReader<Time = T>, C: BatchReader<Time = T>>(
         &mut self,
         side: Side,
@@ -312,8 +314,8 @@ impl<T: Lattice> Formed<T> {
         Ok(())
     }
 
-    // Forms the pairs of a run of the batch with a run of the other side, and counts what is read of that side. The inner
-    // loop goes through the shorter run.
+    // Forms the pairs of a run of the batch with a run of the other side, and counts what is read
+    // of that side. The inner loop goes through the shorter run.
     fn pair_found<B: BatchReader<Time = T>, C: BatchReader<Time = T>>(
         &mut self,
         side: Side,
@@ -356,8 +358,8 @@ impl<T: Lattice> Formed<T> {
         }
     }
 
-    // Forms the pairs of one key: that of the update of the batch which is at its place. Returns the places from which the
-    // next key is sought.
+    // Forms the pairs of one key: that of the update of the batch which is at its place. Returns
+    // the places from which the next key is sought.
     fn pair_key<B: BatchReader<Time = T>, C: BatchReader<Time = T>>(
         &mut self,
         side: Side,
@@ -458,8 +460,8 @@ impl<T: Lattice> Formed<T> {
     }
 }
 
-/// Forms the pairs of a batch with all batches of the other side, consolidated. `looked` is how many updates of the
-/// other side had been read before.
+/// Forms the pairs of a batch with all batches of the other side, consolidated. `looked` is how
+/// many updates of the other side had been read before.
 ///
 /// Cost: as for [`JoinState::take_left`](crate::JoinState::take_left).
 pub(crate) fn form_pairs<B: BatchReader, C: BatchReader<Time = B::Time>>(

@@ -1,10 +1,11 @@
-//! The state of a join: its key, and for each of its sides the boundary up to which that side was acknowledged. A side is
-//! acknowledged batch by batch. Each new batch is paired with what the other side has acknowledged by then, and with
-//! nothing besides. So of two batches, one on each side, the second one that is taken is paired with the first one, and
-//! the first one is not paired with the second. Each pair is formed once, whichever side moves first.
+//! The state of a join: its key, and for each of its sides the boundary up to which that side was
+//! acknowledged. A side is acknowledged batch by batch. Each new batch is paired with what the
+//! other side has acknowledged by then, and with nothing besides. So of two batches, one on each
+//! side, the second one that is taken is paired with the first one, and the first one is not paired
+//! with the second. Each pair is formed once, whichever side moves first.
 //!
-//! The sides have a boundary each also where both read one trace, as in the join of a table with itself. With one
-//! boundary for both, a batch would be paired with itself twice, or not at all.
+//! The sides have a boundary each also where both read one trace, as in the join of a table with
+//! itself. With one boundary for both, a batch would be paired with itself twice, or not at all.
 ghost use Rattle.std.specs.Prelude.{◌≡◌, ◌≤◌, ◌*◌, ◌+◌, ◌-◌, ◌^◌, ◌⊎◌, ℕ, ℤ, Bool, List, length, min, IfOk, IfErr, OnOk, OnErr, IsTrue};
 ghost use Rattle.std.specs.List.{Contains, list_all};
 ghost use Rattle.antichain.specs.Antichains.{IsFrontier};
@@ -24,9 +25,9 @@ use std::marker::{Model, PhantomData};
 use trace::Trace;
 use update::{Refusal, Update};
 
-/// A join of a trace `L` on the left with a trace `R` on the right by the first columns of their rows, at times `T`. A
-/// contract sees the number of these columns, the boundary up to which each side was acknowledged, and how many updates
-/// were read.
+/// A join of a trace `L` on the left with a trace `R` on the right by the first columns of their
+/// rows, at times `T`. A contract sees the number of these columns, the boundary up to which each
+/// side was acknowledged, and how many updates were read.
 #[derive(Drop)]
 pub struct JoinState<T: Lattice, L, R> {
     key: usize,
@@ -56,9 +57,9 @@ impl<T: Lattice, L, R> Model for JoinState<T, L, R> {
 }
 
 impl<T: Lattice, L: Trace<Time = T>, R: Trace<Time = T>> JoinState<T, L, R> {
-    /// A join by the first `key` columns, 1 to 8, whose sides were acknowledged up to these boundaries: frontiers, each
-    /// as its elements in `Ord` order. A join that is to read all of two traces begins where these begin. Takes no
-    /// memory.
+    /// A join by the first `key` columns, 1 to 8, whose sides were acknowledged up to these
+    /// boundaries: frontiers, each as its elements in `Ord` order. A join that is to read all of
+    /// two traces begins where these begin. Takes no memory.
     pub fn new(key: usize, left: Vec<T>, right: Vec<T>) -> JoinState<T, L, R>
         requires some { 1 ≤ key }
         requires few { key ≤ 8 }
@@ -89,8 +90,8 @@ impl<T: Lattice, L: Trace<Time = T>, R: Trace<Time = T>> JoinState<T, L, R> {
         self.key
     }
 
-    /// The boundary up to which the left side was acknowledged. The reader's hold on the left trace has to keep it.
-    /// Takes no memory.
+    /// The boundary up to which the left side was acknowledged. The reader's hold on the left trace
+    /// has to keep it. Takes no memory.
     pub fn left(&self) -> &[T]
         ensures value { result.now ≡ self.now.left }
         ensures frontier { IsFrontier T.below T.cmp self.now.left }
@@ -98,8 +99,8 @@ impl<T: Lattice, L: Trace<Time = T>, R: Trace<Time = T>> JoinState<T, L, R> {
         self.left.as_slice()
     }
 
-    /// The boundary up to which the right side was acknowledged. The reader's hold on the right trace has to keep it.
-    /// Takes no memory.
+    /// The boundary up to which the right side was acknowledged. The reader's hold on the right
+    /// trace has to keep it. Takes no memory.
     pub fn right(&self) -> &[T]
         ensures value { result.now ≡ self.now.right }
         ensures frontier { IsFrontier T.below T.cmp self.now.right }
@@ -107,31 +108,33 @@ impl<T: Lattice, L: Trace<Time = T>, R: Trace<Time = T>> JoinState<T, L, R> {
         self.right.as_slice()
     }
 
-    /// How many updates of the other side were read in all answered calls, each one as often as it was paired. It stays
-    /// at its greatest value. Takes no memory.
+    /// How many updates of the other side were read in all answered calls, each one as often as it
+    /// was paired. It stays at its greatest value. Takes no memory.
     pub fn looked(&self) -> u64
         ensures { result ≡ self.now.looked }
     {
         self.looked
     }
 
-    /// Acknowledges a new batch of the left side, and returns its pairs with all updates that the right side has
-    /// acknowledged, consolidated: the left row and the rest of the right row, at the join of both times, with the
-    /// product of both diffs. The right trace may have moved times together, as of its since: the pairs are those of
-    /// the times that were inserted.
+    /// Acknowledges a new batch of the left side, and returns its pairs with all updates that the
+    /// right side has acknowledged, consolidated: the left row and the rest of the right row, at
+    /// the join of both times, with the product of both diffs. The right trace may have moved times
+    /// together, as of its since: the pairs are those of the times that were inserted.
     ///
-    /// The batch begins at the left boundary, and its times are beyond the since of the right trace. The right boundary
-    /// is one of the right trace. Rows of the batch have at least as many columns as the key, and rows of pairs at most
+    /// The batch begins at the left boundary, and its times are beyond the since of the right
+    /// trace. The right boundary is one of the right trace. Rows of the batch have at least as many
+    /// columns as the key, and rows of pairs at most
     /// 8. If the call is refused, then nothing has changed.
     ///
-    /// - [`Refusal::Overflow`] only if both sizes multiplied are at least 2^63. It always comes if the total of some
-    ///   row at some time is no 64-bit number.
+    /// - [`Refusal::Overflow`] only if both sizes multiplied are at least 2^63. It always comes if
+    ///   the total of some row at some time is no 64-bit number.
     /// - [`Refusal::OutOfMemory`] only if memory was refused, for the boundary or for pairs.
     ///
-    /// Cost: each key of the batch is sought in each batch of the right side, from where the last one was found, in the
-    /// logarithm of the distance. Each pair is formed, and added to the one before it if both have one row and time. Then
-    /// n log n in the number of the pairs that are left. No other update is read. Memory: twice the answer, the pairs of
-    /// one update, and up to four pairs for each update of the batch, or 4,096.
+    /// Cost: each key of the batch is sought in each batch of the right side, from where the last
+    /// one was found, in the logarithm of the distance. Each pair is formed, and added to the one
+    /// before it if both have one row and time. Then n log n in the number of the pairs that are
+    /// left. No other update is read. Memory: twice the answer, the pairs of one update, and up to
+    /// four pairs for each update of the batch, or 4,096.
     pub fn take_left(
         &mut self,
         alloc: Global,
@@ -196,9 +199,10 @@ impl<T: Lattice, L: Trace<Time = T>, R: Trace<Time = T>> JoinState<T, L, R> {
         Ok(formed.updates)
     }
 
-    /// Acknowledges a new batch of the right side, and returns its pairs with all updates that the left side has
-    /// acknowledged. It is [`take_left`](JoinState::take_left) with both sides exchanged: the pairs are the same ones, the
-    /// left row first, and so are conditions, refusals and cost.
+    /// Acknowledges a new batch of the right side, and returns its pairs with all updates that the
+    /// left side has acknowledged. It is [`take_left`](JoinState::take_left) with both sides
+    /// exchanged: the pairs are the same ones, the left row first, and so are conditions, refusals
+    /// and cost.
     pub fn take_right(
         &mut self,
         alloc: Global,

@@ -1,4 +1,5 @@
--- Joins and meets under the laws of a lattice: how to test them, and that joins may be taken in any order.
+-- Joins and meets under the laws of a lattice: how to test them, and that joins may be taken in any
+-- order.
 use Rattle.std.proofs.Common.{◌≡◌, Bool, true, false, ◌&&◌, IsTrue, refl, sym}
 use Rattle.std.proofs.lemmas.Bool.{and_parts, and_from}
 use Rattle.lattice.specs.Order.{PartialOrderLaws, LatticeLaws}

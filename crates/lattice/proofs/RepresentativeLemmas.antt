@@ -44,7 +44,8 @@ module _ {T : Type 0} {below : T → T → Bool} {joined met : T → T → T} (o
       let parts = and_parts _ _ a in
       above_meet z t (joined t f) F parts.0 parts.1
 
-  -- the representative of t is the greatest time at or before all times beyond the frontier at which t is visible
+  -- the representative of t is the greatest time at or before all times beyond the frontier at
+  -- which t is visible
   pub representative_greatest : (F : List T) (t z : T) → F ≢ [] → ((s : T) → IsTrue (is_beyond below F s) → IsTrue (below t s) → IsTrue (below z s)) → IsTrue (below z (representative_of joined met F t))
   representative_greatest F t z some h =
       above_representative z t F some

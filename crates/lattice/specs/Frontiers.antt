@@ -1,5 +1,5 @@
--- Frontiers, as lists of times. The times that are still open are those beyond the frontier (Murray et al., Naiad, SOSP
--- 2013; Abadi and Isard, Timely Dataflow: A Model, 2015).
+-- Frontiers, as lists of times. The times that are still open are those beyond the frontier (Murray
+-- et al., Naiad, SOSP 2013; Abadi and Isard, Timely Dataflow: A Model, 2015).
 use Rattle.std.specs.Prelude.{Bool, List}
 use Rattle.std.specs.List.{list_any, list_all}
 

@@ -1,4 +1,5 @@
--- Whole numbers satisfy the laws of times. Their order is total: the join is the greater and the meet the lesser.
+-- Whole numbers satisfy the laws of times. Their order is total: the join is the greater and the
+-- meet the lesser.
 use Rattle.std.specs.Prelude.{ℕ, IsTrue, nat_le, max, min}
 use Rattle.std.specs.Ordering.{nat_cmp}
 use Rattle.std.proofs.Common.{arith}

@@ -1,6 +1,6 @@
--- The laws of the traits of timestamps. A partial order is given by its test, a lattice by its two operations
--- (Birkhoff, Lattice Theory, 1940; as timestamps: Abadi, McSherry and Plotkin, Foundations of Differential Dataflow,
--- 2015).
+-- The laws of the traits of timestamps. A partial order is given by its test, a lattice by its two
+-- operations (Birkhoff, Lattice Theory, 1940; as timestamps: Abadi, McSherry and Plotkin,
+-- Foundations of Differential Dataflow, 2015).
 use Rattle.std.specs.Prelude.{◌≡◌, Bool, IsTrue}
 use Rattle.std.specs.Ordering.{is_le}
 use Rattle.std.specs.declared.cmp.Ordering.{Ordering}

@@ -1,4 +1,5 @@
--- Pairs of times, ordered component by component. Each law of pairs follows from the same law of both components.
+-- Pairs of times, ordered component by component. Each law of pairs follows from the same law of
+-- both components.
 use Rattle.std.specs.Prelude.{◌≡◌, Bool, ◌&&◌, IsTrue, refl}
 use Rattle.std.proofs.lemmas.Bool.{and_parts, and_from}
 use Rattle.std.specs.Ordering.{is_le, ordering_then}

@@ -1,18 +1,19 @@
-//! Representatives of times as of a frontier. If a time is read only at times beyond the frontier, then it may be
-//! replaced by its representative. As of a frontier that is not empty, times that no such read can tell apart have one
-//! representative, so compaction merges all updates that can be merged.
+//! Representatives of times as of a frontier. If a time is read only at times beyond the frontier,
+//! then it may be replaced by its representative. As of a frontier that is not empty, times that no
+//! such read can tell apart have one representative, so compaction merges all updates that can be
+//! merged.
 ghost use Rattle.std.specs.Prelude.{◌≡◌, ◌≢◌, List, [], IsTrue};
 ghost use Rattle.lattice.specs.Frontiers.{is_beyond, all_beyond};
 ghost use Rattle.lattice.specs.Representatives.{representative_of, Indistinguishable};
 
 use crate::Lattice;
 
-/// The meet, over the elements of the frontier, of the join of the time with the element; as of the empty frontier, the
-/// time itself. The result is at or after the time, but need not be beyond the frontier. If the time is already beyond
-/// the frontier, then the result is the time itself.
+/// The meet, over the elements of the frontier, of the join of the time with the element; as of the
+/// empty frontier, the time itself. The result is at or after the time, but need not be beyond the
+/// frontier. If the time is already beyond the frontier, then the result is the time itself.
 ///
-/// Cost: a join and a meet for each element; takes no memory. This is `advance_by` of differential dataflow, and the
-/// representative of McSherry et al., Shared Arrangements, VLDB 2020.
+/// Cost: a join and a meet for each element; takes no memory. This is `advance_by` of differential
+/// dataflow, and the representative of McSherry et al., Shared Arrangements, VLDB 2020.
 pub fn representative<T: Lattice>(t: T, frontier: &[T]) -> T
     ensures value { result ≡ representative_of T.joined T.met frontier.now t }
     ensures keeps { Indistinguishable T.below frontier.now t result }
@@ -31,16 +32,20 @@ pub fn representative<T: Lattice>(t: T, frontier: &[T]) -> T
     }
 }
 
-/// What representatives are good for, in every lattice. This function does nothing: it is called for its clauses.
+/// What representatives are good for, in every lattice. This function does nothing: it is called
+/// for its clauses.
 ///
-/// - `reads`: at a time beyond the frontier, a read sees the representative if and only if it sees the time.
-/// - `one`: as of a frontier that is not empty, times that no read can tell apart have one representative.
-/// - `joins`: joined with a time beyond the frontier, the representative and the time give the same result.
-/// - `greatest`: as of a frontier that is not empty, take every time beyond the frontier at which the given time is
-///   visible. The representative is the greatest time at or before all of them. This clause says what a representative
-///   is, without its formula.
-/// - `in_steps`: compacting as of one frontier and then as of a later one gives the same as compacting as of the later
-///   one at once.
+/// - `reads`: at a time beyond the frontier, a read sees the representative if and only if it sees
+///   the time.
+/// - `one`: as of a frontier that is not empty, times that no read can tell apart have one
+///   representative.
+/// - `joins`: joined with a time beyond the frontier, the representative and the time give the same
+///   result.
+/// - `greatest`: as of a frontier that is not empty, take every time beyond the frontier at which
+///   the given time is visible. The representative is the greatest time at or before all of them.
+///   This clause says what a representative is, without its formula.
+/// - `in_steps`: compacting as of one frontier and then as of a later one gives the same as
+///   compacting as of the later one at once.
 pub fn representatives_are_canonical<T: Lattice>()
     ensures reads { (F : List T) (t s : T) → IsTrue (is_beyond T.below F s)
         → T.below (representative_of T.joined T.met F t) s ≡ T.below t s }

@@ -1,4 +1,5 @@
-//! Whole numbers as times along one axis. Any two can be compared; the join is the greater and the meet the lesser.
+//! Whole numbers as times along one axis. Any two can be compared; the join is the greater and the
+//! meet the lesser.
 ghost use Rattle.std.specs.Prelude.{◌≡◌, ◌<◌, ◌^◌, nat_le, max, min};
 ghost use Rattle.lattice.specs.Naturals.{nat_order, nat_bounds, nat_extends, nat_lowest};
 

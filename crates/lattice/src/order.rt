@@ -1,9 +1,11 @@
-//! The three traits of timestamps. Their ghost members name the order and the operations, so that clauses of every
-//! layer can speak of them. The ghost members with laws come last; each implementation proves them once.
+//! The three traits of timestamps. Their ghost members name the order and the operations, so that
+//! clauses of every layer can speak of them. The ghost members with laws come last; each
+//! implementation proves them once.
 ghost use Rattle.std.specs.Prelude.{◌≡◌, Bool, IsTrue};
 ghost use Rattle.lattice.specs.Order.{PartialOrderLaws, LatticeLaws, ExtendsLaws};
 
-/// Times with a partial order: it is reflexive, transitive and antisymmetric, and two times need not be comparable.
+/// Times with a partial order: it is reflexive, transitive and antisymmetric, and two times need
+/// not be comparable.
 pub trait PartialOrder {
     ghost below: { Self → Self → Bool };
 
@@ -14,8 +16,8 @@ pub trait PartialOrder {
     ghost order: { PartialOrderLaws below };
 }
 
-/// Times of which any two have a least upper bound and a greatest lower bound. `Ord` is the order for sorting: it
-/// extends `less_equal`, and times that are equal under it are identical.
+/// Times of which any two have a least upper bound and a greatest lower bound. `Ord` is the order
+/// for sorting: it extends `less_equal`, and times that are equal under it are identical.
 pub trait Lattice: PartialOrder + Ord + Copy + Default {
     ghost joined: { Self → Self → Self };
 
@@ -34,8 +36,9 @@ pub trait Lattice: PartialOrder + Ord + Copy + Default {
     ghost extends: { ExtendsLaws Self.below Self.cmp };
 }
 
-/// Times with a least one. In a clause a number has no upper limit, so `value` says which values the type holds: 0 to
-/// 18446744073709551615 for `u64`, and for a pair whatever its components hold.
+/// Times with a least one. In a clause a number has no upper limit, so `value` says which values
+/// the type holds: 0 to 18446744073709551615 for `u64`, and for a pair whatever its components
+/// hold.
 pub trait Minimum: Lattice {
     ghost value: { Self → Type 0 };
 

@@ -1,5 +1,6 @@
-//! Products of times: a pair is at or before another if both of its components are. If both component types implement
-//! one of the traits of times, then so does the pair. So a timestamp with three axes is a pair of a pair and a number.
+//! Products of times: a pair is at or before another if both of its components are. If both
+//! component types implement one of the traits of times, then so does the pair. So a timestamp with
+//! three axes is a pair of a pair and a number.
 ghost use Rattle.std.specs.Prelude.{Some, codes};
 ghost use Rattle.std.specs.Fmt.{◌++?◌};
 ghost use Rattle.std.proofs.lemmas.Bool.{and_from};
@@ -79,7 +80,8 @@ impl<A: Minimum, B: Minimum> Minimum for Pair<A, B> {
     }
 }
 
-/// Both components, separated by one space, as a script writes a time: `5 2`, or `5 2 7` with three axes.
+/// Both components, separated by one space, as a script writes a time: `5 2`, or `5 2 7` with three
+/// axes.
 impl<A: fmt::Display, B: fmt::Display> fmt::Display for Pair<A, B> {
     ghost output = { λ p. A.output p.first ++? Some (codes " ") ++? B.output p.second };
 

@@ -1,5 +1,5 @@
--- The output of a linear node for the lists at all its ports: one list, no larger than the node's bound, whose sum is
--- the operator's output for the sums.
+-- The output of a linear node for the lists at all its ports: one list, no larger than the node's
+-- bound, whose sum is the operator's output for the sums.
 use Rattle.std.proofs.Common.{ℕ, ◌≤◌, Bool, List, ◌++◌, IsTrue, refl, ap, sym, arith}
 use Rattle.std.proofs.lemmas.Bool.{true≢false}
 use Rattle.update.specs.Bags.{Alike, count_of}

@@ -1,4 +1,5 @@
--- The ports of a node: which ports read nothing, and how more input at a port changes the bound of a linear node.
+-- The ports of a node: which ports read nothing, and how more input at a port changes the bound of
+-- a linear node.
 use Rattle.std.proofs.Common.{◌≡◌, ℕ, zero, suc, ◌+◌, ◌≤◌, ◌||◌, true, cond, eqb, nat_lt, ⊎_elim, IsTrue, List, [], ◌∷◌, None, length, slice_get, sym, ◌∙◌, arith}
 use Rattle.std.proofs.lemmas.Bool.{true≢false}
 use Rattle.std.proofs.lemmas.Bool.Decides.{nat_tests}

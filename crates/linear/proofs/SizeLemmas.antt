@@ -106,8 +106,8 @@ module _ {T : Type 0} where
   times_applied (Negate source) p us h = list_all-map (λ u. p u.time) negated_update us (λ u. refl) h
   times_applied node p us h = h
 
-  -- a test that cannot tell a diff from its opposite, such as a limit on its size, is passed by the output if the input
-  -- passes it
+  -- a test that cannot tell a diff from its opposite, such as a limit on its size, is passed by the
+  -- output if the input passes it
   pub diffs_applied : (node : Node) (p : ℤ → Bool) → ((d : ℤ) → p (neg_ℤ d) ≡ p d) → (us : List (Update T)) → IsTrue (list_all (λ u. p u.diff) us) → IsTrue (list_all (λ u. p u.diff) (linear_output node us))
   diffs_applied (Map source items) p e us h = list_all-map (λ u. p u.diff) (mapped_update items) us (λ u. refl) h
   diffs_applied (Filter source test) p e us h = list_all-filter (λ u. p u.diff) (λ u. passes test u.row) us h

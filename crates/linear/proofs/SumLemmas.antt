@@ -1,4 +1,5 @@
--- At every time, the sum of a linear node's output is the operator's output for the sum of its input.
+-- At every time, the sum of a linear node's output is the operator's output for the sum of its
+-- input.
 use Rattle.std.proofs.Common.{◌≡◌, ℕ, zero, suc, Bool, true, false, cond, ◌||◌, ◌&&◌, eqb, nat_lt, List, [], ◌∷◌, ◌++◌, map, IsTrue, refl, ap, sym, ◌∙◌, arith}
 use Rattle.std.specs.Prelude.{◌+ℤ◌}
 use Rattle.std.specs.List.{filter}
@@ -118,7 +119,8 @@ module _ {T : Type 0} (below : T → T → Bool) (t : T) where
         | false ↦ refl
       ]
 
-  -- if the emitted updates sum to the operator's output for all that was received, then one more piece keeps it so
+  -- if the emitted updates sum to the operator's output for all that was received, then one more
+  -- piece keeps it so
   pub applied_goes_on : (k : ℕ) (node : Node) → IsTrue (is_linear node) → (port : ℕ) → IsTrue (is_port node port)
       → (received : ℕ → List (Update T)) (emitted us : List (Update T))
       → Alike (as_of below t emitted) (operator_output k node (λ p. as_of below t (received p)))

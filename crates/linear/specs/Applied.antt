@@ -1,5 +1,5 @@
--- The output of a linear node: it works update by update and keeps the times (McSherry et al., Differential Dataflow,
--- CIDR 2013, section 3).
+-- The output of a linear node: it works update by update and keeps the times (McSherry et al.,
+-- Differential Dataflow, CIDR 2013, section 3).
 use Rattle.std.specs.Prelude.{List, map, FitsSigned, neg_ℤ}
 use Rattle.std.specs.Int.{w64}
 use Rattle.std.specs.List.{filter, Any}
@@ -18,7 +18,8 @@ mapped_update items u = record u { row = projection items u.row }
 abbrev pub negated_update : {T : Type 0} → Update T → Update T
 negated_update u = record u { diff = neg_ℤ u.diff }
 
--- the output of a linear node for the updates that come to one of its ports; it means nothing for joins and reductions
+-- the output of a linear node for the updates that come to one of its ports; it means nothing for
+-- joins and reductions
 abbrev pub linear_output : {T : Type 0} → Node → List (Update T) → List (Update T)
 linear_output (Map source items) us = map (mapped_update items) us
 linear_output (Filter source test) us = filter (λ u. passes test u.row) us

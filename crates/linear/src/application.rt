@@ -1,8 +1,9 @@
 //! Linear nodes, applied to updates in place.
 //!
-//! A map and a negation overwrite each update where it stands. A filter moves the updates that pass to the front, in
-//! their old order, and cuts off the rest. The other nodes pass on what comes: a concat merges two lists of updates
-//! into one, and a caller that takes from both ports has merged them already. So no operator allocates.
+//! A map and a negation overwrite each update where it stands. A filter moves the updates that pass
+//! to the front, in their old order, and cuts off the rest. The other nodes pass on what comes: a
+//! concat merges two lists of updates into one, and a caller that takes from both ports has merged
+//! them already. So no operator allocates.
 ghost use Rattle.std.specs.Prelude.{◌≡◌, ◌≤◌, ◌↔◌, ℕ, Bool, map, length, IfOk, IfErr, IsErr, OnOk, IsTrue};
 ghost use Rattle.std.specs.List.{filter, list_all};
 ghost use Rattle.row.specs.Testing.{passes, is_test_within};
@@ -59,16 +60,18 @@ fn negate_diffs<T: Lattice>(updates: &mut [Update<T>]) -> Result<(), Refusal>
     Ok(())
 }
 
-/// Applies a linear node to the updates that come to one of its ports. A map replaces each row by its image, a filter
-/// keeps the rows that pass, a negation negates each difference, and any other node passes on what comes. The times
-/// stay, and so does the order. At every time, the sum of the output is the operator's output for the sum of the input.
+/// Applies a linear node to the updates that come to one of its ports. A map replaces each row by
+/// its image, a filter keeps the rows that pass, a negation negates each difference, and any other
+/// node passes on what comes. The times stay, and so does the order. At every time, the sum of the
+/// output is the operator's output for the sum of the input.
 ///
-/// The node must be no join and no reduction, and its items or its test must name only columns that the rows have; in a
-/// plan they do ([`plans_fit`](crate::plans_fit)). [`Refusal::Overflow`] if and only if the node is a negation and some
-/// difference is -2^63, whose opposite does not fit in 64 bits; the list is then dropped. Takes no memory.
+/// The node must be no join and no reduction, and its items or its test must name only columns that
+/// the rows have; in a plan they do ([`plans_fit`](crate::plans_fit)). [`Refusal::Overflow`] if and
+/// only if the node is a negation and some difference is -2^63, whose opposite does not fit in 64
+/// bits; the list is then dropped. Takes no memory.
 ///
-/// Cost: linear in the number of updates, and constant if the node passes on what comes. The list is not consolidated:
-/// rows with the same image stay apart.
+/// Cost: linear in the number of updates, and constant if the node passes on what comes. The list
+/// is not consolidated: rows with the same image stay apart.
 pub fn apply<T: Lattice>(
     node: &Node,
     mut updates: Vec<Update<T>>,

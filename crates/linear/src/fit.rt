@@ -1,4 +1,5 @@
-//! Tests of what [`apply`](crate::apply) requires of a node and of rows, for a caller without a plan.
+//! Tests of what [`apply`](crate::apply) requires of a node and of rows, for a caller without a
+//! plan.
 ghost use Rattle.std.specs.Prelude.{◌≡◌};
 ghost use Rattle.plan.specs.Rules.{is_width};
 ghost use Rattle.linear.specs.Widths.{takes_items, takes_width, takes_rows};
@@ -8,7 +9,8 @@ use plan::Node;
 use row::{Item, MAX_WIDTH, are_within};
 use update::Update;
 
-/// Whether each row has the columns that the node names, and the node makes a row of it. Takes no memory.
+/// Whether each row has the columns that the node names, and the node makes a row of it. Takes no
+/// memory.
 ///
 /// Cost: linear in the number of updates; for a map, times the number of its items.
 pub fn takes_rows<T: Lattice>(node: &Node, updates: &[Update<T>]) -> bool

@@ -1,5 +1,5 @@
-//! What follows from the definitions of linear nodes alone. The functions do nothing: they are called, or their clauses
-//! cited, for what they promise in every lattice.
+//! What follows from the definitions of linear nodes alone. The functions do nothing: they are
+//! called, or their clauses cited, for what they promise in every lattice.
 ghost use Rattle.std.specs.Prelude.{◌≡◌, ◌<◌, ◌≤◌, ◌^◌, ℕ, List, ◌++◌, Some, IsTrue, length, slice_get};
 ghost use Rattle.std.specs.List.{list_all};
 ghost use Rattle.update.specs.Bags.{Alike};
@@ -16,11 +16,11 @@ ghost use Rattle.linear.specs.Widths.{takes_rows, are_wide};
 
 use lattice::Lattice;
 
-/// A linear node may be applied piece by piece. Its output for two pieces together is its output for each, together. At
-/// every time, the sum of its output is the operator's output for the sum of what came to the port. If the sum of what
-/// was emitted is the operator's output for all that was received, then this still holds after one more piece. The
-/// output is never larger than the input. If a diff of the output is no 64-bit number, then the input has size 2^63 or
-/// more.
+/// A linear node may be applied piece by piece. Its output for two pieces together is its output
+/// for each, together. At every time, the sum of its output is the operator's output for the sum of
+/// what came to the port. If the sum of what was emitted is the operator's output for all that was
+/// received, then this still holds after one more piece. The output is never larger than the input.
+/// If a diff of the output is no 64-bit number, then the input has size 2^63 or more.
 pub fn pieces_add_up<T: Lattice>()
     ensures pieces { (node : Node) (us vs : List (Update T))
         → linear_output node (us ++ vs) ≡ linear_output node us ++ linear_output node vs }
@@ -39,8 +39,8 @@ pub fn pieces_add_up<T: Lattice>()
     ensures large { (node : Node) (us : List (Update T)) → Overflows node us → 2 ^ 63 ≤ size us }
 {}
 
-/// A linear node of a plan takes the rows of its sources, and its output rows have the width that the plan says. That
-/// it takes the rows of its sources holds for every node of a plan.
+/// A linear node of a plan takes the rows of its sources, and its output rows have the width that
+/// the plan says. That it takes the rows of its sources holds for every node of a plan.
 pub fn plans_fit<T: Lattice>()
     ensures takes { (p : List Node) → IsPlan p → (n port source : ℕ)
         → slice_get (sources (node_at p n)) port ≡ Some source

@@ -1,4 +1,5 @@
--- The lemmas of the board: what its code reads and writes is what the definitions of `specs/Boards` say.
+-- The lemmas of the board: what its code reads and writes is what the definitions of `specs/Boards`
+-- say.
 pub mod LotLemmas
 pub mod SurveyLemmas
 pub mod QueueLemmas

@@ -1,4 +1,5 @@
--- The lemmas of histories. They know no code, and the theorems of `histories/theorems.rt` are their ends.
+-- The lemmas of histories. They know no code, and the theorems of `histories/theorems.rt` are their
+-- ends.
 pub mod StampLemmas
 pub mod FlowLemmas
 pub mod KeptLemmas

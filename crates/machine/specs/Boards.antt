@@ -1,6 +1,7 @@
--- What a contract sees of a board, what each event makes of it, and which histories it may stand for. `Stands` is the
--- invariant of this room: the board has at each place what the history leaves there. Several histories may leave the
--- same, so a contract speaks of every history that the board may stand for.
+-- What a contract sees of a board, what each event makes of it, and which histories it may stand
+-- for. `Stands` is the invariant of this room: the board has at each place what the history leaves
+-- there. Several histories may leave the same, so a contract speaks of every history that the board
+-- may stand for.
 pub mod Loads
 pub mod Stations
 pub mod Inputs
@@ -55,7 +56,8 @@ module _ {T : Type 0} where
   abbrev pub no_view : ViewState T
   no_view = record { since = []; captured = [] }
 
-  -- the invariant of every board: its dataflow is well formed, and each list has an entry for each node or worker
+  -- the invariant of every board: its dataflow is well formed, and each list has an entry for each
+  -- node or worker
   pub record IsBoard (b : BoardState T) : Type 0 where
     pub dataflow : Rattle.machine.specs.Histories.Dataflows.IsDataflow b.dataflow
     pub stations : length b.stations ≡ length b.dataflow.nodes
@@ -66,7 +68,8 @@ module _ {T : Type 0} where
     pub views : length b.views ≡ length b.dataflow.nodes
     pub inputs : length b.inputs ≡ length b.dataflow.nodes
 
-  -- a board on which nothing has happened: each input's frontier and each view's since is the least time
+  -- a board on which nothing has happened: each input's frontier and each view's since is the least
+  -- time
   abbrev pub first_board : T → Dataflow → BoardState T
   first_board minimum p = record {
     dataflow = p;
@@ -114,8 +117,8 @@ module _ {T : Type 0} where
       → List (ViewState T)
   capture_output p n us views = if is_output (node_of p n) then capture_at n us views else views
 
-  -- the board after a give, before the event is recorded: the bundles wait at their places, a view captured the
-  -- updates, and the worker holds these times at the node and has nothing in hand
+  -- the board after a give, before the event is recorded: the bundles wait at their places, a view
+  -- captured the updates, and the worker holds these times at the node and has nothing in hand
   abbrev pub give_output : Emission T → List T → List (Bundle T) → BoardState T → BoardState T
   give_output g ts sent b = record b {
     stations = held_from g.node g.worker ts (put_all sent b.stations);
@@ -193,15 +196,15 @@ module _ {T : Type 0} (below : T → T → Bool) (minimum : T) where
   IsLast b [] = ⊤
   IsLast b (e ∷ h) = b.last ≡ e
 
-  -- what a view keeps of what was given to it: the same sums at each time beyond its since, and at every time if
-  -- nothing was given up; and its absolute diffs add up to no more
+  -- what a view keeps of what was given to it: the same sums at each time beyond its since, and at
+  -- every time if nothing was given up; and its absolute diffs add up to no more
   pub record IsKeptOf (since : List T) (captured emitted : List (Update T)) : Type 0 where
     pub sums : (t : T) → IsTrue (is_from_start below minimum since || is_beyond below since t)
         → Alike (as_of below t captured) (as_of below t emitted)
     pub small : size captured ≤ size emitted
 
-  -- the board may stand for a history: the history is legal, and at each place the board has what the history leaves
-  -- there. The board may keep the places in any order
+  -- the board may stand for a history: the history is legal, and at each place the board has what
+  -- the history leaves there. The board may keep the places in any order
   pub record Stands (b : BoardState T) (h : List (Event T)) : Type 0 where
     pub legal : IsLegal below minimum (opened_dataflow b) h
     pub queues : (site : Site) → queue_of b.stations site ≡ queue site (state_on b h).in_flight

@@ -1,6 +1,6 @@
--- Histories: lists of events, the newest first. This file says what state each event leaves, and in which states it
--- is allowed. A history is legal if each of its events was allowed in the state before it. An event is judged by that
--- state alone, not by how an engine came to it.
+-- Histories: lists of events, the newest first. This file says what state each event leaves, and in
+-- which states it is allowed. A history is legal if each of its events was allowed in the state
+-- before it. An event is judged by that state alone, not by how an engine came to it.
 pub mod States
 pub mod Dataflows
 pub mod Shares
@@ -85,14 +85,16 @@ abbrev pub alone : {T : Type 0} → Dataflow → Fed T → Bundle T
 alone p f = record { place = home p f; updates = f.update ∷ []; stamp = f.update.time ∷ [] }
 
 module _ {T : Type 0} (below : T → T → Bool) (p : Dataflow) where
-  -- the state after a worker took a node's piece in hand. The node's input frontier at that moment is recorded
+  -- the state after a worker took a node's piece in hand. The node's input frontier at that moment
+  -- is recorded
   abbrev pub turn_state : State T → ℕ → ℕ → State T
   turn_state w n k = record w {
     hand = with_at w.hand k (Some n);
     observed = record { node = n; worker = k; frontier = input_frontier below p w n } ∷ w.observed;
   }
 
-  -- the state after a bundle was received: it is no longer in flight, and its stamp is held from then on
+  -- the state after a bundle was received: it is no longer in flight, and its stamp is held from
+  -- then on
   abbrev pub take_state : State T → ℕ → Bundle T → State T
   take_state w number bundle = record w {
     in_flight = without bundle.place w.in_flight number;
@@ -100,7 +102,8 @@ module _ {T : Type 0} (below : T → T → Bool) (p : Dataflow) where
     held = w.held ++ held_entries bundle.place.node bundle.place.worker bundle.stamp;
   }
 
-  -- the state after a give: what was sent is in flight, and the worker holds these times at the node and no other
+  -- the state after a give: what was sent is in flight, and the worker holds these times at the
+  -- node and no other
   abbrev pub give_state : State T → Emission T → List T → List (Bundle T) → State T
   give_state w g ts sent = record w {
     in_flight = w.in_flight ++ sent;
@@ -122,8 +125,9 @@ module _ {T : Type 0} (below : T → T → Bool) (p : Dataflow) where
   next_state w (TakeHeld k n) = turn_state w n k
   next_state w (Give g ts sent) = give_state w g ts sent
 
-  -- a client may feed this change: the row has the input's width, the diff is not 0 and is at most 2147483647 either
-  -- way, the time is beyond the input's frontier, and the input has fewer than 1048576 changes
+  -- a client may feed this change: the row has the input's width, the diff is not 0 and is at most
+  -- 2147483647 either way, the time is beyond the input's frontier, and the input has fewer than
+  -- 1048576 changes
   pub record IsFeed (w : State T) (actor : ℕ) (f : Fed T) : Type 0 where
     pub client : p.workers ≤ actor
     pub input : IsInput p f.input
@@ -146,15 +150,16 @@ module _ {T : Type 0} (below : T → T → Bool) (p : Dataflow) where
     pub view : IsTrue (may_be_allowed p v)
     pub onward : IsTrue (all_beyond below (w.since v) ts)
 
-  -- a worker with nothing in hand may take a bundle that waits: the first of its place, or any at an arrange node
+  -- a worker with nothing in hand may take a bundle that waits: the first of its place, or any at
+  -- an arrange node
   pub record IsTake (w : State T) (number : ℕ) (bundle : Bundle T) : Type 0 where
     pub worker : bundle.place.worker < p.workers
     pub free : w.hand bundle.place.worker ≡ None
     pub waits : slice_get (queue bundle.place w.in_flight) number ≡ Some bundle
     pub turn : arranged_by (node_of p bundle.place.node) ≡ None → number ≡ 0
 
-  -- a worker with nothing in hand may turn to a node if the node's input frontier has passed a time that it holds
-  -- there
+  -- a worker with nothing in hand may turn to a node if the node's input frontier has passed a time
+  -- that it holds there
   pub record IsTakeHeld (w : State T) (k n : ℕ) : Type 0 where
     pub worker : k < p.workers
     pub within : n < length p.nodes
@@ -163,10 +168,11 @@ module _ {T : Type 0} (below : T → T → Bool) (p : Dataflow) where
     pub holds : Contains (held_at n k w.held) held
     pub passed : IsTrue (has_passed below (input_frontier below p w n) held)
 
-  -- a worker may give at the node that it has in hand. All that it gives, and all that it then holds, is beyond the
-  -- times that it held there. The node law and the load rule hold after it. Each place is sent exactly its share,
-  -- compared by the total of every function over the updates, so a share may be sent in several bundles. No bundle is
-  -- empty. Each stamp is beyond the times that were held, and each bundle's updates are beyond its stamp
+  -- a worker may give at the node that it has in hand. All that it gives, and all that it then
+  -- holds, is beyond the times that it held there. The node law and the load rule hold after it.
+  -- Each place is sent exactly its share, compared by the total of every function over the updates,
+  -- so a share may be sent in several bundles. No bundle is empty. Each stamp is beyond the times
+  -- that were held, and each bundle's updates are beyond its stamp
   pub record IsGive (w : State T) (g : Emission T) (ts : List T) (sent : List (Bundle T)) : Type 0 where
     pub worker : g.worker < p.workers
     pub in_hand : w.hand g.worker ≡ Some g.node
@@ -193,8 +199,8 @@ abbrev pub dataflow_after : {T : Type 0} → Dataflow → List (Event T) → Dat
 dataflow_after opened h = opened
 
 module _ {T : Type 0} (below : T → T → Bool) (minimum : T) (opened : Dataflow) where
-  -- the state before the first event: nothing has come, and each input's frontier and each view's since is the least
-  -- time
+  -- the state before the first event: nothing has come, and each input's frontier and each view's
+  -- since is the least time
   abbrev pub initial_state : State T
   initial_state = record {
     fed = [];

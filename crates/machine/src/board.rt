@@ -1,10 +1,11 @@
 //! The board: the state between clients and workers.
 //!
-//! A board holds what a history leaves, and of the history itself only the last event: the bundles that wait at each
-//! place, the times that workers hold, the frontiers of the inputs, each worker's piece in hand, what views captured,
-//! and how many changes each input accepted. There is no list of the changes. `Stands` says which histories a board
-//! may stand for. Every event keeps one invariant: if the board may stand for a history before the call, it stands
-//! afterwards for that history with one event more.
+//! A board holds what a history leaves, and of the history itself only the last event: the bundles
+//! that wait at each place, the times that workers hold, the frontiers of the inputs, each worker's
+//! piece in hand, what views captured, and how many changes each input accepted. There is no list
+//! of the changes. `Stands` says which histories a board may stand for. Every event keeps one
+//! invariant: if the board may stand for a history before the call, it stands afterwards for that
+//! history with one event more.
 ghost use Rattle.std.specs.Prelude.{◌≡◌, ◌≤◌, List, [], ◌∷◌, None, IfErr, IfOk, replicate};
 ghost use Rattle.update.specs.declared.refusal.Refusal.TheVariants.{OutOfMemory};
 ghost use Rattle.machine.specs.Histories.Dataflows.{IsDataflow};
@@ -81,10 +82,11 @@ impl<T: Minimum> Model for Board<T> {
 }
 
 impl<T: Minimum> Board<T> {
-    /// A board of a plan on which nothing has happened yet: each input's frontier and each view's since is the least
-    /// time. Refused only with `OutOfMemory`.
+    /// A board of a plan on which nothing has happened yet: each input's frontier and each view's
+    /// since is the least time. Refused only with `OutOfMemory`.
     ///
-    /// Cost: the square of the nodes, of which a plan has at most 256, and the nodes times the workers.
+    /// Cost: the square of the nodes, of which a plan has at most 256, and the nodes times the
+    /// workers.
     pub fn open(alloc: Global, plan: Plan, workers: usize) -> Result<Board<T>, Refusal>
         requires { 1 ≤ workers }
         ensures first { IfOk result (λ board.
@@ -130,7 +132,8 @@ impl<T: Minimum> Board<T> {
         self.workers
     }
 
-    /// Costs nothing. It tells the prover that the board keeps its invariant and that its dataflow is well formed.
+    /// Costs nothing. It tells the prover that the board keeps its invariant and that its dataflow
+    /// is well formed.
     pub fn known(&self)
         ensures dataflow { IsDataflow self.now.dataflow }
         ensures board { IsBoard self.now }

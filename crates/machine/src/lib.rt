@@ -1,32 +1,36 @@
-//! The machine: which events may happen between clients and workers, what each event leaves behind, and what then
-//! holds of every legal history.
+//! The machine: which events may happen between clients and workers, what each event leaves behind,
+//! and what then holds of every legal history.
 //!
-//! A dataflow runs a plan on some workers. Clients feed changes and move the frontiers of the inputs. Workers take
-//! bundles of updates, compute without looking at anyone else, and give the updates that come out. Each of these is
-//! one event. A history is a list of events, and it is legal if each event was allowed when it happened. A history
-//! leaves a state, which is a record of logs. Frontiers are found from it: from what is in flight, what workers hold
-//! and what the inputs leave open. The theorems are functions with empty bodies ([`headline`] and those beside it).
-//! They say of every legal history that what a view captured is right at each time that its frontier has passed. They
-//! know neither threads nor batches. An engine may run a dataflow in any way; it has to show only that its steps are
-//! these events.
+//! A dataflow runs a plan on some workers. Clients feed changes and move the frontiers of the
+//! inputs. Workers take bundles of updates, compute without looking at anyone else, and give the
+//! updates that come out. Each of these is one event. A history is a list of events, and it is
+//! legal if each event was allowed when it happened. A history leaves a state, which is a record of
+//! logs. Frontiers are found from it: from what is in flight, what workers hold and what the inputs
+//! leave open. The theorems are functions with empty bodies ([`headline`] and those beside it).
+//! They say of every legal history that what a view captured is right at each time that its
+//! frontier has passed. They know neither threads nor batches. An engine may run a dataflow in any
+//! way; it has to show only that its steps are these events.
 //!
-//! The [`Board`] is the state between clients and workers, in memory. Each call that changes it is one event, and
-//! each contract says so in the same way: for every history that the board may stand for before the call, it stands
-//! afterwards for that history with the board's last event on top. A `give` promises this only if the event is
-//! allowed, which the board cannot test. A question to the board, such as a view's rows, is answered for every
-//! history that it may stand for. Waiting bundles lie in queues by node, worker and port, so an event costs only what
-//! it moves. The inputs' frontiers, and the tests that refuse a change or a frontier, are a type of their own
+//! The [`Board`] is the state between clients and workers, in memory. Each call that changes it is
+//! one event, and each contract says so in the same way: for every history that the board may stand
+//! for before the call, it stands afterwards for that history with the board's last event on top. A
+//! `give` promises this only if the event is allowed, which the board cannot test. A question to
+//! the board, such as a view's rows, is answered for every history that it may stand for. Waiting
+//! bundles lie in queues by node, worker and port, so an event costs only what it moves. The
+//! inputs' frontiers, and the tests that refuse a change or a frontier, are a type of their own
 //! ([`InputFrontiers`]), so that changes can be accepted without a board.
 //!
-//! A client calls `feed`, `advance`, `close` and `look`, and reads by `frontier`, `read`, `changes` and `is_quiet`. A
-//! worker finds work by `waiting_at` or `is_ready` and starts on it by `take` or `take_held`. It computes up to the
-//! node's `input_frontier`, cuts the output by `cut`, and gives it by `give`. `cut` belongs to a [`Routing`], which
-//! is made once from the plan and the number of workers.
+//! A client calls `feed`, `advance`, `close` and `look`, and reads by `frontier`, `read`, `changes`
+//! and `is_quiet`. A worker finds work by `waiting_at` or `is_ready` and starts on it by `take` or
+//! `take_held`. It computes up to the node's `input_frontier`, cuts the output by `cut`, and gives
+//! it by `give`. `cut` belongs to a [`Routing`], which is made once from the plan and the number of
+//! workers.
 //!
-//! A worker that gives has two duties. The first is the node law: at every time that is not beyond the times it still
-//! holds, what it gave is what the node makes of what it received. This makes views right. The second is the load
-//! rule: what it gave is no larger than that output can become, and a reduction gives only what is final. This keeps
-//! every number within its node's bound, so a number is too large only if a bound is.
+//! A worker that gives has two duties. The first is the node law: at every time that is not beyond
+//! the times it still holds, what it gave is what the node makes of what it received. This makes
+//! views right. The second is the load rule: what it gave is no larger than that output can become,
+//! and a reduction gives only what is final. This keeps every number within its node's bound, so a
+//! number is too large only if a bound is.
 #![tactic(auto)]
 
 mod board;

@@ -1,4 +1,5 @@
--- Count: the key totals are the numbers that count answers, each as the key's row extended by its number.
+-- Count: the key totals are the numbers that count answers, each as the key's row extended by its
+-- number.
 use Rattle.std.proofs.Common.{◌≡◌, ◌≢◌, ℕ, ◌+◌, ◌<◌, ◌≤◌, Bool, true, false, cond, List, [], ◌∷◌, ◌++◌, ℤ, map, take, take_all, length, IsTrue, ⊎_elim, inl, inr, refl, ap, sym, subst, ◌∙◌, w64, FitsSigned, rules, arith, length-append}
 use Rattle.std.specs.Prelude.{pos, ◌+ℤ◌, not, ◌&&◌, nat_le, eqb}
 use Rattle.std.specs.Cmp.{signed_Decides}

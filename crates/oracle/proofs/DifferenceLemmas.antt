@@ -1,5 +1,5 @@
--- Lists of differences: how the list grows along the join closure, and why the finished list is the differences
--- of the view.
+-- Lists of differences: how the list grows along the join closure, and why the finished list is the
+-- differences of the view.
 use Rattle.std.proofs.Common.{◌≡◌, ◌≢◌, ℕ, zero, suc, ◌+◌, ◌<◌, ◌≤◌, take_all, Bool, true, false, cond, List, [], ◌∷◌, ◌++◌, ℤ, map, take, drop, length, get_or, IsTrue, ◌⊎◌, ⊎_elim, inl, inr, refl, ap, sym, subst, ◌∙◌, eq-or-lt_of_le, length-take-le, Option, Some, None, arith}
 use Rattle.std.specs.Prelude.{pos, ◌+ℤ◌, not, slice_get}
 use Rattle.std.specs.List.{filter, flat_map, list_all, AllByRecursion, Contains}
@@ -72,7 +72,8 @@ module _ {T : Type 0} (below : T → T → Bool) where
   sum_at_time s t (e ∷ es) true h = ap (λ b. map entry (cond b (at_time t e ∷ filter (λ u. below u.time s) (map (at_time t) es)) (filter (λ u. below u.time s) (map (at_time t) es)))) h ∙ ap (λ l. e ∷ l) (sum_at_time s t es true h)
   sum_at_time s t (e ∷ es) false h = ap (λ b. map entry (cond b (at_time t e ∷ filter (λ u. below u.time s) (map (at_time t) es)) (filter (λ u. below u.time s) (map (at_time t) es)))) h ∙ sum_at_time s t es false h
 
-  -- two sums of a list are equal if each of its times is at or before both times, or at or before neither
+  -- two sums of a list are equal if each of its times is at or before both times, or at or before
+  -- neither
   sum_same : (s t : T) (us : List (Update T)) → AllByRecursion (λ u. below u.time s ≡ below u.time t) us → as_of below s us ≡ as_of below t us
   sum_same s t [] a = refl
   sum_same s t (u ∷ us) a =
@@ -118,7 +119,8 @@ module _ {T : Type 0} {below : T → T → Bool} {joined met : T → T → T} {c
       step Equal h e = refl
       step Greater h e = absurd (true≢false (sym h))
 
-  -- a time of the closure is at or before t if and only if it is at or before f, the last one at or before t
+  -- a time of the closure is at or before t if and only if it is at or before f, the last one at or
+  -- before t
   same_below : (t f : T) → IsTrue (below f t) → ((s : T) → Contains join_closure s → IsTrue (below s t) → IsTrue (below s f)) → (s : T) → Contains join_closure s → below s t ≡ below s f
   same_below t f h last s c = step (below s t) (below s f) refl refl
     where
@@ -135,7 +137,8 @@ module _ {T : Type 0} {below : T → T → Bool} {joined met : T → T → T} {c
       step true e = absurd (not_true (is_beyond below frontier t) h (beyond_up o frontier s t later e))
       step false e = refl
 
-  -- each change of an input that feeds the view has a time of the closure, or one that is still open
+  -- each change of an input that feeds the view has a time of the closure, or one that is still
+  -- open
   closed_or_open : (input : ℕ) → IsTrue (feeds p input view) → AllByRecursion (λ u. Contains join_closure u.time ⊎ (is_beyond below frontier u.time ≡ true)) (list_of p lists input)
   closed_or_open input fed =
       all_weaker (λ u. IsTrue (has_passed below frontier u.time) → Contains join_closure u.time) (λ u. Contains join_closure u.time ⊎ (is_beyond below frontier u.time ≡ true)) (λ u h. step u.time h (is_beyond below frontier u.time) refl)

@@ -1,5 +1,5 @@
--- Min and max: the first and the last row of each key are found by comparing neighbours, and they are the
--- answers.
+-- Min and max: the first and the last row of each key are found by comparing neighbours, and they
+-- are the answers.
 use Rattle.std.proofs.Common.{◌≡◌, ℕ, ◌+◌, ◌<◌, ◌≤◌, Bool, true, false, cond, List, ℤ, take, length, get_or, IsTrue, ⊎_elim, refl, ap, sym, subst, ◌∙◌, ◌↔◌, ◌-◌, eq-or-lt_of_le, arith}
 use Rattle.std.specs.Prelude.{pos, not, ◌&&◌, int_lt, nat_le}
 use Rattle.std.specs.List.{filter, list_any}

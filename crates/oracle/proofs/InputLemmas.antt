@@ -1,5 +1,5 @@
--- The index of an input among the inputs is the number of inputs before it. The law `lists_belong_to_inputs`
--- rests on this.
+-- The index of an input among the inputs is the number of inputs before it. The law
+-- `lists_belong_to_inputs` rests on this.
 use Rattle.std.proofs.Common.{◌≡◌, ℕ, zero, suc, ◌<◌, Bool, true, false, cond, List, [], ◌∷◌, ◌++◌, length, get_or, ⊎_elim, ap, subst, ◌∙◌, length-append, arith}
 use Rattle.std.specs.List.{filter}
 use Rattle.std.proofs.lemmas.Bool.{cases_lt}

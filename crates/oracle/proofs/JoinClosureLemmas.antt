@@ -1,5 +1,5 @@
--- Join closures: they stay closed under passed joins while times are added, and each passed time has a last time
--- of the closure at or before it, if there is any.
+-- Join closures: they stay closed under passed joins while times are added, and each passed time
+-- has a last time of the closure at or before it, if there is any.
 use Rattle.std.proofs.Common.{◌≡◌, ℕ, zero, suc, ◌+◌, ◌<◌, ◌≤◌, Bool, true, false, List, [], ◌∷◌, ◌++◌, map, take, length, get_or, IsTrue, ◌⊎◌, ⊎_elim, inl, inr, refl, ap, sym, subst, ◌∙◌, take_all, eq-or-lt_of_le, Result, Ok, Err, Vec, arith}
 use Rattle.std.specs.Prelude.{IfOk}
 use Rattle.std.specs.List.{All, AllByRecursion, Contains, filter}
@@ -114,8 +114,8 @@ module _ {T : Type 0} {below : T → T → Bool} {joined met : T → T → T} (o
       ∙ (ap (λ x. joined x t) (sym (join_associates o b r s t))
       ∙ (join_associates o b (joined r s) t t ∙ ap (joined (joined r s)) (join_same o b t)))
 
-  -- adding a time with its passed joins keeps the list closed: if a join of three times has passed, so has the
-  -- join of the first two
+  -- adding a time with its passed joins keeps the list closed: if a join of three times has passed,
+  -- so has the join of the first two
   pub more_closed : (xs : List T) (t : T) → IsClosed below joined frontier xs → IsClosed below joined frontier (more xs t)
   more_closed xs t closed s u c d h =
       ⊎_elim
@@ -241,8 +241,8 @@ module _ {T : Type 0} {below : T → T → Bool} {joined met : T → T → T} (o
           (λ r. inr (joined x r.0, closed x r.0 c.0 r.1 (passed_before o frontier (joined x r.0) t (b.join_least x r.0 t e r.2) passed), b.join_least x r.0 t e r.2, (λ k. b.join_left x r.0, up r.0 (joined x r.0) (b.join_right x r.0) xs r.3)))
           rest
 
-  -- the closure has no time at or before a passed time t, or it has a last one; at t the view is what it is at
-  -- that last time
+  -- the closure has no time at or before a passed time t, or it has a last one; at t the view is
+  -- what it is at that last time
   pub last_of : (join_closure : List T) → IsClosed below joined frontier join_closure → (t : T) → IsTrue (has_passed below frontier t)
       → ((s : T) → Contains join_closure s → below s t ≡ false) ⊎ ((f : T) × Contains join_closure f × IsLastAtOrBefore join_closure t f)
   last_of join_closure closed t passed =

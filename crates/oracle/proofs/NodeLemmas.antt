@@ -1,5 +1,5 @@
--- What every plan promises its nodes: the rows at a node's ports have the columns that its operator names, and
--- the rows of its output have its width.
+-- What every plan promises its nodes: the rows at a node's ports have the columns that its operator
+-- names, and the rows of its output have its width.
 use Rattle.std.proofs.Common.{◌≡◌, ℕ, suc, ◌+◌, ◌-◌, ◌<◌, ◌≤◌, Bool, true, false, cond, List, [], ◌∷◌, ◌++◌, ℤ, map, take, drop, length, IsTrue, ◌⊎◌, ⊎_elim, refl, ap, sym, subst, ◌∙◌, length-append, length-drop, Some, None, arith}
 use Rattle.std.specs.Prelude.{pos, neg_ℤ, ◌&&◌, not, int_lt, nat_le, eqb, slice_get}
 use Rattle.std.specs.List.{filter, list_all}

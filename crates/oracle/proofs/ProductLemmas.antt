@@ -1,5 +1,5 @@
--- If a product or an opposite of entries' counts is too large, so is one in terms of rows, which is how the
--- query sees it.
+-- If a product or an opposite of entries' counts is too large, so is one in terms of rows, which is
+-- how the query sees it.
 use Rattle.std.proofs.Common.{◌≡◌, ℕ, List, map, take, length, get_or, ap, sym, subst, ◌∙◌, w64, FitsSigned, ◌<◌}
 use Rattle.std.specs.Prelude.{neg_ℤ, ◌*ℤ◌}
 use Rattle.std.specs.List.{Any}

@@ -1,5 +1,5 @@
--- The plain query as the code computes it: what a node reads at its ports, which list belongs to which input,
--- and which numbers may fail to fit in 64 bits.
+-- The plain query as the code computes it: what a node reads at its ports, which list belongs to
+-- which input, and which numbers may fail to fit in 64 bits.
 use Rattle.std.specs.Prelude.{◌≡◌, ℕ, Bool, true, List, [], ◌⊎◌, ◌<◌, take, length, eqb, not, ◌||◌, ◌*ℤ◌, FitsSigned, IsTrue, Option, Some, None, slice_get, slice_index_or, ℤ}
 use Rattle.std.specs.Int.{w64}
 use Rattle.std.specs.List.{filter, list_all}
@@ -80,8 +80,8 @@ abbrev pub sums_at : {T : Type 0} → (T → T → Bool) → List Node → List 
     → List Entry
 sums_at below p lists t input = as_of below t (list_of p lists input)
 
--- the bags of the first nodes: their rows have the widths of the nodes, and for each node above the view (or
--- the view itself) the bag is the answer of the query
+-- the bags of the first nodes: their rows have the widths of the nodes, and for each node above the
+-- view (or the view itself) the bag is the answer of the query
 pub record AreBags (p : List Node) (inputs : ℕ → List Entry) (view : ℕ) (bags : List (List Entry)) : Type 0 where
   pub wide : (m : ℕ) → m < length bags → IsTrue (all_wide (width_of p m) (nth_bag bags m))
   pub found : (m : ℕ) → m < length bags → IsTrue (reaches p m view)

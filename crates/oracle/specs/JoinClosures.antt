@@ -1,5 +1,5 @@
--- The times that a frontier has passed at which a view may change: the passed times of the changes of the inputs
--- that feed it, and all passed joins of them.
+-- The times that a frontier has passed at which a view may change: the passed times of the changes
+-- of the inputs that feed it, and all passed joins of them.
 use Rattle.std.specs.Prelude.{ℕ, Bool, List, IsTrue}
 use Rattle.std.specs.List.{All, Contains}
 use Rattle.std.specs.List.Sorted.{IsStrictlySortedBy}
@@ -29,8 +29,8 @@ module _ {T : Type 0} (below : T → T → Bool) where
   Covers p changes frontier view times =
       (input : ℕ) → IsTrue (feeds p input view) → HasPassedTimes frontier times (changes input)
 
-  -- a sorted list without duplicates that is closed under passed joins and has the time of each passed change
-  -- of each input that feeds the view; it may also have times that are still open
+  -- a sorted list without duplicates that is closed under passed joins and has the time of each
+  -- passed change of each input that feeds the view; it may also have times that are still open
   pub record IsJoinClosure (cmp : T → T → Ordering) (joined : T → T → T) (p : List Node)
       (changes : ℕ → List (Update T)) (frontier : List T) (view : ℕ) (times : List T) : Type 0 where
     pub ascending : IsStrictlySortedBy cmp times

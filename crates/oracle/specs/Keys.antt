@@ -22,8 +22,8 @@ is_before_key equal key e = precedes equal (slice_cmp int_cmp (take (length key)
 abbrev pub have_keys : ℕ → List Entry → Bool
 have_keys k es = list_all (λ e. nat_le k (length e.row)) es
 
--- the entries with this key are those from index `from` up to index `to`: there are none before, there are none
--- after, and all in between have the key
+-- the entries with this key are those from index `from` up to index `to`: there are none before,
+-- there are none after, and all in between have the key
 pub record IsKeyRange (k : ℕ) (key : List ℤ) (es : List Entry) (from to : ℕ) : Type 0 where
   pub order : from ≤ to
   pub inside : to ≤ length es

@@ -20,8 +20,8 @@ module _ {T : Type 0} (below : T → T → Bool) where
   HasLargeGap t wanted us = (row : List ℤ)
       × (FitsSigned w64 (count_of wanted row +ℤ neg_ℤ (count_of (as_of below t us) row)) → ⊥)
 
-  -- the list is finished for these times of the closure: at each of them that has passed it sums to what is
-  -- wanted, and it has no other times
+  -- the list is finished for these times of the closure: at each of them that has passed it sums to
+  -- what is wanted, and it has no other times
   pub record IsListed (cmp : T → T → Ordering) (frontier : List T) (wanted : T → List Entry) (times : List T) (us : List (Update T)) : Type 0 where
     pub sums : (t : T) → Contains times t → IsTrue (has_passed below frontier t)
         → Alike (as_of below t us) (wanted t)
@@ -34,8 +34,9 @@ module _ {T : Type 0} (below : T → T → Bool) where
       × (vs ≡ us ++ map (at_time t) gap)
       × ((row : List ℤ) → count_of gap row +ℤ count_of (as_of below t us) row ≡ count_of wanted row)
 
-  -- at some passed time t the query has a number that is too large, or the difference at t is too large: the
-  -- query's answer there minus a list that has no update at t and sums to the query at all earlier times
+  -- at some passed time t the query has a number that is too large, or the difference at t is too
+  -- large: the query's answer there minus a list that has no update at t and sums to the query at
+  -- all earlier times
   abbrev pub HasLargeDifference : List Node → List (List (Update T)) → List T → ℕ → Type 0
   HasLargeDifference p lists frontier n = (t : T) × IsTrue (has_passed below frontier t)
       × (HasLargeAbove p (sums_at below p lists t) n

@@ -1,5 +1,5 @@
--- The reductions in steps. Count needs the keys and their totals; min and max need the first and the last row
--- of each key.
+-- The reductions in steps. Count needs the keys and their totals; min and max need the first and
+-- the last row of each key.
 use Rattle.std.specs.Prelude.{ℕ, ℤ, Bool, not, ◌&&◌, List, [], ◌∷◌, ◌++◌, take, FitsSigned}
 use Rattle.std.specs.Int.{w64}
 use Rattle.std.specs.List.{filter, list_any}

@@ -1,6 +1,7 @@
-//! The bags of the first nodes of a plan, in the order of the nodes' numbers. Arrange nodes and views pass on the rows of
-//! their sources as they are. So such a node shares its source's bag, which costs no copy however many rows there are.
-//! A contract sees a list of bags, and not which of them are shared.
+//! The bags of the first nodes of a plan, in the order of the nodes' numbers. Arrange nodes and
+//! views pass on the rows of their sources as they are. So such a node shares its source's bag,
+//! which costs no copy however many rows there are. A contract sees a list of bags, and not which
+//! of them are shared.
 ghost use Rattle.std.specs.Prelude.{◌≡◌, ◌<◌, ◌++◌, ◌∷◌, [], length, IfErr, OnOk};
 ghost use Rattle.oracle.specs.Evaluation.{nth_bag};
 

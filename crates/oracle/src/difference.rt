@@ -1,7 +1,8 @@
-//! The differences of a view, computed from the query alone. The times of the join closure, all of which the
-//! frontier has passed, are visited in order. At each of them we list the view's rows there minus the updates
-//! listed at or before it. So the list sums to the query at each of these times. It also does so at every other
-//! passed time, because neither the query nor the sum changes between two times of the closure.
+//! The differences of a view, computed from the query alone. The times of the join closure, all of
+//! which the frontier has passed, are visited in order. At each of them we list the view's rows
+//! there minus the updates listed at or before it. So the list sums to the query at each of these
+//! times. It also does so at every other passed time, because neither the query nor the sum changes
+//! between two times of the closure.
 ghost use Rattle.std.specs.Prelude.{◌≡◌, ◌<◌, ◌⊎◌, map, length, IfOk, IfErr, OnOk};
 ghost use Rattle.plan.specs.Changes.{AreDifferences, open_for, query_at};
 ghost use Rattle.update.specs.Refusals.{IsMemoryOrOverflow};
@@ -28,7 +29,8 @@ fn frontier_of<'a, T: Lattice>(plan: &Plan, frontiers: &'a [Antichain<T>], id: N
     }
 }
 
-// The times that are still open for the view: the elements of the frontiers of all inputs that feed it.
+// The times that are still open for the view: the elements of the frontiers of all inputs that feed
+// it.
 fn open_for<T: Lattice>(
     alloc: Global,
     plan: &Plan,
@@ -103,10 +105,10 @@ fn along<T: Lattice>(
     Ok(listed)
 }
 
-/// The differences of a node of a plan, as of the inputs' frontiers. This is the only consolidated list that
-/// sums to the answer of [`evaluate`] at every time that all inputs feeding the node have passed, and that has
-/// no other times. `changes` and `frontiers` have one list and one frontier for each input, in the order of the
-/// inputs' numbers. A missing one is read as empty.
+/// The differences of a node of a plan, as of the inputs' frontiers. This is the only consolidated
+/// list that sums to the answer of [`evaluate`] at every time that all inputs feeding the node have
+/// passed, and that has no other times. `changes` and `frontiers` have one list and one frontier
+/// for each input, in the order of the inputs' numbers. A missing one is read as empty.
 ///
 /// The refusals:
 ///
@@ -115,9 +117,9 @@ fn along<T: Lattice>(
 /// | `Overflow` | at a passed time the query overflows, or the difference of some row does not fit in 64 bits |
 /// | `OutOfMemory` | an allocation was refused |
 ///
-/// Cost: one query for each time of the join closure, and for each such time a sort of the updates listed before
-/// it. The closure has the passed times of the changes of the inputs that feed the node, and all passed joins of
-/// them. A change that is still open costs one test.
+/// Cost: one query for each time of the join closure, and for each such time a sort of the updates
+/// listed before it. The closure has the passed times of the changes of the inputs that feed the
+/// node, and all passed joins of them. A change that is still open costs one test.
 pub fn differences<T: Lattice>(
     alloc: Global,
     plan: &Plan,

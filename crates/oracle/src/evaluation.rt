@@ -1,7 +1,7 @@
-//! The query at one time, computed from scratch. The bags of the nodes are computed in the order of the nodes'
-//! numbers. So each is computed once, after those of its sources. A node from which the view cannot be reached
-//! gets an empty bag: it is not computed, so nothing in it can overflow. A node that passes rows on shares the bag of
-//! its source.
+//! The query at one time, computed from scratch. The bags of the nodes are computed in the order of
+//! the nodes' numbers. So each is computed once, after those of its sources. A node from which the
+//! view cannot be reached gets an empty bag: it is not computed, so nothing in it can overflow. A
+//! node that passes rows on shares the bag of its source.
 ghost use Rattle.std.specs.Prelude.{◌≡◌, ◌≤◌, ◌<◌, ◌+◌, ◌↔◌, eqb, map, length, IfOk, IfErr, OnOk, IsTrue};
 ghost use Rattle.std.specs.List.{list_all};
 ghost use Rattle.update.specs.Bags.{Alike, IsBag};
@@ -20,8 +20,8 @@ use plan::{NodeId, Plan};
 use std::alloc::Global;
 use update::{Bag, Entries, Refusal, Update};
 
-/// How many inputs have smaller numbers. If there is one list for each input, in the order of their numbers,
-/// this is the index of the input's list. Takes no memory.
+/// How many inputs have smaller numbers. If there is one list for each input, in the order of their
+/// numbers, this is the index of the input's list. Takes no memory.
 ///
 /// Cost: linear in the nodes before it.
 pub fn inputs_before(plan: &Plan, id: NodeId) -> usize
@@ -81,8 +81,8 @@ fn is_wide<T: Lattice>(plan: &Plan, changes: &[Vec<Update<T>>], id: NodeId) -> b
     !plan.node(id).is_input() || have_width(list_of(plan, changes, id), plan.width(id))
 }
 
-/// Whether the changes of each input have its width, as [`evaluate`] requires. `changes` has a list for each
-/// input, in the order of the inputs' numbers. Takes no memory.
+/// Whether the changes of each input have its width, as [`evaluate`] requires. `changes` has a list
+/// for each input, in the order of the inputs' numbers. Takes no memory.
 ///
 /// Cost: one pass over the changes.
 pub fn are_wide<T: Lattice>(plan: &Plan, changes: &[Vec<Update<T>>]) -> bool
@@ -184,9 +184,9 @@ fn bags_before<T: Lattice>(
     Ok(bags)
 }
 
-/// The rows of a node of a plan at `t`: the query on the bags to which the inputs' changes sum at `t`.
-/// `changes` has a list for each input, in the order of the inputs' numbers. A missing list is read as an empty
-/// one.
+/// The rows of a node of a plan at `t`: the query on the bags to which the inputs' changes sum at
+/// `t`. `changes` has a list for each input, in the order of the inputs' numbers. A missing list is
+/// read as an empty one.
 ///
 /// The refusals:
 ///
@@ -195,11 +195,11 @@ fn bags_before<T: Lattice>(
 /// | `Overflow` | a number does not fit in 64 bits, at the view or at a node above it |
 /// | `OutOfMemory` | an allocation was refused |
 ///
-/// The number that is too large is the count of a row, the product of two counts in a join, or the total count
-/// of a key's rows.
+/// The number that is too large is the count of a row, the product of two counts in a join, or the
+/// total count of a key's rows.
 ///
-/// Cost: for each node above the view, one or two sorts of the rows that it reads and writes, and nothing for an
-/// arrange node; one pass over each input's changes.
+/// Cost: for each node above the view, one or two sorts of the rows that it reads and writes, and
+/// nothing for an arrange node; one pass over each input's changes.
 pub fn evaluate<T: Lattice>(
     alloc: Global,
     plan: &Plan,

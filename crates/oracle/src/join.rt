@@ -1,5 +1,6 @@
-//! The join of two bags. For each key of the left bag, two binary searches find the rows with that key in the right
-//! bag. So rows with different keys are never paired. Rows of one key are neighbours, so no key is searched twice.
+//! The join of two bags. For each key of the left bag, two binary searches find the rows with that
+//! key in the right bag. So rows with different keys are never paired. Rows of one key are
+//! neighbours, so no key is searched twice.
 ghost use Rattle.std.specs.Prelude.{◌≡◌, ◌≤◌, ◌<◌, ◌+◌, ◌-◌, ◌++◌, map, take, length, nat_le, slice_index_or, IfErr, OnOk, IsTrue};
 ghost use Rattle.std.specs.List.{filter, list_all};
 ghost use Rattle.plan.specs.Operators.{joined_entry, join_output};
@@ -14,8 +15,8 @@ use crate::keys::{have_one_key, key_range};
 use row::Row;
 use update::{Bag, Entries, Refusal, Weight};
 
-// The range, in the right bag, of the key of the left bag's entry `i`. `before` is that of the entry before it, and if
-// both have one key, it is taken as it is.
+// The range, in the right bag, of the key of the left bag's entry `i`. `before` is that of the
+// entry before it, and if both have one key, it is taken as it is.
 fn range_of(left: &Bag, i: usize, right: &Bag, k: usize, before: (usize, usize)) -> (usize, usize)
     requires inside { i < length left.now }
     requires left { IsTrue (have_keys k left.now) }
@@ -31,7 +32,8 @@ fn range_of(left: &Bag, i: usize, right: &Bag, k: usize, before: (usize, usize))
     key_range(right, row_at(left, i), k)
 }
 
-// Appends the pairs of one row with the right bag's rows of the same key, which are those of the range.
+// Appends the pairs of one row with the right bag's rows of the same key, which are those of the
+// range.
 fn put_pairs(
     entries: &mut Entries,
     row: &Row,
@@ -61,10 +63,11 @@ fn put_pairs(
     Ok(())
 }
 
-/// Appends the pairs of rows whose keys, of `k` columns, are equal. [`Refusal::Overflow`] only if the product
-/// of such a pair's counts does not fit in 64 bits.
+/// Appends the pairs of rows whose keys, of `k` columns, are equal. [`Refusal::Overflow`] only if
+/// the product of such a pair's counts does not fit in 64 bits.
 ///
-/// Cost: two binary searches in the right bag for each key of the left one, and one step for each row and each pair.
+/// Cost: two binary searches in the right bag for each key of the left one, and one step for each
+/// row and each pair.
 pub(crate) fn put_joined(
     entries: &mut Entries,
     left: &Bag,

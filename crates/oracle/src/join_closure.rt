@@ -1,8 +1,9 @@
-//! The passed times at which a view may change. A view changes only at the times of the changes of the inputs
-//! that feed it and at joins of such times, because two changes are both visible only from the join of their
-//! times on. The join closure has all of these times that the frontier has passed. It is built from passed times
-//! alone: a join is at or after both of its times, so no join of an open time has passed. So at every passed
-//! time, the view is what it is at the last time of the closure at or before it.
+//! The passed times at which a view may change. A view changes only at the times of the changes of
+//! the inputs that feed it and at joins of such times, because two changes are both visible only
+//! from the join of their times on. The join closure has all of these times that the frontier has
+//! passed. It is built from passed times alone: a join is at or after both of its times, so no join
+//! of an open time has passed. So at every passed time, the view is what it is at the last time of
+//! the closure at or before it.
 ghost use Rattle.std.specs.Prelude.{◌≡◌, ◌<◌, ◌∷◌, ◌++◌, [], length, map, IfOk, IfErr, IsTrue, OnOk};
 ghost use Rattle.std.specs.List.{All, Contains, filter};
 ghost use Rattle.std.specs.List.Sorted.{IsStrictlySortedBy};
@@ -52,8 +53,8 @@ fn push_joins<T: Lattice>(times: &mut Vec<T>, t: T, frontier: &[T]) -> Result<()
     Ok(())
 }
 
-// Adds the passed time `t` and its passed joins with the times already there. This keeps the list closed under
-// passed joins.
+// Adds the passed time `t` and its passed joins with the times already there. This keeps the list
+// closed under passed joins.
 fn add_time<T: Lattice>(times: &mut Vec<T>, t: T, frontier: &[T]) -> Result<(), Refusal>
     requires closed { IsClosed T.below T.joined frontier.now times.old.items }
     requires passed { HavePassed T.below frontier.now times.old.items }
@@ -130,13 +131,13 @@ fn with_joins<T: Lattice>(alloc: Global, times: &[T], frontier: &[T]) -> Result<
     Ok(join_closure)
 }
 
-/// The join closure of a view's changes, as far as the frontier has passed: the passed times of the changes of
-/// all inputs that feed the view and all passed joins of these times, each once and in order. Refused only for
-/// lack of memory.
+/// The join closure of a view's changes, as far as the frontier has passed: the passed times of the
+/// changes of all inputs that feed the view and all passed joins of these times, each once and in
+/// order. Refused only for lack of memory.
 ///
-/// Cost: one test for each change of these inputs, and one sort of the closure for each distinct passed time of
-/// them. For pairs of numbers, the size of the closure is at most the number of distinct first numbers of passed
-/// times multiplied by the number of distinct second numbers.
+/// Cost: one test for each change of these inputs, and one sort of the closure for each distinct
+/// passed time of them. For pairs of numbers, the size of the closure is at most the number of
+/// distinct first numbers of passed times multiplied by the number of distinct second numbers.
 pub(crate) fn join_closure<T: Lattice>(
     alloc: Global,
     plan: &Plan,

@@ -1,5 +1,6 @@
-//! The range of a bag's entries that share a key. A bag is sorted by row, and so by key. The rows of a key are
-//! therefore neighbours, and two binary searches find the first of them and the first entry after them.
+//! The range of a bag's entries that share a key. A bag is sorted by row, and so by key. The rows
+//! of a key are therefore neighbours, and two binary searches find the first of them and the first
+//! entry after them.
 ghost use Rattle.std.specs.Prelude.{◌≡◌, ◌≤◌, ◌<◌, true, false, take, length, slice_index_or, IsTrue};
 ghost use Rattle.std.specs.List.{AllWithin};
 ghost use Rattle.update.specs.Bags.{Entry};
@@ -49,7 +50,8 @@ fn is_before_key(bag: &Bag, i: usize, key: &[i64], equal: bool) -> bool
     }
 }
 
-// How many entries have a key that is less than `key` (or equal to it, if `equal`). They are the first ones.
+// How many entries have a key that is less than `key` (or equal to it, if `equal`). They are the
+// first ones.
 //
 // Cost: the number of comparisons of keys is logarithmic in the number of entries.
 fn before_key(bag: &Bag, key: &[i64], equal: bool) -> usize
@@ -72,8 +74,8 @@ fn before_key(bag: &Bag, key: &[i64], equal: bool) -> usize
     low
 }
 
-/// The range of the entries whose first `k` columns are those of `row`: from the first index up to, but not
-/// including, the second.
+/// The range of the entries whose first `k` columns are those of `row`: from the first index up to,
+/// but not including, the second.
 pub(crate) fn key_range(bag: &Bag, row: &Row, k: usize) -> (usize, usize)
     requires key { k ≤ length row.now }
     requires keys { IsTrue (have_keys k bag.now) }

@@ -53,8 +53,8 @@ pub(crate) fn put_passing(entries: &mut Entries, bag: &Bag, test: &Test) -> Resu
     Ok(())
 }
 
-/// Appends each row with the negated count. [`Refusal::Overflow`] only if some count is the least 64-bit
-/// number, whose opposite does not fit in 64 bits.
+/// Appends each row with the negated count. [`Refusal::Overflow`] only if some count is the least
+/// 64-bit number, whose opposite does not fit in 64 bits.
 pub(crate) fn put_opposites(entries: &mut Entries, bag: &Bag) -> Result<(), Refusal>
     ensures opposites { OnOk result (entries.new ≡ entries.old ++ map negated_entry bag.now) }
     ensures refused { IfErr result

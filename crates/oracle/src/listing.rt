@@ -1,5 +1,5 @@
-//! One step of a list of differences: the rows of the view at a time, minus the updates already listed at or
-//! before it.
+//! One step of a list of differences: the rows of the view at a time, minus the updates already
+//! listed at or before it.
 ghost use Rattle.std.specs.Prelude.{◌≡◌, ◌++◌, ◌+ℤ◌, ℤ, List, cond, map, pos, IfOk, IfErr, OnOk};
 ghost use Rattle.update.specs.Bags.{IsBag, count_of, same_row};
 ghost use Rattle.update.specs.Updates.{as_of};
@@ -12,15 +12,16 @@ use lattice::Lattice;
 use std::alloc::Global;
 use update::{Bag, Entries, Refusal, Update};
 
-// The opposite of the count, minus 1. Unlike the opposite itself, it fits in 64 bits for every count.
+// The opposite of the count, minus 1. Unlike the opposite itself, it fits in 64 bits for every
+// count.
 fn before_opposite(count: i64) -> i64
     ensures { (result +ℤ pos 1) +ℤ count ≡ pos 0 }
 {
     -1 - count
 }
 
-// Subtracts the update. It takes two entries, because the opposite of the least 64-bit number does not fit in
-// 64 bits.
+// Subtracts the update. It takes two entries, because the opposite of the least 64-bit number does
+// not fit in 64 bits.
 fn put_off<T: Lattice>(entries: &mut Entries, update: &Update<T>) -> Result<(), Refusal>
     ensures counts { OnOk result ((r : List ℤ)
         → count_of entries.new r +ℤ
@@ -49,8 +50,8 @@ fn put_listed<T: Lattice>(entries: &mut Entries, listed: &[Update<T>], t: T) -> 
     Ok(())
 }
 
-/// The bag minus the updates listed at or before `t`. [`Refusal::Overflow`] only if that difference does not
-/// fit in 64 bits for some row.
+/// The bag minus the updates listed at or before `t`. [`Refusal::Overflow`] only if that difference
+/// does not fit in 64 bits for some row.
 ///
 /// Cost: linear in the list, plus a sort of the bag and of the updates listed at or before `t`.
 pub(crate) fn gap<T: Lattice>(

@@ -1,5 +1,5 @@
-//! One node: its operator, applied to the bags of its sources. Every plan promises that the sources exist and
-//! that their rows have the columns that the operator names.
+//! One node: its operator, applied to the bags of its sources. Every plan promises that the sources
+//! exist and that their rows have the columns that the operator names.
 ghost use Rattle.std.specs.Prelude.{◌≡◌, ◌≤◌, ◌<◌, ℕ, length, IfOk, IfErr, IsTrue};
 ghost use Rattle.update.specs.Bags.{Alike, IsBag};
 ghost use Rattle.update.specs.Updates.{as_of};
@@ -45,9 +45,9 @@ fn copied(bag: &Bag) -> Result<Bag, Refusal>
     Ok(bag.clone()?)
 }
 
-/// The rows of a node, from the bags of the nodes before it. An input has its own updates at or before `t`
-/// instead. [`Refusal::Overflow`] only if some row's count does not fit in 64 bits, or a product or a total on
-/// the way to it does not.
+/// The rows of a node, from the bags of the nodes before it. An input has its own updates at or
+/// before `t` instead. [`Refusal::Overflow`] only if some row's count does not fit in 64 bits, or a
+/// product or a total on the way to it does not.
 ///
 /// Cost: that of a sort of the rows that the node reads and writes.
 pub(crate) fn of_node<T: Lattice>(

@@ -1,6 +1,7 @@
-//! The reductions, as passes over the entries of bags. Distinct keeps the rows whose count is above 0. Of
-//! these, min and max keep the first and the last row of each key. Rows with the same key are neighbours, so
-//! comparing an entry with its neighbour is enough. Count adds up the keys instead of the rows.
+//! The reductions, as passes over the entries of bags. Distinct keeps the rows whose count is above
+//! 0. Of these, min and max keep the first and the last row of each key. Rows with the same key are
+//! neighbours, so comparing an entry with its neighbour is enough. Count adds up the keys instead
+//! of the rows.
 ghost use Rattle.std.specs.Prelude.{◌≡◌, ◌≤◌, ◌<◌, ◌++◌, ℕ, map, pos, take, int_lt, length, nat_le, slice_index_or, IfOk, IfErr, OnOk, IsTrue};
 ghost use Rattle.std.specs.List.{filter, list_all};
 ghost use Rattle.update.specs.Bags.{Entry, Alike, IsBag, HasLargeCount};
@@ -32,7 +33,8 @@ fn put_present(entries: &mut Entries, bag: &Bag) -> Result<(), Refusal>
     Ok(())
 }
 
-// Distinct: the rows whose count is above 0, each once. The answer is the same for every key width that all rows have.
+// Distinct: the rows whose count is above 0, each once. The answer is the same for every key width
+// that all rows have.
 fn distinct(alloc: Global, bag: &Bag) -> Result<Bag, Refusal>
     ensures distinct { IfOk result (λ out. (k : ℕ) → IsTrue (have_keys k bag.now)
         → Alike out (reduction_output k (reduction_answer Distinct) bag.now)) }
@@ -147,8 +149,8 @@ fn numbered(alloc: Global, totals: &Bag) -> Result<Bag, Refusal>
     entries.into_bag()
 }
 
-// Count: for each key the total count of its rows, as the key followed by that number, if it is not 0.
-// [`Refusal::Overflow`] only if some total does not fit in 64 bits.
+// Count: for each key the total count of its rows, as the key followed by that number, if it is not
+// 0. [`Refusal::Overflow`] only if some total does not fit in 64 bits.
 //
 // Cost: two sorts.
 fn counted(alloc: Global, bag: &Bag, k: usize) -> Result<Bag, Refusal>
@@ -196,8 +198,8 @@ fn greatest(alloc: Global, bag: &Bag, k: usize) -> Result<Bag, Refusal>
     entries.into_bag()
 }
 
-/// The answer of the reduction for each key of `k` columns. [`Refusal::Overflow`] only for count, if the total
-/// count of some key's rows does not fit in 64 bits.
+/// The answer of the reduction for each key of `k` columns. [`Refusal::Overflow`] only for count,
+/// if the total count of some key's rows does not fit in 64 bits.
 pub(crate) fn reduced(alloc: Global, bag: &Bag, kind: Kind, k: usize) -> Result<Bag, Refusal>
     requires some { 1 ≤ k }
     requires room { kind ≡ Count → k ≤ 7 }

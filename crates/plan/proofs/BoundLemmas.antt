@@ -1,4 +1,5 @@
--- The bound of a node from the bounds at its ports. It grows with them, and only a reduction has a bound of its own.
+-- The bound of a node from the bounds at its ports. It grows with them, and only a reduction has a
+-- bound of its own.
 use Rattle.std.proofs.Common.{◌≡◌, ℕ, ◌+◌, ◌*◌, ◌<◌, ◌≤◌, false, ◌⊎◌, inl, inr, length, refl, ap, sym, ◌∙◌, arith, mul-le-mul}
 use Rattle.std.proofs.lemmas.Bool.{true≢false}
 use Rattle.plan.specs.Nodes.{sources, is_reduction}

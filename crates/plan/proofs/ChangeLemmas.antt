@@ -1,4 +1,5 @@
--- The differences of a node are determined by their sums, and its bound by the differences of the reductions.
+-- The differences of a node are determined by their sums, and its bound by the differences of the
+-- reductions.
 use Rattle.std.proofs.Common.{◌≡◌, ℕ, zero, suc, Bool, cond, List, [], ◌∷◌, IsTrue, refl, sym, ◌∙◌, ap}
 use Rattle.std.specs.Prelude.{slice_get}
 use Rattle.std.specs.List.{filter, list_all}

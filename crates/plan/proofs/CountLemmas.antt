@@ -1,4 +1,5 @@
--- Sums over entries: a sum of values that are additive in the counts depends only on the count of each row.
+-- Sums over entries: a sum of values that are additive in the counts depends only on the count of
+-- each row.
 use Rattle.std.proofs.Common.{◌≡◌, ℕ, zero, suc, ◌≤◌, Bool, true, false, cond, not, List, [], ◌∷◌, ◌++◌, map, length, refl, ap, sym, ◌∙◌, arith}
 use Rattle.std.specs.Prelude.{ℤ, pos, negsuc, ◌+ℤ◌, ◌-ℤ◌, ◌*ℤ◌, neg_ℤ}
 use Rattle.std.specs.List.{filter, flat_map}
@@ -140,7 +141,8 @@ module _ (value : List ℤ → ℤ → ℤ) (adds : AddsUp value) where
       step h true k = rw (row_same e.row row k, h) (sym (adds row e.count (count_of entries row)))
       step h false k = let z : pos 0 +ℤ count_of entries row ≡ count_of entries row = omega (arith, ints) in h ∙ ap (value row) (sym z)
 
-  -- if every count is 0, then the values add up to 0; n bounds the number of entries, and each step removes one row
+  -- if every count is 0, then the values add up to 0; n bounds the number of entries, and each step
+  -- removes one row
   weigh_none : (n : ℕ) (entries : List Entry) → length entries ≤ n → ((row : List ℤ) → count_of entries row ≡ pos 0) → weigh value entries ≡ pos 0
   weigh_none n [] l z = refl
   weigh_none zero (e ∷ entries) l z = absurd (omega arith)

@@ -1,4 +1,5 @@
--- The operators: alike bags give alike bags, linear operators are additive, and joins and reductions work key by key.
+-- The operators: alike bags give alike bags, linear operators are additive, and joins and
+-- reductions work key by key.
 use Rattle.std.proofs.Common.{◌≡◌, ℕ, zero, suc, ◌<◌, ◌≤◌, Bool, true, false, cond, List, [], ◌∷◌, ◌++◌, map, take, drop, length, nat_le, eqb, IsTrue, refl, ap, sym, ◌∙◌, ◌⊎◌, inl, inr, arith}
 use Rattle.std.specs.Prelude.{ℤ, pos, ◌+ℤ◌, ◌*ℤ◌, neg_ℤ}
 use Rattle.std.specs.List.{filter, flat_map}
@@ -215,7 +216,8 @@ module _ (k : ℕ) (test : List ℤ → Bool) (bags : ℕ → List Entry) (row :
   given_keyed (Reduce kind source) l = reduce_keyed k (reduction_answer kind) (all_reduce kind k) row test (bags 0)
   given_keyed node l = absurd (true≢false l)
 
--- a join or a reduction of the rows whose keys pass a test gives the part of its output whose keys pass it
+-- a join or a reduction of the rows whose keys pass a test gives the part of its output whose keys
+-- pass it
 pub given_parts : (k : ℕ) (node : Node) → is_linear node ≡ false → (test : List ℤ → Bool) (bags : ℕ → List Entry)
     → Alike (operator_output k node (λ port. filter (λ e. test (take k e.row)) (bags port))) (filter (λ e. test (take k e.row)) (operator_output k node bags))
 given_parts k node l test bags row = given_keyed k test bags row node l ∙ sym (count_of-filter (λ r. test (take k r)) (operator_output k node bags) row)

@@ -59,8 +59,8 @@ pub no_fault : (b : Bool) → not b ≡ false → IsTrue b
 no_fault true h = refl
 no_fault false h = sym h
 
--- what the rules say of a node that they accept: fewer than 256 nodes are before it, its sources may be read, and it
--- has no fault
+-- what the rules say of a node that they accept: fewer than 256 nodes are before it, its sources
+-- may be read, and it has no fault
 pub unrefused : (p : List Node) (node : Node) → node_refusal p node ≡ None → (nat_le 256 (length p) ≡ false) × IsTrue (list_all (is_readable p) (sources node)) × (first_refusal (node_faults p node) ≡ None)
 unrefused p node h =
     let unread = not (list_all (is_readable p) (sources node)) in

@@ -1,5 +1,5 @@
--- A reduction by key: in the answers for all keys together, a row has the count that it has in the answer for its own
--- key.
+-- A reduction by key: in the answers for all keys together, a row has the count that it has in the
+-- answer for its own key.
 use Rattle.std.proofs.Common.{◌≡◌, ℕ, ◌<◌, ◌≤◌, Bool, true, false, cond, not, ◌||◌, List, [], ◌∷◌, map, take, take_all, length, refl, ap, sym, ◌∙◌, inl, inr, ⊎_elim, arith}
 use Rattle.std.specs.Prelude.{ℤ, pos, ◌+ℤ◌, nat_le}
 use Rattle.std.specs.List.{filter, list_any}
@@ -54,8 +54,8 @@ each_once_among (first ∷ rows) row m =
     (λ n. inr (each_once_among rows row (filter_has (λ other. not (same_row other first)) (each_once rows) row n).0))
     m
 
--- if only one row has a value other than 0, then the total over rows without repetitions is that row's value, or 0 if
--- it is not among them
+-- if only one row has a value other than 0, then the total over rows without repetitions is that
+-- row's value, or 0 if it is not among them
 pub total_by-once : (f : List ℤ → ℤ) (key : List ℤ) (rows : List (List ℤ)) → ((row : List ℤ) → Among row rows → same_row row key ≡ false → f row ≡ pos 0) → total_by f (each_once rows) ≡ cond (list_any (λ row. same_row row key) rows) (f key) (pos 0)
 total_by-once f key [] z = refl
 total_by-once f key (first ∷ rows) z =
@@ -113,7 +113,8 @@ module _ (k : ℕ) where
       step true i g ih = let parts = or_parts (same_row (take k e.row) key) (list_any (λ row. same_row row key) (key_rows k entries)) g in rw (parts.0) (ih parts.1)
       step false i g ih = rw (false_from_ne_true (same_row (take k e.row) key) (too_short (leb-false k (length e.row) i))) (ih g)
 
-  -- a row with a key of k columns has the count that it has in the answer for its key; a shorter row is in no answer
+  -- a row with a key of k columns has the count that it has in the answer for its key; a shorter
+  -- row is in no answer
   pub by_key_at : (reduce : List ℤ → List Entry → List Entry) → IsReducer k reduce → (entries : List Entry) (row : List ℤ)
       → count_of (reduction_output k reduce entries) row ≡ cond (nat_le k (length row)) (count_of (reduce (take k row) (filter (has_key k (take k row)) entries)) row) (pos 0)
   by_key_at reduce q entries row =

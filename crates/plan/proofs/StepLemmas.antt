@@ -1,5 +1,5 @@
--- Width, query, ancestors and bound of a plan's nodes. Each follows from the node's sources, and stays the same when
--- the plan is extended.
+-- Width, query, ancestors and bound of a plan's nodes. Each follows from the node's sources, and
+-- stays the same when the plan is extended.
 use Rattle.std.proofs.Common.{◌≡◌, ℕ, suc, ◌+◌, ◌-◌, ◌<◌, Bool, false, ◌||◌, eqb, ◌⊎◌, inl, inr, ⊎_elim, Option, Some, None, List, [], ◌∷◌, ◌++◌, length, slice_get, unwrap_or, option_map, refl, ap, ap₂, sym, ◌∙◌, arith}
 use Rattle.std.specs.List.{list_any}
 use Rattle.update.specs.Bags.{Entry}

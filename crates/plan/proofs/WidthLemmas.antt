@@ -13,7 +13,8 @@ use Rattle.plan.proofs.UpwardLemmas.{by_smaller}
 use Rattle.plan.proofs.PlanLemmas.{plan_take, node_in_take, source_smaller, no_first, no_fault, unrefused}
 use Rattle.plan.proofs.StepLemmas.{width_by_sources, width_before_more}
 
--- two lists find the same faults of a node if its sources are the same nodes with the same widths in both
+-- two lists find the same faults of a node if its sources are the same nodes with the same widths
+-- in both
 pub faults_same : (p q : List Node) (node : Node)
     → ((port s : ℕ) → slice_get (sources node) port ≡ Some s → (width_of p s ≡ width_of q s) × (node_at p s ≡ node_at q s))
     → node_faults p node ≡ node_faults q node

@@ -1,5 +1,6 @@
--- The bound of a node: how large its output can become. It follows from the plan and the changes of the inputs alone.
--- If no bound is 2^63 or more, then every count fits in 64 bits, in every intermediate result too.
+-- The bound of a node: how large its output can become. It follows from the plan and the changes of
+-- the inputs alone. If no bound is 2^63 or more, then every count fits in 64 bits, in every
+-- intermediate result too.
 use Rattle.std.specs.Prelude.{◌≡◌, ℕ, ◌+◌, ◌*◌, ◌^◌, ◌<◌, ◌≤◌, Bool, List, [], length, slice_get}
 use Rattle.std.specs.declared.cmp.Ordering.{Ordering}
 use Rattle.update.specs.Updates.{size}

@@ -1,5 +1,6 @@
--- The differences of a view are one consolidated list of updates. At every time that the frontier has passed, they sum
--- to the query on the inputs as of that time (McSherry et al., Differential Dataflow, CIDR 2013).
+-- The differences of a view are one consolidated list of updates. At every time that the frontier
+-- has passed, they sum to the query on the inputs as of that time (McSherry et al., Differential
+-- Dataflow, CIDR 2013).
 use Rattle.std.specs.Prelude.{ℕ, Bool, not, List, IsTrue}
 use Rattle.std.specs.List.{list_all, flat_map}
 use Rattle.std.specs.declared.cmp.Ordering.{Ordering}

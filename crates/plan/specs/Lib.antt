@@ -1,4 +1,5 @@
--- The definitions of plans and queries, with those of updates and frontiers that their contracts name.
+-- The definitions of plans and queries, with those of updates and frontiers that their contracts
+-- name.
 pub use Rattle.lattice.specs.Order
 pub use Rattle.lattice.specs.Frontiers
 pub use Rattle.update.specs.Bags

@@ -1,5 +1,5 @@
--- Equality of nodes and plans, as tests that decide it. Nodes are compared by their parts: a number for the variant,
--- the other numbers, and the items.
+-- Equality of nodes and plans, as tests that decide it. Nodes are compared by their parts: a number
+-- for the variant, the other numbers, and the items.
 use Rattle.std.specs.Prelude.{◌≡◌, ℕ, zero, suc, Bool, ◌&&◌, List, [], ◌∷◌, eqb, get_or, pos}
 use Rattle.std.proofs.Common.{ap, refl, sym, ◌∙◌}
 use Rattle.std.proofs.lemmas.Bool.{and_parts, and_from, eqb-true, eq-eqb}

@@ -1,5 +1,5 @@
--- The nodes of a plan, each by its number, which is its index in the plan's list; and the sort of a node, which says
--- how it is run.
+-- The nodes of a plan, each by its number, which is its index in the plan's list; and the sort of a
+-- node, which says how it is run.
 use Rattle.std.specs.Prelude.{ℕ, Bool, true, false, List, [], ◌∷◌, Option, Some, None, slice_get, unwrap_or, option_map}
 use Rattle.plan.specs.declared.sort.Sort.{Sort}
 use Rattle.plan.specs.declared.sort.Sort.TheVariants.{Source, Stateless, Arrangement, Bilinear, Reduction, View}
@@ -79,7 +79,7 @@ arranged_by other = None
 abbrev pub key_of : List Node → ℕ → ℕ
 key_of p n = unwrap_or (arranged_by (node_at p n)) 0
 
--- the width of the key by which a node's first source is arranged; 0 if it has no source, or the source is no arrange
--- node
+-- the width of the key by which a node's first source is arranged; 0 if it has no source, or the
+-- source is no arrange node
 abbrev pub key_width : List Node → Node → ℕ
 key_width p node = unwrap_or (option_map (key_of p) (slice_get (sources node) 0)) 0

@@ -1,4 +1,5 @@
--- The operator table: the output of each node, for one bag at each port. Neither times nor differences occur in it.
+-- The operator table: the output of each node, for one bag at each port. Neither times nor
+-- differences occur in it.
 use Rattle.std.specs.Prelude.{ℕ, List, ◌++◌, map, take, drop, length, nat_le, ◌*ℤ◌, neg_ℤ, ℤ}
 use Rattle.std.specs.List.{filter, flat_map}
 use Rattle.row.specs.Projection.{projection}
@@ -17,7 +18,8 @@ mapped_entry items e = record { row = projection items e.row; count = e.count }
 abbrev pub negated_entry : Entry → Entry
 negated_entry e = record { row = e.row; count = neg_ℤ e.count }
 
--- the key, the rest of the left row and the rest of the right row; the count is the product of both counts
+-- the key, the rest of the left row and the rest of the right row; the count is the product of both
+-- counts
 abbrev pub joined_entry : ℕ → Entry → Entry → Entry
 joined_entry k x y = record { row = x.row ++ drop k y.row; count = x.count *ℤ y.count }
 
@@ -33,7 +35,8 @@ keys k entries = each_once (map (λ e. take k e.row) (filter (λ e. nat_le k (le
 abbrev pub reduction_output : ℕ → (List ℤ → List Entry → List Entry) → List Entry → List Entry
 reduction_output k reduce entries = flat_map (λ key. reduce key (filter (has_key k key) entries)) (keys k entries)
 
--- the output of a node, from a bag for each port and the width of the key by which its sources are arranged
+-- the output of a node, from a bag for each port and the width of the key by which its sources are
+-- arranged
 abbrev pub operator_output : ℕ → Node → (ℕ → List Entry) → List Entry
 operator_output k (Input width) bags = bags 0
 operator_output k (Map source items) bags = map (mapped_entry items) (bags 0)

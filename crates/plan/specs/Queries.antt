@@ -6,7 +6,8 @@ use Rattle.plan.specs.Upward.{found}
 use Rattle.plan.specs.Operators.{operator_output}
 use Rattle.plan.specs.declared.node.Node.{Node}
 
--- what comes to a port: the value of its source; an input has no source, and gets the value from outside
+-- what comes to a port: the value of its source; an input has no source, and gets the value from
+-- outside
 abbrev pub source_value : {A : Type 0} → A → (ℕ → A) → Option ℕ → A
 source_value outside of None = outside
 source_value outside of (Some source) = of source

@@ -22,8 +22,8 @@ is_arranged p n = is_some (arranged_by (node_at p n))
 abbrev pub is_width : ℕ → Bool
 is_width width = nat_le 1 width && nat_le width 8
 
--- the faults of a node whose sources exist, each with its refusal, in the order of testing; of the reductions only a
--- count can be too wide
+-- the faults of a node whose sources exist, each with its refusal, in the order of testing; of the
+-- reductions only a count can be too wide
 abbrev pub node_faults : List Node → Node → List (Bool × Refusal)
 node_faults p (Input width) = (not (is_width width), BadWidth) ∷ []
 node_faults p (Map source items) =

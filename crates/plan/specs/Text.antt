@@ -1,4 +1,5 @@
--- How a plan is printed: its nodes in the words of a script, with a node's number in place of its name.
+-- How a plan is printed: its nodes in the words of a script, with a node's number in place of its
+-- name.
 use Rattle.std.specs.Prelude.{ℕ, List, [], ◌∷◌, ◌++◌, codes, decimal}
 use Rattle.std.specs.List.{join_by, flat_map}
 use Rattle.row.specs.Text.{item_text, test_text}

@@ -1,5 +1,6 @@
--- Recursion on a plan: a property of a node that is found from the node and from the same property of its sources. The
--- width of a node, its ancestors, its query and its bound are defined in this way.
+-- Recursion on a plan: a property of a node that is found from the node and from the same property
+-- of its sources. The width of a node, its ancestors, its query and its bound are defined in this
+-- way.
 use Rattle.std.specs.Prelude.{ℕ, zero, suc, List}
 use Rattle.plan.specs.Nodes.{node_at}
 use Rattle.plan.specs.declared.node.Node.{Node}

@@ -7,15 +7,16 @@ use Rattle.plan.specs.declared.node.Kind.TheVariants.{Count, Distinct, Min, Max}
 use Rattle.plan.specs.declared.node.Node.{Node}
 use Rattle.plan.specs.declared.node.Node.TheVariants.{Input, Map, Filter, Concat, Negate, Arrange, Join, Reduce, Output}
 
--- the width of a reduction's rows, from the width of the key and of its source; a count has the key and one more column
+-- the width of a reduction's rows, from the width of the key and of its source; a count has the key
+-- and one more column
 abbrev pub reduced_width : Kind → ℕ → ℕ → ℕ
 reduced_width Count key width = suc key
 reduced_width Distinct key width = width
 reduced_width Min key width = width
 reduced_width Max key width = width
 
--- the width of a node's rows, from the width of the key and the widths of its sources; a join has the key and the rest
--- of both rows
+-- the width of a node's rows, from the width of the key and the widths of its sources; a join has
+-- the key and the rest of both rows
 abbrev pub width_from : ℕ → Node → (ℕ → ℕ) → ℕ
 width_from key (Input width) widths = width
 width_from key (Map source items) widths = length items

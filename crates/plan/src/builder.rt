@@ -1,5 +1,6 @@
-//! Building a plan, node by node. A node is tested when it is added and never again. A builder holds a plan at every
-//! moment, so finishing cannot fail and costs nothing, and a finished plan can be extended.
+//! Building a plan, node by node. A node is tested when it is added and never again. A builder
+//! holds a plan at every moment, so finishing cannot fail and costs nothing, and a finished plan
+//! can be extended.
 ghost use Rattle.std.specs.Prelude.{◌≡◌, ◌++◌, [], ◌∷◌, None, length, IfOk, IfErr, OnErr};
 ghost use Rattle.plan.specs.Rules.{node_refusal};
 ghost use Rattle.update.specs.Refusals.{IsRefusalBy};
@@ -10,8 +11,8 @@ use std::alloc::Global;
 use std::marker::Model;
 use update::Refusal;
 
-/// A plan that is being built. Each of its states is a plan, so nothing is tested at the end. A contract sees the list
-/// of its nodes.
+/// A plan that is being built. Each of its states is a plan, so nothing is tested at the end. A
+/// contract sees the list of its nodes.
 #[derive(Drop)]
 pub struct PlanBuilder {
     plan: Plan,
@@ -36,11 +37,11 @@ impl PlanBuilder {
         }
     }
 
-    /// Adds a node and returns its number, which is the number of nodes before it. A node may read any earlier node
-    /// that is no view.
+    /// Adds a node and returns its number, which is the number of nodes before it. A node may read
+    /// any earlier node that is no view.
     ///
-    /// The refusals, in the order in which they are tested. After a refusal the node is dropped, and the builder stays
-    /// as it was:
+    /// The refusals, in the order in which they are tested. After a refusal the node is dropped,
+    /// and the builder stays as it was:
     ///
     /// | Refusal | When |
     /// |---|---|

@@ -1,5 +1,5 @@
-//! What the definitions promise about the changes of a view. The functions do nothing: they are called, or their
-//! clauses cited, for what they promise in every lattice.
+//! What the definitions promise about the changes of a view. The functions do nothing: they are
+//! called, or their clauses cited, for what they promise in every lattice.
 ghost use Rattle.std.specs.Prelude.{◌≡◌, ℕ, List, IsTrue};
 ghost use Rattle.std.specs.List.{filter};
 ghost use Rattle.lattice.specs.Frontiers.{all_beyond};
@@ -10,8 +10,9 @@ ghost use Rattle.plan.specs.declared.node.Node.{Node};
 
 use lattice::Lattice;
 
-/// The differences of a node are one list: two lists that are its differences, for the same changes and frontier, are
-/// equal. As the frontier moves on, the differences at times that it had already passed stay as they were.
+/// The differences of a node are one list: two lists that are its differences, for the same changes
+/// and frontier, are equal. As the frontier moves on, the differences at times that it had already
+/// passed stay as they were.
 pub fn differences_are_one_list<T: Lattice>()
     ensures one { (p : List Node) (changes : ℕ
         → List (Update T)) (frontier : List T) (n : ℕ) (us vs : List (Update T))

@@ -1,5 +1,6 @@
-//! Questions about the graph of a plan: who reads a node, which nodes are its ancestors, which are inputs and which are
-//! views. A plan has 256 nodes at most, so no index is kept: each question goes over the nodes once.
+//! Questions about the graph of a plan: who reads a node, which nodes are its ancestors, which are
+//! inputs and which are views. A plan has 256 nodes at most, so no index is kept: each question
+//! goes over the nodes once.
 ghost use Rattle.std.specs.Prelude.{◌≡◌, ◌<◌, ◌++◌, false, length, get_or, IfOk, IfErr, OnErr};
 ghost use Rattle.std.specs.List.{filter, list_any};
 ghost use Rattle.plan.specs.Nodes.{sources, is_output, is_input};
@@ -13,7 +14,8 @@ use crate::rules::MAX_NODES;
 use std::alloc::Global;
 use update::Refusal;
 
-/// An edge of a plan, named by its end: the node that reads, and the port at which it reads, counted from 0.
+/// An edge of a plan, named by its end: the node that reads, and the port at which it reads,
+/// counted from 0.
 #[derive(Clone, Copy, PartialEq, Eq)]
 pub struct Edge {
     pub reader: NodeId,
@@ -21,8 +23,8 @@ pub struct Edge {
 }
 
 impl Plan {
-    /// The edges that lead from a node, in the order of their readers and then of their ports. A node that reads it at
-    /// both ports has two edges. Refused only with `OutOfMemory`.
+    /// The edges that lead from a node, in the order of their readers and then of their ports. A
+    /// node that reads it at both ports has two edges. Refused only with `OutOfMemory`.
     ///
     /// Cost: linear in the plan.
     pub fn edges_from(&self, alloc: Global, id: NodeId) -> Result<Vec<Edge>, Refusal>

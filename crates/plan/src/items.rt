@@ -1,11 +1,13 @@
-//! The items of a map. They have a type of their own, so that a contract sees a list, and maps can be compared.
+//! The items of a map. They have a type of their own, so that a contract sees a list, and maps can
+//! be compared.
 ghost use Rattle.std.specs.Prelude.{◌≡◌, ◌↔◌, IsTrue, length};
 
 use row::Item;
 use std::alloc::AllocError;
 use std::marker::Model;
 
-/// What a map makes of each row: one item for each column, in order. A contract sees the list of items.
+/// What a map makes of each row: one item for each column, in order. A contract sees the list of
+/// items.
 #[derive(Drop)]
 pub struct Items {
     items: Vec<Item>,

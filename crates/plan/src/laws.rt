@@ -1,5 +1,6 @@
-//! What follows from the definitions of plans and queries alone. The functions do nothing: they are called, or their
-//! clauses cited, for what they promise. A layer above needs nothing of the definitions but these laws.
+//! What follows from the definitions of plans and queries alone. The functions do nothing: they are
+//! called, or their clauses cited, for what they promise. A layer above needs nothing of the
+//! definitions but these laws.
 ghost use Rattle.std.specs.Prelude.{◌≡◌, ◌<◌, ◌≤◌, ◌↔◌, ℕ, ℤ, Bool, false, not, List, [], ◌++◌, None, Some, IsTrue, map, take, length, eqb, ◌||◌, ◌&&◌, ◌⊎◌, slice_get, pos, ◌∷◌, int_lt, if◌then◌else◌};
 ghost use Rattle.std.specs.Ordering.{int_eq};
 ghost use Rattle.std.specs.List.{filter, flat_map, list_any};
@@ -16,8 +17,8 @@ ghost use Rattle.plan.specs.declared.node.Kind.{Kind};
 ghost use Rattle.plan.specs.declared.node.Kind.TheVariants.{Count, Distinct, Min, Max};
 ghost use Rattle.plan.specs.declared.node.Node.{Node};
 
-/// Each of the four reductions satisfies the laws of a reducer. For every reducer, the answer for a key depends only on
-/// the rows of the key.
+/// Each of the four reductions satisfies the laws of a reducer. For every reducer, the answer for a
+/// key depends only on the rows of the key.
 pub fn reductions_are_reducers()
     ensures reducers { (kind : Kind) (k : ℕ) → IsReducer k (reduction_answer kind) }
     ensures by_key { (k : ℕ) (reduce : List ℤ → List Entry → List Entry) → IsReducer k reduce
@@ -26,9 +27,9 @@ pub fn reductions_are_reducers()
         ≡ count_of (reduce (take k row) (filter (has_key k (take k row)) entries)) row }
 {}
 
-/// What each reduction answers for a key, row by row, in terms of the counts alone. Count: the key with the sum of all
-/// counts, unless that sum is 0. Distinct: each row with a count above 0. Min and max: the least and the greatest of
-/// these rows. No row is answered more than once.
+/// What each reduction answers for a key, row by row, in terms of the counts alone. Count: the key
+/// with the sum of all counts, unless that sum is 0. Distinct: each row with a count above 0. Min
+/// and max: the least and the greatest of these rows. No row is answered more than once.
 pub fn reductions_answer_rows()
     ensures count { (key : List ℤ) (entries : List Entry) (row : List ℤ)
         → count_of (reduction_answer Count key entries) row
@@ -52,8 +53,8 @@ pub fn reductions_answer_rows()
         ⊎ (count_of (reduction_answer kind key entries) row ≡ pos 1) }
 {}
 
-/// Alike bags give alike bags. This holds for every operator, and for the query of every list of nodes. In a plan it is
-/// enough that the inputs which feed the node have alike bags.
+/// Alike bags give alike bags. This holds for every operator, and for the query of every list of
+/// nodes. In a plan it is enough that the inputs which feed the node have alike bags.
 pub fn queries_depend_on_bags()
     ensures operators { (k : ℕ) (node : Node) (a b : ℕ → List Entry)
         → ((port : ℕ) → Alike (a port) (b port))
@@ -65,8 +66,8 @@ pub fn queries_depend_on_bags()
         → Alike (query p a n) (query p b n) }
 {}
 
-/// For all nodes but joins and reductions, the output for two bags together is the output for each, together. Every
-/// node gives nothing if it is given nothing.
+/// For all nodes but joins and reductions, the output for two bags together is the output for each,
+/// together. Every node gives nothing if it is given nothing.
 pub fn linear_operators_add_up()
     ensures sums { (k : ℕ) (node : Node) → IsTrue (is_linear node) → (a b : ℕ → List Entry)
         → Alike (operator_output k node (λ port. a port ++ b port))
@@ -74,9 +75,9 @@ pub fn linear_operators_add_up()
     ensures nothing { (k : ℕ) (node : Node) → Alike (operator_output k node (λ port. [])) [] }
 {}
 
-/// If a join or a reduction is given only the rows whose keys pass a test, then it gives the part of its full output
-/// whose keys pass the test. So if each key has one worker, then all workers together give what one worker would give
-/// for all rows.
+/// If a join or a reduction is given only the rows whose keys pass a test, then it gives the part
+/// of its full output whose keys pass the test. So if each key has one worker, then all workers
+/// together give what one worker would give for all rows.
 pub fn keyed_operators_add_up()
     ensures parts { (k : ℕ) (node : Node) → is_linear node ≡ false
         → (test : List ℤ → Bool) (bags : ℕ → List Entry)
@@ -91,9 +92,10 @@ pub fn keyed_operators_add_up()
         (numbers_below workers)) (operator_output k node bags) }
 {}
 
-/// What every plan has: at most 256 nodes; sources with smaller numbers, none of which is a view; widths of 1 to 8
-/// columns, each of which follows from the sources' widths; no fault against any rule, by the widths of the whole plan;
-/// arrange keys of at least one column; and sources of joins and reductions that are arranged by the key of the node.
+/// What every plan has: at most 256 nodes; sources with smaller numbers, none of which is a view;
+/// widths of 1 to 8 columns, each of which follows from the sources' widths; no fault against any
+/// rule, by the widths of the whole plan; arrange keys of at least one column; and sources of joins
+/// and reductions that are arranged by the key of the node.
 pub fn plans_are_in_order()
     ensures few { (p : List Node) → IsPlan p → length p ≤ 256 }
     ensures smaller { (p : List Node) → IsPlan p → (n port source : ℕ)
@@ -115,9 +117,9 @@ pub fn plans_are_in_order()
         → width_of p n ≡ width_from (key_width p (node_at p n)) (node_at p n) (width_of p) }
 {}
 
-/// What is true of a node follows from its sources: its query is its operator applied to their queries, and its
-/// ancestors are its sources and their ancestors (`reaches` counts the node itself too). Ancestors have smaller
-/// numbers, and every node is fed by at least one input.
+/// What is true of a node follows from its sources: its query is its operator applied to their
+/// queries, and its ancestors are its sources and their ancestors (`reaches` counts the node itself
+/// too). Ancestors have smaller numbers, and every node is fed by at least one input.
 pub fn nodes_stand_on_their_sources()
     ensures query { (p : List Node) → IsPlan p → (inputs : ℕ → List Entry) (n : ℕ)
         → query p inputs n
@@ -133,8 +135,8 @@ pub fn nodes_stand_on_their_sources()
         → (input : ℕ) × (input < length p) × IsTrue (feeds p input n) }
 {}
 
-/// If a plan is extended, then the old part is still a plan, and nothing changes for its nodes: not their widths,
-/// queries, ancestors or bounds.
+/// If a plan is extended, then the old part is still a plan, and nothing changes for its nodes: not
+/// their widths, queries, ancestors or bounds.
 pub fn extensions_keep_plans()
     ensures plan { (p more : List Node) → IsPlan (p ++ more) → IsPlan p }
     ensures widths { (p more : List Node) → IsPlan p → (n : ℕ) → n < length p

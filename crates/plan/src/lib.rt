@@ -1,13 +1,15 @@
 //! Plans: which views are kept up to date, and what each of them means.
 //!
-//! A [`Plan`] is a list of nodes, each of which reads nodes with smaller numbers. There are inputs, to which changes
-//! are fed; operators; and views, which are read from outside. A plan is built node by node with a [`PlanBuilder`],
-//! which refuses a node that breaks a rule. So every plan keeps the rules, and no layer above tests them again.
+//! A [`Plan`] is a list of nodes, each of which reads nodes with smaller numbers. There are inputs,
+//! to which changes are fed; operators; and views, which are read from outside. A plan is built
+//! node by node with a [`PlanBuilder`], which refuses a node that breaks a rule. So every plan
+//! keeps the rules, and no layer above tests them again.
 //!
-//! What a plan means is defined in this crate and nowhere else. `specs/` has the table of operators, the query that
-//! follows from it, and the differences that a view goes through. A query mentions no time, no difference, no worker
-//! and no batch. Every layer above is measured by it, so a reader who doubts the rest should read it first. The
-//! functions with empty bodies, such as [`queries_depend_on_bags`], state the laws that follow from the definitions.
+//! What a plan means is defined in this crate and nowhere else. `specs/` has the table of
+//! operators, the query that follows from it, and the differences that a view goes through. A query
+//! mentions no time, no difference, no worker and no batch. Every layer above is measured by it, so
+//! a reader who doubts the rest should read it first. The functions with empty bodies, such as
+//! [`queries_depend_on_bags`], state the laws that follow from the definitions.
 #![tactic(auto)]
 
 mod builder;

@@ -1,6 +1,6 @@
-//! The nodes of a plan: what each does, and which nodes it reads. A node names its sources by number and knows nothing
-//! else of the plan. So it can be made, compared and printed without a plan. The rules decide whether a plan accepts
-//! it.
+//! The nodes of a plan: what each does, and which nodes it reads. A node names its sources by
+//! number and knows nothing else of the plan. So it can be made, compared and printed without a
+//! plan. The rules decide whether a plan accepts it.
 ghost use Rattle.std.specs.Prelude.{◌≡◌, ◌↔◌, slice_get, IsTrue};
 ghost use Rattle.plan.specs.Nodes.{sources, arranged_by};
 ghost use Rattle.plan.specs.NodeEquality.{same_node};
@@ -54,8 +54,8 @@ pub enum Kind {
     Max,
 }
 
-/// What a node does, and which nodes it reads: `source`, or `left` and `right`. The numbers here are not tested;
-/// [`PlanBuilder::add`](crate::PlanBuilder::add) says what a plan accepts.
+/// What a node does, and which nodes it reads: `source`, or `left` and `right`. The numbers here
+/// are not tested; [`PlanBuilder::add`](crate::PlanBuilder::add) says what a plan accepts.
 #[derive(Clone, Drop)]
 pub enum Node {
     /// Rows of `width` columns that come from outside.
@@ -68,10 +68,11 @@ pub enum Node {
     Concat { left: NodeId, right: NodeId },
     /// The same rows, each with its count negated.
     Negate { source: NodeId },
-    /// The same rows, sent to workers by their first `key` columns and kept in that order, for joins and reductions.
+    /// The same rows, sent to workers by their first `key` columns and kept in that order, for
+    /// joins and reductions.
     Arrange { source: NodeId, key: usize },
-    /// For each two rows with the same key: the key, the rest of the left row and the rest of the right row. The count
-    /// is the product of both counts.
+    /// For each two rows with the same key: the key, the rest of the left row and the rest of the
+    /// right row. The count is the product of both counts.
     Join { left: NodeId, right: NodeId },
     /// The answer of the reduction for each key.
     Reduce { kind: Kind, source: NodeId },
@@ -80,8 +81,8 @@ pub enum Node {
 }
 
 impl Node {
-    /// The node that is read at a port, counted from 0; a left source is at port 0 and a right one at port 1. `None` if
-    /// the node has no such port; an input has none at all. Takes no memory.
+    /// The node that is read at a port, counted from 0; a left source is at port 0 and a right one
+    /// at port 1. `None` if the node has no such port; an input has none at all. Takes no memory.
     pub fn source(&self, port: usize) -> Option<NodeId>
         ensures { result ≡ slice_get (sources self.now) port }
     {
@@ -101,7 +102,8 @@ impl Node {
         }
     }
 
-    /// The number of key columns by which the node arranges its rows; `None` if it is no arrange node. Takes no memory.
+    /// The number of key columns by which the node arranges its rows; `None` if it is no arrange
+    /// node. Takes no memory.
     pub fn arranged_by(&self) -> Option<usize>
         ensures { result ≡ arranged_by self.now }
     {

@@ -1,9 +1,9 @@
 //! Plans: query graphs whose nodes read nodes with smaller numbers.
 //!
-//! A plan is the list of its nodes. Its one invariant is that the rules accept each node after the nodes before it. So
-//! a plan has no cycle. The width of every node, and the key of every join and reduction, follows from the nodes before
-//! it, and need not be tested again. Each node is stored with its width; otherwise each question for a width would go
-//! back to the inputs.
+//! A plan is the list of its nodes. Its one invariant is that the rules accept each node after the
+//! nodes before it. So a plan has no cycle. The width of every node, and the key of every join and
+//! reduction, follows from the nodes before it, and need not be tested again. Each node is stored
+//! with its width; otherwise each question for a width would go back to the inputs.
 ghost use Rattle.std.specs.Prelude.{◌≡◌, ◌<◌, ◌≤◌, ◌↔◌, ◌++◌, [], ◌∷◌, None, length, IsTrue, IfOk, IfErr, OnErr};
 ghost use Rattle.update.specs.declared.refusal.Refusal.TheVariants.{OutOfMemory};
 ghost use Rattle.plan.specs.Nodes.{node_at, key_of, key_width};
@@ -22,8 +22,8 @@ pub(crate) struct Stage {
     pub(crate) width: usize,
 }
 
-/// A query graph: nodes, each of which reads nodes with smaller numbers. A contract sees the list of its nodes, in the
-/// order of their numbers.
+/// A query graph: nodes, each of which reads nodes with smaller numbers. A contract sees the list
+/// of its nodes, in the order of their numbers.
 #[derive(Drop)]
 pub struct Plan {
     stages: Vec<Stage>,
@@ -61,7 +61,8 @@ impl Plan {
         self.stages.len()
     }
 
-    /// Tells the prover that the rules accept each node and that there are 256 at most. Costs nothing.
+    /// Tells the prover that the rules accept each node and that there are 256 at most. Costs
+    /// nothing.
     pub fn known(&self)
         ensures few { length self.now ≤ 256 }
         ensures plan { IsPlan self.now }
@@ -101,8 +102,8 @@ impl Plan {
         self.node(id).arranged_by().is_some()
     }
 
-    /// The width of the key by which the node is arranged: 1 to 8 columns for an arrange node, 0 for every other node.
-    /// Takes no memory and constant time.
+    /// The width of the key by which the node is arranged: 1 to 8 columns for an arrange node, 0
+    /// for every other node. Takes no memory and constant time.
     pub fn key(&self, id: NodeId) -> usize
         requires { id < length self.now }
         ensures key { result ≡ key_of self.now id }
@@ -113,9 +114,10 @@ impl Plan {
         self.node(id).arranged_by().unwrap_or(0)
     }
 
-    /// The width of the key by which the node's first source is arranged. A join or a reduction has sources that are
-    /// arranged by this key, so its key has 1 to 8 columns. The answer is 0 if the first source is no arrange node, and
-    /// also for an input, which has no source. Takes no memory and constant time.
+    /// The width of the key by which the node's first source is arranged. A join or a reduction has
+    /// sources that are arranged by this key, so its key has 1 to 8 columns. The answer is 0 if the
+    /// first source is no arrange node, and also for an input, which has no source. Takes no memory
+    /// and constant time.
     pub fn key_width(&self, id: NodeId) -> usize
         requires { id < length self.now }
         ensures { result ≡ key_width self.now (node_at self.now id) }
@@ -127,8 +129,8 @@ impl Plan {
         }
     }
 
-    /// Adds a node that the rules accept. Refused only with `OutOfMemory`; the node is then dropped, and the plan stays
-    /// as it was.
+    /// Adds a node that the rules accept. Refused only with `OutOfMemory`; the node is then
+    /// dropped, and the plan stays as it was.
     pub(crate) fn push(&mut self, node: Node) -> Result<NodeId, Refusal>
         requires { node_refusal self.old node ≡ None }
         ensures added { IfOk result (λ id. (id ≡ length self.old)

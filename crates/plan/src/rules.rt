@@ -1,7 +1,8 @@
-//! The rules of plans: which node may come next. They are tested in the order of this file, so a node with several
-//! faults is always refused for the same one. The number of nodes comes first, then whether the sources exist, then
-//! what the kind of node asks. A map is asked for its number of items before the columns that they name. A join is
-//! asked for its left source before its right one, and a join or a reduction for the width of its own rows last.
+//! The rules of plans: which node may come next. They are tested in the order of this file, so a
+//! node with several faults is always refused for the same one. The number of nodes comes first,
+//! then whether the sources exist, then what the kind of node asks. A map is asked for its number
+//! of items before the columns that they name. A join is asked for its left source before its right
+//! one, and a join or a reduction for the width of its own rows last.
 ghost use Rattle.std.specs.Prelude.{◌≡◌, ◌<◌, ◌≤◌, ◌+◌, ◌-◌, ℕ, not, Some, None, [], ◌∷◌, length, IsTrue, nat_lt};
 ghost use Rattle.std.specs.List.{list_all};
 ghost use Rattle.plan.specs.Nodes.{sources, key_of, key_width};
@@ -44,7 +45,8 @@ impl Plan {
         }
     }
 
-    /// Whether the plan has this node and it is no view, so that another node may read it. Takes no memory.
+    /// Whether the plan has this node and it is no view, so that another node may read it. Takes no
+    /// memory.
     pub fn is_readable(&self, id: NodeId) -> bool
         ensures { result ≡ is_readable self.now id }
     {

@@ -1,5 +1,5 @@
-//! The sort of a node: how it is run. Engines, and the proofs about them, ask for the sort and not for the variant. So
-//! a new variant of an existing sort changes nothing in them.
+//! The sort of a node: how it is run. Engines, and the proofs about them, ask for the sort and not
+//! for the variant. So a new variant of an existing sort changes nothing in them.
 ghost use Rattle.std.specs.Prelude.{◌≡◌};
 ghost use Rattle.plan.specs.Nodes.{sort, is_input, is_output, is_linear};
 
@@ -53,8 +53,8 @@ impl Node {
         matches!(self.sort(), Sort::View)
     }
 
-    /// Whether the node is linear, which means that its output for a sum is the sum of its outputs for the parts: all
-    /// nodes but joins and reductions. Takes no memory.
+    /// Whether the node is linear, which means that its output for a sum is the sum of its outputs
+    /// for the parts: all nodes but joins and reductions. Takes no memory.
     pub fn is_linear(&self) -> bool
         ensures { result ≡ is_linear self.now }
     {

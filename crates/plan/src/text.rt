@@ -1,5 +1,5 @@
-//! The text of plans, for people and tools: a line for each node, in the words with which a script declares it. The
-//! number of a node stands in place of its name.
+//! The text of plans, for people and tools: a line for each node, in the words with which a script
+//! declares it. The number of a node stands in place of its name.
 ghost use Rattle.std.specs.Prelude.{Some, decimal};
 ghost use Rattle.plan.specs.Text.{items_text, kind_text, node_text, plan_text};
 
@@ -50,7 +50,8 @@ impl fmt::Display for Kind {
     }
 }
 
-/// What a script's line says after the name of the node, with the numbers of its sources: `join 3 4`.
+/// What a script's line says after the name of the node, with the numbers of its sources: `join 3
+/// 4`.
 impl fmt::Display for Node {
     ghost output = { λ node. Some (node_text node) };
 
@@ -69,8 +70,8 @@ impl fmt::Display for Node {
     }
 }
 
-/// A line for each node, in the order of their numbers: its number, the node, and the width of its rows, as in `5: join
-/// 3 4, width 3`.
+/// A line for each node, in the order of their numbers: its number, the node, and the width of its
+/// rows, as in `5: join 3 4, width 3`.
 impl fmt::Display for Plan {
     ghost output = { λ plan. Some (plan_text plan) };
 

@@ -2,7 +2,7 @@
 //!
 //! A reducer knows nothing of times. It is asked again and again for the same key, at each time at
 //! which the key's rows differ. So it reads its rows where they are, as entries in order, and
-//! whoever asks changes counts in place from one time to the next instead of copying the rows.
+//! a caller changes counts in place from one time to the next instead of copying the rows.
 //!
 //! - [`Reducer`] is such a function, with its laws: alike bags get alike answers, an empty bag gets
 //!   an empty answer, and each row of an answer begins with the key.

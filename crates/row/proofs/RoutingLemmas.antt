@@ -8,7 +8,8 @@ use Rattle.row.specs.Routing.{column_sum}
 column_sum-drop : (key : List ℤ) (i : ℕ) → i < length key → column_sum (drop i key) ≡ (get_or key i (pos 0) +ℤ column_sum (drop (i + 1) key))
 column_sum-drop key i h = ap column_sum (drop-cons key i (pos 0) h) ∙ rw add-one
 
--- adding a column moves it from the sum still to come to the sum so far, a step of the loop in `sum`
+-- adding a column moves it from the sum still to come to the sum so far, a step of the loop in
+-- `sum`
 pub sum_moves : (key : List ℤ) (i : ℕ) (sum column more : ℤ) → i < length key → column ≡ get_or key i (pos 0) → more ≡ (sum +ℤ column) → (more +ℤ column_sum (drop (i + 1) key)) ≡ (sum +ℤ column_sum (drop i key))
 sum_moves key i sum column more h e f = let step = column_sum-drop key i h in omega (arith, ints, step)
 

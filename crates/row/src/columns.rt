@@ -1,5 +1,5 @@
-//! A row and its columns. The width is an invariant of the type: it is tested when a row is made, and known wherever
-//! one is read.
+//! A row and its columns. The width is an invariant of the type: it is tested when a row is made,
+//! and known wherever one is read.
 ghost use Rattle.std.specs.Prelude.{◌≡◌, ◌≤◌, ◌++◌, ◌+◌, ◌↔◌, IsOk, IfOk, length, take, drop, ⊤};
 
 use crate::WidthRefused;
@@ -27,7 +27,8 @@ impl Model for Row {
 }
 
 impl Row {
-    /// A row of these columns. [`WidthRefused`] if and only if there are not 1 to 8 of them. Takes no memory.
+    /// A row of these columns. [`WidthRefused`] if and only if there are not 1 to 8 of them. Takes
+    /// no memory.
     pub fn new(alloc: Global, columns: &[i64]) -> Result<Row, WidthRefused>
         ensures ok { IfOk result (λ row. row ≡ columns.now) }
         ensures width { IsOk result ↔ ((1 ≤ length columns.now) × (length columns.now ≤ 8)) }

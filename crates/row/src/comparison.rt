@@ -1,5 +1,5 @@
-//! Comparisons and hashes of rows: those of the lists of their columns. They are written by hand, because derived ones
-//! would compare the fields, while contracts see the list.
+//! Comparisons and hashes of rows: those of the lists of their columns. They are written by hand,
+//! because derived ones would compare the fields, while contracts see the list.
 ghost use Rattle.std.specs.Prelude.{refl};
 ghost use Rattle.std.proofs.Common.{rules};
 ghost use Rattle.std.specs.Hash as fed;

@@ -1,8 +1,9 @@
-//! Projections. A projection makes a row from another row: each of its columns is a column of that row or a constant.
-//! Columns may be left out, repeated and reordered.
+//! Projections. A projection makes a row from another row: each of its columns is a column of that
+//! row or a constant. Columns may be left out, repeated and reordered.
 //!
-//! The caller must know that each item names a column that the row has. `PlanBuilder::add` of the crate `plan` tests
-//! this once with [`are_within`] when a map is added to a plan, and then no row is tested again.
+//! The caller must know that each item names a column that the row has. `PlanBuilder::add` of the
+//! crate `plan` tests this once with [`are_within`] when a map is added to a plan, and then no row
+//! is tested again.
 ghost use Rattle.std.specs.Prelude.{◌≡◌, ◌≤◌, length, IsTrue};
 ghost use Rattle.row.specs.Projection.{item_value, is_within, are_within, projection};
 

@@ -1,4 +1,5 @@
-//! Tests of rows. A test compares two items, each a column or a constant. A filter keeps the rows that pass its test.
+//! Tests of rows. A test compares two items, each a column or a constant. A filter keeps the rows
+//! that pass its test.
 ghost use Rattle.std.specs.Prelude.{◌≡◌, length, IsTrue};
 ghost use Rattle.row.specs.Projection.{is_within};
 ghost use Rattle.row.specs.Testing.{compares, is_test_within, passes};

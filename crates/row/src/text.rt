@@ -1,5 +1,5 @@
-//! The text of a row, as a script writes it and a view prints it: its columns as decimal numbers, separated by one
-//! space. And the text of items, comparisons and tests, in the words of a script.
+//! The text of a row, as a script writes it and a view prints it: its columns as decimal numbers,
+//! separated by one space. And the text of items, comparisons and tests, in the words of a script.
 ghost use Rattle.std.specs.Prelude.{Some};
 ghost use Rattle.row.specs.Text.{row_text, item_text, cmp_text, test_text};
 

@@ -9,8 +9,8 @@ use Rattle.trace.specs.BatchLists.{BatchListState, IsMergeAt, end_of, ends_of, m
 use Rattle.trace.specs.Holds.{HoldState}
 use Rattle.spine.specs.Holding.{forbids}
 
--- the batches, the frontier beyond which they may be read, the readers' holds, and how many updates were copied in
--- merges
+-- the batches, the frontier beyond which they may be read, the readers' holds, and how many updates
+-- were copied in merges
 pub record SpineState (T : Type 0) : Type 0 where
   pub list : BatchListState T
   pub since : List T
@@ -61,8 +61,9 @@ abbrev pub IsCountAfter : ℕ → ℕ → ℕ → Type 0
 IsCountAfter old more new = old < 2 ^ 64 → new ≡ min (old + more) (2 ^ 64 - 1)
 
 module _ {T : Type 0} (below : T → T → Bool) where
-  -- the spine stands for these insertions: it has reached as far as they did, and the batches up to a boundary may be
-  -- read in the place of what was inserted up to there, at all times beyond the since
+  -- the spine stands for these insertions: it has reached as far as they did, and the batches up to
+  -- a boundary may be read in the place of what was inserted up to there, at all times beyond the
+  -- since
   pub record Stands (s : SpineState T) (h : List (Insertion T)) : Type 0 where
     pub upper : end_of s.list.start s.list.batches ≡ reached s.list.start h
     pub reads : (n : ℕ) (u : List T) (seen : List (Insertion T))
@@ -71,7 +72,8 @@ module _ {T : Type 0} (below : T → T → Bool) where
         → IsReadable below s.since
         (all_content updates_of (take n s.list.batches)) (all_updates seen)
 
-  -- the batch with this number and the next one may become one: no reader may ask for the boundary between them
+  -- the batch with this number and the next one may become one: no reader may ask for the boundary
+  -- between them
   pub record MayMerge (holds : List (HoldState T)) (i : ℕ) (bs : List (BatchState T)) : Type 0 where
     pub within : suc i < length bs
     pub allowed : (a : BatchState T) → slice_get bs i ≡ Some a
@@ -113,8 +115,9 @@ module _ {T : Type 0} (below : T → T → Bool) where
       → slice_get bs i ≡ Some a
       → IsTrue (forbids below holds a.description.upper)
 
-  -- what is left of the fuel goes no further: some reader may ask for the boundary between two neighbours, or they have
-  -- as many updates as there is fuel, or more, or they are steep and all that is stored is
+  -- what is left of the fuel goes no further: some reader may ask for the boundary between two
+  -- neighbours, or they have as many updates as there is fuel, or more, or they are steep and all
+  -- that is stored is
   abbrev pub IsStuck : ℕ → List (HoldState T) → List (BatchState T) → Type 0
   IsStuck left holds bs =
       (i : ℕ) (a b : BatchState T)

@@ -1,9 +1,9 @@
-//! The spine: a batch list, and the holds of its readers. What is inserted goes into the list as it is. What readers
-//! may still ask is known by their holds, and only across a boundary that nobody may ask for do two batches become
-//! one.
+//! The spine: a batch list, and the holds of its readers. What is inserted goes into the list as it
+//! is. What readers may still ask is known by their holds, and only across a boundary that nobody
+//! may ask for do two batches become one.
 //!
-//! The invariant: `since` is the least of all logical frontiers that are held, with memory for all their elements. So a
-//! hold can be released, and the since found anew, where no memory is left.
+//! The invariant: `since` is the least of all logical frontiers that are held, with memory for all
+//! their elements. So a hold can be released, and the since found anew, where no memory is left.
 ghost use Rattle.std.specs.Prelude.{◌≡◌, ◌↔◌, ◌⊎◌, ◌++◌, ◌∷◌, min, ◌-◌, ◌^◌, List, [], Err, IfErr, IfOk, IsErrAnd, OnErr, OnOk, IsTrue, true, length};
 ghost use Rattle.std.specs.List.{Contains};
 ghost use Rattle.lattice.specs.Frontiers.{all_beyond};
@@ -25,8 +25,8 @@ use std::marker::Model;
 use trace::{BatchList, Hold, Trace, Unplaced};
 use update::Refusal;
 
-/// A trace that merges its batches under its readers' holds. A contract sees the batch list, the since, the holds, and
-/// how many updates were copied in merges.
+/// A trace that merges its batches under its readers' holds. A contract sees the batch list, the
+/// since, the holds, and how many updates were copied in merges.
 ///
 /// One worker owns a spine and all its readers. Each reader has a [`Hold`], and gives it back by
 /// [`release`](Spine::release).
@@ -67,8 +67,8 @@ fn least_time<T: Minimum>(alloc: Global) -> Result<Vec<T>, Refusal>
 }
 
 impl<T: Minimum> Spine<T> {
-    /// A spine without batches, which begins at the least time, and a hold from there on. [`Refusal::OutOfMemory`]
-    /// only if memory for a few times was refused.
+    /// A spine without batches, which begins at the least time, and a hold from there on.
+    /// [`Refusal::OutOfMemory`] only if memory for a few times was refused.
     pub fn new(alloc: Global, worker: usize, node: usize) -> Result<(Spine<T>, Hold<T>), Refusal>
         ensures first { IfOk result (λ made. made.0 ≡ record {
           list = record {
@@ -103,8 +103,8 @@ impl<T: Minimum> Spine<T> {
 }
 
 impl<T: Lattice> Spine<T> {
-    /// Makes room for one more batch, so that the next [`insert`](Spine::insert) takes no memory. If memory was
-    /// refused, then nothing has changed.
+    /// Makes room for one more batch, so that the next [`insert`](Spine::insert) takes no memory.
+    /// If memory was refused, then nothing has changed.
     pub fn reserve(&mut self) -> Result<(), Refusal>
         ensures room { OnOk result
             (self.new ≡ record self.old { list = record self.old.list { reserved = true } }) }
@@ -114,14 +114,15 @@ impl<T: Lattice> Spine<T> {
         self.list.reserve()
     }
 
-    /// Inserts a batch at the end. From then on the spine stands for one more insertion: that of the batch's updates at
-    /// its upper frontier. The batch comes back if it is refused, and the spine stays as it was.
+    /// Inserts a batch at the end. From then on the spine stands for one more insertion: that of
+    /// the batch's updates at its upper frontier. The batch comes back if it is refused, and the
+    /// spine stays as it was.
     ///
-    /// - [`Refusal::Stray`] if and only if the batch does not begin at the frontier that the spine has reached, its
-    ///   worker or node is another, or it has updates although it ends where it begins: such updates would give a
-    ///   boundary that readers may know another meaning.
-    /// - Otherwise [`Refusal::OutOfMemory`] only if memory for one more batch was refused, which cannot be after
-    ///   [`reserve`](Spine::reserve).
+    /// - [`Refusal::Stray`] if and only if the batch does not begin at the frontier that the spine
+    ///   has reached, its worker or node is another, or it has updates although it ends where it
+    ///   begins: such updates would give a boundary that readers may know another meaning.
+    /// - Otherwise [`Refusal::OutOfMemory`] only if memory for one more batch was refused, which
+    ///   cannot be after [`reserve`](Spine::reserve).
     ///
     /// Cost: two comparisons of frontiers; the batch is moved, and no update is copied.
     pub fn insert(&mut self, batch: Batch<T>) -> Result<(), Unplaced<T>>
@@ -149,8 +150,8 @@ impl<T: Lattice> Spine<T> {
         Ok(())
     }
 
-    /// A new hold. It reads at all times that are beyond the since now, and asks for boundaries from the upper frontier
-    /// on. If it is refused, then nothing has changed.
+    /// A new hold. It reads at all times that are beyond the since now, and asks for boundaries
+    /// from the upper frontier on. If it is refused, then nothing has changed.
     ///
     /// [`Refusal::OutOfMemory`] only if memory for two copies of both frontiers was refused.
     pub fn hold(&mut self, alloc: Global) -> Result<Hold<T>, Refusal>
@@ -191,14 +192,15 @@ impl<T: Lattice> Spine<T> {
         Entry::new(alloc, self.since.as_slice(), self.list.upper())
     }
 
-    /// Moves both frontiers of a hold on. The hold must be one of this spine. If it is refused, then the spine and both
-    /// frontiers of the hold stay as they were.
+    /// Moves both frontiers of a hold on. The hold must be one of this spine. If it is refused,
+    /// then the spine and both frontiers of the hold stay as they were.
     ///
     /// - [`Refusal::NotForward`] if and only if one of the new frontiers is not beyond the old one.
-    /// - Otherwise [`Refusal::OutOfMemory`] only if memory for two copies of both frontiers was refused.
+    /// - Otherwise [`Refusal::OutOfMemory`] only if memory for two copies of both frontiers was
+    ///   refused.
     ///
-    /// Cost: linear in the number of holds, and as many comparisons of times as all logical frontiers have elements,
-    /// times those of the since.
+    /// Cost: linear in the number of holds, and as many comparisons of times as all logical
+    /// frontiers have elements, times those of the since.
     pub fn advance_hold(
         &mut self,
         alloc: Global,
@@ -238,8 +240,8 @@ impl<T: Lattice> Spine<T> {
         Ok(())
     }
 
-    /// Ends a hold, which must be one of this spine. If it was the last one, then the since is empty: no time may be
-    /// read any more. Takes no memory.
+    /// Ends a hold, which must be one of this spine. If it was the last one, then the since is
+    /// empty: no time may be read any more. Takes no memory.
     ///
     /// Cost: as that of [`advance_hold`](Spine::advance_hold).
     pub fn release(&mut self, hold: Hold<T>)
@@ -257,8 +259,8 @@ impl<T: Lattice> Spine<T> {
         hold.end();
     }
 
-    /// How many updates were copied in merges, since the spine was made. The count stays at its greatest value. Takes
-    /// no memory.
+    /// How many updates were copied in merges, since the spine was made. The count stays at its
+    /// greatest value. Takes no memory.
     pub fn copied(&self) -> u64
         ensures { result ≡ self.now.copied }
     {

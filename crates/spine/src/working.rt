@@ -1,15 +1,17 @@
-//! How batches become fewer: two neighbours become one where no hold forbids it, as far as the fuel goes.
+//! How batches become fewer: two neighbours become one where no hold forbids it, as far as the fuel
+//! goes.
 //!
-//! A merge costs one unit of fuel for each update of both batches, and one more. No merge stays unfinished: one is
-//! begun only if what is left of the fuel covers it. So a caller who gives little fuel at a time saves what was not
-//! spent, until it is enough for the large batches too.
+//! A merge costs one unit of fuel for each update of both batches, and one more. No merge stays
+//! unfinished: one is begun only if what is left of the fuel covers it. So a caller who gives
+//! little fuel at a time saves what was not spent, until it is enough for the large batches too.
 //!
-//! Which merge comes next is the policy of [`next_pair`]. First come neighbours of which the older one has at most twice
-//! as many updates as the newer one, the newest first. Where there are none, each batch has more than twice as many
-//! updates as the next one, so their number is at most the logarithm of what is stored. The others, which are steep, are
-//! merged only with fuel for all that is stored: to push a small batch into a large one again and again would spend what
-//! is saved for the large ones. So an update is copied about once each time its batch grows by half, and once for each
-//! smaller batch before it.
+//! Which merge comes next is the policy of [`next_pair`]. First come neighbours of which the older
+//! one has at most twice as many updates as the newer one, the newest first. Where there are none,
+//! each batch has more than twice as many updates as the next one, so their number is at most the
+//! logarithm of what is stored. The others, which are steep, are merged only with fuel for all that
+//! is stored: to push a small batch into a large one again and again would spend what is saved for
+//! the large ones. So an update is copied about once each time its batch grows by half, and once
+//! for each smaller batch before it.
 ghost use Rattle.std.specs.Prelude.{◌≡◌, ◌↔◌, ◌⊎◌, ◌<◌, ◌≤◌, ◌+◌, ◌^◌, ℕ, suc, List, Some, None, Err, true, false, IfErr, IfOk, IfSome, OnErr, OnOk, IsTrue, length, slice_get};
 ghost use Rattle.update.specs.Refusals.{IsMemoryOrOverflow};
 ghost use Rattle.update.specs.Updates.{size};
@@ -181,7 +183,8 @@ fn left_of<T: Lattice>(batches: &[Batch<T>], i: usize, fuel: u64) -> u64
 }
 
 impl<T: Lattice> Spine<T> {
-    // Makes one batch of the one with this number and the next one, and answers what is left of the fuel.
+    // Makes one batch of the one with this number and the next one, and answers what is left of the
+    // fuel.
     fn merge_next(&mut self, i: usize, fuel: u64) -> Result<u64, Refusal>
         requires allowed { MayMerge T.below self.old.holds i self.old.list.batches }
         requires covered { copies_at i self.old.list.batches < fuel }
@@ -208,19 +211,21 @@ impl<T: Lattice> Spine<T> {
         next_pair(self.list.batches(), self.holds.as_slice(), fuel)
     }
 
-    /// Merges neighbours across boundaries that no hold forbids, as far as the fuel goes. True if and only if nothing
-    /// is left to merge: some reader may ask for each boundary between two batches. Readers notice nothing: whatever
-    /// the spine stood for, it stands for still, and each boundary that a reader may ask for is one still.
+    /// Merges neighbours across boundaries that no hold forbids, as far as the fuel goes. True if
+    /// and only if nothing is left to merge: some reader may ask for each boundary between two
+    /// batches. Readers notice nothing: whatever the spine stood for, it stands for still, and each
+    /// boundary that a reader may ask for is one still.
     ///
-    /// A merge costs one unit of fuel for each update of both batches, and one more. Work stops where the fuel that is
-    /// left covers no merge that is allowed; and, with no more fuel than there are updates in the spine, where each
-    /// batch has more than twice as many updates as the next one. Nothing is carried over to the next call: the caller
-    /// saves what was not spent.
+    /// A merge costs one unit of fuel for each update of both batches, and one more. Work stops
+    /// where the fuel that is left covers no merge that is allowed; and, with no more fuel than
+    /// there are updates in the spine, where each batch has more than twice as many updates as the
+    /// next one. Nothing is carried over to the next call: the caller saves what was not spent.
     ///
-    /// If work is refused, then some merges may have been done, and the spine still stands for the same.
+    /// If work is refused, then some merges may have been done, and the spine still stands for the
+    /// same.
     ///
-    /// - [`Refusal::Overflow`] only if the total of some row at some time over two neighbours is no 64-bit number.
-    ///   Then the absolute diffs of all that was inserted sum to 2^63 or more.
+    /// - [`Refusal::Overflow`] only if the total of some row at some time over two neighbours is no
+    ///   64-bit number. Then the absolute diffs of all that was inserted sum to 2^63 or more.
     /// - [`Refusal::OutOfMemory`] only if memory for a merged batch was refused.
     ///
     /// Cost: at most the fuel, and for each merge one step for each batch and hold.

@@ -26,7 +26,8 @@ module _ {T : Type 0} where
   found_at (b ∷ bs) zero l = (b, refl)
   found_at (b ∷ bs) (suc i) l = found_at bs i (omega (arith, l))
 
-  -- to put a batch in the first one's place, and to remove the second one, is to put it in the place of both
+  -- to put a batch in the first one's place, and to remove the second one, is to put it in the
+  -- place of both
   pub put_for_two : (i : ℕ) (m : BatchState T) (bs : List (BatchState T)) → suc i < length bs → remove (set bs i m) (suc i) ≡ merged_at i m bs
   put_for_two i m [] l = absurd (omega (arith, l))
   put_for_two zero m (a ∷ []) l = absurd (omega (arith, l))

@@ -1,4 +1,5 @@
--- A batch list: the plainest trace. It grows at its end, and two neighbouring batches may become one.
+-- A batch list: the plainest trace. It grows at its end, and two neighbouring batches may become
+-- one.
 use Rattle.std.specs.Prelude.{◌≡◌, ℕ, zero, suc, ℤ, Bool, cond, List, [], ◌∷◌, ◌++◌, map, reverse, slice_get, Some, ⊤, IsTrue}
 use Rattle.std.specs.List.{list_all}
 use Rattle.std.specs.declared.cmp.Ordering.{Ordering}
@@ -9,8 +10,8 @@ use Rattle.update.specs.declared.change.Update.{Update}
 use Rattle.batch.specs.Descriptions.{BatchState}
 use Rattle.trace.specs.Readings.{Insertion, IsReadable}
 
--- whose updates these are, the frontier at which the list begins, its batches in order, and whether there is memory for
--- one more
+-- whose updates these are, the frontier at which the list begins, its batches in order, and whether
+-- there is memory for one more
 pub record BatchListState (T : Type 0) : Type 0 where
   pub worker : ℕ
   pub node : ℕ
@@ -46,7 +47,8 @@ module _ {T : Type 0} where
   batches_to is_boundary from (b ∷ bs) =
       cond (is_boundary from) [] (b ∷ batches_to is_boundary b.description.upper bs)
 
-  -- the batches, with one of them in the place of two: of the batch with this number, and of the next one
+  -- the batches, with one of them in the place of two: of the batch with this number, and of the
+  -- next one
   abbrev pub merged_at : ℕ → BatchState T → List (BatchState T) → List (BatchState T)
   merged_at i m [] = []
   merged_at zero m (a ∷ []) = a ∷ []
@@ -66,8 +68,8 @@ module _ {T : Type 0} where
       × IsEmptyIfStill b
 
 module _ {T : Type 0} (below : T → T → Bool) where
-  -- one batch for two neighbours: it reaches over both intervals, may be read in the place of both beyond the frontier,
-  -- and has only rows and times of theirs
+  -- one batch for two neighbours: it reaches over both intervals, may be read in the place of both
+  -- beyond the frontier, and has only rows and times of theirs
   pub record IsMergeOf (since : List T) (m a b : BatchState T) : Type 0 where
     pub described : m.description ≡ record {
       worker = a.description.worker;

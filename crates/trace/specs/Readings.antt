@@ -1,5 +1,5 @@
--- What was inserted into a trace, and which updates may be read in its place (McSherry et al., Shared Arrangements,
--- VLDB 2020).
+-- What was inserted into a trace, and which updates may be read in its place (McSherry et al.,
+-- Shared Arrangements, VLDB 2020).
 use Rattle.std.specs.Prelude.{◌≡◌, ◌≢◌, ◌≤◌, Bool, List, [], ◌∷◌, ◌++◌, map, ℤ, IsTrue, ◌⊎◌}
 use Rattle.std.specs.List.{list_all, AllByRecursion, flat_map}
 use Rattle.lattice.specs.Frontiers.{is_beyond}
@@ -18,13 +18,14 @@ module _ {T : Type 0} where
   abbrev pub all_updates : List (Insertion T) → List (Update T)
   all_updates h = flat_map (λ i. i.updates) h
 
-  -- the frontier that a trace has reached with some insertions, newest first, if it begins at `start`
+  -- the frontier that a trace has reached with some insertions, newest first, if it begins at
+  -- `start`
   abbrev pub reached : List T → List (Insertion T) → List T
   reached start [] = start
   reached start (i ∷ h) = i.upper
 
-  -- `seen` are the insertions up to the frontier `upto`: of all insertions, newest first, the newest that reached it,
-  -- and all before that one
+  -- `seen` are the insertions up to the frontier `upto`: of all insertions, newest first, the
+  -- newest that reached it, and all before that one
   pub record IsUpTo (upto : List T) (h seen : List (Insertion T)) : Type 0 where
     pub last : Insertion T
     pub before : List (Insertion T)
@@ -42,7 +43,8 @@ module _ {T : Type 0} where
   abbrev pub all_content : {B : Type 0} → (B → List (Update T)) → List B → List (Update T)
   all_content content bs = flat_map content bs
 
-  -- the rows of us are among those of vs: a test that each row of vs passes is passed by each row of us
+  -- the rows of us are among those of vs: a test that each row of vs passes is passed by each row
+  -- of us
   abbrev pub RowsAmong : List (Update T) → List (Update T) → Type 0
   RowsAmong us vs =
       (p : List ℤ → Bool)
@@ -55,8 +57,8 @@ module _ {T : Type 0} (below : T → T → Bool) where
   SameBeyond since us vs =
       (t : T) → IsTrue (is_beyond below since t) → Alike (as_of below t us) (as_of below t vs)
 
-  -- at times beyond the frontier us may be read in the place of vs: the sums are the same, no row is new, and us is no
-  -- larger
+  -- at times beyond the frontier us may be read in the place of vs: the sums are the same, no row
+  -- is new, and us is no larger
   pub record IsReadable (since : List T) (us vs : List (Update T)) : Type 0 where
     pub sums : SameBeyond since us vs
     pub rows : RowsAmong us vs

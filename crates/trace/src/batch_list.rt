@@ -1,12 +1,13 @@
-//! The plainest trace: a list of batches that grows at its end. By itself it merges nothing and moves no time, so it
-//! stands for exactly the batches that were inserted, and its since is the frontier at which it begins. It shows that
-//! the promises of [`Trace`] can be kept, and it is what a trace that merges and compacts has to agree with. Such a
-//! trace keeps its batches in a batch list, and decides when [`BatchList::merge_at`] makes one batch of two
-//! neighbours.
+//! The plainest trace: a list of batches that grows at its end. By itself it merges nothing and
+//! moves no time, so it stands for exactly the batches that were inserted, and its since is the
+//! frontier at which it begins. It shows that the promises of [`Trace`] can be kept, and it is what
+//! a trace that merges and compacts has to agree with. Such a trace keeps its batches in a batch
+//! list, and decides when [`BatchList::merge_at`] makes one batch of two neighbours.
 //!
-//! The invariant: each batch begins at the frontier at which the one before it ends, and a batch whose interval is
-//! empty has no updates. Frontiers only move forward, so two batches that end at one boundary have only empty intervals
-//! between them, and no updates there. So a boundary determines what is stored up to it.
+//! The invariant: each batch begins at the frontier at which the one before it ends, and a batch
+//! whose interval is empty has no updates. Frontiers only move forward, so two batches that end at
+//! one boundary have only empty intervals between them, and no updates there. So a boundary
+//! determines what is stored up to it.
 ghost use Rattle.std.specs.Prelude.{◌≡◌, ◌↔◌, ◌⊎◌, ◌≤◌, ◌<◌, ◌∷◌, ◌++◌, suc, List, [], Some, None, IfErr, IfOk, IfSome, IsErrAnd, OnErr, OnOk, IsTrue, true, length, take, drop};
 ghost use Rattle.std.specs.Bool.{OnTrue};
 ghost use Rattle.std.specs.List.{Contains};
@@ -26,8 +27,9 @@ use std::alloc::Global;
 use std::marker::Model;
 use update::Refusal;
 
-/// A trace that keeps each batch as it was inserted, until it is told to merge two. A contract sees the worker, the
-/// node, the frontier at which the list begins, the batches, and whether there is memory for one more.
+/// A trace that keeps each batch as it was inserted, until it is told to merge two. A contract sees
+/// the worker, the node, the frontier at which the list begins, the batches, and whether there is
+/// memory for one more.
 ///
 /// Cost: a boundary is found by comparing it with the end of each batch, until one ends there.
 #[derive(Drop)]
@@ -71,8 +73,8 @@ pub struct Unplaced<T: Lattice> {
 }
 
 impl<T: Minimum> BatchList<T> {
-    /// An empty batch list, which begins at the least time. [`Refusal::OutOfMemory`] only if memory for one time
-    /// was refused.
+    /// An empty batch list, which begins at the least time. [`Refusal::OutOfMemory`] only if memory
+    /// for one time was refused.
     pub fn new(alloc: Global, worker: usize, node: usize) -> Result<BatchList<T>, Refusal>
         ensures made { IfOk result (λ made. made ≡ record {
           worker = worker;
@@ -96,8 +98,8 @@ impl<T: Minimum> BatchList<T> {
 }
 
 impl<T: Lattice> BatchList<T> {
-    /// Makes room for one more batch, so that the next [`insert`](BatchList::insert) takes no memory. If memory was
-    /// refused, then nothing has changed.
+    /// Makes room for one more batch, so that the next [`insert`](BatchList::insert) takes no
+    /// memory. If memory was refused, then nothing has changed.
     pub fn reserve(&mut self) -> Result<(), Refusal>
         ensures room { OnOk result (self.new ≡ record self.old { reserved = true }) }
         ensures same { OnErr result (self.new ≡ self.old) }
@@ -107,12 +109,14 @@ impl<T: Lattice> BatchList<T> {
         Ok(())
     }
 
-    /// Inserts a batch at the end. The batch comes back if it is refused, and the list stays as it was.
+    /// Inserts a batch at the end. The batch comes back if it is refused, and the list stays as it
+    /// was.
     ///
-    /// - [`Refusal::Stray`] if and only if the batch does not begin at the frontier that the list has reached, its
-    ///   worker or node is another, or it has updates although it ends where it begins.
-    /// - Otherwise [`Refusal::OutOfMemory`] only if memory for one more batch was refused, which cannot be after
-    ///   [`reserve`](BatchList::reserve).
+    /// - [`Refusal::Stray`] if and only if the batch does not begin at the frontier that the list
+    ///   has reached, its worker or node is another, or it has updates although it ends where it
+    ///   begins.
+    /// - Otherwise [`Refusal::OutOfMemory`] only if memory for one more batch was refused, which
+    ///   cannot be after [`reserve`](BatchList::reserve).
     ///
     /// Cost: two comparisons of frontiers; the batch is moved, and no update is copied.
     pub fn insert(&mut self, batch: Batch<T>) -> Result<(), Unplaced<T>>
@@ -149,10 +153,11 @@ impl<T: Lattice> BatchList<T> {
         Ok(())
     }
 
-    /// Makes one batch of the one with this number and the next one, as of a frontier. If it is refused, then the list
-    /// stays as it was.
+    /// Makes one batch of the one with this number and the next one, as of a frontier. If it is
+    /// refused, then the list stays as it was.
     ///
-    /// - [`Refusal::Overflow`] only if the total of some row at some time over both is no 64-bit number.
+    /// - [`Refusal::Overflow`] only if the total of some row at some time over both is no 64-bit
+    ///   number.
     /// - [`Refusal::OutOfMemory`] only if memory for the new batch was refused.
     ///
     /// Cost: that of merging both, and one step for each batch behind them.

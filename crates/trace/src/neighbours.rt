@@ -1,5 +1,5 @@
-//! Making one batch of two neighbours in a list. The new batch is made before the old ones leave the list, so if
-//! memory is refused then the list is as it was.
+//! Making one batch of two neighbours in a list. The new batch is made before the old ones leave
+//! the list, so if memory is refused then the list is as it was.
 ghost use Rattle.std.specs.Prelude.{◌≡◌, ◌<◌, ◌≤◌, suc, Some, IfOk, IfErr, length, slice_get, vec_len, vec_capacity};
 ghost use Rattle.antichain.specs.Antichains.{IsFrontier};
 ghost use Rattle.update.specs.Refusals.{IsMemoryOrOverflow};

@@ -1,4 +1,5 @@
--- Bags: when a consolidated list is one, which count a row has in it, and that a bag is determined by its counts.
+-- Bags: when a consolidated list is one, which count a row has in it, and that a bag is determined
+-- by its counts.
 use Rattle.std.proofs.Common.{◌≡◌, ◌≢◌, ℕ, zero, suc, ◌+◌, ◌<◌, ◌≤◌, Bool, true, false, cond, List, [], ◌∷◌, map, length, get_or, ℤ, pos, ◌+ℤ◌, refl, sym, ◌∙◌, ap, take, take_all, ltb, add-one, arith}
 use Rattle.std.proofs.lemmas.Int.{ints}
 use Rattle.std.proofs.lemmas.List.{get_or-map, length-map}

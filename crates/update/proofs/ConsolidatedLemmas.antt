@@ -197,7 +197,8 @@ pub ok_both : {A E : Type 0} (r : Result A E) (P Q R : A → Type 0) → ((x : A
 ok_both (Ok x) P Q R f p q = f x p q
 ok_both (Err e) P Q R f p q = tt
 
--- what an Overflow whose cause is known says of a list: in an `Ok` nothing is too large, and an `Err` has its cause
+-- what an Overflow whose cause is known says of a list: in an `Ok` nothing is too large, and an
+-- `Err` has its cause
 pub ok_fits : {A E : Type 0} (r : Result A E) (large : Type 0) → (large → IsErr r) → OnOk r (large → ⊥)
 ok_fits (Ok x) large f = λ l. absurd (true≢false (sym (f l)))
 ok_fits (Err e) large f = tt

@@ -1,4 +1,5 @@
--- One more update in the loop of `gather`: either the current group grows, or it ends and the next one begins.
+-- One more update in the loop of `gather`: either the current group grows, or it ends and the next
+-- one begins.
 use Rattle.std.proofs.Common.{◌≡◌, true, false, List, ◌∷◌, ◌++◌, ℤ, ◌+ℤ◌, refl, append_assoc}
 use Rattle.std.specs.Prelude.{FitsSigned}
 use Rattle.std.specs.Int.{w64}
@@ -36,6 +37,7 @@ module _ {T : Type 0} (cmp : T → T → Ordering) where
   pub fit_grown : (u v : Update T) (n m : ℤ) (more : List (Update T)) → is_same cmp u v ≡ true → m ≡ n +ℤ v.diff → AllFit (groups_of cmp u m more) → AllFit (groups_of cmp u n (v ∷ more))
   fit_grown u v n m more h e a = rw (runs_grow u v n more h) (rw e at a)
 
-  -- conversely, if all totals fit after a group began and the total that ended fits, they fitted before
+  -- conversely, if all totals fit after a group began and the total that ended fits, they fitted
+  -- before
   pub fit_begun : (u v w : Update T) (n m : ℤ) (more : List (Update T)) → is_same cmp u v ≡ false → w ≡ v → m ≡ v.diff → FitsSigned w64 n → AllFit (groups_of cmp w m more) → AllFit (groups_of cmp u n (v ∷ more))
   fit_begun u v w n m more h e k f a = rw (runs_begin u v n more h) (f, rw (e, k) at a)

@@ -1,5 +1,5 @@
--- The group sums of a list whose groups are neighbours: no two have the same row and time, they are sorted as the list
--- is, none has difference 0, and the totals stay.
+-- The group sums of a list whose groups are neighbours: no two have the same row and time, they are
+-- sorted as the list is, none has difference 0, and the totals stay.
 use Rattle.std.proofs.Common.{◌≡◌, ◌≢◌, ℕ, suc, ◌<◌, Bool, true, false, cond, ◌&&◌, List, [], ◌∷◌, ◌++◌, length, get_or, ℤ, pos, ◌+ℤ◌, refl, sym, ◌∙◌, ap, ◌⊎◌, inl, inr, ⊎_elim, arith}
 use Rattle.std.specs.Prelude.{⊤}
 use Rattle.std.specs.List.{AllByRecursion, list_any}
@@ -75,7 +75,8 @@ module _ {T : Type 0} (cmp : T → T → Ordering) where
     grouped_neighbours (v ∷ vs) (λ i j k d a b c. g (suc i) (suc j) (suc k) d (omega (arith, a)) (omega (arith, b)) (omega (arith, c))),
   )
 
-  -- a property that does not depend on the diff holds of the group sum if it holds of the group's first update
+  -- a property that does not depend on the diff holds of the group sum if it holds of the group's
+  -- first update
   settled_all : (P : Update T → Type 0) → ((u : Update T) (n : ℤ) → P u → P (record u { diff = n })) → (u : Update T) (n : ℤ) → P u → AllByRecursion P (group_sum u n)
   settled_all P keeps u n p =
       elim (int_eq n (pos 0)) as (λ b. AllByRecursion P (cond b [] (record u { diff = n } ∷ []))) [

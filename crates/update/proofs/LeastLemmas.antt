@@ -48,8 +48,8 @@ module _ {T : Type 0} where
       omega arith
 
 module _ {T : Type 0} {below : T → T → Bool} {cmp : T → T → Ordering} (o : PartialOrderLaws below) (total : IsTotalOrder cmp) where
-  -- if the second list has at the row and time of each update of the sorted first list that update's diff as its total,
-  -- then it is no smaller than the first list
+  -- if the second list has at the row and time of each update of the sorted first list that
+  -- update's diff as its total, then it is no smaller than the first list
   covers : (us vs : List (Update T)) → IsStrictlySortedBy (by_time_then_row cmp) us → ((u : Update T) → Among u us → total_at below u.row u.time vs ≡ u.diff) → summed_size us ≤ summed_size vs
   covers [] vs s h = omega arith
   covers (u ∷ us) vs s h =

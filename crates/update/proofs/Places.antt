@@ -32,8 +32,8 @@ module _ {X : Type 0} where
   rest_swapped i j n xs ys l m e s =
       rest_by_places n ys xs e (λ k d h. s.2 k d (λ q. absurd (omega (arith, h, q))) (λ q. absurd (omega (arith, h, q))))
 
-  -- the rest of a list from index n is element n and the rest after it, also in a list that agrees with it from there
-  -- on
+  -- the rest of a list from index n is element n and the rest after it, also in a list that agrees
+  -- with it from there on
   pub to_come : (n : ℕ) (xs all : List X) (d : X) → n < length xs → drop n xs ≡ drop n all → drop n all ≡ get_or xs n d ∷ drop (n + 1) all
   to_come n xs all d l e =
       let rest : drop (n + 1) xs ≡ drop (n + 1) all = rest_later n (n + 1) xs all (omega arith) e in

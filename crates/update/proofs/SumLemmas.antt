@@ -1,4 +1,5 @@
--- Totals of the values of a list's elements: how they go through addition, append, map, filter and reordering.
+-- Totals of the values of a list's elements: how they go through addition, append, map, filter and
+-- reordering.
 use Rattle.std.proofs.Common.{◌≡◌, ℕ, suc, ◌+◌, Bool, true, false, cond, not, ◌&&◌, List, [], ◌∷◌, ◌++◌, map, IsTrue, refl, ap, sym, ◌∙◌, inl, inr, arith}
 use Rattle.std.specs.Prelude.{ℤ, pos, negsuc, ◌+ℤ◌, ◌-ℤ◌}
 use Rattle.std.specs.List.{filter}
@@ -54,7 +55,8 @@ module _ {X : Type 0} where
   total_by-map f g [] = refl
   total_by-map f g (x ∷ xs) = ap (λ z. f (g x) +ℤ z) (total_by-map f g xs)
 
-  -- the total over a filtered list is the total over the list with 0 for each element that does not pass
+  -- the total over a filtered list is the total over the list with 0 for each element that does not
+  -- pass
   pub total_by-filter : (f : X → ℤ) (p : X → Bool) (xs : List X) → total_by f (filter p xs) ≡ total_by (λ x. cond (p x) (f x) (pos 0)) xs
   total_by-filter f p [] = refl
   total_by-filter f p (x ∷ xs) =

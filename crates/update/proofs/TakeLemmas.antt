@@ -1,4 +1,5 @@
--- What `take_in` reads: whether two updates have the same row and time, and totals that fit in 128 bits.
+-- What `take_in` reads: whether two updates have the same row and time, and totals that fit in 128
+-- bits.
 use Rattle.std.proofs.Common.{◌≡◌, ℕ, Bool, List, length, slice_index_or, ℤ, ◌+ℤ◌, to_z, of_z, w64, ◌<◌, ◌≤◌, ◌*◌, ◌^◌, ap, sym, ◌∙◌, arith}
 use Rattle.std.specs.Prelude.{FitsSigned, unsigned_abs}
 use Rattle.std.specs.Int.{w128}

@@ -1,5 +1,5 @@
--- In a list whose groups are neighbours the total of a group is the total of its row and time. So some group's total is too large if and
--- only if the total of some row at some time is.
+-- In a list whose groups are neighbours the total of a group is the total of its row and time. So
+-- some group's total is too large if and only if the total of some row at some time is.
 use Rattle.std.proofs.Common.{◌≡◌, ◌^◌, Bool, true, false, cond, ◌&&◌, List, [], ◌∷◌, ℤ, pos, ◌+ℤ◌, refl, sym, ◌∙◌, ap, subst, ◌⊎◌, inl, inr, ⊎_elim, w64}
 use Rattle.std.specs.Prelude.{FitsSigned}
 use Rattle.std.specs.Cmp.{IsTotalOrder}
@@ -37,7 +37,8 @@ module _ {T : Type 0} {below : T → T → Bool} {cmp : T → T → Ordering} (o
   abbrev is_at : List ℤ → T → Update T → Bool
   is_at row t u = same_row u.row row && (below u.time t && below t u.time)
 
-  -- the total of a row and time, if u is the first update of the current group and n is its total so far
+  -- the total of a row and time, if u is the first update of the current group and n is its total
+  -- so far
   abbrev with_hand : List ℤ → T → Update T → ℤ → List (Update T) → ℤ
   with_hand row t u n vs = cond (is_at row t u) n (pos 0) +ℤ total_at below row t vs
 

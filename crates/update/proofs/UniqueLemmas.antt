@@ -1,5 +1,5 @@
--- Lists with the same sums at each time of a set have the same totals there. If they are also consolidated, they have
--- the same updates there.
+-- Lists with the same sums at each time of a set have the same totals there. If they are also
+-- consolidated, they have the same updates there.
 use Rattle.std.proofs.Common.{◌≡◌, ◌≢◌, ℕ, zero, suc, ◌<◌, ◌≤◌, Bool, true, false, cond, not, ◌&&◌, List, [], ◌∷◌, ◌++◌, map, length, IsTrue, refl, ap, sym, ◌∙◌, subst, ◌⊎◌, inl, inr, ⊎_elim, arith}
 use Rattle.std.specs.Prelude.{ℤ, pos, ◌+ℤ◌}
 use Rattle.std.specs.List.{filter, AllByRecursion}
@@ -120,8 +120,8 @@ module _ {T : Type 0} {below : T → T → Bool} (o : PartialOrderLaws below) wh
 
   -- elements with times and values
   module _ {X : Type 0} (time : X → T) (v : X → ℤ) (xs : List X) where
-    -- if the values of the elements that pass a test add up to 0 at each time, then they add up to 0; n bounds their
-    -- number
+    -- if the values of the elements that pass a test add up to 0 at each time, then they add up to
+    -- 0; n bounds their number
     nothing_together : (n : ℕ) (p : X → Bool) → length (filter p xs) < n → ((t : T) → sum_where v (λ x. p x && ties below (time x) t) xs ≡ pos 0) → sum_where v p xs ≡ pos 0
     nothing_together zero p l z = absurd (omega arith)
     nothing_together (suc n) p l z =
@@ -156,8 +156,8 @@ module _ {T : Type 0} {below : T → T → Bool} (o : PartialOrderLaws below) wh
             let split = sum_where-split v p (λ x. ties below (time x) (time y)) xs in
             omega (arith, ints)
 
-    -- take a set of times that contains all times before each of its times; if the values up to each time of the set
-    -- add up to 0, then so do the values at each of its times
+    -- take a set of times that contains all times before each of its times; if the values up to
+    -- each time of the set add up to 0, then so do the values at each of its times
     nothing_at : (among : T → Bool) → ((s t : T) → IsTrue (below s t) → IsTrue (among t) → IsTrue (among s)) → ((t : T) → IsTrue (among t) → sum_where v (λ x. below (time x) t) xs ≡ pos 0) → (n : ℕ) (t : T) → length (filter (λ x. is_strictly_below below (time x) t) xs) < n → IsTrue (among t) → sum_where v (λ x. ties below (time x) t) xs ≡ pos 0
     nothing_at among down z zero t l a = absurd (omega arith)
     nothing_at among down z (suc n) t l a =

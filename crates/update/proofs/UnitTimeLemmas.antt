@@ -1,4 +1,5 @@
--- Updates that are moved to the one time have there the sum that they had at the time t up to which they were kept.
+-- Updates that are moved to the one time have there the sum that they had at the time t up to which
+-- they were kept.
 use Rattle.std.proofs.Common.{◌≡◌, ℕ, ◌+◌, ◌≤◌, Bool, true, false, cond, ◌&&◌, List, [], ◌∷◌, ◌++◌, map, filter, ℤ, pos, ◌+ℤ◌, refl, sym, ◌∙◌, ap, subst, arith, w64}
 use Rattle.std.specs.Prelude.{FitsSigned, unsigned_abs}
 use Rattle.std.proofs.lemmas.List.Recursion.{is_sum_by}
@@ -59,7 +60,8 @@ module _ {T : Type 0} (below : T → T → Bool) (t : T) (us : List (Update T)) 
   abbrev gone : List (Update UnitTime)
   gone = map at_unit_time (filter (λ u. below u.time t) us)
 
-  -- the updates at or before t, moved to the one time, sum to the sum at t; so `sum_at` may consolidate them
+  -- the updates at or before t, moved to the one time, sum to the sum at t; so `sum_at` may
+  -- consolidate them
   pub sum_moved : (m : UnitTime) (out : List (Update UnitTime)) → Alike (as_of always m out) (as_of always m gone) → Alike (map entry out) (as_of below t us)
   sum_moved m out same row =
       ap (λ es. count_of (map entry es) row) (sym (all_pass out))
@@ -91,7 +93,8 @@ module _ {T : Type 0} (below : T → T → Bool) (t : T) (us : List (Update T)) 
 
 -- updates at the one time sum to their entries
 module _ (all : List (Update UnitTime)) where
-  -- a list with the sum of all entries at the one time is the same bag as they are, so `into_bag` may consolidate them
+  -- a list with the sum of all entries at the one time is the same bag as they are, so `into_bag`
+  -- may consolidate them
   pub sum_entries : (m : UnitTime) (out : List (Update UnitTime)) → Alike (as_of always m out) (as_of always m all) → Alike (map entry out) (map entry all)
   sum_entries m out same row =
       ap (λ us. count_of (map entry us) row) (sym (all_pass out))

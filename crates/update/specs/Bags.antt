@@ -1,4 +1,5 @@
--- Bags: rows, each with its count (Abadi, McSherry and Plotkin, Foundations of Differential Dataflow, 2015).
+-- Bags: rows, each with its count (Abadi, McSherry and Plotkin, Foundations of Differential
+-- Dataflow, 2015).
 use Rattle.std.specs.Prelude.{◌≡◌, ◌≢◌, ℕ, Bool, if◌then◌else◌, List, [], ◌∷◌, ℤ, pos, ◌+ℤ◌, FitsSigned, unsigned_abs, sum_by}
 use Rattle.std.specs.Int.{w64}
 use Rattle.std.specs.List.{AllByRecursion}
@@ -36,7 +37,8 @@ Alike a b = (row : List ℤ) → count_of a row ≡ count_of b row
 abbrev pub HasLargeCount : List Entry → Type 0
 HasLargeCount entries = (row : List ℤ) × (FitsSigned w64 (count_of entries row) → ⊥)
 
--- each row once, in order, with a count that is not 0; of all lists of a bag, a contract sees this one
+-- each row once, in order, with a count that is not 0; of all lists of a bag, a contract sees this
+-- one
 pub record IsBag (entries : List Entry) : Type 0 where
   pub ascending : IsStrictlySortedBy (λ a b. slice_cmp int_cmp a.row b.row) entries
   pub nonzero : AllByRecursion (λ e. e.count ≢ pos 0) entries

@@ -1,5 +1,6 @@
--- How consolidation reads a list in which the updates of one row and time are neighbours, a group. Each group becomes
--- one update. Any order by row and time, whichever comes first, makes such a list.
+-- How consolidation reads a list in which the updates of one row and time are neighbours, a group.
+-- Each group becomes one update. Any order by row and time, whichever comes first, makes such a
+-- list.
 use Rattle.std.specs.Int.{w64}
 use Rattle.std.specs.Cmp.{IsTotalOrder}
 use Rattle.std.specs.List.{AllByRecursion}

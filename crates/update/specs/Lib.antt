@@ -1,4 +1,5 @@
--- The definitions of updates and bags, with those of orders and frontiers that their contracts name.
+-- The definitions of updates and bags, with those of orders and frontiers that their contracts
+-- name.
 pub use Rattle.lattice.specs.Order
 pub use Rattle.lattice.specs.Frontiers
 pub mod Bags

@@ -1,4 +1,5 @@
--- Lists of updates, and what they sum to at a time (McSherry et al., Differential Dataflow, CIDR 2013).
+-- Lists of updates, and what they sum to at a time (McSherry et al., Differential Dataflow, CIDR
+-- 2013).
 use Rattle.std.specs.Prelude.{◌≡◌, ◌≢◌, ℕ, Bool, false, ◌&&◌, if◌then◌else◌, List, [], ◌∷◌, map, filter, ℤ, pos, FitsSigned, unsigned_abs, sum_by, ⊤}
 use Rattle.std.specs.Int.{w64}
 use Rattle.std.specs.List.{AllByRecursion, list_any}

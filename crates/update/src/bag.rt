@@ -1,6 +1,6 @@
-//! Bags: what updates sum to at a time. A bag is a consolidated list of updates at one time. That is its one invariant:
-//! each row occurs once, rows are in order, and no count is 0. So equal bags are equal lists, and a row is found by
-//! binary search.
+//! Bags: what updates sum to at a time. A bag is a consolidated list of updates at one time. That
+//! is its one invariant: each row occurs once, rows are in order, and no count is 0. So equal bags
+//! are equal lists, and a row is found by binary search.
 ghost use Rattle.std.specs.Prelude.{◌≡◌, ◌<◌, ◌↔◌, ◌⊎◌, ◌++◌, [], Some, map, length, slice_get, IsTrue, IsSomeAnd, IfOk, IfErr, OnOk};
 ghost use Rattle.update.specs.Bags.{IsBag, Alike, HasLargeCount, count_of};
 ghost use Rattle.update.specs.UnitTimes.{at_unit_time};
@@ -17,8 +17,9 @@ use std::alloc::AllocError;
 use std::fmt;
 use std::marker::Model;
 
-/// Rows, each with its count, which is never 0. A contract sees the list of entries in the order of rows, so that equal
-/// bags are equal lists. To go through a bag, call [`Bag::row`] and [`Bag::count`] for each number below [`Bag::len`].
+/// Rows, each with its count, which is never 0. A contract sees the list of entries in the order of
+/// rows, so that equal bags are equal lists. To go through a bag, call [`Bag::row`] and
+/// [`Bag::count`] for each number below [`Bag::len`].
 #[derive(Drop)]
 pub struct Bag {
     entries: Vec<Update<UnitTime>>,
@@ -69,7 +70,8 @@ impl Bag {
 
     /// The count of the row, 0 if it is not in the bag. Takes no memory.
     ///
-    /// Cost: a binary search, so the number of row comparisons is logarithmic in the number of entries.
+    /// Cost: a binary search, so the number of row comparisons is logarithmic in the number of
+    /// entries.
     pub fn get(&self, row: &Row) -> i64
         ensures { result ≡ count_of self.now row.now }
     {
@@ -99,9 +101,10 @@ impl Bag {
         self.entries[i].diff
     }
 
-    /// This bag with all the updates added, whatever their times. [`Refusal::Overflow`] only if the new count of some
-    /// row is no 64-bit number, and no bag is given in that case; the order of the updates does not matter.
-    /// [`Refusal::OutOfMemory`] only if memory to hold and sort the entries and the updates was refused.
+    /// This bag with all the updates added, whatever their times. [`Refusal::Overflow`] only if the
+    /// new count of some row is no 64-bit number, and no bag is given in that case; the order of
+    /// the updates does not matter. [`Refusal::OutOfMemory`] only if memory to hold and sort the
+    /// entries and the updates was refused.
     ///
     /// Cost: linear in the bag, which is copied, and one sort of the updates.
     pub fn with<T: Lattice>(&self, updates: &[Update<T>]) -> Result<Bag, Refusal>

@@ -1,11 +1,13 @@
-//! One update of a table: a row, the time from which on it counts, and how often. Every change in the engine is a list
-//! of these. The fields are in the order in which lists are sorted, so the derived order is that of consolidation.
+//! One update of a table: a row, the time from which on it counts, and how often. Every change in
+//! the engine is a list of these. The fields are in the order in which lists are sorted, so the
+//! derived order is that of consolidation.
 ghost use Rattle.std.specs.Prelude.{◌≡◌};
 
 use lattice::Lattice;
 use row::Row;
 
-/// A row whose weight changes by `diff` from `time` on. Updates sort by time, then by row, then by difference.
+/// A row whose weight changes by `diff` from `time` on. Updates sort by time, then by row, then by
+/// difference.
 #[derive(Drop, PartialEq, Eq, PartialOrd, Ord)]
 pub struct Update<T> {
     /// The time from which on the change is in effect.

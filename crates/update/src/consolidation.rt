@@ -1,14 +1,15 @@
-//! Consolidation leaves one update for each row and time, and none with difference 0. Every layer above calls it, so it
-//! is one sort and one pass within the list that it is given. The pass stands alone too, for those who sort a list in an
-//! order of their own.
+//! Consolidation leaves one update for each row and time, and none with difference 0. Every layer
+//! above calls it, so it is one sort and one pass within the list that it is given. The pass stands
+//! alone too, for those who sort a list in an order of their own.
 //!
-//! After a sort by row and time the updates of one row and time are neighbours, a group. The pass keeps this invariant: at the front
-//! are the finished groups, one update each. Behind them is the first update of the current group, whose total is kept
-//! beside the list. From `next` on are the updates still to come, unchanged. A finished update is written to a place
-//! that has already been read, so no second list is needed.
+//! After a sort by row and time the updates of one row and time are neighbours, a group. The pass
+//! keeps this invariant: at the front are the finished groups, one update each. Behind them is the
+//! first update of the current group, whose total is kept beside the list. From `next` on are the
+//! updates still to come, unchanged. A finished update is written to a place that has already been
+//! read, so no second list is needed.
 //!
-//! Totals are kept in 128 bits and converted to 64 bits only when a group ends. So whether a list is refused depends on
-//! its totals alone, and not on the order in which they are added up.
+//! Totals are kept in 128 bits and converted to 64 bits only when a group ends. So whether a list
+//! is refused depends on its totals alone, and not on the order in which they are added up.
 ghost use Rattle.std.specs.Prelude.{◌≡◌, ◌≢◌, pos, ◌≤◌, ◌<◌, ◌+◌, ◌++◌, ◌⊎◌, length, take, drop, List, ◌∷◌, ◌*◌, ◌^◌, unsigned_abs, FitsSigned, IfOk, IfErr, IsErr, OnOk, IsTrue, Bool, ℤ, ◌↔◌, slice_index_or};
 ghost use Rattle.std.specs.List.{AllByRecursion, list_all};
 ghost use Rattle.std.specs.List.Sorted.{IsSortedBy, IsStrictlySortedBy};
@@ -32,8 +33,8 @@ fn are_same<T: Lattice>(u: &Update<T>, v: &Update<T>) -> bool
     u.time.cmp(&v.time) == Ordering::Equal && u.row == v.row
 }
 
-// Ends the group whose first update is at `at`. That update gets the total, and the next group begins behind it. If the
-// total is 0, the next group begins in its place.
+// Ends the group whose first update is at `at`. That update gets the total, and the next group
+// begins behind it. If the total is 0, the next group begins in its place.
 fn sum_group<T: Lattice>(
     updates: &mut [Update<T>],
     at: usize,
@@ -60,7 +61,8 @@ fn sum_group<T: Lattice>(
     Ok(at + 1)
 }
 
-// Ends the current group and begins the next one with the update at `from`, which is moved up. Returns the new place.
+// Ends the current group and begins the next one with the update at `from`, which is moved up.
+// Returns the new place.
 fn next_group<T: Lattice>(
     updates: &mut [Update<T>],
     at: usize,
@@ -92,7 +94,8 @@ struct InHand {
     total: i128,
 }
 
-// Adds the next update to the current group, or ends that group and begins the next one with the update.
+// Adds the next update to the current group, or ends that group and begins the next one with the
+// update.
 fn take_in<T: Lattice>(
     updates: &mut [Update<T>],
     run: InHand,
@@ -135,7 +138,8 @@ fn take_in<T: Lattice>(
     Ok(InHand { at, total: diff })
 }
 
-// Moves the groups of a sorted list to its front, one update for each total that is not 0, and returns their number.
+// Moves the groups of a sorted list to its front, one update for each total that is not 0, and
+// returns their number.
 fn gather<T: Lattice>(updates: &mut [Update<T>]) -> Result<usize, Refusal>
     requires { 0 < length updates.old }
     ensures gathered { IfOk result
@@ -170,11 +174,12 @@ fn keep_totals<T: Lattice>(updates: &mut Vec<Update<T>>) -> Result<(), Refusal>
     Ok(())
 }
 
-/// Adds up the updates of each row and time in a list in which these are neighbours: one update is left for each row and
-/// time, and none with difference 0. Totals and sums stay the same. A list that is sorted by row and time is such a list,
-/// whichever of the two comes first and whether or not differences are looked at; the updates that are left are in the
-/// same order. [`Refusal::Overflow`] if and only if the total of some row at some time is no 64-bit number; they are added
-/// up in 128 bits. Takes no memory. On a refusal the list is dropped.
+/// Adds up the updates of each row and time in a list in which these are neighbours: one update is
+/// left for each row and time, and none with difference 0. Totals and sums stay the same. A list
+/// that is sorted by row and time is such a list, whichever of the two comes first and whether or
+/// not differences are looked at; the updates that are left are in the same order.
+/// [`Refusal::Overflow`] if and only if the total of some row at some time is no 64-bit number;
+/// they are added up in 128 bits. Takes no memory. On a refusal the list is dropped.
 ///
 /// Cost: each update is read once and moved at most once.
 pub fn consolidate_grouped<T: Lattice>(
@@ -201,10 +206,10 @@ pub fn consolidate_grouped<T: Lattice>(
     Ok(updates)
 }
 
-/// Consolidates a list: one update for each row and time, in order of time, then row, and none with difference 0.
-/// Totals and sums stay the same. [`Refusal::Overflow`] if and only if the total of some row at some time is no 64-bit
-/// number; the order of the updates does not matter, because they are added up in 128 bits. Takes no memory. On a
-/// refusal the list is dropped.
+/// Consolidates a list: one update for each row and time, in order of time, then row, and none with
+/// difference 0. Totals and sums stay the same. [`Refusal::Overflow`] if and only if the total of
+/// some row at some time is no 64-bit number; the order of the updates does not matter, because
+/// they are added up in 128 bits. Takes no memory. On a refusal the list is dropped.
 ///
 /// Cost: n log n comparisons in the number of updates, for one sort in place, and then as
 /// [`consolidate_grouped`].
@@ -225,11 +230,12 @@ pub fn consolidate<T: Lattice>(mut updates: Vec<Update<T>>) -> Result<Vec<Update
     consolidate_grouped(updates)
 }
 
-/// Consolidates a list that begins with a long sorted part, such as a bag with a few updates behind it. The sort finds
-/// that part and does not sort it again. [`Refusal::OutOfMemory`] only if memory for a second list of the same length
-/// was refused.
+/// Consolidates a list that begins with a long sorted part, such as a bag with a few updates behind
+/// it. The sort finds that part and does not sort it again. [`Refusal::OutOfMemory`] only if memory
+/// for a second list of the same length was refused.
 ///
-/// Cost: linear in the number of updates, plus n log n comparisons in the number of those behind the sorted part.
+/// Cost: linear in the number of updates, plus n log n comparisons in the number of those behind
+/// the sorted part.
 pub(crate) fn consolidate_behind<T: Lattice>(
     mut updates: Vec<Update<T>>,
 ) -> Result<Vec<Update<T>>, Refusal>

@@ -1,5 +1,6 @@
-//! Rows with counts that are not yet a bag: a row may be added more than once, and in any order. Code that writes a bag
-//! row by row writes here, so that it need not make an update of each row and copy it.
+//! Rows with counts that are not yet a bag: a row may be added more than once, and in any order.
+//! Code that writes a bag row by row writes here, so that it need not make an update of each row
+//! and copy it.
 ghost use Rattle.std.specs.Prelude.{◌≡◌, ◌⊎◌, ◌++◌, [], ◌∷◌, IfOk, IfErr, OnOk};
 ghost use Rattle.update.specs.Bags.{Alike, IsBag, HasLargeCount, entry_of};
 ghost use Rattle.update.specs.Refusals.{IsMemoryOrOverflow};
@@ -49,8 +50,8 @@ impl Entries {
         Ok(())
     }
 
-    /// The bag that the entries add up to. [`Refusal::Overflow`] only if the count of some row is no 64-bit number. On
-    /// a refusal the entries are dropped. Takes no memory.
+    /// The bag that the entries add up to. [`Refusal::Overflow`] only if the count of some row is
+    /// no 64-bit number. On a refusal the entries are dropped. Takes no memory.
     ///
     /// Cost: one sort.
     pub fn into_bag(self) -> Result<Bag, Refusal>

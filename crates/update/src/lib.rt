@@ -1,14 +1,15 @@
 //! Updates: rows at times, with differences; and the bags that lists of updates sum to.
 //!
-//! Everything travels as a list of updates: what is fed to an input, what a batch holds, what an operator gives and
-//! what a view shows. The order of a list and the updates in it mean nothing by themselves. A list means what it sums
-//! to at each time ([`sum_at`]), which is a [`Bag`]. Many lists mean the same, and [`consolidate`] gives one of them
-//! that is sorted and as short as possible: two consolidated lists with the same sums are equal
-//! ([`sums_determine_a_list`]), and no list with these sums is smaller ([`consolidated_lists_are_least`]).
+//! Everything travels as a list of updates: what is fed to an input, what a batch holds, what an
+//! operator gives and what a view shows. The order of a list and the updates in it mean nothing by
+//! themselves. A list means what it sums to at each time ([`sum_at`]), which is a [`Bag`]. Many
+//! lists mean the same, and [`consolidate`] gives one of them that is sorted and as short as
+//! possible: two consolidated lists with the same sums are equal ([`sums_determine_a_list`]), and
+//! no list with these sums is smaller ([`consolidated_lists_are_least`]).
 //!
-//! Differences are 64-bit numbers and are added in 128 bits, so the order of a list never decides whether a sum is
-//! refused. [`Refusal`] says why a call was refused: it is the one error type of this crate and of all crates that
-//! stand on it.
+//! Differences are 64-bit numbers and are added in 128 bits, so the order of a list never decides
+//! whether a sum is refused. [`Refusal`] says why a call was refused: it is the one error type of
+//! this crate and of all crates that stand on it.
 #![tactic(auto)]
 
 mod bag;

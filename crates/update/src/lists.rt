@@ -1,5 +1,5 @@
-//! Lists that enums and events have as fields. Each has a type of its own, so that a contract sees a plain list, and
-//! two values with the same list are the same value.
+//! Lists that enums and events have as fields. Each has a type of its own, so that a contract sees
+//! a plain list, and two values with the same list are the same value.
 ghost use Rattle.std.specs.Prelude.{◌≡◌, [], ◌∷◌, ◌++◌, IfErr, IfOk, OnErr, OnOk, length};
 ghost use Rattle.update.specs.declared.refusal.Refusal.TheVariants.{OutOfMemory};
 
@@ -69,7 +69,8 @@ impl<T: Lattice> Updates<T> {
         Ok(())
     }
 
-    /// A copy, in memory from this allocator. Refused only with `OutOfMemory`. Cost: linear in the number of updates.
+    /// A copy, in memory from this allocator. Refused only with `OutOfMemory`. Cost: linear in the
+    /// number of updates.
     pub fn copy(&self, alloc: Global) -> Result<Updates<T>, Refusal>
         ensures copied { IfOk result (λ copy. copy ≡ self.now) }
         ensures refused { IfErr result (λ refusal. refusal ≡ OutOfMemory) }
@@ -81,8 +82,8 @@ impl<T: Lattice> Updates<T> {
         Ok(Updates { items })
     }
 
-    /// Moves all updates of `more` to the end of this list. Refused only with `OutOfMemory`, and then both lists are as
-    /// before.
+    /// Moves all updates of `more` to the end of this list. Refused only with `OutOfMemory`, and
+    /// then both lists are as before.
     pub fn append(&mut self, more: &mut Updates<T>) -> Result<(), Refusal>
         ensures more { OnOk result (self.new ≡ self.old ++ more.old) }
         ensures refused { IfErr result (λ refusal. refusal ≡ OutOfMemory) }

@@ -1,6 +1,6 @@
-//! Every refusal of the engine, by a name and a number. It is the one error type of all crates above: a caller can
-//! match on the name, and a command file prints the number. Crates below have small refusals of their own, and `From`
-//! turns each into one of these.
+//! Every refusal of the engine, by a name and a number. It is the one error type of all crates
+//! above: a caller can match on the name, and a command file prints the number. Crates below have
+//! small refusals of their own, and `From` turns each into one of these.
 ghost use Rattle.std.specs.Prelude.{◌≡◌};
 
 use antichain::NoMemory;
@@ -54,7 +54,8 @@ pub enum Refusal {
     BadWidth = 20,
     /// A key has no columns, or more than the source has.
     BadKey = 21,
-    /// An update lies outside the interval of its batch, or a batch does not begin where the one before it ends.
+    /// An update lies outside the interval of its batch, or a batch does not begin where the one
+    /// before it ends.
     Stray = 22,
     /// The number of workers or clients is not allowed.
     BadWorkers = 23,
@@ -124,7 +125,8 @@ impl Refusal {
     }
 }
 
-// The texts are written by hand: a derive for so many variants takes eight seconds to prove and says no more.
+// The texts are written by hand: a derive for so many variants takes eight seconds to prove and
+// says no more.
 impl fmt::Display for Refusal {
     fn fmt<W: fmt::Write>(&self, f: &mut fmt::Formatter<W>) -> fmt::Result {
         f.write_str(self.text())

@@ -1,6 +1,7 @@
-//! What a list of updates sums to at a time: each row with the total of its differences at or before the time. These
-//! updates are moved to the one time of [`UnitTime`] and consolidated, which adds them up and sorts them by row. So
-//! updates are added up in one place, and a sum is refused when a consolidation is.
+//! What a list of updates sums to at a time: each row with the total of its differences at or
+//! before the time. These updates are moved to the one time of [`UnitTime`] and consolidated, which
+//! adds them up and sorts them by row. So updates are added up in one place, and a sum is refused
+//! when a consolidation is.
 ghost use Rattle.std.specs.Prelude.{◌≡◌, ◌≤◌, ◌⊎◌, map, filter, IfOk, IfErr, OnOk};
 ghost use Rattle.update.specs.Bags.{Alike, IsBag, HasLargeCount, bag_size};
 ghost use Rattle.update.specs.UnitTimes.{at_unit_time};
@@ -35,9 +36,10 @@ fn at_or_before<T: Lattice>(
     Ok(gone)
 }
 
-/// What the updates sum to at `t`: each row with the total of its differences at or before `t`. [`Refusal::Overflow`]
-/// only if the count of some row is no 64-bit number, and no bag is given in that case; the order of the updates does
-/// not matter. [`Refusal::OutOfMemory`] only if memory for the updates at or before `t` was refused.
+/// What the updates sum to at `t`: each row with the total of its differences at or before `t`.
+/// [`Refusal::Overflow`] only if the count of some row is no 64-bit number, and no bag is given in
+/// that case; the order of the updates does not matter. [`Refusal::OutOfMemory`] only if memory for
+/// the updates at or before `t` was refused.
 ///
 /// Cost: linear in the number of updates, and one sort of those at or before `t`, which are copied.
 pub fn sum_at<T: Lattice>(alloc: Global, updates: &[Update<T>], t: T) -> Result<Bag, Refusal>

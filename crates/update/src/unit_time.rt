@@ -1,5 +1,5 @@
-//! The lattice with only one time. A list of updates at that time is a list of rows with counts, and a consolidated one
-//! is a bag. So bags need no sorting or merging code of their own.
+//! The lattice with only one time. A list of updates at that time is a list of rows with counts,
+//! and a consolidated one is a bag. So bags need no sorting or merging code of their own.
 
 use lattice::{Lattice, PartialOrder};
 

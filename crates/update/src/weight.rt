@@ -1,10 +1,11 @@
-//! Weights: numbers that say how often a row counts. A sum of weights may not fit in 64 bits. An operation never wraps:
-//! it gives nothing if and only if the type does not hold the exact result.
+//! Weights: numbers that say how often a row counts. A sum of weights may not fit in 64 bits. An
+//! operation never wraps: it gives nothing if and only if the type does not hold the exact result.
 ghost use Rattle.std.specs.Prelude.{ℤ, ◌+ℤ◌, ◌*ℤ◌, neg_ℤ, FitsSigned, SomeIff, option_map};
 ghost use Rattle.std.specs.Int.{w64};
 
-/// Numbers with the addition, negation and multiplication of whole numbers, as far as the type reaches. Contracts see
-/// each as a whole number, and `holds` says which whole numbers the type has.
+/// Numbers with the addition, negation and multiplication of whole numbers, as far as the type
+/// reaches. Contracts see each as a whole number, and `holds` says which whole numbers the type
+/// has.
 pub trait Weight {
     ghost whole: { Self → ℤ };
 
@@ -15,7 +16,8 @@ pub trait Weight {
         ensures { let sum = whole self +ℤ whole other in SomeIff (option_map whole result)
             (holds sum) sum };
 
-    /// The number with the opposite sign, or nothing if and only if the type does not hold it. Takes no memory.
+    /// The number with the opposite sign, or nothing if and only if the type does not hold it.
+    /// Takes no memory.
     fn negate(self) -> Option<Self>
         ensures { let other = neg_ℤ (whole self) in SomeIff (option_map whole result)
             (holds other) other };

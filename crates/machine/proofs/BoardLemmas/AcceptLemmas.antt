@@ -1,4 +1,5 @@
--- A change is accepted or refused, and so is a frontier. In each case the board keeps its invariant.
+-- A change is accepted or refused, and so is a frontier. In each case the board keeps its
+-- invariant.
 use Rattle.std.proofs.Common.{◌≡◌, ℕ, suc, ◌+◌, ◌<◌, List, [], length, get_or, set, sym, ap, ap₂, ◌∙◌, subst, arith, Option, Some, None, Result, Ok, Err}
 use Rattle.std.specs.Result.{IfErr, IfOk, OnOk, OnErr, IsErrAnd}
 use Rattle.std.proofs.lemmas.List.{get_or_default, length-set}

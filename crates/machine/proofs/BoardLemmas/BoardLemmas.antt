@@ -1,5 +1,6 @@
--- What each event makes of the histories that a board may stand for: after each call the board stands for the history
--- with its event on top. First come the events of clients, then those of workers.
+-- What each event makes of the histories that a board may stand for: after each call the board
+-- stands for the history with its event on top. First come the events of clients, then those of
+-- workers.
 use Rattle.std.proofs.Common.{◌≡◌, map, ◌⊎◌, inl, inr, ⊎_elim, ℕ, zero, suc, ◌+◌, ◌<◌, ◌≤◌, Bool, true, false, cond, not, ◌&&◌, ◌||◌, List, [], ◌∷◌, ◌++◌, length, set, get_or, sym, refl, ap, ◌∙◌, subst, None, eqb, arith, unsigned_abs, nat_lt, nat_le, get_or-set_same, get_or-set_other}
 use Rattle.std.specs.List.{list_any, slice_get}
 use Rattle.std.specs.Ordering.{int_eq}
@@ -314,7 +315,8 @@ size_both : {T : Type 0} (a c : List (Update T)) → size (a ++ c) ≡ size a + 
 size_both a c = let x = summed_size_is a in let y = summed_size_is c in let z = summed_size_is (a ++ c) in let h = summed_size-append a c in omega (arith, x, y, z, h)
 
 module _ {T : Type 0} (below : T → T → Bool) (minimum : T) where
-  -- after a give that was not refused and is allowed, the board stands for the history with it on top
+  -- after a give that was not refused and is allowed, the board stands for the history with it on
+  -- top
   pub stands_given : (b : BoardState T) → IsBoard b → (h : List (Event T)) (g : Emission T) (ts : List T) (sent : List (Bundle T)) → g.worker < b.dataflow.workers → g.node < length b.dataflow.nodes
       → IsGive below b.dataflow (state_after below minimum b.dataflow h) g ts sent → Stands below minimum b h → Stands below minimum (after_give g ts sent b) (Give g ts sent ∷ h)
   stands_given b board h g ts sent l within legal s = record {

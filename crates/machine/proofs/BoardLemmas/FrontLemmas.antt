@@ -1,5 +1,5 @@
--- What is found on a board from scratch is what the definitions say of each history that the board may stand for. So
--- frontiers need no bookkeeping, and cannot be out of date.
+-- What is found on a board from scratch is what the definitions say of each history that the board
+-- may stand for. So frontiers need no bookkeeping, and cannot be out of date.
 use Rattle.std.proofs.Common.{◌≡◌, ℕ, zero, suc, ◌<◌, Bool, true, false, cond, not, ◌&&◌, ◌||◌, List, [], ◌∷◌, ◌++◌, length, get_or, sym, refl, ap, ap₂, ◌∙◌, subst, Option, Some, None, arith, append_assoc, nat_lt, inl, inr}
 use Rattle.std.specs.List.{flat_map, list_any, list_all}
 use Rattle.std.specs.Result.{IfOk}
@@ -149,8 +149,8 @@ module _ {T : Type 0} (below : T → T → Bool) (o : PartialOrderLaws below) wh
       → ((t : T) → is_beyond below found t ≡ is_beyond below all t) → (t : T) → is_beyond below found t ≡ is_beyond below (front below b n) t
   beyond_found b n all found e same t = same t ∙ (ap (λ ts. is_beyond below ts t) (collected b n all e) ∙ sym (least_beyond o (outstanding b.dataflow (on_board b) n) t))
 
-  -- the three parts that were collected for an input frontier: as for a frontier, but without what is held at the
-  -- node itself
+  -- the three parts that were collected for an input frontier: as for a frontier, but without what
+  -- is held at the node itself
   pub input_collected : (b : BoardState T) {v : BoardState T} → v ≡ b → IsBoard v → (n : ℕ) (none flight some all : List T) → none ≡ []
       → flight ≡ none ++ flat_map (λ m. cond (upstream v.dataflow n m) (stamps_at v.stations m) []) (numbers_below (length v.dataflow.nodes))
       → some ≡ flight ++ flat_map (λ m. cond (strictly_upstream v.dataflow n m) (times_at v.stations m) []) (numbers_below (length v.dataflow.nodes))
@@ -205,7 +205,8 @@ module _ {T : Type 0} (below : T → T → Bool) (o : PartialOrderLaws below) (m
       let left = outstanding b.dataflow (state_after below minimum b.dataflow h) n in
       least_same below o found left (λ t. sym (least_beyond o found t) ∙ (front_stands b board h s n t ∙ least_beyond o left t))
 
-  -- the same times are beyond an input frontier found on the board and the one that the history leaves
+  -- the same times are beyond an input frontier found on the board and the one that the history
+  -- leaves
   pub input_front_stands : (b : BoardState T) → IsBoard b → (h : List (Event T)) → Stands below minimum b h → (n : ℕ) (t : T) → is_beyond below (input_front below b n) t ≡ is_beyond below (input_frontier below b.dataflow (state_after below minimum b.dataflow h) n) t
   input_front_stands b board h s n t = counted_like below o (on_board b) (state_after below minimum b.dataflow h) (upstream b.dataflow n) (strictly_upstream b.dataflow n) (queued b h s) (holds b h s) (opened b board h s) t
 
@@ -216,8 +217,8 @@ module _ {T : Type 0} (below : T → T → Bool) (o : PartialOrderLaws below) (m
       let left = counted_times (state_after below minimum b.dataflow h) (upstream b.dataflow n) (strictly_upstream b.dataflow n) in
       least_same below o found left (λ t. sym (least_beyond o found t) ∙ (input_front_stands b board h s n t ∙ least_beyond o left t))
 
-  -- a worker is ready on the board if some time that it holds after the history is one that the input frontier has
-  -- passed
+  -- a worker is ready on the board if some time that it holds after the history is one that the
+  -- input frontier has passed
   pub ready_stands : (b : BoardState T) → IsBoard b → (h : List (Event T)) → Stands below minimum b h → (k n : ℕ)
       → is_ready below b k n ≡ list_any (has_passed below (input_frontier below b.dataflow (state_after below minimum b.dataflow h) n)) (held_at n k (state_after below minimum b.dataflow h).held)
   ready_stands b board h s k n =

@@ -1,5 +1,5 @@
--- The lists of all bundles and of all held times, against the stations that they are made from. What a definition
--- finds in such a list is what lies at the stations.
+-- The lists of all bundles and of all held times, against the stations that they are made from.
+-- What a definition finds in such a list is what lies at the stations.
 use Rattle.std.proofs.Common.{◌≡◌, ℕ, zero, suc, ◌+◌, ◌<◌, ◌≤◌, Bool, true, false, cond, ◌&&◌, ◌||◌, List, [], ◌∷◌, ◌++◌, map, length, get_or, take, sym, refl, ap, ap₂, ◌∙◌, eqb, arith, ⊎_elim}
 use Rattle.std.specs.List.{flat_map, list_any, list_all}
 use Rattle.std.proofs.lemmas.Bool.{and_from, eqb-true, eq-eqb, cases_lt}
@@ -71,8 +71,8 @@ module _ {X : Type 0} where
       (λ k. let same : n ≡ i = omega (arith, k, l) in ap₂ (λ xs ys. xs ++ ys) (none_below f n (λ j m. others j (λ e. omega (arith, k, m, e)))) (ap f same))
       (cases_lt i n)
 
-  -- if at most number i has something, and i has nothing unless it is below n, then the numbers below n have together
-  -- what i has
+  -- if at most number i has something, and i has nothing unless it is below n, then the numbers
+  -- below n have together what i has
   pub only_at : (f : ℕ → List X) (i n : ℕ) → ((j : ℕ) → (i ≡ j → ⊥) → f j ≡ []) → (n ≤ i → f i ≡ []) → flat_map f (numbers_below n) ≡ f i
   only_at f i n others beyond =
       ⊎_elim
@@ -271,7 +271,8 @@ module _ {T : Type 0} where
         or_nothing false = refl
     any_one false u = refl
 
-    -- t is beyond the times of the numbers that pass exactly if it is beyond those of one such number
+    -- t is beyond the times of the numbers that pass exactly if it is beyond those of one such
+    -- number
     any_spread : (f : ℕ → List T) (ns : List ℕ) → is_beyond below (flat_map (λ n. cond (test n) (f n) []) ns) t ≡ list_any (λ n. test n && is_beyond below (f n) t) ns
     any_spread f ns = any_flat (λ u. below u t) (λ n. cond (test n) (f n) []) ns ∙ ap (λ (p : ℕ → Bool). list_any p ns) (λ i n. any_where (test n) (f n) i)
 

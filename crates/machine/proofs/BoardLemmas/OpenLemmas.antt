@@ -1,5 +1,5 @@
--- The frontiers of the inputs, kept by node on a board and as one log of open times in a history, and how one is
--- found from the other.
+-- The frontiers of the inputs, kept by node on a board and as one log of open times in a history,
+-- and how one is found from the other.
 use Rattle.std.proofs.Common.{◌≡◌, ℕ, zero, suc, ◌+◌, ◌<◌, ◌≤◌, Bool, true, false, cond, not, ◌&&◌, ◌||◌, List, [], ◌∷◌, ◌++◌, map, take, length, get_or, set, get_or-set_same, get_or-set_other, sym, refl, ap, ap₂, ◌∙◌, subst, eqb, arith, append_assoc, ◌⊎◌, inl, inr, ⊎_elim}
 use Rattle.std.specs.List.{filter, flat_map, list_any, list_all}
 use Rattle.std.proofs.lemmas.Bool.{eqb-true, eq-eqb, false≢true, or_left, or_right, cases_lt}
@@ -119,7 +119,8 @@ module _ {T : Type 0} where
       by (inl k) = open_within (λ j. front_at j inputs) i n k
       by (inr k) = open_beyond (λ j. front_at j inputs) i n k ∙ sym (beyond inputs i (omega (arith, long, k)))
 
-  -- after an input's frontier is replaced, the log has the new times for it, and the old ones for the others
+  -- after an input's frontier is replaced, the log has the new times for it, and the old ones for
+  -- the others
   others_gone : (i : ℕ) (os : List (OpenTime T)) → open_at i (filter (λ o. not (eqb o.input i)) os) ≡ []
   others_gone i [] = refl
   others_gone i (o ∷ os) = step (eqb o.input i) refl (others_gone i os)

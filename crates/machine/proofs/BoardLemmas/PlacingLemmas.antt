@@ -1,5 +1,5 @@
--- What each event makes of what lies at the places of a board: it changes the queue of its own place, or what one
--- worker holds at one node, and nothing else.
+-- What each event makes of what lies at the places of a board: it changes the queue of its own
+-- place, or what one worker holds at one node, and nothing else.
 use Rattle.std.proofs.Common.{◌≡◌, ℕ, zero, suc, ◌<◌, ◌≤◌, Bool, true, false, cond, not, ◌&&◌, List, [], ◌∷◌, ◌++◌, map, length, get_or, set, get_or-set_same, get_or-set_other, sym, refl, ap, ap₂, ◌∙◌, subst, eqb, arith, ◌⊎◌, inl, inr}
 use Rattle.std.specs.List.{filter, flat_map, remove}
 use Rattle.std.proofs.lemmas.Bool.{eqb-true, eqb-false, eq-eqb, ne_eqb, and_from, cases_lt}

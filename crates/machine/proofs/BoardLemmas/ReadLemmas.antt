@@ -54,7 +54,8 @@ module _ {T : Type 0} (below : T → T → Bool) (minimum : T) (o : PartialOrder
       λ row. same row ∙ ((s.captured v l m).sums t (or_right (is_from_start below minimum ((state_after below minimum b.dataflow h).since v)) _ kept) row ∙ headline_lem below minimum o b.dataflow p.dataflow h s.legal v t passed row)
   read_answers (Err e) b h v t p l m f same s = tt
 
-  -- consolidated updates at passed times with the sums of what a view captured are the list of differences
+  -- consolidated updates at passed times with the sums of what a view captured are the list of
+  -- differences
   pub changes_answer : (us : List (Update T)) (b : BoardState T) (h : List (Event T)) (v : ℕ) (cmp : T → T → Ordering) → IsBoard b → v < length b.dataflow.nodes → IsTrue (is_output (node_of b.dataflow v))
       → IsConsolidated cmp us → IsTrue (list_all (λ u. has_passed below (front below b v) u.time) us)
       → ((t : T) → IsTrue (has_passed below (front below b v) t) → Alike (as_of below t us) (as_of below t (captured_of b v)))
@@ -67,7 +68,8 @@ module _ {T : Type 0} (below : T → T → Bool) (minimum : T) (o : PartialOrder
       (ap (λ f. list_all f us) (λ i u. not (sym (e u.time) i)) ∙ passed)
       (λ t f row. sums t (ap not (e t) ∙ f) row ∙ (s.captured v l m).sums t (or_left (is_from_start below minimum ((state_after below minimum b.dataflow h).since v)) _ start) row)
 
-  -- changes that are answered are the list of differences, for every history that the board may stand for
+  -- changes that are answered are the list of differences, for every history that the board may
+  -- stand for
   pub changes_answers : {V : Type 0} (r : Result V Refusal) (list : V → List (Update T)) (b : BoardState T) (h : List (Event T)) (v : ℕ) (cmp : T → T → Ordering) → IsBoard b → v < length b.dataflow.nodes → IsTrue (is_output (node_of b.dataflow v))
       → IfOk r (λ us. IsConsolidated cmp (list us)) → IfOk r (λ us. IsTrue (list_all (λ u. has_passed below (front below b v) u.time) (list us)))
       → IfOk r (λ us. (t : T) → IsTrue (has_passed below (front below b v) t) → Alike (as_of below t (list us)) (as_of below t (captured_of b v)))

@@ -1,4 +1,5 @@
--- How much room is reserved at which places after each step of a give. So no bundle of a give is put without room.
+-- How much room is reserved at which places after each step of a give. So no bundle of a give is
+-- put without room.
 use Rattle.std.proofs.Common.{◌≡◌, ℕ, zero, suc, ◌+◌, ◌<◌, ◌≤◌, Bool, true, false, cond, ◌&&◌, List, [], ◌∷◌, ◌++◌, take, length, get_or, slice_get, refl, sym, ap, subst, ◌∙◌, arith}
 use Rattle.std.specs.List.{All}
 use Rattle.std.specs.Option.{IfSome}

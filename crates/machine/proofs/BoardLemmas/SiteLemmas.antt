@@ -1,5 +1,5 @@
--- Lists whose entries lie at places, and what follows if two of them are alike at each place. A board and a history
--- keep the places in different orders, so this is how they are compared.
+-- Lists whose entries lie at places, and what follows if two of them are alike at each place. A
+-- board and a history keep the places in different orders, so this is how they are compared.
 use Rattle.std.proofs.Common.{◌≡◌, ℕ, zero, suc, Bool, true, false, cond, not, ◌&&◌, ◌||◌, List, [], ◌∷◌, ◌++◌, sym, refl, ap, ap₂, ◌∙◌, subst, eqb, ◌⊎◌, inl, inr, ⊎_elim}
 use Rattle.std.specs.List.{flat_map, filter, list_any, list_all}
 use Rattle.std.proofs.lemmas.Bool.{and_parts, and_from, or_left, or_right, eqb-true, eq-eqb, false≢true, true≢false}

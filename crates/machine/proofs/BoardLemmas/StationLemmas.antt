@@ -27,8 +27,8 @@ map_remove f (x ∷ xs) (suc i) = ap (λ ys. f x ∷ ys) (map_remove f xs i)
 pub seen_within : {X Y : Type 0} (f : X → Y) (xs now : List X) → xs ≡ now → (i n : ℕ) → i ≡ n → n < length (map f now) → i < length xs
 seen_within f xs now v i n k l = let long = length-map now f ∙ ap length (sym v) in omega (arith, long, k, l)
 
--- The list `xs` is written at `i`: `new` replaces `old`. A contract calls the list `now` and the number `n`, and sees
--- each element by `f`.
+-- The list `xs` is written at `i`: `new` replaces `old`. A contract calls the list `now` and the
+-- number `n`, and sees each element by `f`.
 module _ {X : Type 0} (xs now : List X) (v : xs ≡ now) (i n : ℕ) (k : i ≡ n) (old new : X) (l : i < length xs) (e : old ≡ get_or xs i old) where
   module _ {Y : Type 0} (f : X → Y) where
     -- if the new element is seen as another, so is the list
@@ -70,7 +70,8 @@ module _ {X : Type 0} (xs now : List X) (v : xs ≡ now) (i n : ℕ) (k : i ≡ 
       go (y ∷ ys) (suc m) e zero step h = h
       go (y ∷ ys) (suc m) e (suc j) step h = go ys m e j (λ s. step (ap suc s)) h
 
-  -- a property of the element that a number reads, or of the default, is kept if the written element keeps it
+  -- a property of the element that a number reads, or of the default, is kept if the written
+  -- element keeps it
   pub one_kept : (P : X → Type 0) (d : X) (j : ℕ) → (n ≡ j → P old → P new) → P (get_or now j d) → P (get_or (set xs i new) j d)
   one_kept P d j step h = go xs i e j (λ s. step (sym k ∙ s)) (subst (λ ys. P (get_or ys j d)) (sym v) h)
     where
@@ -81,7 +82,8 @@ module _ {X : Type 0} (xs now : List X) (v : xs ≡ now) (i n : ℕ) (k : i ≡ 
       go (y ∷ ys) (suc m) e zero step h = h
       go (y ∷ ys) (suc m) e (suc j) step h = go ys m e j (λ s. step (ap suc s)) h
 
-  -- if a property of the old element gives one of the new element, the list has the new one at the number
+  -- if a property of the old element gives one of the new element, the list has the new one at the
+  -- number
   pub one_turned : (P Q : X → Type 0) → (P old → Q new) → IfSome (slice_get now n) P → IfSome (slice_get (set xs i new) n) Q
   one_turned P Q step h = subst (λ j. IfSome (slice_get (set xs i new) j) Q) k (go xs i e (subst (λ j. IfSome (slice_get xs j) P) (sym k) (subst (λ ys. IfSome (slice_get ys n) P) (sym v) h)))
     where

@@ -1,4 +1,5 @@
--- What the loops of `survey.rt` have found so far at the stations, against what a contract sees of all stations.
+-- What the loops of `survey.rt` have found so far at the stations, against what a contract sees of
+-- all stations.
 use Rattle.std.proofs.Common.{◌≡◌, ℕ, zero, suc, ◌+◌, ◌<◌, ◌≤◌, Bool, true, false, ◌&&◌, List, [], ◌∷◌, ◌++◌, map, length, get_or, take, drop, sym, refl, ap, ◌∙◌, eqb, arith}
 use Rattle.std.specs.List.{flat_map, list_any, list_all}
 use Rattle.std.proofs.lemmas.List.{at_drop_all, drop_more}

@@ -1,4 +1,5 @@
--- An event changes nothing of any worker but its actor, and an event of a worker changes nothing of the clients.
+-- An event changes nothing of any worker but its actor, and an event of a worker changes nothing of
+-- the clients.
 use Rattle.std.proofs.Common.{◌≡◌, ◌≢◌, ℕ, ◌<◌, Bool, true, false, ◌&&◌, eqb, List, [], ◌∷◌, ◌++◌, sym, refl, ap, cond, ◌∙◌, arith}
 use Rattle.std.proofs.lemmas.Bool.{eqb-true}
 use Rattle.std.proofs.lemmas.List.{append-nil}

@@ -1,6 +1,6 @@
--- What a node gave on all workers is within its bound. The proof goes down the plan. A node that is no reduction
--- gives no more than it received, which is no more than its sources gave. A reduction gives the fewest absolute diffs
--- of all lists with its sums.
+-- What a node gave on all workers is within its bound. The proof goes down the plan. A node that is
+-- no reduction gives no more than it received, which is no more than its sources gave. A reduction
+-- gives the fewest absolute diffs of all lists with its sums.
 use Rattle.update.proofs.ConsolidatedLemmas.{summed_size, summed_size_is, summed_size-append}
 use Rattle.std.proofs.Common.{◌≡◌, ℕ, zero, suc, slice_get, ⊎_elim, ◌+◌, ◌<◌, ◌≤◌, Bool, true, false, cond, ◌&&◌, List, [], ◌∷◌, ◌++◌, take, length, sym, refl, ap, ◌∙◌, subst, Option, Some, None, eqb, arith, IsTrue, ◌⊎◌, inl, inr}
 use Rattle.std.specs.List.{flat_map, filter}

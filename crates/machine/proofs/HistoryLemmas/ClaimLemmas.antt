@@ -1,5 +1,5 @@
--- The headline, by going down the plan: if nothing that counts at a time is in flight or held at a node or above it,
--- then what the node gave, summed to the time, is the query.
+-- The headline, by going down the plan: if nothing that counts at a time is in flight or held at a
+-- node or above it, then what the node gave, summed to the time, is the query.
 use Rattle.std.proofs.Common.{◌≡◌, ℕ, zero, suc, ◌<◌, ◌≤◌, Bool, true, false, cond, List, [], ◌∷◌, ◌++◌, take, length, sym, refl, ap, ◌∙◌, subst, Option, Some, None, eqb, arith, ◌⊎◌, inl, inr}
 use Rattle.std.specs.List.{flat_map, filter, slice_get}
 use Rattle.std.proofs.lemmas.Bool.{true≢false}
@@ -57,8 +57,8 @@ op-gather k node e (suc n) b r =
     ap (λ z. count_of (operator_output k node (b n)) r +ℤ z) (op-gather k node e n b r)
     ∙ sym (given_sum k node e (b n) (λ port. gather n (λ i. b i port)) r ∙ count_of-append (operator_output k node (b n)) (operator_output k node (λ port. gather n (λ i. b i port))) r)
 
--- what a node gave, summed to t, is this bag: on all workers together; and if the node is arranged, on each worker
--- the part with its keys
+-- what a node gave, summed to t, is this bag: on all workers together; and if the node is arranged,
+-- on each worker the part with its keys
 pub record IsClaim {T : Type 0} (leq : T → T → Bool) (p : Dataflow) (w : State T) (t : T) (bag : List Entry) (n : ℕ) : Type 0 where
   pub all : (r : List ℤ) → sum_at leq t (emitted_at n w.emitted) r ≡ count_of bag r
   pub parts : (c k : ℕ) → arranged_by (node_of p n) ≡ Some c → (r : List ℤ) → sum_at leq t (emitted_by n k w.emitted) r ≡ cond (eqb (route p (take c r)) k) (count_of bag r) (pos 0)
@@ -114,7 +114,8 @@ module _ {T : Type 0} (leq : T → T → Bool) (p : Dataflow) (q : IsDataflow p)
     bag_is : bag n ≡ node_output p n source_bags
     bag_is = query_by_sources p.nodes q.plan ins n
 
-    -- at a join or reduction, what a worker owes of what it received is the part of the query with its keys
+    -- at a join or reduction, what a worker owes of what it received is the part of the query with
+    -- its keys
     pub due : is_linear (node_of p n) ≡ false → (k : ℕ) (r : List ℤ) → count_of (node_output p n (recv n k)) r ≡ cond (eqb (route p (take key r)) k) (count_of (bag n) r) (pos 0)
     due e k r =
         given_alike key (node_of p n) (recv n k) (λ port. filter (λ y. eqb (route p (take key y.row)) k) (source_bags port)) (λ port l. port_alike port l (source_of p n port) refl) r
@@ -133,7 +134,8 @@ module _ {T : Type 0} (leq : T → T → Bool) (p : Dataflow) (q : IsDataflow p)
             ∙ ((below port s h).parts key k (source_arranged p.nodes q.plan n port s (has_source p.nodes n port s h) e h) r
             ∙ sym (count_of-filter (λ x. eqb (route p (take key x)) k) (bag s) r))
 
-    -- so is what the worker gave, if it holds nothing at or before the time, whatever the other workers hold
+    -- so is what the worker gave, if it holds nothing at or before the time, whatever the other
+    -- workers hold
     pub each_keyed : is_linear (node_of p n) ≡ false → (k : ℕ) → is_beyond leq (held_at n k w.held) t ≡ false → (r : List ℤ)
         → sum_at leq t (emitted_by n k w.emitted) r ≡ cond (eqb (route p (take key r)) k) (count_of (bag n) r) (pos 0)
     each_keyed e k held r = kept.law n k t (is_passed _ held) r ∙ due e k r
@@ -220,11 +222,12 @@ module _ {T : Type 0} (leq : T → T → Bool) (p : Dataflow) (q : IsDataflow p)
         let smaller = source_smaller p.nodes q.plan n port s e in
         claim s (λ m a. let le = above_earlier p.nodes q.plan m s a in others m (above_from_source p.nodes q.plan m n port s e a) (omega arith))
 
-    -- at a join or reduction, what a worker gave is its part of the query, if the input frontier and what the worker
-    -- holds there have passed the time
+    -- at a join or reduction, what a worker gave is its part of the query, if the input frontier
+    -- and what the worker holds there have passed the time
     pub part_claim : is_linear (node_of p n) ≡ false → (k : ℕ) → is_beyond leq (held_at n k w.held) t ≡ false → (r : List ℤ) → sum_at leq t (emitted_by n k w.emitted) r ≡ cond (eqb (route p (take (key_width p.nodes (node_of p n)) r)) k) (count_of (bag n) r) (pos 0)
     part_claim e k held r = each_keyed n arrived sources_claim e k held r
 
-    -- at a join or reduction, what a worker owes is its part of the query, if the input frontier has passed the time
+    -- at a join or reduction, what a worker owes is its part of the query, if the input frontier
+    -- has passed the time
     pub due_claim : is_linear (node_of p n) ≡ false → (k : ℕ) (r : List ℤ) → count_of (node_output p n (recv n k)) r ≡ cond (eqb (route p (take (key_width p.nodes (node_of p n)) r)) k) (count_of (bag n) r) (pos 0)
     due_claim e k r = due n arrived sources_claim e k r

@@ -1,5 +1,5 @@
--- What a passed frontier says of a node and its ancestors: nothing that counts at the time is in flight, held or open
--- there.
+-- What a passed frontier says of a node and its ancestors: nothing that counts at the time is in
+-- flight, held or open there.
 use Rattle.std.proofs.Common.{◌≡◌, ℕ, Bool, true, false, cond, not, ◌&&◌, ◌||◌, List, [], ◌∷◌, ◌++◌, sym, refl, ap, ◌∙◌, subst, eqb}
 use Rattle.std.specs.List.{flat_map}
 use Rattle.std.proofs.lemmas.Bool.{and_parts, or_parts, or_from, eqb-true}
@@ -31,7 +31,8 @@ pub record IsClear {T : Type 0} (leq : T → T → Bool) (w : State T) (t : T) (
   pub held : (k : ℕ) → is_beyond leq (held_at n k w.held) t ≡ false
 
 module _ {T : Type 0} (leq : T → T → Bool) (o : PartialOrderLaws leq) (t : T) (test : ℕ → Bool) (m : ℕ) (there : test m ≡ true) where
-  -- if the stamps at the nodes that pass have passed t, no update in flight to one of them counts at t
+  -- if the stamps at the nodes that pass have passed t, no update in flight to one of them counts
+  -- at t
   pub clear_flight : (qs : List (Bundle T)) → list_all (is_stamped leq) qs ≡ true → is_beyond leq (flat_map (λ q. cond (test q.place.node) q.stamp []) qs) t ≡ false → (port k : ℕ) → as_of leq t (updates_at (place m port k) qs) ≡ []
   clear_flight [] a h port k = refl
   clear_flight (q ∷ qs) a h port k =
@@ -48,7 +49,8 @@ module _ {T : Type 0} (leq : T → T → Bool) (o : PartialOrderLaws leq) (t : T
           let passes : test q.place.node ≡ true = ap test n ∙ there in
           as_of-passed leq t q.updates (beyond_passed leq o q.stamp (times q.updates) t s (subst (λ b. is_beyond leq (cond b q.stamp []) t ≡ false) passes g))
 
-  -- if the times held at the nodes that pass have passed t, no worker holds one at or before t there
+  -- if the times held at the nodes that pass have passed t, no worker holds one at or before t
+  -- there
   pub clear_held : (ms : List (HeldTime T)) → is_beyond leq (flat_map (λ x. cond (test x.node) (x.time ∷ []) []) ms) t ≡ false → (k : ℕ) → is_beyond leq (held_at m k ms) t ≡ false
   clear_held [] h k = refl
   clear_held (x ∷ ms) h k =
@@ -76,11 +78,13 @@ module _ {T : Type 0} (leq : T → T → Bool) (o : PartialOrderLaws leq) (t : T
       let g = or_parts (is_beyond leq b t) (is_beyond leq c t) (sym (list_any-append (λ f. leq f t) b c) ∙ f.1) in
       (f.0, g.0, g.1)
 
-  -- if a frontier has passed a time, all that counts at or before it has arrived at the nodes counted
+  -- if a frontier has passed a time, all that counts at or before it has arrived at the nodes
+  -- counted
   pub arrived_passed : list_all (is_stamped leq) w.in_flight ≡ true → is_beyond leq (counted_times w there holding) t ≡ false → (m : ℕ) → there m ≡ true → IsArrived leq w t m
   arrived_passed a h m e = record { flight = clear_flight leq o t there m e w.in_flight a (counted_parts h).0 }
 
-  -- if a frontier has passed a time, nothing at or before it is in flight or held at the nodes counted
+  -- if a frontier has passed a time, nothing at or before it is in flight or held at the nodes
+  -- counted
   pub clear_passed : list_all (is_stamped leq) w.in_flight ≡ true → is_beyond leq (counted_times w there holding) t ≡ false → (m : ℕ) → there m ≡ true → holding m ≡ true → IsClear leq w t m
   clear_passed a h m e f = record { arrived = arrived_passed a h m e; held = clear_held leq o t holding m f w.held (counted_parts h).1 }
 
@@ -102,7 +106,8 @@ module _ {T : Type 0} (leq : T → T → Bool) (o : PartialOrderLaws leq) (t : T
       one s true k = and_from (has_passed leq b.stamp t) (has_passed leq (times b.updates) t) (ap not k) (ap not (beyond_passed leq o b.stamp (times b.updates) t s k))
       one s false k = refl
 
-  -- no held time that counts, and no element of an input's frontier that counts, is at or before the time
+  -- no held time that counts, and no element of an input's frontier that counts, is at or before
+  -- the time
   none_of : {X : Type 0} (there : X → Bool) (time : X → T) (xs : List X) → is_beyond leq (flat_map (λ x. cond (there x) (time x ∷ []) []) xs) t ≡ false → list_all (λ x. not (there x && leq (time x) t)) xs ≡ true
   none_of there time [] h = refl
   none_of {X} there time (x ∷ xs) h =

@@ -1,5 +1,5 @@
--- A cut gives each place exactly its share, in bundles none of which is empty and whose stamps are beyond what was
--- held. So a give that sends a cut is allowed as far as its bundles go.
+-- A cut gives each place exactly its share, in bundles none of which is empty and whose stamps are
+-- beyond what was held. So a give that sends a cut is allowed as far as its bundles go.
 use Rattle.std.proofs.Common.{◌≡◌, ℕ, zero, suc, ◌<◌, ◌≤◌, Bool, true, false, cond, not, ◌&&◌, List, [], ◌∷◌, ◌++◌, take, length, sym, refl, ap, ap₂, ◌∙◌, Option, Some, None, eqb, arith, ◌⊎◌, inl, inr}
 use Rattle.std.specs.List.{flat_map, filter, list_all}
 use Rattle.std.proofs.lemmas.Bool.{eqb-true, eqb-false, eq-eqb, ne_eqb, and_parts, and_from, false≢true}
@@ -212,7 +212,8 @@ module _ {T : Type 0} (leq : T → T → Bool) (p : Dataflow) (g : Emission T) w
         ∙ (over_passing (leads_from p.nodes g.node) from_edge (λ edge e. ap (updates_at site) (no_cut edge.reader edge.port (no_source p edge g.node e))) (flat_map ports_of (numbers_below (length p.nodes)))
         ∙ over_ports from_edge (numbers_below (length p.nodes)))
 
-    -- what a place gets from the cut along one edge: its share if the edge ends at its node and port, else nothing
+    -- what a place gets from the cut along one edge: its share if the edge ends at its node and
+    -- port, else nothing
     port_none : mine ≡ [] → (n port : ℕ) → from_port n port ≡ []
     port_none e n port = over_workers n port ∙ none_below p.workers (λ k. updates_at site (bundled leq (place n port k) (share p (place n port k) g))) (λ k l. one_place (place n port k) ∙ nothing (same_place (place n port k) site) mine e)
 

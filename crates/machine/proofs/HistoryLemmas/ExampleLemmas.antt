@@ -1,5 +1,6 @@
--- A legal history in which each kind of event occurs. A row goes through an arrange node into a join and a count, on
--- two workers, and is read at a view of the count. It shows that the premises of the theorems can be met.
+-- A legal history in which each kind of event occurs. A row goes through an arrange node into a
+-- join and a count, on two workers, and is read at a view of the count. It shows that the premises
+-- of the theorems can be met.
 use Rattle.std.proofs.Common.{◌≡◌, ℕ, zero, suc, ◌≤◌, Bool, true, false, not, ◌||◌, List, [], ◌∷◌, ◌++◌, sym, refl, ap, ◌∙◌, IsTrue, None, Some, arith, nat_le, pos, inl}
 use Rattle.std.proofs.lemmas.Bool.{and_parts, false≢true, true≢false}
 use Rattle.std.proofs.lemmas.List.Folds.{list_all-append}

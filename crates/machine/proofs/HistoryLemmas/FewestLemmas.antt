@@ -1,5 +1,6 @@
--- A list in which no two updates have the same row and time has the least size, which is its sum of absolute diffs,
--- of all lists with its sums. So a reduction that gives only what is final stays within its bound.
+-- A list in which no two updates have the same row and time has the least size, which is its sum of
+-- absolute diffs, of all lists with its sums. So a reduction that gives only what is final stays
+-- within its bound.
 use Rattle.update.proofs.ConsolidatedLemmas.{summed_size}
 use Rattle.std.proofs.Common.{◌≡◌, ℕ, ◌+◌, ◌≤◌, Bool, true, false, cond, ◌&&◌, ◌||◌, List, [], ◌∷◌, sym, refl, ◌∙◌, subst, arith, unsigned_abs}
 use Rattle.std.specs.List.{list_any}
@@ -100,7 +101,8 @@ module _ {T : Type 0} (leq : T → T → Bool) (o : PartialOrderLaws leq) where
       step true e ih = let z = none_met v d us (none_through v u e us a.0) in omega arith
       step false e ih = omega arith
 
-  -- the totals of another list, at the rows and times of updates that are apart, add up to no more than its size
+  -- the totals of another list, at the rows and times of updates that are apart, add up to no more
+  -- than its size
   cover : (us : List (Update T)) → AreApart leq us → (vs : List (Update T)) → sum_of (counted vs) us ≤ summed_size vs
   cover us a [] = let z = sum_of-zero us in omega arith
   cover us a (v ∷ vs) =
@@ -150,7 +152,8 @@ module _ {T : Type 0} (leq : T → T → Bool) (o : PartialOrderLaws leq) where
           let g = or_parts (meets u x) (list_any (meets u) xs) k in
           rw (shown u x, g.0, +ℤ_idl (total_at leq x.row x.time us), rest xs g.1) refl
 
-  -- updates that are apart, at passed times, are no larger than any list with the same sums at passed times
+  -- updates that are apart, at passed times, are no larger than any list with the same sums at
+  -- passed times
   pub fewest : (front : List T) (us vs : List (Update T)) → AreApart leq us → AllPassed leq front us → ((t : T) → is_beyond leq front t ≡ false → (r : List ℤ) → count_of (as_of leq t us) r ≡ count_of (as_of leq t vs) r) → summed_size us ≤ summed_size vs
   fewest front us vs a b h =
       let x = own_counts us a in
@@ -162,12 +165,14 @@ module _ {T : Type 0} (leq : T → T → Bool) (o : PartialOrderLaws leq) where
       same [] c = refl
       same (x ∷ xs) c = rw (same_totals o (λ t. has_passed leq front t) us vs (λ s t l a. is_passed _ (passed_down leq o front s t l (not_beyond _ a))) (λ t k. h t (not_beyond _ k)) x.row x.time (is_passed _ c.0), same xs c.1) refl
 
-  -- at the time of each of these updates, and at every time before it, the two lists have the same sums
+  -- at the time of each of these updates, and at every time before it, the two lists have the same
+  -- sums
   abbrev pub AgreeBelow : List (Update T) → List (Update T) → List (Update T) → Type 0
   AgreeBelow us vs [] = Unit {0}
   AgreeBelow us vs (x ∷ xs) = ((s : T) → leq s x.time ≡ true → (r : List ℤ) → count_of (as_of leq s us) r ≡ count_of (as_of leq s vs) r) × AgreeBelow us vs xs
 
-  -- updates that are apart are no larger than a list that agrees with them at and before each of their times
+  -- updates that are apart are no larger than a list that agrees with them at and before each of
+  -- their times
   pub fewest_below : (us vs : List (Update T)) → AreApart leq us → AgreeBelow us vs us → summed_size us ≤ summed_size vs
   fewest_below us vs a b =
       let x = own_counts us a in

@@ -1,4 +1,5 @@
--- What one event changes: the sums at a time of the updates at a place, and of those that were to come there.
+-- What one event changes: the sums at a time of the updates at a place, and of those that were to
+-- come there.
 use Rattle.std.proofs.Common.{◌≡◌, ℕ, zero, suc, Bool, true, false, cond, not, ◌&&◌, List, [], ◌∷◌, ◌++◌, map, sym, refl, ap, ◌∙◌, Some, eqb, arith, inl, inr, ⊎_elim}
 use Rattle.std.specs.List.{filter, slice_get}
 use Rattle.std.proofs.lemmas.Int.{ints}
@@ -76,8 +77,8 @@ module _ {T : Type 0} (f : Update T → ℤ) where
       swap_first : (x y z : ℤ) → x +ℤ (y +ℤ z) ≡ y +ℤ (x +ℤ z)
       swap_first x y z = omega (arith, ints)
 
-  -- the totals at each place before a take, from those after it: the place of the bundle lost its updates, and every
-  -- other place is as it was
+  -- the totals at each place before a take, from those after it: the place of the bundle lost its
+  -- updates, and every other place is as it was
   pub taken : (site : Site) (qs : List (Bundle T)) (j : ℕ) (b : Bundle T) → slice_get (queue site qs) j ≡ Some b → (other : Site) → total_by f (updates_at other qs) ≡ total_by f (cond (same_place site other) b.updates []) +ℤ total_by f (updates_at other (without site qs j))
   taken site [] j b h other = cc
   taken site (q ∷ qs) zero b h other = step (same_place q.place site) refl h (taken site qs zero b)

@@ -1,4 +1,5 @@
--- The headline and what follows from it. Each lemma here is a theorem of `theorems.rt`, from the lemmas of claims.
+-- The headline and what follows from it. Each lemma here is a theorem of `theorems.rt`, from the
+-- lemmas of claims.
 use Rattle.std.proofs.Common.{◌≡◌, ℕ, ◌<◌, Bool, true, false, cond, not, List, [], ◌∷◌, ◌++◌, take, sym, ap, ◌∙◌, eqb, arith, IsTrue}
 use Rattle.std.proofs.Math.IntN.{ℤ, pos}
 use Rattle.std.proofs.lemmas.Bool.{and_from, ne_eqb}
@@ -37,7 +38,8 @@ module _ {T : Type 0} (leq : T → T → Bool) (minimum : T) (o : PartialOrderLa
     stamped : list_all (is_stamped leq) w.in_flight ≡ true
     stamped = (kept_state leq o p minimum h l).stamped
 
-    -- the headline: a view is right at each time that its frontier has passed; all promises to readers follow from it
+    -- the headline: a view is right at each time that its frontier has passed; all promises to
+    -- readers follow from it
     pub headline_lem : MeetsQuery leq p w n
     headline_lem t e r =
         (claim leq p q w (kept_state leq o p minimum h l) t n (λ m a. clear_passed leq o t (upstream p n) (upstream p n) w stamped (passed-least leq o (outstanding p w n) t (not_beyond _ e)) m a a)).all r
@@ -55,7 +57,8 @@ module _ {T : Type 0} (leq : T → T → Bool) (minimum : T) (o : PartialOrderLa
     others : (t : T) → is_beyond leq (input_frontier leq p w n) t ≡ false → (m : ℕ) → upstream p n m ≡ true → m < n → IsClear leq w t m
     others t f m a b = clear_passed leq o t (upstream p n) (strictly_upstream p n) w stamped (passed-least leq o (counted_times w (upstream p n) (strictly_upstream p n)) t f) m a (and_from (upstream p n m) (not (eqb m n)) a (ap not (ne_eqb m n (λ x. absurd (omega arith)))))
 
-    -- nothing at or before a passed time is outstanding, so no answer at a passed time can still change
+    -- nothing at or before a passed time is outstanding, so no answer at a passed time can still
+    -- change
     pub lurks : NothingLurks leq p w n
     lurks t e = lurks_lem leq o p w n (upstream p n) t stamped (not_beyond _ e)
 
@@ -87,8 +90,8 @@ module _ {T : Type 0} (leq : T → T → Bool) (minimum : T) (o : PartialOrderLa
         on [] l n t k = k
         on (e ∷ es) l n t k = is_passed _ (input_onward leq o t p q n (state_after leq minimum p (es ++ h)) e l.0 (not_beyond _ (on es l.1 n t k)))
 
-    -- if an input frontier has passed a time, then in every later state nothing that could reach the node is
-    -- outstanding at or before it
+    -- if an input frontier has passed a time, then in every later state nothing that could reach
+    -- the node is outstanding at or before it
     pub lurks_later : IsLegal leq minimum p (later ++ h) → (n : ℕ) (t : T) → IsTrue (has_passed leq (input_frontier leq p (state_after leq minimum p h) n) t) → IsClearAt leq p (state_after leq minimum p (later ++ h)) n (strictly_upstream p n) t
     lurks_later l n t k = lurks_lem leq o p (state_after leq minimum p (later ++ h)) n (strictly_upstream p n) t (kept_state leq o p minimum (later ++ h) l).stamped (not_beyond _ (inputs_lem l n t k))
 

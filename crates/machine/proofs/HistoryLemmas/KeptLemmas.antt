@@ -1,5 +1,6 @@
--- The invariant of legal histories, `IsKept`, and that each event keeps it. What came to a place is in flight there
--- or was received there; each worker obeys the node law; and each update in flight is beyond its bundle's stamp.
+-- The invariant of legal histories, `IsKept`, and that each event keeps it. What came to a place is
+-- in flight there or was received there; each worker obeys the node law; and each update in flight
+-- is beyond its bundle's stamp.
 use Rattle.std.proofs.Common.{◌≡◌, ℕ, ◌+◌, ◌<◌, Bool, true, false, cond, not, ◌&&◌, List, [], ◌∷◌, ◌++◌, sym, refl, ap, ◌∙◌, subst, Some, eqb, arith, IsTrue}
 use Rattle.std.specs.List.{flat_map, filter, list_all, slice_get}
 use Rattle.std.proofs.lemmas.Int.{ints}
@@ -105,7 +106,8 @@ pub held_unmarked : {T : Type 0} (n k a b : ℕ) (ts : List T) → (eqb a n && e
 held_unmarked n k a b [] h = refl
 held_unmarked n k a b (t ∷ ts) h = rw h (held_unmarked n k a b ts h)
 
--- dropping what one worker holds at one node changes nothing that another holds, or that it holds elsewhere
+-- dropping what one worker holds at one node changes nothing that another holds, or that it holds
+-- elsewhere
 pub held_kept : {T : Type 0} (n k a b : ℕ) (ms : List (HeldTime T)) → (eqb a n && eqb b k) ≡ false → held_at n k (filter (λ m. not (eqb m.node a && eqb m.worker b)) ms) ≡ held_at n k ms
 held_kept n k a b [] h = refl
 held_kept {T} n k a b (m ∷ ms) h = step (eqb m.node a && eqb m.worker b) refl (held_kept n k a b ms h)

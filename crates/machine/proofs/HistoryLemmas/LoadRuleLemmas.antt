@@ -1,5 +1,5 @@
--- The load rule holds at each worker and node after each event, and what a take found passed stays passed. Bounds are
--- kept because of this.
+-- The load rule holds at each worker and node after each event, and what a take found passed stays
+-- passed. Bounds are kept because of this.
 use Rattle.update.proofs.ConsolidatedLemmas.{summed_size, summed_size_is, summed_size-append}
 use Rattle.std.proofs.Common.{◌≡◌, ℕ, ◌≤◌, Bool, true, false, cond, not, ◌&&◌, ◌||◌, List, [], ◌∷◌, ◌++◌, sym, refl, ap, ◌∙◌, subst, Some, eqb, arith}
 use Rattle.std.specs.List.{filter, slice_get}

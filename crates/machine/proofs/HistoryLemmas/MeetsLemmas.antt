@@ -9,7 +9,8 @@ use Rattle.machine.specs.Histories.Readings.{ReadsQuery}
 use Rattle.machine.proofs.HistoryLemmas.HeadlineLemmas.{headline_lem}
 use Rattle.machine.proofs.HistoryLemmas.QuietLemmas.{beyond_elements}
 
--- in every legal history, any reading of a view is the query at times that are passed and still held
+-- in every legal history, any reading of a view is the query at times that are passed and still
+-- held
 pub reads_lem : {T : Type 0} (leq : T → T → Bool) (minimum : T) → PartialOrderLaws leq → (p : Dataflow) → IsDataflow p → (h : List (Event T)) → IsLegal leq minimum p h → ReadsQuery leq p (state_after leq minimum p h)
 reads_lem leq minimum o p q h l view us front since r t passed held row =
     r.sums t held row

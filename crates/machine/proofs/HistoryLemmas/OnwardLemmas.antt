@@ -1,6 +1,6 @@
--- No frontier goes back. Each event adds only times that are beyond what was outstanding at the nodes from which they
--- come. The lemma `onward` proves this once, for any choice of what a frontier counts; the frontiers of nodes, inputs
--- and ports follow.
+-- No frontier goes back. Each event adds only times that are beyond what was outstanding at the
+-- nodes from which they come. The lemma `onward` proves this once, for any choice of what a
+-- frontier counts; the frontiers of nodes, inputs and ports follow.
 use Rattle.std.proofs.Common.{◌≡◌, ℕ, Bool, true, false, cond, not, ◌&&◌, ◌||◌, List, [], ◌∷◌, ◌++◌, sym, refl, ap, ◌∙◌, subst, Option, Some, None, eqb, arith, inl, inr, ⊎_elim}
 use Rattle.std.specs.List.{flat_map, filter, slice_get}
 use Rattle.std.proofs.lemmas.Bool.{and_parts, and_from, or_parts, or_from, or_right, eqb-true, ne_eqb, false≢true}
@@ -82,7 +82,8 @@ module _ {T : Type 0} (leq : T → T → Bool) (o : PartialOrderLaws leq) (t : T
   passed_least F h = least_beyond o F t ∙ h
 
   module _ (test : ℕ → Bool) where
-    -- if what counts at the nodes that pass a test has passed the time, so has what counts at one of them
+    -- if what counts at the nodes that pass a test has passed the time, so has what counts at one
+    -- of them
     passed_edge : (i : ℕ) → test i ≡ true → (es : List (OpenTime T)) → IsPassed (open_where test es) → IsPassed (open_at i es)
     passed_edge i a [] h = h
     passed_edge i a (e ∷ es) h =
@@ -134,16 +135,17 @@ module _ {T : Type 0} (leq : T → T → Bool) (o : PartialOrderLaws leq) (t : T
         step false e = subst IsPassed (sym (off ts e)) refl
 
   module _ (test : Site → Bool) where
-    -- bundles that have passed the time still have after a take, and so has the bundle that was taken
+    -- bundles that have passed the time still have after a take, and so has the bundle that was
+    -- taken
     passed_without : (site : Site) (qs : List (Bundle T)) (j : ℕ) → IsPassed (stamps test qs) → IsPassed (stamps test (without site qs j))
     passed_without site qs j h = passed_all (λ b. test b.place) (λ b. b.stamp) (without site qs j) (λ b m a. passed_one (λ b. test b.place) (λ b. b.stamp) qs h b (among_left site qs j b m) a)
 
     passed_taken : (qs : List (Bundle T)) (j : ℕ) (b : Bundle T) → slice_get (queue b.place qs) j ≡ Some b → test b.place ≡ true → IsPassed (stamps test qs) → IsPassed b.stamp
     passed_taken qs j b e a h = passed_one (λ b. test b.place) (λ b. b.stamp) qs h b (queued b.place qs j b e).0 a
 
-  -- What a frontier counts: bundles at some places, times held at some nodes, the frontiers of some inputs. The
-  -- choice is free, but with a place it counts the place's source, with a place that is fed its input, and with a
-  -- node at which it counts held times all of the node's places.
+  -- What a frontier counts: bundles at some places, times held at some nodes, the frontiers of some
+  -- inputs. The choice is free, but with a place it counts the place's source, with a place that is
+  -- fed its input, and with a node at which it counts held times all of the node's places.
   module _ (p : Dataflow) (q : IsDataflow p) (there : Site → Bool) (holds opens : ℕ → Bool)
       (of_sources : (site : Site) → there site ≡ true → (s : ℕ) → source_of p site.node site.port ≡ Some s → holds s ≡ true)
       (of_inputs : (i k : ℕ) → is_input (node_of p i) ≡ true → there (place i 0 k) ≡ true → opens i ≡ true)
@@ -185,7 +187,8 @@ module _ {T : Type 0} (leq : T → T → Bool) (o : PartialOrderLaws leq) (t : T
         later : holds g.node ≡ true → IsPassed held
         later f = (passed_parts (times g.updates) held (passed_onward (held_at g.node g.worker w.held) (times g.updates ++ held) a.onward (passed_held holds g.node g.worker f w.held h.1))).1
 
-    -- after each event, what counts has passed the time if it had before; every lemma of frontiers uses this
+    -- after each event, what counts has passed the time if it had before; every lemma of frontiers
+    -- uses this
     pub onward : (w : State T) (e : Event T) → IsAllowed leq p w e → IsCountPassed w → IsCountPassed (next_state leq p w e)
     onward w (Feed c f) a h = (
       subst IsPassed (sym (flat_map-append (λ (q : Bundle T). cond (there q.place) q.stamp []) w.in_flight (alone p f ∷ []))) (passed_both (stamps there w.in_flight) (stamps there (alone p f ∷ [])) h.0 (onward_feed w c f a h)),
@@ -252,7 +255,8 @@ module _ {T : Type 0} (leq : T → T → Bool) (o : PartialOrderLaws leq) (t : T
     pub taken_later : (w : State T) (j : ℕ) (b : Bundle T) → slice_get (queue b.place w.in_flight) j ≡ Some b → b.place.node ≡ n → IsPassed (input_frontier leq p w n) → IsPassed b.stamp
     taken_later w j b e i h = passed_taken site_above w.in_flight j b e (ap (upstream p n) i ∙ above_itself p.nodes q.plan n) (in_passed w h).0
 
-  -- bundles at the places that pass one of two tests have passed the time if those of each test have, and back
+  -- bundles at the places that pass one of two tests have passed the time if those of each test
+  -- have, and back
   passed_either : (f g : Site → Bool) (qs : List (Bundle T)) → IsPassed (stamps f qs) → IsPassed (stamps g qs) → IsPassed (stamps (λ site. f site || g site) qs)
   passed_either f g [] h k = refl
   passed_either f g (x ∷ qs) h k =

@@ -1,5 +1,5 @@
--- Lists of updates at times that a frontier has passed, or that a take found passed. Each test of a list is also
--- given as a fact about each of its updates.
+-- Lists of updates at times that a frontier has passed, or that a take found passed. Each test of a
+-- list is also given as a fact about each of its updates.
 use Rattle.std.proofs.Common.{◌≡◌, ℕ, Bool, true, false, List, [], ◌∷◌, sym, ◌∙◌, refl, IsTrue}
 use Rattle.std.specs.List.{list_all}
 use Rattle.std.proofs.lemmas.Bool.{and_parts, and_from, false_from_ne_true, false≢true}

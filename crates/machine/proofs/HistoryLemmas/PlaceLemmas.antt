@@ -1,4 +1,5 @@
--- Everything that waits is at a place that exists. So a worker that goes through its places misses nothing.
+-- Everything that waits is at a place that exists. So a worker that goes through its places misses
+-- nothing.
 use Rattle.std.proofs.Common.{◌≡◌, ◌≢◌, ℕ, zero, suc, ◌<◌, Bool, true, false, cond, not, ◌&&◌, List, [], ◌∷◌, ◌++◌, map, take, length, sym, refl, ap, ◌∙◌, subst, Option, Some, None, eqb, arith, IsTrue, inl, inr, ⊎_elim}
 use Rattle.std.specs.List.{flat_map, filter, slice_get, list_all}
 use Rattle.std.proofs.Math.IntN.{ℤ}

@@ -1,5 +1,5 @@
--- A node that reads other nodes is sent updates only through its ports. So its input frontier has passed exactly the
--- times that the frontiers of all its ports have passed.
+-- A node that reads other nodes is sent updates only through its ports. So its input frontier has
+-- passed exactly the times that the frontiers of all its ports have passed.
 use Rattle.std.proofs.Common.{◌≡◌, ℕ, ◌<◌, ◌≤◌, Bool, true, not, ◌&&◌, List, [], ◌∷◌, ◌++◌, length, sym, ap, ◌∙◌, subst, Option, Some, None, eqb, arith, ◌⊎◌, inl, inr, ⊎_elim, refl}
 use Rattle.std.specs.List.{list_all}
 use Rattle.std.proofs.lemmas.Bool.{and_parts, and_from, eqb-true, eq-eqb, ne_eqb, false≢true}
@@ -104,7 +104,8 @@ module _ {T : Type 0} (leq : T → T → Bool) (o : PartialOrderLaws leq) (t : T
         (λ r. passed_one leq o t (λ y. upstream p r.1 y.node) (λ y. y.time ∷ []) w.held (passed_counts leq o t (upstream p r.1) (upstream p r.1) w (of_source r.0 r.1 r.2)).1 x m r.3)
         (above_cases p.nodes q.plan x.node n b.0))
 
-    -- no input at the node or above it is open at or before the time; the node is no input, since it has a port
+    -- no input at the node or above it is open at or before the time; the node is no input, since
+    -- it has a port
     all_open : IsOver (open_where (upstream p n) w.open_times)
     all_open = passed_all leq o t (λ x. upstream p n x.input) (λ x. x.time ∷ []) w.open_times (λ x m a.
         ⊎_elim

@@ -1,4 +1,5 @@
--- A quiet board has caught up: each node's frontier is the least of the frontiers of the inputs that feed it.
+-- A quiet board has caught up: each node's frontier is the least of the frontiers of the inputs
+-- that feed it.
 use Rattle.std.proofs.Common.{◌≡◌, ℕ, zero, suc, ◌<◌, Bool, true, false, cond, not, ◌||◌, List, [], ◌∷◌, ◌++◌, length, sym, refl, ap, ◌∙◌, subst, eqb, arith, IsTrue, ◌⊎◌, inl, inr, ⊎_elim}
 use Rattle.std.specs.List.{flat_map}
 use Rattle.std.proofs.lemmas.Bool.{and_parts, and_from, or_left, or_right, eqb-true, eq-eqb, false≢true, true≢false}
@@ -147,7 +148,8 @@ module _ {T : Type 0} (leq : T → T → Bool) (o : PartialOrderLaws leq) (p : D
       step false e k rest = rest k
 
   module _ (quiet : IsQuiet leq p w) where
-    -- on a quiet board, each held time that counts is at or after some element of an input's frontier
+    -- on a quiet board, each held time that counts is at or after some element of an input's
+    -- frontier
     held_of : (holds : ℕ → Bool) (t : T) (ms : List (HeldTime T)) → is_beyond leq (held_where holds ms) t ≡ true → (m : HeldTime T) × Among m ms × (holds m.node ≡ true) × (leq m.time t ≡ true)
     held_of holds t [] h = absurd (false≢true h)
     held_of holds t (m ∷ ms) h = step (holds m.node) refl (leq m.time t) refl h (held_of holds t ms)
@@ -207,7 +209,8 @@ module _ {T : Type 0} (leq : T → T → Bool) (o : PartialOrderLaws leq) (p : D
         differs : (i j : ℕ) → not (eqb i j) ≡ true → i ≡ j → ⊥
         differs i j h e = false≢true (sym (ap not (eq-eqb i j e)) ∙ h)
 
-    -- on a quiet board, each node's frontier is the least of the frontiers of the inputs that feed it
+    -- on a quiet board, each node's frontier is the least of the frontiers of the inputs that feed
+    -- it
     pub caught_up_lem : IsCaughtUp leq p w n
     caught_up_lem = least_same leq o (outstanding p w n) fronts (λ t. same_test (is_beyond leq (outstanding p w n) t) (is_beyond leq fronts t) (into t) (back t))
       where

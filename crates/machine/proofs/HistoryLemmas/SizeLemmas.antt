@@ -1,4 +1,5 @@
--- Sizes, which are sums of absolute diffs, added up over the workers. The bounds are proved with these.
+-- Sizes, which are sums of absolute diffs, added up over the workers. The bounds are proved with
+-- these.
 use Rattle.update.proofs.ConsolidatedLemmas.{summed_size, summed_size-append}
 use Rattle.std.proofs.Common.{◌≡◌, ℕ, zero, suc, ◌+◌, ◌*◌, ◌<◌, ◌≤◌, Bool, true, false, cond, ◌&&◌, List, [], ◌∷◌, take, sym, refl, ◌∙◌, Option, Some, None, eqb, arith, unsigned_abs}
 use Rattle.std.specs.List.{flat_map, filter}

@@ -1,5 +1,5 @@
--- A stamp stands for the times that it was made from: the same times are beyond both. No two of its times can be
--- compared, so none occurs twice.
+-- A stamp stands for the times that it was made from: the same times are beyond both. No two of its
+-- times can be compared, so none occurs twice.
 use Rattle.std.proofs.Common.{◌≡◌, Bool, true, false, cond, not, ◌||◌, List, [], ◌∷◌, ◌++◌, sym, refl, ap, ap₂, ◌∙◌}
 use Rattle.std.specs.List.{filter, list_all}
 use Rattle.std.proofs.lemmas.Bool.{and_parts, and_from, or_parts, true≢false, false_from_ne_true}
@@ -29,7 +29,8 @@ or_three true b c = refl
 or_three false b c = refl
 
 module _ {T : Type 0} (below : T → T → Bool) (o : PartialOrderLaws below) where
-  -- if t is not at or before s, dropping the elements beyond t does not change whether s is beyond the rest
+  -- if t is not at or before s, dropping the elements beyond t does not change whether s is beyond
+  -- the rest
   beyond_left : (t s : T) → below t s ≡ false → (F : List T) → is_beyond below (filter (λ f. not (below t f)) F) s ≡ is_beyond below F s
   beyond_left t s e [] = refl
   beyond_left t s e (f ∷ F) = step (below t f) refl (below f s) refl (beyond_left t s e F)
@@ -52,7 +53,8 @@ module _ {T : Type 0} (below : T → T → Bool) (o : PartialOrderLaws below) wh
       step false g true h = list_any-append (λ f. below f s) (filter (λ f. not (below t f)) F) (t ∷ []) ∙ (ap (λ b. is_beyond below (filter (λ f. not (below t f)) F) s || (b || false)) h ∙ (all_true (is_beyond below (filter (λ f. not (below t f)) F) s) ∙ sym (all_true (is_beyond below F s))))
       step false g false h = list_any-append (λ f. below f s) (filter (λ f. not (below t f)) F) (t ∷ []) ∙ ap₂ (λ x y. x || y) (beyond_left t s h F) (or_false (below t s) ∙ h)
 
-  -- what is beyond a frontier with times added is what was beyond it, and what is beyond one of those times
+  -- what is beyond a frontier with times added is what was beyond it, and what is beyond one of
+  -- those times
   pub with_times_beyond : (F ts : List T) (s : T) → is_beyond below (with_times below F ts) s ≡ (is_beyond below F s || is_beyond below ts s)
   with_times_beyond F [] s = sym (or_false (is_beyond below F s))
   with_times_beyond F (t ∷ ts) s =

@@ -1,4 +1,5 @@
--- The examples over times that are pairs: each is computed, or a short proof shows that the event is allowed.
+-- The examples over times that are pairs: each is computed, or a short proof shows that the event
+-- is allowed.
 use Rattle.std.proofs.Common.{◌≡◌, ℕ, zero, suc, ◌≤◌, Bool, true, false, List, [], ◌∷◌, ◌++◌, map, cond, sym, refl, ap, ◌∙◌, arith, nat_le, ℤ, pos}
 use Rattle.std.proofs.Math.IntN.{negsuc, ◌+ℤ◌}
 use Rattle.std.proofs.lemmas.Int.{ints}

@@ -1,5 +1,5 @@
--- Sums over the workers. What all workers gave, got or were fed is the sum of what each did, so that a fact about
--- each worker becomes one about a node.
+-- Sums over the workers. What all workers gave, got or were fed is the sum of what each did, so
+-- that a fact about each worker becomes one about a node.
 use Rattle.std.proofs.Common.{◌≡◌, ℕ, zero, suc, ◌<◌, ◌≤◌, Bool, true, false, cond, ◌&&◌, List, [], ◌∷◌, ◌++◌, map, take, sym, refl, ap, ◌∙◌, Option, Some, None, eqb, arith, IsTrue}
 use Rattle.std.specs.List.{flat_map, filter}
 use Rattle.std.proofs.lemmas.Int.{ints}

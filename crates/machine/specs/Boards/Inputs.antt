@@ -19,8 +19,8 @@ module _ {T : Type 0} where
   first_inputs minimum p = map (λ node. if is_input node then minimum ∷ [] else []) p
 
 module _ {T : Type 0} (below : T → T → Bool) where
-  -- the faults of a change, in the order in which they are tested, from its input's frontier and the number of
-  -- changes that the input has taken
+  -- the faults of a change, in the order in which they are tested, from its input's frontier and
+  -- the number of changes that the input has taken
   abbrev pub feed_faults : List Node → List T → ℕ → Fed T → List (Bool × Refusal)
   feed_faults nodes frontier taken f =
       (not (eqb (length f.update.row) (width_of nodes f.input)), WrongWidth)

@@ -1,5 +1,6 @@
--- What lies at the nodes of a board, by node and by worker: what waits at both ports, and the times that the worker
--- holds. A load is a bundle without its place, since the place is known from where the load lies.
+-- What lies at the nodes of a board, by node and by worker: what waits at both ports, and the times
+-- that the worker holds. A load is a bundle without its place, since the place is known from where
+-- the load lies.
 use Rattle.std.specs.Prelude.{ℕ, zero, suc, Bool, true, false, List, [], ◌∷◌, ◌++◌, map, get_or, set, replicate, length}
 use Rattle.std.specs.List.{remove, flat_map}
 use Rattle.update.specs.declared.change.Update.{Update}
@@ -22,13 +23,14 @@ pub record Load (T : Type 0) : Type 0 where
   pub updates : List (Update T)
   pub stamp : List T
 
--- a queue: what waits in it, the oldest first, and for how many more loads room is reserved, so that they take no
--- memory
+-- a queue: what waits in it, the oldest first, and for how many more loads room is reserved, so
+-- that they take no memory
 pub record QueueState (T : Type 0) : Type 0 where
   pub loads : List (Load T)
   pub room : ℕ
 
--- what lies at a node for one worker: what waits at its first and its second port, and the times that it holds
+-- what lies at a node for one worker: what waits at its first and its second port, and the times
+-- that it holds
 pub record Lot (T : Type 0) : Type 0 where
   pub left : List (Load T)
   pub right : List (Load T)
@@ -91,8 +93,8 @@ module _ {T : Type 0} where
   abbrev pub first_stations : ℕ → ℕ → List (List (Lot T))
   first_stations nodes workers = replicate nodes (replicate workers no_lot)
 
-  -- the stations after a load was put at a place, behind the others, and after each bundle of a list was put at its
-  -- own
+  -- the stations after a load was put at a place, behind the others, and after each bundle of a
+  -- list was put at its own
   abbrev pub put_at : Site → Load T → List (List (Lot T)) → List (List (Lot T))
   put_at site load stations = with_lot site.node site.worker (with_load_at site.port load) stations
 
@@ -135,7 +137,8 @@ module _ {T : Type 0} where
   all_held stations =
       flat_map (λ n. held_in n (get_or stations n [])) (numbers_below (length stations))
 
-  -- the stamps of what waits in a lot or at a node, and the times that are held at a node, on all workers
+  -- the stamps of what waits in a lot or at a node, and the times that are held at a node, on all
+  -- workers
   abbrev pub stamps_of : Lot T → List T
   stamps_of lot = flat_map (λ load. load.stamp) (lot.left ++ lot.right)
 

@@ -24,8 +24,8 @@ abbrev pub open_on : {T : Type 0} → BoardState T → List (OpenTime T)
 open_on b =
     flat_map (λ i. open_entries i (front_at i b.inputs)) (numbers_below (length b.dataflow.nodes))
 
--- the board as a state that a history leaves, with the logs of the past empty: frontiers need only what is
--- outstanding
+-- the board as a state that a history leaves, with the logs of the past empty: frontiers need only
+-- what is outstanding
 abbrev pub on_board : {T : Type 0} → BoardState T → State T
 on_board b = record {
   fed = [];
@@ -89,8 +89,8 @@ module _ {T : Type 0} (below : T → T → Bool) where
   abbrev pub passed_captured : BoardState T → ℕ → List (Update T)
   passed_captured b v = filter (λ u. has_passed below (front b v) u.time) (captured_of b v)
 
-  -- how a read, and the changes of a view, may be refused: with a fault, for want of memory, or with a number that is
-  -- too large
+  -- how a read, and the changes of a view, may be refused: with a fault, for want of memory, or
+  -- with a number that is too large
   abbrev pub IsReadRefusal : BoardState T → ℕ → T → Refusal → Type 0
   IsReadRefusal b v t refusal =
       IsRefusalOr (HasLargeSum below (captured_of b v) t) (read_refusal_on b v t) refusal

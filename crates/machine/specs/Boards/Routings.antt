@@ -11,7 +11,8 @@ use Rattle.machine.specs.Histories.Dataflows.{Dataflow, IsDataflow}
 abbrev pub all_edges : List Node → List (List Edge)
 all_edges nodes = map (edges_from nodes) (numbers_below (length nodes))
 
--- the tables have the edges from each node, and the number of columns by which each node is arranged
+-- the tables have the edges from each node, and the number of columns by which each node is
+-- arranged
 pub record IsRouting (p : Dataflow) (outgoing : List (List Edge)) (columns : List (Option ℕ)) : Type 0 where
   pub dataflow : IsDataflow p
   pub edges : outgoing ≡ all_edges p.nodes

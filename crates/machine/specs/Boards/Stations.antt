@@ -1,5 +1,6 @@
--- The stations of a board: what a contract sees of them, and where room is reserved. A give reserves room for all its
--- bundles before it puts one, so that it either happens whole or not at all.
+-- The stations of a board: what a contract sees of them, and where room is reserved. A give
+-- reserves room for all its bundles before it puts one, so that it either happens whole or not at
+-- all.
 use Rattle.std.specs.Prelude.{◌≡◌, ℕ, zero, suc, ◌≤◌, List, [], map, length, get_or, slice_get, ⊤}
 use Rattle.std.specs.Option.{IfSome}
 use Rattle.machine.specs.declared.histories.event.Site.{Site}

@@ -34,8 +34,8 @@ module _ {T : Type 0} (below : T → T → Bool) where
   abbrev pub later_below : T → List (Update T) → ℕ → List ℕ
   later_below t us n = filter (is_later_at t us) (numbers_below n)
 
-  -- a read at a time: its bag is the sum of the first `known` captured updates to that time, and `later` are the
-  -- positions of those of them that are not at or before it
+  -- a read at a time: its bag is the sum of the first `known` captured updates to that time, and
+  -- `later` are the positions of those of them that are not at or before it
   pub record IsReadOf (captured : List (Update T)) (time : T) (bag : List Entry) (known : ℕ) (later : List ℕ) : Type 0 where
     pub within : known ≤ length captured
     pub sum : Alike bag (as_of below time (take known captured))

@@ -1,5 +1,6 @@
--- The bundles that `Routing::cut` makes of what a worker gave: along each edge from its node, one bundle for each
--- worker's share that is not empty. A worker may cut otherwise; a give only has to send each place its share.
+-- The bundles that `Routing::cut` makes of what a worker gave: along each edge from its node, one
+-- bundle for each worker's share that is not empty. A worker may cut otherwise; a give only has to
+-- send each place its share.
 use Rattle.std.specs.Prelude.{ℕ, Bool, eqb, List, [], ◌∷◌, take}
 use Rattle.std.specs.List.{filter, flat_map}
 use Rattle.row.specs.Routing.{route_of}
@@ -20,8 +21,8 @@ abbrev pub part_by_key : {T : Type 0} → ℕ → ℕ → List (Update T) → �
 part_by_key columns workers us k = filter (λ u. eqb (route_of (take columns u.row) workers) k) us
 
 module _ {T : Type 0} (below : T → T → Bool) where
-  -- the bundle of these updates at a place, with the least of their times as its stamp; no bundle if there are no
-  -- updates
+  -- the bundle of these updates at a place, with the least of their times as its stamp; no bundle
+  -- if there are no updates
   abbrev pub bundled : Site → List (Update T) → List (Bundle T)
   bundled site [] = []
   bundled site (u ∷ us) =

@@ -1,4 +1,5 @@
--- A dataflow: a plan, and how many workers run it together. Each worker runs every node, on its share of the rows.
+-- A dataflow: a plan, and how many workers run it together. Each worker runs every node, on its
+-- share of the rows.
 use Rattle.std.specs.Prelude.{ℕ, Bool, ◌≤◌, List, ℤ, Option, slice_get}
 use Rattle.row.specs.Routing.{route_of}
 use Rattle.update.specs.Bags.{Entry}

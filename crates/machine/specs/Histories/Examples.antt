@@ -1,5 +1,5 @@
--- What an example shows: a legal history in which every kind of event occurs, and a view that is read. There is one,
--- so the theorems about legal histories are about something.
+-- What an example shows: a legal history in which every kind of event occurs, and a view that is
+-- read. There is one, so the theorems about legal histories are about something.
 use Rattle.std.specs.Prelude.{◌≢◌, ℕ, ◌<◌, eqb, List, [], length, IsTrue, nat_le}
 use Rattle.std.specs.List.{list_all, list_any}
 use Rattle.lattice.specs.Frontiers.{is_beyond}
@@ -24,8 +24,8 @@ event_number (Take number bundle) = 4
 event_number (TakeHeld k n) = 5
 event_number (Give g ts sent) = 6
 
--- a legal history of a plan with a join and a reduction, in which each kind of event occurs, and a reading of a view
--- that contains something at a time that is passed and still held
+-- a legal history of a plan with a join and a reduction, in which each kind of event occurs, and a
+-- reading of a view that contains something at a time that is passed and still held
 pub record IsExample (p : Dataflow) (h : List (Event ℕ)) (v : ℕ) (us : List (Update ℕ)) (front since : List ℕ) (t : ℕ) : Type 0 where
   pub dataflow : IsDataflow p
   pub join : IsTrue (list_any is_join p.nodes)

@@ -18,8 +18,8 @@ module _ {T : Type 0} (below : T → T → Bool) (minimum : T) where
   is_from_start since = is_beyond below since minimum
 
 module _ {T : Type 0} (below : T → T → Bool) (p : Dataflow) (w : State T) where
-  -- a reading of a view: its frontier, its since, and updates that sum to what it captured at every time beyond the
-  -- since
+  -- a reading of a view: its frontier, its since, and updates that sum to what it captured at every
+  -- time beyond the since
   pub record IsReading (view : ℕ) (us : List (Update T)) (front since : List T) : Type 0 where
     pub stands : SameElements front (frontier below p w view)
     pub held : since ≡ w.since view
@@ -39,8 +39,8 @@ module _ {T : Type 0} (below : T → T → Bool) (p : Dataflow) (w : State T) wh
     pub hand : (k : ℕ) → k < p.workers → w.hand k ≡ None
     pub held : IsTrue (list_all (λ m. is_beyond below (input_frontier below p w m.node) m.time) w.held)
 
-  -- the node's frontier is the least of the frontiers of the inputs that feed it; on a quiet board this holds of each
-  -- node
+  -- the node's frontier is the least of the frontiers of the inputs that feed it; on a quiet board
+  -- this holds of each node
   abbrev pub IsCaughtUp : ℕ → Type 0
   IsCaughtUp n = SameElements (frontier below p w n)
       (least below (open_for below p.nodes (λ i. open_at i w.open_times) n))

@@ -1,5 +1,6 @@
--- The parts of an event. The board makes an event of the arguments of a call, remembers it for clauses alone, and
--- takes the arguments out again. So nothing is copied, and these definitions say that nothing is lost.
+-- The parts of an event. The board makes an event of the arguments of a call, remembers it for
+-- clauses alone, and takes the arguments out again. So nothing is copied, and these definitions say
+-- that nothing is lost.
 use Rattle.std.specs.Prelude.{◌≡◌, List, ⊤}
 use Rattle.machine.specs.declared.histories.event.Bundle.{Bundle}
 use Rattle.machine.specs.declared.histories.event.Emission.{Emission}

@@ -1,5 +1,6 @@
--- Which updates go where. Into an arrange node, an update goes to the worker of its key. Along every other edge, it
--- stays on its worker. A change comes to its input on the worker of its whole row.
+-- Which updates go where. Into an arrange node, an update goes to the worker of its key. Along
+-- every other edge, it stays on its worker. A change comes to its input on the worker of its whole
+-- row.
 use Rattle.std.specs.Prelude.{◌≡◌, ℕ, Bool, not, ◌&&◌, eqb, if◌then◌else◌, List, [], ◌∷◌, length, take, Option, Some, None}
 use Rattle.std.specs.List.{filter, list_all}
 use Rattle.lattice.specs.Frontiers.{all_beyond}
@@ -17,8 +18,8 @@ abbrev pub home : {T : Type 0} → Dataflow → Fed T → Site
 home p f = place f.input 0 (route p f.update.row)
 
 module _ {T : Type 0} (p : Dataflow) where
-  -- the part of a giver's updates that a worker gets along an edge: by a key of this many columns, or without a key
-  -- all of them, on the giver's own worker
+  -- the part of a giver's updates that a worker gets along an edge: by a key of this many columns,
+  -- or without a key all of them, on the giver's own worker
   abbrev pub part : Option ℕ → ℕ → ℕ → List (Update T) → List (Update T)
   part None giver worker us = if eqb giver worker then us else []
   part (Some columns) giver worker us = filter (λ u. eqb (route p (take columns u.row)) worker) us

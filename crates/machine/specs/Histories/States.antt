@@ -1,6 +1,7 @@
--- What a history leaves: a record of logs. Each entry names its node, and its port and worker if they matter. So a
--- question about a node or a place is answered by going through a log (after the configurations of Abadi, McSherry,
--- Murray and Rodeheffer, Formal Analysis of a Distributed Algorithm for Tracking Progress, 2013).
+-- What a history leaves: a record of logs. Each entry names its node, and its port and worker if
+-- they matter. So a question about a node or a place is answered by going through a log (after the
+-- configurations of Abadi, McSherry, Murray and Rodeheffer, Formal Analysis of a Distributed
+-- Algorithm for Tracking Progress, 2013).
 use Rattle.std.specs.Prelude.{ℕ, Bool, ◌&&◌, eqb, if◌then◌else◌, List, [], ◌∷◌, map, Option}
 use Rattle.std.specs.List.{flat_map}
 use Rattle.update.specs.declared.change.Update.{Update}

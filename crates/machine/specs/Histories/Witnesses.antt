@@ -1,5 +1,5 @@
--- Examples of what the definitions allow and what they compute, over times that are pairs. A definition that is too
--- strict, or that finds another number, fails at one of them.
+-- Examples of what the definitions allow and what they compute, over times that are pairs. A
+-- definition that is too strict, or that finds another number, fails at one of them.
 use Rattle.std.specs.Prelude.{◌≡◌, ℕ, eqb, if◌then◌else◌, List, [], ◌∷◌, Some, None, pos, negsuc}
 use Rattle.lattice.specs.Pairs.{make_pair}
 use Rattle.row.specs.declared.projection.Item.TheVariants.{Column}
@@ -45,7 +45,8 @@ open_from t = record {
   observed = [];
 }
 
--- an input arranged by key, and then how many rows each key has, or which rows there are. In both, node 3 is the view
+-- an input arranged by key, and then how many rows each key has, or which rows there are. In both,
+-- node 3 is the view
 abbrev pub counting : Dataflow
 counting = record { nodes = Input 2 ∷ Arrange 0 1 ∷ Reduce Count 1 ∷ Output 2 ∷ []; workers = 2 }
 
@@ -56,8 +57,8 @@ listing = record { nodes = Input 1 ∷ Arrange 0 1 ∷ Reduce Distinct 1 ∷ Out
 abbrev pub copying : Dataflow
 copying = record { nodes = Input 1 ∷ Output 0 ∷ []; workers = 2 }
 
--- worker 1 is at the distinct of `listing`. The row came at (0, 3) and at (3, 0), the worker holds these two times,
--- and more may come from (4, 4) on
+-- worker 1 is at the distinct of `listing`. The row came at (0, 3) and at (3, 0), the worker holds
+-- these two times, and more may come from (4, 4) on
 abbrev pub came_twice : State Bitime
 came_twice = record (open_from (make_pair 4 4)) {
   received = bundle_of (place 2 0 1) (seven_comes 3 0 ∷ []) ∷ bundle_of (place 2 0 1) (seven_comes 0 3 ∷ []) ∷ [];
@@ -74,15 +75,16 @@ came_at_input us = record (open_from (make_pair 0 0)) {
   hand = λ k. if eqb k 1 then Some 0 else None;
 }
 
--- an update at (10, 1) waits for worker 1 at the count, or it was taken and a time is held there. The input is open
--- from (0, 2) on
+-- an update at (10, 1) waits for worker 1 at the count, or it was taken and a time is held there.
+-- The input is open from (0, 2) on
 abbrev pub waits_at_count : State Bitime
 waits_at_count = record (open_from (make_pair 0 2)) { in_flight = bundle_of (place 2 0 1) (seven_comes 10 1 ∷ []) ∷ [] }
 
 abbrev pub held_at_count : ℕ → ℕ → State Bitime
 held_at_count x y = record (open_from (make_pair 0 2)) { held = record { node = 2; worker = 1; time = make_pair x y } ∷ [] }
 
--- the frontiers at the count: `to` for what may still come to it, `from` for what may still come from it to its view
+-- the frontiers at the count: `to` for what may still come to it, `from` for what may still come
+-- from it to its view
 pub record HasFrontiers (w : State Bitime) (to from : List Bitime) : Type 0 where
   pub input : input_frontier bitime_below counting w 2 ≡ to
   pub port : port_frontier bitime_below counting w 2 0 ≡ to
@@ -91,8 +93,8 @@ pub record HasFrontiers (w : State Bitime) (to from : List Bitime) : Type 0 wher
   pub view_port : port_frontier bitime_below counting w 3 0 ≡ from
   pub view : frontier bitime_below counting w 3 ≡ from
 
--- three plans: the join of two inputs; an input joined with itself and then three times added to itself; and all
--- linear nodes in a row
+-- three plans: the join of two inputs; an input joined with itself and then three times added to
+-- itself; and all linear nodes in a row
 abbrev pub joining : List Node
 joining = Input 1 ∷ Input 1 ∷ Arrange 0 1 ∷ Arrange 1 1 ∷ Join 2 3 ∷ Output 4 ∷ []
 

@@ -1,4 +1,5 @@
-//! What a worker asks of a board before it takes: where a bundle waits for it, and whether it has a piece in hand.
+//! What a worker asks of a board before it takes: where a bundle waits for it, and whether it has a
+//! piece in hand.
 ghost use Rattle.std.specs.Prelude.{◌≡◌, ◌<◌, ℕ, [], None, IfSome, get_or, length};
 ghost use Rattle.machine.specs.Histories.States.{place};
 ghost use Rattle.machine.specs.Boards.Loads.{queue_of};
@@ -9,8 +10,9 @@ use lattice::Minimum;
 use plan::NodeId;
 
 impl<T: Minimum> Board<T> {
-    /// The place of a node on a worker at which a bundle waits: its first port, or if nothing waits there, its
-    /// second. `None` if no bundle waits at any port. Takes no memory, and constant time.
+    /// The place of a node on a worker at which a bundle waits: its first port, or if nothing waits
+    /// there, its second. `None` if no bundle waits at any port. Takes no memory, and constant
+    /// time.
     pub fn waiting_at(&self, node: NodeId, worker: usize) -> Option<Site>
         ensures node { IfSome result (λ site. site.node ≡ node) }
         ensures worker { IfSome result (λ site. site.worker ≡ worker) }

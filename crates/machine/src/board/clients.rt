@@ -1,6 +1,6 @@
-//! The events of clients: changes of the inputs' tables, and moves of the inputs' frontiers. If a change may not be
-//! fed, or a frontier would go back, the call is refused and the event is a look. The history then shows that the
-//! client was there and did nothing.
+//! The events of clients: changes of the inputs' tables, and moves of the inputs' frontiers. If a
+//! change may not be fed, or a frontier would go back, the call is refused and the event is a look.
+//! The history then shows that the client was there and did nothing.
 ghost use Rattle.std.specs.Prelude.{◌≡◌, ◌<◌, ◌≤◌, ◌+◌, List, [], ◌∷◌, None, Some, IfErr, IfOk, OnErr, OnOk, length};
 ghost use Rattle.update.specs.declared.refusal.Refusal.TheVariants.{OutOfMemory};
 ghost use Rattle.update.specs.Refusals.{IsRefusalBy};
@@ -20,12 +20,15 @@ use std::snapshot::Snapshot;
 use update::{Refusal, Times, Update};
 
 impl<T: Minimum> Board<T> {
-    /// A client changes an input's table. The change goes to the input on the worker of its whole row.
+    /// A client changes an input's table. The change goes to the input on the worker of its whole
+    /// row.
     ///
-    /// Refused first with what [`InputFrontiers::feed_refusal`](crate::InputFrontiers::feed_refusal) answers, then
-    /// with `OutOfMemory`. After a refusal the event is a look, and nothing else changes.
+    /// Refused first with what
+    /// [`InputFrontiers::feed_refusal`](crate::InputFrontiers::feed_refusal) answers, then with
+    /// `OutOfMemory`. After a refusal the event is a look, and nothing else changes.
     ///
-    /// Cost: linear in the elements of the input's frontier, apart from the queue's growth now and then.
+    /// Cost: linear in the elements of the input's frontier, apart from the queue's growth now and
+    /// then.
     pub fn feed(&mut self, client: usize, input: NodeId, update: Update<T>) -> Result<(), Refusal>
         requires client { self.old.dataflow.workers ≤ client }
         requires input { IsInput self.old.dataflow input }
@@ -109,11 +112,11 @@ impl<T: Minimum> Board<T> {
         self.stations.put(&site, Parcel::Change(update))
     }
 
-    /// A client moves an input's frontier forward. From then on no change may be fed at a time that is not beyond it.
-    /// With no times the input is closed.
+    /// A client moves an input's frontier forward. From then on no change may be fed at a time that
+    /// is not beyond it. With no times the input is closed.
     ///
-    /// Refused only with `NotForward`, if one of the times is not beyond the old frontier. Takes no memory. After a
-    /// refusal the event is a look, and nothing else changes.
+    /// Refused only with `NotForward`, if one of the times is not beyond the old frontier. Takes no
+    /// memory. After a refusal the event is a look, and nothing else changes.
     ///
     /// Cost: the product of the times and the elements of the input's old frontier.
     pub fn advance(&mut self, client: usize, input: NodeId, times: Times<T>) -> Result<(), Refusal>
@@ -153,7 +156,8 @@ impl<T: Minimum> Board<T> {
         }
     }
 
-    /// A client closes an input: from then on no change may be fed there. Never refused. Takes no memory.
+    /// A client closes an input: from then on no change may be fed there. Never refused. Takes no
+    /// memory.
     pub fn close(&mut self, client: usize, input: NodeId)
         requires client { self.old.dataflow.workers ≤ client }
         requires input { IsInput self.old.dataflow input }

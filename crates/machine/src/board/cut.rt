@@ -1,9 +1,10 @@
-//! Cuts what a worker gave into bundles along an edge, one for each worker that gets something. Into an arrange node,
-//! an update goes to the worker of its key. Along every other edge it stays on its worker.
+//! Cuts what a worker gave into bundles along an edge, one for each worker that gets something.
+//! Into an arrange node, an update goes to the worker of its key. Along every other edge it stays
+//! on its worker.
 //!
-//! No bundle is empty. So each bundle that waits is work to do, and no more is sent than there is. The clauses say
-//! which bundles there are and in which order they are made. `give` relies only on each place getting exactly its
-//! share, in bundles that are stamped and not empty.
+//! No bundle is empty. So each bundle that waits is work to do, and no more is sent than there is.
+//! The clauses say which bundles there are and in which order they are made. `give` relies only on
+//! each place getting exactly its share, in bundles that are stamped and not empty.
 ghost use Rattle.std.specs.Prelude.{◌≡◌, ◌<◌, ◌≤◌, ◌++◌, IfErr, IfOk, OnOk, get_or, length, replicate, take, ℕ, []};
 ghost use Rattle.update.specs.declared.refusal.Refusal.TheVariants.{OutOfMemory};
 ghost use Rattle.machine.specs.Histories.States.{place};

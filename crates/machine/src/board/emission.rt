@@ -1,5 +1,5 @@
-//! The event by which a worker gives what it computed. The updates go on to the next nodes; at a view they are
-//! captured.
+//! The event by which a worker gives what it computed. The updates go on to the next nodes; at a
+//! view they are captured.
 ghost use Rattle.std.specs.Prelude.{◌≡◌, ◌<◌, List, ◌∷◌, None, if◌then◌else◌, IfErr, OnErr, OnOk, length};
 ghost use Rattle.machine.specs.declared.histories.event.Event.{Event};
 ghost use Rattle.machine.specs.Boards.Stations.{lots, HasRoomFor};
@@ -26,25 +26,26 @@ pub struct Ungiven<T> {
 }
 
 impl<T: Minimum> Board<T> {
-    /// A worker gives what it computed at the node that it has in hand: the updates, the times that it holds there
-    /// from then on, and the bundles that are sent. After that it has nothing in hand. If the node is a view, the
-    /// updates are captured.
+    /// A worker gives what it computed at the node that it has in hand: the updates, the times that
+    /// it holds there from then on, and the bundles that are sent. After that it has nothing in
+    /// hand. If the node is a view, the updates are captured.
     ///
     /// The board stands for that event if the event is allowed. It is allowed if all of this holds:
     ///
     /// - The worker has the node in hand.
-    /// - All times that are given, held and stamped are beyond the times that the worker held, and each bundle's
-    ///   times are beyond its stamp.
+    /// - All times that are given, held and stamped are beyond the times that the worker held, and
+    ///   each bundle's times are beyond its stamp.
     /// - The node law and the load rule hold after it.
     /// - Each place is sent exactly its share, and no bundle is empty.
     ///
-    /// The board tests none of this. It could not test the two rules, since nothing on it tells what the worker
-    /// received.
+    /// The board tests none of this. It could not test the two rules, since nothing on it tells
+    /// what the worker received.
     ///
-    /// Refused only if memory runs out. Then all arguments come back, the event is a look, and nothing else changes.
+    /// Refused only if memory runs out. Then all arguments come back, the event is a look, and
+    /// nothing else changes.
     ///
-    /// Cost: linear in the bundles that are sent, and at a view in the updates, which are appended. Nothing is
-    /// copied: what is given, held and sent moves.
+    /// Cost: linear in the bundles that are sent, and at a view in the updates, which are appended.
+    /// Nothing is copied: what is given, held and sent moves.
     pub fn give(
         &mut self,
         emission: Emission<T>,
@@ -93,7 +94,8 @@ impl<T: Minimum> Board<T> {
         }
     }
 
-    // Does all that `give` does, except that it does not record the event. What is given moves to where it goes.
+    // Does all that `give` does, except that it does not record the event. What is given moves to
+    // where it goes.
     fn try_give(
         &mut self,
         mut emission: Emission<T>,
@@ -134,7 +136,8 @@ impl<T: Minimum> Board<T> {
     }
 }
 
-// The part of a give that may be refused: it reserves room for the bundles, and captures the updates at a view.
+// The part of a give that may be refused: it reserves room for the bundles, and captures the
+// updates at a view.
 fn prepare<T: Minimum>(
     stations: &mut Stations<T>,
     views: &mut Vec<View<T>>,

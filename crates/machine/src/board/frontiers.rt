@@ -1,6 +1,6 @@
-//! Frontiers, found on a board from scratch: from what is in flight, what is held and what the inputs leave open, at
-//! a node or above it, on every worker. Between two questions nothing is kept except the plan's graph, which never
-//! changes. So nothing can be out of date.
+//! Frontiers, found on a board from scratch: from what is in flight, what is held and what the
+//! inputs leave open, at a node or above it, on every worker. Between two questions nothing is kept
+//! except the plan's graph, which never changes. So nothing can be out of date.
 ghost use Rattle.std.specs.Prelude.{List, ◌≡◌, ◌<◌, ◌++◌, ◌&&◌, not, eqb, if◌then◌else◌, [], IfErr, IfOk, OnOk, length};
 ghost use Rattle.std.specs.List.{flat_map, list_any};
 ghost use Rattle.lattice.specs.Frontiers.{is_beyond};
@@ -203,10 +203,11 @@ fn least_of<T: Minimum>(alloc: Global, times: Vec<T>) -> Result<Antichain<T>, Re
 }
 
 impl<T: Minimum> Board<T> {
-    /// Whether the frontier of a node has passed a time: nothing that is in flight, held or open at the node or above
-    /// it is at or before the time. Takes no memory.
+    /// Whether the frontier of a node has passed a time: nothing that is in flight, held or open at
+    /// the node or above it is at or before the time. Takes no memory.
     ///
-    /// Cost: linear in the nodes times the workers, and in what is in flight, held and open at the node or above it.
+    /// Cost: linear in the nodes times the workers, and in what is in flight, held and open at the
+    /// node or above it.
     pub fn has_passed(&mut self, node: NodeId, t: &T) -> bool
         requires { node < length self.old.dataflow.nodes }
         ensures kept { self.new ≡ self.old }
@@ -227,10 +228,11 @@ impl<T: Minimum> Board<T> {
         !(self.is_in_flight(node, t) | self.is_held(node, t) | self.is_open(node, t))
     }
 
-    /// Whether the input frontier of a node has passed a time. If it has, nothing more comes to the node at or before
-    /// that time. Takes no memory.
+    /// Whether the input frontier of a node has passed a time. If it has, nothing more comes to the
+    /// node at or before that time. Takes no memory.
     ///
-    /// Cost: linear in the nodes times the workers, and in what is in flight, held and open at the node or above it.
+    /// Cost: linear in the nodes times the workers, and in what is in flight, held and open at the
+    /// node or above it.
     pub fn input_has_passed(&mut self, node: NodeId, t: &T) -> bool
         requires { node < length self.old.dataflow.nodes }
         ensures kept { self.new ≡ self.old }
@@ -293,10 +295,11 @@ impl<T: Minimum> Board<T> {
         are_open(&self.plan, &self.inputs, node, t)
     }
 
-    /// The frontier of a node: the least of the times that are in flight, held or open at the node or above it.
-    /// Refused only with `OutOfMemory`.
+    /// The frontier of a node: the least of the times that are in flight, held or open at the node
+    /// or above it. Refused only with `OutOfMemory`.
     ///
-    /// Cost: that of [`Board::has_passed`], and a comparison of each of the times with the elements of the frontier.
+    /// Cost: that of [`Board::has_passed`], and a comparison of each of the times with the elements
+    /// of the frontier.
     pub fn frontier(&mut self, node: NodeId) -> Result<Antichain<T>, Refusal>
         requires { node < length self.old.dataflow.nodes }
         ensures kept { self.new ≡ self.old }
@@ -328,9 +331,9 @@ impl<T: Minimum> Board<T> {
         least_of(*self.hand.allocator(), times)
     }
 
-    /// The input frontier of a node: updates may still come to it at times beyond this frontier. It is the least of
-    /// the times that are in flight or open at the node or above it, or held above it. Refused only with
-    /// `OutOfMemory`.
+    /// The input frontier of a node: updates may still come to it at times beyond this frontier. It
+    /// is the least of the times that are in flight or open at the node or above it, or held above
+    /// it. Refused only with `OutOfMemory`.
     ///
     /// Cost: that of [`Board::frontier`].
     pub fn input_frontier(&mut self, node: NodeId) -> Result<Antichain<T>, Refusal>
@@ -398,8 +401,8 @@ impl<T: Minimum> Board<T> {
         Ok(times)
     }
 
-    /// Whether a worker holds a time at a node that the node's input frontier has passed. If so, it may turn to the
-    /// node by [`Board::take_held`]. Takes no memory.
+    /// Whether a worker holds a time at a node that the node's input frontier has passed. If so, it
+    /// may turn to the node by [`Board::take_held`]. Takes no memory.
     ///
     /// Cost: that of [`Board::input_has_passed`], for each time that the worker holds at the node.
     pub fn is_ready(&mut self, worker: usize, node: NodeId) -> bool

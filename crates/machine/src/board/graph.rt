@@ -1,6 +1,6 @@
-//! A plan and its ancestors. Each question about a frontier asks of every node whether it is above another one. To
-//! answer it from the plan, one would go over the plan each time. So the ancestors are found once, and an answer
-//! takes two steps into a table.
+//! A plan and its ancestors. Each question about a frontier asks of every node whether it is above
+//! another one. To answer it from the plan, one would go over the plan each time. So the ancestors
+//! are found once, and an answer takes two steps into a table.
 ghost use Rattle.std.specs.Prelude.{◌≡◌, ◌<◌, ◌≤◌, IfErr, IfOk, false, get_or, length, map};
 ghost use Rattle.std.specs.List.{list_any};
 ghost use Rattle.update.specs.declared.refusal.Refusal.TheVariants.{OutOfMemory};
@@ -96,8 +96,8 @@ impl Graph {
         self.plan.node(id)
     }
 
-    /// Whether the first node is the second or an ancestor of it; `false` if the first number is no node's. Takes no
-    /// memory, and constant time.
+    /// Whether the first node is the second or an ancestor of it; `false` if the first number is no
+    /// node's. Takes no memory, and constant time.
     pub(crate) fn reaches(&self, above: NodeId, node: NodeId) -> bool
         requires { node < length self.now }
         ensures { result ≡ reaches self.now above node }
@@ -106,8 +106,8 @@ impl Graph {
     }
 }
 
-// By node, its ancestors. Sources have smaller numbers, so a node's ancestors are found from those of the nodes
-// before it.
+// By node, its ancestors. Sources have smaller numbers, so a node's ancestors are found from those
+// of the nodes before it.
 fn all_ancestors(alloc: Global, plan: &Plan) -> Result<Vec<Ancestors>, Refusal>
     ensures above { IfOk result (λ above. above.items ≡ all_ancestors plan.now) }
     ensures plan { IsPlan plan.now }

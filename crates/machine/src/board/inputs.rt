@@ -1,8 +1,10 @@
-//! The frontiers of a dataflow's inputs, one for each input: changes may still be fed at times beyond it.
+//! The frontiers of a dataflow's inputs, one for each input: changes may still be fed at times
+//! beyond it.
 //!
-//! A board keeps these frontiers, and so does a run that accepts changes without a board. The tests that refuse a
-//! change or a frontier stand here alone, so that both refuse alike. A frontier only moves forward: each of its new
-//! times is beyond the old frontier. An input whose frontier has no times is closed.
+//! A board keeps these frontiers, and so does a run that accepts changes without a board. The tests
+//! that refuse a change or a frontier stand here alone, so that both refuse alike. A frontier only
+//! moves forward: each of its new times is beyond the old frontier. An input whose frontier has no
+//! times is closed.
 ghost use Rattle.std.specs.Prelude.{◌≡◌, ◌<◌, IfErr, IfOk, OnOk, OnErr, None, Some, List, [], ◌∷◌, if◌then◌else◌, length, set};
 ghost use Rattle.lattice.specs.Frontiers.{is_beyond};
 ghost use Rattle.update.specs.declared.refusal.Refusal.TheVariants.{OutOfMemory};
@@ -23,8 +25,8 @@ pub const MAX_CHANGES: usize = 1_048_576;
 /// The largest absolute difference of a change.
 pub const MAX_DIFFERENCE: u64 = 2_147_483_647;
 
-/// The frontiers of the inputs of a plan. A contract sees the list of them, by node. It has no times for an input
-/// that is closed, and none for a node that is no input.
+/// The frontiers of the inputs of a plan. A contract sees the list of them, by node. It has no
+/// times for an input that is closed, and none for a node that is no input.
 #[derive(Drop)]
 pub struct InputFrontiers<T> {
     by_node: Vec<Times<T>>,
@@ -39,7 +41,8 @@ impl<T> Model for InputFrontiers<T> {
 }
 
 impl<T: Minimum> InputFrontiers<T> {
-    /// The frontiers before anything has happened: each input's is the least time. Refused only with `OutOfMemory`.
+    /// The frontiers before anything has happened: each input's is the least time. Refused only
+    /// with `OutOfMemory`.
     ///
     /// Cost: linear in the nodes.
     pub fn first(alloc: Global, plan: &Plan) -> Result<InputFrontiers<T>, Refusal>
@@ -61,8 +64,8 @@ impl<T: Minimum> InputFrontiers<T> {
         self.by_node[input.number()].as_slice()
     }
 
-    /// Whether a change may still be fed at a time, that is, whether the time is beyond the input's frontier. Takes
-    /// no memory.
+    /// Whether a change may still be fed at a time, that is, whether the time is beyond the input's
+    /// frontier. Takes no memory.
     ///
     /// Cost: linear in the elements of the frontier.
     pub fn is_open(&self, input: NodeId, t: &T) -> bool
@@ -72,8 +75,8 @@ impl<T: Minimum> InputFrontiers<T> {
         is_beyond(self.of(input), t)
     }
 
-    /// The refusal of a change, given how many changes the input has taken; `None` if the change is accepted. Takes
-    /// no memory.
+    /// The refusal of a change, given how many changes the input has taken; `None` if the change is
+    /// accepted. Takes no memory.
     ///
     /// The refusals, in the order in which they are tested:
     ///
@@ -113,8 +116,9 @@ impl<T: Minimum> InputFrontiers<T> {
         }
     }
 
-    /// Moves an input's frontier forward to these times; with no times the input is closed. Refused only with
-    /// `NotForward`, if one of the times is not beyond the old frontier; then nothing changes. Takes no memory.
+    /// Moves an input's frontier forward to these times; with no times the input is closed. Refused
+    /// only with `NotForward`, if one of the times is not beyond the old frontier; then nothing
+    /// changes. Takes no memory.
     ///
     /// Cost: the product of the times and the elements of the old frontier.
     pub fn advance(&mut self, input: NodeId, times: Times<T>) -> Result<(), Refusal>
@@ -151,7 +155,8 @@ impl<T: Minimum> InputFrontiers<T> {
     }
 }
 
-// The frontier of a node before anything has happened: the least time at an input, no times elsewhere.
+// The frontier of a node before anything has happened: the least time at an input, no times
+// elsewhere.
 fn first_frontier<T: Minimum>(alloc: Global, is_input: bool) -> Result<Times<T>, Refusal>
     ensures first { IfOk result (λ times. times ≡ (if is_input then T.least ∷ [] else [])) }
     ensures refused { IfErr result (λ refusal. refusal ≡ OutOfMemory) }

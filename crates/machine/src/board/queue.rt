@@ -1,7 +1,8 @@
 //! The queue of a place on a board: what waits there, the oldest first.
 //!
-//! Each place has a queue of its own, so a bundle is put and taken without a look at any other. A change that was fed
-//! waits as it is, with no block of memory of its own, since a million changes may wait.
+//! Each place has a queue of its own, so a bundle is put and taken without a look at any other. A
+//! change that was fed waits as it is, with no block of memory of its own, since a million changes
+//! may wait.
 ghost use Rattle.std.specs.Prelude.{◌≡◌, ◌<◌, ◌≤◌, ◌+◌, ◌++◌, List, [], ◌∷◌, Some, IfErr, IfOk, OnErr, OnOk, length, slice_get};
 ghost use Rattle.std.specs.List.{remove, flat_map};
 ghost use Rattle.lattice.specs.Frontiers.{is_beyond};
@@ -26,13 +27,14 @@ pub(crate) enum Parcel<T> {
     Sent(Updates<T>, Times<T>),
 }
 
-/// What waits at a place, the oldest first. A contract sees the loads, and the number of further loads for which room
-/// is reserved.
+/// What waits at a place, the oldest first. A contract sees the loads, and the number of further
+/// loads for which room is reserved.
 #[derive(Drop)]
 pub(crate) struct Queue<T> {
     parcels: VecDeque<Parcel<T>>,
-    // This many more loads fit without allocating. A give reserves room for each of its bundles before it puts any.
-    // Without this number, the second bundle for a place would count on the room of the first.
+    // This many more loads fit without allocating. A give reserves room for each of its bundles
+    // before it puts any. Without this number, the second bundle for a place would count on the
+    // room of the first.
     reserved: usize,
 }
 
@@ -66,8 +68,8 @@ impl<T: Minimum> Queue<T> {
         self.parcels.len()
     }
 
-    /// Appends a parcel, and gives up any reserved room. Refused only with `OutOfMemory`; then the loads stay as they
-    /// are.
+    /// Appends a parcel, and gives up any reserved room. Refused only with `OutOfMemory`; then the
+    /// loads stay as they are.
     ///
     /// Cost: constant, apart from the queue's growth now and then.
     pub(crate) fn push(&mut self, parcel: Parcel<T>) -> Result<(), Refusal>
@@ -80,8 +82,8 @@ impl<T: Minimum> Queue<T> {
         Ok(())
     }
 
-    /// Reserves room for one more load. Refused only with `OutOfMemory`; then the loads and the room stay as they
-    /// are.
+    /// Reserves room for one more load. Refused only with `OutOfMemory`; then the loads and the
+    /// room stay as they are.
     ///
     /// Cost: constant, apart from the queue's growth now and then.
     pub(crate) fn reserve(&mut self) -> Result<(), Refusal>
@@ -113,11 +115,12 @@ impl<T: Minimum> Queue<T> {
         self.reserved = 0;
     }
 
-    /// Takes the load of a number, from 0, out of the queue, and appends its stamp to `held`. Refused only with
-    /// `OutOfMemory`; then nothing changes. It may allocate since a change gets lists of its own only now, and since
-    /// `held` may have to grow.
+    /// Takes the load of a number, from 0, out of the queue, and appends its stamp to `held`.
+    /// Refused only with `OutOfMemory`; then nothing changes. It may allocate since a change gets
+    /// lists of its own only now, and since `held` may have to grow.
     ///
-    /// Cost: linear in the stamp, and in the number of loads before it or behind it, whichever is smaller.
+    /// Cost: linear in the stamp, and in the number of loads before it or behind it, whichever is
+    /// smaller.
     pub(crate) fn take(
         &mut self,
         number: usize,
@@ -184,8 +187,8 @@ impl<T: Minimum> Parcel<T> {
         Ok(Parcel::Sent(updates.into(), stamp.into()))
     }
 
-    // Turns a waiting change, in its place, into the form that a worker would send. What a worker sent stays as it
-    // is.
+    // Turns a waiting change, in its place, into the form that a worker would send. What a worker
+    // sent stays as it is.
     fn unpack(&mut self, alloc: Global) -> Result<(), Refusal>
         ensures sent { OnOk result ((updates : List (Update T)) × ((stamp : List T)
             × (self.new ≡ Sent updates stamp))) }

@@ -1,6 +1,7 @@
-//! What a client reads on a board: a view's rows at a time, its changes, and whether the board is quiet. (Frontiers
-//! are found in `frontiers`.) Each answer is a function of what lies on the board at one moment, so rows and frontier
-//! belong to one history. Each contract says what the answer is for every history that the board may stand for.
+//! What a client reads on a board: a view's rows at a time, its changes, and whether the board is
+//! quiet. (Frontiers are found in `frontiers`.) Each answer is a function of what lies on the board
+//! at one moment, so rows and frontier belong to one history. Each contract says what the answer is
+//! for every history that the board may stand for.
 ghost use Rattle.std.specs.Prelude.{◌≡◌, ◌<◌, ◌↔◌, ◌&&◌, None, not, List, [], IfErr, IfOk, OnOk, IsTrue, length};
 ghost use Rattle.std.specs.List.{filter, list_all};
 ghost use Rattle.lattice.specs.Frontiers.{is_beyond};
@@ -95,7 +96,8 @@ impl<T: Minimum> Board<T> {
         self.views[view.number()].captured()
     }
 
-    /// A view's rows at a time: the query, computed from scratch, on the changes fed up to that time.
+    /// A view's rows at a time: the query, computed from scratch, on the changes fed up to that
+    /// time.
     ///
     /// The refusals, in the order in which they are tested:
     ///
@@ -106,9 +108,10 @@ impl<T: Minimum> Board<T> {
     /// | `OutOfMemory` | an allocation was refused |
     /// | `Overflow` | a row's count does not fit in 64 bits |
     ///
-    /// Cost: that of [`Board::has_passed`], and linear in the rows at the time. Besides, if the view's last read was
-    /// at or before this time, linear in what was captured since and in what that read knew but left out; otherwise
-    /// linear in all that the view captured. The updates that come in are sorted.
+    /// Cost: that of [`Board::has_passed`], and linear in the rows at the time. Besides, if the
+    /// view's last read was at or before this time, linear in what was captured since and in what
+    /// that read knew but left out; otherwise linear in all that the view captured. The updates
+    /// that come in are sorted.
     pub fn read(&mut self, view: NodeId, t: T) -> Result<Bag, Refusal>
         requires within { view < length self.old.dataflow.nodes }
         requires view { IsTrue (is_output (node_of self.old.dataflow view)) }
@@ -166,16 +169,16 @@ impl<T: Minimum> Board<T> {
         }
     }
 
-    /// A view's changes: the one consolidated list of updates at times that its frontier has passed. At each passed
-    /// time the list sums to the query, computed from scratch, on the changes fed up to that time. It is sorted by
-    /// time, then by row.
+    /// A view's changes: the one consolidated list of updates at times that its frontier has
+    /// passed. At each passed time the list sums to the query, computed from scratch, on the
+    /// changes fed up to that time. It is sorted by time, then by row.
     ///
-    /// Refused with `GivenUp` if the least time is not beyond the view's since, for then the times of some changes
-    /// may be lost; otherwise with `OutOfMemory` if an allocation was refused, and with `Overflow` if the total of a
-    /// row at some time does not fit in 64 bits.
+    /// Refused with `GivenUp` if the least time is not beyond the view's since, for then the times
+    /// of some changes may be lost; otherwise with `OutOfMemory` if an allocation was refused, and
+    /// with `Overflow` if the total of a row at some time does not fit in 64 bits.
     ///
-    /// Cost: that of [`Board::frontier`], one pass over what the view captured, and a sort of the updates at passed
-    /// times.
+    /// Cost: that of [`Board::frontier`], one pass over what the view captured, and a sort of the
+    /// updates at passed times.
     pub fn changes(&mut self, view: NodeId) -> Result<Vec<Update<T>>, Refusal>
         requires within { view < length self.old.dataflow.nodes }
         requires view { IsTrue (is_output (node_of self.old.dataflow view)) }
@@ -190,7 +193,8 @@ impl<T: Minimum> Board<T> {
         self.passed_changes(view)
     }
 
-    // What the view captured at passed times, consolidated. `changes` adds that it is the list of differences.
+    // What the view captured at passed times, consolidated. `changes` adds that it is the list of
+    // differences.
     fn passed_changes(&self, view: NodeId) -> Result<Vec<Update<T>>, Refusal>
         requires within { view < length self.now.dataflow.nodes }
         ensures accepted { OnOk result (changes_refusal_on T.below T.least self.now view ≡ None) }
@@ -264,11 +268,12 @@ impl<T: Minimum> Board<T> {
         )
     }
 
-    /// Whether the board is quiet: nothing is in flight, no worker has a piece in hand, and each held time could
-    /// still receive input at or before it. Then each node's frontier is the least of the frontiers of the inputs
-    /// that feed it. Takes no memory.
+    /// Whether the board is quiet: nothing is in flight, no worker has a piece in hand, and each
+    /// held time could still receive input at or before it. Then each node's frontier is the least
+    /// of the frontiers of the inputs that feed it. Takes no memory.
     ///
-    /// Cost: linear in the nodes times the workers, and that of [`Board::input_has_passed`] for each held time.
+    /// Cost: linear in the nodes times the workers, and that of [`Board::input_has_passed`] for
+    /// each held time.
     pub fn is_quiet(&mut self) -> bool
         ensures kept { self.new ≡ self.old }
         ensures value { result ≡ is_quiet_board T.below self.old }
@@ -286,7 +291,8 @@ impl<T: Minimum> Board<T> {
         self.stations.is_empty() && are_free(&self.hand) && self.all_wait()
     }
 
-    // Whether each held time could still receive input: its node's input frontier has not passed it.
+    // Whether each held time could still receive input: its node's input frontier has not passed
+    // it.
     fn all_wait(&self) -> bool
         ensures { result ≡ all_wait T.below self.now }
     {

@@ -1,5 +1,6 @@
-//! Routing: where the updates go that a node gives. This depends on the plan and the number of workers alone. So the
-//! edges from each node are found once, and a cut goes only along the edges of its own node. It needs no board.
+//! Routing: where the updates go that a node gives. This depends on the plan and the number of
+//! workers alone. So the edges from each node are found once, and a cut goes only along the edges
+//! of its own node. It needs no board.
 ghost use Rattle.std.specs.Prelude.{◌≡◌, ◌<◌, ◌≤◌, ◌++◌, ◌&&◌, List, IfErr, IfOk, OnOk, IsTrue, eqb, length, map, not};
 ghost use Rattle.std.specs.List.{list_all};
 ghost use Rattle.lattice.specs.Frontiers.{all_beyond};
@@ -47,8 +48,8 @@ impl Edges {
     }
 }
 
-/// Where the updates go that a node gives: the edges of a plan, and which nodes are arranged. A contract sees the
-/// plan and the number of workers.
+/// Where the updates go that a node gives: the edges of a plan, and which nodes are arranged. A
+/// contract sees the plan and the number of workers.
 #[derive(Drop)]
 pub struct Routing {
     // For clauses alone: it has no bytes.
@@ -93,14 +94,15 @@ impl Routing {
         })
     }
 
-    /// Cuts what a worker gave into bundles. Along each edge from the node, each worker gets its share in one bundle,
-    /// and no bundle is empty. A bundle's stamp is the frontier of its times. So if each time of the emission is
-    /// beyond the times that the giver held, so is each stamp.
+    /// Cuts what a worker gave into bundles. Along each edge from the node, each worker gets its
+    /// share in one bundle, and no bundle is empty. A bundle's stamp is the frontier of its times.
+    /// So if each time of the emission is beyond the times that the giver held, so is each stamp.
     ///
     /// Refused only with `OutOfMemory`.
     ///
-    /// Cost: for each edge from the node, linear in the updates given, and in the workers if the edge leads into an
-    /// arrange node. Besides, for each bundle, the product of its updates and the elements of its stamp.
+    /// Cost: for each edge from the node, linear in the updates given, and in the workers if the
+    /// edge leads into an arrange node. Besides, for each bundle, the product of its updates and
+    /// the elements of its stamp.
     pub fn cut<T: Minimum>(
         &self,
         alloc: Global,

@@ -1,7 +1,8 @@
-//! The stations of a board. A station is what lies at a node for one worker: the bundles that wait at both ports, and
-//! the times that the worker holds there.
+//! The stations of a board. A station is what lies at a node for one worker: the bundles that wait
+//! at both ports, and the times that the worker holds there.
 //!
-//! A place is found by its numbers, so an event there costs the same however much waits anywhere else.
+//! A place is found by its numbers, so an event there costs the same however much waits anywhere
+//! else.
 ghost use Rattle.std.specs.Prelude.{◌≡◌, ◌<◌, ◌&&◌, ℕ, suc, eqb, false, Some, IfErr, IfOk, IfSome, OnErr, OnOk, length, slice_get, map, replicate};
 ghost use Rattle.std.specs.List.{All};
 ghost use Rattle.update.specs.declared.refusal.Refusal.TheVariants.{OutOfMemory};
@@ -18,8 +19,8 @@ use std::alloc::Global;
 use std::marker::Model;
 use update::{Refusal, Times, Updates};
 
-// A worker that held at most this many times at a node keeps the list's memory when it holds none any more. A longer
-// list is freed.
+// A worker that held at most this many times at a node keeps the list's memory when it holds none
+// any more. A longer list is freed.
 const MAX_KEPT: usize = 64;
 
 /// What lies at a node for a worker.
@@ -95,8 +96,8 @@ impl<T: Minimum> Station<T> {
         self.right.release();
     }
 
-    // Puts a load at a port that has room for it, behind the others. The port's room shrinks by one, and no other
-    // port loses room.
+    // Puts a load at a port that has room for it, behind the others. The port's room shrinks by
+    // one, and no other port loses room.
     fn put_reserved(&mut self, port: usize, parcel: Parcel<T>)
         requires { has_room port 1 self.old }
         ensures put { lot self.new ≡ with_load_at port (load_of parcel) (lot self.old) }
@@ -128,8 +129,8 @@ impl<T: Minimum> Station<T> {
         }
     }
 
-    // The worker holds these times from now on, and no other. If there are none, a short list keeps its memory, since
-    // the next stamp goes there.
+    // The worker holds these times from now on, and no other. If there are none, a short list keeps
+    // its memory, since the next stamp goes there.
     fn hold(&mut self, times: Times<T>)
         ensures { lot self.new ≡ record (lot self.old) { held = times } }
     {
@@ -193,8 +194,8 @@ impl<T: Minimum> Row<T> {
         }
     }
 
-    // Puts a load at a worker's port that has room for it, behind the others; drops it if there is no such worker.
-    // The port's room shrinks by one, and no other port loses room.
+    // Puts a load at a worker's port that has room for it, behind the others; drops it if there is
+    // no such worker. The port's room shrinks by one, and no other port loses room.
     fn put_reserved(&mut self, worker: usize, port: usize, parcel: Parcel<T>)
         requires { RowHasRoom worker port 1 self.old }
         ensures put { map lot self.new
@@ -228,7 +229,8 @@ impl<T: Minimum> Row<T> {
         self.by_worker[worker].take(port, number)
     }
 
-    // A worker holds these times from now on, and no other. Nothing changes if there is no such worker.
+    // A worker holds these times from now on, and no other. Nothing changes if there is no such
+    // worker.
     fn hold(&mut self, worker: usize, times: Times<T>)
         ensures { map lot self.new
             ≡ at_worker worker (λ l. record l { held = times }) (map lot self.old) }
@@ -255,7 +257,8 @@ impl<T> Model for Stations<T> {
 }
 
 impl<T: Minimum> Stations<T> {
-    /// The stations of this many nodes and workers, at which nothing lies. Refused only with `OutOfMemory`.
+    /// The stations of this many nodes and workers, at which nothing lies. Refused only with
+    /// `OutOfMemory`.
     ///
     /// Cost: linear in the stations.
     pub(crate) fn first(alloc: Global, nodes: usize, workers: usize) -> Result<Stations<T>, Refusal>
@@ -269,8 +272,8 @@ impl<T: Minimum> Stations<T> {
         Ok(Stations { by_node })
     }
 
-    /// Puts a change, or what a worker sent, at a place; drops it if there is no such place. Refused only with
-    /// `OutOfMemory`, and then nothing changes.
+    /// Puts a change, or what a worker sent, at a place; drops it if there is no such place.
+    /// Refused only with `OutOfMemory`, and then nothing changes.
     ///
     /// Cost: constant, apart from the queue's growth now and then.
     pub(crate) fn put(&mut self, site: &Site, parcel: Parcel<T>) -> Result<(), Refusal>
@@ -286,11 +289,11 @@ impl<T: Minimum> Stations<T> {
         self.by_node[node].put(site.worker, site.port, parcel)
     }
 
-    /// Reserves room at each place for the bundles of the list that go there. Refused only with `OutOfMemory`. Some
-    /// room may then be reserved already; [`Stations::release`] gives it up.
+    /// Reserves room at each place for the bundles of the list that go there. Refused only with
+    /// `OutOfMemory`. Some room may then be reserved already; [`Stations::release`] gives it up.
     ///
-    /// Cost: linear in the bundles, apart from the queues' growth now and then. Memory: one slot for each bundle, at
-    /// its own place alone, and what a growing queue takes ahead.
+    /// Cost: linear in the bundles, apart from the queues' growth now and then. Memory: one slot
+    /// for each bundle, at its own place alone, and what a growing queue takes ahead.
     pub(crate) fn reserve(&mut self, sent: &[Bundle<T>]) -> Result<(), Refusal>
         ensures unchanged { lots self.new ≡ lots self.old }
         ensures room { OnOk result (HasRoomFor sent.now self.new) }
@@ -317,8 +320,8 @@ impl<T: Minimum> Stations<T> {
         self.by_node[node].reserve(site.worker, site.port)
     }
 
-    /// Gives up the reserved room at the places of these bundles. So a give that was refused leaves no reservation
-    /// behind that a later one would add to. Takes no memory.
+    /// Gives up the reserved room at the places of these bundles. So a give that was refused leaves
+    /// no reservation behind that a later one would add to. Takes no memory.
     ///
     /// Cost: linear in the bundles.
     pub(crate) fn release(&mut self, sent: &[Bundle<T>])
@@ -359,8 +362,8 @@ impl<T: Minimum> Stations<T> {
         }
     }
 
-    // Puts a load at a place that has room for it, behind the others; drops it if there is no such place. The place's
-    // room shrinks by one, and no other place loses room.
+    // Puts a load at a place that has room for it, behind the others; drops it if there is no such
+    // place. The place's room shrinks by one, and no other place loses room.
     fn put_reserved(&mut self, site: &Site, parcel: Parcel<T>)
         requires { HasRoom 1 self.old site.now }
         ensures put { lots self.new ≡ put_at site.now (load_of parcel) (lots self.old) }
@@ -374,10 +377,11 @@ impl<T: Minimum> Stations<T> {
         }
     }
 
-    /// Takes the bundle of a number, from 0, from its place. The worker then holds its stamp there. Refused only with
-    /// `OutOfMemory`, and then nothing changes.
+    /// Takes the bundle of a number, from 0, from its place. The worker then holds its stamp there.
+    /// Refused only with `OutOfMemory`, and then nothing changes.
     ///
-    /// Cost: linear in the stamp, and in the number of bundles before it or behind it, whichever is smaller.
+    /// Cost: linear in the stamp, and in the number of bundles before it or behind it, whichever is
+    /// smaller.
     pub(crate) fn take(&mut self, site: &Site, number: usize) -> Result<Bundle<T>, Refusal>
         requires { number < length (queue_of (lots self.old) site.now) }
         ensures waited { IfOk result (λ bundle.
@@ -397,8 +401,8 @@ impl<T: Minimum> Stations<T> {
         })
     }
 
-    /// A worker holds these times at a node from now on, and no other. Nothing changes if there is no such node.
-    /// Takes no memory.
+    /// A worker holds these times at a node from now on, and no other. Nothing changes if there is
+    /// no such node. Takes no memory.
     pub(crate) fn hold(&mut self, node: NodeId, worker: usize, times: Times<T>)
         ensures { lots self.new ≡ held_from node worker times (lots self.old) }
     {

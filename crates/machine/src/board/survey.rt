@@ -1,5 +1,5 @@
-//! What is read at the stations of a board without changing them: what waits at a place, what is held at a node, and
-//! which of these times are at or before a given one.
+//! What is read at the stations of a board without changing them: what waits at a place, what is
+//! held at a node, and which of these times are at or before a given one.
 ghost use Rattle.std.specs.Prelude.{◌≡◌, ◌<◌, ◌++◌, ℕ, [], None, IfErr, IfSome, OnOk, length, get_or, map};
 ghost use Rattle.std.specs.List.{list_all};
 ghost use Rattle.lattice.specs.Frontiers.{is_beyond};
@@ -118,8 +118,8 @@ impl<T: Minimum> Stations<T> {
         }
     }
 
-    /// Whether the stamp of some bundle at a node, on any worker, has an element at or before a time. Takes no
-    /// memory.
+    /// Whether the stamp of some bundle at a node, on any worker, has an element at or before a
+    /// time. Takes no memory.
     ///
     /// Cost: linear in the workers and in the elements of the stamps.
     pub(crate) fn is_beyond_stamps(&self, node: NodeId, t: &T) -> bool
@@ -149,7 +149,8 @@ impl<T: Minimum> Stations<T> {
         false
     }
 
-    /// Appends the stamps of the bundles that wait at a node, on every worker. Refused only with `OutOfMemory`.
+    /// Appends the stamps of the bundles that wait at a node, on every worker. Refused only with
+    /// `OutOfMemory`.
     ///
     /// Cost: linear in the workers and in the elements of the stamps.
     pub(crate) fn push_stamps(&self, all: &mut Vec<T>, node: NodeId) -> Result<(), Refusal>

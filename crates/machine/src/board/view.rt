@@ -1,11 +1,12 @@
-//! What a board keeps of each node for its readers: what a view captured, and the frontier beyond which it may be
-//! read.
+//! What a board keeps of each node for its readers: what a view captured, and the frontier beyond
+//! which it may be read.
 //!
-//! A view also remembers its last read: its time, its bag, how many captured updates it knows, and the positions of
-//! those that are not at or before its time. A read at the same time or a later one looks only at those positions and
-//! at what was captured since. It adds the updates that are now at or before its time to the bag. So a read after
-//! each change costs as much as the bag is long, however much was captured. A read at any other time sums anew. Each
-//! read becomes the last one.
+//! A view also remembers its last read: its time, its bag, how many captured updates it knows, and
+//! the positions of those that are not at or before its time. A read at the same time or a later
+//! one looks only at those positions and at what was captured since. It adds the updates that are
+//! now at or before its time to the bag. So a read after each change costs as much as the bag is
+//! long, however much was captured. A read at any other time sums anew. Each read becomes the last
+//! one.
 ghost use Rattle.std.specs.Prelude.{◌≡◌, ◌≤◌, ◌<◌, ◌++◌, List, [], IfErr, IfOk, OnErr, OnOk, IsTrue, length, drop};
 ghost use Rattle.std.specs.List.{All, filter, flat_map};
 ghost use Rattle.update.specs.Bags.{Alike, IsBag};
@@ -29,7 +30,8 @@ struct LastRead<T> {
     later: Vec<usize>,
 }
 
-/// What a view captured, and the frontier beyond which it may be read. A node that is no view captures nothing.
+/// What a view captured, and the frontier beyond which it may be read. A node that is no view
+/// captures nothing.
 #[derive(Drop)]
 pub struct View<T: Minimum> {
     since: Times<T>,
@@ -87,12 +89,13 @@ impl<T: Minimum> View<T> {
         self.captured.append(more)
     }
 
-    /// What the view captured, summed to a time. Refused with `Overflow` only if a row's count at the time does not
-    /// fit in 64 bits, in whatever order the updates came, and with `OutOfMemory` if an allocation was refused.
+    /// What the view captured, summed to a time. Refused with `Overflow` only if a row's count at
+    /// the time does not fit in 64 bits, in whatever order the updates came, and with `OutOfMemory`
+    /// if an allocation was refused.
     ///
-    /// Cost: if the last read was at or before this time, linear in its bag, in the updates that it knew but left
-    /// out, and in what was captured since, and a sort of the updates that come in. Otherwise linear in all that was
-    /// captured, and a sort of the updates at or before the time.
+    /// Cost: if the last read was at or before this time, linear in its bag, in the updates that it
+    /// knew but left out, and in what was captured since, and a sort of the updates that come in.
+    /// Otherwise linear in all that was captured, and a sort of the updates at or before the time.
     pub(crate) fn sum_at(&mut self, alloc: Global, t: T) -> Result<Bag, Refusal>
         ensures kept { self.new ≡ self.old }
         ensures bag { IfOk result IsBag }
@@ -105,7 +108,8 @@ impl<T: Minimum> View<T> {
         Ok(bag)
     }
 
-    // A read of all that was captured. It goes on from the last read if that was at or before the time.
+    // A read of all that was captured. It goes on from the last read if that was at or before the
+    // time.
     fn read_at(&self, alloc: Global, t: T) -> Result<LastRead<T>, Refusal>
         ensures read { IfOk result (λ r.
             IsReadOf T.below self.now.captured r.time r.bag r.known r.later.items) }
@@ -191,7 +195,8 @@ fn arrived_since<T: Minimum>(
     Ok(arrived)
 }
 
-// The positions of all updates that are not at or before a time, found from those of an earlier read.
+// The positions of all updates that are not at or before a time, found from those of an earlier
+// read.
 fn later_since<T: Minimum>(
     alloc: Global,
     captured: &[Update<T>],

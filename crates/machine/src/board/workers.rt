@@ -1,5 +1,6 @@
-//! The events by which a worker with nothing in hand gets to work: it takes a bundle that waits for it, or it turns
-//! to times that it holds. The file also builds stamps, the frontiers of the times of updates.
+//! The events by which a worker with nothing in hand gets to work: it takes a bundle that waits for
+//! it, or it turns to times that it holds. The file also builds stamps, the frontiers of the times
+//! of updates.
 ghost use Rattle.std.specs.Prelude.{◌≡◌, ◌<◌, List, ◌∷◌, Some, None, IfErr, IfOk, OnErr, OnOk, IsTrue, length, get_or, slice_get, set, not};
 ghost use Rattle.std.specs.List.{filter};
 ghost use Rattle.update.specs.declared.refusal.Refusal.TheVariants.{OutOfMemory};
@@ -57,14 +58,15 @@ fn leave<T: Minimum>(front: &mut Vec<T>, t: T)
 }
 
 impl<T: Minimum> Board<T> {
-    /// A worker with nothing in hand takes a bundle that waits at a place: the one of this number, counted from 0 in
-    /// the order in which they were sent. At an arrange node it may take any bundle, elsewhere only the first. It
-    /// then has the node in hand and holds the bundle's stamp there, so that no frontier passes an update that it
-    /// still has to give.
+    /// A worker with nothing in hand takes a bundle that waits at a place: the one of this number,
+    /// counted from 0 in the order in which they were sent. At an arrange node it may take any
+    /// bundle, elsewhere only the first. It then has the node in hand and holds the bundle's stamp
+    /// there, so that no frontier passes an update that it still has to give.
     ///
     /// Refused only with `OutOfMemory`. Then the event is a look, and nothing else changes.
     ///
-    /// Cost: linear in the stamp, and in the number of bundles before it or behind it, whichever is smaller.
+    /// Cost: linear in the stamp, and in the number of bundles before it or behind it, whichever is
+    /// smaller.
     pub fn take(&mut self, place: Site, number: usize) -> Result<Bundle<T>, Refusal>
         requires worker { place.worker < self.old.dataflow.workers }
         requires free { get_or self.old.hand place.worker None ≡ None }
@@ -119,9 +121,9 @@ impl<T: Minimum> Board<T> {
         bundle
     }
 
-    /// A worker with nothing in hand turns to the times that it holds at a node. The node's input frontier must have
-    /// passed one of them, so that nothing more comes there at or before it. The worker then has the node in hand.
-    /// Takes no memory.
+    /// A worker with nothing in hand turns to the times that it holds at a node. The node's input
+    /// frontier must have passed one of them, so that nothing more comes there at or before it. The
+    /// worker then has the node in hand. Takes no memory.
     pub fn take_held(&mut self, worker: usize, node: NodeId)
         requires worker { worker < self.old.dataflow.workers }
         requires within { node < length self.old.dataflow.nodes }

@@ -1,5 +1,5 @@
-//! The events that may happen on a board, and the entries of the logs that they leave. Each event names who did it
-//! and everything that it did. So a history is a list of events and nothing else.
+//! The events that may happen on a board, and the entries of the logs that they leave. Each event
+//! names who did it and everything that it did. So a history is a list of events and nothing else.
 ghost use Rattle.std.specs.Prelude.{◌≡◌};
 ghost use Rattle.machine.specs.declared.histories.event.Event.TheVariants.{Feed, Advance, Take, Give};
 ghost use Rattle.machine.specs.Histories.Remembered.{IsFeeding, HasFed, IsAdvancing, HasAdvanced, IsTaking, HasTaken, IsGiving, HasGiven};
@@ -50,7 +50,8 @@ pub struct Emission<T> {
     pub updates: Updates<T>,
 }
 
-/// A time that a worker holds at a node: the worker may still give updates there at this time or later.
+/// A time that a worker holds at a node: the worker may still give updates there at this time or
+/// later.
 #[derive(Clone, Copy)]
 pub struct HeldTime<T> {
     /// The node.
@@ -104,8 +105,8 @@ pub enum Event<T> {
         client: usize,
         fed: Fed<T>,
     },
-    /// A client moves an input's frontier forward. From then on no change is fed at a time that is not beyond the
-    /// frontier. With no times the input is closed.
+    /// A client moves an input's frontier forward. From then on no change is fed at a time that is
+    /// not beyond the frontier. With no times the input is closed.
     Advance {
         client: usize,
         input: NodeId,
@@ -131,8 +132,8 @@ pub enum Event<T> {
         worker: usize,
         node: NodeId,
     },
-    /// A worker gives what it computed at a node, says which times it holds there from now on, and sends the updates
-    /// on.
+    /// A worker gives what it computed at a node, says which times it holds there from now on, and
+    /// sends the updates on.
     Give {
         given: Emission<T>,
         held: Times<T>,
@@ -140,8 +141,8 @@ pub enum Event<T> {
     },
 }
 
-// Makes the event of a change, for clauses alone, and returns the change. Nothing is copied: the change moves into
-// the event and out again.
+// Makes the event of a change, for clauses alone, and returns the change. Nothing is copied: the
+// change moves into the event and out again.
 pub(crate) fn remembered_feed<T>(
     client: usize,
     input: NodeId,

@@ -1,8 +1,9 @@
-//! What the definitions say of examples. The theorems of this crate hold of every legal history, so they would still
-//! hold if a definition forbade something that an engine has to do: fewer histories would be legal, and no proof
-//! would fail. A definition could also find a wrong frontier or bound, and every proof would follow it. So this file
-//! states cases that a definition could easily forbid, and numbers that can be found by hand, for times that are
-//! pairs. The function does nothing. If a changed definition makes one of its clauses false, the check fails.
+//! What the definitions say of examples. The theorems of this crate hold of every legal history, so
+//! they would still hold if a definition forbade something that an engine has to do: fewer
+//! histories would be legal, and no proof would fail. A definition could also find a wrong frontier
+//! or bound, and every proof would follow it. So this file states cases that a definition could
+//! easily forbid, and numbers that can be found by hand, for times that are pairs. The function
+//! does nothing. If a changed definition makes one of its clauses false, the check fails.
 ghost use Rattle.std.specs.Prelude.{◌≡◌, true, false, List, [], ◌∷◌, map, pos, negsuc};
 ghost use Rattle.lattice.specs.Pairs.{make_pair};
 ghost use Rattle.plan.specs.Rules.{IsPlan};
@@ -21,20 +22,23 @@ ghost use Rattle.lattice.specs.Bitimes.{bitime_below};
 /// The examples, by clause:
 ///
 /// - `dataflows`, `plans`: the plans of the examples are plans.
-/// - `distinct`: a row came to a distinct at (0, 3) and at (3, 0). The node gives the row at both times, and takes
-///   one of the two back at their join (3, 3), a time that the worker never held.
-/// - `cut_in_two`: a worker may cut what goes to one place as it likes. Of three updates, the first and the last go
-///   in one bundle, and the second in a bundle of its own.
+/// - `distinct`: a row came to a distinct at (0, 3) and at (3, 0). The node gives the row at both
+///   times, and takes one of the two back at their join (3, 3), a time that the worker never held.
+/// - `cut_in_two`: a worker may cut what goes to one place as it likes. Of three updates, the first
+///   and the last go in one bundle, and the second in a bundle of its own.
 /// - `allow`, `allowed`: a view's since moves forward, from (0, 0) to (4, 4).
-/// - `in_flight`, `held`, `gone`: the frontiers at a count and at its view, first while an update at (10, 1) waits
-///   for a worker at the count, then while its time is held there, and then after that. The input is open from (0, 2)
-///   on.
-/// - `quiet`: the board is quiet while a worker holds (10, 3) and changes may still come from (0, 2) on.
-/// - `stamp`, `stamp_of_one`: the stamp of three updates has the least of their times, and the stamp of two updates
-///   at one time has that time once.
+/// - `in_flight`, `held`, `gone`: the frontiers at a count and at its view, first while an update
+///   at (10, 1) waits for a worker at the count, then while its time is held there, and then after
+///   that. The input is open from (0, 2) on.
+/// - `quiet`: the board is quiet while a worker holds (10, 3) and changes may still come from (0,
+///   2) on.
+/// - `stamp`, `stamp_of_one`: the stamp of three updates has the least of their times, and the
+///   stamp of two updates at one time has that time once.
 /// - `home`: the row (5, -7) goes to worker 2 of 4.
-/// - `product`, `doubled`, `linear`: the bounds at a join, of sums that exceed 64 bits, and along linear nodes.
-/// - `from_start`: nothing was given up if the since contains the least time, even if it contains other times too.
+/// - `product`, `doubled`, `linear`: the bounds at a join, of sums that exceed 64 bits, and along
+///   linear nodes.
+/// - `from_start`: nothing was given up if the since contains the least time, even if it contains
+///   other times too.
 /// - `given_up`: something was given up if the since is empty, one later time, or two later times.
 pub fn definitions_fit_examples()
     ensures dataflows { IsDataflow counting × IsDataflow listing × IsDataflow copying }

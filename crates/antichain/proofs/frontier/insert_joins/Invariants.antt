@@ -2,7 +2,8 @@ use Rattle.std.proofs.Common.{◌≡◌, ◌+◌, ◌≤◌, ◌||◌, ◌&&◌,
 use Rattle.lattice.specs.Frontiers.{is_beyond}
 use Rattle.antichain.proofs.frontier.insert_joins.Given as goal
 
--- a time is beyond the final antichain if it is beyond the one so far, or beyond f and one of the times still to come
+-- a time is beyond the final antichain if it is beyond the one so far, or beyond f and one of the
+-- times still to come
 abbrev pub invariant-loop-g : goal.invariant-loop-g
 invariant-loop-g g l =
     let below = g.T.PartialOrder.below in

@@ -4,7 +4,8 @@ use Rattle.update.specs.declared.change.Update.{Update}
 use Rattle.update.specs.Groups.{group_sums, groups_of, groups_from, AllFit}
 use Rattle.update.proofs.consolidation.gather.Given as goal
 
--- the groups that are finished, with those of the current group and of the updates still to come, are all groups
+-- the groups that are finished, with those of the current group and of the updates still to come,
+-- are all groups
 abbrev pub invariant-loop-next : goal.invariant-loop-next
 invariant-loop-next g l =
     let cmp = g.T.Ord.cmp in

@@ -2,8 +2,8 @@ use Rattle.std.proofs.Common.{◌≡◌, ◌*◌, ◌≤◌, ◌||◌, ◌&&◌,
 use Rattle.lattice.specs.Frontiers.{is_beyond}
 use Rattle.antichain.proofs.frontier.Antichain.joined.Given as goal
 
--- a time is beyond both antichains if it is beyond the result so far, or beyond the elements still to come and beyond
--- the other antichain
+-- a time is beyond both antichains if it is beyond the result so far, or beyond the elements still
+-- to come and beyond the other antichain
 abbrev pub invariant-loop-f : goal.invariant-loop-f
 invariant-loop-f g l =
     let below = g.T.PartialOrder.below in

@@ -3,7 +3,8 @@ use Rattle.lattice.specs.Frontiers.{is_beyond}
 use Rattle.antichain.specs.Antichains.{IsFrontier}
 use Rattle.antichain.proofs.frontier.Antichain.least_of.Given as goal
 
--- a time is beyond the times given if and only if it is beyond the frontier so far or the times still to come
+-- a time is beyond the times given if and only if it is beyond the frontier so far or the times
+-- still to come
 abbrev pub invariant-loop-t : goal.invariant-loop-t
 invariant-loop-t g l =
     let below = g.T.PartialOrder.below in

@@ -4,8 +4,8 @@ use Rattle.machine.specs.Boards.Loads.{put_all}
 use Rattle.machine.specs.Boards.Stations.{lots, HasRoomFor}
 use Rattle.machine.proofs.board.stations.Stations.put_all.Given as goal
 
--- putting the bundles that are left, from here on, gives what putting all of them gives, and each of them has room at
--- its place
+-- putting the bundles that are left, from here on, gives what putting all of them gives, and each
+-- of them has room at its place
 abbrev pub invariant-loop-bundle : goal.invariant-loop-bundle
 invariant-loop-bundle g l = record {
   put : put_all (into_iter_items l.bundle-iterator) (lots l.self) ≡ put_all (into_iter_items l.initial.bundle-iterator) (lots l.fn.self);
