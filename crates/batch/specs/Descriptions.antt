@@ -1,5 +1,5 @@
 -- Descriptions of batches, and what contracts see of a description, a batch and a builder.
-use Rattle.std.specs.Prelude.{◌≡◌, ℕ, Bool, List, IsTrue}
+use Rattle.std.specs.Prelude.{◌≡◌, ℕ, Bool, List, [], IsTrue}
 use Rattle.std.specs.declared.cmp.Ordering.{Ordering}
 use Rattle.lattice.specs.Frontiers.{all_beyond}
 use Rattle.antichain.specs.Antichains.{IsFrontier}
@@ -18,6 +18,10 @@ pub record DescriptionState (T : Type 0) : Type 0 where
 pub record BatchState (T : Type 0) : Type 0 where
   pub description : DescriptionState T
   pub updates : List (Update T)
+
+-- if the interval of the batch is empty, then the batch has no updates
+abbrev pub IsEmptyIfStill : {T : Type 0} → BatchState T → Type 0
+IsEmptyIfStill b = b.description.lower ≡ b.description.upper → b.updates ≡ []
 
 -- whose updates these are, and the updates in the order in which they were pushed
 pub record BuilderState (T : Type 0) : Type 0 where

@@ -1,7 +1,12 @@
 //! The batch itself: a description and sealed updates, neither of which ever changes. The updates
 //! are in one list, in the order in which they are read.
+//!
+//! The invariant: the list is sealed, and empty if the interval is. A seal finds each time between
+//! the frontiers, and no time is between equal ones. A merge of two such batches is such a batch
+//! again, also where it moves times.
 ghost use Rattle.std.specs.Prelude.{◌≡◌};
 ghost use Rattle.batch.specs.Batches.{IsSealed};
+ghost use Rattle.batch.specs.Descriptions.{IsEmptyIfStill};
 
 use crate::keys::{compare_key, range_of};
 use crate::seeking::{first_from, first_past};
@@ -27,19 +32,21 @@ pub struct Batch<T: Lattice> {
 
 impl<T: Lattice> Model for Batch<T> {
     ghost use Rattle.batch.specs.Batches.{IsSealed};
-    ghost use Rattle.batch.specs.Descriptions.{BatchState};
+    ghost use Rattle.batch.specs.Descriptions.{BatchState, IsEmptyIfStill};
 
     ghost Value = { BatchState T };
 
     ghost view = { λ b. record { description = b.description; updates = b.updates.items } };
 
-    ghost invariant = { λ b. IsSealed T.cmp b.updates.items };
+    ghost invariant = { λ b. IsSealed T.cmp b.updates.items
+        × IsEmptyIfStill (record { description = b.description; updates = b.updates.items }) };
 }
 
 impl<T: Lattice> Batch<T> {
     // A batch of sealed updates. Takes no memory.
     pub(crate) fn of(description: Description<T>, updates: Vec<Update<T>>) -> Batch<T>
-        requires { IsSealed T.cmp updates.items }
+        requires sealed { IsSealed T.cmp updates.items }
+        requires still { IsEmptyIfStill (record { description = description; updates = updates.items }) }
         ensures { result ≡ record { description = description; updates = updates.items } }
     {
         Batch {

@@ -94,6 +94,8 @@ impl<T: Lattice> Description<T> {
         ensures next_forward { OnOk result
             (IsTrue (all_beyond T.below next.now.lower next.now.upper)) }
         ensures follows { OnOk result (Follows self.now next.now) }
+        ensures still { OnOk result (self.now.lower ≡ next.now.upper
+            → (self.now.lower ≡ self.now.upper) × (next.now.lower ≡ next.now.upper)) }
         ensures stray { (result ≡ Err Refusal.Stray) ↔ (Follows self.now next.now → ⊥) }
         ensures only { IfErr result (λ refused. (refused ≡ Refusal.OutOfMemory)
             ⊎ (refused ≡ Refusal.Stray)) }
@@ -101,6 +103,9 @@ impl<T: Lattice> Description<T> {
         if !self.is_followed_by(next) {
             return Err(Refusal::Stray);
         }
+        // (both are called for what they promise: the frontiers in between are frontiers)
+        let _end = self.upper();
+        let _begin = next.lower();
         let (worker, node) = self.names();
         Description::new(alloc, worker, node, self.lower(), next.upper(), since)
     }

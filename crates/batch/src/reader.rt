@@ -1,6 +1,6 @@
 //! How a batch is read. Operators are to be written against this trait and not against
 //! [`Batch`](crate::Batch), so that the layout of updates can change without them.
-ghost use Rattle.std.specs.Prelude.{◌≡◌, ◌<◌, ◌≤◌, List, length, take, drop, slice_get, slice_range, IsSomeAnd};
+ghost use Rattle.std.specs.Prelude.{◌≡◌, ◌<◌, ◌≤◌, List, [], length, take, drop, slice_get, slice_range, IsSomeAnd};
 ghost use Rattle.std.specs.List.{filter};
 ghost use Rattle.batch.specs.Batches.{IsSealed, begins_with, at_key, AllBefore, NoneBefore, AllAfter, NoneAfter};
 
@@ -23,9 +23,12 @@ pub trait BatchReader {
 
     ghost described: { Self → DescriptionState Self.Time };
 
-    /// Which worker and node the updates belong to, and between which frontiers. Takes no memory.
+    /// Which worker and node the updates belong to, and between which frontiers. If the two
+    /// frontiers are equal, then there are no updates. Takes no memory.
     fn description(&self) -> &Description<Self::Time>
-        ensures { result.now ≡ described self.now };
+        ensures value { result.now ≡ described self.now }
+        ensures still { (described self.now).lower ≡ (described self.now).upper
+            → content self.now ≡ [] };
 
     /// The number of updates, which are in order. Takes no memory.
     fn len(&self) -> usize

@@ -61,11 +61,13 @@ abbrev pub IsCountAfter : ℕ → ℕ → ℕ → Type 0
 IsCountAfter old more new = old < 2 ^ 64 → new ≡ min (old + more) (2 ^ 64 - 1)
 
 module _ {T : Type 0} (below : T → T → Bool) where
-  -- the spine stands for these insertions: it has reached as far as they did, and the batches up to
-  -- a boundary may be read in the place of what was inserted up to there, at all times beyond the
-  -- since
+  -- the spine stands for these insertions: it has reached as far as they did; at each boundary one
+  -- of them ended, or the spine begins there; and the batches up to a boundary may be read in the
+  -- place of what was inserted up to there, at all times beyond the since
   pub record Stands (s : SpineState T) (h : List (Insertion T)) : Type 0 where
     pub upper : end_of s.list.start s.list.batches ≡ reached s.list.start h
+    pub ended : (n : ℕ) → (seen : List (Insertion T))
+        × AreUpTo s.list.start (end_of s.list.start (take n s.list.batches)) h seen
     pub reads : (n : ℕ) (u : List T) (seen : List (Insertion T))
         → end_of s.list.start (take n s.list.batches) ≡ u
         → AreUpTo s.list.start u h seen

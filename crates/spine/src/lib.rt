@@ -15,18 +15,17 @@
 //!   next is one function, which its contract leaves open.
 //! - [`a_spine_stands`] is a law: there are spines that stand for insertions. By
 //!   [`holds_are_kept_apart`] somebody with many readers knows each reader's hold after a call with
-//!   one of them.
+//!   one of them, and by [`held_boundaries_stay`] a reader knows that its boundary can be read.
 //!
 //! Times stay as they were inserted. To move them to their representatives as of the since comes
 //! later, and changes no contract: all promises of readings speak of times beyond the since alone.
 #![tactic(auto)]
 
-mod entry;
 mod holds;
 mod laws;
 mod since;
 mod spine;
 mod working;
 
-pub use laws::{a_spine_stands, holds_are_kept_apart};
+pub use laws::{a_spine_stands, held_boundaries_stay, holds_are_kept_apart};
 pub use spine::Spine;

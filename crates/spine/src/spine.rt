@@ -4,25 +4,23 @@
 //!
 //! The invariant: `since` is the least of all logical frontiers that are held, with memory for all
 //! their elements. So a hold can be released, and the since found anew, where no memory is left.
-ghost use Rattle.std.specs.Prelude.{◌≡◌, ◌↔◌, ◌⊎◌, ◌++◌, ◌∷◌, min, ◌-◌, ◌^◌, List, [], Err, IfErr, IfOk, IsErrAnd, OnErr, OnOk, IsTrue, true, length};
+ghost use Rattle.std.specs.Prelude.{◌≡◌, ◌↔◌, ◌⊎◌, ◌++◌, ◌∷◌, ◌≤◌, min, ◌-◌, ◌^◌, List, [], Err, IfErr, IfOk, IsErrAnd, OnErr, OnOk, IsTrue, true, length, vec_capacity};
 ghost use Rattle.std.specs.List.{Contains};
 ghost use Rattle.lattice.specs.Frontiers.{all_beyond};
-ghost use Rattle.antichain.specs.Antichains.{IsFrontier};
 ghost use Rattle.update.specs.declared.refusal.Refusal.{Refusal};
 ghost use Rattle.trace.specs.Readings.{Insertion, all_content};
 ghost use Rattle.trace.specs.BatchLists.{Continues, end_of, insertion_of, updates_of};
 ghost use Rattle.spine.specs.Holding.{IsSinceOf, IsMoved, IsWithout};
 ghost use Rattle.spine.specs.Spines.{SpineState, Stands, stored};
 
-use crate::entry::Entry;
-use crate::holds::{is_onward, move_entry, number_of, one_hold, remove_entry, since_of};
-use crate::since::make_room;
+use crate::holds::{end_hold, is_onward, move_hold, push_hold};
+use crate::since::{make_room, refill};
 use antichain::Antichain;
 use batch::{Batch, BatchReader};
 use lattice::{Lattice, Minimum};
 use std::alloc::Global;
 use std::marker::Model;
-use trace::{BatchList, Hold, Trace, Unplaced};
+use trace::{BatchList, Hold, KeptHold, Trace, Unplaced};
 use update::Refusal;
 
 /// A trace that merges its batches under its readers' holds. A contract sees the batch list, the
@@ -34,7 +32,7 @@ use update::Refusal;
 pub struct Spine<T: Lattice> {
     pub(crate) list: BatchList<T>,
     pub(crate) since: Vec<T>,
-    pub(crate) holds: Vec<Entry<T>>,
+    pub(crate) holds: Vec<KeptHold<T>>,
     pub(crate) copied: u64,
 }
 
@@ -59,6 +57,7 @@ impl<T: Lattice> Model for Spine<T> {
 // The frontier that has the least time alone.
 fn least_time<T: Minimum>(alloc: Global) -> Result<Vec<T>, Refusal>
     ensures is { IfOk result (λ times. times.items ≡ T.least ∷ []) }
+    ensures room { IfOk result (λ times. 1 ≤ vec_capacity times) }
     ensures only { IfErr result (λ refused. refused ≡ Refusal.OutOfMemory) }
 {
     let mut times = Vec::new(alloc);
@@ -88,17 +87,16 @@ impl<T: Minimum> Spine<T> {
         ensures only { IfErr result (λ refused. refused ≡ Refusal.OutOfMemory) }
     {
         let list = BatchList::new(alloc, worker, node)?;
-        let logical = least_time(alloc)?;
-        let physical = least_time(alloc)?;
-        let holds = one_hold(alloc, logical.as_slice())?;
-        let since = since_of(alloc, holds.as_slice())?;
+        let since = least_time(alloc)?;
+        let mut holds = Vec::new(alloc);
+        let hold = push_hold(alloc, &mut holds, since.as_slice(), since.as_slice())?;
         let spine = Spine {
             list,
             since,
             holds,
             copied: 0,
         };
-        Ok((spine, Hold::of(logical, physical)))
+        Ok((spine, hold))
     }
 }
 
@@ -119,8 +117,7 @@ impl<T: Lattice> Spine<T> {
     /// spine stays as it was.
     ///
     /// - [`Refusal::Stray`] if and only if the batch does not begin at the frontier that the spine
-    ///   has reached, its worker or node is another, or it has updates although it ends where it
-    ///   begins: such updates would give a boundary that readers may know another meaning.
+    ///   has reached, or its worker or node is another.
     /// - Otherwise [`Refusal::OutOfMemory`] only if memory for one more batch was refused, which
     ///   cannot be after [`reserve`](Spine::reserve).
     ///
@@ -171,25 +168,11 @@ impl<T: Lattice> Spine<T> {
         ensures same { OnErr result (self.new ≡ self.old) }
         ensures only { IfErr result (λ refused. refused ≡ Refusal.OutOfMemory) }
     {
-        let own = self.entry_here(alloc)?;
-        let kept = self.entry_here(alloc)?;
-        make_room(&mut self.since, self.holds.as_slice(), own.logical().len())?;
-        self.holds.push(kept)?;
-        let (logical, physical) = own.into_frontiers();
-        Ok(Hold::of(logical, physical))
-    }
-
-    // The frontiers of a hold that begins now.
-    fn entry_here(&self, alloc: Global) -> Result<Entry<T>, Refusal>
-        ensures made { IfOk result (λ made. made ≡ record {
-          logical = self.now.since;
-          physical = end_of self.now.list.start self.now.list.batches;
-        }) }
-        ensures logical { IfOk result (λ made. IsFrontier T.below T.cmp made.logical) }
-        ensures physical { IfOk result (λ made. IsFrontier T.below T.cmp made.physical) }
-        ensures only { IfErr result (λ refused. refused ≡ Refusal.OutOfMemory) }
-    {
-        Entry::new(alloc, self.since.as_slice(), self.list.upper())
+        let more = self.since.len();
+        make_room(&mut self.since, self.holds.as_slice(), more)?;
+        let since = self.since.as_slice();
+        let hold = push_hold(alloc, &mut self.holds, since, self.list.upper())?;
+        Ok(hold)
     }
 
     /// Moves both frontiers of a hold on. The hold must be one of this spine. If it is refused,
@@ -230,13 +213,15 @@ impl<T: Lattice> Spine<T> {
         if !is_onward(hold, logical, physical) {
             return Err(Refusal::NotForward);
         }
-        let own = Entry::new(alloc, logical.elements(), physical.elements())?;
-        let kept = Entry::new(alloc, logical.elements(), physical.elements())?;
         make_room(&mut self.since, self.holds.as_slice(), logical.len())?;
-        let number = number_of(self.holds.as_slice(), hold);
-        move_entry(&mut self.since, &mut self.holds, number, kept);
-        let (own_logical, own_physical) = own.into_frontiers();
-        hold.move_to(own_logical, own_physical);
+        move_hold(
+            alloc,
+            &mut self.holds,
+            hold,
+            logical.elements(),
+            physical.elements(),
+        )?;
+        refill(&mut self.since, self.holds.as_slice());
         Ok(())
     }
 
@@ -254,9 +239,8 @@ impl<T: Lattice> Spine<T> {
         ensures stands { (h : List (Insertion T)) → Stands T.below self.old h
             → Stands T.below self.new h }
     {
-        let number = number_of(self.holds.as_slice(), &hold);
-        remove_entry(&mut self.since, &mut self.holds, number);
-        hold.end();
+        end_hold(&mut self.holds, hold);
+        refill(&mut self.since, self.holds.as_slice());
     }
 
     /// How many updates were copied in merges, since the spine was made. The count stays at its

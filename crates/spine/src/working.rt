@@ -23,11 +23,11 @@ ghost use Rattle.spine.specs.Holding.{forbids};
 ghost use Rattle.spine.specs.Spines.{SpineState, MayMerge, IsWorked, IsDone, IsStuck, AreSteep, Stands, copies_at};
 
 use crate::Spine;
-use crate::entry::Entry;
 use crate::holds::is_forbidden;
 use crate::spine::updates_in;
 use batch::{Batch, BatchReader};
 use lattice::Lattice;
+use trace::KeptHold;
 use update::Refusal;
 
 // Whether the fuel covers the merge of two batches.
@@ -52,7 +52,7 @@ fn is_ample<T: Lattice>(batches: &[Batch<T>], fuel: u64) -> bool
 }
 
 // Whether no hold forbids the boundary behind the batch with this number.
-fn is_open<T: Lattice>(batches: &[Batch<T>], holds: &[Entry<T>], i: usize) -> bool
+fn is_open<T: Lattice>(batches: &[Batch<T>], holds: &[KeptHold<T>], i: usize) -> bool
     requires { suc i < length batches.now }
     ensures yes { result ≡ true → MayMerge T.below holds.now i batches.now }
     ensures no { result ≡ false → (a : BatchState T) → slice_get batches.now i ≡ Some a
@@ -62,7 +62,7 @@ fn is_open<T: Lattice>(batches: &[Batch<T>], holds: &[Entry<T>], i: usize) -> bo
 }
 
 // Whether the batch with this number and the next one may become one, and the fuel covers it.
-fn can_merge<T: Lattice>(batches: &[Batch<T>], holds: &[Entry<T>], i: usize, fuel: u64) -> bool
+fn can_merge<T: Lattice>(batches: &[Batch<T>], holds: &[KeptHold<T>], i: usize, fuel: u64) -> bool
     requires { suc i < length batches.now }
     ensures yes { result ≡ true → MayMerge T.below holds.now i batches.now
         × (copies_at i batches.now < fuel) }
@@ -77,7 +77,7 @@ fn can_merge<T: Lattice>(batches: &[Batch<T>], holds: &[Entry<T>], i: usize, fue
 // Whether that is so and they are not steep.
 fn can_merge_evenly<T: Lattice>(
     batches: &[Batch<T>],
-    holds: &[Entry<T>],
+    holds: &[KeptHold<T>],
     i: usize,
     fuel: u64,
 ) -> bool
@@ -93,7 +93,7 @@ fn can_merge_evenly<T: Lattice>(
 }
 
 // The newest of the neighbours that may become one and are not steep.
-fn even_pair<T: Lattice>(batches: &[Batch<T>], holds: &[Entry<T>], fuel: u64) -> Option<usize>
+fn even_pair<T: Lattice>(batches: &[Batch<T>], holds: &[KeptHold<T>], fuel: u64) -> Option<usize>
     ensures some { IfSome result (λ i. MayMerge T.below holds.now i batches.now
         × (copies_at i batches.now < fuel)) }
     ensures none { result ≡ None → (i : ℕ) (a b : BatchState T) → slice_get batches.now i ≡ Some a
@@ -130,7 +130,11 @@ fn updates_at<T: Lattice>(batches: &[Batch<T>], i: usize) -> usize
 }
 
 // The neighbours with the fewest updates of those that may become one.
-fn cheapest_pair<T: Lattice>(batches: &[Batch<T>], holds: &[Entry<T>], fuel: u64) -> Option<usize>
+fn cheapest_pair<T: Lattice>(
+    batches: &[Batch<T>],
+    holds: &[KeptHold<T>],
+    fuel: u64,
+) -> Option<usize>
     ensures some { IfSome result (λ i. MayMerge T.below holds.now i batches.now
         × (copies_at i batches.now < fuel)) }
     ensures none { result ≡ None → (i : ℕ) (a b : BatchState T) → slice_get batches.now i ≡ Some a
@@ -148,7 +152,7 @@ fn cheapest_pair<T: Lattice>(batches: &[Batch<T>], holds: &[Entry<T>], fuel: u64
 }
 
 // The number of the neighbours that are to become one next.
-fn next_pair<T: Lattice>(batches: &[Batch<T>], holds: &[Entry<T>], fuel: u64) -> Option<usize>
+fn next_pair<T: Lattice>(batches: &[Batch<T>], holds: &[KeptHold<T>], fuel: u64) -> Option<usize>
     ensures some { IfSome result (λ i. MayMerge T.below holds.now i batches.now
         × (copies_at i batches.now < fuel)) }
     ensures none { result ≡ None → IsStuck T.below fuel holds.now batches.now }
@@ -161,7 +165,7 @@ fn next_pair<T: Lattice>(batches: &[Batch<T>], holds: &[Entry<T>], fuel: u64) ->
 }
 
 // Whether a hold forbids each boundary between two batches.
-fn is_done<T: Lattice>(batches: &[Batch<T>], holds: &[Entry<T>]) -> bool
+fn is_done<T: Lattice>(batches: &[Batch<T>], holds: &[KeptHold<T>]) -> bool
     ensures yes { result ≡ true → IsDone T.below holds.now batches.now }
     ensures no { result ≡ false → IsDone T.below holds.now batches.now → ⊥ }
 {

@@ -16,6 +16,7 @@ use Rattle.update.specs.Updates.{as_of, size}
 use Rattle.update.specs.declared.change.Update.{Update}
 use Rattle.batch.specs.Descriptions.{BatchState, DescriptionState, Follows}
 use Rattle.trace.specs.BatchLists.{BatchListState, merged_at, IsMergeOf, IsMergeAt, IsLink, AreLinked, IsBatchList}
+use Rattle.batch.proofs.IntervalLemmas.{none_left}
 use Rattle.trace.proofs.ReadingLemmas.{size-append}
 use Rattle.trace.proofs.BoundaryLemmas.{some_same, none_some, stays}
 
@@ -69,10 +70,6 @@ module _ {T : Type 0} where
           let parts = and_parts (list_all q a.updates) (list_all q b.updates) (sym (list_all-append q a.updates b.updates) ∙ h) in
           among p parts.0 parts.1
 
-  none_left : (us : List (Update T)) → IsTrue (list_all (λ u. false) us) → us ≡ []
-  none_left [] h = refl
-  none_left (u ∷ us) h = cc
-
 module _ {T : Type 0} {below : T → T → Bool} {cmp : T → T → Ordering} (o : PartialOrderLaws below) (total : IsTotalOrder cmp) (worker node : ℕ) (since : List T) where
   -- one batch for two goes on where the first begins
   link_for_two : (from : List T) (m a b : BatchState T) → IsFrontier below cmp from → IsMergeOf below since m a b → AreLinked below cmp worker node from (a ∷ b ∷ []) → IsLink below cmp worker node from m
@@ -81,8 +78,8 @@ module _ {T : Type 0} {below : T → T → Bool} {cmp : T → T → Ordering} (o
       ap (λ (d : DescriptionState T). d.worker) is.described ∙ l.0.continues.0,
       ap (λ (d : DescriptionState T). d.node) is.described ∙ l.0.continues.1,
       lower ∙ l.0.continues.2,
-      still,
     );
+    still = still;
     frontier = subst (IsFrontier below cmp) (sym upper) l.1.0.frontier;
     forward = subst (λ F. IsTrue (all_beyond below from F)) (sym upper) (all_beyond_later o from a.description.upper b.description.upper l.0.forward l.1.0.forward);
   }

@@ -7,7 +7,7 @@ use Rattle.lattice.specs.Frontiers.{all_beyond}
 use Rattle.antichain.specs.Antichains.{IsFrontier}
 use Rattle.update.specs.Updates.{HasLargeTotal}
 use Rattle.update.specs.declared.change.Update.{Update}
-use Rattle.batch.specs.Descriptions.{BatchState}
+use Rattle.batch.specs.Descriptions.{BatchState, IsEmptyIfStill}
 use Rattle.trace.specs.Readings.{Insertion, IsReadable}
 
 -- whose updates these are, the frontier at which the list begins, its batches in order, and whether
@@ -55,17 +55,12 @@ module _ {T : Type 0} where
   merged_at zero m (a ∷ b ∷ bs) = m ∷ bs
   merged_at (suc i) m (a ∷ bs) = a ∷ merged_at i m bs
 
-  -- if the interval of the batch is empty, then the batch has no updates
-  abbrev pub IsEmptyIfStill : BatchState T → Type 0
-  IsEmptyIfStill b = b.description.lower ≡ b.description.upper → b.updates ≡ []
-
-  -- the batch has the worker and node, begins at `from`, and has no updates if it ends there too
+  -- the batch has the worker and node, and begins at `from`
   abbrev pub Continues : ℕ → ℕ → List T → BatchState T → Type 0
   Continues worker node from b =
       (b.description.worker ≡ worker)
       × (b.description.node ≡ node)
       × (b.description.lower ≡ from)
-      × IsEmptyIfStill b
 
 module _ {T : Type 0} (below : T → T → Bool) where
   -- one batch for two neighbours: it reaches over both intervals, may be read in the place of both
@@ -102,9 +97,11 @@ module _ {T : Type 0} (below : T → T → Bool) where
       × HasLargeTotal below (a.updates ++ b.updates)
 
 module _ {T : Type 0} (below : T → T → Bool) (cmp : T → T → Ordering) where
-  -- the batch continues a batch list, and ends at a frontier beyond the one at which it begins
+  -- the batch continues a batch list, and ends at a frontier beyond the one at which it begins; it
+  -- has no updates if that is the same frontier
   pub record IsLink (worker node : ℕ) (from : List T) (b : BatchState T) : Type 0 where
     pub continues : Continues worker node from b
+    pub still : IsEmptyIfStill b
     pub frontier : IsFrontier below cmp b.description.upper
     pub forward : IsTrue (all_beyond below from b.description.upper)
 

@@ -4,10 +4,9 @@
 //! a trace that merges and compacts has to agree with. Such a trace keeps its batches in a batch
 //! list, and decides when [`BatchList::merge_at`] makes one batch of two neighbours.
 //!
-//! The invariant: each batch begins at the frontier at which the one before it ends, and a batch
-//! whose interval is empty has no updates. Frontiers only move forward, so two batches that end at
-//! one boundary have only empty intervals between them, and no updates there. So a boundary
-//! determines what is stored up to it.
+//! The invariant: each batch begins at the frontier at which the one before it ends. Frontiers only
+//! move forward, so two batches that end at one boundary have only empty intervals between them, and
+//! a batch with an empty interval has no updates. So a boundary determines what is stored up to it.
 ghost use Rattle.std.specs.Prelude.{◌≡◌, ◌↔◌, ◌⊎◌, ◌≤◌, ◌<◌, ◌∷◌, ◌++◌, suc, List, [], Some, None, IfErr, IfOk, IfSome, IsErrAnd, OnErr, OnOk, IsTrue, true, length, take, drop};
 ghost use Rattle.std.specs.Bool.{OnTrue};
 ghost use Rattle.std.specs.List.{Contains};
@@ -16,12 +15,12 @@ ghost use Rattle.lattice.specs.Frontiers.{all_beyond};
 ghost use Rattle.update.specs.Refusals.{IsMemoryOrOverflow};
 ghost use Rattle.update.specs.declared.refusal.Refusal.{Refusal};
 ghost use Rattle.batch.specs.Descriptions.{BatchState};
-ghost use Rattle.trace.specs.BatchLists.{BatchListState, Continues, IsEmptyIfStill, IsLink, IsBatchList, IsMergeAt, HasLargePair, end_of, ends_of, insertion_of, insertions_of, merged_at};
+ghost use Rattle.trace.specs.BatchLists.{BatchListState, Continues, IsLink, IsBatchList, IsMergeAt, HasLargePair, end_of, ends_of, insertion_of, insertions_of, merged_at};
 
 use crate::Trace;
 use crate::boundaries::{are_same, end_in, number_in};
 use crate::neighbours::{merged_pair, put_merged};
-use batch::{Batch, BatchReader};
+use batch::{Batch, BatchReader, Description};
 use lattice::{Lattice, Minimum};
 use std::alloc::Global;
 use std::marker::Model;
@@ -113,8 +112,7 @@ impl<T: Lattice> BatchList<T> {
     /// was.
     ///
     /// - [`Refusal::Stray`] if and only if the batch does not begin at the frontier that the list
-    ///   has reached, its worker or node is another, or it has updates although it ends where it
-    ///   begins.
+    ///   has reached, or its worker or node is another.
     /// - Otherwise [`Refusal::OutOfMemory`] only if memory for one more batch was refused, which
     ///   cannot be after [`reserve`](BatchList::reserve).
     ///
@@ -232,21 +230,17 @@ fn continues<T: Lattice>(worker: usize, node: usize, reached: &[T], batch: &Batc
     ensures link { OnTrue result (IsLink T.below T.cmp worker node reached.now batch.now) }
 {
     let description = batch.description();
-    description.worker() == worker
-        && description.node() == node
-        && are_same(description.lower(), reached)
-        && is_empty_if_still(batch)
+    description.worker() == worker && description.node() == node && begins_at(description, reached)
 }
 
-// Whether the batch has no updates, or a time can be in its interval.
-fn is_empty_if_still<T: Lattice>(batch: &Batch<T>) -> bool
-    ensures value { IsTrue result ↔ IsEmptyIfStill batch.now }
-    ensures frontier { IsFrontier T.below T.cmp batch.now.description.upper }
-    ensures forward { IsTrue
-        (all_beyond T.below batch.now.description.lower batch.now.description.upper) }
+// Whether an interval begins at a frontier. Its upper frontier is beyond that one then.
+fn begins_at<T: Lattice>(description: &Description<T>, reached: &[T]) -> bool
+    ensures value { IsTrue result ↔ (description.now.lower ≡ reached.now) }
+    ensures frontier { IsFrontier T.below T.cmp description.now.upper }
+    ensures forward { IsTrue (all_beyond T.below description.now.lower description.now.upper) }
 {
-    let description = batch.description();
-    !are_same(description.lower(), description.upper()) || batch.len() == 0
+    let _end = description.upper();
+    are_same(description.lower(), reached)
 }
 
 impl<T: Lattice> Trace for BatchList<T> {

@@ -1,9 +1,10 @@
 use Rattle.std.proofs.lemmas.Grind.{common_steps}
-use Rattle.std.proofs.Common.{rules, ◌≡◌, IsTrue, refl, sym, arith}
+use Rattle.std.proofs.Common.{rules, ◌≡◌, IsTrue, refl, sym, ◌∙◌, ap, arith}
 use Rattle.std.proofs.lemmas.Result.{err_from_is_err_and}
 use Rattle.std.proofs.lemmas.Bool.{and_parts, true≢false}
 use Rattle.update.specs.declared.refusal.Refusal.TheVariants.{OutOfMemory}
 use Rattle.batch.specs.Intervals.{is_between, is_interval_of}
+use Rattle.batch.proofs.IntervalLemmas.{nothing_between}
 use Rattle.batch.proofs.SumsLemmas.{sums_from_totals}
 use Rattle.batch.proofs.builder.Builder.seal.Given.{Over}
 use Rattle.batch.proofs.builder.Builder.seal.Goals as goal
@@ -21,6 +22,16 @@ returns-in_err-description-clause-overflow g c =
     let p = err_from_is_err_and c.from_residual-in_err-description.result c.from_residual-in_err-description.ensures.1 in
     let only : c.in_err-description.field-0.0 ≡ OutOfMemory = c.in_err-description.ensures.only in
     rw (p.1, ← c.self.view_is) ((λ e. absurd (cc (p.2, only, e))), (λ h. absurd (true≢false (sym (c.in_ok-sealed.ensures.overflow.1 h.1)))))
+
+pub of-requires-clause-still : goal.of-requires-clause-still
+of-requires-clause-still g c e =
+    let below = g.T.PartialOrder.below in
+    let lower = c.args.lower.now in
+    let upper = c.args.upper.now in
+    let made = c.in_ok-description.ensures.made in
+    let same = sym (ap (λ d. d.lower) made) ∙ e ∙ ap (λ d. d.upper) made in
+    let inside : IsTrue (is_interval_of below lower upper c.self.inside.updates.items) = search rules in
+    nothing_between below lower upper same _ (c.in_ok-sealed.ensures.among (λ _ t. is_between below lower upper t) (and_parts _ _ inside).1)
 
 pub returns-clause-between : goal.returns-clause-between
 returns-clause-between g c =
