@@ -2,14 +2,13 @@
 -- with what was inserted.
 use Rattle.std.proofs.Common.{◌≡◌, ℕ, ◌+◌, ◌*◌, ◌-◌, ◌≤◌, Bool, true, false, cond, ◌&&◌, List, [], ◌∷◌, ◌++◌, map, take, drop, length, eqb, IsTrue, ℤ, refl, sym, ap, subst, ◌∙◌, arith, FitsSigned, w64}
 use Rattle.std.specs.List.{filter, list_all, list_any}
-use Rattle.std.specs.Prelude.{nat_le}
 use Rattle.std.proofs.Math.Nat.{mul-le-mul_left, mul-le-mul_right}
 use Rattle.std.proofs.lemmas.Bool.{and_parts, and_from, leb-true, eqb-true, eq-eqb}
 use Rattle.std.proofs.lemmas.List.{length-append, length-take, length-drop, take-append-le}
 use Rattle.std.proofs.lemmas.List.Folds.{list_all-append}
 use Rattle.lattice.specs.Order.{PartialOrderLaws}
 use Rattle.lattice.specs.Frontiers.{is_beyond}
-use Rattle.lattice.proofs.FrontierLemmas.{all_more, beyond_up}
+use Rattle.lattice.proofs.FrontierLemmas.{beyond_up}
 use Rattle.antichain.proofs.Lists.{all_at, all_from}
 use Rattle.update.specs.Bags.{Alike, same_row}
 use Rattle.update.specs.Updates.{as_of, total_where, HasLargeTotal}
@@ -19,9 +18,8 @@ use Rattle.batch.proofs.SumsLemmas.{sums_from_totals}
 use Rattle.plan.proofs.CountLemmas.{row_same, row_itself}
 use Rattle.plan.proofs.ReductionLemmas.{any_at}
 use Rattle.trace.specs.Readings.{Insertion, AreUpTo, IsReadable, all_updates}
-use Rattle.join.specs.declared.forming.Side.TheVariants.{Left, Right}
-use Rattle.join.specs.Pairs.{is_keyed, pair_of, pairs_with, pairs, fits, is_wide}
-use Rattle.join.specs.Forming.{formed_fits, StandsIn}
+use Rattle.join.specs.Pairs.{is_keyed, pair_of, pairs_with, pairs, is_wide}
+use Rattle.join.specs.Forming.{StandsIn}
 use Rattle.join.specs.Sides.{WereInserted, all_rows_have, keys_among}
 use Rattle.join.proofs.DeterminedLemmas.{totals_from_sums}
 
@@ -142,17 +140,3 @@ module _ {T : Type 0} (joined : T → T → T) (k : ℕ) where
       let right = length-take k v.row in
       ap (λ r. list_any (λ w. same_row r (take k w.row)) vs) (front_of u.row (drop k v.row) (omega (arith, wide, long, left, right)) ∙ sym same) ∙ parts.1)
       us vs (all_true us) (own_keys vs wide)
-
--- ---- what is stored
-
-module _ {T : Type 0} (content vs : List (Update T)) (stored : (p : List ℤ → T → Bool) → IsTrue (list_all (λ u. p u.row u.time) content) → IsTrue (list_all (λ u. p u.row u.time) vs)) (k : ℕ) where
-  -- if pairs with all that is stored fit, then pairs with what was found fit
-  pub left_fits : (us : List (Update T)) → IsTrue (list_all (λ u. list_all (λ v. fits k u v) content) us) → IsTrue (list_all (λ u. list_all (formed_fits Left k u) vs) us)
-  left_fits us a =
-      all_more (λ u. list_all (λ v. fits k u v) content) (λ u. list_all (formed_fits Left k u) vs)
-      (λ u h. stored (λ row _. nat_le (length u.row + length (drop k row)) 8) h) us a
-
-  pub right_fits : (us : List (Update T)) → IsTrue (list_all (λ u. list_all (λ v. fits k v u) content) us) → IsTrue (list_all (λ u. list_all (formed_fits Right k u) vs) us)
-  right_fits us a =
-      all_more (λ u. list_all (λ v. fits k v u) content) (λ u. list_all (formed_fits Right k u) vs)
-      (λ u h. stored (λ row _. nat_le (length row + length (drop k u.row)) 8) h) us a

@@ -1,12 +1,12 @@
 -- How pairs are formed, one after the other: what one update of the batch adds, and what stands in
 -- for what.
-use Rattle.std.proofs.Common.{◌≡◌, ℕ, zero, suc, ◌+◌, ◌-◌, ◌≤◌, ◌<◌, ◌^◌, Bool, List, [], ◌∷◌, ◌++◌, map, take, drop, length, get_or, slice_get, IsTrue, IsSomeAnd, ◌∙◌, ap, arith, length-drop}
-use Rattle.std.specs.Prelude.{slice_range, unsigned_abs}
-use Rattle.std.specs.List.{list_all}
+use Rattle.std.proofs.Common.{◌≡◌, ℕ, zero, suc, ◌+◌, ◌-◌, ◌≤◌, ◌<◌, Bool, List, [], ◌∷◌, ◌++◌, map, take, drop, length, get_or, slice_get, IsTrue, IsSomeAnd, refl, ◌∙◌, ap, arith, length-drop}
+use Rattle.std.specs.Prelude.{slice_range}
+use Rattle.std.specs.List.{Contains, list_all}
 use Rattle.std.proofs.lemmas.Bool.{and_parts}
 use Rattle.std.proofs.lemmas.List.{get_or-drop, take_more}
+use Rattle.std.proofs.lemmas.List.Elements.{Contains-append_right}
 use Rattle.update.specs.declared.change.Update.{Update}
-use Rattle.update.proofs.ConsolidatedLemmas.{summed_size}
 
 module _ {X : Type 0} where
   -- a test that all elements pass is passed by the one at a place
@@ -25,6 +25,14 @@ module _ {X : Type 0} where
   at_some P [] i h d = absurd h
   at_some P (x ∷ xs) zero h d = h
   at_some P (x ∷ xs) (suc i) h d = at_some P xs i h d
+
+  -- what is at a place is an element
+  pub some_element : (P : X → Type 0) (xs : List X) (i : ℕ) → IsSomeAnd (slice_get xs i) P → (x : X) × Contains xs x × P x
+  some_element P [] i e = absurd e
+  some_element P (x ∷ xs) zero e = (x, (0, omega arith, refl), e)
+  some_element P (x ∷ xs) (suc i) e =
+      let rest = some_element P xs i e in
+      (rest.0, Contains-append_right (x ∷ []) xs rest.0 rest.1, rest.2)
 
   pub passes_at : (p : X → Bool) (xs : List X) (i : ℕ) (d : X) → i < length xs → IsTrue (list_all p xs) → IsTrue (p (get_or xs i d))
   passes_at p [] i d h a = absurd (omega (arith, h))
@@ -49,12 +57,6 @@ module _ {X : Type 0} where
       ∙ ap (λ y. take (i - a) (drop a xs) ++ y ∷ []) (get_or-drop a xs (i - a) d ∙ ap (λ n. get_or xs n d) same)
 
 module _ {T : Type 0} where
-  -- one update that is too large makes the list large
-  pub large_one : (us : List (Update T)) (i : ℕ) → IsSomeAnd (slice_get us i) (λ u. 2 ^ 63 ≤ unsigned_abs u.diff) → 2 ^ 63 ≤ summed_size us
-  large_one [] i e = absurd e
-  large_one (u ∷ us) zero e = omega (arith, e)
-  large_one (u ∷ us) (suc i) e = let rest = large_one us i e in omega (arith, rest)
-
   -- what is at a place of a list is there in its image
   pub image_at : {X : Type 0} (f : X → Update T) (P : Update T → Type 0) (xs : List X) (i : ℕ) → IsSomeAnd (slice_get xs i) (λ x. P (f x)) → IsSomeAnd (slice_get (map f xs) i) P
   image_at f P [] i e = absurd e

@@ -1,13 +1,16 @@
 -- A total that is no 64-bit number asks for many updates or large ones.
-use Rattle.std.proofs.Common.{◌+◌, ◌≤◌, ◌^◌, true, false, cond, ◌&&◌, List, [], ◌∷◌, inl, inr, ⊎_elim, arith, w64, FitsSigned, Bool}
-use Rattle.std.specs.Prelude.{ℤ, pos, ◌+ℤ◌, unsigned_abs}
+use Rattle.std.proofs.Common.{◌≡◌, ℕ, ◌+◌, ◌≤◌, ◌^◌, true, false, cond, ◌&&◌, List, [], ◌∷◌, inl, inr, ⊎_elim, arith, w64, FitsSigned, Bool, sym, ap, refl, ◌∙◌}
+use Rattle.std.specs.Prelude.{ℤ, pos, ◌+ℤ◌, unsigned_abs, IfErr}
+use Rattle.std.specs.declared.result.Result.{Result}
+use Rattle.std.specs.declared.result.Result.TheVariants.{Ok, Err}
 use Rattle.std.proofs.lemmas.Bool.{cases_lt}
 use Rattle.std.proofs.lemmas.Int.{ints, fits_signed_from_abs}
 use Rattle.update.specs.Bags.{same_row}
 use Rattle.update.specs.Updates.{size, total_where, HasLargeTotal}
 use Rattle.update.specs.declared.change.Update.{Update}
 use Rattle.update.specs.declared.refusal.Refusal.{Refusal}
-use Rattle.update.specs.Refusals.{IsMemoryOrOverflow}
+use Rattle.update.specs.declared.refusal.Refusal.TheVariants.{OutOfMemory, Overflow}
+use Rattle.update.specs.Refusals.{IsMemoryOrOverflow, code_of}
 use Rattle.update.proofs.ConsolidatedLemmas.{summed_size, summed_size_is}
 
 -- a number that does not fit in 64 bits has an absolute value of 2^63 or more
@@ -38,3 +41,21 @@ module _ {T : Type 0} where
 pub refused_more : (cause more : Type 0) (e : Refusal) → (cause → more) → IsMemoryOrOverflow cause e → IsMemoryOrOverflow more e
 refused_more cause more e f (inl memory) = inl memory
 refused_more cause more e f (inr large) = inr (large.0, f large.1)
+
+-- what brings about an overflow is a cause of what is refused
+pub refused_by : {A : Type 0} (cause more : Type 0) (r : Result A Refusal) → IfErr r (IsMemoryOrOverflow cause) → IfErr r (λ e. e ≡ Overflow → more) → IfErr r (IsMemoryOrOverflow more)
+refused_by cause more (Ok x) h g = tt
+refused_by cause more (Err e) (inl memory) g = inl memory
+refused_by cause more (Err e) (inr large) g = inr (large.0, g large.0)
+
+-- a refusal for want of memory is no overflow
+memory_no_overflow : (e : Refusal) → e ≡ OutOfMemory → e ≡ Overflow → ⊥
+memory_no_overflow e m o = apart (code_of OutOfMemory) (code_of Overflow) refl refl (ap code_of (sym m ∙ o))
+  where
+    apart : (n k : ℕ) → n ≡ 1 → k ≡ 10 → n ≡ k → ⊥
+    apart n k one ten same = omega (arith, one, ten, same)
+
+-- if its cause brings about more, then an overflow does
+pub overflow_more : (cause more : Type 0) (e : Refusal) → (cause → more) → IsMemoryOrOverflow cause e → e ≡ Overflow → more
+overflow_more cause more e f (inl memory) o = absurd (memory_no_overflow e memory o)
+overflow_more cause more e f (inr large) o = f large.1

@@ -6,7 +6,9 @@ pub mod FormingLemmas
 pub mod LargeLemmas
 pub mod OrderLemmas
 pub mod StandingLemmas
+pub mod PartLemmas
 pub mod TurnedLemmas
+pub mod FitLemmas
 pub mod LastLemmas
 pub mod RunLemmas
 pub mod DeterminedLemmas

@@ -1,7 +1,7 @@
 -- Runs: the updates of one key in a batch, and the pairs of two runs. Whichever run the outer loop
 -- goes through, the same pairs are formed, in another order.
-use Rattle.std.proofs.Common.{◌≡◌, ◌≢◌, ℕ, zero, suc, ◌+◌, ◌-◌, ◌*◌, ◌≤◌, ◌<◌, ◌^◌, Bool, true, List, [], ◌∷◌, ◌++◌, map, take, drop, length, get_or, slice_get, IsTrue, IsSomeAnd, min, ℤ, refl, sym, ◌∙◌, ap, subst, arith, length-take, length-drop, append_assoc, ⊎_elim}
-use Rattle.std.specs.Prelude.{slice_range, unsigned_abs}
+use Rattle.std.proofs.Common.{◌≡◌, ◌≢◌, ℕ, zero, suc, ◌+◌, ◌-◌, ◌*◌, ◌≤◌, ◌<◌, ◌^◌, Bool, true, List, [], ◌∷◌, ◌++◌, map, take, drop, length, get_or, slice_get, IsTrue, IsSomeAnd, min, ℤ, refl, sym, ◌∙◌, ap, subst, arith, length-take, length-drop, append_assoc, ⊎_elim, w64}
+use Rattle.std.specs.Prelude.{slice_range, FitsSigned}
 use Rattle.std.specs.List.{filter, flat_map, list_all}
 use Rattle.std.specs.List.Sorted.{IsPermutation, IsStrictlySortedBy}
 use Rattle.std.specs.Cmp.Lexicographic.{slice_cmp, lists_ties}
@@ -13,23 +13,23 @@ use Rattle.std.proofs.lemmas.Cmp.{tied_itself}
 use Rattle.std.proofs.lemmas.Grind.{flat_map-append}
 use Rattle.std.proofs.lemmas.List.{take-append-drop, drop-take, drop-drop, get_or-take, get_or-drop, length-append, length-map, map-append, append-nil}
 use Rattle.std.proofs.lemmas.List.Elements.{filter_passes}
+use Rattle.std.proofs.lemmas.List.Sorted.{IsPermutation-sym}
 use Rattle.std.proofs.lemmas.List.Sums.{list_all-from_AllPass}
 use Rattle.lattice.proofs.FrontierLemmas.{all_more}
 use Rattle.antichain.proofs.Lists.{all_at, all_from}
-use Rattle.update.specs.Updates.{size}
 use Rattle.update.specs.declared.change.Update.{Update}
-use Rattle.update.proofs.ConsolidatedLemmas.{summed_size, summed_size_is, moved_total, moved_size, moved_among}
 use Rattle.plan.proofs.CountLemmas.{row_same}
 use Rattle.batch.specs.Batches.{by_row_then_time, at_key, AllBefore, NoneBefore, NoneAfter, AllAfter}
 use Rattle.batch.proofs.SeekLemmas.{range_long}
-use Rattle.trace.proofs.ReadingLemmas.{size-append}
 use Rattle.join.specs.declared.forming.Side.{Side}
 use Rattle.join.specs.declared.forming.Side.TheVariants.{Left, Right}
 use Rattle.join.specs.Pairs.{is_keyed, is_wide}
-use Rattle.join.specs.Forming.{turned, formed_pair, formed_fits, formed_with, formed_each, formed_all, StandsIn}
-use Rattle.join.proofs.FormingLemmas.{passes_at, some_at, at_some, range_more, large_one, image_at}
+use Rattle.join.specs.Parts.{ArePartOf}
+use Rattle.join.specs.Forming.{turned, formed_pair, formed_fits, formed_fit, formed_with, formed_each, formed_all, StandsIn, HasLargeDiff, HasLargePartWith}
+use Rattle.join.proofs.FormingLemmas.{passes_at, some_at, at_some, some_element, range_more, image_at}
 use Rattle.join.proofs.OrderLemmas.{rows_total, keys_rise, front_grows, front_stays, found_is}
-use Rattle.join.proofs.StandingLemmas.{pieces_within, stands_before, stands_behind, stands_in_turn}
+use Rattle.join.proofs.PartLemmas.{part_moved, part_front, part_back, part_of_part, pieces_part, large_so_far}
+use Rattle.join.proofs.StandingLemmas.{stands_before, stands_behind, stands_in_turn, moved_stands}
 use Rattle.join.proofs.TurnedLemmas.{by_columns}
 
 -- ---- parts of a list
@@ -102,19 +102,13 @@ module _ {X : Type 0} where
 
 -- ---- the pairs of one update with a run
 
-module _ {T : Type 0} where
-  -- what stands in for a list is too large only if that list is
-  pub settled_large : (pushed all : List (Update T)) → StandsIn pushed all → 2 ^ 63 ≤ size pushed → 2 ^ 63 ≤ size all
-  settled_large pushed all s large = let smaller = s.smaller in omega (arith, large, smaller)
-
 module _ {T : Type 0} (f : Update T → Update T) (vs : List (Update T)) where
-  -- one pair that is too large makes those of the run too large
-  pub part_large : (a i b : ℕ) → a ≤ i → i < b → b ≤ length vs → IsSomeAnd (slice_get vs i) (λ v. 2 ^ 63 ≤ unsigned_abs (f v).diff) → 2 ^ 63 ≤ size (map f (slice_range vs a b))
+  -- a pair with too large a diff is one of the pairs of the run
+  pub part_large : (a i b : ℕ) → a ≤ i → i < b → b ≤ length vs → IsSomeAnd (slice_get vs i) (λ v. FitsSigned w64 (f v).diff → ⊥) → HasLargeDiff (map f (slice_range vs a b))
   part_large a i b g h l e =
-      let here = part_at (λ v. 2 ^ 63 ≤ unsigned_abs (f v).diff) vs a i b g h l e in
-      let large = large_one (map f (slice_range vs a b)) (i - a) (image_at f (λ w. 2 ^ 63 ≤ unsigned_abs w.diff) (slice_range vs a b) (i - a) here) in
-      let same = summed_size_is (map f (slice_range vs a b)) in
-      omega (arith, large, same)
+      let here = part_at (λ v. FitsSigned w64 (f v).diff → ⊥) vs a i b g h l e in
+      some_element (λ w. FitsSigned w64 w.diff → ⊥) (map f (slice_range vs a b)) (i - a)
+      (image_at f (λ w. FitsSigned w64 w.diff → ⊥) (slice_range vs a b) (i - a) here)
 
   -- what stands in for the pairs so far, with one more pair, stands in for the pairs with that one
   pub part_stands : (a i : ℕ) (old before new : List (Update T)) → a ≤ i → i < length vs
@@ -151,15 +145,7 @@ module _ {T : Type 0} (joined : T → T → T) (k : ℕ) where
 
   -- the pairs that the other run's updates form stand in for those of the one's
   pub each_turned : (side : Side) (us vs : List (Update T)) → StandsIn (formed_each (turned side) joined k vs us) (formed_each side joined k us vs)
-  each_turned side us vs =
-      let ps = formed_each side joined k us vs in
-      let qs = formed_each (turned side) joined k vs us in
-      let moves = each_moves side us vs in
-      record {
-        totals = moved_total ps qs moves;
-        among = moved_among ps qs moves;
-        smaller = let same = moved_size ps qs moves in omega (arith, same);
-      }
+  each_turned side us vs = moved_stands (formed_each side joined k us vs) (formed_each (turned side) joined k vs us) (each_moves side us vs)
 
   -- what stands in for the pairs of one run stands in for those of the other
   pub turned_stands : (side : Side) (us vs old new : List (Update T)) → StandsIn new (old ++ formed_each (turned side) joined k vs us) → StandsIn new (old ++ formed_each side joined k us vs)
@@ -167,15 +153,12 @@ module _ {T : Type 0} (joined : T → T → T) (k : ℕ) where
       stands_in_turn new (old ++ formed_each (turned side) joined k vs us) (old ++ formed_each side joined k us vs) a
       (stands_behind (formed_each (turned side) joined k vs us) (formed_each side joined k us vs) old (each_turned side us vs))
 
-  -- and both are equally large
-  pub turned_large : (side : Side) (us vs old : List (Update T)) → 2 ^ 63 ≤ size (old ++ formed_each (turned side) joined k vs us) → 2 ^ 63 ≤ size (old ++ formed_each side joined k us vs)
-  turned_large side us vs old large =
+  -- and they are a part of those
+  pub turned_part : (side : Side) (us vs : List (Update T)) → ArePartOf (formed_each (turned side) joined k vs us) (formed_each side joined k us vs)
+  turned_part side us vs =
       let ps = formed_each side joined k us vs in
       let qs = formed_each (turned side) joined k vs us in
-      let same = moved_size ps qs (each_moves side us vs) in
-      let left = size-append old qs in
-      let right = size-append old ps in
-      omega (arith, large, same, left, right)
+      part_moved qs ps (IsPermutation-sym ps qs (each_moves side us vs))
 
   fits_other : (side : Side) (u v : Update T) → IsTrue (formed_fits side k u v) → IsTrue (formed_fits (turned side) k v u)
   fits_other Left u v h = h
@@ -206,6 +189,16 @@ module _ {T : Type 0} (joined : T → T → T) (k : ℕ) where
       let rest = all_is_each side key us vs parts.1 in
       (λ i. map (formed_pair side joined k u) (filter (is_keyed k (same i)) vs) ++ rest i)
 
+  -- if the rows of all their pairs fit, then they fit with each row of that run
+  pub keyed_fit : (side : Side) (key : List ℤ) (us vs : List (Update T)) → IsTrue (list_all (is_keyed k key) us) → IsTrue (formed_fit side k us vs) → IsTrue (list_all (λ u. list_all (formed_fits side k u) (filter (is_keyed k key) vs)) us)
+  keyed_fit side key [] vs all fit = refl
+  keyed_fit side key (u ∷ us) vs all fit =
+      let parts = and_parts _ _ all in
+      let rows = and_parts _ _ fit in
+      and_from _ _
+      (subst (λ r. IsTrue (list_all (formed_fits side k u) (filter (is_keyed k r) vs))) (row_same (take k u.row) key parts.0) rows.0)
+      (keyed_fit side key us vs parts.1 rows.1)
+
   -- ---- one update of the outer run after the other
 
   module _ (side : Side) (us vs : List (Update T)) (a i : ℕ) (g : a ≤ i) (u : Update T) (e : IsSomeAnd (slice_get us i) (λ w. u ≡ w)) where
@@ -230,27 +223,20 @@ module _ {T : Type 0} (joined : T → T → T) (k : ℕ) where
         (append_assoc old so_far (ones u) ∙ ap (λ ys. old ++ ys) (sym (each_grown h)))
         (stands_in_turn new (before ++ ones u) ((old ++ so_far) ++ ones u) t (stands_before before (old ++ so_far) (ones u) s))
 
-    -- if the pairs so far are too large with those of one more update, then all pairs are too large
-    pub each_more_large : (b : ℕ) (old before : List (Update T)) → i < b → b ≤ length us → StandsIn before (old ++ so_far) → 2 ^ 63 ≤ size (before ++ ones u) → 2 ^ 63 ≤ size (old ++ formed_each side joined k (slice_range us a b) vs)
-    each_more_large b old before h l s large =
-        let run = slice_range us a b in
-        let whole = formed_each side joined k run vs in
-        let smaller = s.smaller in
-        let here = size-append before (ones u) in
-        let first = size-append old so_far in
-        let last = size-append old whole in
-        let pieces = pieces_within ones run (i - a) u (part_at (λ w. u ≡ w) us a i b g h l e) in
-        let begins = ap (λ ws. summed_size (flat_map ones ws)) (part_begins us a i b g (omega (arith, h))) in
-        let one = summed_size_is so_far in
-        let two = summed_size_is (ones u) in
-        let three = summed_size_is whole in
-        omega (arith, large, smaller, here, first, last, pieces, begins, one, two, three)
+    -- the pairs so far with those of one more update are a part of all pairs
+    pub each_part : (b : ℕ) → i < b → b ≤ length us → ArePartOf (formed_each side joined k (slice_range us a (i + 1)) vs) (formed_each side joined k (slice_range us a b) vs)
+    each_part b h l =
+        subst (λ ws. ArePartOf (flat_map ones ws) (flat_map ones (slice_range us a b)))
+        (part_begins us a (i + 1) b (omega (arith, g)) (omega (arith, h)))
+        (pieces_part ones (i + 1 - a) (slice_range us a b))
 
-    -- pairs of one update that are too large are so behind the others
-    pub one_alone_large : (before : List (Update T)) → 2 ^ 63 ≤ size (ones u) → 2 ^ 63 ≤ size (before ++ ones u)
-    one_alone_large before large =
-        let here = size-append before (ones u) in
-        omega (arith, large, here)
+    -- and so are those of the one update
+    pub one_part : (b : ℕ) → i < b → b ≤ length us → ArePartOf (ones u) (formed_each side joined k (slice_range us a b) vs)
+    one_part b h l =
+        let grown = formed_each side joined k (slice_range us a (i + 1)) vs in
+        part_of_part (ones u) grown (formed_each side joined k (slice_range us a b) vs)
+        (subst (ArePartOf (ones u)) (sym (each_grown (omega (arith, h, l)))) (part_back so_far (ones u)))
+        (each_part b h l)
 
 -- ---- the run of a key in a sorted batch
 
@@ -401,16 +387,13 @@ module _ {T : Type 0} (side : Side) (joined : T → T → T) (k : ℕ) (us vs : 
       let more = ap length (all_parts a b g) ∙ length-append (all (take a us)) (all (slice_range us a b)) in
       omega (arith, more, s, t)
 
-  -- if the pairs so far are too large with those that are still to come, then all pairs are too
-  -- large
-  pub runs_large : (a : ℕ) (old before : List (Update T)) → StandsIn before (old ++ all (take a us)) → 2 ^ 63 ≤ size (before ++ all (drop a us)) → 2 ^ 63 ≤ size (old ++ all us)
-  runs_large a old before s large =
-      let smaller = s.smaller in
-      let whole = ap (λ ws. size (all ws)) (sym (take-append-drop a us)) ∙ ap size (flat_map-append own (take a us) (drop a us)) ∙ size-append (all (take a us)) (all (drop a us)) in
-      let here = size-append before (all (drop a us)) in
-      let first = size-append old (all (take a us)) in
-      let last = size-append old (all us) in
-      omega (arith, large, smaller, whole, here, first, last)
+  -- if the pairs so far, with those that are still to come, have too large a part, then all pairs
+  -- have
+  pub runs_large : (below : T → T → Bool) (a : ℕ) (old before : List (Update T)) → StandsIn before (old ++ all (take a us)) → HasLargePartWith below before (all (drop a us)) → HasLargePartWith below old (all us)
+  runs_large below a old before s large =
+      subst (HasLargePartWith below old)
+      (sym (flat_map-append own (take a us) (drop a us)) ∙ ap all (take-append-drop a us))
+      (large_so_far below old (all (take a us)) before (all (drop a us)) s large)
 
   module _ (key : List ℤ) (a b start end : ℕ) (keyed : IsTrue (list_all (is_keyed k key) (slice_range us a b))) (found : slice_range vs start end ≡ filter (is_keyed k key) vs) where
     abbrev run : List (Update T)
@@ -423,14 +406,19 @@ module _ {T : Type 0} (side : Side) (joined : T → T → T) (k : ℕ) (us vs : 
     pub run_is : all run ≡ formed_each side joined k run there
     run_is = all_is_each joined k side key run vs keyed ∙ ap (formed_each side joined k run) (sym found)
 
-    -- if they are too large, then they are so with those that are still to come
-    pub run_large : (old : List (Update T)) → a ≤ b → 2 ^ 63 ≤ size (old ++ formed_each side joined k run there) → 2 ^ 63 ≤ size (old ++ all (drop a us))
-    run_large old g large =
-        let same = ap size run_is in
-        let whole = ap (λ ws. size (all ws)) (sym (rest_behind us a b g)) ∙ ap size (flat_map-append own run (drop b us)) ∙ size-append (all run) (all (drop b us)) in
-        let here = size-append old (formed_each side joined k run there) in
-        let last = size-append old (all (drop a us)) in
-        omega (arith, large, same, whole, here, last)
+    -- they are a part of those that are still to come
+    pub run_part : a ≤ b → ArePartOf (formed_each side joined k run there) (all (drop a us))
+    run_part g =
+        subst (λ ps. ArePartOf ps (all (drop a us))) run_is
+        (subst (ArePartOf (all run))
+        (sym (flat_map-append own run (drop b us)) ∙ ap all (rest_behind us a b g))
+        (part_front (all run) (all (drop b us))))
+
+    -- if the rows of all pairs fit, then so do those of the run
+    pub run_fits : IsTrue (formed_fit side k us vs) → IsTrue (list_all (λ u. list_all (formed_fits side k u) there) run)
+    run_fits h =
+        subst (λ ws. IsTrue (list_all (λ u. list_all (formed_fits side k u) ws) run)) (sym found)
+        (keyed_fit joined k side key run vs keyed (part_all (λ u. list_all (formed_fits side k u) (filter (is_keyed k (take k u.row)) vs)) us a b h))
 
     -- there are as many as the product of both lengths
     pub run_looked : (old new : ℕ) → a ≤ b → b ≤ length us → start ≤ end → end ≤ length vs → new ≡ min (old + (b - a) * (end - start)) (2 ^ 64 - 1) → new ≡ min (old + length (all run)) (2 ^ 64 - 1)

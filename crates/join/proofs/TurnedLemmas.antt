@@ -1,21 +1,21 @@
 -- A batch on the right forms the pairs of the definition in another order, so what it forms stands
 -- in for them.
-use Rattle.std.proofs.Common.{◌≡◌, ℕ, ℤ, ◌*◌, ◌≤◌, Bool, true, false, cond, List, [], ◌∷◌, ◌++◌, map, take, refl, sym, ap, ◌∙◌, subst, arith}
+use Rattle.std.proofs.Common.{◌≡◌, ℕ, ℤ, Bool, true, false, cond, List, [], ◌∷◌, ◌++◌, map, take, refl, sym, ap, ◌∙◌, subst}
 use Rattle.std.specs.List.{filter, flat_map}
 use Rattle.std.specs.List.Sorted.{IsPermutation}
 use Rattle.std.proofs.lemmas.Bool.{true≢false}
 use Rattle.std.proofs.lemmas.List.{append_assoc}
-use Rattle.std.proofs.lemmas.List.Sorted.{IsPermutation-refl, IsPermutation-trans, IsPermutation-cons, IsPermutation-append_left, IsPermutation-append_right, IsPermutation-append_comm}
+use Rattle.std.proofs.lemmas.List.Sorted.{IsPermutation-refl, IsPermutation-sym, IsPermutation-trans, IsPermutation-cons, IsPermutation-append_left, IsPermutation-append_right, IsPermutation-append_comm}
 use Rattle.update.specs.Bags.{same_row}
-use Rattle.update.specs.Updates.{size}
 use Rattle.update.specs.declared.change.Update.{Update}
-use Rattle.update.proofs.ConsolidatedLemmas.{moved_total, moved_size, moved_among}
 use Rattle.plan.proofs.CountLemmas.{row_same, row_itself}
 use Rattle.plan.proofs.ReductionLemmas.{row_differs}
 use Rattle.join.specs.declared.forming.Side.TheVariants.{Right}
 use Rattle.join.specs.Pairs.{is_keyed, pair_of, pairs}
+use Rattle.join.specs.Parts.{ArePartOf}
 use Rattle.join.specs.Forming.{StandsIn, formed_all}
-use Rattle.join.proofs.PairLemmas.{size_pairs}
+use Rattle.join.proofs.PartLemmas.{part_moved}
+use Rattle.join.proofs.StandingLemmas.{moved_stands}
 
 -- ---- a table, row by row and column by column
 
@@ -66,7 +66,7 @@ module _ {X Y Z : Type 0} (c : X → Y → Bool) (d : Y → X → Bool) (same : 
 -- ---- pairs
 
 -- comparing rows is symmetric
-row_turned : (row other : List ℤ) → same_row row other ≡ same_row other row
+pub row_turned : (row other : List ℤ) → same_row row other ≡ same_row other row
 row_turned row other = step (same_row row other) refl
   where
     step : (b : Bool) → same_row row other ≡ b → b ≡ same_row other row
@@ -86,15 +86,10 @@ module _ {T : Type 0} (joined : T → T → T) (k : ℕ) (us vs : List (Update T
 
   -- what a batch on the right forms stands in for the pairs of the definition
   pub turned : StandsIn (formed_all Right joined k us vs) (pairs joined k vs us)
-  turned = record {
-    totals = moved_total (pairs joined k vs us) (formed_all Right joined k us vs) turned_moves;
-    among = moved_among (pairs joined k vs us) (formed_all Right joined k us vs) turned_moves;
-    smaller = let same = moved_size (pairs joined k vs us) (formed_all Right joined k us vs) turned_moves in omega (arith, same);
-  }
+  turned = moved_stands (pairs joined k vs us) (formed_all Right joined k us vs) turned_moves
 
-  -- the size of what a batch on the right forms is at most the product of both sizes
-  pub size_turned : size (formed_all Right joined k us vs) ≤ size us * size vs
-  size_turned =
-      let same = moved_size (pairs joined k vs us) (formed_all Right joined k us vs) turned_moves in
-      let within = size_pairs joined k vs us in
-      omega (arith, same, within)
+  -- and it is a part of them
+  pub turned_part : ArePartOf (formed_all Right joined k us vs) (pairs joined k vs us)
+  turned_part =
+      part_moved (formed_all Right joined k us vs) (pairs joined k vs us)
+      (IsPermutation-sym (pairs joined k vs us) (formed_all Right joined k us vs) turned_moves)

@@ -1,12 +1,14 @@
 -- What a join forms of a new batch: the pairs of each of its updates with the updates of its key on
 -- the other side. The same definitions serve a batch on either side.
-use Rattle.std.specs.Prelude.{◌≡◌, ◌≤◌, ℕ, Bool, List, map, take, ℤ, IsTrue}
-use Rattle.std.specs.List.{filter, flat_map, list_all}
+use Rattle.std.specs.Prelude.{◌≡◌, ◌≤◌, ℕ, Bool, List, ◌++◌, map, take, ℤ, IsTrue, FitsSigned}
+use Rattle.std.specs.Int.{w64}
+use Rattle.std.specs.List.{Contains, filter, flat_map, list_all}
 use Rattle.update.specs.Updates.{total_where, size}
 use Rattle.update.specs.declared.change.Update.{Update}
 use Rattle.join.specs.declared.forming.Side.{Side}
 use Rattle.join.specs.declared.forming.Side.TheVariants.{Left, Right}
 use Rattle.join.specs.Pairs.{is_keyed, pair_of, fits}
+use Rattle.join.specs.Parts.{HasLargePart}
 
 -- the other side
 abbrev pub turned : Side → Side
@@ -23,6 +25,10 @@ module _ {T : Type 0} where
   abbrev pub formed_fits : Side → ℕ → Update T → Update T → Bool
   formed_fits Left k u v = fits k u v
   formed_fits Right k u v = fits k v u
+
+  -- the rows of all pairs of the batch have at most 8 columns
+  abbrev pub formed_fit : Side → ℕ → List (Update T) → List (Update T) → Bool
+  formed_fit side k us vs = list_all (λ u. list_all (formed_fits side k u) (filter (is_keyed k (take k u.row)) vs)) us
 
   -- the pairs of each update of us with each update of vs
   abbrev pub formed_each : Side → (T → T → T) → ℕ → List (Update T) → List (Update T) → List (Update T)
@@ -43,3 +49,11 @@ module _ {T : Type 0} where
         → IsTrue (list_all (λ u. p u.row u.time) vs)
         → IsTrue (list_all (λ u. p u.row u.time) us)
     pub smaller : size us ≤ size vs
+
+  -- some update's diff is no 64-bit number
+  abbrev pub HasLargeDiff : List (Update T) → Type 0
+  HasLargeDiff us = (u : Update T) × Contains us u × (FitsSigned w64 u.diff → ⊥)
+
+  -- whatever us stands in for: some part of that and of ws together has too large a total
+  abbrev pub HasLargePartWith : (T → T → Bool) → List (Update T) → List (Update T) → Type 0
+  HasLargePartWith below us ws = (vs : List (Update T)) → StandsIn us vs → HasLargePart below (vs ++ ws)

@@ -2,5 +2,6 @@
 pub use Rattle.lattice.specs.Order
 pub use Rattle.lattice.specs.Frontiers
 pub mod Pairs
+pub mod Parts
 pub mod Forming
 pub mod Sides

@@ -2,7 +2,7 @@
 -- pair is visible only from the join of both times (McSherry et al., Differential Dataflow, CIDR
 -- 2013).
 use Rattle.std.specs.Prelude.{ℕ, ◌+◌, nat_le, Bool, List, ◌++◌, map, take, drop, length, ℤ, ◌*ℤ◌}
-use Rattle.std.specs.List.{filter, flat_map}
+use Rattle.std.specs.List.{filter, flat_map, list_all}
 use Rattle.update.specs.Bags.{same_row}
 use Rattle.update.specs.declared.change.Update.{Update}
 
@@ -29,6 +29,10 @@ module _ {T : Type 0} where
   -- the pair's row has at most 8 columns
   abbrev pub fits : ℕ → Update T → Update T → Bool
   fits k u v = nat_le (length u.row + length (drop k v.row)) 8
+
+  -- the rows of all pairs have at most 8 columns
+  abbrev pub pairs_fit : ℕ → List (Update T) → List (Update T) → Bool
+  pairs_fit k us vs = list_all (λ u. list_all (fits k u) (filter (is_keyed k (take k u.row)) vs)) us
 
 -- the row has a key of k columns
 abbrev pub is_wide : ℕ → List ℤ → Bool

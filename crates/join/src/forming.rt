@@ -13,10 +13,12 @@
 //!   enough.
 //!
 //! The invariant of every step: what is listed stands in for the pairs formed so far. It has their
-//! totals and no other rows and times, and is no larger.
-ghost use Rattle.std.specs.Prelude.{◌≡◌, ◌≤◌, ◌<◌, ◌+◌, ◌-◌, ◌*◌, ◌^◌, ◌+ℤ◌, ◌++◌, ◌∷◌, [], ℤ, Some, map, IfOk, IfErr, IfSome, IsErr, OnOk, IsTrue, IsSomeAnd, length, take, drop, slice_get, slice_index_or, slice_range, unsigned_abs, min};
+//! totals and no other rows and times, and is no larger. So if a total of the list is too large,
+//! then it is the total of a part of all pairs.
+ghost use Rattle.std.specs.Prelude.{◌≡◌, ◌≤◌, ◌<◌, ◌+◌, ◌-◌, ◌*◌, ◌^◌, ◌+ℤ◌, ◌++◌, ◌∷◌, [], ℤ, Some, map, FitsSigned, IfOk, IfErr, IfSome, IsErr, OnOk, IsTrue, IsSomeAnd, length, take, drop, slice_get, slice_index_or, slice_range, min};
+ghost use Rattle.std.specs.Int.{w64};
 ghost use Rattle.std.specs.List.{list_all};
-ghost use Rattle.update.specs.Updates.{HasLargeTotal, IsConsolidated, size};
+ghost use Rattle.update.specs.Updates.{HasLargeTotal, IsConsolidated};
 ghost use Rattle.update.specs.Groups.{is_same, group_sum};
 ghost use Rattle.update.specs.Refusals.{IsMemoryOrOverflow};
 ghost use Rattle.update.specs.declared.change.Update.{Update};
@@ -24,7 +26,8 @@ ghost use Rattle.update.specs.declared.refusal.Refusal.{Refusal};
 ghost use Rattle.batch.specs.Batches.{IsSealed, AllBefore};
 ghost use Rattle.trace.specs.Readings.{all_content};
 ghost use Rattle.join.specs.Pairs.{is_wide, pair_of, fits};
-ghost use Rattle.join.specs.Forming.{turned, formed_pair, formed_fits, formed_each, formed_all, StandsIn};
+ghost use Rattle.join.specs.Parts.{HasLargePart};
+ghost use Rattle.join.specs.Forming.{turned, formed_pair, formed_fits, formed_fit, formed_each, formed_all, StandsIn, HasLargeDiff, HasLargePartWith};
 
 use batch::BatchReader;
 use lattice::Lattice;
@@ -78,7 +81,7 @@ fn pair<T: Lattice>(k: usize, u: &Update<T>, v: &Update<T>) -> Result<Update<T>,
     requires fits { IsTrue (fits k u.now v.now) }
     ensures made { IfOk result (λ made. made ≡ pair_of T.joined k u.now v.now) }
     ensures refused { IfErr result (λ refused. (refused ≡ Refusal.Overflow)
-        × (2 ^ 63 ≤ unsigned_abs (pair_of T.joined k u.now v.now).diff)) }
+        × (FitsSigned w64 (pair_of T.joined k u.now v.now).diff → ⊥)) }
 {
     let Some(diff) = u.diff.times(v.diff) else {
         return Err(Refusal::Overflow);
@@ -102,7 +105,7 @@ fn formed_pair<T: Lattice>(
     requires fits { IsTrue (formed_fits side k u.now v.now) }
     ensures made { IfOk result (λ made. made ≡ formed_pair side T.joined k u.now v.now) }
     ensures refused { IfErr result (λ refused. (refused ≡ Refusal.Overflow)
-        × (2 ^ 63 ≤ unsigned_abs (formed_pair side T.joined k u.now v.now).diff)) }
+        × (FitsSigned w64 (formed_pair side T.joined k u.now v.now).diff → ⊥)) }
 {
     match side {
         Side::Left => pair(k, u, v),
@@ -181,7 +184,7 @@ fn push_pair<B: BatchReader>(
         (formed.old.items ++ formed_pair side B.Time.joined k u.now v ∷ []))) }
     ensures refused { IfErr result (IsMemoryOrOverflow
         (IsSomeAnd (slice_get (B.content inner.now) i)
-        (λ v. 2 ^ 63 ≤ unsigned_abs (formed_pair side B.Time.joined k u.now v).diff))) }
+        (λ v. FitsSigned w64 (formed_pair side B.Time.joined k u.now v).diff → ⊥))) }
 {
     let v = update_at(inner, i);
     let pair = formed_pair(side, k, u, &v)?;
@@ -208,7 +211,7 @@ fn push_pairs<B: BatchReader>(
         (formed.old.items ++ map (formed_pair side B.Time.joined k u.now)
         (slice_range (B.content inner.now) run.start run.end))) }
     ensures refused { IfErr result (IsMemoryOrOverflow
-        (2 ^ 63 ≤ size (map (formed_pair side B.Time.joined k u.now)
+        (HasLargeDiff (map (formed_pair side B.Time.joined k u.now)
         (slice_range (B.content inner.now) run.start run.end)))) }
 {
     for i in run.start..run.end {
@@ -243,7 +246,7 @@ impl<T: Lattice> Formed<T> {
         ensures stands { OnOk result (StandsIn self.new.updates.items self.old.updates.items) }
         ensures fits { OnOk result (HasLargeTotal T.below self.old.updates.items → ⊥) }
         ensures looked { OnOk result (self.new.looked ≡ self.old.looked) }
-        ensures large { IsErr result → 2 ^ 63 ≤ size self.old.updates.items }
+        ensures large { IsErr result → HasLargeTotal T.below self.old.updates.items }
         ensures only { IfErr result (λ refused. refused ≡ Refusal.Overflow) }
     {
         let none = Vec::new(*self.updates.allocator());
@@ -258,7 +261,7 @@ impl<T: Lattice> Formed<T> {
     fn settle(&mut self) -> Result<(), Refusal>
         ensures stands { OnOk result (StandsIn self.new.updates.items self.old.updates.items) }
         ensures looked { OnOk result (self.new.looked ≡ self.old.looked) }
-        ensures large { IsErr result → 2 ^ 63 ≤ size self.old.updates.items }
+        ensures large { IsErr result → HasLargeTotal T.below self.old.updates.items }
         ensures only { IfErr result (λ refused. refused ≡ Refusal.Overflow) }
     {
         if self.updates.len() > self.limit {
@@ -294,8 +297,8 @@ impl<T: Lattice> Formed<T> {
             (slice_range (B.content outer.now) run.start run.end)
             (slice_range (C.content inner.now) found.start found.end))) }
         ensures looked { OnOk result (self.new.looked ≡ self.old.looked) }
-        ensures refused { IfErr result (IsMemoryOrOverflow (2 ^ 63 ≤ size
-            (self.old.updates.items ++ formed_each side T.joined k
+        ensures refused { IfErr result (IsMemoryOrOverflow (HasLargePartWith T.below
+            self.old.updates.items (formed_each side T.joined k
             (slice_range (B.content outer.now) run.start run.end)
             (slice_range (C.content inner.now) found.start found.end)))) }
     {
@@ -342,8 +345,8 @@ impl<T: Lattice> Formed<T> {
             (slice_range (C.content other.now) found.start found.end))) }
         ensures looked { OnOk result (self.new.looked ≡ min (self.old.looked
             + (run.end - run.start) * (found.end - found.start)) (2 ^ 64 - 1)) }
-        ensures refused { IfErr result (IsMemoryOrOverflow (2 ^ 63 ≤ size
-            (self.old.updates.items ++ formed_each side T.joined k
+        ensures refused { IfErr result (IsMemoryOrOverflow (HasLargePartWith T.below
+            self.old.updates.items (formed_each side T.joined k
             (slice_range (B.content batch.now) run.start run.end)
             (slice_range (C.content other.now) found.start found.end)))) }
     {
@@ -370,8 +373,7 @@ impl<T: Lattice> Formed<T> {
     ) -> Result<Places, Refusal>
         requires ordered { IsSealed T.cmp (B.content batch.now) }
         requires wide { IsTrue (list_all (λ u. is_wide k u.row) (B.content batch.now)) }
-        requires fits { IsTrue (list_all (λ u. list_all (formed_fits side k u) (C.content other.now))
-            (B.content batch.now)) }
+        requires fits { IsTrue (formed_fit side k (B.content batch.now) (C.content other.now)) }
         requires here { at.batch < length (B.content batch.now) }
         requires within { at.other ≤ length (C.content other.now) }
         requires front { IsSomeAnd (slice_get (B.content batch.now) at.batch)
@@ -388,8 +390,9 @@ impl<T: Lattice> Formed<T> {
             + length (formed_all side T.joined k
             (slice_range (B.content batch.now) at.batch next.batch) (C.content other.now)))
             (2 ^ 64 - 1)) }
-        ensures refused { IfErr result (IsMemoryOrOverflow (2 ^ 63 ≤ size (self.old.updates.items
-            ++ formed_all side T.joined k (drop at.batch (B.content batch.now)) (C.content other.now)))) }
+        ensures refused { IfErr result (IsMemoryOrOverflow (HasLargePartWith T.below
+            self.old.updates.items (formed_all side T.joined k
+            (drop at.batch (B.content batch.now)) (C.content other.now)))) }
     {
         let u = update_at(batch, at.batch);
         let key = u.row.key(k);
@@ -412,8 +415,7 @@ impl<T: Lattice> Formed<T> {
         other: &C,
     ) -> Result<(), Refusal>
         requires wide { IsTrue (list_all (λ u. is_wide k u.row) (B.content batch.now)) }
-        requires fits { IsTrue (list_all (λ u. list_all (formed_fits side k u) (C.content other.now))
-            (B.content batch.now)) }
+        requires fits { IsTrue (formed_fit side k (B.content batch.now) (C.content other.now)) }
         requires counted { self.old.looked < 2 ^ 64 }
         ensures formed { OnOk result (StandsIn self.new.updates.items
             (self.old.updates.items
@@ -421,8 +423,9 @@ impl<T: Lattice> Formed<T> {
         ensures looked { OnOk result (self.new.looked ≡ min (self.old.looked
             + length (formed_all side T.joined k (B.content batch.now) (C.content other.now)))
             (2 ^ 64 - 1)) }
-        ensures refused { IfErr result (IsMemoryOrOverflow (2 ^ 63 ≤ size (self.old.updates.items
-            ++ formed_all side T.joined k (B.content batch.now) (C.content other.now)))) }
+        ensures refused { IfErr result (IsMemoryOrOverflow (HasLargePartWith T.below
+            self.old.updates.items
+            (formed_all side T.joined k (B.content batch.now) (C.content other.now)))) }
     {
         let end = batch.len();
         let mut at = Places { batch: 0, other: 0 };
@@ -441,16 +444,16 @@ impl<T: Lattice> Formed<T> {
         others: &[C],
     ) -> Result<(), Refusal>
         requires wide { IsTrue (list_all (λ u. is_wide k u.row) (B.content batch.now)) }
-        requires fits { IsTrue (list_all (λ u. list_all (formed_fits side k u)
-            (all_content C.content others.now)) (B.content batch.now)) }
+        requires fits { IsTrue (formed_fit side k (B.content batch.now)
+            (all_content C.content others.now)) }
         ensures formed { OnOk result (StandsIn self.new.updates.items
             (self.old.updates.items ++ formed_all side T.joined k (B.content batch.now)
             (all_content C.content others.now))) }
         ensures looked { OnOk result (self.new.looked ≡ min (self.old.looked
             + length (formed_all side T.joined k (B.content batch.now)
             (all_content C.content others.now))) (2 ^ 64 - 1)) }
-        ensures refused { IfErr result (IsMemoryOrOverflow (2 ^ 63 ≤ size (self.old.updates.items
-            ++ formed_all side T.joined k (B.content batch.now)
+        ensures refused { IfErr result (IsMemoryOrOverflow (HasLargePartWith T.below
+            self.old.updates.items (formed_all side T.joined k (B.content batch.now)
             (all_content C.content others.now)))) }
     {
         for other in others {
@@ -473,8 +476,8 @@ pub(crate) fn form_pairs<B: BatchReader, C: BatchReader<Time = B::Time>>(
     looked: u64,
 ) -> Result<Formed<B::Time>, Refusal>
     requires wide { IsTrue (list_all (λ u. is_wide k u.row) (B.content batch.now)) }
-    requires fits { IsTrue (list_all (λ u. list_all (formed_fits side k u)
-        (all_content C.content others.now)) (B.content batch.now)) }
+    requires fits { IsTrue (formed_fit side k (B.content batch.now)
+        (all_content C.content others.now)) }
     ensures consolidated { IfOk result (λ made. IsConsolidated B.Time.cmp made.updates.items) }
     ensures stands { IfOk result (λ made. StandsIn made.updates.items
         (formed_all side B.Time.joined k (B.content batch.now) (all_content C.content others.now))) }
@@ -483,7 +486,7 @@ pub(crate) fn form_pairs<B: BatchReader, C: BatchReader<Time = B::Time>>(
     ensures looked { IfOk result (λ made. made.looked ≡ min (looked
         + length (formed_all side B.Time.joined k (B.content batch.now)
         (all_content C.content others.now))) (2 ^ 64 - 1)) }
-    ensures refused { IfErr result (IsMemoryOrOverflow (2 ^ 63 ≤ size
+    ensures refused { IfErr result (IsMemoryOrOverflow (HasLargePart B.Time.below
         (formed_all side B.Time.joined k (B.content batch.now)
         (all_content C.content others.now)))) }
 {

@@ -14,7 +14,8 @@ ghost use Rattle.update.specs.Updates.{as_of, size, total_where, HasLargeTotal, 
 ghost use Rattle.update.specs.Refusals.{IsMemoryOrOverflow};
 ghost use Rattle.update.specs.declared.change.Update.{Update};
 ghost use Rattle.batch.specs.Intervals.{all_times_beyond};
-ghost use Rattle.join.specs.Pairs.{pairs, is_wide, fits};
+ghost use Rattle.join.specs.Pairs.{pairs, pairs_fit, is_wide};
+ghost use Rattle.join.specs.Parts.{HasLargePart};
 ghost use Rattle.join.specs.Sides.{Acknowledged, WereInserted, all_rows_have, keys_among};
 
 use crate::forming::{Side, form_pairs};
@@ -123,11 +124,15 @@ impl<T: Lattice, L: Trace<Time = T>, R: Trace<Time = T>> JoinState<T, L, R> {
     ///
     /// The batch begins at the left boundary, and its times are beyond the since of the right
     /// trace. The right boundary is one of the right trace. Rows of the batch have at least as many
-    /// columns as the key, and rows of pairs at most
-    /// 8. If the call is refused, then nothing has changed.
+    /// columns as the key. Each row of the batch has at most 8 columns together with the rest of
+    /// each right row of its key; rows of other keys do not matter. If the call is refused, then
+    /// nothing has changed.
     ///
-    /// - [`Refusal::Overflow`] only if both sizes multiplied are at least 2^63. It always comes if
-    ///   the total of some row at some time is no 64-bit number.
+    /// - [`Refusal::Overflow`] only if the product of both diffs of one pair is no 64-bit number, or
+    ///   the total of one row at one time over some of the pairs is none. The pairs are those with
+    ///   what is stored up to the right boundary: if no keys meet, there are none. So it never
+    ///   comes if both sizes multiplied are below 2^63. It always comes if the total of some row at
+    ///   some time over all pairs is no 64-bit number.
     /// - [`Refusal::OutOfMemory`] only if memory was refused, for the boundary or for pairs.
     ///
     /// Cost: each key of the batch is sought in each batch of the right side, from where the last
@@ -147,9 +152,8 @@ impl<T: Lattice, L: Trace<Time = T>, R: Trace<Time = T>> JoinState<T, L, R> {
             (L.Batch.content batch.now)) }
         requires wide { IsTrue (list_all (λ u. is_wide self.old.key u.row)
             (L.Batch.content batch.now)) }
-        requires narrow { IsTrue (list_all
-            (λ u. list_all (λ v. fits self.old.key u v) (R.content right.now))
-            (L.Batch.content batch.now)) }
+        requires narrow { IsTrue (pairs_fit self.old.key
+            (L.Batch.content batch.now) (R.content right.now)) }
         ensures consolidated { IfOk result (λ out. IsConsolidated T.cmp out.items) }
         ensures sums { (got : List (Update T))
             → WereInserted (R.stands right.now) (R.start right.now) self.old.right got
@@ -187,9 +191,13 @@ impl<T: Lattice, L: Trace<Time = T>, R: Trace<Time = T>> JoinState<T, L, R> {
             + length (pairs T.joined self.old.key (L.Batch.content batch.now)
             (R.stored_to right.now self.old.right))) (2 ^ 64 - 1)) }
         ensures same { OnErr result (self.new ≡ self.old) }
-        ensures refused { IfErr result (IsMemoryOrOverflow ((got : List (Update T))
+        ensures refused { IfErr result (IsMemoryOrOverflow (HasLargePart T.below
+            (pairs T.joined self.old.key (L.Batch.content batch.now)
+            (R.stored_to right.now self.old.right)))) }
+        ensures large { IfErr result (λ refused. refused ≡ Refusal.Overflow
+            → (got : List (Update T))
             → WereInserted (R.stands right.now) (R.start right.now) self.old.right got
-            → 2 ^ 63 ≤ size (L.Batch.content batch.now) * size got)) }
+            → 2 ^ 63 ≤ size (L.Batch.content batch.now) * size got) }
     {
         let boundary = Vec::from_slice(alloc, batch.description().upper())?;
         let others = right.through(self.right.as_slice()).unwrap();
@@ -215,9 +223,8 @@ impl<T: Lattice, L: Trace<Time = T>, R: Trace<Time = T>> JoinState<T, L, R> {
             (R.Batch.content batch.now)) }
         requires wide { IsTrue (list_all (λ u. is_wide self.old.key u.row)
             (R.Batch.content batch.now)) }
-        requires narrow { IsTrue (list_all
-            (λ v. list_all (λ u. fits self.old.key u v) (L.content left.now))
-            (R.Batch.content batch.now)) }
+        requires narrow { IsTrue (pairs_fit self.old.key
+            (L.content left.now) (R.Batch.content batch.now)) }
         ensures consolidated { IfOk result (λ out. IsConsolidated T.cmp out.items) }
         ensures sums { (got : List (Update T))
             → WereInserted (L.stands left.now) (L.start left.now) self.old.left got
@@ -255,9 +262,13 @@ impl<T: Lattice, L: Trace<Time = T>, R: Trace<Time = T>> JoinState<T, L, R> {
             + length (pairs T.joined self.old.key (L.stored_to left.now self.old.left)
             (R.Batch.content batch.now))) (2 ^ 64 - 1)) }
         ensures same { OnErr result (self.new ≡ self.old) }
-        ensures refused { IfErr result (IsMemoryOrOverflow ((got : List (Update T))
+        ensures refused { IfErr result (IsMemoryOrOverflow (HasLargePart T.below
+            (pairs T.joined self.old.key (L.stored_to left.now self.old.left)
+            (R.Batch.content batch.now)))) }
+        ensures large { IfErr result (λ refused. refused ≡ Refusal.Overflow
+            → (got : List (Update T))
             → WereInserted (L.stands left.now) (L.start left.now) self.old.left got
-            → 2 ^ 63 ≤ size got * size (R.Batch.content batch.now))) }
+            → 2 ^ 63 ≤ size got * size (R.Batch.content batch.now)) }
     {
         let boundary = Vec::from_slice(alloc, batch.description().upper())?;
         let others = left.through(self.left.as_slice()).unwrap();

@@ -1,8 +1,6 @@
 use Rattle.std.proofs.Common.{refl}
-use Rattle.join.proofs.LargeLemmas.{large_size}
 use Rattle.join.proofs.forming.Formed.consolidate.Goals as goal
 
 pub returns-in_err-self-clause-large : goal.returns-in_err-self-clause-large
 returns-in_err-self-clause-large g c h =
-    let large = large_size g.T.PartialOrder.below c.replace-updates.result.items (c.in_err-self.ensures.overflow.0 refl) in
-    rw c.replace-updates.ensures.value at large
+    rw c.replace-updates.ensures.value at (c.in_err-self.ensures.overflow.0 refl)

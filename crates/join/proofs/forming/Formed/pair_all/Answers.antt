@@ -1,9 +1,11 @@
 use Rattle.std.proofs.Common.{rules, sym, ap, subst, min, ◌≡◌, ◌++◌, ◌∙◌, ◌+◌, ◌-◌, ◌^◌, length}
 use Rattle.std.proofs.lemmas.List.{append-nil}
 use Rattle.std.proofs.lemmas.Result.{err_from_is_err_and}
-use Rattle.join.specs.Forming.{formed_fits, StandsIn}
+use Rattle.join.specs.Forming.{StandsIn}
+use Rattle.join.proofs.FitLemmas.{piece_fit}
 use Rattle.join.proofs.FormingLemmas.{item_at}
-use Rattle.join.proofs.StandingLemmas.{stands_itself, none_formed, piece_passes_all, one_more_batch, one_more_batch_large, one_more_batch_looked}
+use Rattle.join.proofs.PartLemmas.{one_more_batch_large}
+use Rattle.join.proofs.StandingLemmas.{stands_itself, none_formed, one_more_batch, one_more_batch_looked}
 use Rattle.join.proofs.LargeLemmas.{refused_more}
 use Rattle.join.proofs.forming.Formed.pair_all.Goals as goal
 
@@ -20,13 +22,13 @@ loop-other-init g c =
 pub pair_batch-requires-clause-fits : goal.pair_batch-requires-clause-fits
 pair_batch-requires-clause-fits g c =
     let here = item_at c.args.others.now c.loop-other.other-index c.other-item.result c.loop-other-test.true c.other-item.is in
-    piece_passes_all g.C.BatchReader.content (formed_fits c.args.side c.args.k) c.args.others.now c.loop-other.other-index c.other-item.result (g.B.BatchReader.content c.args.batch.now) here c.requires.fits
+    piece_fit c.args.k g.C.BatchReader.content c.args.side c.args.others.now c.loop-other.other-index c.other-item.result (g.B.BatchReader.content c.args.batch.now) here c.requires.fits
 
 pub returns-in_err-pair_batch-clause-refused : goal.returns-in_err-pair_batch-clause-refused
 returns-in_err-pair_batch-clause-refused g c =
     let p = err_from_is_err_and c.from_residual.result c.from_residual.ensures.1 in
     let here = item_at c.args.others.now c.loop-other.other-index c.other-item.result c.loop-other-test.true c.other-item.is in
-    let large = one_more_batch_large c.args.side g.T.Lattice.joined c.args.k g.C.BatchReader.content (g.B.BatchReader.content c.args.batch.now) c.args.self.now.updates.items c.loop-other.self.updates.items c.args.others.now c.loop-other.other-index c.other-item.result here c.loop-other.invariant.formed in
+    let large = one_more_batch_large c.args.side g.T.Lattice.joined c.args.k g.C.BatchReader.content g.T.PartialOrder.below (g.B.BatchReader.content c.args.batch.now) c.args.self.now.updates.items c.loop-other.self.updates.items c.args.others.now c.loop-other.other-index c.other-item.result here c.loop-other.invariant.formed in
     rw (p.1, p.2) (refused_more _ _ c.in_err-pair_batch.field-0.0 large c.in_err-pair_batch.ensures.refused)
 
 pub loop-other-preserved : goal.loop-other-preserved

@@ -32,7 +32,7 @@ pair_key-requires-clause-front g c =
 pub returns-in_err-at-clause-refused : goal.returns-in_err-at-clause-refused
 returns-in_err-at-clause-refused g c =
     let p = err_from_is_err_and c.from_residual.result c.from_residual.ensures.1 in
-    let large = runs_large c.args.side g.T.Lattice.joined c.args.k (g.B.BatchReader.content c.args.batch.now) (g.C.BatchReader.content c.args.other.now) c.loop-at.at.batch c.args.self.now.updates.items c.loop-at.self.updates.items c.loop-at.invariant.formed in
+    let large = runs_large c.args.side g.T.Lattice.joined c.args.k (g.B.BatchReader.content c.args.batch.now) (g.C.BatchReader.content c.args.other.now) g.T.PartialOrder.below c.loop-at.at.batch c.args.self.now.updates.items c.loop-at.self.updates.items c.loop-at.invariant.formed in
     rw (p.1, p.2) (refused_more _ _ c.in_err-at.field-0.0 large c.in_err-at.ensures.refused)
 
 pub loop-at-preserved : goal.loop-at-preserved

@@ -1,11 +1,11 @@
-use Rattle.std.proofs.Common.{sym, subst, IsTrue, ◌≤◌, ◌^◌, ◌++◌}
+use Rattle.std.proofs.Common.{sym, subst, IsTrue, ◌++◌}
 use Rattle.std.specs.Prelude.{slice_range}
 use Rattle.std.specs.List.{list_all}
 use Rattle.std.proofs.lemmas.Result.{on_ok_weaker, IfErr-weaker}
-use Rattle.update.specs.Updates.{size}
-use Rattle.join.specs.Forming.{formed_fits, formed_each, StandsIn}
-use Rattle.join.proofs.RunLemmas.{fits_turned, turned_stands, turned_large}
+use Rattle.join.specs.Forming.{turned, formed_fits, formed_each, StandsIn, HasLargePartWith}
+use Rattle.join.proofs.RunLemmas.{fits_turned, turned_stands, turned_part}
 use Rattle.join.proofs.LargeLemmas.{refused_more}
+use Rattle.join.proofs.PartLemmas.{large_with_more}
 use Rattle.join.proofs.forming.Formed.pair_found.Goals as goal
 
 pub pair_runs-requires-else-paired-own-clause-fits : goal.pair_runs-requires-else-paired-own-clause-fits
@@ -33,6 +33,7 @@ returns-else-paired-own-clause-refused g c =
     let old = c.args.self.now.updates.items in
     IfErr-weaker c.pair_runs-else-paired-own.result _ _
     (λ e. refused_more _ _ e
-    (λ h. turned_large g.T.Lattice.joined c.args.k c.args.side us vs old
-    (subst (λ t. 2 ^ 63 ≤ size (old ++ formed_each t g.T.Lattice.joined c.args.k vs us)) c.turned.ensures h)))
+    (λ h. large_with_more g.T.PartialOrder.below old (formed_each (turned c.args.side) g.T.Lattice.joined c.args.k vs us) (formed_each c.args.side g.T.Lattice.joined c.args.k us vs)
+    (turned_part g.T.Lattice.joined c.args.k c.args.side us vs)
+    (subst (λ t. HasLargePartWith g.T.PartialOrder.below old (formed_each t g.T.Lattice.joined c.args.k vs us)) c.turned.ensures h)))
     c.pair_runs-else-paired-own.ensures.refused

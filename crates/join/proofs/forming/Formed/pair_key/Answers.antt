@@ -1,12 +1,11 @@
 use Rattle.std.proofs.Common.{take, sym, subst, ◌++◌}
 use Rattle.std.specs.Prelude.{slice_range}
-use Rattle.std.specs.List.{list_all}
 use Rattle.std.proofs.lemmas.Result.{err_from_is_err_and}
-use Rattle.lattice.proofs.FrontierLemmas.{all_more}
 use Rattle.join.specs.Pairs.{is_keyed}
-use Rattle.join.specs.Forming.{formed_fits, StandsIn}
-use Rattle.join.proofs.RunLemmas.{own_wide, run_onward, front_there, keyed_wide, found_pass, part_all, is_found, run_is, run_large, run_looked}
+use Rattle.join.specs.Forming.{StandsIn}
+use Rattle.join.proofs.RunLemmas.{own_wide, run_onward, front_there, keyed_wide, found_pass, is_found, run_is, run_part, run_fits, run_looked}
 use Rattle.join.proofs.LargeLemmas.{refused_more}
+use Rattle.join.proofs.PartLemmas.{large_with_more}
 use Rattle.join.proofs.forming.Formed.pair_key.Goals as goal
 
 pub key-key-requires : goal.key-key-requires
@@ -45,12 +44,15 @@ pub pair_found-requires-clause-fits : goal.pair_found-requires-clause-fits
 pair_found-requires-clause-fits g c =
     let us = g.B.BatchReader.content c.args.batch.now in
     let vs = g.C.BatchReader.content c.args.other.now in
+    let u = c.update_at-u.result in
+    let next = c.seek_past-next.result in
     let start = c.seek-start.result in
     let end = c.seek_past-end.result in
-    all_more (λ u. list_all (formed_fits c.args.side c.args.k u) vs) (λ u. list_all (formed_fits c.args.side c.args.k u) (slice_range vs start end))
-    (λ u h. part_all (formed_fits c.args.side c.args.k u) vs start end h)
-    (slice_range us c.args.at.batch c.seek_past-next.result)
-    (part_all (λ u. list_all (formed_fits c.args.side c.args.k u) vs) us c.args.at.batch c.seek_past-next.result c.requires.fits)
+    let f = is_found g.T.Ord.cmp c.args.k us vs c.requires.ordered.ascending c.requires.wide c.args.at.batch c.args.at.other next start end u c.key-key.result.now c.update_at-u.ensures c.requires.here c.key-key.ensures c.requires.front
+    c.seek_past-next.ensures.ordered c.seek_past-next.ensures.within c.seek_past-next.ensures.before
+    c.seek-start.ensures.ordered c.seek-start.ensures.within c.seek-start.ensures.before c.seek-start.ensures.rest
+    c.seek_past-end.ensures.ordered c.seek_past-end.ensures.within c.seek_past-end.ensures.before c.seek_past-end.ensures.rest in
+    run_fits c.args.side g.T.Lattice.joined c.args.k us vs (take c.args.k u.row) c.args.at.batch next start end f.keyed f.found c.requires.fits
 
 pub returns-in_err-pair_found-clause-refused : goal.returns-in_err-pair_found-clause-refused
 returns-in_err-pair_found-clause-refused g c =
@@ -65,8 +67,8 @@ returns-in_err-pair_found-clause-refused g c =
     c.seek-start.ensures.ordered c.seek-start.ensures.within c.seek-start.ensures.before c.seek-start.ensures.rest
     c.seek_past-end.ensures.ordered c.seek_past-end.ensures.within c.seek_past-end.ensures.before c.seek_past-end.ensures.rest in
     let p = err_from_is_err_and c.from_residual.result c.from_residual.ensures.1 in
-    let large = run_large c.args.side g.T.Lattice.joined c.args.k us vs (take c.args.k u.row) c.args.at.batch next start end f.keyed f.found c.args.self.now.updates.items c.seek_past-next.ensures.ordered in
-    rw (p.1, p.2) (refused_more _ _ c.in_err-pair_found.field-0.0 large c.in_err-pair_found.ensures.refused)
+    let part = run_part c.args.side g.T.Lattice.joined c.args.k us vs (take c.args.k u.row) c.args.at.batch next start end f.keyed f.found c.seek_past-next.ensures.ordered in
+    rw (p.1, p.2) (refused_more _ _ c.in_err-pair_found.field-0.0 (large_with_more g.T.PartialOrder.below c.args.self.now.updates.items _ _ part) c.in_err-pair_found.ensures.refused)
 
 pub returns-clause-onward : goal.returns-clause-onward
 returns-clause-onward g c =

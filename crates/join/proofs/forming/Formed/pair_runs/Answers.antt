@@ -1,12 +1,13 @@
-use Rattle.std.proofs.Common.{rules, ◌≡◌, ◌-◌, length, inr, ◌∙◌, refl}
+use Rattle.std.proofs.Common.{rules, ◌≡◌, ◌+◌, ◌-◌, length, map, inr, ◌∙◌, refl}
 use Rattle.std.specs.Prelude.{slice_range}
 use Rattle.std.specs.List.{list_all}
 use Rattle.std.proofs.lemmas.Bool.{leb-true}
 use Rattle.std.proofs.lemmas.Result.{err_from_is_err_and}
 use Rattle.join.specs.Pairs.{is_wide}
-use Rattle.join.specs.Forming.{formed_fits}
+use Rattle.join.specs.Forming.{formed_pair, formed_fits, formed_each}
 use Rattle.join.proofs.FormingLemmas.{place_passes}
-use Rattle.join.proofs.RunLemmas.{part_at, each_more, each_more_large, one_alone_large, settled_large}
+use Rattle.join.proofs.PartLemmas.{large_alone, large_listed, large_more, large_one_part, large_with_more}
+use Rattle.join.proofs.RunLemmas.{part_at, each_more, each_part, one_part}
 use Rattle.join.proofs.StandingLemmas.{stands_in_turn}
 use Rattle.join.proofs.LargeLemmas.{refused_more}
 use Rattle.join.proofs.forming.Formed.pair_runs.Goals as goal
@@ -35,9 +36,14 @@ returns-in_err-push_pairs-clause-refused g c =
     let vs = slice_range (g.C.BatchReader.content c.args.inner.now) c.args.found.start c.args.found.end in
     let u = c.update_at-u.result in
     let p = err_from_is_err_and c.from_residual.result c.from_residual.ensures.1 in
-    let alone = one_alone_large g.T.Lattice.joined c.args.k c.args.side us vs c.args.run.start c.loop-i.i c.loop-i.auto.i u c.update_at-u.ensures c.loop-i.self.updates.items in
-    let large = each_more_large g.T.Lattice.joined c.args.k c.args.side us vs c.args.run.start c.loop-i.i c.loop-i.auto.i u c.update_at-u.ensures c.args.run.end c.args.self.now.updates.items c.loop-i.self.updates.items c.loop-i-test.true c.requires.run_within c.loop-i.invariant.formed in
-    rw (p.1, p.2) (refused_more _ _ c.in_err-push_pairs.field-0.0 (λ h. large (alone h)) c.in_err-push_pairs.ensures.refused)
+    let below = g.T.PartialOrder.below in
+    let ones = map (formed_pair c.args.side g.T.Lattice.joined c.args.k u) vs in
+    let each = formed_each c.args.side g.T.Lattice.joined c.args.k (slice_range us c.args.run.start c.args.run.end) vs in
+    let part = one_part g.T.Lattice.joined c.args.k c.args.side us vs c.args.run.start c.loop-i.i c.loop-i.auto.i u c.update_at-u.ensures c.args.run.end c.loop-i-test.true c.requires.run_within in
+    rw (p.1, p.2)
+    (refused_more _ _ c.in_err-push_pairs.field-0.0
+    (λ h. large_alone below c.args.self.now.updates.items each (large_more below ones each part (large_one_part g.met.T.PartialOrder.order ones h)))
+    c.in_err-push_pairs.ensures.refused)
 
 pub returns-in_err-settle-clause-refused : goal.returns-in_err-settle-clause-refused
 returns-in_err-settle-clause-refused g c =
@@ -45,8 +51,14 @@ returns-in_err-settle-clause-refused g c =
     let vs = slice_range (g.C.BatchReader.content c.args.inner.now) c.args.found.start c.args.found.end in
     let u = c.update_at-u.result in
     let p = err_from_is_err_and c.from_residual-in_err-settle.result c.from_residual-in_err-settle.ensures.1 in
-    let large = each_more_large g.T.Lattice.joined c.args.k c.args.side us vs c.args.run.start c.loop-i.i c.loop-i.auto.i u c.update_at-u.ensures c.args.run.end c.args.self.now.updates.items c.loop-i.self.updates.items c.loop-i-test.true c.requires.run_within c.loop-i.invariant.formed in
-    rw (p.1, p.2) (inr (c.in_err-settle.ensures.only, large (settled_large _ _ c.in_ok-push_pairs.ensures.stands (c.in_err-settle.ensures.large refl))))
+    let below = g.T.PartialOrder.below in
+    let old = c.args.self.now.updates.items in
+    let grown = formed_each c.args.side g.T.Lattice.joined c.args.k (slice_range us c.args.run.start (c.loop-i.i + 1)) vs in
+    let each = formed_each c.args.side g.T.Lattice.joined c.args.k (slice_range us c.args.run.start c.args.run.end) vs in
+    let part = each_part g.T.Lattice.joined c.args.k c.args.side us vs c.args.run.start c.loop-i.i c.loop-i.auto.i u c.update_at-u.ensures c.args.run.end c.loop-i-test.true c.requires.run_within in
+    let stands = each_more g.T.Lattice.joined c.args.k c.args.side us vs c.args.run.start c.loop-i.i c.loop-i.auto.i u c.update_at-u.ensures old c.loop-i.self.updates.items _ (search rules) c.loop-i.invariant.formed c.in_ok-push_pairs.ensures.stands in
+    rw (p.1, p.2)
+    (inr (c.in_err-settle.ensures.only, large_with_more below old grown each part (large_listed below _ old grown stands (c.in_err-settle.ensures.large refl))))
 
 pub loop-i-preserved : goal.loop-i-preserved
 loop-i-preserved g c =

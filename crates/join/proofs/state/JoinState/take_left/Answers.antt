@@ -8,11 +8,14 @@ use Rattle.update.specs.Updates.{as_of, size}
 use Rattle.update.specs.declared.change.Update.{Update}
 use Rattle.trace.specs.Readings.{IsReadable, all_content}
 use Rattle.join.specs.Pairs.{pairs}
+use Rattle.join.specs.declared.forming.Side.TheVariants.{Left}
 use Rattle.join.specs.Forming.{StandsIn}
 use Rattle.join.specs.Sides.{WereInserted}
-use Rattle.join.proofs.AnswerLemmas.{answer_sums, answer_totals, answer_exact, found_readable, larger_product, left_beyond, pairs_width, left_keys, left_fits}
-use Rattle.join.proofs.LargeLemmas.{refused_more}
+use Rattle.join.proofs.AnswerLemmas.{answer_sums, answer_totals, answer_exact, found_readable, larger_product, left_beyond, pairs_width, left_keys}
+use Rattle.join.proofs.FitLemmas.{stored_fit}
+use Rattle.join.proofs.LargeLemmas.{overflow_more}
 use Rattle.join.proofs.PairLemmas.{size_pairs}
+use Rattle.join.proofs.PartLemmas.{large_part_size}
 use Rattle.join.proofs.VisibleLemmas.{right_compacted}
 use Rattle.join.proofs.state.JoinState.take_left.Given.{Over}
 use Rattle.join.proofs.state.JoinState.take_left.Goals as goal
@@ -20,7 +23,7 @@ use Rattle.join.proofs.state.JoinState.take_left.Goals as goal
 pub form_pairs-requires-clause-fits : goal.form_pairs-requires-clause-fits
 form_pairs-requires-clause-fits g c =
     let key = ap (λ s. s.key) c.self.view_is in
-    left_fits (g.R.Trace.content c.args.right.now) (all_content g.R.Batch.BatchReader.content c.unwrap-others.result.now) (rw c.unwrap-others.ensures at c.through.ensures.stored) c.self.inside.key (g.L.Batch.BatchReader.content c.args.batch.now)
+    stored_fit c.self.inside.key Left (g.R.Trace.content c.args.right.now) (all_content g.R.Batch.BatchReader.content c.unwrap-others.result.now) (rw c.unwrap-others.ensures at c.through.ensures.stored) (g.L.Batch.BatchReader.content c.args.batch.now)
     (rw (← key) at c.requires.narrow)
 
 module _ (g : Over) (c : goal.After-self-1 g) where
@@ -93,14 +96,23 @@ returns-clause-looked g c =
 
 pub returns-in_err-formed-clause-refused : goal.returns-in_err-formed-clause-refused
 returns-in_err-formed-clause-refused g c =
+    let value = rw (c.unwrap-others.ensures, c.as_slice.ensures.value, ap (λ s. s.right) c.self.view_is) at c.through.ensures.value in
+    let p = err_from_is_err_and c.from_residual-in_err-formed.result c.from_residual-in_err-formed.ensures.1 in
+    rw (p.1, p.2) (rw (ap (λ s. s.key) c.self.view_is, value) at c.in_err-formed.ensures.refused)
+
+pub returns-in_err-formed-clause-large : goal.returns-in_err-formed-clause-large
+returns-in_err-formed-clause-large g c =
+    let below = g.T.PartialOrder.below in
     let us = g.L.Batch.BatchReader.content c.args.batch.now in
     let vs = all_content g.R.Batch.BatchReader.content c.unwrap-others.result.now in
     let reads = rw (c.unwrap-others.ensures, c.as_slice.ensures.value, ap (λ s. s.right) c.self.view_is) at c.through.ensures.reads in
     let within = size_pairs g.T.Lattice.joined c.self.inside.key us vs in
     let p = err_from_is_err_and c.from_residual-in_err-formed.result c.from_residual-in_err-formed.ensures.1 in
     rw (p.1, p.2)
-    (refused_more _ _ c.in_err-formed.field-0.0
-    (λ large got w.
+    (λ over got w.
+    overflow_more _ _ c.in_err-formed.field-0.0
+    (λ h.
+    let large = large_part_size below (pairs g.T.Lattice.joined c.self.inside.key us vs) h in
     larger_product (2 ^ 63) (size us) (size vs) (size got) (omega (arith, large, within))
-    (found_readable g.T.PartialOrder.below (g.R.Trace.held c.args.right.now) (g.R.Trace.stands c.args.right.now) (g.R.Trace.start c.args.right.now) c.args.self.now.right vs reads got w).smaller)
-    c.in_err-formed.ensures.refused)
+    (found_readable below (g.R.Trace.held c.args.right.now) (g.R.Trace.stands c.args.right.now) (g.R.Trace.start c.args.right.now) c.args.self.now.right vs reads got w).smaller)
+    c.in_err-formed.ensures.refused over)

@@ -12,11 +12,13 @@ use Rattle.join.specs.Pairs.{pairs}
 use Rattle.join.specs.declared.forming.Side.TheVariants.{Right}
 use Rattle.join.specs.Forming.{StandsIn, formed_all}
 use Rattle.join.specs.Sides.{WereInserted}
-use Rattle.join.proofs.AnswerLemmas.{answer_sums, answer_totals, answer_exact, large_moved, found_readable, larger_product_left, right_beyond, pairs_width, right_keys, right_fits}
-use Rattle.join.proofs.LargeLemmas.{refused_more}
+use Rattle.join.proofs.AnswerLemmas.{answer_sums, answer_totals, answer_exact, large_moved, found_readable, larger_product_left, right_beyond, pairs_width, right_keys}
+use Rattle.join.proofs.FitLemmas.{stored_fit, turned_fit}
+use Rattle.join.proofs.LargeLemmas.{refused_more, overflow_more}
 use Rattle.join.proofs.PairLemmas.{size_pairs}
+use Rattle.join.proofs.PartLemmas.{large_more, large_part_size}
 use Rattle.join.proofs.StandingLemmas.{stands_in_turn}
-use Rattle.join.proofs.TurnedLemmas.{turned, turned_moves}
+use Rattle.join.proofs.TurnedLemmas.{turned, turned_moves, turned_part}
 use Rattle.join.proofs.VisibleLemmas.{left_compacted}
 use Rattle.join.proofs.state.JoinState.take_right.Given.{Over}
 use Rattle.join.proofs.state.JoinState.take_right.Goals as goal
@@ -24,8 +26,10 @@ use Rattle.join.proofs.state.JoinState.take_right.Goals as goal
 pub form_pairs-requires-clause-fits : goal.form_pairs-requires-clause-fits
 form_pairs-requires-clause-fits g c =
     let key = ap (λ s. s.key) c.self.view_is in
-    right_fits (g.L.Trace.content c.args.left.now) (all_content g.L.Batch.BatchReader.content c.unwrap-others.result.now) (rw c.unwrap-others.ensures at c.through.ensures.stored) c.self.inside.key (g.R.Batch.BatchReader.content c.args.batch.now)
-    (rw (← key) at c.requires.narrow)
+    let us = g.R.Batch.BatchReader.content c.args.batch.now in
+    let content = g.L.Trace.content c.args.left.now in
+    stored_fit c.self.inside.key Right content (all_content g.L.Batch.BatchReader.content c.unwrap-others.result.now) (rw c.unwrap-others.ensures at c.through.ensures.stored) us
+    (turned_fit c.self.inside.key us content (rw (← key) at c.requires.narrow))
 
 module _ (g : Over) (c : goal.After-self-1 g) where
   abbrev us : List (Update g.row.T.Denot)
@@ -106,15 +110,29 @@ returns-clause-looked g c =
 
 pub returns-in_err-formed-clause-refused : goal.returns-in_err-formed-clause-refused
 returns-in_err-formed-clause-refused g c =
+    let below = g.T.PartialOrder.below in
+    let us = g.R.Batch.BatchReader.content c.args.batch.now in
+    let vs = all_content g.L.Batch.BatchReader.content c.unwrap-others.result.now in
+    let value = rw (c.unwrap-others.ensures, c.as_slice.ensures.value, ap (λ s. s.left) c.self.view_is) at c.through.ensures.value in
+    let p = err_from_is_err_and c.from_residual-in_err-formed.result c.from_residual-in_err-formed.ensures.1 in
+    let large = large_more below (formed_all Right g.T.Lattice.joined c.self.inside.key us vs) (pairs g.T.Lattice.joined c.self.inside.key vs us) (turned_part g.T.Lattice.joined c.self.inside.key us vs) in
+    rw (p.1, p.2) (rw (ap (λ s. s.key) c.self.view_is, value) at (refused_more _ _ c.in_err-formed.field-0.0 large c.in_err-formed.ensures.refused))
+
+pub returns-in_err-formed-clause-large : goal.returns-in_err-formed-clause-large
+returns-in_err-formed-clause-large g c =
+    let below = g.T.PartialOrder.below in
     let us = g.R.Batch.BatchReader.content c.args.batch.now in
     let vs = all_content g.L.Batch.BatchReader.content c.unwrap-others.result.now in
     let reads = rw (c.unwrap-others.ensures, c.as_slice.ensures.value, ap (λ s. s.left) c.self.view_is) at c.through.ensures.reads in
     let within = size_pairs g.T.Lattice.joined c.self.inside.key vs us in
-    let smaller = (turned g.T.Lattice.joined c.self.inside.key us vs).smaller in
     let p = err_from_is_err_and c.from_residual-in_err-formed.result c.from_residual-in_err-formed.ensures.1 in
     rw (p.1, p.2)
-    (refused_more _ _ c.in_err-formed.field-0.0
-    (λ large got w.
-    larger_product_left (2 ^ 63) (size us) (size vs) (size got) (omega (arith, large, smaller, within))
-    (found_readable g.T.PartialOrder.below (g.L.Trace.held c.args.left.now) (g.L.Trace.stands c.args.left.now) (g.L.Trace.start c.args.left.now) c.args.self.now.left vs reads got w).smaller)
-    c.in_err-formed.ensures.refused)
+    (λ over got w.
+    overflow_more _ _ c.in_err-formed.field-0.0
+    (λ h.
+    let formed = formed_all Right g.T.Lattice.joined c.self.inside.key us vs in
+    let ps = pairs g.T.Lattice.joined c.self.inside.key vs us in
+    let large = large_part_size below ps (large_more below formed ps (turned_part g.T.Lattice.joined c.self.inside.key us vs) h) in
+    larger_product_left (2 ^ 63) (size us) (size vs) (size got) (omega (arith, large, within))
+    (found_readable below (g.L.Trace.held c.args.left.now) (g.L.Trace.stands c.args.left.now) (g.L.Trace.start c.args.left.now) c.args.self.now.left vs reads got w).smaller)
+    c.in_err-formed.ensures.refused over)
