@@ -1,18 +1,15 @@
--- Count: the sum of the counts, what bounds it, and the answer that follows from it.
-use Rattle.std.proofs.Common.{◌≡◌, ℕ, ◌+◌, ◌*◌, ◌^◌, ◌<◌, ◌≤◌, Bool, true, false, cond, List, [], ◌∷◌, ◌++◌, ℤ, take, length, get_or, refl, ap, sym, ◌∙◌, ⊎_elim, to_z, of_z, w64, FitsSigned, arith}
+-- Count: the sum of the counts, and the answer that follows from it.
+use Rattle.std.proofs.Common.{◌≡◌, ℕ, ◌+◌, ◌*◌, ◌^◌, ◌<◌, ◌≤◌, Bool, true, false, cond, List, [], ◌∷◌, ◌++◌, ℤ, take, length, get_or, refl, ap, sym, ◌∙◌, to_z, of_z, w64, FitsSigned, arith}
 use Rattle.std.specs.Prelude.{pos, ◌+ℤ◌, unsigned_abs, nat_le}
 use Rattle.std.specs.Int.{w128}
 use Rattle.std.specs.Ordering.{int_eq}
 use Rattle.std.specs.Cmp.{signed_Decides}
-use Rattle.std.proofs.lemmas.Int.{ints, fits_signed_from_abs}
+use Rattle.std.proofs.lemmas.Int.{ints}
 use Rattle.std.proofs.lemmas.List.{take_more}
-use Rattle.std.proofs.lemmas.List.Recursion.{is_sum_by}
-use Rattle.std.proofs.lemmas.Bool.{cases_lt, leb-true, le-leb}
-use Rattle.update.specs.Bags.{Entry, Alike, bag_size, count_of}
+use Rattle.std.proofs.lemmas.Bool.{leb-true, le-leb}
+use Rattle.update.specs.Bags.{Entry, Alike, count_of}
 use Rattle.update.proofs.SumLemmas.{total_by-append}
 use Rattle.plan.specs.Reductions.{single, sum_of_counts, count_answer}
-use Rattle.plan.proofs.CountLemmas.{weigh_alike}
-use Rattle.reducer.specs.Refusals.{IsTooLarge}
 use Rattle.reducer.specs.Kinds.{count_within}
 
 -- ---- the sum
@@ -31,25 +28,6 @@ small_more n m i small fits = omega (arith, ints)
 -- such a sum with one more count is the same number in 128 bits
 pub wide_more : (n m : ℤ) (i : ℕ) → unsigned_abs n ≤ i * 2 ^ 63 → i < 2 ^ 64 → FitsSigned w64 m → to_z w128 (of_z w128 (n +ℤ to_z w128 (of_z w128 m))) ≡ n +ℤ m
 wide_more n m i small few fits = omega (arith, ints)
-
--- the size of a bag, by recursion
-abbrev summed_size : List Entry → ℕ
-summed_size [] = 0
-summed_size (e ∷ es) = unsigned_abs e.count + summed_size es
-
-sum_within : (es : List Entry) → unsigned_abs (sum_of_counts es) ≤ summed_size es
-sum_within [] = omega arith
-sum_within (e ∷ es) = let rest = sum_within es in omega (arith, ints)
-
-large : (n : ℤ) → (FitsSigned w64 n → ⊥) → 2 ^ 63 ≤ unsigned_abs n
-large n none = ⊎_elim (λ s. absurd (none (fits_signed_from_abs w64 n s))) (λ s. s) (cases_lt (unsigned_abs n) (2 ^ 63))
-
--- if the sum is no 64-bit number, the counts are too large, however the bag is written
-pub sum_too_large : (es : List Entry) → (FitsSigned w64 (sum_of_counts es) → ⊥) → IsTooLarge es
-sum_too_large es none others alike =
-    let same : sum_of_counts es ≡ sum_of_counts others = weigh_alike (λ row n. n) (λ row m n. refl) es others alike in
-    let size : summed_size others ≡ bag_size others = is_sum_by summed_size (λ e. unsigned_abs e.count) refl (λ _ _. refl) others in
-    omega (arith, large (sum_of_counts es) none, ap unsigned_abs same, sum_within others, size)
 
 -- ---- the answer
 

@@ -1,7 +1,9 @@
--- When a reducer may refuse a bag.
-use Rattle.std.specs.Prelude.{◌≤◌, ◌^◌, List}
-use Rattle.update.specs.Bags.{Entry, Alike, bag_size}
+-- When a reducer may refuse rows.
+use Rattle.std.specs.Prelude.{List, FitsSigned}
+use Rattle.std.specs.Int.{w64}
+use Rattle.update.specs.Bags.{Entry}
+use Rattle.plan.specs.Reductions.{sum_of_counts}
 
--- the entries of this bag, however it is written, add up to more than 64-bit numbers can say
-abbrev pub IsTooLarge : List Entry → Type 0
-IsTooLarge entries = (others : List Entry) → Alike entries others → 2 ^ 63 ≤ bag_size others
+-- the sum of the counts is no 64-bit number
+abbrev pub HasLargeSum : List Entry → Type 0
+HasLargeSum entries = FitsSigned w64 (sum_of_counts entries) → ⊥

@@ -1,10 +1,10 @@
 //! Count: the key followed by the sum of all counts. The counts are added up in 128 bits, and only
-//! the sum is converted to 64 bits. So no sum on the way is refused. If the last one is, then the
-//! counts are too large however the bag is written, because alike bags have the same sum. Nothing
-//! but the sum matters, so count does not look at rows.
+//! the sum is converted to 64 bits. So no sum on the way is refused, and alike bags are refused
+//! alike, because they have the same sum. Nothing but the sum matters, so count does not look at
+//! rows.
 ghost use Rattle.std.specs.Prelude.{◌≡◌, IfOk, IfErr};
 ghost use Rattle.plan.specs.Reductions.{sum_of_counts};
-ghost use Rattle.reducer.specs.Refusals.{IsTooLarge};
+ghost use Rattle.reducer.specs.Refusals.{HasLargeSum};
 
 use crate::answers::{count_at, no_rows, one_row};
 use crate::{Reducer, RowCounts};
@@ -31,11 +31,11 @@ fn wide_sum<C: RowCounts>(rows: &C) -> i128
     sum
 }
 
-// The sum of the counts, in 64 bits. [`Refusal::Overflow`] only if the counts are too large.
+// The sum of the counts, in 64 bits. [`Refusal::Overflow`] only if it is no 64-bit number.
 fn sum_of_counts<C: RowCounts>(rows: &C) -> Result<i64, Refusal>
     ensures sum { IfOk result (λ sum. sum ≡ sum_of_counts (C.entries rows.now)) }
     ensures only { IfErr result (λ refused. refused ≡ Refusal.Overflow) }
-    ensures large { IfErr result (λ _. IsTooLarge (C.entries rows.now)) }
+    ensures large { IfErr result (λ _. HasLargeSum (C.entries rows.now)) }
 {
     let Ok(sum) = i64::try_from(wide_sum(rows)) else {
         return Err(Refusal::Overflow);

@@ -11,7 +11,7 @@ ghost use Rattle.std.specs.List.{list_all};
 ghost use Rattle.update.specs.Bags.{Alike, IsBag};
 ghost use Rattle.update.specs.Refusals.{IsMemoryOrOverflow};
 ghost use Rattle.plan.specs.Reductions.{has_key};
-ghost use Rattle.reducer.specs.Refusals.{IsTooLarge};
+ghost use Rattle.reducer.specs.Refusals.{HasLargeSum};
 
 use crate::RowCounts;
 use std::alloc::Global;
@@ -36,8 +36,7 @@ pub trait Reducer {
     /// The answer for a key of 1 to 8 columns from its rows, each of which begins with the key; so
     /// does each row of the answer.
     ///
-    /// - [`Refusal::Overflow`] only if the absolute counts of the rows add up to 2^63 or more,
-    ///   however the bag is written.
+    /// - [`Refusal::Overflow`] only if the sum of the counts is no 64-bit number.
     /// - [`Refusal::OutOfMemory`] only if memory for the answer was refused.
     fn reduce<C: RowCounts>(&self, alloc: Global, key: &[i64], rows: &C) -> Result<Bag, Refusal>
         requires some { 1 ≤ length key.now }
@@ -49,7 +48,7 @@ pub trait Reducer {
         ensures bag { IfOk result IsBag }
         ensures keyed { IfOk result
             (λ bag. IsTrue (list_all (has_key (length key.now) key.now) bag)) }
-        ensures refused { IfErr result (IsMemoryOrOverflow (IsTooLarge (C.entries rows.now))) };
+        ensures refused { IfErr result (IsMemoryOrOverflow (HasLargeSum (C.entries rows.now))) };
 
     /// Whether the answer depends on which rows of the key there are. If not, then it depends on
     /// the sum of their counts alone, and `reduce` may be given the key in place of each row. Takes

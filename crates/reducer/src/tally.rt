@@ -7,8 +7,9 @@
 //!
 //! A change is taken back exactly. Each one notes the place and the count that was there, and the
 //! notes are set back from the last to the first.
-ghost use Rattle.std.specs.Prelude.{◌≡◌, ◌<◌, ◌++◌, ◌∷◌, ◌+ℤ◌, [], Bool, List, ℤ, false, length, map, replicate, pos, slice_get, IsTrue, IsSomeAnd, IfOk, IfErr, IfSome};
-ghost use Rattle.std.specs.List.{list_all};
+ghost use Rattle.std.specs.Prelude.{◌≡◌, ◌<◌, ◌++◌, ◌∷◌, ◌+ℤ◌, [], Bool, List, ℤ, None, false, length, map, replicate, pos, slice_get, FitsSigned, IsTrue, IsSomeAnd, IfOk, IfErr, IfSome};
+ghost use Rattle.std.specs.Int.{w64};
+ghost use Rattle.std.specs.List.{Contains, list_all};
 ghost use Rattle.update.specs.Bags.{Alike, Entry, entry_of};
 ghost use Rattle.update.specs.declared.refusal.Refusal.{Refusal};
 ghost use Rattle.reducer.specs.Tallies.{AreInOrder, set_count, undone};
@@ -116,19 +117,23 @@ impl Tally {
         self.counts[i]
     }
 
-    // The place of a row, if the tally has it.
+    // The place of a row, or none if the tally has not got it.
     fn place_of(&self, row: &Row) -> Option<usize>
-        ensures { IfSome result
+        ensures place { IfSome result
             (λ i. IsSomeAnd (slice_get self.now i) (λ e. e.row ≡ row.now)) }
+        ensures none { result ≡ None
+            → (e : Entry) → Contains self.now e → e.row ≡ row.now → ⊥ }
     {
         self.rows.as_slice().binary_search(row).ok()
     }
 
-    // The count at a place with a difference added, if that is a 64-bit number.
+    // The count at a place with a difference added, or none if that is no 64-bit number.
     fn raised(&self, place: usize, diff: i64) -> Option<i64>
         requires { place < length self.now }
-        ensures { IfSome result (λ count. IsSomeAnd (slice_get self.now place)
+        ensures count { IfSome result (λ count. IsSomeAnd (slice_get self.now place)
             (λ e. count ≡ e.count +ℤ diff)) }
+        ensures none { result ≡ None → IsSomeAnd (slice_get self.now place)
+            (λ e. FitsSigned w64 (e.count +ℤ diff) → ⊥) }
     {
         self.count(place).checked_add(diff)
     }
@@ -142,19 +147,22 @@ impl Tally {
         }
     }
 
-    // The place of a row, and its count with a difference added, if the tally has the row and the
-    // count fits.
+    // The place of a row, and its count with a difference added. None if the tally has not got the
+    // row, or the count does not fit.
     fn moved(&self, row: &Row, diff: i64) -> Option<(usize, i64)>
-        ensures { IfSome result (λ p. IsSomeAnd (slice_get self.now p.0)
+        ensures moved { IfSome result (λ p. IsSomeAnd (slice_get self.now p.0)
             (λ e. (e.row ≡ row.now) × (p.1 ≡ e.count +ℤ diff))) }
+        ensures none { result ≡ None → (e : Entry) → Contains self.now e → e.row ≡ row.now
+            → FitsSigned w64 (e.count +ℤ diff) → ⊥ }
     {
+        self.known();
         let place = self.place_of(row)?;
         let count = self.raised(place, diff)?;
         Some((place, count))
     }
 
-    /// Adds to the count of a row. False, and nothing is changed, if the row is not among the rows
-    /// or the new count is no 64-bit number. Takes no memory.
+    /// Adds to the count of a row. False, and nothing is changed, only if the row is not among the
+    /// rows or the new count is no 64-bit number. Takes no memory.
     ///
     /// Cost: a binary search.
     pub fn add(&mut self, row: &Row, diff: i64) -> bool
@@ -162,11 +170,13 @@ impl Tally {
         ensures among { (p : List ℤ → Bool) → IsTrue (list_all (λ e. p e.row) self.old)
             → IsTrue (list_all (λ e. p e.row) self.new) }
         ensures kept { result ≡ false → self.new ≡ self.old }
+        ensures refused { result ≡ false → (e : Entry) → Contains self.old e → e.row ≡ row.now
+            → FitsSigned w64 (e.count +ℤ diff) → ⊥ }
     {
-        let Some((place, count)) = self.moved(row, diff) else {
+        let Some((place, raised)) = self.moved(row, diff) else {
             return false;
         };
-        self.set(place, count);
+        self.set(place, raised);
         true
     }
 
@@ -186,6 +196,9 @@ impl Tally {
         ensures undone { undone noted.new.items self.new ≡ undone noted.old.items self.old }
         ensures among { (p : List ℤ → Bool) → IsTrue (list_all (λ e. p e.row) self.old)
             → IsTrue (list_all (λ e. p e.row) self.new) }
+        ensures refused { IfOk result (λ added. added ≡ false
+            → (e : Entry) → Contains self.old e → e.row ≡ row.now
+            → FitsSigned w64 (e.count +ℤ diff) → ⊥) }
         ensures only { IfErr result (λ refused. refused ≡ Refusal.OutOfMemory) }
     {
         let Some((place, count)) = self.moved(row, diff) else {

@@ -12,7 +12,7 @@ returns-clause-added c _ other =
     let fits : FitsSigned w64 n = search rules in
     let diff : FitsSigned w64 c.args.diff = search rules in
     ap (λ es. count_of es other) (c.set.ensures ∙ ap (λ m. set_count c.in-Some.place m now) (to_z-of_z w64 n fits))
-    ∙ count_moved now c.in-Some.place c.args.row.now n c.args.diff (rw (to_z-of_z w64 c.args.diff diff) at c.in-Some.ensures) other
+    ∙ count_moved now c.in-Some.place c.args.row.now n c.args.diff (rw (to_z-of_z w64 c.args.diff diff) at c.in-Some.ensures.moved) other
 
 pub returns-clause-undone : goal.returns-clause-undone
 returns-clause-undone c =
