@@ -1,5 +1,5 @@
 -- What is wanted less what was given, gathered, corrects; and what a number that is too large says.
-use Rattle.std.proofs.Common.{◌≡◌, ◌≢◌, ℕ, ◌≤◌, Bool, true, false, cond, ◌&&◌, List, [], ◌∷◌, ◌++◌, map, take, sym, refl, ap, ◌∙◌, subst, inl, inr, arith, w64}
+use Rattle.std.proofs.Common.{◌≡◌, ◌≢◌, ℕ, ◌≤◌, Bool, true, false, cond, ◌&&◌, List, [], ◌∷◌, ◌++◌, map, take, sym, refl, ap, ◌∙◌, subst, inl, arith, w64}
 use Rattle.std.specs.Prelude.{IsTrue, FitsSigned}
 use Rattle.std.specs.List.{filter, list_all, list_any, AllByRecursion}
 use Rattle.std.specs.List.Sorted.{IsStrictlySortedBy}
@@ -21,8 +21,7 @@ use Rattle.plan.specs.Operators.{negated_entry}
 use Rattle.plan.proofs.CountLemmas.{row_same, count_of-append, count_of-negated_entry}
 use Rattle.joined_times.specs.Joined.{of_key}
 use Rattle.correction.specs.Evaluations.{IsDraft}
-use Rattle.reducer.specs.Refusals.{IsTooLarge}
-use Rattle.correction.specs.Corrections.{IsTooMuch, Corrects, AllAt, put, had}
+use Rattle.correction.specs.Corrections.{IsTooLarge, IsTooMuch, HasLargeChange, Corrects, AllAt, put, had}
 use Rattle.correction.proofs.JoinedLemmas.{sum_at-append}
 use Rattle.correction.proofs.KeyedLemmas.{rows_pass, had_own}
 use Rattle.correction.proofs.CorrectionLemmas.{as_of-keyed, had-alike, as_of-put, change, change-count, change-keyed, large_draft, at_key, entry_weight, entry_weight_is, weight, weight_is}
@@ -134,13 +133,9 @@ module _ {T : Type 0} {below : T → T → Bool} (o : PartialOrderLaws below) wh
           let g = and_parts (same_row (take k u.row) key) (list_all (λ e. same_row (take k e.row) key) (map entry us)) b in
           and_from (at_key below k key t u.row u.time) (list_all (λ u. at_key below k key t u.row u.time) us) (and_from (same_row (take k u.row) key) (at_time u.time) g.0 h.0) (both_tests us h.1 g.1)
 
-    -- a row's rows count too often
+    -- what is too large of a key's rows is so of all that was taken
     pub too_large : (reduce : List ℤ → List Entry → List Entry) (content given rows : List (Update T)) → rows ≡ filter (of_key k key) content → IsTooLarge (as_of below t rows) → IsTooMuch below k reduce content given key t
-    too_large reduce content given rows e h = inl (λ taken s.
-        let alike : Alike (as_of below t rows) (had below k key t taken) = λ r. ap (λ z. count_of z r) (ap (as_of below t) e ∙ as_of-keyed below k key t content) ∙ had-alike below k key t content taken s r in
-        let b = h (had below k key t taken) alike in
-        let c = had_small below k key t taken in
-        omega (arith, b, c))
+    too_large reduce content given rows e h = inl (subst IsTooLarge (ap (as_of below t) e ∙ as_of-keyed below k key t content) h)
 
     module _ (reduce : List ℤ → List Entry → List Entry) (content given rows : List (Update T)) (want : List Entry) (own : IsTrue (list_all (of_key k key) given)) (draft : List (Update T)) (d : IsDraft below t want given draft) where
       -- the draft's entries are those of the change
@@ -186,8 +181,8 @@ module _ {T : Type 0} {below : T → T → Bool} (o : PartialOrderLaws below) wh
 
       pub too_far : rows ≡ filter (of_key k key) content
           → ((entries : List Entry) → Alike (as_of below t rows) entries → Alike want (reduce key entries))
-          → IsTrue (list_all (has_key k key) want) → HasLargeTotal below draft → IsTooMuch below k reduce content given key t
+          → IsTrue (list_all (has_key k key) want) → HasLargeTotal below draft → HasLargeChange below k reduce content given key t
       too_far e v a h =
           let l = large_draft below k key d.entries (change below k key want t given) t drafted (change-keyed below k key want t given a) (subst (HasLargeTotal below) d.draft_is h) in
           let w : count_of want l.0 ≡ count_of (reduce key (had below k key t content)) l.0 = v (had below k key t content) (λ r. ap (λ z. count_of z r) (ap (as_of below t) e ∙ as_of-keyed below k key t content)) l.0 in
-          inr (inr (l.0, l.1, λ f. l.2 (subst (FitsSigned w64) (sym (drafted l.0 ∙ (change-count below k key want t given l.0 l.1 ∙ ap (λ z. z +ℤ neg_ℤ (count_of (as_of below t given) l.0)) w))) f)))
+          (l.0, l.1, λ f. l.2 (subst (FitsSigned w64) (sym (drafted l.0 ∙ (change-count below k key want t given l.0 l.1 ∙ ap (λ z. z +ℤ neg_ℤ (count_of (as_of below t given) l.0)) w))) f))

@@ -1,5 +1,5 @@
 -- What is given at one moment.
-use Rattle.std.proofs.Common.{◌≡◌, ℕ, zero, suc, add-one, ◌+◌, ◌<◌, ◌≤◌, ◌^◌, Bool, true, false, cond, ◌&&◌, List, [], ◌∷◌, ◌++◌, map, take, get_or, length, sym, refl, ap, ◌∙◌, subst, arith, w64}
+use Rattle.std.proofs.Common.{◌≡◌, ℕ, zero, suc, add-one, ◌+◌, ◌≤◌, ◌^◌, Bool, true, false, cond, ◌&&◌, List, [], ◌∷◌, ◌++◌, map, take, sym, refl, ap, ◌∙◌, subst, inl, inr, arith, w64}
 use Rattle.std.specs.Prelude.{IsTrue, FitsSigned, unsigned_abs, slice_get, IsSomeAnd}
 use Rattle.std.specs.List.{filter, list_all}
 use Rattle.std.proofs.lemmas.Int.{ints}
@@ -10,16 +10,16 @@ use borrow.Author.Tests.{ltb-false}
 use Rattle.std.proofs.lemmas.Bool.Decides.{Decides-ltb}
 use lib.Signed.{mag}
 use Rattle.std.proofs.Math.IntN.{ℤ, pos, negsuc, ◌+ℤ◌, neg_ℤ, +ℤ_idl}
-use Rattle.update.specs.Bags.{Entry, count_of, Alike, same_row, bag_size, HasLargeCount}
+use Rattle.update.specs.Bags.{Entry, count_of, Alike, same_row, bag_size}
 use Rattle.update.specs.Updates.{entry, as_of, size, total_at, HasLargeTotal}
 use Rattle.update.specs.declared.change.Update.{Update}
-use Rattle.plan.specs.Reductions.{has_key}
+use Rattle.plan.specs.Reductions.{has_key, sum_of_counts}
 use Rattle.plan.specs.Operators.{negated_entry}
-use Rattle.plan.proofs.CountLemmas.{row_same, count_of-append, count_of-filter, count_of-negated_entry, when_zero}
+use Rattle.plan.proofs.CountLemmas.{row_same, count_of-append, count_of-filter, count_of-negated_entry, weigh_alike, when_zero}
 use Rattle.update.proofs.TotalLemmas.{fits_zero}
 use Rattle.joined_times.specs.Joined.{of_key}
-use Rattle.reducer.specs.Refusals.{IsTooLarge}
-use Rattle.correction.specs.Corrections.{put, had}
+use Rattle.reducer.specs.Refusals.{HasLargeSum}
+use Rattle.correction.specs.Corrections.{IsTooLarge, put, had}
 
 -- ---- sizes
 
@@ -61,17 +61,19 @@ not_fits n h =
       | false ↦ λ e. let far : 2 ^ 63 ≤ mag n = ltb-false (mag n) (2 ^ 63) e in let m = mag_small n in omega (arith, far, m)
     ] refl
 
--- where a row counts too often, the bag is too large however it is written
-pub large_count : (es : List Entry) → HasLargeCount es → IsTooLarge es
-large_count es h others same =
-    let a = not_fits (count_of es h.0) h.1 in
-    let b : 2 ^ 63 ≤ unsigned_abs (count_of others h.0) = subst (λ z. 2 ^ 63 ≤ unsigned_abs z) (same h.0) a in
-    let c = count_small others h.0 in
-    let d = entry_weight_is others in
-    omega (arith, b, c, d)
+-- ---- what is too large
 
+-- the sum of the counts is that of every list with the same counts
+pub same_sum : (a b : List Entry) → Alike a b → sum_of_counts a ≡ sum_of_counts b
+same_sum a b same = weigh_alike (λ row n. n) (λ row m n. refl) a b same
+
+pub large_sum_alike : (a b : List Entry) → Alike a b → HasLargeSum a → HasLargeSum b
+large_sum_alike a b same h fits = h (subst (FitsSigned w64) (sym (same_sum a b same)) fits)
+
+-- what is too large is so however it is written
 pub too_large_alike : (a b : List Entry) → Alike a b → IsTooLarge a → IsTooLarge b
-too_large_alike a b same h others k = h others (λ row. same row ∙ k row)
+too_large_alike a b same (inl h) = inl (h.0, λ fits. h.1 (subst (FitsSigned w64) (sym (same h.0)) fits))
+too_large_alike a b same (inr h) = inr (large_sum_alike a b same h)
 
 -- ---- entries at a time
 
@@ -107,11 +109,6 @@ size_right n us vs h =
     let b = weight_is vs in
     let c = weight_is (us ++ vs) in
     omega (arith, a, b, c, h)
-
-pub size_one : {T : Type 0} (us : List (Update T)) (i : ℕ) (u : Update T) → i < length us → u ≡ get_or us i u → 2 ^ 63 ≤ size (u ∷ []) → 2 ^ 63 ≤ size us
-size_one [] i u l e h = absurd (omega arith)
-size_one {T} (v ∷ us) zero u l e h = size_left (2 ^ 63) (v ∷ []) us (subst (λ z. 2 ^ 63 ≤ size (z ∷ [])) e h)
-size_one (v ∷ us) (suc i) u l e h = size_right (2 ^ 63) (v ∷ []) us (size_one us i u (omega (arith, l)) e h)
 
 -- ---- what is wanted less what was given
 

@@ -1,6 +1,6 @@
 -- What a draft has so far, and what it adds up to.
-use Rattle.std.proofs.Common.{◌≡◌, ℕ, zero, suc, ◌+◌, ◌<◌, ◌≤◌, ◌^◌, Bool, true, false, cond, List, [], ◌∷◌, ◌++◌, map, drop, get_or, length, sym, refl, ap, ◌∙◌, subst, arith, append_assoc, add-one, w64}
-use Rattle.std.specs.Prelude.{slice_get, IsSomeAnd, IsTrue, unsigned_abs}
+use Rattle.std.proofs.Common.{◌≡◌, ℕ, zero, suc, ◌+◌, ◌-◌, ◌<◌, ◌≤◌, ◌^◌, Bool, true, false, cond, List, [], ◌∷◌, ◌++◌, map, drop, take, get_or, length, sym, refl, ap, ◌∙◌, subst, arith, append_assoc, add-one, w64}
+use Rattle.std.specs.Prelude.{slice_get, IsSomeAnd, IsTrue, FitsSigned}
 use mir.Val.{of_z, to_z}
 use lib.Signed.{mag}
 use Rattle.std.proofs.lemmas.Int.{to_z-of_z}
@@ -9,19 +9,21 @@ use Rattle.std.proofs.lemmas.Bool.{eqb-true}
 use Rattle.std.specs.Cmp.Lexicographic.{slice_cmp}
 use Rattle.std.specs.Ordering.{int_cmp}
 use Rattle.std.proofs.lemmas.Int.{ints}
-use Rattle.std.proofs.lemmas.List.{append-nil}
+use Rattle.std.proofs.lemmas.List.{append-nil, map-append, take_more}
 use Rattle.std.proofs.Math.IntN.{ℤ, pos, ◌+ℤ◌, neg_ℤ}
 use Rattle.lattice.specs.Order.{PartialOrderLaws}
-use Rattle.update.specs.Bags.{Entry, Alike, IsBag, count_of, same_row}
+use Rattle.update.specs.Bags.{Entry, Alike, count_of, same_row, entry_of}
 use Rattle.update.specs.Updates.{entry, as_of}
 use Rattle.update.specs.declared.change.Update.{Update}
 use Rattle.std.specs.declared.cmp.Ordering.TheVariants.{Equal}
-use Rattle.update.proofs.BagLemmas.{count_at, equal_rows}
+use Rattle.update.proofs.BagLemmas.{equal_rows}
 use Rattle.plan.specs.Operators.{negated_entry}
 use Rattle.plan.proofs.CountLemmas.{count_of-append, count_of-negated_entry}
 use Rattle.correction.specs.Corrections.{put}
-use Rattle.correction.specs.Evaluations.{HasGreatCount, IsDraft, Moves, between}
+use Rattle.correction.specs.Evaluations.{Appends, IsDraft, Moves, between}
+use Rattle.correction.proofs.CorrectionLemmas.{not_fits}
 use Rattle.correction.proofs.EvaluationLemmas.{sum_splits, as_of-between}
+use Rattle.correction.proofs.JoinedLemmas.{as_of-append}
 
 -- ---- entries of a list
 
@@ -67,12 +69,6 @@ put_left {T} t a b z bag i h p =
     let r = entry_at bag i h in
     ap (λ v. v ++ put t (drop (i + 1) bag)) r.2 ∙ (append_assoc a (put t (r.0 ∷ [])) (put t (drop (i + 1) bag)) ∙ (ap (λ v. a ++ put t v) (sym r.1) ∙ p))
 
-pub put_back_left : {T : Type 0} (t : T) (a b z : List (Update T)) (bag : List Entry) (i : ℕ) → IsSomeAnd (slice_get bag i) (λ e. b ≡ a ++ put t (negated_entry e ∷ []))
-    → a ++ put t (map negated_entry (drop i bag)) ≡ z → b ++ put t (map negated_entry (drop (i + 1) bag)) ≡ z
-put_back_left {T} t a b z bag i h p =
-    let r = entry_at bag i h in
-    ap (λ v. v ++ put t (map negated_entry (drop (i + 1) bag))) r.2 ∙ (append_assoc a (put t (negated_entry r.0 ∷ [])) (put t (map negated_entry (drop (i + 1) bag))) ∙ (ap (λ v. a ++ put t (map negated_entry v)) (sym r.1) ∙ p))
-
 -- nothing is left behind the end
 pub none_left : (bag : List Entry) (i : ℕ) → length bag ≤ i → drop i bag ≡ []
 none_left [] zero h = refl
@@ -83,8 +79,93 @@ none_left (e ∷ bag) (suc i) h = none_left bag i (omega (arith, h))
 pub put_all_is : {T : Type 0} (t : T) (a z : List (Update T)) (bag : List Entry) (i : ℕ) → length bag ≤ i → a ++ put t (drop i bag) ≡ z → a ≡ z
 put_all_is t a z bag i h p = sym (append-nil a) ∙ (ap (λ v. a ++ put t v) (sym (none_left bag i h)) ∙ p)
 
-pub put_back_all_is : {T : Type 0} (t : T) (a z : List (Update T)) (bag : List Entry) (i : ℕ) → length bag ≤ i → a ++ put t (map negated_entry (drop i bag)) ≡ z → a ≡ z
-put_back_all_is t a z bag i h p = sym (append-nil a) ∙ (ap (λ v. a ++ put t (map negated_entry v)) (sym (none_left bag i h)) ∙ p)
+-- ---- what is appended, up to the order and the parts of its entries
+
+module _ {T : Type 0} (t : T) where
+  pub appends_put : (a b : List (Update T)) (es : List Entry) → b ≡ a ++ put t es → Appends t a b es
+  appends_put a b es e = (es, e, λ row. refl)
+
+  pub appends_none : (a : List (Update T)) → Appends t a a []
+  appends_none a = ([], sym (append-nil a), λ row. refl)
+
+  pub appends_alike : (a b : List (Update T)) (es fs : List Entry) → Alike es fs → Appends t a b es → Appends t a b fs
+  appends_alike a b es fs same h = (h.0, h.1, λ row. h.2 row ∙ same row)
+
+  pub appends_then : (a b c : List (Update T)) (es fs : List Entry) → Appends t a b es → Appends t b c fs → Appends t a c (es ++ fs)
+  appends_then a b c es fs p q = (
+    p.0 ++ q.0,
+    put_then t a b c p.0 q.0 p.1 q.1,
+    λ row. count_of-append p.0 q.0 row ∙ ((λ i. p.2 row i +ℤ q.2 row i) ∙ sym (count_of-append es fs row)),
+  )
+
+  -- entries of a list were taken back from a place on, and then one more
+  pub taken_more : (a b c : List (Update T)) (bag : List Entry) (start i : ℕ) → IsSomeAnd (slice_get bag i) (λ e. Appends t b c (negated_entry e ∷ []))
+      → (entries : List Entry) × (b ≡ a ++ put t entries) × Alike (entries ++ map negated_entry (drop i bag)) (map negated_entry (drop start bag))
+      → (entries : List Entry) × (c ≡ a ++ put t entries) × Alike (entries ++ map negated_entry (drop (i + 1) bag)) (map negated_entry (drop start bag))
+  taken_more a b c bag start i h p =
+      let r = entry_at bag i h in
+      let n = negated_entry r.0 in
+      let rest = map negated_entry (drop (i + 1) bag) in
+      let q = r.2 in (
+        p.0 ++ q.0,
+        put_then t a b c p.0 q.0 p.1 q.1,
+        λ row.
+            count_of-append (p.0 ++ q.0) rest row
+            ∙ (ap (λ z. z +ℤ count_of rest row) (count_of-append p.0 q.0 row ∙ ap (λ z. count_of p.0 row +ℤ z) (q.2 row))
+            ∙ (regroup (count_of p.0 row) (value n row) (count_of rest row)
+            ∙ (sym (count_of-append p.0 (n ∷ rest) row)
+            ∙ (ap (λ z. count_of (p.0 ++ map negated_entry z) row) (sym r.1) ∙ p.2 row)))),
+      )
+    where
+      value : Entry → List ℤ → ℤ
+      value e row = cond (same_row e.row row) e.count (pos 0)
+
+      regroup : (x v y : ℤ) → (x +ℤ (v +ℤ pos 0)) +ℤ y ≡ x +ℤ (v +ℤ y)
+      regroup x v y = omega (arith, ints)
+
+  -- behind the end all were taken back
+  pub taken_all : (a b : List (Update T)) (bag : List Entry) (start i : ℕ) → length bag ≤ i
+      → (entries : List Entry) × (b ≡ a ++ put t entries) × Alike (entries ++ map negated_entry (drop i bag)) (map negated_entry (drop start bag))
+      → Appends t a b (map negated_entry (drop start bag))
+  taken_all a b bag start i end p =
+      (p.0, p.1, λ row. ap (λ z. count_of z row) (sym (append-nil p.0) ∙ ap (λ z. p.0 ++ map negated_entry z) (sym (none_left bag i end))) ∙ p.2 row)
+
+  -- one more update was taken back
+  pub given_more : (below : T → T → Bool) (a b c : List (Update T)) (given : List (Update T)) (i : ℕ) (u : Update T) → i < length given → u ≡ get_or given i u
+      → Appends t a b (map negated_entry (as_of below t (take i given))) → Appends t b c (map negated_entry (as_of below t (u ∷ [])))
+      → Appends t a c (map negated_entry (as_of below t (take (i + 1) given)))
+  given_more below a b c given i u l e p q =
+      let before = as_of below t (take i given) in
+      let one = as_of below t (u ∷ []) in
+      let whole : as_of below t (take (i + 1) given) ≡ before ++ one =
+      ap (as_of below t) (take_more given i u l) ∙ (as_of-append below t (take i given) (get_or given i u ∷ []) ∙ ap (λ v. before ++ as_of below t (v ∷ [])) (sym e)) in
+      subst (Appends t a c) (sym (ap (map negated_entry) whole ∙ map-append negated_entry before one))
+      (appends_then a b c (map negated_entry before) (map negated_entry one) p q)
+
+  -- an update that is not there at the time takes nothing back, any other one its row
+  pub none_there : (below : T → T → Bool) (a : List (Update T)) (u : Update T) → below u.time t ≡ false → Appends t a a (map negated_entry (as_of below t (u ∷ [])))
+  none_there below a u h = rw h (appends_none a)
+
+  pub one_there : (below : T → T → Bool) (a b : List (Update T)) (u : Update T) → below u.time t ≡ true → Appends t a b (entry_of u.row (neg_ℤ u.diff) ∷ []) → Appends t a b (map negated_entry (as_of below t (u ∷ [])))
+  one_there below a b u h p = rw h p
+
+-- the row of an entry taken back is the entry taken back
+pub entry_back : {T : Type 0} (t : T) (a b : List (Update T)) (bag : List Entry) (i : ℕ) (row : List ℤ) (n : ℤ) → IsSomeAnd (slice_get bag i) (λ e. row ≡ e.row) → IsSomeAnd (slice_get bag i) (λ e. n ≡ e.count)
+    → Appends t a b (entry_of row (neg_ℤ n) ∷ []) → IsSomeAnd (slice_get bag i) (λ e. Appends t a b (negated_entry e ∷ []))
+entry_back t a b [] i row n p q h = absurd p
+entry_back t a b (e ∷ bag) zero row n p q h = subst (λ z. Appends t a b (z ∷ [])) (λ j. entry_of (p j) (neg_ℤ (q j))) h
+entry_back t a b (e ∷ bag) (suc i) row n p q h = entry_back t a b bag i row n p q h
+
+-- the least 64-bit number is taken back in two parts
+pub two_parts : (row : List ℤ) (n : ℤ) → FitsSigned w64 n → (FitsSigned w64 (neg_ℤ n) → ⊥) → Alike (entry_of row (pos (2 ^ 63 - 1)) ∷ entry_of row (pos 1) ∷ []) (entry_of row (neg_ℤ n) ∷ [])
+two_parts row n fits none other = step (same_row row other)
+  where
+    least : pos (2 ^ 63 - 1) +ℤ (pos 1 +ℤ pos 0) ≡ neg_ℤ n +ℤ pos 0
+    least = let far = not_fits (neg_ℤ n) none in omega (arith, ints, far)
+
+    step : (b : Bool) → cond b (pos (2 ^ 63 - 1)) (pos 0) +ℤ (cond b (pos 1) (pos 0) +ℤ pos 0) ≡ cond b (neg_ℤ n) (pos 0) +ℤ pos 0
+    step true = least
+    step false = refl
 
 -- ---- moves
 
@@ -152,6 +233,10 @@ module _ (want had : List Entry) (i j : ℕ) where
         same : (row : List ℤ) → value e row ≡ value f row
         same row = ap (λ z. cond (same_row z row) e.count (pos 0)) r ∙ ap (λ z. cond (same_row f.row row) z (pos 0)) c
 
+-- other entries with the same counts change the same
+pub moves_alike : (want had want2 had2 es fs : List Entry) → Alike es fs → Moves want had fs want2 had2 → Moves want had es want2 had2
+moves_alike want had want2 had2 es fs same p row = ap (λ z. z +ℤ (count_of want2 row +ℤ neg_ℤ (count_of had2 row))) (same row) ∙ p row
+
 -- nothing was read yet
 pub moves_none : (want had : List Entry) → Moves want had [] want had
 moves_none want had row = nothing (count_of want row) (count_of had row)
@@ -174,22 +259,7 @@ moves_all want had es want2 had2 p row =
     ∙ (last_part (count_of es row) (count_of want2 row) (count_of had2 row) (count_of want row) (count_of had row) (p row)
     ∙ sym (count_of-append want (map negated_entry had) row ∙ ap (λ z. count_of want row +ℤ z) (count_of-negated_entry had row)))))
 
--- ---- a count that has no opposite
-
--- an entry of a bag that is too great is the count of its row
-pub great_entry : (bag : List Entry) (i : ℕ) → IsBag bag → (n : ℤ) → IsSomeAnd (slice_get bag i) (λ e. n ≡ e.count) → 2 ^ 63 ≤ unsigned_abs n → HasGreatCount bag
-great_entry bag i is n h g =
-    let r = at bag i h in
-    (r.0.row, subst (λ z. 2 ^ 63 ≤ unsigned_abs z) (r.3 ∙ sym (ap (λ z. count_of bag z.row) (sym r.2) ∙ (count_at bag i r.0 r.1 is.ascending ∙ ap (λ (z : Entry). z.count) r.2))) g)
-  where
-    at : (bag : List Entry) (i : ℕ) → IsSomeAnd (slice_get bag i) (λ e. n ≡ e.count) → (e : Entry) × (i < length bag) × (get_or bag i e ≡ e) × (n ≡ e.count)
-    at [] i h = absurd h
-    at (e ∷ bag) zero h = (e, omega arith, refl, h)
-    at (e ∷ bag) (suc i) h = let r = at bag i h in (r.0, omega (arith, r.1), r.2, r.3)
-
--- a 64-bit number that is read back is itself
-pub read_back : (n : ℤ) → mag n < 2 ^ 63 → 2 ^ 63 ≤ unsigned_abs (to_z w64 (of_z w64 n)) → 2 ^ 63 ≤ unsigned_abs n
-read_back n f h = subst (λ z. 2 ^ 63 ≤ unsigned_abs z) (to_z-of_z w64 n (record { sfits = f })) h
+-- ---- entries of two lists
 
 equal_back : (m n : ℤ) → mag m < 2 ^ 63 → mag n < 2 ^ 63 → of_z w64 m ≡ of_z w64 n → m ≡ n
 equal_back m n f g e = sym (to_z-of_z w64 m (record { sfits = f })) ∙ (ap (to_z w64) e ∙ to_z-of_z w64 n (record { sfits = g }))
@@ -234,12 +304,10 @@ module _ {T : Type 0} {below : T → T → Bool} (o : PartialOrderLaws below) (t
   count-taken_back us row = count_of-negated_entry (as_of below t us) row
 
   -- all that is wanted, and all that was given taken back
-  pub whole : (a b c : List (Update T)) → a ≡ [] → b ≡ a ++ put t want → c ≡ b ++ put t (taken_back given) → IsDraft below t want given c
-  whole a b c n p q = record {
-    entries = want ++ taken_back given;
-    draft_is = put_then t [] b c want (taken_back given) (p ∙ ap (λ z. z ++ put t want) n) q;
-    adds_up = λ row. refl;
-  }
+  pub whole : (a b c : List (Update T)) → a ≡ [] → b ≡ a ++ put t want → Appends t b c (taken_back given) → IsDraft below t want given c
+  whole a b c n p q =
+      let r = appends_then t [] b c want (taken_back given) (appends_put t [] b want (p ∙ ap (λ z. z ++ put t want) n)) q in
+      record { entries = r.0; draft_is = r.1; adds_up = r.2 }
 
   -- what changed in the answer, and what was given in between taken back
   module _ (a : T) (h : below a t ≡ true) (answer : List Entry) (same : Alike answer (as_of below a given)) where
@@ -249,24 +317,26 @@ module _ {T : Type 0} {below : T → T → Bool} (o : PartialOrderLaws below) (t
     gone : (row : List ℤ) → count_of (taken_back since) row ≡ neg_ℤ (count_of (map entry since) row)
     gone row = count-taken_back since row ∙ ap (λ z. neg_ℤ (count_of z row)) (as_of-between o a t given)
 
-    pub since_last : (es : List Entry) → Alike es (want ++ map negated_entry answer)
-        → (n b c : List (Update T)) → n ≡ [] → b ≡ n ++ put t es → c ≡ b ++ put t (taken_back since) → IsDraft below t want given c
-    since_last es e n b c m p q = record {
-      entries = es ++ taken_back since;
-      draft_is = put_then t [] b c es (taken_back since) (p ∙ ap (λ z. z ++ put t es) m) q;
+    pub since_last : (n b c : List (Update T)) → n ≡ [] → Appends t n b (want ++ map negated_entry answer) → Appends t b c (taken_back since) → IsDraft below t want given c
+    since_last n b c m p q = record {
+      entries = es ++ q.0;
+      draft_is = put_then t [] b c es q.0 (p.1 ∙ ap (λ z. z ++ put t es) m) q.1;
       adds_up = λ row.
           let w = count_of want row in
           let g = count_of (as_of below a given) row in
           let x = count_of (map entry since) row in
           let changed : count_of es row ≡ w +ℤ neg_ℤ g =
-          e row ∙ (count_of-append want (map negated_entry answer) row ∙ ap (λ z. w +ℤ z) (count_of-negated_entry answer row ∙ ap neg_ℤ (same row))) in
-          count_of-append es (taken_back since) row
-          ∙ (ap (λ z. z +ℤ count_of (taken_back since) row) changed
-          ∙ (ap (λ z. (w +ℤ neg_ℤ g) +ℤ z) (gone row)
+          p.2 row ∙ (count_of-append want (map negated_entry answer) row ∙ ap (λ z. w +ℤ z) (count_of-negated_entry answer row ∙ ap neg_ℤ (same row))) in
+          count_of-append es q.0 row
+          ∙ (ap (λ z. z +ℤ count_of q.0 row) changed
+          ∙ (ap (λ z. (w +ℤ neg_ℤ g) +ℤ z) (q.2 row ∙ gone row)
           ∙ (regroup w g x
           ∙ (ap (λ z. w +ℤ neg_ℤ z) (sym (sum_splits o a t h given row))
           ∙ sym (count_of-append want (taken_back given) row ∙ ap (λ z. w +ℤ z) (count-taken_back given row))))));
     }
       where
+        es : List Entry
+        es = p.0
+
         regroup : (w g x : ℤ) → (w +ℤ neg_ℤ g) +ℤ neg_ℤ x ≡ w +ℤ neg_ℤ (g +ℤ x)
         regroup w g x = omega (arith, ints)

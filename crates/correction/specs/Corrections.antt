@@ -1,12 +1,16 @@
 -- What is given of a key at one time: what is wanted there less what was given up to it.
-use Rattle.std.specs.Prelude.{◌≡◌, ℕ, ◌≤◌, ◌^◌, Bool, true, List, [], ◌∷◌, ◌++◌, ℤ, ◌+ℤ◌, neg_ℤ, take, map, FitsSigned, ◌⊎◌}
+use Rattle.std.specs.Prelude.{◌≡◌, ℕ, Bool, true, List, [], ◌∷◌, ◌++◌, ℤ, ◌+ℤ◌, neg_ℤ, take, map, FitsSigned, ◌⊎◌}
 use Rattle.std.specs.Int.{w64}
 use Rattle.std.specs.List.{filter}
-use Rattle.update.specs.Bags.{Entry, Alike, count_of, same_row}
-use Rattle.update.specs.Updates.{as_of, size, AreApart}
+use Rattle.update.specs.Bags.{Entry, Alike, HasLargeCount, count_of, same_row}
+use Rattle.update.specs.Updates.{as_of, AreApart}
 use Rattle.update.specs.declared.change.Update.{Update}
 use Rattle.plan.specs.Reductions.{has_key}
-use Rattle.joined_times.specs.Joined.{of_key}
+use Rattle.reducer.specs.Refusals.{HasLargeSum}
+
+-- the count of some row, or the sum of all counts, is no 64-bit number
+abbrev pub IsTooLarge : List Entry → Type 0
+IsTooLarge entries = HasLargeCount entries ⊎ HasLargeSum entries
 
 module _ {T : Type 0} (below : T → T → Bool) where
   -- of the rows of a key, what was given sums at t to what the reducer makes of what was taken
@@ -44,11 +48,13 @@ module _ {T : Type 0} (below : T → T → Bool) (k : ℕ) (reduce : List ℤ �
     pub right : (taken : List (Update T)) → Alike (as_of below t content) (as_of below t taken)
         → IsRight below k reduce taken (given ++ more) key t
 
-  -- a number is too large there: of what was taken; of what was given of the key; or of what a
-  -- row's count is to change by
+  -- what the count of a row of the key is to change by there is no 64-bit number
+  abbrev pub HasLargeChange : Type 0
+  HasLargeChange =
+      (row : List ℤ) × (same_row (take k row) key ≡ true)
+      × (FitsSigned w64 (wanted row +ℤ neg_ℤ (count_of (as_of below t given) row)) → ⊥)
+
+  -- a number is too large there: the count of a row of the key, the sum of these counts, or what
+  -- the count of a row is to change by
   abbrev pub IsTooMuch : Type 0
-  IsTooMuch =
-      ((taken : List (Update T)) → Alike (as_of below t content) (as_of below t taken) → 2 ^ 63 ≤ size taken)
-      ⊎ ((2 ^ 63 ≤ size (filter (of_key k key) given))
-      ⊎ ((row : List ℤ) × (same_row (take k row) key ≡ true)
-      × (FitsSigned w64 (wanted row +ℤ neg_ℤ (count_of (as_of below t given) row)) → ⊥)))
+  IsTooMuch = IsTooLarge (filter (has_key k key) (as_of below t content)) ⊎ HasLargeChange

@@ -1,5 +1,5 @@
 -- From one time of a key to the next: what was evaluated last, and what of it changes.
-use Rattle.std.specs.Prelude.{◌≡◌, ◌≤◌, ◌^◌, Bool, ◌&&◌, not, List, ◌++◌, ℤ, ◌+ℤ◌, neg_ℤ, IsTrue, length, map, unsigned_abs}
+use Rattle.std.specs.Prelude.{◌≡◌, Bool, ◌&&◌, not, List, ◌++◌, ℤ, ◌+ℤ◌, neg_ℤ, IsTrue, length, map}
 use Rattle.std.specs.List.{filter, list_all}
 use Rattle.update.specs.Bags.{Entry, Alike, IsBag, count_of}
 use Rattle.update.specs.Updates.{as_of}
@@ -9,9 +9,9 @@ use Rattle.plan.specs.Operators.{negated_entry}
 use Rattle.correction.specs.declared.evaluation.Evaluation.{Evaluation}
 use Rattle.correction.specs.Corrections.{put}
 
--- some row counts 2^63 or more, or as much below 0
-abbrev pub HasGreatCount : List Entry → Type 0
-HasGreatCount entries = (row : List ℤ) × (2 ^ 63 ≤ unsigned_abs (count_of entries row))
+-- entries were appended at a time, and these are the same bag
+abbrev pub Appends : {T : Type 0} → T → List (Update T) → List (Update T) → List Entry → Type 0
+Appends t old new es = (entries : List Entry) × (new ≡ old ++ put t entries) × Alike entries es
 
 -- some entries of both lists were read, and these ones add up to what they change
 abbrev pub Moves : (want had entries want_left had_left : List Entry) → Type 0

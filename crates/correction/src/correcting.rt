@@ -9,7 +9,7 @@ ghost use Rattle.update.specs.Refusals.{IsMemoryOrOverflow};
 ghost use Rattle.update.specs.declared.change.Update.{Update};
 ghost use Rattle.plan.specs.Reductions.{has_key};
 ghost use Rattle.joined_times.specs.Joined.{of_key};
-ghost use Rattle.correction.specs.Corrections.{Corrects, IsTooMuch};
+ghost use Rattle.correction.specs.Corrections.{Corrects, HasLargeChange};
 ghost use Rattle.correction.specs.Evaluations.{IsAnswer, IsEvaluation};
 
 use crate::draft::draft_of;
@@ -31,6 +31,9 @@ pub struct Correction<T> {
 /// before. `last` is what was evaluated at the time before, if there was one. What the answer is,
 /// the clauses leave to the caller: they hold for each reducer and each list of rows of which it is
 /// the answer.
+///
+/// - [`Refusal::Overflow`] only if the count of a row is to change by no 64-bit number.
+/// - [`Refusal::OutOfMemory`] only if memory was refused.
 ///
 /// Cost: that of a draft (`draft_of`), and n log n in the length of the draft.
 pub fn correct<T: Lattice>(
@@ -58,7 +61,8 @@ pub fn correct<T: Lattice>(
         ((reduce : List ℤ → List Entry → List Entry) (content rows : List (Update T))
         → rows ≡ filter (of_key (length key.now) key.now) content
         → IsAnswer T.below reduce key.now rows evaluation.time evaluation.answer
-        → IsTooMuch T.below (length key.now) reduce content given.now key.now evaluation.time)) }
+        → HasLargeChange T.below (length key.now) reduce content given.now key.now
+        evaluation.time)) }
 {
     let draft = draft_of(alloc, evaluation.time, &evaluation.answer, given, last)?;
     let given = consolidate(draft)?;

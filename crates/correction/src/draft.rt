@@ -6,19 +6,21 @@
 //! what was given up to there is the last answer. So only the rows are put down that the two
 //! answers count differently, and only what was given in between is taken back. For the valid times
 //! of one revision, which follow one another, that is what changes from one to the next.
-ghost use Rattle.std.specs.Prelude.{◌≡◌, ◌≢◌, ◌≤◌, ◌<◌, ◌+◌, ◌++◌, ◌∷◌, ◌&&◌, not, [], ◌^◌, ◌+ℤ◌, neg_ℤ, ℤ, IfOk, IfErr, IfSome, IsSomeAnd, IsTrue, OnOk, List, drop, length, map, slice_get, unsigned_abs};
-ghost use Rattle.std.specs.List.{filter};
-ghost use Rattle.update.specs.Bags.{Alike, Entry, count_of};
-ghost use Rattle.update.specs.Refusals.{IsMemoryOrOverflow};
-ghost use Rattle.update.specs.Updates.{as_of, size};
+//!
+//! What is taken back may be -2^63, which has no opposite in 64 bits. It is put down in two parts.
+//! So a draft refuses no number: only the sum of its parts may be too large.
+ghost use Rattle.std.specs.Prelude.{◌≡◌, ◌≤◌, ◌<◌, ◌+◌, ◌++◌, ◌∷◌, [], ◌^◌, neg_ℤ, IfOk, IfErr, IfSome, IsSomeAnd, IsTrue, OnOk, List, drop, length, map, slice_get};
+ghost use Rattle.update.specs.Bags.{Alike, Entry, entry_of};
+ghost use Rattle.update.specs.Updates.{as_of};
 ghost use Rattle.update.specs.declared.change.Update.{Update};
 ghost use Rattle.update.specs.declared.refusal.Refusal.{Refusal};
 ghost use Rattle.plan.specs.Operators.{negated_entry};
 ghost use Rattle.correction.specs.Corrections.{put};
-ghost use Rattle.correction.specs.Evaluations.{HasGreatCount, IsDraft, Moves, between};
+ghost use Rattle.correction.specs.Evaluations.{Appends, IsDraft, Moves, between};
 
 use crate::evaluation::{Evaluation, between};
 use lattice::Lattice;
+use row::Row;
 use std::alloc::Global;
 use std::cmp::Ordering;
 use update::{Bag, Refusal, Update};
@@ -28,15 +30,6 @@ use update::{Bag, Refusal, Update};
 struct Cursors {
     want: usize,
     had: usize,
-}
-
-// The count with the other sign.
-fn opposite(count: i64) -> Result<i64, Refusal>
-    ensures value { IfOk result (λ n. n ≡ neg_ℤ count) }
-    ensures large { IfErr result (λ _. 2 ^ 63 ≤ unsigned_abs count) }
-    ensures only { IfErr result (λ refused. refused ≡ Refusal.Overflow) }
-{
-    count.checked_neg().ok_or(Refusal::Overflow)
 }
 
 // Appends an entry of a bag at a time.
@@ -59,6 +52,43 @@ fn put_entry<T: Lattice>(
     Ok(())
 }
 
+// Appends a row with a count at a time.
+fn put_row<T: Lattice>(
+    out: &mut Vec<Update<T>>,
+    time: T,
+    row: &Row,
+    count: i64,
+) -> Result<(), Refusal>
+    ensures put { OnOk result
+        (out.new.items ≡ out.old.items ++ put time (entry_of row.now count ∷ [])) }
+    ensures only { IfErr result (λ refused. refused ≡ Refusal.OutOfMemory) }
+{
+    out.push(Update {
+        time,
+        row: row.copy(),
+        diff: count,
+    })?;
+    Ok(())
+}
+
+// Takes a row back at a time. A count of -2^63 is taken back in two parts.
+fn put_opposite<T: Lattice>(
+    out: &mut Vec<Update<T>>,
+    time: T,
+    row: &Row,
+    count: i64,
+) -> Result<(), Refusal>
+    ensures put { OnOk result (Appends time out.old.items out.new.items
+        (entry_of row.now (neg_ℤ count) ∷ [])) }
+    ensures only { IfErr result (λ refused. refused ≡ Refusal.OutOfMemory) }
+{
+    let Some(opposite) = count.checked_neg() else {
+        put_row(out, time, row, i64::MAX)?;
+        return put_row(out, time, row, 1);
+    };
+    put_row(out, time, row, opposite)
+}
+
 // Takes an entry of a bag back at a time.
 fn put_back_entry<T: Lattice>(
     out: &mut Vec<Update<T>>,
@@ -68,17 +98,10 @@ fn put_back_entry<T: Lattice>(
 ) -> Result<(), Refusal>
     requires { i < length bag.now }
     ensures put { OnOk result (IsSomeAnd (slice_get bag.now i)
-        (λ e. out.new.items ≡ out.old.items ++ put time (negated_entry e ∷ []))) }
-    ensures refused { IfErr result (IsMemoryOrOverflow (HasGreatCount bag.now)) }
+        (λ e. Appends time out.old.items out.new.items (negated_entry e ∷ []))) }
+    ensures only { IfErr result (λ refused. refused ≡ Refusal.OutOfMemory) }
 {
-    bag.known();
-    let diff = opposite(bag.count(i))?;
-    out.push(Update {
-        time,
-        row: bag.row(i).copy(),
-        diff,
-    })?;
-    Ok(())
+    put_opposite(out, time, bag.row(i), bag.count(i))
 }
 
 // Appends the entries of a bag from a place on.
@@ -106,9 +129,9 @@ fn put_back_rest<T: Lattice>(
     start: usize,
 ) -> Result<(), Refusal>
     requires { start ≤ length bag.now }
-    ensures put { OnOk result (out.new.items
-        ≡ out.old.items ++ put time (map negated_entry (drop start bag.now))) }
-    ensures refused { IfErr result (IsMemoryOrOverflow (HasGreatCount bag.now)) }
+    ensures put { OnOk result (Appends time out.old.items out.new.items
+        (map negated_entry (drop start bag.now))) }
+    ensures only { IfErr result (λ refused. refused ≡ Refusal.OutOfMemory) }
 {
     for i in start..bag.len() {
         put_back_entry(out, time, bag, i)?;
@@ -143,7 +166,7 @@ fn put_difference<T: Lattice>(
         × (out.new.items ≡ out.old.items ++ put time entries)
         × Moves (drop i want.now) (drop j had.now) entries
         (drop (i + 1) want.now) (drop (j + 1) had.now)) }
-    ensures refused { IfErr result (IsMemoryOrOverflow (HasGreatCount had.now)) }
+    ensures only { IfErr result (λ refused. refused ≡ Refusal.OutOfMemory) }
 {
     if has_same_count(want, i, had, j) {
         return Ok(());
@@ -172,7 +195,7 @@ fn put_next<T: Lattice>(
         × (out.new.items ≡ out.old.items ++ put time entries)
         × Moves (drop at.want want.now) (drop at.had had.now) entries
         (drop next.want want.now) (drop next.had had.now)) }
-    ensures refused { IfErr result (IsMemoryOrOverflow (HasGreatCount had.now)) }
+    ensures only { IfErr result (λ refused. refused ≡ Refusal.OutOfMemory) }
 {
     let Cursors { want: i, had: j } = at;
     match want.row(i).cmp(had.row(j)) {
@@ -212,7 +235,7 @@ fn put_both<T: Lattice>(
     ensures moves { IfOk result (λ at. (entries : List Entry)
         × (out.new.items ≡ out.old.items ++ put time entries)
         × Moves want.now had.now entries (drop at.want want.now) (drop at.had had.now)) }
-    ensures refused { IfErr result (IsMemoryOrOverflow (HasGreatCount had.now)) }
+    ensures only { IfErr result (λ refused. refused ≡ Refusal.OutOfMemory) }
 {
     let mut at = Cursors { want: 0, had: 0 };
     while at.want < want.len() && at.had < had.len() {
@@ -228,10 +251,9 @@ fn put_change<T: Lattice>(
     want: &Bag,
     had: &Bag,
 ) -> Result<(), Refusal>
-    ensures changes { OnOk result ((entries : List Entry)
-        × (out.new.items ≡ out.old.items ++ put time entries)
-        × Alike entries (want.now ++ map negated_entry had.now)) }
-    ensures refused { IfErr result (IsMemoryOrOverflow (HasGreatCount had.now)) }
+    ensures changes { OnOk result (Appends time out.old.items out.new.items
+        (want.now ++ map negated_entry had.now)) }
+    ensures only { IfErr result (λ refused. refused ≡ Refusal.OutOfMemory) }
 {
     let at = put_both(out, time, want, had)?;
     put_rest(out, time, want, at.want)?;
@@ -244,19 +266,14 @@ fn put_back_one<T: Lattice>(
     time: T,
     given: &Update<T>,
 ) -> Result<(), Refusal>
-    ensures put { OnOk result (out.new.items ≡ out.old.items
-        ++ put time (map negated_entry (as_of T.below time (given.now ∷ [])))) }
-    ensures refused { IfErr result (IsMemoryOrOverflow (2 ^ 63 ≤ size (given.now ∷ []))) }
+    ensures put { OnOk result (Appends time out.old.items out.new.items
+        (map negated_entry (as_of T.below time (given.now ∷ [])))) }
+    ensures only { IfErr result (λ refused. refused ≡ Refusal.OutOfMemory) }
 {
     if !given.time.less_equal(&time) {
         return Ok(());
     }
-    out.push(Update {
-        time,
-        row: given.row.copy(),
-        diff: opposite(given.diff)?,
-    })?;
-    Ok(())
+    put_opposite(out, time, &given.row, given.diff)
 }
 
 // Takes back at a time what was given at or before it.
@@ -265,9 +282,9 @@ fn put_back<T: Lattice>(
     time: T,
     given: &[Update<T>],
 ) -> Result<(), Refusal>
-    ensures put { OnOk result (out.new.items ≡ out.old.items
-        ++ put time (map negated_entry (as_of T.below time given.now))) }
-    ensures refused { IfErr result (IsMemoryOrOverflow (2 ^ 63 ≤ size given.now)) }
+    ensures put { OnOk result (Appends time out.old.items out.new.items
+        (map negated_entry (as_of T.below time given.now))) }
+    ensures only { IfErr result (λ refused. refused ≡ Refusal.OutOfMemory) }
 {
     for update in given {
         put_back_one(out, time, update)?;
@@ -283,9 +300,9 @@ fn put_back_since<T: Lattice>(
     time: T,
     given: &[Update<T>],
 ) -> Result<(), Refusal>
-    ensures put { OnOk result (out.new.items ≡ out.old.items ++ put time
+    ensures put { OnOk result (Appends time out.old.items out.new.items
         (map negated_entry (as_of T.below time (between T.below after time given.now)))) }
-    ensures refused { IfErr result (IsMemoryOrOverflow (2 ^ 63 ≤ size given.now)) }
+    ensures only { IfErr result (λ refused. refused ≡ Refusal.OutOfMemory) }
 {
     let since = between(alloc, given, after, time)?;
     put_back(out, time, since.as_slice())
@@ -299,7 +316,7 @@ fn whole_draft<T: Lattice>(
     given: &[Update<T>],
 ) -> Result<Vec<Update<T>>, Refusal>
     ensures draft { IfOk result (λ draft. IsDraft T.below time want.now given.now draft.items) }
-    ensures refused { IfErr result (IsMemoryOrOverflow (2 ^ 63 ≤ size given.now)) }
+    ensures only { IfErr result (λ refused. refused ≡ Refusal.OutOfMemory) }
 {
     let mut draft = Vec::new(alloc);
     put_rest(&mut draft, time, want, 0)?;
@@ -318,7 +335,7 @@ fn draft_since<T: Lattice>(
     requires earlier { IsTrue (T.below last.now.time time) }
     requires answer { Alike last.now.answer (as_of T.below last.now.time given.now) }
     ensures draft { IfOk result (λ draft. IsDraft T.below time want.now given.now draft.items) }
-    ensures refused { IfErr result (IsMemoryOrOverflow (2 ^ 63 ≤ size given.now)) }
+    ensures only { IfErr result (λ refused. refused ≡ Refusal.OutOfMemory) }
 {
     let mut draft = Vec::new(alloc);
     put_change(&mut draft, time, want, &last.answer)?;
@@ -327,10 +344,7 @@ fn draft_since<T: Lattice>(
 }
 
 /// A draft of the correction of a key at a time, if `want` is wanted there and `given` is what was
-/// given of the key before.
-///
-/// - [`Refusal::Overflow`] only if the absolute diffs of what was given add up to 2^63 or more.
-/// - [`Refusal::OutOfMemory`] only if memory for the draft was refused.
+/// given of the key before. [`Refusal::OutOfMemory`] only if memory for the draft was refused.
 ///
 /// Cost: one pass over what was given. If the last time is at or before this one, a pass over both
 /// answers, and the draft has only what changed in between; else all that is wanted and was given.
@@ -344,7 +358,7 @@ pub(crate) fn draft_of<T: Lattice>(
     requires { IfSome last.now
         (λ last. Alike last.answer (as_of T.below last.time given.now)) }
     ensures draft { IfOk result (λ draft. IsDraft T.below time want.now given.now draft.items) }
-    ensures refused { IfErr result (IsMemoryOrOverflow (2 ^ 63 ≤ size given.now)) }
+    ensures only { IfErr result (λ refused. refused ≡ Refusal.OutOfMemory) }
 {
     match last {
         Some(last) if last.time.less_equal(&time) => draft_since(alloc, time, want, given, last),

@@ -13,8 +13,9 @@ ghost use Rattle.update.specs.Updates.{as_of};
 ghost use Rattle.update.specs.declared.refusal.Refusal.{Refusal};
 ghost use Rattle.plan.specs.Reductions.{has_key};
 ghost use Rattle.joined_times.specs.Joined.{of_key};
-ghost use Rattle.reducer.specs.Refusals.{IsTooLarge};
+ghost use Rattle.reducer.specs.Refusals.{HasLargeSum};
 ghost use Rattle.reducer.specs.Tallies.{undone};
+ghost use Rattle.correction.specs.Corrections.{IsTooLarge};
 ghost use Rattle.correction.specs.Evaluations.{IsAnswerFor};
 
 use lattice::Lattice;
@@ -84,7 +85,7 @@ fn answer_by_tally<T: Lattice, R: Reducer>(
         (R.reduces reducer.now) key.now (base.old ++ as_of T.below time near.now))) }
     ensures undone { undone noted.new.items base.new ≡ undone noted.old.items base.old }
     ensures refused { IfErr result
-        (IsMemoryOrOverflow (IsTooLarge (base.old ++ as_of T.below time near.now))) }
+        (IsMemoryOrOverflow (HasLargeSum (base.old ++ as_of T.below time near.now))) }
 {
     if !add_near(base, near, time, noted)? {
         return Ok(None);
@@ -161,8 +162,8 @@ fn answer_by_bag<T: Lattice, R: Reducer>(
 /// What the reducer answers at a time, if `base` has the counts of what all times to come see, and
 /// `near` has the other updates. The tally is as it was afterwards, also where the call is refused.
 ///
-/// - [`Refusal::Overflow`] only if a row's count, or the answer, is too large however the bag of
-///   the rows is written.
+/// - [`Refusal::Overflow`] only if the count of a row at that time, or the sum of these counts, is
+///   no 64-bit number.
 /// - [`Refusal::OutOfMemory`] only if memory for the notes or the answer was refused.
 ///
 /// Cost: each near update is compared with the time, and those at or before it take a binary search

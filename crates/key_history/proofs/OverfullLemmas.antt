@@ -1,23 +1,31 @@
--- A number that is too large is one that is owed, or of what was taken.
-use Rattle.std.proofs.Common.{◌≡◌, ℕ, ◌≤◌, ◌^◌, Bool, true, false, cond, not, ◌&&◌, ◌||◌, List, [], ◌∷◌, map, take, sym, refl, ap, ◌∙◌, subst, inl, inr, arith, w64}
+-- What is to change at a time, in whole numbers without bounds; and a number that is too large is one
+-- of a large list: of what was taken, or of what is owed.
+use Rattle.std.proofs.Common.{◌≡◌, ℕ, ◌≤◌, ◌^◌, Bool, true, false, cond, not, ◌&&◌, ◌||◌, List, [], ◌∷◌, ◌++◌, map, take, sym, refl, ap, ◌∙◌, subst, inl, inr, ◌⊎◌, ⊎_elim, arith, w64}
 use Rattle.std.specs.Prelude.{IsTrue, FitsSigned, unsigned_abs}
 use Rattle.std.specs.List.{filter, list_all, list_any}
 use Rattle.std.proofs.lemmas.Int.{ints}
 use Rattle.std.proofs.lemmas.Bool.{and_from, or_parts, true≢false}
+use Rattle.std.proofs.lemmas.List.Folds.{list_all-append}
 use Rattle.std.proofs.Math.IntN.{ℤ, pos, ◌+ℤ◌, neg_ℤ}
 use Rattle.lattice.specs.Order.{PartialOrderLaws}
-use Rattle.update.specs.Bags.{Entry, count_of, same_row}
+use Rattle.update.specs.Bags.{Entry, Alike, count_of, same_row}
 use Rattle.update.specs.Updates.{as_of, size, AreApart, is_doubled}
 use Rattle.update.specs.declared.change.Update.{Update}
 use Rattle.update.proofs.SumLemmas.{total_by-map}
+use Rattle.update.proofs.TotalLemmas.{fits_zero}
 use Rattle.antichain.proofs.Lists.{Among}
-use Rattle.plan.specs.Reductions.{has_key, IsReducer, each_once}
+use Rattle.plan.specs.Changes.{has_passed}
+use Rattle.plan.specs.Reductions.{has_key, IsReducer, each_once, sum_of_counts}
 use Rattle.plan.proofs.CountLemmas.{row_same, row_itself, count_of-filter}
 use Rattle.plan.proofs.ReductionLemmas.{total_by-once, each_once_among}
-use Rattle.joined_times.specs.Joined.{of_key}
-use Rattle.correction.specs.Corrections.{Corrects, put, had, wanted}
+use Rattle.joined_times.specs.Joined.{Member, of_key}
+use Rattle.joined_times.proofs.MemberLemmas.{in_either}
+use Rattle.correction.specs.Corrections.{AllAt, Corrects, HasLargeChange, IsRight, IsTooLarge, IsTooMuch, put, had, wanted}
+use Rattle.key_history.specs.Owing.{IsOwed, IsOverfull, IsOverfullAt}
+use Rattle.key_history.proofs.ApartLemmas.{apart_both, doubled_is}
 use Rattle.correction.proofs.JoinedLemmas.{sum_at-append}
-use Rattle.correction.proofs.CorrectionLemmas.{as_of-keyed, count-had, had-alike, as_of-put, put-at, change, change-count, count_small, entry_weight_is, not_fits}
+use Rattle.correction.proofs.KeyedLemmas.{both_own, own_kept}
+use Rattle.correction.proofs.CorrectionLemmas.{as_of-keyed, count-had, had-alike, as_of-put, put-at, change, change-count, count_small, entry_weight, entry_weight_is, not_fits, size_right, too_large_alike}
 use Rattle.correction.proofs.CorrectLemmas.{all_at, had_small}
 
 -- ---- a list in whole numbers without bounds: each row once, with what it counts
@@ -151,3 +159,122 @@ module _ {T : Type 0} {below : T → T → Bool} (o : PartialOrderLaws below) (k
       let c = entry_weight_is (had below k key t (filter (of_key k key) ideal)) in
       let f = had_small below k key t (filter (of_key k key) ideal) in
       omega (arith, a, b, c, f)
+
+-- ---- what is too large
+
+module _ {T : Type 0} (below : T → T → Bool) (k : ℕ) (key : List ℤ) (t : T) (reduce : List ℤ → List Entry → List Entry) where
+  -- it is too large after other updates of which the key's rows have the same counts there
+  pub too_much_given : (content given other : List (Update T)) → ((row : List ℤ) → same_row (take k row) key ≡ true → count_of (as_of below t given) row ≡ count_of (as_of below t other) row)
+      → IsTooMuch below k reduce content given key t → IsTooMuch below k reduce content other key t
+  too_much_given content given other same (inl h) = inl h
+  too_much_given content given other same (inr h) =
+      inr (h.0, h.1, λ fits. h.2 (subst (λ z. FitsSigned w64 (wanted below k reduce content given key t h.0 +ℤ neg_ℤ z)) (sym (same h.0 h.1)) fits))
+
+  -- and if other updates were taken that have the same sums there
+  pub too_much_taken : IsReducer k reduce → (content taken given : List (Update T)) → Alike (as_of below t content) (as_of below t taken)
+      → IsTooMuch below k reduce content given key t → IsTooMuch below k reduce taken given key t
+  too_much_taken q content taken given same (inl h) = inl (too_large_alike (had below k key t content) (had below k key t taken) (had-alike below k key t content taken same) h)
+  too_much_taken q content taken given same (inr h) =
+      let w : wanted below k reduce content given key t h.0 ≡ wanted below k reduce taken given key t h.0 = q.alike key (had below k key t content) (had below k key t taken) (had-alike below k key t content taken same) h.0 in
+      inr (h.0, h.1, λ fits. h.2 (subst (λ z. FitsSigned w64 (z +ℤ neg_ℤ (count_of (as_of below t given) h.0))) (sym w) fits))
+
+  -- what is too large of a key's rows has a large size
+  large_rows : (taken : List (Update T)) → IsTooLarge (had below k key t taken) → 2 ^ 63 ≤ size taken
+  large_rows taken (inl h) =
+      let a = not_fits (count_of (had below k key t taken) h.0) h.1 in
+      let b = count_small (had below k key t taken) h.0 in
+      let c = entry_weight_is (had below k key t taken) in
+      let d = had_small below k key t taken in
+      omega (arith, a, b, c, d)
+  large_rows taken (inr h) =
+      let a = not_fits (sum_of_counts (had below k key t taken)) h in
+      let b = sum_small (had below k key t taken) in
+      let c = entry_weight_is (had below k key t taken) in
+      let d = had_small below k key t taken in
+      omega (arith, a, b, c, d)
+    where
+      sum_small : (es : List Entry) → unsigned_abs (sum_of_counts es) ≤ entry_weight es
+      sum_small [] = omega arith
+      sum_small (e ∷ es) = let rest = sum_small es in omega (arith, ints, rest)
+
+module _ {T : Type 0} (k : ℕ) (key : List ℤ) where
+  pub all_at_is : (us : List (Update T)) (t : T) → AllAt k key t us → (u : Update T) → Member u us → (of_key k key u ≡ true) × (u.time ≡ t)
+  all_at_is [] t a u m = absurd m
+  all_at_is (x ∷ us) t a u (inl e) = (ap (λ z. same_row (take k z.row) key) e ∙ (ap (λ z. same_row z key) a.0 ∙ row_itself key), ap (λ (z : Update T). z.time) e ∙ a.1)
+  all_at_is (x ∷ us) t a u (inr m) = all_at_is us t a.2 u m
+
+all_of : {X : Type 0} (p : X → Bool) (xs : List X) → ((x : X) → Member x xs → p x ≡ true) → IsTrue (list_all p xs)
+all_of p [] h = refl
+all_of p (x ∷ xs) h = and_from (p x) (list_all p xs) (h x (inl refl)) (all_of p xs (λ y m. h y (inr m)))
+
+module _ {T : Type 0} {below : T → T → Bool} (o : PartialOrderLaws below) (k : ℕ) (reduce : List ℤ → List Entry → List Entry) (q : IsReducer k reduce) (taken : List (Update T)) (front : List T)
+    (key : List ℤ) (t : T) (us : List (Update T)) (x : IsOverfullAt below k reduce taken front key t us) (h : HasLargeChange below k reduce taken us key t) where
+  abbrev more : List (Update T)
+  more = ideal o k key t reduce taken us
+
+  at : (v : Update T) → Member v more → (of_key k key v ≡ true) × (v.time ≡ t)
+  at = all_at_is k key more t (ideal_corrects o k key t reduce taken us q).at
+
+  own : IsTrue (list_all (of_key k key) more)
+  own = all_of (of_key k key) more (λ v m. (at v m).0)
+
+  -- where it is right nothing is to change: so none of the updates is at or after the time
+  not_right : IsRight below k reduce taken us key t → ⊥
+  not_right r = h.2 (subst (FitsSigned w64) (sym (none (wanted below k reduce taken us key t h.0) (count_of (as_of below t us) h.0) (r h.0 h.1))) fits_zero)
+    where
+      none : (w c : ℤ) → c ≡ w → w +ℤ neg_ℤ c ≡ pos 0
+      none w c e = omega (arith, ints, e)
+
+  not_after : (u : Update T) → Member u us → (b : Bool) → below t u.time ≡ b → below t u.time ≡ false
+  not_after u m false e = e
+  not_after u m true e = absurd (not_right (x.owed.sums u m t e))
+
+  -- what is more is not seen at other times before
+  unseen : (s : T) → below t s ≡ false → (vs : List (Update T)) → ((v : Update T) → Member v vs → v.time ≡ t) → as_of below s vs ≡ []
+  unseen s e [] a = refl
+  unseen s e (v ∷ vs) a = rw (ap (λ z. below z s) (a v (inl refl)) ∙ e) (unseen s e vs (λ w m. a w (inr m)))
+
+  right_too : (s : T) → below t s ≡ false → IsRight below k reduce taken us key s → IsRight below k reduce taken (us ++ more) key s
+  right_too s e r row d =
+      sum_at-append below s us more row
+      ∙ (ap (λ z. count_of (as_of below s us) row +ℤ count_of z row) (unseen s e more (λ v m. (at v m).1)) ∙ (no_more (count_of (as_of below s us) row) ∙ r row d))
+    where
+      no_more : (n : ℤ) → n +ℤ pos 0 ≡ n
+      no_more n = omega (arith, ints)
+
+  owed_with : IsOwed below k reduce taken key front (us ++ more)
+  owed_with = record {
+    keyed = both_own k key us more x.owed.keyed own;
+    apart = apart_both o us more x.owed.apart (ideal_corrects o k key t reduce taken us q).apart (λ u v m n. other u v m n (is_doubled below u v) refl);
+    passed = list_all-append (λ (u : Update T). has_passed below front u.time) us more ∙ and_from (list_all (λ (u : Update T). has_passed below front u.time) us) (list_all (λ (u : Update T). has_passed below front u.time) more) x.owed.passed
+        (all_of (λ (u : Update T). has_passed below front u.time) more (λ v m. ap (has_passed below front) (at v m).1 ∙ x.passed));
+    sums = λ u m s b. ⊎_elim (λ n. early u n s b (below t s) refl) (λ n. here s (subst (λ z. below s z ≡ true) (at u n).1 b) (below t s) refl) (in_either u us more m);
+  }
+    where
+      other : (u v : Update T) → Member u us → Member v more → (b : Bool) → is_doubled below u v ≡ b → is_doubled below u v ≡ false
+      other u v m n false e = e
+      other u v m n true e =
+          let same : u.time ≡ t = (doubled_is o u v e).1 ∙ (at v n).1 in
+          absurd (true≢false (sym (subst (λ z. below t z ≡ true) (sym same) (o.reflexive t)) ∙ not_after u m (below t u.time) refl))
+
+      early : (u : Update T) → Member u us → (s : T) → below s u.time ≡ true → (b : Bool) → below t s ≡ b → IsRight below k reduce taken (us ++ more) key s
+      early u m s b false e = right_too s e (x.owed.sums u m s b)
+      early u m s b true e = absurd (true≢false (sym (o.transitive t s u.time e b) ∙ not_after u m (below t u.time) refl))
+
+      here : (s : T) → below s t ≡ true → (b : Bool) → below t s ≡ b → IsRight below k reduce taken (us ++ more) key s
+      here s b false e = right_too s e (x.before s b e)
+      here s b true e = subst (IsRight below k reduce taken (us ++ more) key) (o.antisymmetric t s e b) ((ideal_corrects o k key t reduce taken us q).right taken (λ row. refl))
+
+  large_with : 2 ^ 63 ≤ size (us ++ more)
+  large_with = size_right (2 ^ 63) us more (subst (λ z. 2 ^ 63 ≤ size z) (own_kept k key more own) (ideal_large o k key t reduce taken us h.0 h.1 h.2))
+
+-- if a number is too large, then what was taken has a size of 2^63 or more, or a list of updates
+-- that is owed of a key has
+pub overfull_is_large : {T : Type 0} {below : T → T → Bool} → PartialOrderLaws below → (k : ℕ) (reduce : List ℤ → List Entry → List Entry) → IsReducer k reduce → (taken : List (Update T)) (front : List T)
+    → IsOverfull below k reduce taken front
+    → (2 ^ 63 ≤ size taken) ⊎ ((key : List ℤ) × (us : List (Update T)) × IsOwed below k reduce taken key front us × (2 ^ 63 ≤ size us))
+overfull_is_large {T} {below} o k reduce q taken front (key, t, us, x) = step x.large
+  where
+    step : IsTooMuch below k reduce taken us key t → (2 ^ 63 ≤ size taken) ⊎ ((key : List ℤ) × (us : List (Update T)) × IsOwed below k reduce taken key front us × (2 ^ 63 ≤ size us))
+    step (inl h) = inl (large_rows below k key t reduce taken h)
+    step (inr h) = inr (key, us ++ ideal o k key t reduce taken us, owed_with o k reduce q taken front key t us x h, large_with o k reduce q taken front key t us x h)

@@ -1,5 +1,5 @@
 -- Over the pending times of one key.
-use Rattle.std.proofs.Common.{◌≡◌, ◌≢◌, ℕ, zero, suc, ◌+◌, ◌<◌, ◌≤◌, ◌^◌, Bool, true, false, cond, not, List, [], ◌∷◌, ◌++◌, take, drop, get_or, length, sym, refl, ap, ◌∙◌, subst, inl, inr, ◌⊎◌, ⊎_elim, arith, append_assoc, add-one, drop-cons}
+use Rattle.std.proofs.Common.{◌≡◌, ◌≢◌, ℕ, zero, suc, ◌+◌, ◌<◌, Bool, true, false, cond, not, List, [], ◌∷◌, ◌++◌, take, drop, get_or, length, sym, refl, ap, ◌∙◌, subst, inl, inr, ◌⊎◌, ⊎_elim, arith, append_assoc, add-one, drop-cons}
 use Rattle.std.specs.Prelude.{IsTrue, ℤ}
 use Rattle.std.specs.List.{filter, list_all, AllByRecursion}
 use Rattle.std.specs.List.Sorted.{IsStrictlySortedBy}
@@ -16,11 +16,10 @@ use Rattle.lattice.specs.Order.{PartialOrderLaws, LatticeLaws, ExtendsLaws}
 use Rattle.lattice.specs.Frontiers.{is_beyond}
 use Rattle.lattice.proofs.FrontierLemmas.{beyond_up}
 use Rattle.update.specs.Bags.{Entry, count_of, same_row}
-use Rattle.update.specs.Updates.{as_of, size, AreApart, is_doubled}
+use Rattle.update.specs.Updates.{as_of, AreApart, is_doubled}
 use Rattle.update.specs.declared.change.Update.{Update}
 use Rattle.plan.specs.Changes.{has_passed}
 use Rattle.plan.specs.Reductions.{IsReducer}
-use Rattle.plan.proofs.CountLemmas.{row_itself}
 use Rattle.joined_times.specs.Joined.{Member, of_key}
 use Rattle.key_history.specs.Standing.{KeyStands, IsSettledAt, Shows}
 use Rattle.correction.specs.Corrections.{IsRight, AllAt, Corrects, IsTooMuch}
@@ -30,8 +29,8 @@ use Rattle.correction.proofs.JoinedLemmas.{sum_at, sum_at-append}
 use Rattle.joined_times.proofs.MemberLemmas.{each_member, in_either, in_left, in_right}
 use Rattle.key_history.proofs.StandingLemmas.{corrects_one, key_right}
 use Rattle.key_history.proofs.ApartLemmas.{apart_both, apart_filter, doubled_is}
-use Rattle.correction.proofs.CorrectionLemmas.{as_of-keyed, count-had, size_right, weight, weight_is, weight-append}
-use Rattle.key_history.proofs.OverfullLemmas.{ideal, ideal_corrects, ideal_large}
+use Rattle.correction.proofs.CorrectionLemmas.{as_of-keyed, count-had, weight, weight_is, weight-append}
+use Rattle.key_history.proofs.OverfullLemmas.{all_at_is, too_much_given, too_much_taken}
 
 -- ---- lists of times
 
@@ -134,11 +133,6 @@ module _ {T : Type 0} {below : T → T → Bool} {joined met : T → T → T} (o
       (λ r. true≢false (sym b ∙ n s r))
       (in_either s rest after m)
 
-  all_at_is : (us : List (Update T)) (t : T) → AllAt k key t us → (u : Update T) → Member u us → (of_key k key u ≡ true) × (u.time ≡ t)
-  all_at_is [] t a u m = absurd m
-  all_at_is (x ∷ us) t a u (inl e) = (ap (λ z. same_row (take k z.row) key) e ∙ (ap (λ z. same_row z key) a.0 ∙ row_itself key), ap (λ (z : Update T). z.time) e ∙ a.1)
-  all_at_is (x ∷ us) t a u (inr m) = all_at_is us t a.2 u m
-
   -- what stands in for what was given does so with more behind both
   pub shows_more : (given more : List (Update T)) → IsTrue (list_all (of_key k key) more) → Shows below k key stored given → Shows below k key (stored ++ more) (given ++ more)
   shows_more given more own s = record {
@@ -168,14 +162,6 @@ module _ {T : Type 0} {below : T → T → Bool} {joined met : T → T → T} (o
       → IsRight below k reduce taken (stored2 ++ new) key t → IsRight below k reduce taken (given2 ++ new) key t
   right_shown taken given stored2 given2 new t s r row d =
       sum_at-append below t given2 new row ∙ (ap (λ z. z +ℤ sum_at below t new row) (sym (s t row d)) ∙ (sym (sum_at-append below t stored2 new row) ∙ r row d))
-
-  lighter : (us : List (Update T)) → weight (filter (of_key k key) us) ≤ weight us
-  lighter [] = omega arith
-  lighter (u ∷ us) = step (of_key k key u) (lighter us)
-    where
-      step : (b : Bool) → weight (filter (of_key k key) us) ≤ weight us → weight (cond b (u ∷ filter (of_key k key) us) (filter (of_key k key) us)) ≤ weight (u ∷ us)
-      step true h = omega (arith, h)
-      step false h = omega (arith, h)
 
   -- ---- what is owed
 
@@ -251,7 +237,7 @@ module _ {T : Type 0} {below : T → T → Bool} {joined met : T → T → T} (o
           step : (u v : Update T) → Member u more → Member v new → (b : Bool) → is_doubled below u v ≡ b → is_doubled below u v ≡ false
           step u v m n false d = d
           step u v m n true d =
-              let same : u.time ≡ t = (doubled_is o u v d).1 ∙ (all_at_is new t a v n).1 in
+              let same : u.time ≡ t = (doubled_is o u v d).1 ∙ (all_at_is k key new t a v n).1 in
               let under = behind x total due ascending i u.time t (s.at u m).1 (subst (Member t) (sym (next due i t lt e)) (inl refl)) in
               absurd (true≢false (sym (subst (λ z. below t z ≡ true) (sym same) (o.reflexive t)) ∙ under))
 
@@ -275,7 +261,7 @@ module _ {T : Type 0} {below : T → T → Bool} {joined met : T → T → T} (o
             subst (λ z. KeyStands below joined k reduce taken z key (rest2 ++ after)) (append_assoc given more new ∙ ap (λ z. given ++ z) (sym w.2.1))
             (subst (λ z. KeyStands below joined k reduce taken ((given ++ more) ++ new) key (z ++ after)) (sym w.1) (corrected w.0 new c taken given rd sh st));
         apart = subst (AreApart below) (sym w.2.1) (apart_new new c.at c.apart);
-        at = λ u m. ⊎_elim (still u) (λ n. let a = all_at_is new t c.at u n in (a.0, subst (λ z. Member z (take (i + 1) due)) (sym a.1) here, ap (λ z. is_beyond below front z) a.1 ∙ w.0)) (in_either u more new (subst (Member u) w.2.1 m));
+        at = λ u m. ⊎_elim (still u) (λ n. let a = all_at_is k key new t c.at u n in (a.0, subst (λ z. Member z (take (i + 1) due)) (sym a.1) here, ap (λ z. is_beyond below front z) a.1 ∙ w.0)) (in_either u more new (subst (Member u) w.2.1 m));
         nonzero = λ u m. ⊎_elim (s.nonzero u) (λ n. each_member (λ u. u.diff ≢ pos 0) new w.2.2 u n) (in_either u more new (subst (Member u) w.2.1 m));
       }
         where
@@ -293,41 +279,43 @@ module _ {T : Type 0} {below : T → T → Bool} {joined met : T → T → T} (o
 
       -- a number that is too large at a time that is due
       pub overfull : IsReducer k reduce → is_beyond below front t ≡ false → IsTooMuch below k reduce content (stored ++ more) key t → IsOverfullFor below joined k reduce key content stored front due
-      overfull q p large taken given rd sh st ag op ps =
-          ⊎_elim (λ h. inl (h taken (rd t here p)))
-          (⊎_elim
-          (λ h. inr (
-            key,
-            filter (of_key k key) (given ++ more),
-            owed q taken (given ++ more) (rest ++ drop i due) (s.stands taken given rd sh st) both passed opened,
-            (let a = (shows_more given more own sh).smaller in
-                let b = lighter (stored ++ more) in
-                let c = weight_is (filter (of_key k key) (stored ++ more)) in
-                let d = weight_is (stored ++ more) in
-                omega (arith, a, b, c, d, h)),
-          ))
-          (λ h.
-          let ideals : List (Update T) = ideal o k key t reduce content (stored ++ more) in
-          let c = ideal_corrects o k key t reduce content (stored ++ more) q in
-          let at = all_at_is ideals t c.at in
-          let apart2 : AreApart below ((given ++ more) ++ ideals) = apart_both o (given ++ more) ideals both c.apart (λ u v m n. other u v m (at v n) (is_doubled below u v) refl) in
-          let passed2 : (u : Update T) → Member u ((given ++ more) ++ ideals) → IsTrue (has_passed below front u.time) =
-          λ u m. ⊎_elim (passed u) (λ n. ap (λ z. not (is_beyond below front z)) (at u n).1 ∙ ap not p) (in_either u (given ++ more) ideals m) in
-          let opened2 : (u : Update T) → Member u ((given ++ more) ++ ideals) → of_key k key u ≡ true → IsSettledAt below (rest ++ after) u.time =
-          λ u m d v n b. ⊎_elim (λ y. opened u y d v (fewer v n) b) (λ y. least t rest after left p (later x total due ascending i t lt e) v n (subst (λ z. below v z ≡ true) (at u y).1 b)) (in_either u (given ++ more) ideals m) in
-          inr (
-            key,
-            filter (of_key k key) ((given ++ more) ++ ideals),
-            owed q taken ((given ++ more) ++ ideals) (rest ++ after) (corrected p ideals c taken given rd sh st) apart2 passed2 opened2,
-            subst (λ z. 2 ^ 63 ≤ size z) (sym (filter-append (of_key k key) (given ++ more) ideals)) (size_right (2 ^ 63) (filter (of_key k key) (given ++ more)) (filter (of_key k key) ideals) (ideal_large o k key t reduce content (stored ++ more) h.0 h.1 h.2)),
-          )))
-          large
+      overfull q p large taken given rd sh st ag op ps = (
+        key,
+        t,
+        filter (of_key k key) all,
+        record {
+          passed = ap not p;
+          owed = owed q taken all left_over stands both passed opened;
+          before = λ v under strict row d. own_count v row d ∙ key_right o l k reduce q taken all key left_over stands v (quiet v under strict) row d;
+          large =
+              too_much_given below k key t reduce taken (stored ++ more) (filter (of_key k key) all)
+              (λ row d. (shows_more given more own sh).sums t row d ∙ sym (own_count t row d))
+              (too_much_taken below k key t reduce q content taken (stored ++ more) (rd t here p) large);
+        },
+      )
         where
+          all : List (Update T)
+          all = given ++ more
+
+          left_over : List T
+          left_over = rest ++ drop i due
+
+          stands : KeyStands below joined k reduce taken all key left_over
+          stands = s.stands taken given rd sh st
+
+          own_count : (v : T) (row : List ℤ) → same_row (take k row) key ≡ true → count_of (as_of below v (filter (of_key k key) all)) row ≡ count_of (as_of below v all) row
+          own_count v row d = ap (λ z. count_of z row) (as_of-keyed below k key v all) ∙ count-had below k key v all row d
+
+          -- no pending time comes before
+          quiet : (v : T) → below v t ≡ true → below t v ≡ false → IsSettledAt below left_over v
+          quiet v under strict u m b =
+              ⊎_elim
+              (λ here. true≢false (sym (subst (λ z. below z v ≡ true) here b) ∙ strict))
+              (λ n. least t rest after left p (later x total due ascending i t lt e) u n (o.transitive u v t b under))
+              (member-rest u t rest after (subst (λ z. Member u (rest ++ z)) (next due i t lt e) m))
+
           here : Member t due
           here = member_at due i t lt e
-
-          fewer : (v : T) → Member v (rest ++ after) → Member v (rest ++ drop i due)
-          fewer v m = subst (λ z. Member v (rest ++ z)) (sym (next due i t lt e)) (member-weaken v t rest after m)
 
           in_due : (v : T) → Member v rest → Member v due
           in_due v m = member-taken due i v (kept (take i due) v (subst (Member v) s.rest_is m))
@@ -365,10 +353,3 @@ module _ {T : Type 0} {below : T → T → Bool} {joined met : T → T → T} (o
               (λ r. true≢false (sym b ∙ behind x total due ascending i u.time v a.1 r))
               (in_either v rest (drop i due) n))
               (in_either u given more m)
-
-          other : (u v : Update T) → Member u (given ++ more) → (of_key k key v ≡ true) × (v.time ≡ t) → (b : Bool) → is_doubled below u v ≡ b → is_doubled below u v ≡ false
-          other u v m a false d = d
-          other u v m a true d =
-              let same = doubled_is o u v d in
-              let due_here : Member t (rest ++ drop i due) = subst (λ z. Member t (rest ++ z)) (sym (next due i t lt e)) (member-here t rest after) in
-              absurd (opened u m (ap (λ z. same_row (take k z) key) same.0 ∙ a.0) t due_here (subst (λ z. below t z ≡ true) (sym (same.1 ∙ a.1)) (o.reflexive t)))

@@ -1,14 +1,14 @@
 -- A sweep over the times of a key: one time after the other.
-use Rattle.std.proofs.Common.{◌≡◌, ◌≢◌, ℕ, zero, suc, add-one, drop-cons, ⊎_elim, length, get_or, ◌-◌, ◌+◌, ◌<◌, ◌≤◌, ◌^◌, Bool, List, [], ◌∷◌, ◌++◌, take, drop, sym, refl, ap, ◌∙◌, subst, arith, inl, inr, ◌⊎◌, w64}
-use Rattle.std.specs.Prelude.{IsTrue, IfSome, Option, Some, None, FitsSigned}
-use Rattle.std.specs.List.{filter, list_all}
+use Rattle.std.proofs.Common.{◌≡◌, ◌≢◌, ℕ, zero, suc, add-one, drop-cons, ⊎_elim, length, get_or, ◌-◌, ◌+◌, ◌<◌, ◌≤◌, Bool, List, [], ◌∷◌, ◌++◌, take, drop, sym, refl, ap, ◌∙◌, subst, arith, inl, inr, ◌⊎◌}
+use Rattle.std.specs.Prelude.{IsTrue, IfSome, Option, Some, None}
+use Rattle.std.specs.List.{list_all}
 use Rattle.std.specs.declared.cmp.Ordering.{Ordering}
-use Rattle.std.proofs.Math.IntN.{ℤ, ◌+ℤ◌, neg_ℤ, pos}
+use Rattle.std.proofs.Math.IntN.{ℤ, ◌+ℤ◌, pos}
 use Rattle.std.proofs.lemmas.Int.{ints}
 use Rattle.std.proofs.lemmas.List.{length-drop}
 use Rattle.lattice.specs.Order.{PartialOrderLaws}
 use Rattle.update.specs.Bags.{Alike, Entry, count_of, same_row}
-use Rattle.update.specs.Updates.{as_of, size}
+use Rattle.update.specs.Updates.{as_of}
 use Rattle.update.specs.declared.change.Update.{Update}
 use Rattle.plan.specs.Reductions.{has_key}
 use Rattle.plan.proofs.CountLemmas.{count_of-append}
@@ -20,8 +20,7 @@ use Rattle.correction.specs.Evaluations.{IsEvaluation}
 use Rattle.key_history.specs.Replays.{Ascends, Settles, StandsEver, StandsFrom, StandsOn, on_the_way}
 use Rattle.key_history.specs.Sweeps.{AreMeets, IsLed, IsSweep, StandsWith, from_last}
 use Rattle.correction.proofs.JoinedLemmas.{sum_at, sum_at-append}
-use Rattle.correction.proofs.KeyedLemmas.{own_kept}
-use Rattle.correction.proofs.CorrectionLemmas.{weight_is, weight-append}
+use Rattle.key_history.proofs.OverfullLemmas.{too_much_given}
 use Rattle.key_history.proofs.SettleLemmas.{take_whole}
 use Rattle.key_history.proofs.ReplayLemmas.{append_rows, base_same, base_sum, rows_append, fewer_times, stands_then, stands_more}
 
@@ -217,15 +216,7 @@ module _ {T : Type 0} {below : T → T → Bool} {cmp : T → T → Ordering} (o
 
       -- and what is too much of it is too much
       pub too_much_too : IsTooMuch below k reduce content s.had.near.items key time → IsTooMuch below k reduce content given key time
-      too_much_too (inl h) = inl h
-      too_much_too (inr (inl h)) = inr (inl (
-          let x = p.had_stand.smaller in
-          let a = weight-append s.had.near.items (drop s.had.entered s.had.later.items) in
-          let b = weight_is (on_the_way s.had.near.items s.had.later.items s.had.entered) in
-          let c = weight_is s.had.near.items in
-          let e : 2 ^ 63 ≤ size s.had.near.items = subst (λ z. 2 ^ 63 ≤ size z) (own_kept k key s.had.near.items had_own) h in
-          subst (λ z. 2 ^ 63 ≤ size z) (sym (own_kept k key given own_given)) (omega (arith, x, a, b, c, e))))
-      too_much_too (inr (inr h)) = inr (inr (h.0, h.1, λ f. h.2 (subst (λ z. FitsSigned w64 (count_of (reduce key (filter (has_key k key) (as_of below time content))) h.0 +ℤ neg_ℤ z)) (sym (had_here h.0)) f)))
+      too_much_too = too_much_given below k key time reduce content s.had.near.items given (λ row d. had_here row)
 
     -- the time was corrected
     pub passed : (new : List (Update T)) (e : Evaluation T) (s2 : Sweep T) → e.time ≡ time → IsEvaluation below (s.had.near.items ++ new) e

@@ -249,7 +249,9 @@ fn first_of<T: Lattice>(times: &[T]) -> T
 /// What is given of a key at those of its pending times that the frontier has passed, if `rows` are
 /// the updates of its rows.
 ///
-/// - [`Refusal::Overflow`] only if what the key is owed is too large.
+/// - [`Refusal::Overflow`] only if, at a pending time that the frontier has passed, the count of a
+///   row of the key, the sum of these counts, or what the count of a row is to change by is no
+///   64-bit number.
 /// - [`Refusal::OutOfMemory`] only if memory was refused.
 ///
 /// Cost: a copy of the key's rows and of what was given of it, as the first pending time and those

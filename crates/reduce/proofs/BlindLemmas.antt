@@ -1,25 +1,26 @@
 -- A reducer that does not look at rows answers the same where the key stands in place of each of
 -- its rows.
-use Rattle.std.proofs.Common.{◌≡◌, ℕ, ◌+◌, ◌≤◌, ◌^◌, Bool, true, false, cond, not, List, [], ◌∷◌, ◌++◌, map, take, drop, length, IsTrue, inl, inr, ⊎_elim, refl, sym, ap, subst, ◌∙◌}
-use Rattle.std.specs.Prelude.{ℤ, pos, unsigned_abs}
+use Rattle.std.proofs.Common.{◌≡◌, ℕ, Bool, true, false, cond, not, List, [], ◌∷◌, ◌++◌, map, take, drop, length, IsTrue, FitsSigned, inl, inr, ⊎_elim, refl, sym, ap, subst, w64, ◌∙◌}
+use Rattle.std.specs.Prelude.{ℤ, pos, ◌+ℤ◌, neg_ℤ}
 use Rattle.std.specs.List.{filter, list_all}
-use Rattle.std.proofs.lemmas.Bool.{and_from}
+use Rattle.std.proofs.lemmas.Bool.{and_from, and_parts}
 use Rattle.std.proofs.lemmas.List.{map-id, length-map}
 use Rattle.std.proofs.Math.Seq.{take-length}
 use Rattle.update.specs.Bags.{Entry, count_of, Alike, same_row, total_by}
 use Rattle.update.specs.Joins.{joins_of}
-use Rattle.update.specs.Updates.{entry, as_of, size}
+use Rattle.update.specs.Updates.{entry, as_of}
 use Rattle.update.specs.declared.change.Update.{Update}
 use Rattle.update.proofs.SumLemmas.{total_by-map}
+use Rattle.update.proofs.TotalLemmas.{fits_zero}
 use Rattle.plan.specs.Reductions.{has_key, sum_of_counts}
-use Rattle.plan.proofs.CountLemmas.{row_same, row_itself, weigh_alike, when_add}
+use Rattle.plan.proofs.CountLemmas.{row_same, row_itself, weigh_alike, when_add, when_zero}
 use Rattle.reducer.specs.Blind.{IsBlind}
+use Rattle.reducer.specs.Refusals.{HasLargeSum}
 use Rattle.reduce.specs.Seen.{as_seen, without_rows}
 use Rattle.joined_times.specs.Joined.{Member, of_key, times_of, IsJoined}
-use Rattle.correction.specs.Corrections.{IsRight}
+use Rattle.correction.specs.Corrections.{IsRight, IsTooLarge, IsTooMuch}
 use Rattle.key_history.specs.Standing.{KeyStands}
 use Rattle.key_history.specs.Settling.{Settling, ReadsAs, IsOverfullFor}
-use Rattle.correction.proofs.CorrectionLemmas.{weight, weight_is}
 
 -- ---- lists
 
@@ -92,6 +93,35 @@ module _ (key : List ℤ) where
       counted : (es : List Entry) → count_of (map bare_entry es) row ≡ total_by (λ e. cond (same_row (bare_row e.row) row) e.count (pos 0)) es
       counted es = total_by-map (λ e. cond (same_row e.row row) e.count (pos 0)) bare_entry es
 
+  -- where the key stands in place of its rows, its count is the sum of their counts
+  bare_count : (es : List Entry) → IsTrue (list_all (has_key k key) es) → (row : List ℤ) → count_of (map bare_entry es) row ≡ cond (same_row key row) (sum_of_counts es) (pos 0)
+  bare_count [] h row = sym (when_zero (same_row key row))
+  bare_count (e ∷ es) h row =
+      let p = and_parts (same_row (take k e.row) key) (list_all (has_key k key) es) h in
+      rw (p.0, bare_count es p.1 row) (sym (when_add (same_row key row) e.count (sum_of_counts es)))
+
+  -- so a count that is too large there is a sum that is too large
+  bare_large : (other : List ℤ) (es : List Entry) → IsTooLarge (filter (has_key k other) (map bare_entry es)) → IsTooLarge (filter (has_key k other) es)
+  bare_large other es = step (same_row key other) refl
+    where
+      own : List Entry
+      own = filter (has_key k key) es
+
+      through : filter (has_key k key) (map bare_entry es) ≡ map bare_entry own
+      through = filter_through (has_key k key) bare_entry (λ e. ap (λ z. same_row z key) (same_start e.row)) es
+
+      here : IsTooLarge (map bare_entry own) → IsTooLarge own
+      here (inl h) = inr (row (same_row key h.0) refl)
+        where
+          row : (b : Bool) → same_row key h.0 ≡ b → HasLargeSum own
+          row true e = λ fits. h.1 (subst (FitsSigned w64) (sym (bare_count own (all_pass (has_key k key) es) h.0 ∙ ap (λ b. cond b (sum_of_counts own) (pos 0)) e)) fits)
+          row false e = absurd (h.1 (subst (FitsSigned w64) (sym (bare_count own (all_pass (has_key k key) es) h.0 ∙ ap (λ b. cond b (sum_of_counts own) (pos 0)) e)) fits_zero))
+      here (inr h) = inr (λ fits. h (subst (FitsSigned w64) (sym (total_by-map (λ e. e.count) bare_entry own)) fits))
+
+      step : (b : Bool) → same_row key other ≡ b → IsTooLarge (filter (has_key k other) (map bare_entry es)) → IsTooLarge (filter (has_key k other) es)
+      step true e = subst (λ z. IsTooLarge (filter (has_key k z) (map bare_entry es)) → IsTooLarge (filter (has_key k z) es)) (row_same key other e) (λ h. here (subst IsTooLarge through h))
+      step false e = subst IsTooLarge (others_stay other e es)
+
   -- a reducer that does not look at rows answers the same for every key
   bare_answer : (reduce : List ℤ → List Entry → List Entry) → IsBlind k reduce → (other : List ℤ) (es : List Entry)
       → Alike (reduce other (filter (has_key k other) (map bare_entry es))) (reduce other (filter (has_key k other) es))
@@ -121,13 +151,6 @@ module _ (key : List ℤ) where
         go : (us : List (Update T)) → map (λ u. u.time) (map bare us) ≡ map (λ u. u.time) us
         go [] = refl
         go (u ∷ us) = ap (λ z. u.time ∷ z) (go us)
-
-    same_size : (us : List (Update T)) → size (without_rows k key us) ≡ size us
-    same_size us = sym (weight_is (without_rows k key us)) ∙ (go us ∙ weight_is us)
-      where
-        go : (us : List (Update T)) → weight (without_rows k key us) ≡ weight us
-        go [] = refl
-        go (u ∷ us) = ap (λ z. unsigned_abs u.diff + z) (go us)
 
     -- those of the key are what a reducer is given that sees no rows
     given_without : (us : List (Update T)) → map (as_seen false key) (filter (of_key k key) us) ≡ filter (of_key k key) (without_rows k key us)
@@ -166,6 +189,12 @@ module _ (key : List ℤ) where
         right_with : (taken given : List (Update T)) (other : List ℤ) (t : T) → IsRight below k reduce (without_rows k key taken) given other t → IsRight below k reduce taken given other t
         right_with taken given other t h row d = h row d ∙ same_answer taken other row t
 
+        -- what is too large without rows is so with them
+        too_much_with : (taken given : List (Update T)) (other : List ℤ) (t : T) → IsTooMuch below k reduce (without_rows k key taken) given other t → IsTooMuch below k reduce taken given other t
+        too_much_with taken given other t (inl h) = inl (bare_large other (as_of below t taken) (subst (λ z. IsTooLarge (filter (has_key k other) z)) (as_of-without t taken) h))
+        too_much_with taken given other t (inr h) =
+            inr (h.0, h.1, λ fits. h.2 (subst (λ z. FitsSigned w64 (z +ℤ neg_ℤ (count_of (as_of below t given) h.0))) (sym (same_answer taken other h.0 t)) fits))
+
         -- a key stands after updates of the same times that are right where the others are
         stands_alike : (a b given : List (Update T)) (due : List T) → times_of k key a ≡ times_of k key b → ((t : T) → IsRight below k reduce a given key t → IsRight below k reduce b given key t)
             → KeyStands below joined k reduce a given key due → KeyStands below joined k reduce b given key due
@@ -202,15 +231,18 @@ module _ (key : List ℤ) where
 
           overfull_with : IsOverfullFor below joined k reduce key (without_rows k key content) stored front due → IsOverfullFor below joined k reduce key content stored front due
           overfull_with h taken given rd sh w apart settled passed =
-              ⊎_elim
-              (λ large. inl (subst (λ n. 2 ^ 63 ≤ n) (same_size taken) large))
-              (λ owing. let owed = owing.2 in inr (
-                owing.0,
-                owing.1,
-                record { keyed = owed.keyed; apart = owed.apart; passed = owed.passed; sums = λ u m t b. right_with taken owing.1 owing.0 t (owed.sums u m t b) },
-                owing.3,
-              ))
-              (h (without_rows k key taken) given (reads_without front due content taken rd) sh (stands_without taken given due w) apart settled passed)
+              let z = h (without_rows k key taken) given (reads_without front due content taken rd) sh (stands_without taken given due w) apart settled passed in
+              let at = z.3 in (
+                z.0,
+                z.1,
+                z.2,
+                record {
+                  passed = at.passed;
+                  owed = record { keyed = at.owed.keyed; apart = at.owed.apart; passed = at.owed.passed; sums = λ u m t b. right_with taken z.2 z.0 t (at.owed.sums u m t b) };
+                  before = λ s b strict. right_with taken z.2 z.0 s (at.before s b strict);
+                  large = too_much_with taken z.2 z.0 z.1 at.large;
+                },
+              )
 
 -- ---- what a reducer is given of a key, whether it sees rows or not
 

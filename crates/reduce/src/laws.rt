@@ -1,16 +1,17 @@
 //! What follows from the definitions alone. The functions do nothing: they are called, or their
 //! clauses cited, for what they promise in every lattice and of every reducer.
-ghost use Rattle.std.specs.Prelude.{◌≡◌, ◌≢◌, ◌⊎◌, ◌++◌, Bool, ℕ, ℤ, List, [], IsTrue, pos, true};
+ghost use Rattle.std.specs.Prelude.{◌≡◌, ◌≢◌, ◌⊎◌, ◌≤◌, ◌^◌, ◌++◌, Bool, ℕ, ℤ, List, [], IsTrue, pos, true};
 ghost use Rattle.std.specs.List.{AllByRecursion, filter, list_all};
 ghost use Rattle.std.specs.List.Sorted.{IsPermutation};
 ghost use Rattle.update.specs.Bags.{Alike, Entry};
 ghost use Rattle.update.specs.Joins.{joins_of};
-ghost use Rattle.update.specs.Updates.{as_of, AreApart, IsConsolidated};
+ghost use Rattle.update.specs.Updates.{as_of, size, AreApart, IsConsolidated};
 ghost use Rattle.update.specs.declared.change.Update.{Update};
 ghost use Rattle.plan.specs.Changes.{has_passed};
 ghost use Rattle.plan.specs.Operators.{reduction_output};
 ghost use Rattle.plan.specs.Reductions.{IsReducer, has_key};
 ghost use Rattle.joined_times.specs.Joined.{Member, IsJoined};
+ghost use Rattle.key_history.specs.Owing.{IsOwed, IsOverfull};
 ghost use Rattle.reduce.specs.Histories.{HistoryState};
 ghost use Rattle.reduce.specs.Reductions.{StandsFor, IsQuietAt};
 
@@ -97,4 +98,17 @@ pub fn rows_given_are_answered<T: Lattice>()
         → ((t : T) → IsTrue (has_passed T.below frontier t)
         → IsTrue (list_all (λ e. p e.row) (reduction_output k reduce (as_of T.below t taken))))
         → IsTrue (list_all (λ u. p u.row) out) }
+{}
+
+/// If a number is too large for `ready`, then some list is long: the absolute diffs of what was
+/// taken add up to 2^63 or more, or those of a list of updates of one key that is owed. Up to some
+/// step of the computation such a list is what the reduction is to give. So a bound of these sizes
+/// rules the refusal out. Costs nothing.
+pub fn large_numbers_have_large_sizes<T: Lattice>()
+    ensures sizes { (k : ℕ) (reduce : List ℤ → List Entry → List Entry) → IsReducer k reduce
+        → (taken : List (Update T)) (frontier : List T)
+        → IsOverfull T.below k reduce taken frontier
+        → (2 ^ 63 ≤ size taken)
+        ⊎ ((key : List ℤ) × (us : List (Update T))
+        × IsOwed T.below k reduce taken key frontier us × (2 ^ 63 ≤ size us)) }
 {}

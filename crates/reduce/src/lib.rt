@@ -36,8 +36,9 @@ mod visiting;
 
 pub use key_history::KeyHistory;
 pub use laws::{
-    answers_are_the_differences, joined_times_are_closed, order_does_not_matter,
-    outputs_change_at_joined_times, rows_given_are_answered, settled_is_right,
+    answers_are_the_differences, joined_times_are_closed, large_numbers_have_large_sizes,
+    order_does_not_matter, outputs_change_at_joined_times, rows_given_are_answered,
+    settled_is_right,
 };
 pub use reducer::{Count, Distinct, Max, Min, Reducer, RowCounts, Tally, kinds_are_reductions};
 pub use state::ReduceState;

@@ -257,9 +257,10 @@ impl<T: Lattice, R: Reducer> ReduceState<T, R> {
     /// premise of the promises and not a condition of the call. If the call is refused, then
     /// nothing has changed.
     ///
-    /// - [`Refusal::Overflow`] only if the absolute diffs of what was taken add up to 2^63 or more,
-    ///   or those of a list of updates of one key that is owed: up to some step of the computation
-    ///   it is what the reduction is to give.
+    /// - [`Refusal::Overflow`] only if, at some time that the frontier has passed, the count of a
+    ///   row of what was taken, the sum of the counts of a key's rows, or what the count of a row is
+    ///   to change by is no 64-bit number. The change is the one that the key is owed there after
+    ///   all that it is owed before.
     /// - [`Refusal::OutOfMemory`] only if memory was refused.
     ///
     /// Cost: a comparison with the frontier for each pending time. For each key of which some time

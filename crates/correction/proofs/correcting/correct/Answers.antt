@@ -1,15 +1,7 @@
-use Rattle.std.proofs.Common.{length, inl, inr, ⊎_elim, refl}
+use Rattle.std.proofs.Common.{length, inr, refl}
 use Rattle.correction.proofs.ResultLemmas.{passed_on}
-use Rattle.correction.proofs.KeyedLemmas.{own_kept}
 use Rattle.correction.proofs.CorrectLemmas.{corrects, wanted_there, too_far}
 use Rattle.correction.proofs.correcting.correct.Goals as goal
-
-pub returns-in_err-draft-clause-refused : goal.returns-in_err-draft-clause-refused
-returns-in_err-draft-clause-refused g c =
-    let key = c.args.key.now in
-    let given = c.args.given.now in
-    passed_on c.from_residual.result c.in_err-draft.field-0.0 _ c.from_residual.ensures.1
-    (⊎_elim inl (λ h. inr (h.0, λ reduce content rows own answer. inr (inl (rw (own_kept (length key) key given c.requires.given) h.1)))) c.in_err-draft.ensures.refused)
 
 pub returns-in_err-given-clause-refused : goal.returns-in_err-given-clause-refused
 returns-in_err-given-clause-refused g c =

@@ -1,9 +1,13 @@
-use Rattle.std.proofs.Common.{inr}
-use Rattle.correction.proofs.ResultLemmas.{passed_on}
-use Rattle.correction.proofs.DraftLemmas.{great_entry, read_back}
+use Rattle.std.proofs.Common.{FitsSigned, w64, rules}
+use Rattle.std.proofs.lemmas.Int.{to_z-of_z}
+use Rattle.correction.proofs.ResultLemmas.{on_ok}
+use Rattle.correction.proofs.DraftLemmas.{entry_back}
 use Rattle.correction.proofs.draft.put_back_entry.Goals as goal
 
-pub returns-in_err-diff-clause-refused : goal.returns-in_err-diff-clause-refused
-returns-in_err-diff-clause-refused g c =
-    passed_on c.from_residual.result c.in_err-diff.field-0.0 _ c.from_residual.ensures.1
-    (inr (c.in_err-diff.ensures.only, great_entry c.args.bag.now c.args.i c.known.ensures.bag c.count.result c.count.ensures (read_back c.count.result c.count.type_inv c.in_err-diff.ensures.large)))
+pub returns-clause-put : goal.returns-clause-put
+returns-clause-put g c =
+    let n = c.count.result in
+    let fits : FitsSigned w64 n = search rules in
+    on_ok c.put_opposite.result
+    (λ h. entry_back c.args.time c.args.out.now.items c.put_opposite.new.out.items c.args.bag.now c.args.i c.row.result.now n c.row.ensures c.count.ensures (rw (to_z-of_z w64 n fits) at h))
+    c.put_opposite.ensures.put

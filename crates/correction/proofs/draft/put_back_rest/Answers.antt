@@ -1,13 +1,14 @@
-use Rattle.std.proofs.Common.{◌++◌, drop, length, map, ◌≤◌, arith}
-use Rattle.plan.specs.Operators.{negated_entry}
-use Rattle.correction.specs.Corrections.{put}
-use Rattle.correction.proofs.DraftLemmas.{put_back_left, put_back_all_is}
+use Rattle.std.proofs.Common.{[], length, ◌≤◌, arith, append-nil, refl, sym}
+use Rattle.correction.proofs.DraftLemmas.{taken_more, taken_all}
 use Rattle.correction.proofs.draft.put_back_rest.Goals as goal
 
+pub loop-i-init : goal.loop-i-init
+loop-i-init g c = ([], sym (append-nil c.args.out.now.items), λ row. refl)
+
 pub loop-i-preserved : goal.loop-i-preserved
-loop-i-preserved g c = put_back_left c.args.time c.loop-i.out.items c.put_back_entry.new.out.items (c.args.out.now.items ++ put c.args.time (map negated_entry (drop c.args.start c.args.bag.now))) c.args.bag.now c.loop-i.i c.in_ok-put_back_entry.ensures.put c.loop-i.invariant
+loop-i-preserved g c = taken_more c.args.time c.args.out.now.items c.loop-i.out.items c.put_back_entry.new.out.items c.args.bag.now c.args.start c.loop-i.i c.in_ok-put_back_entry.ensures.put c.loop-i.invariant
 
 pub returns-clause-put : goal.returns-clause-put
 returns-clause-put g c =
     let end : length c.args.bag.now ≤ c.loop-i.i = omega arith in
-    put_back_all_is c.args.time c.loop-i.out.items (c.args.out.now.items ++ put c.args.time (map negated_entry (drop c.args.start c.args.bag.now))) c.args.bag.now c.loop-i.i end c.loop-i.invariant
+    taken_all c.args.time c.args.out.now.items c.loop-i.out.items c.args.bag.now c.args.start c.loop-i.i end c.loop-i.invariant

@@ -1,7 +1,7 @@
-use Rattle.std.proofs.Common.{[], ◌∷◌, ◌++◌, ◌≡◌, append-nil, sym}
+use Rattle.std.proofs.Common.{[], ◌∷◌, ◌+◌, ◌≡◌, append-nil, drop, sym}
 use Rattle.plan.specs.Operators.{negated_entry}
 use Rattle.correction.proofs.ResultLemmas.{on_ok}
-use Rattle.correction.proofs.DraftLemmas.{entry_at, entries_at, pair_both, put_then, moves_both, moves_neither}
+use Rattle.correction.proofs.DraftLemmas.{appends_put, appends_then, entry_at, entries_at, pair_both, moves_alike, moves_both, moves_neither}
 use Rattle.correction.proofs.draft.put_difference.Goals as goal
 
 pub returns-then-has_same_count-clause-moves : goal.returns-then-has_same_count-clause-moves
@@ -22,9 +22,10 @@ returns-clause-moves g c =
     let a = entry_at want i c.in_ok-put_entry.ensures.put in
     on_ok c.put_back_entry.result
     (λ h.
-    let b = entry_at had j h in (
-      (a.0 ∷ []) ++ (negated_entry b.0 ∷ []),
-      put_then c.args.time c.args.out.now.items c.put_entry.new.out.items c.put_back_entry.new.out.items (a.0 ∷ []) (negated_entry b.0 ∷ []) a.2 b.2,
-      moves_both want had i j a.0 b.0 a.1 b.1,
+    let b = entry_at had j h in
+    let both = appends_then c.args.time c.args.out.now.items c.put_entry.new.out.items c.put_back_entry.new.out.items (a.0 ∷ []) (negated_entry b.0 ∷ []) (appends_put c.args.time c.args.out.now.items c.put_entry.new.out.items (a.0 ∷ []) a.2) b.2 in (
+      both.0,
+      both.1,
+      moves_alike (drop i want) (drop j had) (drop (i + 1) want) (drop (j + 1) had) both.0 (a.0 ∷ negated_entry b.0 ∷ []) both.2 (moves_both want had i j a.0 b.0 a.1 b.1),
     ))
     c.put_back_entry.ensures.put

@@ -31,5 +31,5 @@ returns-clause-refused g c =
     let reduce = g.R.Reducer.reduces c.args.reducer.now in
     let value = rw c.as_slice-near.ensures.value at c.in_ok-answer.ensures.value in
     IfErr-weaker c.correct.result _ _
-    (λ refused h. ⊎_elim inl (λ y. inr (y.0, λ content rows is same. (rw c.as_slice-had.ensures.value at y.1) reduce content rows is (λ entries a. value entries (λ r. same r ∙ a r)))) h)
+    (λ refused h. ⊎_elim inl (λ y. inr (y.0, λ content rows is same. inr ((rw c.as_slice-had.ensures.value at y.1) reduce content rows is (λ entries a. value entries (λ r. same r ∙ a r))))) h)
     c.correct.ensures.refused
