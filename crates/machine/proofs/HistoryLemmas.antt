@@ -21,3 +21,4 @@ pub mod CuttingLemmas
 pub mod ActorLemmas
 pub mod ExampleLemmas
 pub mod WitnessLemmas
+pub mod ExchangeLemmas

@@ -13,6 +13,7 @@ pub mod Remembered
 pub mod Examples
 pub mod Witnesses
 pub mod Cuts
+pub mod Exchanges
 use Rattle.std.specs.Prelude.{◌≡◌, ℕ, zero, suc, ◌<◌, ◌≤◌, ◌≢◌, Bool, not, ◌&&◌, eqb, if◌then◌else◌, List, [], ◌∷◌, ◌++◌, map, length, Some, None, IsTrue, Contains, ⊤, pos, unsigned_abs, slice_get, ℤ}
 use Rattle.std.specs.List.{filter, list_all, flat_map}
 use Rattle.lattice.specs.Frontiers.{is_beyond, all_beyond}

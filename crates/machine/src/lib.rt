@@ -48,4 +48,6 @@ pub use histories::theorems::{
     one_list, parts_of_workers, port_frontiers_are_the_input_frontier, premises_can_be_met,
     quiet_is_caught_up, stamps_are_frontiers, what_waits_has_its_place, workers_are_apart,
 };
-pub use histories::witnesses::definitions_fit_examples;
+pub use histories::witnesses::{
+    bundles_wait_in_order, definitions_fit_examples, own_bounds_are_met, two_workers_can_exchange,
+};

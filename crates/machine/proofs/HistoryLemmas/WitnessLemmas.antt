@@ -1,20 +1,24 @@
 -- The examples over times that are pairs: each is computed, or a short proof shows that the event
 -- is allowed.
-use Rattle.std.proofs.Common.{◌≡◌, ℕ, zero, suc, ◌≤◌, Bool, true, false, List, [], ◌∷◌, ◌++◌, map, cond, sym, refl, ap, ◌∙◌, arith, nat_le, ℤ, pos}
+use Rattle.std.proofs.Common.{◌≡◌, ◌≢◌, ℕ, zero, suc, ◌≤◌, Bool, true, false, List, [], ◌∷◌, ◌++◌, map, cond, sym, refl, ap, ◌∙◌, arith, nat_le, ℤ, pos}
 use Rattle.std.proofs.Math.IntN.{negsuc, ◌+ℤ◌}
 use Rattle.std.proofs.lemmas.Int.{ints}
-use Rattle.std.proofs.lemmas.Bool.{true≢false}
-use Rattle.std.proofs.lemmas.Bool.Decides.{nat_tests}
+use Rattle.std.proofs.lemmas.Bool.{false≢true, true≢false}
+use Rattle.std.proofs.lemmas.Bool.Decides.{Decides-int_eq, nat_tests}
+use Rattle.std.specs.List.Sorted.{IsStrictlySortedBy}
 use Rattle.antichain.specs.Antichains.{least}
 use Rattle.lattice.specs.Pairs.{make_pair, pair_order}
-use Rattle.update.specs.Bags.{Entry, total_by, same_row, count_of}
-use Rattle.update.specs.Updates.{as_of}
+use Rattle.update.specs.Bags.{Alike, Entry, total_by, same_row, count_of}
+use Rattle.update.specs.Updates.{as_of, IsConsolidated}
 use Rattle.update.specs.declared.change.Update.{Update}
 use Rattle.plan.specs.Ancestors.{reaches}
 use Rattle.plan.specs.Operators.{reduction_output}
 use Rattle.plan.specs.Reductions.{reduction_answer}
 use Rattle.plan.specs.Rules.{IsPlan}
-use Rattle.plan.specs.Bounds.{bound_by}
+use Rattle.plan.specs.Bounds.{AreOwn, IsBound, bound_by}
+use Rattle.plan.specs.Changes.{query_at}
+use Rattle.plan.specs.Nodes.{is_reduction}
+use Rattle.plan.specs.Queries.{query}
 use Rattle.plan.specs.Widths.{width_of}
 use Rattle.plan.specs.declared.node.Kind.TheVariants.{Distinct}
 use Rattle.machine.specs.declared.histories.event.Event.TheVariants.{Allow, Give}
@@ -25,8 +29,8 @@ use Rattle.machine.specs.Histories.Outstanding.{stamp}
 use Rattle.machine.specs.Histories.{give_state, IsAllowed, IsLegal}
 use Rattle.machine.specs.Histories.Readings.{IsQuiet}
 use Rattle.machine.specs.Histories.Cuts.{cut}
-use Rattle.machine.specs.Histories.Witnesses.{seven_comes, seven_goes, bundle_of, given_at_node, counting, listing, copying, came_twice, came_at_input, waits_at_count, held_at_count, open_from, HasFrontiers, joining, doubling, linear_row}
-use Rattle.lattice.specs.Bitimes.{bitime_below, Bitime}
+use Rattle.machine.specs.Histories.Witnesses.{seven_comes, seven_goes, bundle_of, given_at_node, counting, listing, copying, changes_of_listing, came_twice, came_at_input, waits_at_count, held_at_count, open_from, HasFrontiers, joining, doubling, linear_row}
+use Rattle.lattice.specs.Bitimes.{bitime_below, bitime_cmp, Bitime}
 use Rattle.machine.proofs.HistoryLemmas.CuttingLemmas.{cut_whole, cut_filled, cut_stamped}
 use Rattle.lattice.specs.Naturals.{nat_order}
 
@@ -178,6 +182,39 @@ distinct_gives = record {
   filled = cut_filled bitime_below listing (given_at_node 2 three);
   stamped = cut_stamped bitime_below listing (given_at_node 2 three) (pair_order nat_order nat_order) (held_at 2 1 came_twice.held) refl;
 }
+
+-- ---- the bound of that distinct
+
+not_zero : pos 1 ≢ pos 0
+not_zero e = false≢true ((Decides-int_eq (pos 1) (pos 0)).1 e)
+
+back_not_zero : negsuc 0 ≢ pos 0
+back_not_zero e = false≢true ((Decides-int_eq (negsuc 0) (pos 0)).1 e)
+
+three_consolidated : IsConsolidated bitime_cmp three
+unfolding IsStrictlySortedBy
+three_consolidated = record { ascending = ((refl, (refl, tt)), ((refl, tt), (tt, tt))); nonzero = (not_zero, (not_zero, (back_not_zero, tt))) }
+
+distinct_sums : (t : Bitime) → Alike (as_of bitime_below t three) (query_at bitime_below listing.nodes changes_of_listing 2 t)
+unfolding query
+distinct_sums t row = distinct_law t refl row
+
+distinct_own : AreOwn bitime_below bitime_cmp listing.nodes changes_of_listing (λ n. 3)
+distinct_own zero source kind e = absurd (false≢true (ap is_reduction e))
+distinct_own (suc zero) source kind e = absurd (false≢true (ap is_reduction e))
+distinct_own (suc (suc zero)) source kind e = (three, record { consolidated = three_consolidated; passed = refl; sums = λ t h. distinct_sums t }, refl)
+distinct_own (suc (suc (suc zero))) source kind e = absurd (false≢true (ap is_reduction e))
+distinct_own (suc (suc (suc (suc n)))) source kind e = absurd (false≢true (ap is_reduction e))
+
+-- the bound of the distinct is 3
+pub distinct_bound : IsBound bitime_below bitime_cmp listing.nodes changes_of_listing 2 3
+unfolding bound_by
+distinct_bound = ((λ n. 3), distinct_own, refl)
+
+-- and so is the bound of its view
+pub distinct_view_bound : IsBound bitime_below bitime_cmp listing.nodes changes_of_listing 3 3
+unfolding bound_by
+distinct_view_bound = ((λ n. 3), distinct_own, refl)
 
 -- ---- a bundle cut in two
 

@@ -67,6 +67,10 @@ came_twice = record (open_from (make_pair 4 4)) {
   observed = record { node = 2; worker = 1; frontier = make_pair 4 4 ∷ [] } ∷ [];
 }
 
+-- the changes of the input that led there, the newest first
+abbrev pub changes_of_listing : ℕ → List (Update Bitime)
+changes_of_listing input = seven_comes 3 0 ∷ seven_comes 0 3 ∷ []
+
 -- worker 1 took these updates at the input of `copying`, and holds their stamp
 abbrev pub came_at_input : List (Update Bitime) → State Bitime
 came_at_input us = record (open_from (make_pair 0 0)) {

@@ -2,22 +2,23 @@
 //! they would still hold if a definition forbade something that an engine has to do: fewer
 //! histories would be legal, and no proof would fail. A definition could also find a wrong frontier
 //! or bound, and every proof would follow it. So this file states cases that a definition could
-//! easily forbid, and numbers that can be found by hand, for times that are pairs. The function
-//! does nothing. If a changed definition makes one of its clauses false, the check fails.
-ghost use Rattle.std.specs.Prelude.{◌≡◌, true, false, List, [], ◌∷◌, map, pos, negsuc};
+//! easily forbid, and numbers that can be found by hand, for times that are pairs. The functions
+//! do nothing. If a changed definition makes one of their clauses false, the check fails.
+ghost use Rattle.std.specs.Prelude.{◌≡◌, ℕ, true, false, List, [], ◌∷◌, map, pos, negsuc};
 ghost use Rattle.lattice.specs.Pairs.{make_pair};
 ghost use Rattle.plan.specs.Rules.{IsPlan};
-ghost use Rattle.plan.specs.Bounds.{bound_by};
-ghost use Rattle.machine.specs.declared.histories.event.Event.TheVariants.{Allow, Give};
+ghost use Rattle.plan.specs.Bounds.{IsBound, bound_by};
+ghost use Rattle.machine.specs.declared.histories.event.Event.TheVariants.{Allow, Give, Take};
 ghost use Rattle.machine.specs.Histories.Dataflows.{IsDataflow};
 ghost use Rattle.machine.specs.Histories.States.{place, change_to};
 ghost use Rattle.machine.specs.Histories.Shares.{home};
 ghost use Rattle.machine.specs.Histories.Outstanding.{stamp};
-ghost use Rattle.machine.specs.Histories.{IsAllowed, IsLegal, state_after};
+ghost use Rattle.machine.specs.Histories.{IsAllowed, IsLegal, emitted_after, frontier_after, state_after};
 ghost use Rattle.machine.specs.Histories.Readings.{IsQuiet, is_from_start};
 ghost use Rattle.machine.specs.Histories.Cuts.{cut};
-ghost use Rattle.machine.specs.Histories.Witnesses.{seven_comes, seven_goes, bundle_of, given_at_node, counting, listing, copying, came_twice, came_at_input, waits_at_count, held_at_count, open_from, HasFrontiers, joining, doubling, linear_row};
-ghost use Rattle.lattice.specs.Bitimes.{bitime_below};
+ghost use Rattle.machine.specs.Histories.Witnesses.{seven_comes, seven_goes, bundle_of, given_at_node, counting, listing, copying, changes_of_listing, came_twice, came_at_input, waits_at_count, held_at_count, open_from, HasFrontiers, joining, doubling, linear_row};
+ghost use Rattle.machine.specs.Histories.Exchanges.{exchange, sevens_counted, second_bundle, taken_in_order, two_wait, two_wait_at_arrange};
+ghost use Rattle.lattice.specs.Bitimes.{bitime_below, bitime_cmp};
 
 /// The examples, by clause:
 ///
@@ -79,4 +80,39 @@ pub fn definitions_fit_examples()
     ensures given_up { map (is_from_start bitime_below (make_pair 0 0))
         ([] ∷ (make_pair 4 4 ∷ []) ∷ (make_pair 0 3 ∷ make_pair 3 0 ∷ []) ∷ [])
         ≡ false ∷ false ∷ false ∷ [] }
+{}
+
+/// A reduction's own bound: at a distinct, to which a row came at (0, 3) and at (3, 0), the bound
+/// is 3. The row comes out at both times, and one of the two is taken back at (3, 3). So the bound
+/// is larger than the two changes, and the view of the distinct has the same bound.
+pub fn own_bounds_are_met()
+    ensures distinct { IsBound bitime_below bitime_cmp listing.nodes changes_of_listing 2 3 }
+    ensures view { IsBound bitime_below bitime_cmp listing.nodes changes_of_listing 3 3 }
+{}
+
+/// The bundles of a place are a queue, first in, first out:
+///
+/// - `in_order`: two bundles wait at an input. A worker takes the first one and then the second.
+/// - `overtaken`: it may not take the second one first.
+/// - `at_arrange`: at an arrange node it may.
+pub fn bundles_wait_in_order()
+    ensures in_order { IsLegal bitime_below (make_pair 0 0) copying taken_in_order }
+    ensures overtaken { (number : ℕ) → IsLegal bitime_below (make_pair 0 0) copying
+        (Take number second_bundle ∷ two_wait) → ⊥ }
+    ensures at_arrange { IsAllowed bitime_below listing two_wait_at_arrange
+        (Take 1 (bundle_of (place 1 0 1) (seven_comes 3 0 ∷ []))) }
+{}
+
+/// Two workers exchange updates at times that cannot be compared:
+///
+/// - `legal`: a history in which both workers take and give. Two rows of one key come at (0, 3) and
+///   at (3, 0), to two workers. One worker counts both, also as of (3, 3), where both have come.
+/// - `captured`: the view captured these counts.
+/// - `frontier`: and its frontier is {(4, 4)}.
+pub fn two_workers_can_exchange()
+    ensures legal { IsLegal bitime_below (make_pair 0 0) counting exchange }
+    ensures captured { emitted_after bitime_below (make_pair 0 0) counting exchange 3
+        ≡ sevens_counted }
+    ensures frontier { frontier_after bitime_below (make_pair 0 0) counting exchange 3
+        ≡ make_pair 4 4 ∷ [] }
 {}
