@@ -2,15 +2,16 @@
 -- join asks, from such tests.
 use Rattle.std.proofs.Common.{◌≡◌, ℕ, zero, suc, ◌+◌, Bool, true, ℤ, List, [], ◌∷◌, ◌&&◌, take, drop, length, slice_get, IsTrue, IsSomeAnd, refl, sym, ◌∙◌, ap, arith, length-drop}
 use Rattle.std.specs.Prelude.{nat_le}
-use Rattle.std.specs.List.{list_all}
+use Rattle.std.specs.List.{filter, list_all}
 use Rattle.std.proofs.lemmas.Bool.{and_parts, and_from, leb-true, le-leb}
 use Rattle.std.proofs.lemmas.List.Folds.{list_all-append}
 use Rattle.lattice.specs.Frontiers.{is_beyond}
 use Rattle.lattice.proofs.FrontierLemmas.{all_more}
+use Rattle.antichain.proofs.Lists.{all_filter}
 use Rattle.update.specs.declared.change.Update.{Update}
 use Rattle.batch.specs.Intervals.{all_times_beyond}
 use Rattle.trace.specs.Readings.{all_content}
-use Rattle.join.specs.Pairs.{is_wide, fits}
+use Rattle.join.specs.Pairs.{is_keyed, is_wide, fits, pairs_fit}
 
 module _ {B T : Type 0} (content : B → List (Update T)) (p : Update T → Bool) where
   -- the updates of one more batch pass
@@ -28,6 +29,9 @@ module _ {T : Type 0} (below : T → T → Bool) (since : List T) (k : ℕ) wher
   abbrev ready : Update T → Bool
   ready u = is_beyond below since u.time && (is_wide k u.row && nat_le (length u.row) 4)
 
+  abbrev short : Update T → Bool
+  short u = nat_le (length u.row) 4
+
   pub ready_later : (us : List (Update T)) → IsTrue (list_all ready us) → IsTrue (all_times_beyond below since us)
   ready_later us a = all_more ready (λ u. is_beyond below since u.time) (λ u h. (and_parts _ _ h).0) us a
 
@@ -35,21 +39,20 @@ module _ {T : Type 0} (below : T → T → Bool) (since : List T) (k : ℕ) wher
   ready_wide us a = all_more ready (λ u. is_wide k u.row) (λ u h. (and_parts _ _ (and_parts _ _ h).1).0) us a
 
   -- rows of at most 4 columns have pairs of at most 8
-  short_fit : (row other : List ℤ) → nat_le (length row) 4 ≡ true → nat_le (length other) 4 ≡ true → nat_le (length row + length (drop k other)) 8 ≡ true
-  short_fit row other a b =
+  rows_fit : (row other : List ℤ) → nat_le (length row) 4 ≡ true → nat_le (length other) 4 ≡ true → nat_le (length row + length (drop k other)) 8 ≡ true
+  rows_fit row other a b =
       let first = leb-true (length row) 4 a in
       let next = leb-true (length other) 4 b in
       let rest = length-drop k other in
       le-leb (length row + length (drop k other)) 8 (omega (arith, first, next, rest))
 
-  pub left_narrow : (us vs : List (Update T)) → IsTrue (list_all ready us) → IsTrue (list_all (λ v. nat_le (length v.row) 4) vs) → IsTrue (list_all (λ u. list_all (λ v. fits k u v) vs) us)
-  left_narrow us vs a b =
-      all_more ready (λ u. list_all (λ v. fits k u v) vs)
-      (λ u h. all_more (λ v. nat_le (length v.row) 4) (λ v. fits k u v) (λ v g. short_fit u.row v.row (and_parts _ _ (and_parts _ _ h).1).1 g) vs b)
-      us a
+  pub ready_short : (us : List (Update T)) → IsTrue (list_all ready us) → IsTrue (list_all short us)
+  ready_short us a = all_more ready short (λ u h. (and_parts _ _ (and_parts _ _ h).1).1) us a
 
-  pub right_narrow : (us vs : List (Update T)) → IsTrue (list_all ready us) → IsTrue (list_all (λ v. nat_le (length v.row) 4) vs) → IsTrue (list_all (λ u. list_all (λ v. fits k v u) vs) us)
-  right_narrow us vs a b =
-      all_more ready (λ u. list_all (λ v. fits k v u) vs)
-      (λ u h. all_more (λ v. nat_le (length v.row) 4) (λ v. fits k v u) (λ v g. short_fit v.row u.row g (and_parts _ _ (and_parts _ _ h).1).1) vs b)
+  pub short_fit : (us vs : List (Update T)) → IsTrue (list_all short us) → IsTrue (list_all short vs) → IsTrue (pairs_fit k us vs)
+  short_fit us vs a b =
+      all_more short (λ u. list_all (fits k u) (filter (is_keyed k (take k u.row)) vs))
+      (λ u h.
+      all_filter (fits k u) (is_keyed k (take k u.row)) vs
+      (all_more short (fits k u) (λ v g. rows_fit u.row v.row h g) vs b))
       us a

@@ -1,7 +1,7 @@
 -- A batch that is sealed of some updates has the pairs of the updates.
-use Rattle.std.proofs.Common.{◌≡◌, ℕ, ◌+◌, ◌-◌, ◌*◌, ◌≤◌, Bool, ◌&&◌, List, map, IsTrue, length, drop, Result, Ok, Err, IfOk, IfErr, OnOk, OnErr, sym, ◌∙◌, ap, subst, arith, inl, inr, ◌⊎◌, eqb}
+use Rattle.std.proofs.Common.{◌≡◌, ℕ, ◌+◌, ◌-◌, ◌*◌, ◌≤◌, Bool, ◌&&◌, List, map, IsTrue, length, take, drop, Result, Ok, Err, IfOk, IfErr, OnOk, OnErr, sym, ◌∙◌, ap, subst, arith, inl, inr, ◌⊎◌, eqb}
 use Rattle.std.specs.Prelude.{ℤ}
-use Rattle.std.specs.List.{list_all}
+use Rattle.std.specs.List.{filter, list_all}
 use Rattle.std.proofs.Math.Nat.{mul-le-mul_right}
 use Rattle.std.proofs.lemmas.Bool.{eqb-true, le-leb}
 use Rattle.std.proofs.lemmas.List.{length-drop}
@@ -9,6 +9,7 @@ use Rattle.std.proofs.lemmas.List.Folds.{list_all-map}
 use Rattle.lattice.specs.Order.{PartialOrderLaws}
 use Rattle.lattice.specs.Frontiers.{is_beyond, all_beyond}
 use Rattle.lattice.proofs.FrontierLemmas.{all_more, beyond_itself}
+use Rattle.antichain.proofs.Lists.{all_filter}
 use Rattle.update.specs.Bags.{Alike}
 use Rattle.update.specs.Updates.{as_of, size}
 use Rattle.update.specs.declared.refusal.Refusal.{Refusal}
@@ -16,7 +17,7 @@ use Rattle.update.specs.declared.refusal.Refusal.TheVariants.{OutOfMemory, Stray
 use Rattle.update.specs.declared.change.Update.{Update}
 use Rattle.update.specs.Refusals.{IsMemoryOrOverflow}
 use Rattle.batch.specs.Intervals.{all_times_beyond}
-use Rattle.join.specs.Pairs.{pairs, fits, is_wide}
+use Rattle.join.specs.Pairs.{pairs, pairs_fit, fits, is_keyed, is_wide}
 use Rattle.join.specs.Sides.{all_rows_have}
 use Rattle.join.proofs.VisibleLemmas.{left_compacted, right_compacted}
 use Rattle.operator_laws.specs.Joining.{IsAnswer}
@@ -127,17 +128,13 @@ module _ {T : Type 0} (k w v : ℕ) where
       le-leb (length x.row + length (drop k y.row)) 8 (omega (arith, g, h, first, next, rest))
 
   -- rows of two widths fit together
-  pub left_rows_fit : k ≤ v → w + v ≤ 8 + k → (us vs : List (Update T)) → IsTrue (all_rows_have w us) → IsTrue (all_rows_have v vs) → IsTrue (list_all (λ x. list_all (λ y. fits k x y) vs) us)
-  left_rows_fit g h us vs a b =
-      all_more (λ (x : Update T). eqb (length x.row) w) (λ x. list_all (λ y. fits k x y) vs)
-      (λ x e. all_more (λ (y : Update T). eqb (length y.row) v) (λ y. fits k x y) (λ y f. fit_rows g h x y e f) vs b)
+  pub rows_fit : k ≤ v → w + v ≤ 8 + k → (us vs : List (Update T)) → IsTrue (all_rows_have w us) → IsTrue (all_rows_have v vs) → IsTrue (pairs_fit k us vs)
+  rows_fit g h us vs a b =
+      all_more (λ (x : Update T). eqb (length x.row) w) (λ x. list_all (fits k x) (filter (is_keyed k (take k x.row)) vs))
+      (λ x e.
+      all_filter (fits k x) (is_keyed k (take k x.row)) vs
+      (all_more (λ (y : Update T). eqb (length y.row) v) (fits k x) (λ y f. fit_rows g h x y e f) vs b))
       us a
-
-  pub right_rows_fit : k ≤ v → w + v ≤ 8 + k → (us vs : List (Update T)) → IsTrue (all_rows_have w us) → IsTrue (all_rows_have v vs) → IsTrue (list_all (λ y. list_all (λ x. fits k x y) us) vs)
-  right_rows_fit g h us vs a b =
-      all_more (λ (y : Update T). eqb (length y.row) v) (λ y. list_all (λ x. fits k x y) us)
-      (λ y f. all_more (λ (x : Update T). eqb (length x.row) w) (λ x. fits k x y) (λ x e. fit_rows g h x y e f) us a)
-      vs b
 
 -- the columns of both rows, less the key
 pub pair_width : (k w v : ℕ) → k ≤ v → w + (v - k) ≡ w + v - k

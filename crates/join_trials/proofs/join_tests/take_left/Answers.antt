@@ -1,5 +1,5 @@
 use Rattle.std.proofs.Common.{rules, ◌≡◌, true}
-use Rattle.join_trials.proofs.ReadyLemmas.{ready_later, ready_wide, left_narrow}
+use Rattle.join_trials.proofs.ReadyLemmas.{ready_later, ready_wide, ready_short, short_fit}
 use Rattle.join_trials.proofs.join_tests.take_left.Goals as goal
 
 pub take_left-requires-clause-later : goal.take_left-requires-clause-later
@@ -18,6 +18,9 @@ pub take_left-requires-clause-narrow : goal.take_left-requires-clause-narrow
 take_left-requires-clause-narrow g c =
     let ok : c.are_ready.result ≡ true = search rules in
     let short : c.all_short.result ≡ true = search rules in
-    left_narrow g.T.PartialOrder.below (g.R.Trace.held c.args.right.now) c.args.state.now.key (g.L.Batch.BatchReader.content c.args.batch.now) (g.R.Trace.content c.args.right.now)
-    (rw (c.since.ensures.value, c.key.ensures.value) at (rw ok at c.are_ready.ensures))
+    let below = g.T.PartialOrder.below in
+    let since = g.R.Trace.held c.args.right.now in
+    let us = g.L.Batch.BatchReader.content c.args.batch.now in
+    short_fit below since c.args.state.now.key us (g.R.Trace.content c.args.right.now)
+    (ready_short below since c.args.state.now.key us (rw (c.since.ensures.value, c.key.ensures.value) at (rw ok at c.are_ready.ensures)))
     (rw c.all_batches.ensures.content at (rw short at c.all_short.ensures))

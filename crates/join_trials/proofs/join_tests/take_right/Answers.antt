@@ -1,5 +1,5 @@
 use Rattle.std.proofs.Common.{rules, ◌≡◌, true}
-use Rattle.join_trials.proofs.ReadyLemmas.{ready_later, ready_wide, right_narrow}
+use Rattle.join_trials.proofs.ReadyLemmas.{ready_later, ready_wide, ready_short, short_fit}
 use Rattle.join_trials.proofs.join_tests.take_right.Goals as goal
 
 pub take_right-requires-clause-later : goal.take_right-requires-clause-later
@@ -18,6 +18,9 @@ pub take_right-requires-clause-narrow : goal.take_right-requires-clause-narrow
 take_right-requires-clause-narrow g c =
     let ok : c.are_ready.result ≡ true = search rules in
     let short : c.all_short.result ≡ true = search rules in
-    right_narrow g.T.PartialOrder.below (g.L.Trace.held c.args.left.now) c.args.state.now.key (g.R.Batch.BatchReader.content c.args.batch.now) (g.L.Trace.content c.args.left.now)
-    (rw (c.since.ensures.value, c.key.ensures.value) at (rw ok at c.are_ready.ensures))
+    let below = g.T.PartialOrder.below in
+    let since = g.L.Trace.held c.args.left.now in
+    let us = g.R.Batch.BatchReader.content c.args.batch.now in
+    short_fit below since c.args.state.now.key (g.L.Trace.content c.args.left.now) us
     (rw c.all_batches.ensures.content at (rw short at c.all_short.ensures))
+    (ready_short below since c.args.state.now.key us (rw (c.since.ensures.value, c.key.ensures.value) at (rw ok at c.are_ready.ensures)))

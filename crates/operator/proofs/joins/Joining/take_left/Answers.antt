@@ -6,10 +6,10 @@ use Rattle.trace.specs.Readings.{all_updates}
 use Rattle.spine.specs.Spines.{stored}
 use Rattle.join.specs.Pairs.{pairs}
 use Rattle.join.specs.Sides.{Acknowledged, all_rows_have}
-use Rattle.join.proofs.LargeLemmas.{refused_more}
+use Rattle.join.proofs.LargeLemmas.{refused_more, refused_by}
 use Rattle.operator_laws.specs.Joining.{IsAnswer}
 use Rattle.operator.specs.Joins.{JoiningView, IsSide, IsFitting}
-use Rattle.operator.proofs.JoinAnswerLemmas.{left_answers, either_way, grown_left, wide_rows, left_rows_fit, rows_of_batch, pair_width, times_read}
+use Rattle.operator.proofs.JoinAnswerLemmas.{left_answers, either_way, grown_left, wide_rows, rows_fit, rows_of_batch, pair_width, times_read}
 use Rattle.operator.proofs.JoinSideLemmas.{side_inserted}
 use Rattle.operator.proofs.joins.Joining.take_left.Goals as goal
 
@@ -33,7 +33,7 @@ pub take_left-requires-clause-narrow : goal.take_left-requires-clause-narrow
 take_left-requires-clause-narrow g c =
     let width = ap (λ (s : JoiningView g.row.T.Denot). s.left_width) (sym c.self.view_is) in
     let other = ap (λ (s : JoiningView g.row.T.Denot). s.right_width) (sym c.self.view_is) in
-    left_rows_fit c.self.inside.state.key c.self.inside.left_width c.self.inside.right_width c.self.invariant.right_key c.self.invariant.narrow c.in_ok-batch.batch.updates (stored c.args.right.now)
+    rows_fit c.self.inside.state.key c.self.inside.left_width c.self.inside.right_width c.self.invariant.right_key c.self.invariant.narrow c.in_ok-batch.batch.updates (stored c.args.right.now)
     (rows_of_batch g.T.PartialOrder.below c.self.inside.left_width c.args.updates.items c.in_ok-batch.batch.updates c.in_ok-batch.ensures.stands
     (subst (λ w. IsTrue (all_rows_have w c.args.updates.items)) width c.requires.rows))
     (subst (λ w. IsTrue (all_rows_have w (stored c.args.right.now))) other c.requires.right_rows)
@@ -86,4 +86,4 @@ returns-clause-refused g c =
     let here = subst (λ (st : Acknowledged g.row.T.Denot). IsSide below g.T.Minimum.least c.args.right.now inserted taken st.right) (sym e) side in
     let got = side_inserted g.met.T.PartialOrder.order g.T.Minimum.least c.args.right.now inserted taken c.self.inside.state.right here in
     inr (grown_left (2 ^ 63) (size bs) (size us) (size (all_updates taken)) (large (all_updates taken) got) c.in_ok-batch.ensures.stands.smaller)))
-    c.take_left.ensures.refused
+    (refused_by _ _ c.take_left.result c.take_left.ensures.refused c.take_left.ensures.large)

@@ -6,10 +6,10 @@ use Rattle.trace.specs.Readings.{all_updates}
 use Rattle.spine.specs.Spines.{stored}
 use Rattle.join.specs.Pairs.{pairs}
 use Rattle.join.specs.Sides.{Acknowledged, all_rows_have}
-use Rattle.join.proofs.LargeLemmas.{refused_more}
+use Rattle.join.proofs.LargeLemmas.{refused_more, refused_by}
 use Rattle.operator_laws.specs.Joining.{IsAnswer}
 use Rattle.operator.specs.Joins.{JoiningView, IsSide, IsFitting}
-use Rattle.operator.proofs.JoinAnswerLemmas.{right_answers, either_way, grown_right, wide_rows, right_rows_fit, rows_of_batch, pair_width, times_read}
+use Rattle.operator.proofs.JoinAnswerLemmas.{right_answers, either_way, grown_right, wide_rows, rows_fit, rows_of_batch, pair_width, times_read}
 use Rattle.operator.proofs.JoinSideLemmas.{side_inserted}
 use Rattle.operator.proofs.joins.Joining.take_right.Goals as goal
 
@@ -33,7 +33,7 @@ pub take_right-requires-clause-narrow : goal.take_right-requires-clause-narrow
 take_right-requires-clause-narrow g c =
     let width = ap (λ (s : JoiningView g.row.T.Denot). s.right_width) (sym c.self.view_is) in
     let other = ap (λ (s : JoiningView g.row.T.Denot). s.left_width) (sym c.self.view_is) in
-    right_rows_fit c.self.inside.state.key c.self.inside.left_width c.self.inside.right_width c.self.invariant.right_key c.self.invariant.narrow (stored c.args.left.now) c.in_ok-batch.batch.updates
+    rows_fit c.self.inside.state.key c.self.inside.left_width c.self.inside.right_width c.self.invariant.right_key c.self.invariant.narrow (stored c.args.left.now) c.in_ok-batch.batch.updates
     (subst (λ w. IsTrue (all_rows_have w (stored c.args.left.now))) other c.requires.left_rows)
     (rows_of_batch g.T.PartialOrder.below c.self.inside.right_width c.args.updates.items c.in_ok-batch.batch.updates c.in_ok-batch.ensures.stands
     (subst (λ w. IsTrue (all_rows_have w c.args.updates.items)) width c.requires.rows))
@@ -109,4 +109,4 @@ returns-clause-refused g c =
     let here = subst (λ (st : Acknowledged g.row.T.Denot). IsSide below g.T.Minimum.least c.args.left.now inserted taken st.left) (sym e) side in
     let got = side_inserted g.met.T.PartialOrder.order g.T.Minimum.least c.args.left.now inserted taken c.self.inside.state.left here in
     inr (grown_right (2 ^ 63) (size bs) (size us) (size (all_updates taken)) (large (all_updates taken) got) c.in_ok-batch.ensures.stands.smaller)))
-    c.take_right.ensures.refused
+    (refused_by _ _ c.take_right.result c.take_right.ensures.refused c.take_right.ensures.large)
