@@ -38,6 +38,7 @@ use Rattle.reduce.specs.Owing.{IsOwed, IsOverfull}
 use Rattle.reduce.specs.Kinds.{kind_answer, kind_reduces}
 use Rattle.reduce.specs.Reductions.{StandsFor, IsOpenTo, IsQuietAt, SumsToTaken}
 use Rattle.key_history.proofs.ApartLemmas.{doubled, doubled_is, own_total, apart_both}
+use Rattle.key_history.proofs.OverfullLemmas.{overfull_is_large}
 use Rattle.reduce.proofs.HeldLemmas.{under_in, pending_under}
 use Rattle.joined_times.proofs.JoinLemmas.{joins_have}
 use Rattle.correction.proofs.KeyedLemmas.{absent_row}
@@ -531,7 +532,10 @@ module _ {T : Type 0} (below : T → T → Bool) (r : ReducingView T) (room : Ha
               more true e h = and_from (same_row (take key_width v.row) key) (list_all (λ (e : Entry). same_row (take key_width e.row) key) (as_of below t us)) e h
               more false e h = h
 
-  pub overfull : (received taken : List (Update T)) (frontier : List T) → StandIn below taken received → IsTrue (are_wide key_width taken) → IsTrue (have_width r.width taken)
+  pub overfull : PartialOrderLaws below → (received taken : List (Update T)) (frontier : List T) → StandIn below taken received → IsTrue (are_wide key_width taken) → IsTrue (have_width r.width taken)
       → IsOverfull below key_width answer taken frontier → IsOverfullWith below r received frontier
-  overfull received taken frontier same wide own (inl big) = let m = same.smaller in inl (omega (arith, big, m))
-  overfull received taken frontier same wide own (inr z) = inr (z.0, z.1, owed received taken frontier z.0 z.1 same wide own z.2, z.3)
+  overfull o received taken frontier same wide own h = large (overfull_is_large o key_width answer (kind_reduces r.state.reducer key_width) taken frontier h)
+    where
+      large : (2 ^ 63 ≤ size taken) ⊎ ((key : List ℤ) × (us : List (Update T)) × IsOwed below key_width answer taken key frontier us × (2 ^ 63 ≤ size us)) → IsOverfullWith below r received frontier
+      large (inl big) = let m = same.smaller in inl (omega (arith, big, m))
+      large (inr z) = inr (z.0, z.1, owed received taken frontier z.0 z.1 same wide own z.2, z.3)

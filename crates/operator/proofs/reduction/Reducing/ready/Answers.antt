@@ -32,7 +32,7 @@ returns-in_err-out-clause-refused g c =
     (⊎_elim inl (λ y. inr (
       y.0,
       λ inserted received emitted st sums w passed.
-          overfull below r c.self.invariant.0 c.self.invariant.1 received w.taken frontier w.same w.stands.wide (w.same.among (λ row s. eqb (length row) r.width) w.wide)
+          overfull below r c.self.invariant.0 c.self.invariant.1 g.met.T.PartialOrder.order received w.taken frontier w.same w.stands.wide (w.same.among (λ row s. eqb (length row) r.width) w.wide)
           (y.1 inserted w.taken emitted st (sums_taken below c.args.trace.now.since frontier (all_updates inserted) received w.taken sums w.same) w.stands w.apart w.ahead
           (each_of (λ (u : Update g.row.T.Denot). has_passed below frontier u.time) emitted passed)),
     )) c.in_err-out.ensures.refused))
