@@ -244,7 +244,7 @@ module _ {T : Type 0} (below : T → T → Bool) (o : PartialOrderLaws below) (l
 
   -- room for a batch changes nothing that a spine stands for
   pub stands_reserved : (s t : SpineState T) (reserved : Bool) → t ≡ record s { list = record s.list { reserved = reserved } } → (h : List (Insertion T)) → Stands below s h → Stands below t h
-  stands_reserved s t reserved e h st = subst (λ (x : SpineState T). Stands below x h) (sym e) (record { upper = st.upper; reads = st.reads })
+  stands_reserved s t reserved e h st = subst (λ (x : SpineState T). Stands below x h) (sym e) (record { upper = st.upper; ended = st.ended; reads = st.reads })
 
   -- a new arrangement with its own hold
   pub new_begun : (worker node width : ℕ) (a : ArrangementState T) (reserved : Bool) → a.width ≡ width

@@ -12,3 +12,4 @@ pub mod BoundLemmas
 pub mod EveryBoundLemmas
 pub mod LargeLemmas
 pub mod OracleEngineLemmas
+pub mod WitnessLemmas

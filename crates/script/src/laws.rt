@@ -3,17 +3,28 @@
 ghost use Rattle.std.specs.Prelude.{◌≡◌, ◌<◌, ℕ, List, length};
 ghost use Rattle.std.specs.List.Sorted.{IsStrictlySortedBy};
 ghost use Rattle.antichain.specs.Antichains.{SameElements};
+ghost use Rattle.atomic_table.specs.Seated.{TableId};
+ghost use Rattle.hub.specs.Known.{Known};
+ghost use Rattle.lattice.specs.Bitimes.{Bitime, bitime_below};
+ghost use Rattle.lattice.specs.Pairs.{make_pair};
 ghost use Rattle.update.specs.Bags.{Entry, Alike, IsBag};
 ghost use Rattle.update.specs.declared.change.Update.{Update};
 ghost use Rattle.plan.specs.Changes.{AreDifferences};
 ghost use Rattle.plan.specs.Rules.{IsPlan};
 ghost use Rattle.plan.specs.Bounds.{HasLargeBound, IsBound};
 ghost use Rattle.plan.specs.declared.node.Node.{Node};
+ghost use Rattle.machine.specs.Histories.Readings.{IsQuiet};
 ghost use Rattle.machine.specs.Histories.States.{fed_to};
 ghost use Rattle.oracle.specs.Evaluation.{HasLargeAbove, list_of, sums_at};
 ghost use Rattle.oracle.specs.Listing.{HasLargeDifference};
+ghost use Rattle.shared_board.specs.declared.event.Doing.{Doing};
+ghost use Rattle.worker.specs.Found.{dataflow_of};
+ghost use Rattle.worker.specs.Tenures.{IsActor, IsFirst, state_left, terms_for};
 ghost use Rattle.script.specs.Bags.{consolidated_bag};
+ghost use Rattle.script.specs.OracleStanding.{IsRegister, Records, Register};
 ghost use Rattle.script.specs.Sessions.{Session, view_frontier, frontier_at, changes_at};
+ghost use Rattle.script.specs.Standing.{StandsAs};
+ghost use Rattle.script.specs.Text.{opening_session};
 
 use lattice::Lattice;
 
@@ -66,4 +77,16 @@ pub fn large_numbers_have_large_bounds<T: Lattice>()
 pub fn bounds_exist<T: Lattice>()
     ensures { (p : List Node) → IsPlan p → (changes : ℕ → List (Update T)) → (n : ℕ)
         → (bound : ℕ) × IsBound T.below T.cmp p changes n bound }
+{}
+
+/// Each engine can stand for a session. For each plan there are a client of a board that has looked
+/// once, and a register of the oracle engine. Both stand for the session before the first command,
+/// and nothing is in flight on the board.
+pub fn engines_can_stand()
+    ensures board { (p : List Node) → IsPlan p → (hub : TableId)
+        → (k : Known (Doing Bitime)) × IsActor bitime_below (make_pair 0 0) k
+        × IsFirst (terms_for p 1 1) 1 k × StandsAs bitime_below (make_pair 0 0) k (opening_session p)
+        × IsQuiet bitime_below (dataflow_of k) (state_left bitime_below (make_pair 0 0) k) }
+    ensures oracle { (p : List Node) → (r : Register Bitime) × (r.plan ≡ p) × IsRegister r
+        × Records (make_pair 0 0) r (opening_session p) }
 {}

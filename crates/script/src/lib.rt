@@ -37,8 +37,8 @@ mod sole_worker;
 
 pub use fault::RunFault;
 pub use laws::{
-    bounds_exist, large_numbers_have_large_bounds, the_bag_of_entries, the_changes_of_a_view,
-    the_frontier_of_a_view,
+    bounds_exist, engines_can_stand, large_numbers_have_large_bounds, the_bag_of_entries,
+    the_changes_of_a_view, the_frontier_of_a_view,
 };
 pub use memory::MemoryOut;
 pub use oracle_engine::plain_script;

@@ -25,5 +25,6 @@ pub mod SettledLemmas
 pub mod HoldingLemmas
 pub mod GatherRunLemmas
 pub mod OpenLemmas
+pub mod WitnessLemmas
 pub mod NodeLemmas
 pub mod VisitLemmas

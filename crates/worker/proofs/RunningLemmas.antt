@@ -1,5 +1,5 @@
 -- A worker that runs on: what it keeps from one step to the next, if all others are clients.
-use Rattle.std.proofs.Common.{◌≡◌, ℕ, suc, Bool, false, List, [], refl, sym, ap, ◌∙◌, subst, arith}
+use Rattle.std.proofs.Common.{◌≡◌, ◌≤◌, ℕ, suc, Bool, false, List, [], ◌++◌, append_assoc, refl, sym, ap, ◌∙◌, subst, arith}
 use Rattle.std.specs.Prelude.{Result, Ok, Err}
 use Rattle.std.specs.Result.{OnOk}
 use Rattle.std.proofs.lemmas.List.{append-nil}
@@ -15,25 +15,35 @@ use Rattle.shared_board.specs.declared.event.Doing.{Doing}
 use Rattle.worker.specs.Between.{DoClientsLead, IsLeftBy}
 use Rattle.worker.specs.Desks.{DeskState}
 use Rattle.shared_board.specs.Found.{dataflow_of}
-use Rattle.worker.specs.Relays.{HasNone, IsCalm, IsReadyAt, IsRunning, IsSameActor, IsSettledTo}
+use Rattle.worker.specs.Relays.{HasNone, IsCalm, IsReadyAt, IsRunning, IsSameActor, IsSettledTo, changes_of}
 use Rattle.shared_board.specs.Tenures.{Terms, IsActor, state_found, state_left}
 use Rattle.worker.proofs.BetweenLemmas.{ready_found, ready_left, none_found, none_left}
 use Rattle.operator_laws.proofs.GatheringLemmas.{no_emission}
 use Rattle.worker.proofs.NodeLemmas.{ready_next}
+use Rattle.worker.proofs.StepLemmas.{changes_both}
 
 -- the same actor, from the beginning and through each step
 pub same_actor : {T : Type 0} (k : Known (Doing T)) → IsSameActor k k
-same_actor k = record { hub = refl; number = refl; terms = refl; grows = omega arith }
+same_actor k = record { hub = refl; number = refl; terms = refl; onward = ([], refl) }
 
 pub same_later : {T : Type 0} {a b c : Known (Doing T)} → IsSameActor a b → IsSameActor b c → IsSameActor a c
-same_later x y = let first = x.grows in let then = y.grows in record { hub = y.hub ∙ x.hub; number = y.number ∙ x.number; terms = y.terms ∙ x.terms; grows = omega (arith, first, then) }
+same_later {T} {a} x y = record {
+  hub = y.hub ∙ x.hub;
+  number = y.number ∙ x.number;
+  terms = y.terms ∙ x.terms;
+  onward = (y.onward.0 ++ x.onward.0, y.onward.1 ∙ (ap (λ h. y.onward.0 ++ h) x.onward.1 ∙ sym (append_assoc y.onward.0 x.onward.0 a.seen)));
+}
+
+-- a later actor has seen no fewer changes
+seen_grows : {T : Type 0} {a b : Known (Doing T)} → IsSameActor a b → changes_of a.seen ≤ changes_of b.seen
+seen_grows {T} {a} x = let both = changes_both x.onward.0 a.seen in let whole = ap changes_of x.onward.1 in omega (arith, both, whole)
 
 -- if nobody changed anything over two steps, then nobody did over either of them
 pub calm_first : {T : Type 0} {a b c : Known (Doing T)} → IsSameActor a b → IsSameActor b c → IsCalm a c → IsCalm a b
-calm_first x y calm = let first = x.grows in let then = y.grows in omega (arith, first, then, calm)
+calm_first x y calm = let first = seen_grows x in let then = seen_grows y in omega (arith, first, then, calm)
 
 pub calm_then : {T : Type 0} {a b c : Known (Doing T)} → IsSameActor a b → IsSameActor b c → IsCalm a c → IsCalm b c
-calm_then x y calm = let first = x.grows in let then = y.grows in omega (arith, first, then, calm)
+calm_then x y calm = let first = seen_grows x in let then = seen_grows y in omega (arith, first, then, calm)
 
 -- the dataflow stays
 pub same_flow : {T : Type 0} (j k : Known (Doing T)) → IsSameActor j k → dataflow_of k ≡ dataflow_of j

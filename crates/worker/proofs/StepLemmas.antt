@@ -118,7 +118,7 @@ module _ {T : Type 0} (below : T → T → Bool) (minimum : T) where
             let more = own_none old.number (terms_in old.seen) event (adds.others ++ old.seen) own in
             let both = changes_both adds.others old.seen in
             record {
-              same = record { hub = refl; number = refl; terms = refl; grows = omega (arith, more, both) };
+              same = record { hub = refl; number = refl; terms = refl; onward = (entry old.number (doing (terms_in old.seen) event) ∷ adds.others, refl) };
               clients = record { events = events adds.others; allowed = x.0; to = x.1 };
               allowed = actor.legal.0;
               left = refl;

@@ -1,6 +1,6 @@
 -- One worker at a hub, all others being clients: what it has to keep in mind of the board between
 -- its steps.
-use Rattle.std.specs.Prelude.{◌≡◌, ◌<◌, ◌≤◌, ℕ, Bool, List, [], length, Option, IsTrue}
+use Rattle.std.specs.Prelude.{◌≡◌, ◌<◌, ℕ, Bool, List, [], length, Option, IsTrue}
 use Rattle.std.specs.List.{filter}
 use Rattle.std.specs.declared.cmp.Ordering.{Ordering}
 use Rattle.lattice.specs.Frontiers.{all_beyond}
@@ -10,6 +10,7 @@ use Rattle.update.specs.declared.refusal.Refusal.{Refusal}
 use Rattle.update.specs.declared.change.Update.{Update}
 use Rattle.linear.specs.Widths.{are_wide}
 use Rattle.plan.specs.Widths.{width_of}
+use Rattle.hub.specs.Histories.{EndsIn}
 use Rattle.hub.specs.Known.{Known}
 use Rattle.hub.specs.declared.view.Entry.{Entry}
 use Rattle.machine.specs.declared.histories.event.Bundle.{Bundle}
@@ -87,12 +88,12 @@ module _ {T : Type 0} where
   abbrev pub changes_of : List (Entry (Doing T)) → ℕ
   changes_of es = length (filter (λ e. is_change e.event.event) es)
 
-  -- the same actor at the same hub, later: it has seen no fewer changes
+  -- the same actor at the same hub, later: it has seen what it had seen, and maybe more on top
   pub record IsSameActor (old new : Known (Doing T)) : Type 0 where
     pub hub : new.hub ≡ old.hub
     pub number : new.number ≡ old.number
     pub terms : terms_in new.seen ≡ terms_in old.seen
-    pub grows : changes_of old.seen ≤ changes_of new.seen
+    pub onward : EndsIn new.seen old.seen
 
   -- no client changed anything between these two moments of an actor
   abbrev pub IsCalm : Known (Doing T) → Known (Doing T) → Type 0

@@ -21,7 +21,7 @@ mod laws;
 mod relays;
 
 pub use desk::Desk;
-pub use laws::{clients_leave_it_ready, the_first_pass_may_begin};
+pub use laws::{a_worker_can_run, clients_leave_it_ready, the_first_pass_may_begin};
 pub use operator::{Arrangement, Joining, Reducing, what_is_taken_is_up_to_a_boundary};
 pub use operator_laws::{
     arranged_elsewhere, arranged_holds_back, arranged_in_any_order, arranged_inserts,

@@ -5,14 +5,14 @@
 //! clients led from the one that the worker left (`DoClientsLead`). A give commutes with what
 //! clients did before it (`IsLeftBy`). What a worker keeps is right in all these states alike, so
 //! its computing knows nothing of entries and tenures.
-ghost use Rattle.std.specs.Prelude.{◌≡◌, ◌≢◌, ◌<◌, ℕ, [], false, None, Some, IfErr, IfOk, IfSome, IsTrue, OnOk, OnErr, length};
+ghost use Rattle.std.specs.Prelude.{◌≡◌, ◌≢◌, ◌<◌, [], false, None, IfErr, IfOk, IfSome, OnOk, OnErr, length};
 ghost use Rattle.std.specs.List.{list_any};
 ghost use Rattle.update.specs.declared.refusal.Refusal.TheVariants.{OutOfMemory};
 ghost use Rattle.plan.specs.Changes.{has_passed};
 ghost use Rattle.machine.specs.declared.histories.event.Event.TheVariants.{Give};
 ghost use Rattle.machine.specs.Histories.Cuts.{cut};
 ghost use Rattle.machine.specs.Histories.Outstanding.{input_frontier};
-ghost use Rattle.machine.specs.Histories.States.{held_at, place, queue};
+ghost use Rattle.machine.specs.Histories.States.{held_at};
 ghost use Rattle.machine.specs.Histories.{IsGive, next_state};
 ghost use Rattle.worker.specs.Between.{DoClientsLead, IsLeftBy};
 ghost use Rattle.shared_board.specs.Found.{dataflow_of};

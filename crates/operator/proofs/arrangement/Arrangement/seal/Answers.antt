@@ -1,7 +1,5 @@
 use Rattle.std.proofs.Common.{List, IsTrue, sym, ◌∙◌, ap, subst}
 use Rattle.std.specs.Prelude.{eqb, length}
-use Rattle.lattice.specs.Frontiers.{all_beyond}
-use Rattle.lattice.proofs.FrontierLemmas.{beyond_itself}
 use Rattle.antichain.proofs.Lists.{all_filter}
 use Rattle.update.specs.declared.change.Update.{Update}
 use Rattle.update.specs.Updates.{total_where}
@@ -9,7 +7,6 @@ use Rattle.batch.specs.Descriptions.{BuilderState, DescriptionState}
 use Rattle.batch.specs.Intervals.{passed_updates}
 use Rattle.operator.specs.Arrangements.{ArrangementState, IsArrangement, rows_have, upper_of}
 use Rattle.operator.proofs.ArrangementLemmas.{arrangement_sealed}
-use Rattle.operator.proofs.TurnLemmas.{none_between}
 use Rattle.operator.proofs.arrangement.Arrangement.seal.Goals as goal
 
 pub invariant_of-self-2 : goal.invariant_of-self-2
@@ -25,20 +22,11 @@ invariant_of-self-2 g c =
 
 pub returns-clause-continues : goal.returns-clause-continues
 returns-clause-continues g c =
-    let below = g.T.PartialOrder.below in
-    let o = g.met.T.PartialOrder.order in
     let described = c.in_ok-batch.ensures.described in
-    let view = c.self.view_is in
-    let lower = ap (λ (d : DescriptionState g.row.T.Denot). d.lower) described in
-    let upper = ap (λ (d : DescriptionState g.row.T.Denot). d.upper) described in (
+    let view = c.self.view_is in (
       ap (λ (d : DescriptionState g.row.T.Denot). d.worker) described ∙ c.self.invariant.1 ∙ ap (λ (x : ArrangementState g.row.T.Denot). x.spine.list.worker) view,
       ap (λ (d : DescriptionState g.row.T.Denot). d.node) described ∙ c.self.invariant.2 ∙ ap (λ (x : ArrangementState g.row.T.Denot). x.spine.list.node) view,
-      lower ∙ c.upper.ensures.value ∙ ap (λ (x : ArrangementState g.row.T.Denot). upper_of x.spine) view,
-      λ e.
-          let same = sym upper ∙ sym e ∙ lower in
-          none_between o c.args.upper.now c.upper.result.now
-          (subst (λ F. IsTrue (all_beyond below c.args.upper.now F)) same (beyond_itself o c.args.upper.now))
-          c.in_ok-batch.batch.updates c.in_ok-batch.ensures.between,
+      ap (λ (d : DescriptionState g.row.T.Denot). d.lower) described ∙ c.upper.ensures.value ∙ ap (λ (x : ArrangementState g.row.T.Denot). upper_of x.spine) view,
     )
 
 pub returns-clause-totals : goal.returns-clause-totals
