@@ -15,7 +15,7 @@ pub mod Witnesses
 pub mod Cuts
 pub mod Exchanges
 use Rattle.std.specs.Prelude.{◌≡◌, ℕ, zero, suc, ◌<◌, ◌≤◌, ◌≢◌, Bool, not, ◌&&◌, eqb, if◌then◌else◌, List, [], ◌∷◌, ◌++◌, map, length, Some, None, IsTrue, Contains, ⊤, pos, unsigned_abs, slice_get, ℤ}
-use Rattle.std.specs.List.{filter, list_all, flat_map}
+use Rattle.std.specs.List.{filter, flat_map}
 use Rattle.lattice.specs.Frontiers.{is_beyond, all_beyond}
 use Rattle.update.specs.declared.change.Update.{Update}
 use Rattle.update.specs.Bags.{total_by}

@@ -11,7 +11,7 @@
 //! A call gathers all that it changes aside, and changes the histories in place at its end. What it
 //! has appended by then is taken back if memory for more is refused. So a refusal leaves the state
 //! as it was.
-ghost use Rattle.std.specs.Prelude.{◌≡◌, ◌≢◌, ◌↔◌, ◌⊎◌, ◌≤◌, ◌<◌, ◌+◌, ◌-◌, ◌^◌, ◌++◌, ◌||◌, [], ℕ, ℤ, List, false, true, length, min, pos, take, slice_get, IfErr, IfOk, IsSomeAnd, OnErr, OnOk, IsTrue};
+ghost use Rattle.std.specs.Prelude.{◌≡◌, ◌≢◌, ◌↔◌, ◌⊎◌, ◌≤◌, ◌<◌, ◌+◌, ◌-◌, ◌^◌, ◌++◌, ◌||◌, [], ℤ, List, false, true, length, min, pos, take, slice_get, IfErr, IfOk, IsSomeAnd, OnErr, OnOk, IsTrue};
 ghost use Rattle.std.specs.List.{AllByRecursion, filter};
 ghost use Rattle.lattice.specs.Frontiers.{is_beyond};
 ghost use Rattle.update.specs.Bags.{Alike};

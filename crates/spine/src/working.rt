@@ -20,7 +20,7 @@ ghost use Rattle.batch.specs.Descriptions.{BatchState};
 ghost use Rattle.trace.specs.Readings.{Insertion, all_content, all_updates};
 ghost use Rattle.trace.specs.BatchLists.{HasLargePair, updates_of};
 ghost use Rattle.spine.specs.Holding.{forbids};
-ghost use Rattle.spine.specs.Spines.{SpineState, MayMerge, IsWorked, IsDone, IsStuck, AreSteep, Stands, copies_at};
+ghost use Rattle.spine.specs.Spines.{MayMerge, IsWorked, IsDone, IsStuck, AreSteep, Stands, copies_at};
 
 use crate::Spine;
 use crate::holds::is_forbidden;

@@ -4,7 +4,7 @@
 //! or bound, and every proof would follow it. So this file states cases that a definition could
 //! easily forbid, and numbers that can be found by hand, for times that are pairs. The functions
 //! do nothing. If a changed definition makes one of their clauses false, the check fails.
-ghost use Rattle.std.specs.Prelude.{◌≡◌, ℕ, true, false, List, [], ◌∷◌, map, pos, negsuc};
+ghost use Rattle.std.specs.Prelude.{◌≡◌, ℕ, true, false, [], ◌∷◌, map, pos, negsuc};
 ghost use Rattle.lattice.specs.Pairs.{make_pair};
 ghost use Rattle.plan.specs.Rules.{IsPlan};
 ghost use Rattle.plan.specs.Bounds.{IsBound, bound_by};

@@ -5,7 +5,7 @@
 //! clients led from the one that the worker left (`DoClientsLead`). A give commutes with what
 //! clients did before it (`IsLeftBy`). What a worker keeps is right in all these states alike, so
 //! its computing knows nothing of entries and tenures.
-ghost use Rattle.std.specs.Prelude.{◌≡◌, ◌≢◌, ◌<◌, [], false, None, IfErr, IfOk, IfSome, OnOk, OnErr, length};
+ghost use Rattle.std.specs.Prelude.{◌≡◌, ◌<◌, [], false, None, IfErr, IfOk, IfSome, OnOk, OnErr, length};
 ghost use Rattle.std.specs.List.{list_any};
 ghost use Rattle.update.specs.declared.refusal.Refusal.TheVariants.{OutOfMemory};
 ghost use Rattle.plan.specs.Changes.{has_passed};
