@@ -91,6 +91,15 @@ module _ {T : Type 0} (below : T → T → Bool) (minimum : T) (t : Terms) (sing
       same (TakeHeld k n) c h = cc
       same (Give g ts sent) c h = cc
 
+-- after one more tenure it is the same actor
+pub same_of : {T : Type 0} (old new : Known (Doing T)) (event : Event T) → Adds old event new → IsSameActor old new
+same_of old new event adds = subst (IsSameActor old) (sym adds.new_is) (record {
+  hub = refl;
+  number = refl;
+  terms = refl;
+  onward = (entry old.number (doing (terms_in old.seen) event) ∷ adds.others, refl);
+})
+
 -- an event of a worker is no change
 pub own_none : {T : Type 0} (n : ℕ) (t : Terms) (event : Event T) (es : List (Entry (Doing T))) → is_change event ≡ false → changes_of (entry n (doing t event) ∷ es) ≡ changes_of es
 own_none n t event es h = ap (λ c. length (cond c (entry n (doing t event) ∷ filter (λ e. is_change e.event.event) es) (filter (λ e. is_change e.event.event) es))) h

@@ -1,5 +1,5 @@
--- For each plan there are a desk and a history of an actor that has looked once, with which the only
--- worker is ready for its first pass. The desk is laid out as `Desk::open` does it.
+-- For each plan there are a desk and a history of an actor that has looked once, with which the
+-- only worker is ready for its first pass. The desk is laid out as `Desk::open` does it.
 use Rattle.std.proofs.Common.{◌≡◌, ℕ, zero, suc, ◌+◌, ◌<◌, ◌≤◌, Bool, true, false, List, [], ◌∷◌, ◌++◌, length, length-append, set, Option, Some, None, sym, refl, ap, ◌∙◌, subst, arith, ℤ}
 use Rattle.std.specs.Bool.{⊤}
 use Rattle.std.specs.List.{slice_get}

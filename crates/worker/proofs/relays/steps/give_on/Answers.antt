@@ -6,7 +6,7 @@ use Rattle.machine.specs.Histories.{next_state}
 use Rattle.worker.specs.Between.{IsLeftBy}
 use Rattle.shared_board.specs.Found.{dataflow_of}
 use Rattle.shared_board.specs.Tenures.{state_left}
-use Rattle.worker.proofs.StepLemmas.{calm_given, left_of}
+use Rattle.worker.proofs.StepLemmas.{calm_given, left_of, same_of}
 use Rattle.worker.proofs.relays.steps.give_on.Goals as goal
 
 pub returns-in-Ok-clause-left : goal.returns-in-Ok-clause-left
@@ -29,3 +29,9 @@ returns-in-Ok-clause-calm g c calm =
     let same = c.in_ok-sent.ensures.cut ∙ ap (λ p. cut below p e) c.requires.routing in
     calm_given below least old c.requires.alone c.requires.number e c.into.result c.in_ok-sent.sent c.give-given.new.self c.known-2.ensures c.in-Ok.ensures.given calm
     ∙ (λ i. next_state below (dataflow_of old) (state_left below least old) (Give e (c.into.ensures i) (same i)))
+
+pub returns-in-Ok-clause-same : goal.returns-in-Ok-clause-same
+returns-in-Ok-clause-same g c = same_of c.args.worker.now c.give-given.new.self _ c.in-Ok.ensures.given
+
+pub returns-in-Err-clause-same : goal.returns-in-Err-clause-same
+returns-in-Err-clause-same g c = same_of c.args.worker.now c.give-given.new.self _ c.in-Err.ensures.returned.0

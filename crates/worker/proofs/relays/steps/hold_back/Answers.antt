@@ -6,7 +6,7 @@ use Rattle.machine.specs.Histories.{next_state}
 use Rattle.worker.specs.Between.{IsLeftBy}
 use Rattle.shared_board.specs.Found.{dataflow_of}
 use Rattle.shared_board.specs.Tenures.{state_left}
-use Rattle.worker.proofs.StepLemmas.{calm_given, left_of}
+use Rattle.worker.proofs.StepLemmas.{calm_given, left_of, same_of}
 use Rattle.worker.proofs.relays.steps.hold_back.Goals as goal
 
 pub returns-in-Ok-clause-left : goal.returns-in-Ok-clause-left
@@ -29,3 +29,9 @@ returns-in-Ok-clause-calm g c calm =
     let none = c.into-3.ensures ∙ c.new-2.ensures.items in
     calm_given below least old c.requires.alone c.requires.number (record { node = c.args.node; worker = 0; updates = c.into.result }) c.into-2.result c.into-3.result c.give-given.new.self c.known-2.ensures c.in-Ok.ensures.given calm
     ∙ (λ i. next_state below (dataflow_of old) (state_left below least old) (Give (record { node = c.args.node; worker = 0; updates = nothing i }) (c.into-2.ensures i) (none i)))
+
+pub returns-in-Ok-clause-same : goal.returns-in-Ok-clause-same
+returns-in-Ok-clause-same g c = same_of c.args.worker.now c.give-given.new.self _ c.in-Ok.ensures.given
+
+pub returns-in-Err-clause-same : goal.returns-in-Err-clause-same
+returns-in-Err-clause-same g c = same_of c.args.worker.now c.give-given.new.self _ c.in-Err.ensures.returned.0
