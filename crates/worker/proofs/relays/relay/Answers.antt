@@ -58,3 +58,6 @@ returns-clause-quiet g c calm =
     (quiet_at_end g.T.PartialOrder.below g.T.Minimum.least (dataflow_of worker) c.known.ensures.dataflow (events worker.seen) c.known.ensures.legal
     (subst (λ p. IsFreeAtNode p w (length p.nodes)) (sym flow) (subst (IsFreeAtNode (dataflow_of c.args.worker.now) w) end free))
     (subst (λ p. IsSettledTo g.T.PartialOrder.below p w (length p.nodes)) (sym flow) settled))
+
+pub returns-in_err-relay_node-clause-same : goal.returns-in_err-relay_node-clause-same
+returns-in_err-relay_node-clause-same g c = same_later c.loop-n.invariant.same c.relay_node.ensures.same

@@ -9,7 +9,7 @@ use Rattle.worker.specs.Relays.{HasTaken, IsRunning, IsSettledTo}
 use Rattle.shared_board.specs.Tenures.{WaitsOrNotIn, state_found, state_left}
 use Rattle.worker.proofs.NodeLemmas.{same_arrangement, none_left}
 use Rattle.worker.proofs.AbsorbLemmas.{held_settled, absorbed_due, absorbed_rows, absorbed_times, absorbed_may, absorbed_ready}
-use Rattle.worker.proofs.RunningLemmas.{calm_first, calm_then, same_flow, found_ready, found_running, left_running, none_held, settled_on}
+use Rattle.worker.proofs.RunningLemmas.{calm_first, calm_then, same_flow, found_ready, found_running, left_running, none_held, same_later, settled_on}
 use Rattle.worker.proofs.relays.arranged.absorb.Goals as goal
 
 pub returns-in_default-clause-runs : goal.returns-in_default-clause-runs
@@ -127,3 +127,9 @@ returns-clause-settled g c calm settled =
     settled_on below j k x.same n n (state_found below least k) (state_left below least c.hold_back.new.worker)
     (λ found. subst (λ v. IsSettledTo below (dataflow_of k) v n) (sym (y.calm (calm_then x.same y.same calm))) (held_settled below joined least o k c.known-2.ensures r.0 n ready c.in-Some.bundle took c.in_ok-held.held.items found))
     (subst (λ w. IsSettledTo below (dataflow_of j) w n) (sym (x.calm (calm_first x.same y.same calm))) settled)
+
+pub returns-in_err-hold_back-clause-same : goal.returns-in_err-hold_back-clause-same
+returns-in_err-hold_back-clause-same g c = same_later c.take_at.ensures.same c.hold_back.ensures.same
+
+pub returns-clause-same : goal.returns-clause-same
+returns-clause-same g c = same_later c.take_at.ensures.same c.hold_back.ensures.same

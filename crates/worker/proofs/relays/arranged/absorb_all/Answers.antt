@@ -44,3 +44,9 @@ loop-preserved g c = record {
       settled_on g.T.PartialOrder.below c.args.worker.now c.loop.worker c.loop.invariant.same c.args.node c.args.node (state_left g.T.PartialOrder.below g.T.Minimum.least c.loop.worker) (state_left g.T.PartialOrder.below g.T.Minimum.least c.absorb.new.worker)
       (c.in_ok-absorb.ensures.settled (calm_then c.loop.invariant.same c.absorb.ensures.same calm)) (c.loop.invariant.settled (calm_first c.loop.invariant.same c.absorb.ensures.same calm) settled);
 }
+
+pub returns-in_err-absorb-clause-same : goal.returns-in_err-absorb-clause-same
+returns-in_err-absorb-clause-same g c = same_later c.loop.invariant.same c.absorb.ensures.same
+
+pub returns-then-not-branch-clause-same : goal.returns-then-not-branch-clause-same
+returns-then-not-branch-clause-same g c = same_later c.loop.invariant.same c.absorb.ensures.same

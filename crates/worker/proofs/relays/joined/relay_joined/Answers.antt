@@ -65,3 +65,9 @@ returns-then-not-more-clause-settled g c calm settled =
     let ready = subst (λ p. IsReadyAt g.T.PartialOrder.below g.T.Lattice.joined g.T.Minimum.least p w d n) flow run.ready in
     settled_next g.T.PartialOrder.below (dataflow_of k) c.known.ensures.dataflow w n now (c.in_ok-more.ensures.all c.if-not-more.true)
     (join_settled g.T.PartialOrder.below g.T.Lattice.joined g.T.Minimum.least (dataflow_of k) w d n ready c.requires.within c.args.left c.args.right c.requires.join)
+
+pub returns-in_err-more-clause-same : goal.returns-in_err-more-clause-same
+returns-in_err-more-clause-same g c = same_later c.loop.invariant.same c.take_one.ensures.same
+
+pub returns-then-not-more-clause-same : goal.returns-then-not-more-clause-same
+returns-then-not-more-clause-same g c = same_later c.loop.invariant.same c.take_one.ensures.same

@@ -2,10 +2,11 @@
 use Rattle.std.proofs.Common.{rules, ◌≡◌, ◌<◌, sym, ap, subst, length, arith, ◌∙◌}
 use Rattle.machine.specs.Histories.Dataflows.{Dataflow, node_of}
 use Rattle.plan.specs.declared.node.Node.TheVariants.{Join}
-use Rattle.worker.specs.Relays.{IsRunning}
-use Rattle.shared_board.specs.Tenures.{Terms}
+use Rattle.shared_board.specs.Found.{dataflow_of}
+use Rattle.worker.specs.Relays.{IsRunning, IsSettledTo}
+use Rattle.shared_board.specs.Tenures.{Terms, state_left}
 use Rattle.worker.proofs.NodeLemmas.{same_both}
-use Rattle.worker.proofs.RunningLemmas.{found_ready, found_running}
+use Rattle.worker.proofs.RunningLemmas.{calm_first, calm_then, found_ready, found_running, same_later, settled_on}
 use Rattle.worker.proofs.JoinRunLemmas.{second_port}
 use Rattle.worker.proofs.relays.joined.take_one.Goals as goal
 
@@ -45,3 +46,41 @@ returns-in_ok-take_right-clause-runs g c d run arrangements own = c.in_ok-take_r
 
 pub returns-in_ok-take_right-clause-all : goal.returns-in_ok-take_right-clause-all
 returns-in_ok-take_right-clause-all g c last = let more = rw c.in-Some.is at c.in_ok-bundle.ensures.more in c.in_ok-take_right.ensures.none (more.1 last)
+
+pub returns-in_err-take_left-clause-same : goal.returns-in_err-take_left-clause-same
+returns-in_err-take_left-clause-same g c = same_later c.take_at.ensures.same c.take_left.ensures.same
+
+pub returns-in_ok-take_left-clause-same : goal.returns-in_ok-take_left-clause-same
+returns-in_ok-take_left-clause-same g c = same_later c.take_at.ensures.same c.take_left.ensures.same
+
+pub returns-in_ok-take_left-clause-settled : goal.returns-in_ok-take_left-clause-settled
+returns-in_ok-take_left-clause-settled g c calm settled =
+    let below = g.T.PartialOrder.below in
+    let least = g.T.Minimum.least in
+    let j = c.args.worker.now in
+    let k = c.take_at.new.worker in
+    let n = c.args.node in
+    let same = c.take_at.ensures.same in
+    let next = c.take_left.ensures.same in
+    settled_on below j k same n n (state_left below least j) (state_left below least c.take_left.new.worker)
+    (λ there. c.in_ok-take_left.ensures.settled (calm_then same next calm) (subst (λ v. IsSettledTo below (dataflow_of k) v n) (sym (c.take_at.ensures.calm (calm_first same next calm))) there))
+    settled
+
+pub returns-in_err-take_right-clause-same : goal.returns-in_err-take_right-clause-same
+returns-in_err-take_right-clause-same g c = same_later c.take_at.ensures.same c.take_right.ensures.same
+
+pub returns-in_ok-take_right-clause-same : goal.returns-in_ok-take_right-clause-same
+returns-in_ok-take_right-clause-same g c = same_later c.take_at.ensures.same c.take_right.ensures.same
+
+pub returns-in_ok-take_right-clause-settled : goal.returns-in_ok-take_right-clause-settled
+returns-in_ok-take_right-clause-settled g c calm settled =
+    let below = g.T.PartialOrder.below in
+    let least = g.T.Minimum.least in
+    let j = c.args.worker.now in
+    let k = c.take_at.new.worker in
+    let n = c.args.node in
+    let same = c.take_at.ensures.same in
+    let next = c.take_right.ensures.same in
+    settled_on below j k same n n (state_left below least j) (state_left below least c.take_right.new.worker)
+    (λ there. c.in_ok-take_right.ensures.settled (calm_then same next calm) (subst (λ v. IsSettledTo below (dataflow_of k) v n) (sym (c.take_at.ensures.calm (calm_first same next calm))) there))
+    settled

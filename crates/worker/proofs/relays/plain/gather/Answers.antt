@@ -53,3 +53,6 @@ loop-preserved g c = record {
 
 pub returns-then-not-more-clause-settled : goal.returns-then-not-more-clause-settled
 returns-then-not-more-clause-settled g c = c.loop.invariant.settled
+
+pub returns-in_err-more-clause-same : goal.returns-in_err-more-clause-same
+returns-in_err-more-clause-same g c = same_later c.loop.invariant.same c.gather_more.ensures.same

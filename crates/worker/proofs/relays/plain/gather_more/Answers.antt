@@ -1,10 +1,12 @@
 -- What is gathered is held back, and one bundle more is taken.
-use Rattle.std.proofs.Common.{◌++◌, ap, sym, subst, ◌∙◌, Some}
+use Rattle.std.proofs.Common.{◌++◌, ◌||◌, ap, sym, subst, ◌∙◌, Some}
 use Rattle.lattice.specs.Frontiers.{is_beyond}
+use Rattle.operator.specs.Arrangements.{times_of}
+use Rattle.operator.proofs.FrontLemmas.{beyond-append}
 use Rattle.shared_board.specs.Found.{dataflow_of}
 use Rattle.worker.specs.Relays.{IsGatheringOn, IsSettledTo}
 use Rattle.shared_board.specs.Tenures.{state_left}
-use Rattle.worker.proofs.RunningLemmas.{calm_first, calm_then, settled_on}
+use Rattle.worker.proofs.RunningLemmas.{calm_first, calm_then, same_later, settled_on}
 use Rattle.worker.proofs.GatherRunLemmas.{held_it, held_settled, may_hold_it, some_of, some_waits, turned_on}
 use Rattle.worker.proofs.relays.plain.gather_more.Goals as goal
 
@@ -48,3 +50,25 @@ returns-clause-settled g c calm settled =
     settled_on g.T.PartialOrder.below c.args.worker.now c.hold_back.new.worker same c.args.node c.args.node (state_left g.T.PartialOrder.below g.T.Minimum.least c.hold_back.new.worker) (state_left g.T.PartialOrder.below g.T.Minimum.least c.take_in.new.worker) (c.in_ok-out.ensures.settled (calm_then same next calm))
     (subst (λ v. IsSettledTo g.T.PartialOrder.below p v c.args.node) (sym (c.in_ok-hold_back.ensures.calm (calm_first same next calm)))
     (held_settled g.T.PartialOrder.below p c.known.ensures.dataflow w c.args.node c.in_ok-held.held.items settled))
+
+pub returns-in_err-out-clause-same : goal.returns-in_err-out-clause-same
+returns-in_err-out-clause-same g c = same_later c.hold_back.ensures.same c.take_in.ensures.same
+
+pub returns-in_err-put_in_updates-clause-same : goal.returns-in_err-put_in_updates-clause-same
+returns-in_err-put_in_updates-clause-same g c = same_later c.hold_back.ensures.same c.take_in.ensures.same
+
+pub returns-in_err-append-clause-same : goal.returns-in_err-append-clause-same
+returns-in_err-append-clause-same g c = same_later c.hold_back.ensures.same c.take_in.ensures.same
+
+pub returns-clause-same : goal.returns-clause-same
+returns-clause-same g c = same_later c.hold_back.ensures.same c.take_in.ensures.same
+
+pub returns-clause-front : goal.returns-clause-front
+returns-clause-front g c t =
+    let below = g.T.PartialOrder.below in
+    let out = c.in-Some.out.items in
+    let was = c.requires.front t in
+    let came = ap (λ us. is_beyond below (times_of us) t) c.as_slice-2.ensures.value in
+    c.in_ok-put_in_updates.ensures.beyond t
+    ∙ (λ i. was i || came i)
+    ∙ sym (ap (λ us. is_beyond below (times_of us) t) c.in_ok-append.ensures.items ∙ beyond-append below c.args.gathered.now.items out t)

@@ -1,9 +1,12 @@
 -- All that waits at a linear node is gathered and given, and the pass goes on.
-use Rattle.std.proofs.Common.{Some, ap, subst}
+use Rattle.std.proofs.Common.{Some, suc, ap, subst}
+use Rattle.std.specs.Prelude.{OnOk}
+use Rattle.machine.specs.Histories.Dataflows.{Dataflow}
 use Rattle.shared_board.specs.Found.{dataflow_of}
-use Rattle.worker.specs.Relays.{IsGatheringOn, IsReadyAt}
+use Rattle.worker.specs.Relays.{IsGatheringOn, IsReadyAt, IsSettledTo}
 use Rattle.shared_board.specs.Tenures.{Terms, state_left}
 use Rattle.worker.proofs.HoldingLemmas.{plain_settled}
+use Rattle.worker.proofs.RunningLemmas.{calm_first, calm_then, same_flow, same_later}
 use Rattle.worker.proofs.SettledLemmas.{settled_next}
 use Rattle.worker.proofs.GatherRunLemmas.{goes_next, some_of}
 use Rattle.worker.proofs.relays.plain.relay_plain.Goals as goal
@@ -30,3 +33,18 @@ returns-in-None-clause-settled g c calm settled =
     let ready = subst (λ p. IsReadyAt g.T.PartialOrder.below g.T.Lattice.joined g.T.Minimum.least p w r.0 n) flow (c.in_ok-gathered.ensures.nothing r.0 r.1 c.in-None.is).ready in
     settled_next g.T.PartialOrder.below p c.known.ensures.dataflow w n (c.in_ok-gathered.ensures.settled calm settled) c.in_ok-gathered.ensures.none
     (plain_settled g.T.PartialOrder.below g.T.Lattice.joined g.T.Minimum.least p w r.0 n ready c.requires.within c.requires.linear c.requires.plain)
+
+pub returns-in-Some-clause-same : goal.returns-in-Some-clause-same
+returns-in-Some-clause-same g c = same_later c.gather.ensures.same c.give_all.ensures.same
+
+pub returns-in-Some-clause-settled : goal.returns-in-Some-clause-settled
+returns-in-Some-clause-settled g c calm settled =
+    let below = g.T.PartialOrder.below in
+    let least = g.T.Minimum.least in
+    let i = c.args.worker.now in
+    let j = c.gather.new.worker in
+    let n = c.args.node in
+    let first = c.gather.ensures.same in
+    let then = c.give_all.ensures.same in
+    subst (λ (p : Dataflow). IsSettledTo below p (state_left below least j) n → OnOk c.give_all.result (IsSettledTo below p (state_left below least c.give_all.new.worker) (suc n))) (same_flow i j first)
+    (c.give_all.ensures.settled (calm_then first then calm)) (c.in_ok-gathered.ensures.settled (calm_first first then calm) settled)

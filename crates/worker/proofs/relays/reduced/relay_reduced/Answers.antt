@@ -106,3 +106,12 @@ returns-in-None-clause-settled g c calm settled =
     let none = x.none c.in-None.is in
     settled_on below c.args.worker.now j first n (suc n) (state_left below least j) (state_left below least k)
     (settled_none below least j k n c.known.ensures (x.calm (calm_then first x.same calm)) none.0 none.1 c.in_ok-absorb_all.ensures.none) (c.in_ok-absorb_all.ensures.settled (calm_first first x.same calm) settled)
+
+pub returns-in_err-upper-clause-same : goal.returns-in_err-upper-clause-same
+returns-in_err-upper-clause-same g c = same_later c.absorb_all.ensures.same c.turn_at.ensures.same
+
+pub returns-in-None-clause-same : goal.returns-in-None-clause-same
+returns-in-None-clause-same g c = same_later c.absorb_all.ensures.same c.turn_at.ensures.same
+
+pub returns-in-Some-clause-same : goal.returns-in-Some-clause-same
+returns-in-Some-clause-same g c = same_later (same_later c.absorb_all.ensures.same c.turn_at.ensures.same) c.settle.ensures.same
