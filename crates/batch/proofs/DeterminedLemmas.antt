@@ -7,8 +7,10 @@ use Rattle.std.specs.declared.cmp.Ordering.TheVariants.{Less}
 use Rattle.std.proofs.Math.IntN.{+ℤ_idl}
 use Rattle.std.proofs.lemmas.Bool.{false_from_ne_true}
 use Rattle.std.proofs.lemmas.Map.Keys.{sorted_head, sorted_tail}
-use Rattle.lattice.specs.Order.{PartialOrderLaws}
-use Rattle.antichain.proofs.Lists.{Among}
+use Rattle.lattice.specs.Order.{PartialOrderLaws, LatticeLaws}
+use Rattle.lattice.specs.Representatives.{representative_of, Indistinguishable}
+use Rattle.lattice.proofs.RepresentativeLemmas.{representative_one, representative_later}
+use Rattle.antichain.proofs.Lists.{Among, all_at}
 use Rattle.antichain.proofs.AntichainLemmas.{among_same, sorted_same}
 use Rattle.update.specs.declared.change.Update.{Update}
 use Rattle.update.specs.Bags.{Alike}
@@ -16,8 +18,9 @@ use Rattle.update.specs.Updates.{as_of, total_at}
 use Rattle.update.proofs.SumLemmas.{sum_where-none}
 use Rattle.update.proofs.UniqueLemmas.{passes_or_none, same_totals, at_each, meets, meets_row, meets_time}
 use Rattle.batch.specs.Batches.{by_row_then_time, IsSealed}
+use Rattle.batch.specs.Compaction.{are_compacted}
 use Rattle.batch.proofs.SealLemmas.{by_row_total}
-use Rattle.batch.proofs.MergeLemmas.{no_tie, own_first}
+use Rattle.batch.proofs.TieLemmas.{no_tie, own_first}
 
 module _ {T : Type 0} {below : T → T → Bool} {cmp : T → T → Ordering} (o : PartialOrderLaws below) (total : IsTotalOrder cmp) where
   -- in a sealed list the total at an update's row and time is that update's diff
@@ -61,3 +64,17 @@ module _ {T : Type 0} {below : T → T → Bool} {cmp : T → T → Ordering} (o
   pub same_by_sums : (us vs : List (Update T)) → IsSealed cmp us → IsSealed cmp vs → ((t : T) → Alike (as_of below t us) (as_of below t vs)) → us ≡ vs
   same_by_sums us vs a b same =
       same_sealed us vs a b (λ row t. same_totals o (λ _. true) us vs (λ s u h k. refl) (λ u h. same u) row t refl)
+
+-- after compaction no two updates of a row are left that reads beyond the frontier cannot tell apart
+module _ {T : Type 0} {below : T → T → Bool} {cmp : T → T → Ordering} {joined met : T → T → T} (o : PartialOrderLaws below) (l : LatticeLaws below joined met) (total : IsTotalOrder cmp) where
+  own_representative : (F : List T) (us : List (Update T)) (u : Update T) → IsTrue (are_compacted joined met F below us) → Among u us → representative_of joined met F u.time ≡ u.time
+  own_representative F us u h m =
+      o.antisymmetric (representative_of joined met F u.time) u.time
+      (all_at (λ (v : Update T). below (representative_of joined met F v.time) v.time) us u h m)
+      (representative_later o l F u.time)
+
+  pub compacted_apart : (F : List T) (us : List (Update T)) (u v : Update T) → F ≢ [] → IsSealed cmp us → IsTrue (are_compacted joined met F below us) → Among u us → Among v us → u.row ≡ v.row → Indistinguishable below F u.time v.time → u ≡ v
+  compacted_apart F us u v some sealed h m n row same =
+      let time : u.time ≡ v.time = sym (own_representative F us u h m) ∙ representative_one o l F u.time v.time some same ∙ own_representative F us v h n in
+      let diff : u.diff ≡ v.diff = sym (own_total o total us sealed.ascending u m) ∙ (λ i. total_at below (row i) (time i) us) ∙ own_total o total us sealed.ascending v n in
+      λ i. record { time = time i; row = row i; diff = diff i }

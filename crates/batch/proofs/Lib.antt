@@ -3,6 +3,9 @@ pub mod KeyLemmas
 pub mod SeekLemmas
 pub mod SealLemmas
 pub mod SumsLemmas
-pub mod MergeLemmas
+pub mod TieLemmas
+pub mod CompactionLemmas
+pub mod MergingLemmas
+pub mod UnderwayLemmas
 pub mod IntervalLemmas
 pub mod DeterminedLemmas

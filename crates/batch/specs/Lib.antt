@@ -2,6 +2,7 @@
 pub use Rattle.lattice.specs.Order
 pub use Rattle.lattice.specs.Frontiers
 pub mod Batches
+pub mod Compaction
 pub mod Descriptions
 pub mod Intervals
 pub mod Merging

@@ -4,8 +4,13 @@
 //! The invariant: the list is sealed, and empty if the interval is. A seal finds each time between
 //! the frontiers, and no time is between equal ones. A merge of two such batches is such a batch
 //! again, also where it moves times.
-ghost use Rattle.std.specs.Prelude.{◌≡◌};
+//!
+//! Each batch is compacted as of its own since: every time is its own representative. After a seal
+//! the since is the least time, and no time moves. A merge moves each time. So whether a batch lags
+//! behind a later since is one comparison of frontiers.
+ghost use Rattle.std.specs.Prelude.{◌≡◌, IsTrue};
 ghost use Rattle.batch.specs.Batches.{IsSealed};
+ghost use Rattle.batch.specs.Compaction.{are_compacted};
 ghost use Rattle.batch.specs.Descriptions.{IsEmptyIfStill};
 
 use crate::keys::{compare_key, range_of};
@@ -31,7 +36,9 @@ pub struct Batch<T: Lattice> {
 }
 
 impl<T: Lattice> Model for Batch<T> {
+    ghost use Rattle.std.specs.Prelude.{IsTrue};
     ghost use Rattle.batch.specs.Batches.{IsSealed};
+    ghost use Rattle.batch.specs.Compaction.{are_compacted};
     ghost use Rattle.batch.specs.Descriptions.{BatchState, IsEmptyIfStill};
 
     ghost Value = { BatchState T };
@@ -39,7 +46,9 @@ impl<T: Lattice> Model for Batch<T> {
     ghost view = { λ b. record { description = b.description; updates = b.updates.items } };
 
     ghost invariant = { λ b. IsSealed T.cmp b.updates.items
-        × IsEmptyIfStill (record { description = b.description; updates = b.updates.items }) };
+        × IsEmptyIfStill (record { description = b.description; updates = b.updates.items })
+        × IsTrue
+        (are_compacted T.joined T.met b.description.since T.below b.updates.items) };
 }
 
 impl<T: Lattice> Batch<T> {
@@ -47,6 +56,8 @@ impl<T: Lattice> Batch<T> {
     pub(crate) fn of(description: Description<T>, updates: Vec<Update<T>>) -> Batch<T>
         requires sealed { IsSealed T.cmp updates.items }
         requires still { IsEmptyIfStill (record { description = description; updates = updates.items }) }
+        requires compacted {
+            IsTrue (are_compacted T.joined T.met description.since T.below updates.items) }
         ensures { result ≡ record { description = description; updates = updates.items } }
     {
         Batch {
@@ -61,6 +72,15 @@ impl<T: Lattice> Batch<T> {
         ensures sealed { IsSealed T.cmp self.now.updates }
     {
         self.updates.as_slice()
+    }
+
+    /// Tells the prover that each time is its own representative as of the since. Costs nothing.
+    pub fn known(&self)
+        ensures { IsTrue (are_compacted T.joined T.met self.now.description.since T.below
+            self.now.updates) }
+    {
+        // (a function knows the invariant if it uses a field)
+        let _description = &self.description;
     }
 
     // The allocator of the batch. Takes no memory.

@@ -14,7 +14,7 @@ ghost use Rattle.batch.specs.Batches.{IsSealed};
 ghost use Rattle.batch.specs.Intervals.{all_between, is_interval_of, passed_updates, open_updates};
 
 use crate::passed::{drop_passed, is_interval_of_passed, passed_copies};
-use crate::seal::sealed_list;
+use crate::seal::{known_times, sealed_list};
 use crate::{Batch, Description};
 use antichain::{Antichain, is_beyond};
 use lattice::{Lattice, Minimum};
@@ -128,6 +128,7 @@ impl<T: Minimum> Builder<T> {
         }
         let alloc = *updates.allocator();
         let sealed = sealed_list(updates)?;
+        known_times(sealed.as_slice());
         let description = unmoved(alloc, worker, node, lower, upper)?;
         Ok(Batch::of(description, sealed))
     }

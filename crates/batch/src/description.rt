@@ -110,6 +110,16 @@ impl<T: Lattice> Description<T> {
         Description::new(alloc, worker, node, self.lower(), next.upper(), since)
     }
 
+    // The same interval as of another frontier. Refused only if memory is refused.
+    pub(crate) fn as_of(&self, alloc: Global, since: &[T]) -> Result<Description<T>, Refusal>
+        requires { IsFrontier T.below T.cmp since.now }
+        ensures made { IfOk result (λ made. made ≡ record self.now { since = since.now }) }
+        ensures only { IfErr result (λ refused. refused ≡ Refusal.OutOfMemory) }
+    {
+        let (worker, node) = self.names();
+        Description::new(alloc, worker, node, self.lower(), self.upper(), since)
+    }
+
     /// Whether the next interval begins where this one ends, and the worker and node are the same.
     /// Takes no memory.
     ///

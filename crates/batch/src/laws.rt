@@ -1,12 +1,14 @@
-//! Why a sealed list can stand for all lists with its totals, and what a walk from key to key
-//! finds. The functions do nothing: they are called, or their clauses cited, for what they promise
-//! in every lattice.
-ghost use Rattle.std.specs.Prelude.{◌≡◌, ◌≤◌, ℕ, List, ℤ, length, take, drop, slice_range};
-ghost use Rattle.std.specs.List.{filter};
+//! Why a sealed list can stand for all lists with its totals, why nothing is left to be added up in
+//! a compacted batch, and what a walk from key to key finds. The functions do nothing: they are
+//! called, or their clauses cited, for what they promise in every lattice.
+ghost use Rattle.std.specs.Prelude.{◌≡◌, ◌≢◌, ◌≤◌, ℕ, List, [], ℤ, IsTrue, length, take, drop, slice_range};
+ghost use Rattle.std.specs.List.{Contains, filter};
+ghost use Rattle.lattice.specs.Representatives.{Indistinguishable};
 ghost use Rattle.update.specs.Bags.{Alike};
 ghost use Rattle.update.specs.Updates.{as_of, total_at};
 ghost use Rattle.update.specs.declared.change.Update.{Update};
 ghost use Rattle.batch.specs.Batches.{IsSealed, begins_with, AllBefore, NoneBefore, AllAfter, NoneAfter};
+ghost use Rattle.batch.specs.Compaction.{are_compacted};
 
 use lattice::Lattice;
 
@@ -18,6 +20,15 @@ pub fn sealed_lists_are_determined<T: Lattice>()
         → us ≡ vs }
     ensures sums { (us vs : List (Update T)) → IsSealed T.cmp us → IsSealed T.cmp vs
         → ((t : T) → Alike (as_of T.below t us) (as_of T.below t vs)) → us ≡ vs }
+{}
+
+/// As of a frontier that is not empty, no two updates of one row are left in a compacted batch that
+/// a read beyond the frontier cannot tell apart. Every batch is compacted as of its own since.
+pub fn compacted_rows_are_apart<T: Lattice>()
+    ensures { (F : List T) (us : List (Update T)) (u v : Update T) → F ≢ []
+        → IsSealed T.cmp us → IsTrue (are_compacted T.joined T.met F T.below us)
+        → Contains us u → Contains us v → u.row ≡ v.row
+        → Indistinguishable T.below F u.time v.time → u ≡ v }
 {}
 
 /// What `seek` and then `seek_past` find from a place on are exactly the rows of the key that are

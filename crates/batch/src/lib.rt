@@ -18,11 +18,13 @@
 //! - A [`Batch`] has a [`Description`], which names its worker, its node and the interval that it
 //!   covers. It is read by index through [`BatchReader`], which is all that operators will know of
 //!   it.
-//! - [`merge`] makes one batch of two neighbouring ones, in one pass.
+//! - [`merge`] makes one batch of two neighbouring ones, in one pass, and moves their times to
+//!   representatives as of a frontier. A [`Merging`] does the same from call to call, as far as the
+//!   fuel of each call goes.
 //!
 //! Totals are computed as in the crate `update`, so the order of pushes never decides whether a
-//! seal is refused. A merge is refused for a total only if that total over its two batches is no
-//! 64-bit number.
+//! seal is refused. A merge is refused for a total only if the total of some row at some moved time,
+//! over its two batches, is no 64-bit number.
 #![tactic(auto)]
 
 mod batch;
@@ -30,16 +32,20 @@ mod builder;
 mod description;
 mod keys;
 mod laws;
-mod merge_cursors;
+mod merged_rows;
 mod merging;
 mod passed;
 mod reader;
 mod seal;
 mod seeking;
+mod whole_merge;
 
 pub use batch::Batch;
 pub use builder::Builder;
 pub use description::Description;
-pub use laws::{sealed_lists_are_determined, seeks_find_the_rows_of_a_key};
-pub use merging::merge;
+pub use laws::{
+    compacted_rows_are_apart, sealed_lists_are_determined, seeks_find_the_rows_of_a_key,
+};
+pub use merging::Merging;
 pub use reader::BatchReader;
+pub use whole_merge::merge;

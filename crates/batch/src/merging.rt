@@ -1,83 +1,373 @@
-//! The public side of merging: which two batches can be merged, and what the merged batch is. The
-//! frontier `since` is a plain list, as in a description, since that is how a spine keeps it.
-ghost use Rattle.std.specs.Prelude.{◌≡◌, ◌≤◌, ◌+◌, ◌↔◌, ◌⊎◌, ◌++◌, List, ℤ, Bool, Err, IfOk, IfErr, OnOk, IsTrue};
-ghost use Rattle.std.specs.List.{list_all};
+//! A merge that goes on from call to call. It knows how far it has read in its sources and what it
+//! has written, but it does not own the sources. These stay with their readers and are lent to each
+//! step, so nobody sees a merge before it is whole.
+//!
+//! One batch alone is rewritten as of a later frontier in the same way, as if it were merged with
+//! nothing.
+//!
+//! A step and the end take the merge by value. If one is refused, then the merge is gone and has to
+//! be begun again; the sources were never touched. So no contract says what a broken merge is.
+ghost use Rattle.std.specs.Prelude.{◌≡◌, ◌≤◌, ◌<◌, ◌+◌, ◌⊎◌, ◌++◌, ◌↔◌, suc, [], length, drop, true, false, Err, IfOk, IfErr, OnOk, IsTrue};
 ghost use Rattle.antichain.specs.Antichains.{IsFrontier};
-ghost use Rattle.update.specs.Bags.{Alike};
-ghost use Rattle.update.specs.Updates.{as_of, total_where, HasLargeTotal, size};
+ghost use Rattle.update.specs.Updates.{HasLargeTotal};
+ghost use Rattle.update.specs.Refusals.{IsMemoryOrOverflow};
 ghost use Rattle.update.specs.declared.refusal.Refusal.{Refusal};
 ghost use Rattle.batch.specs.Batches.{IsSealed};
+ghost use Rattle.batch.specs.Compaction.{compacted, StandFor};
 ghost use Rattle.batch.specs.Descriptions.{Follows};
-ghost use Rattle.batch.specs.Intervals.{all_between, all_times_beyond};
+ghost use Rattle.batch.specs.Merging.{IsUnderway, IsRead, is_left_next};
 
-use crate::merge_cursors::merged_list;
-use crate::{Batch, BatchReader};
+use crate::merged_rows::MergedRows;
+use crate::{Batch, BatchReader, Description};
 use lattice::Lattice;
-use update::Refusal;
+use std::alloc::Global;
+use std::marker::Model;
+use update::{Refusal, Update};
 
-/// Merges two neighbouring batches. The result reaches from the lower frontier of `a` to the upper
-/// frontier of `b`, and its list is the only sealed list in which each row at each time has its
-/// total over both batches. So at every time it sums to the sum of both. Both batches stay as they
-/// are. Times stay as they are too: `since` is recorded in the description, but no time is moved to
-/// it.
+/// A merge of two neighbouring batches that is under way, or the rewriting of one batch. A contract
+/// sees the description of the batch to come, the updates that are written, and how many of each
+/// source were read.
 ///
-/// The merged batch has rows and times of the two batches only. If all their times lie in their
-/// intervals, then so do those of the merged one. A batch whose times were moved to later ones may
-/// have times at or after its upper frontier; then the clauses `rows` and `beyond` still say what a
-/// merge keeps.
-///
-/// - [`Refusal::Stray`] if and only if `b` does not begin at the frontier at which `a` ends, or
-///   their workers or nodes differ.
-/// - [`Refusal::Overflow`] only if the total of some row at some time over both batches is no
-///   64-bit number, and no batch is given in that case.
-/// - [`Refusal::OutOfMemory`] only if memory for the new batch was refused.
-///
-/// Cost: linear in the number of updates of both, in one pass: each step makes one comparison and
-/// finishes at least one update, and each update is copied at most once. Memory for the updates of
-/// both is allocated at once.
-pub fn merge<T: Lattice>(a: &Batch<T>, b: &Batch<T>, since: &[T]) -> Result<Batch<T>, Refusal>
-    requires { IsFrontier T.below T.cmp since.now }
-    ensures described { IfOk result (λ both. both.description ≡ record {
-      worker = a.now.description.worker;
-      node = a.now.description.node;
-      lower = a.now.description.lower;
-      upper = b.now.description.upper;
-      since = since.now;
-    }) }
-    ensures sealed { IfOk result (λ both. IsSealed T.cmp both.updates) }
-    ensures between { IfOk result (λ both.
-        IsTrue (all_between T.below a.now.description.lower a.now.description.upper a.now.updates)
-        → IsTrue (all_between T.below b.now.description.lower b.now.description.upper b.now.updates)
-        → IsTrue
-        (all_between T.below a.now.description.lower b.now.description.upper both.updates)) }
-    ensures totals { IfOk result (λ both. (p : List ℤ → T → Bool)
-        → total_where p both.updates ≡ total_where p (a.now.updates ++ b.now.updates)) }
-    ensures sums { IfOk result (λ both. (t : T)
-        → Alike (as_of T.below t both.updates) (as_of T.below t (a.now.updates ++ b.now.updates))) }
-    ensures among { IfOk result (λ both. (p : List ℤ → T → Bool)
-        → IsTrue (list_all (λ u. p u.row u.time) a.now.updates)
-        → IsTrue (list_all (λ u. p u.row u.time) b.now.updates)
-        → IsTrue (list_all (λ u. p u.row u.time) both.updates)) }
-    ensures rows { IfOk result (λ both. (p : List ℤ → Bool)
-        → IsTrue (list_all (λ u. p u.row) a.now.updates)
-        → IsTrue (list_all (λ u. p u.row) b.now.updates)
-        → IsTrue (list_all (λ u. p u.row) both.updates)) }
-    ensures beyond { IfOk result (λ both.
-        IsTrue (all_times_beyond T.below a.now.description.lower a.now.updates)
-        → IsTrue (all_times_beyond T.below b.now.description.lower b.now.updates)
-        → IsTrue (all_times_beyond T.below a.now.description.lower both.updates)) }
-    ensures size { IfOk result
-        (λ both. size both.updates ≤ size a.now.updates + size b.now.updates) }
-    ensures fits { OnOk result (HasLargeTotal T.below (a.now.updates ++ b.now.updates) → ⊥) }
-    ensures stray { (result ≡ Err Refusal.Stray)
-        ↔ (Follows a.now.description b.now.description → ⊥) }
-    ensures refused { IfErr result (λ refused. (refused ≡ Refusal.OutOfMemory)
-        ⊎ ((refused ≡ Refusal.Stray)
-        ⊎ ((refused ≡ Refusal.Overflow)
-        × HasLargeTotal T.below (a.now.updates ++ b.now.updates)))) }
+/// Cost: memory for the updates of both sources is allocated when the merge begins.
+#[derive(Drop)]
+pub struct Merging<T: Lattice> {
+    description: Description<T>,
+    rows: MergedRows<T>,
+    left: usize,
+    right: usize,
+}
+
+impl<T: Lattice> Model for Merging<T> {
+    ghost use Rattle.batch.specs.Merging.{MergingState};
+
+    ghost Value = { MergingState T };
+
+    ghost view = { λ m. record {
+      description = m.description;
+      finished = m.rows.finished.items;
+      in_hand = m.rows.in_hand.items;
+      left = m.left;
+      right = m.right;
+    } };
+}
+
+// Whether the next update is that of the left list. In this order the updates of a row come sorted
+// as long as no time is moved, so that sorting them costs one comparison each.
+fn is_left_next<T: Lattice>(xs: &[Update<T>], ys: &[Update<T>]) -> bool
+    ensures { result ≡ is_left_next T.cmp xs.now ys.now }
 {
-    let alloc = a.allocator();
-    let description = a.description().followed_by(alloc, b.description(), since)?;
-    let updates = merged_list(alloc, a.updates(), b.updates())?;
-    Ok(Batch::of(description, updates))
+    match xs {
+        [] => false,
+        [x, ..] => match ys {
+            [] => true,
+            [y, ..] => x.row.cmp(&y.row).then(x.time.cmp(&y.time)).is_le(),
+        },
+    }
+}
+
+// Begins a merge of two lists. Nothing is read yet.
+fn begun<T: Lattice>(
+    alloc: Global,
+    description: Description<T>,
+    us: &[Update<T>],
+    vs: &[Update<T>],
+) -> Result<Merging<T>, Refusal>
+    requires left { IsSealed T.cmp us.now }
+    requires right { IsSealed T.cmp vs.now }
+    requires still { description.lower ≡ description.upper → us.now ++ vs.now ≡ [] }
+    ensures described { IfOk result (λ made. made.description ≡ description) }
+    ensures underway { IfOk result
+        (λ made. IsUnderway T.below T.cmp T.joined T.met us.now vs.now made) }
+    ensures begun { IfOk result (λ made. made.left + made.right ≡ 0) }
+    ensures only { IfErr result (λ refused. refused ≡ Refusal.OutOfMemory) }
+{
+    let rows = MergedRows::with_capacity(alloc, us.len().saturating_add(vs.len()))?;
+    Ok(Merging {
+        description,
+        rows,
+        left: 0,
+        right: 0,
+    })
+}
+
+impl<T: Lattice> Merging<T> {
+    /// Begins to merge two neighbouring batches as of a frontier. Nothing is read yet.
+    ///
+    /// - [`Refusal::Stray`] if and only if `b` does not begin at the frontier at which `a` ends, or
+    ///   their workers or nodes differ.
+    /// - Otherwise [`Refusal::OutOfMemory`] only if memory for the frontiers, or for the updates of
+    ///   both batches, was refused.
+    ///
+    /// Cost: one comparison of frontiers.
+    pub fn of_two(a: &Batch<T>, b: &Batch<T>, since: &[T]) -> Result<Merging<T>, Refusal>
+        requires { IsFrontier T.below T.cmp since.now }
+        ensures described { IfOk result (λ made. made.description ≡ record {
+          worker = a.now.description.worker;
+          node = a.now.description.node;
+          lower = a.now.description.lower;
+          upper = b.now.description.upper;
+          since = since.now;
+        }) }
+        ensures underway { IfOk result (λ made.
+            IsUnderway T.below T.cmp T.joined T.met a.now.updates b.now.updates made) }
+        ensures begun { IfOk result (λ made. made.left + made.right ≡ 0) }
+        ensures stray { (result ≡ Err Refusal.Stray)
+            ↔ (Follows a.now.description b.now.description → ⊥) }
+        ensures only { IfErr result (λ refused. (refused ≡ Refusal.OutOfMemory)
+            ⊎ (refused ≡ Refusal.Stray)) }
+    {
+        let alloc = a.allocator();
+        let description = a.description().followed_by(alloc, b.description(), since)?;
+        begun(alloc, description, a.updates(), b.updates())
+    }
+
+    /// Begins to rewrite one batch as of a frontier. Nothing is read yet. [`Refusal::OutOfMemory`]
+    /// only if memory for the frontiers, or for the updates of the batch, was refused.
+    pub fn of_one(a: &Batch<T>, since: &[T]) -> Result<Merging<T>, Refusal>
+        requires { IsFrontier T.below T.cmp since.now }
+        ensures described { IfOk result
+            (λ made. made.description ≡ record a.now.description { since = since.now }) }
+        ensures underway { IfOk result (λ made.
+            IsUnderway T.below T.cmp T.joined T.met a.now.updates [] made) }
+        ensures begun { IfOk result (λ made. made.left + made.right ≡ 0) }
+        ensures only { IfErr result (λ refused. refused ≡ Refusal.OutOfMemory) }
+    {
+        let alloc = a.allocator();
+        let description = a.description().as_of(alloc, since)?;
+        begun(alloc, description, a.updates(), &a.updates()[..0])
+    }
+
+    /// Reads as many more updates as the fuel says, or all that are left, and answers what is left
+    /// of the fuel. Each update that is read costs one unit, and is copied at the representative of
+    /// its time. The batches must be those with which the merge was begun. If a step is refused,
+    /// then the merge is given up, and the batches stay as they were.
+    ///
+    /// - [`Refusal::Overflow`] only if the total of some row at some moved time is no 64-bit number.
+    /// - [`Refusal::OutOfMemory`] only if memory for the updates of one row was refused.
+    ///
+    /// Cost: for each update one comparison of rows, and a join and a meet for each element of the
+    /// frontier; for each row that is finished n log n comparisons of times, or n if no time moved.
+    pub fn step(
+        self,
+        a: &Batch<T>,
+        b: &Batch<T>,
+        fuel: u64,
+    ) -> Result<(Merging<T>, u64), Refusal>
+        requires { IsUnderway T.below T.cmp T.joined T.met a.now.updates b.now.updates self }
+        ensures kept { IfOk result (λ new.
+            IsUnderway T.below T.cmp T.joined T.met a.now.updates b.now.updates new.0) }
+        ensures described { IfOk result (λ new. new.0.description ≡ self.description) }
+        ensures spent { IfOk result
+            (λ new. (new.0.left + new.0.right) + new.1 ≡ (self.left + self.right) + fuel) }
+        ensures less { IfOk result (λ new. new.1 ≤ fuel) }
+        ensures on { IfOk result
+            (λ new. (new.1 ≡ 0) ⊎ IsRead a.now.updates b.now.updates new.0) }
+        ensures refused { IfErr result (IsMemoryOrOverflow (HasLargeTotal T.below
+            (compacted T.joined T.met self.description.since (a.now.updates ++ b.now.updates)))) }
+    {
+        let mut merging = self;
+        let left = merging.go_on(a.updates(), b.updates(), fuel)?;
+        Ok((merging, left))
+    }
+
+    /// As [`step`](Merging::step), for the rewriting of one batch.
+    pub fn step_of_one(self, a: &Batch<T>, fuel: u64) -> Result<(Merging<T>, u64), Refusal>
+        requires { IsUnderway T.below T.cmp T.joined T.met a.now.updates [] self }
+        ensures kept { IfOk result (λ new.
+            IsUnderway T.below T.cmp T.joined T.met a.now.updates [] new.0) }
+        ensures described { IfOk result (λ new. new.0.description ≡ self.description) }
+        ensures spent { IfOk result
+            (λ new. (new.0.left + new.0.right) + new.1 ≡ (self.left + self.right) + fuel) }
+        ensures less { IfOk result (λ new. new.1 ≤ fuel) }
+        ensures on { IfOk result (λ new. (new.1 ≡ 0) ⊎ IsRead a.now.updates [] new.0) }
+        ensures refused { IfErr result (IsMemoryOrOverflow (HasLargeTotal T.below
+            (compacted T.joined T.met self.description.since (a.now.updates ++ [])))) }
+    {
+        let mut merging = self;
+        let left = merging.go_on(a.updates(), &a.updates()[..0], fuel)?;
+        Ok((merging, left))
+    }
+
+    /// What the merged batch will be: whose updates, between which frontiers, and as of which
+    /// frontier. Takes no memory.
+    pub fn description(&self) -> &Description<T>
+        ensures { result.now ≡ self.now.description }
+    {
+        &self.description
+    }
+
+    /// Whether all of both batches was read. Takes no memory.
+    pub fn is_read(&self, a: &Batch<T>, b: &Batch<T>) -> bool
+        ensures { IsTrue result ↔ IsRead a.now.updates b.now.updates self.now }
+    {
+        self.has_read(a.updates(), b.updates())
+    }
+
+    /// Whether all of the batch was read that is rewritten. Takes no memory.
+    pub fn is_one_read(&self, a: &Batch<T>) -> bool
+        ensures { IsTrue result ↔ IsRead a.now.updates [] self.now }
+    {
+        self.has_read(a.updates(), &a.updates()[..0])
+    }
+
+    /// The merged batch, once all of both batches was read: the only sealed list with the totals of
+    /// both, each update at the representative of its time. So at each time beyond the since, it
+    /// sums to the sum of both. If this is refused, then the merge is given up.
+    ///
+    /// - [`Refusal::Overflow`] only if the total of some row at some moved time is no 64-bit number,
+    ///   and no batch is given in that case.
+    /// - [`Refusal::OutOfMemory`] only if memory for the last row was refused.
+    ///
+    /// Cost: sorts the last row. A list that is a quarter full is moved to a smaller place.
+    pub fn finish(self, a: &Batch<T>, b: &Batch<T>) -> Result<Batch<T>, Refusal>
+        requires underway {
+            IsUnderway T.below T.cmp T.joined T.met a.now.updates b.now.updates self }
+        requires read { IsRead a.now.updates b.now.updates self }
+        ensures described { IfOk result (λ batch. batch.description ≡ self.description) }
+        ensures stand { IfOk result (λ batch. StandFor batch.updates
+            (compacted T.joined T.met self.description.since (a.now.updates ++ b.now.updates))) }
+        ensures fits { OnOk result (HasLargeTotal T.below (compacted T.joined T.met
+            self.description.since (a.now.updates ++ b.now.updates)) → ⊥) }
+        ensures refused { IfErr result (IsMemoryOrOverflow (HasLargeTotal T.below
+            (compacted T.joined T.met self.description.since (a.now.updates ++ b.now.updates)))) }
+    {
+        self.whole(a.updates(), b.updates())
+    }
+
+    /// The rewritten batch, as [`finish`](Merging::finish).
+    pub fn finish_one(self, a: &Batch<T>) -> Result<Batch<T>, Refusal>
+        requires underway { IsUnderway T.below T.cmp T.joined T.met a.now.updates [] self }
+        requires read { IsRead a.now.updates [] self }
+        ensures described { IfOk result (λ batch. batch.description ≡ self.description) }
+        ensures stand { IfOk result (λ batch. StandFor batch.updates
+            (compacted T.joined T.met self.description.since (a.now.updates ++ []))) }
+        ensures fits { OnOk result (HasLargeTotal T.below (compacted T.joined T.met
+            self.description.since (a.now.updates ++ [])) → ⊥) }
+        ensures refused { IfErr result (IsMemoryOrOverflow (HasLargeTotal T.below
+            (compacted T.joined T.met self.description.since (a.now.updates ++ [])))) }
+    {
+        self.whole(a.updates(), &a.updates()[..0])
+    }
+
+    // Whether all of both lists was read.
+    fn has_read(&self, us: &[Update<T>], vs: &[Update<T>]) -> bool
+        ensures { IsTrue result ↔ IsRead us.now vs.now self.now }
+    {
+        self.left == us.len() && self.right == vs.len()
+    }
+
+    // Takes in the next update of the left list.
+    fn take_left(&mut self, us: &[Update<T>], vs: &[Update<T>]) -> Result<(), Refusal>
+        requires underway { IsUnderway T.below T.cmp T.joined T.met us.now vs.now self.old }
+        requires within { self.old.left < length us.now }
+        requires next {
+            is_left_next T.cmp (drop self.old.left us.now) (drop self.old.right vs.now) ≡ true }
+        ensures kept { OnOk result
+            (IsUnderway T.below T.cmp T.joined T.met us.now vs.now self.new) }
+        ensures described { self.new.description ≡ self.old.description }
+        ensures forward { OnOk result
+            (self.new.left + self.new.right ≡ suc (self.old.left + self.old.right)) }
+        ensures refused { IfErr result (IsMemoryOrOverflow (HasLargeTotal T.below
+            (compacted T.joined T.met self.old.description.since (us.now ++ vs.now)))) }
+    {
+        self.rows.take_in(&us[self.left], self.description.since())?;
+        self.left += 1;
+        Ok(())
+    }
+
+    // Takes in the next update of the right list.
+    fn take_right(&mut self, us: &[Update<T>], vs: &[Update<T>]) -> Result<(), Refusal>
+        requires underway { IsUnderway T.below T.cmp T.joined T.met us.now vs.now self.old }
+        requires within { self.old.right < length vs.now }
+        requires next {
+            is_left_next T.cmp (drop self.old.left us.now) (drop self.old.right vs.now) ≡ false }
+        ensures kept { OnOk result
+            (IsUnderway T.below T.cmp T.joined T.met us.now vs.now self.new) }
+        ensures described { self.new.description ≡ self.old.description }
+        ensures forward { OnOk result
+            (self.new.left + self.new.right ≡ suc (self.old.left + self.old.right)) }
+        ensures refused { IfErr result (IsMemoryOrOverflow (HasLargeTotal T.below
+            (compacted T.joined T.met self.old.description.since (us.now ++ vs.now)))) }
+    {
+        self.rows.take_in(&vs[self.right], self.description.since())?;
+        self.right += 1;
+        Ok(())
+    }
+
+    // Takes in the next update of the list that has it.
+    fn take_next(&mut self, us: &[Update<T>], vs: &[Update<T>]) -> Result<(), Refusal>
+        requires underway { IsUnderway T.below T.cmp T.joined T.met us.now vs.now self.old }
+        requires more { IsRead us.now vs.now self.old → ⊥ }
+        ensures kept { OnOk result
+            (IsUnderway T.below T.cmp T.joined T.met us.now vs.now self.new) }
+        ensures described { self.new.description ≡ self.old.description }
+        ensures forward { OnOk result
+            (self.new.left + self.new.right ≡ suc (self.old.left + self.old.right)) }
+        ensures refused { IfErr result (IsMemoryOrOverflow (HasLargeTotal T.below
+            (compacted T.joined T.met self.old.description.since (us.now ++ vs.now)))) }
+    {
+        if is_left_next(&us[self.left..], &vs[self.right..]) {
+            self.take_left(us, vs)
+        } else {
+            self.take_right(us, vs)
+        }
+    }
+
+    // Goes on until the fuel is spent or all of both lists was read. Answers what is left of it.
+    fn go_on(&mut self, us: &[Update<T>], vs: &[Update<T>], fuel: u64) -> Result<u64, Refusal>
+        requires { IsUnderway T.below T.cmp T.joined T.met us.now vs.now self.old }
+        ensures kept { OnOk result
+            (IsUnderway T.below T.cmp T.joined T.met us.now vs.now self.new) }
+        ensures described { self.new.description ≡ self.old.description }
+        ensures spent { IfOk result (λ left.
+            (self.new.left + self.new.right) + left ≡ (self.old.left + self.old.right) + fuel) }
+        ensures less { IfOk result (λ left. left ≤ fuel) }
+        ensures on { IfOk result (λ left. (left ≡ 0) ⊎ IsRead us.now vs.now self.new) }
+        ensures refused { IfErr result (IsMemoryOrOverflow (HasLargeTotal T.below
+            (compacted T.joined T.met self.old.description.since (us.now ++ vs.now)))) }
+    {
+        let mut left = fuel;
+        while left > 0 && !self.has_read(us, vs) {
+            self.take_next(us, vs)?;
+            left -= 1;
+        }
+        Ok(left)
+    }
+
+    // Goes on until all of both lists was read.
+    pub(crate) fn read_all(&mut self, us: &[Update<T>], vs: &[Update<T>]) -> Result<(), Refusal>
+        requires { IsUnderway T.below T.cmp T.joined T.met us.now vs.now self.old }
+        ensures kept { OnOk result
+            (IsUnderway T.below T.cmp T.joined T.met us.now vs.now self.new) }
+        ensures described { self.new.description ≡ self.old.description }
+        ensures read { OnOk result (IsRead us.now vs.now self.new) }
+        ensures refused { IfErr result (IsMemoryOrOverflow (HasLargeTotal T.below
+            (compacted T.joined T.met self.old.description.since (us.now ++ vs.now)))) }
+    {
+        while !self.has_read(us, vs) {
+            self.take_next(us, vs)?;
+        }
+        Ok(())
+    }
+
+    // The batch of a merge that has read all of both lists.
+    fn whole(self, us: &[Update<T>], vs: &[Update<T>]) -> Result<Batch<T>, Refusal>
+        requires underway { IsUnderway T.below T.cmp T.joined T.met us.now vs.now self }
+        requires read { IsRead us.now vs.now self }
+        ensures described { IfOk result (λ batch. batch.description ≡ self.description) }
+        ensures stand { IfOk result (λ batch. StandFor batch.updates
+            (compacted T.joined T.met self.description.since (us.now ++ vs.now))) }
+        ensures fits { OnOk result (HasLargeTotal T.below
+            (compacted T.joined T.met self.description.since (us.now ++ vs.now)) → ⊥) }
+        ensures refused { IfErr result (IsMemoryOrOverflow (HasLargeTotal T.below
+            (compacted T.joined T.met self.description.since (us.now ++ vs.now)))) }
+    {
+        let Merging {
+            description,
+            mut rows,
+            ..
+        } = self;
+        rows.finish_row()?;
+        Ok(Batch::of(description, rows.into_updates()))
+    }
 }

@@ -8,7 +8,7 @@ ghost use Rattle.update.specs.Updates.{total_where, HasLargeTotal, size};
 ghost use Rattle.update.specs.declared.refusal.Refusal.{Refusal};
 ghost use Rattle.batch.specs.Batches.{IsSealed, by_row_then_time};
 
-use lattice::Lattice;
+use lattice::{Lattice, Minimum};
 use update::{Refusal, Update, consolidate_grouped};
 
 // Sorts a list by row, then by time.
@@ -35,4 +35,13 @@ pub(crate) fn sealed_list<T: Lattice>(
 {
     sort_by_row(&mut updates);
     consolidate_grouped(updates)
+}
+
+// Tells the prover that each time is at or after the least one. Costs nothing.
+pub(crate) fn known_times<T: Minimum>(updates: &[Update<T>])
+    ensures { IsTrue (list_all (λ u. T.below T.least u.time) updates.now) }
+{
+    for update in updates {
+        update.time.known();
+    }
 }

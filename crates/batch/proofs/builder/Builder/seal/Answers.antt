@@ -4,6 +4,8 @@ use Rattle.std.proofs.lemmas.Result.{err_from_is_err_and}
 use Rattle.std.proofs.lemmas.Bool.{and_parts, true≢false}
 use Rattle.update.specs.declared.refusal.Refusal.TheVariants.{OutOfMemory}
 use Rattle.batch.specs.Intervals.{is_between, is_interval_of}
+use Rattle.std.specs.List.{list_all}
+use Rattle.batch.proofs.CompactionLemmas.{from_compacted}
 use Rattle.batch.proofs.IntervalLemmas.{nothing_between}
 use Rattle.batch.proofs.SumsLemmas.{sums_from_totals}
 use Rattle.batch.proofs.builder.Builder.seal.Given.{Over}
@@ -63,3 +65,10 @@ returns-clause-size g c = rw (c.of.ensures, ← c.self.view_is) c.in_ok-sealed.e
 
 pub returns-clause-stray : goal.returns-clause-stray
 returns-clause-stray g c = rw (← c.self.view_is) ((λ e. cc), (λ n. absurd (n (whole g c))))
+
+pub of-requires-clause-compacted : goal.of-requires-clause-compacted
+of-requires-clause-compacted g c =
+    let below = g.T.PartialOrder.below in
+    let updates = c.in_ok-sealed.sealed.items in
+    let times : IsTrue (list_all (λ u. below g.T.Minimum.least u.time) updates) = rw (← c.as_slice.ensures.value) c.known_times.ensures in
+    rw c.in_ok-description.ensures.made (from_compacted g.met.T.PartialOrder.order g.met.T.Lattice.bounds g.T.Minimum.least updates times)
