@@ -7,17 +7,20 @@ use Rattle.std.specs.declared.cmp.Ordering.{Ordering}
 use Rattle.std.proofs.lemmas.Bool.{and_parts}
 use Rattle.std.proofs.lemmas.List.{append-nil}
 use Rattle.std.proofs.lemmas.List.Folds.{list_all-append}
-use Rattle.lattice.specs.Order.{PartialOrderLaws}
-use Rattle.lattice.specs.Frontiers.{all_beyond}
+use Rattle.lattice.specs.Order.{PartialOrderLaws, LatticeLaws}
+use Rattle.lattice.specs.Frontiers.{is_beyond, all_beyond}
 use Rattle.lattice.proofs.FrontierLemmas.{all_beyond_later}
 use Rattle.antichain.specs.Antichains.{IsFrontier}
 use Rattle.update.specs.Bags.{Alike}
 use Rattle.update.specs.Updates.{as_of, size}
 use Rattle.update.specs.declared.change.Update.{Update}
+use Rattle.batch.specs.Compaction.{IsUpward, StandFor, compacted}
 use Rattle.batch.specs.Descriptions.{BatchState, DescriptionState, Follows}
+use Rattle.batch.proofs.CompactionLemmas.{stand_sums, stand_upward, stand_size}
+use Rattle.trace.specs.Readings.{IsReadable}
 use Rattle.trace.specs.BatchLists.{BatchListState, merged_at, IsMergeOf, IsMergeAt, IsLink, AreLinked, IsBatchList}
 use Rattle.batch.proofs.IntervalLemmas.{none_left}
-use Rattle.trace.proofs.ReadingLemmas.{size-append}
+use Rattle.trace.proofs.ReadingLemmas.{readable_later}
 use Rattle.trace.proofs.BoundaryLemmas.{some_same, none_some, stays}
 
 module _ {T : Type 0} where
@@ -46,29 +49,21 @@ module _ {T : Type 0} where
   linked_follow below cmp worker node from (x ∷ bs) (suc i) a b l e f = linked_follow below cmp worker node x.description.upper bs i a b l.1 e f
 
   -- what a merge promises makes one batch for two
-  pub merge_of : (below : T → T → Bool) (since : List T) (m a b : BatchState T)
+  pub merge_of : (below : T → T → Bool) (joined met : T → T → T) (since : List T) (m a b : BatchState T)
       → m.description ≡ record { worker = a.description.worker; node = a.description.node; lower = a.description.lower; upper = b.description.upper; since = since }
-      → ((t : T) → Alike (as_of below t m.updates) (as_of below t (a.updates ++ b.updates)))
-      → ((p : List ℤ → T → Bool) → IsTrue (list_all (λ u. p u.row u.time) a.updates) → IsTrue (list_all (λ u. p u.row u.time) b.updates) → IsTrue (list_all (λ u. p u.row u.time) m.updates))
-      → size m.updates ≤ size a.updates + size b.updates
+      → ((t : T) → IsTrue (is_beyond below since t) → Alike (as_of below t m.updates) (as_of below t (a.updates ++ b.updates)))
+      → ((p : List ℤ → T → Bool) → IsUpward below p → IsTrue (list_all (λ u. p u.row u.time) (a.updates ++ b.updates)) → IsTrue (list_all (λ u. p u.row u.time) m.updates))
+      → size m.updates ≤ size (a.updates ++ b.updates)
       → IsMergeOf below since m a b
-  merge_of below since m a b described sums among smaller = record {
+  merge_of below joined met since m a b described sums upward smaller = record {
     described = described;
     reads = record {
-      sums = λ t h. sums t;
-      rows = λ p h. both (λ r t. p r) h;
-      smaller =
-          let e = size-append a.updates b.updates in
-          omega (arith, e, smaller);
+      sums = sums;
+      rows = λ p h. upward (λ r t. p r) (λ r t u l k. k) h;
+      smaller = smaller;
     };
-    among = both;
+    among = upward;
   }
-    where
-      both : (p : List ℤ → T → Bool) → IsTrue (list_all (λ u. p u.row u.time) (a.updates ++ b.updates)) → IsTrue (list_all (λ u. p u.row u.time) m.updates)
-      both p h =
-          let q = λ (u : Update T). p u.row u.time in
-          let parts = and_parts (list_all q a.updates) (list_all q b.updates) (sym (list_all-append q a.updates b.updates) ∙ h) in
-          among p parts.0 parts.1
 
 module _ {T : Type 0} {below : T → T → Bool} {cmp : T → T → Ordering} (o : PartialOrderLaws below) (total : IsTotalOrder cmp) (worker node : ℕ) (since : List T) where
   -- one batch for two goes on where the first begins
@@ -94,7 +89,7 @@ module _ {T : Type 0} {below : T → T → Bool} {cmp : T → T → Ordering} (o
       still e =
           let none : a.updates ++ (b.updates ++ []) ≡ [] = stays o total worker node from (a ∷ b ∷ []) f l (sym upper ∙ sym e ∙ lower ∙ l.0.continues.2) in
           let empty : a.updates ++ b.updates ≡ [] = ap (λ us. a.updates ++ us) (sym (append-nil b.updates)) ∙ none in
-          none_left m.updates (is.among (λ r t. false) (subst (λ us. IsTrue (list_all (λ (u : Update T). false) us)) (sym empty) refl))
+          none_left m.updates (is.among (λ r t. false) (λ r t u l k. k) (subst (λ us. IsTrue (list_all (λ (u : Update T). false) us)) (sym empty) refl))
 
   -- linked batches stay linked
   pub linked_merged : (i : ℕ) (m : BatchState T) (from : List T) (bs : List (BatchState T)) → IsFrontier below cmp from → IsMergeAt below since m i bs → AreLinked below cmp worker node from bs → AreLinked below cmp worker node from (merged_at i m bs)
@@ -115,3 +110,19 @@ module _ {T : Type 0} where
   -- two parts of a batch list that changed
   pub same_merged : (s t : BatchListState T) (i : ℕ) (m : BatchState T) (bs : List (BatchState T)) (reserved : Bool) → s ≡ t → bs ≡ merged_at i m s.batches → reserved ≡ true → record s { batches = bs; reserved = reserved } ≡ record t { batches = merged_at i m t.batches; reserved = true }
   same_merged s t i m bs reserved e f r = (λ k. record s { batches = f k; reserved = r k }) ∙ ap (λ (x : BatchListState T). record x { batches = merged_at i m x.batches; reserved = true }) e
+
+-- a merge that has read both batches makes one batch for two
+pub finished_merge : {T : Type 0} {below : T → T → Bool} {joined met : T → T → T} (o : PartialOrderLaws below) (l : LatticeLaws below joined met) (since : List T) (m a b : BatchState T)
+    → m.description ≡ record { worker = a.description.worker; node = a.description.node; lower = a.description.lower; upper = b.description.upper; since = since }
+    → StandFor m.updates (compacted joined met since (a.updates ++ b.updates))
+    → IsMergeOf below since m a b
+finished_merge {below = below} {joined = joined} {met = met} o l since m a b described stand =
+    merge_of below joined met since m a b described
+    (stand_sums o l since m.updates (a.updates ++ b.updates) stand)
+    (stand_upward o l since m.updates (a.updates ++ b.updates) stand)
+    (stand_size o l since m.updates (a.updates ++ b.updates) stand)
+
+-- what may be read as of a frontier may be read as of a later one, so a merge that began as of an
+-- earlier since is one
+pub merge_later : {T : Type 0} {below : T → T → Bool} (o : PartialOrderLaws below) (first since : List T) (m a b : BatchState T) → IsTrue (all_beyond below first since) → IsMergeOf below first m a b → IsReadable below since m.updates (a.updates ++ b.updates)
+merge_later {below = below} o first since m a b later is = readable_later below o first since m.updates (a.updates ++ b.updates) later is.reads

@@ -7,6 +7,7 @@ use Rattle.lattice.specs.Frontiers.{all_beyond}
 use Rattle.antichain.specs.Antichains.{IsFrontier}
 use Rattle.update.specs.Updates.{HasLargeTotal}
 use Rattle.update.specs.declared.change.Update.{Update}
+use Rattle.batch.specs.Compaction.{IsUpward, compacted}
 use Rattle.batch.specs.Descriptions.{BatchState, IsEmptyIfStill}
 use Rattle.trace.specs.Readings.{Insertion, IsReadable}
 
@@ -64,7 +65,7 @@ module _ {T : Type 0} where
 
 module _ {T : Type 0} (below : T → T → Bool) where
   -- one batch for two neighbours: it reaches over both intervals, may be read in the place of both
-  -- beyond the frontier, and has only rows and times of theirs
+  -- beyond the frontier, and has only rows of theirs, and times at or after theirs
   pub record IsMergeOf (since : List T) (m a b : BatchState T) : Type 0 where
     pub described : m.description ≡ record {
       worker = a.description.worker;
@@ -75,6 +76,7 @@ module _ {T : Type 0} (below : T → T → Bool) where
     }
     pub reads : IsReadable below since m.updates (a.updates ++ b.updates)
     pub among : (p : List ℤ → T → Bool)
+        → IsUpward below p
         → IsTrue (list_all (λ u. p u.row u.time) (a.updates ++ b.updates))
         → IsTrue (list_all (λ u. p u.row u.time) m.updates)
 
@@ -86,15 +88,15 @@ module _ {T : Type 0} (below : T → T → Bool) where
       → slice_get bs (suc i) ≡ Some b
       → IsMergeOf since m a b
 
-  -- the total of some row at some time over two neighbours is no 64-bit number
-  abbrev pub HasLargePair : List (BatchState T) → Type 0
-  HasLargePair bs =
+  -- the total of some row at some moved time over two neighbours is no 64-bit number
+  abbrev pub HasLargePair : (T → T → T) → (T → T → T) → List T → List (BatchState T) → Type 0
+  HasLargePair joined met since bs =
       (i : ℕ)
       × (a : BatchState T)
       × (b : BatchState T)
       × (slice_get bs i ≡ Some a)
       × (slice_get bs (suc i) ≡ Some b)
-      × HasLargeTotal below (a.updates ++ b.updates)
+      × HasLargeTotal below (compacted joined met since (a.updates ++ b.updates))
 
 module _ {T : Type 0} (below : T → T → Bool) (cmp : T → T → Ordering) where
   -- the batch continues a batch list, and ends at a frontier beyond the one at which it begins; it

@@ -1,12 +1,12 @@
 -- What was inserted into a trace, and which updates may be read in its place (McSherry et al.,
 -- Shared Arrangements, VLDB 2020).
-use Rattle.std.specs.Prelude.{◌≡◌, ◌≢◌, ◌≤◌, Bool, List, [], ◌∷◌, ◌++◌, map, ℤ, IsTrue, ◌⊎◌}
+use Rattle.std.specs.Prelude.{◌≡◌, ◌≢◌, ◌≤◌, Bool, List, [], ◌∷◌, ◌++◌, ℤ, IsTrue, ◌⊎◌}
 use Rattle.std.specs.List.{list_all, AllByRecursion, flat_map}
 use Rattle.lattice.specs.Frontiers.{is_beyond}
-use Rattle.lattice.specs.Representatives.{representative_of}
 use Rattle.update.specs.Bags.{Alike}
 use Rattle.update.specs.Updates.{as_of, size}
 use Rattle.update.specs.declared.change.Update.{Update}
+pub use Rattle.batch.specs.Compaction.{at_representative, compacted}
 
 -- updates that were inserted into a trace, and the frontier that the trace had reached with them
 pub record Insertion (T : Type 0) : Type 0 where
@@ -63,12 +63,3 @@ module _ {T : Type 0} (below : T → T → Bool) where
     pub sums : SameBeyond since us vs
     pub rows : RowsAmong us vs
     pub smaller : size us ≤ size vs
-
-module _ {T : Type 0} (joined met : T → T → T) (since : List T) where
-  -- the update with its time moved to the representative as of the frontier
-  abbrev pub at_representative : Update T → Update T
-  at_representative u = record u { time = representative_of joined met since u.time }
-
-  -- the updates, each with its time moved so
-  abbrev pub compacted : List (Update T) → List (Update T)
-  compacted us = map at_representative us

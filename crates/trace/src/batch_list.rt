@@ -154,8 +154,8 @@ impl<T: Lattice> BatchList<T> {
     /// Makes one batch of the one with this number and the next one, as of a frontier. If it is
     /// refused, then the list stays as it was.
     ///
-    /// - [`Refusal::Overflow`] only if the total of some row at some time over both is no 64-bit
-    ///   number.
+    /// - [`Refusal::Overflow`] only if the total of some row at some moved time over both is no
+    ///   64-bit number.
     /// - [`Refusal::OutOfMemory`] only if memory for the new batch was refused.
     ///
     /// Cost: that of merging both, and one step for each batch behind them.
@@ -169,11 +169,26 @@ impl<T: Lattice> BatchList<T> {
             }) × IsMergeAt T.below since.now m i self.old.batches) }
         ensures same { OnErr result (self.new ≡ self.old) }
         ensures refused { IfErr result
-            (IsMemoryOrOverflow (HasLargePair T.below self.old.batches)) }
+            (IsMemoryOrOverflow (HasLargePair T.below T.joined T.met since.now self.old.batches)) }
     {
         let merged = merged_pair(self.batches.as_slice(), i, since)?;
         put_merged(&mut self.batches, i, merged);
         Ok(())
+    }
+
+    /// Puts a batch in the place of the one with this number and the next one, of which it is the
+    /// merge. Takes no memory.
+    ///
+    /// Cost: one step for each batch behind them.
+    pub fn put_pair(&mut self, i: usize, merged: Batch<T>)
+        requires within { suc i < length self.old.batches }
+        requires merged { IsMergeAt T.below merged.description.since merged i self.old.batches }
+        ensures { self.new ≡ record self.old {
+          batches = merged_at i merged self.old.batches;
+          reserved = true;
+        } }
+    {
+        put_merged(&mut self.batches, i, merged);
     }
 
     /// The batches in order, each of which continues those before it. Takes no memory.

@@ -21,7 +21,8 @@ pub(crate) fn merged_pair<T: Lattice>(
     requires follows { (a b : BatchState T) → slice_get batches.now i ≡ Some a
         → slice_get batches.now (suc i) ≡ Some b → Follows a.description b.description }
     ensures merged { IfOk result (λ m. IsMergeAt T.below since.now m i batches.now) }
-    ensures refused { IfErr result (IsMemoryOrOverflow (HasLargePair T.below batches.now)) }
+    ensures refused { IfErr result (IsMemoryOrOverflow
+        (HasLargePair T.below T.joined T.met since.now batches.now)) }
 {
     let merged = merge(&batches[i], &batches[i + 1], since)?;
     Ok(merged)
