@@ -1,5 +1,6 @@
--- Moving each time to its representative changes nothing that a reader sees, and a second time it changes nothing.
-use Rattle.std.proofs.Common.{◌≡◌, ◌≢◌, Bool, cond, ◌&&◌, List, [], ◌∷◌, ◌++◌, IsTrue, refl, sym, ◌∙◌, ap, subst, ⊎_elim, arith}
+-- Moving each time to its representative changes nothing that a reader sees, and a second time it
+-- changes nothing.
+use Rattle.std.proofs.Common.{◌≡◌, Bool, cond, ◌&&◌, List, [], ◌∷◌, IsTrue, refl, sym, ◌∙◌, ap, subst, arith}
 use Rattle.std.specs.Prelude.{ℤ, pos, unsigned_abs, ◌+◌, ◌≤◌}
 use Rattle.std.specs.List.{list_all}
 use Rattle.std.proofs.lemmas.Bool.{and_parts, and_from}
@@ -8,8 +9,8 @@ use Rattle.lattice.specs.Frontiers.{is_beyond}
 use Rattle.lattice.specs.Representatives.{representative_of}
 use Rattle.lattice.proofs.RepresentativeLemmas.{representative_keeps, representative_later, representative_in_steps}
 use Rattle.lattice.proofs.FrontierLemmas.{beyond_itself}
-use Rattle.update.specs.Bags.{total_by, same_row, Alike}
-use Rattle.update.specs.Updates.{as_of, size, total_where}
+use Rattle.update.specs.Bags.{same_row, Alike}
+use Rattle.update.specs.Updates.{as_of, size}
 use Rattle.update.specs.declared.change.Update.{Update}
 use Rattle.update.proofs.ConsolidatedLemmas.{summed_size, summed_size_is}
 use Rattle.update.proofs.SumLemmas.{total_by-map, total_by-same}

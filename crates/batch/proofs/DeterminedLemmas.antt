@@ -65,7 +65,8 @@ module _ {T : Type 0} {below : T → T → Bool} {cmp : T → T → Ordering} (o
   same_by_sums us vs a b same =
       same_sealed us vs a b (λ row t. same_totals o (λ _. true) us vs (λ s u h k. refl) (λ u h. same u) row t refl)
 
--- after compaction no two updates of a row are left that reads beyond the frontier cannot tell apart
+-- after compaction no two updates of a row are left that reads beyond the frontier cannot tell
+-- apart
 module _ {T : Type 0} {below : T → T → Bool} {cmp : T → T → Ordering} {joined met : T → T → T} (o : PartialOrderLaws below) (l : LatticeLaws below joined met) (total : IsTotalOrder cmp) where
   own_representative : (F : List T) (us : List (Update T)) (u : Update T) → IsTrue (are_compacted joined met F below us) → Among u us → representative_of joined met F u.time ≡ u.time
   own_representative F us u h m =

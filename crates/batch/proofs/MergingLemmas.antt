@@ -1,5 +1,6 @@
--- A merge that moves times keeps `IsMerging` through each update that it takes in, and each row that it finishes.
-use Rattle.std.proofs.Common.{◌≡◌, ◌≢◌, ℕ, ◌≤◌, ◌+◌, Bool, true, false, not, ◌&&◌, List, [], ◌∷◌, ◌++◌, map, IsTrue, ℤ, pos, ◌+ℤ◌, refl, sym, ap, ◌∙◌, subst, append_assoc, ⊎_elim, arith}
+-- A merge that moves times keeps `IsMerging` through each update that it takes in, and each row
+-- that it finishes.
+use Rattle.std.proofs.Common.{◌≡◌, ◌≢◌, ◌+◌, Bool, true, false, not, ◌&&◌, List, [], ◌∷◌, ◌++◌, IsTrue, ℤ, pos, ◌+ℤ◌, refl, sym, ap, ◌∙◌, subst, append_assoc, arith}
 use Rattle.std.specs.Prelude.{unsigned_abs, cond, FitsSigned}
 use Rattle.std.specs.Int.{w64}
 use Rattle.update.proofs.TotalLemmas.{fits_zero}
@@ -8,7 +9,7 @@ use Rattle.std.specs.List.Sorted.{IsStrictlySortedBy, IsPermutation}
 use Rattle.std.specs.Cmp.{IsTotalOrder}
 use Rattle.std.specs.Cmp.Lexicographic.{slice_cmp, lists_total, lists_ties}
 use Rattle.std.specs.Cmp.Rules.{signed_items}
-use Rattle.std.specs.Ordering.{int_cmp, is_eq, ordering_then, ordering_reverse}
+use Rattle.std.specs.Ordering.{int_cmp, is_eq, ordering_then}
 use Rattle.std.specs.declared.cmp.Ordering.{Ordering}
 use Rattle.std.specs.declared.cmp.Ordering.TheVariants.{Less, Equal, Greater}
 use Rattle.std.proofs.lemmas.Bool.{and_parts, and_from, true≢false, false_from_ne_true}
@@ -17,11 +18,11 @@ use Rattle.std.proofs.lemmas.Int.{ints}
 use Rattle.std.proofs.lemmas.List.{append-nil}
 use Rattle.std.proofs.lemmas.List.Folds.{list_all-append}
 use Rattle.std.proofs.lemmas.List.Sums.{sum_by-append}
-use Rattle.std.proofs.lemmas.List.Sorted.{IsPermutation-append_comm, IsPermutation-append_right}
+use Rattle.std.proofs.lemmas.List.Sorted.{IsPermutation-append_comm}
 use Rattle.std.proofs.lemmas.Map.Keys.{sorted_head, sorted_tail}
 use Rattle.update.specs.declared.change.Update.{Update}
 use Rattle.update.specs.Bags.{same_row}
-use Rattle.update.specs.Updates.{total_where, size, HasLargeTotal}
+use Rattle.update.specs.Updates.{total_where, HasLargeTotal}
 use Rattle.update.proofs.SumLemmas.{total_by-append}
 use Rattle.update.proofs.ConsolidatedLemmas.{moved_total, moved_among, moved_size}
 use Rattle.batch.specs.Batches.{by_row_then_time, IsSealed}
@@ -274,7 +275,7 @@ module _ {T : Type 0} (below : T → T → Bool) (cmp : T → T → Ordering) (j
   behind_finished at [] g s a t b = t
   behind_finished at (x ∷ f) g s a t b = (
     both (λ y. by_row_then_time cmp x y ≡ Less) f g s.0
-    (weaker (λ (y : Update T). y.row ≡ at) (λ y. by_row_then_time cmp x y ≡ Less) (λ y e. first_decides (rows x.row y.row) (cmp x.time y.time) (subst (λ r. rows x.row r ≡ Less) (sym e) a.0)) g b),
+        (weaker (λ (y : Update T). y.row ≡ at) (λ y. by_row_then_time cmp x y ≡ Less) (λ y e. first_decides (rows x.row y.row) (cmp x.time y.time) (subst (λ r. rows x.row r ≡ Less) (sym e) a.0)) g b),
     behind_finished at f g s.1 a.1 t b,
   )
 
@@ -376,9 +377,10 @@ module _ {T : Type 0} (below : T → T → Bool) (cmp : T → T → Ordering) (j
   pub merging_made_ready : (us vs f h g new now xs ys : List (Update T)) (x : Update T) → has_other_row x.row h ≡ true → new ≡ f ++ g → now ≡ [] → IsSealed cmp g → StandFor g h → (HasLargeTotal below h → ⊥) → merging us vs f h (x ∷ xs) ys → AllByRecursion (λ v. rows x.row v.row ≢ Greater) ys → AllByRecursion (λ u. u.row ≡ x.row) now × merging us vs new now (x ∷ xs) ys
   merging_made_ready us vs f h g new now xs ys x e d k sealed s fit m n =
       let other = other_row x.row h e in
-      let made = merging_settled us vs f h g xs ys x other.0 other.1 other.2 other.3 sealed s fit m n in
-      (subst (AllByRecursion (λ u. u.row ≡ x.row)) (sym k) tt,
-      subst (λ ws. merging us vs ws now (x ∷ xs) ys) (sym d) (subst (λ ws. merging us vs (f ++ g) ws (x ∷ xs) ys) (sym k) made))
+      let made = merging_settled us vs f h g xs ys x other.0 other.1 other.2 other.3 sealed s fit m n in (
+        subst (AllByRecursion (λ u. u.row ≡ x.row)) (sym k) tt,
+        subst (λ ws. merging us vs ws now (x ∷ xs) ys) (sym d) (subst (λ ws. merging us vs (f ++ g) ws (x ∷ xs) ys) (sym k) made),
+      )
 
   -- ---- a total that is too large
 
@@ -415,7 +417,7 @@ module _ {T : Type 0} (below : T → T → Bool) (cmp : T → T → Ordering) (j
       let at_is : other.0.row ≡ m.at = (subst (AllByRecursion (λ (w : Update T). w.row ≡ m.at)) other.2 m.one_row).0 in
       let earlier : rows m.at x.row ≡ Less = upto_and_other m.at x.row m.left_rows.0 (λ d. other.3 (at_is ∙ d)) in
       let on : (ws : List (Update T)) → AllByRecursion (λ v. rows x.row v.row ≢ Greater) ws → AllByRecursion (λ v. rows m.at v.row ≡ Less) ws =
-          λ ws a. weaker (λ (v : Update T). rows x.row v.row ≢ Greater) (λ v. rows m.at v.row ≡ Less) (λ v k. less_then_upto m.at x.row v.row earlier k) ws a in
+      λ ws a. weaker (λ (v : Update T). rows x.row v.row ≢ Greater) (λ v. rows m.at v.row ≡ Less) (λ v k. less_then_upto m.at x.row v.row earlier k) ws a in
       let rest = both (λ (v : Update T). rows m.at v.row ≡ Less) (x ∷ xs) ys (on (x ∷ xs) (rows_behind x xs m.left_sorted)) (on ys n) in
       large_row m.at f h (compacted joined met since ((x ∷ xs) ++ ys)) (compacted joined met since (us ++ vs)) m.before m.one_row (moved_rows m.at ((x ∷ xs) ++ ys) rest) m.stand large
 

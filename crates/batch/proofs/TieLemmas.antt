@@ -1,30 +1,24 @@
 -- In a sealed list no two updates have one row and time.
-use Rattle.std.proofs.Common.{◌≡◌, ◌≢◌, ℕ, ◌<◌, ◌≤◌, ◌+◌, ◌-◌, Bool, true, false, cond, ◌&&◌, List, [], ◌∷◌, ◌++◌, length, get_or, take, drop, IsTrue, ℤ, pos, ◌+ℤ◌, refl, sym, ap, ◌∙◌, subst, append_assoc, length-drop, arith, w64}
-use Rattle.std.specs.Prelude.{FitsSigned, unsigned_abs}
-use Rattle.std.specs.List.{AllByRecursion, list_all}
+use Rattle.std.proofs.Common.{◌≡◌, ◌≢◌, ◌+◌, ◌-◌, Bool, true, false, cond, ◌&&◌, List, ◌∷◌, ℤ, pos, ◌+ℤ◌, refl, sym, ap, ◌∙◌}
+use Rattle.std.specs.List.{AllByRecursion}
 use Rattle.std.specs.List.Sorted.{IsStrictlySortedBy}
-use Rattle.std.specs.Cmp.{IsTotalOrder, signed_Decides}
-use Rattle.std.specs.Cmp.Lexicographic.{slice_cmp, lists_ties}
+use Rattle.std.specs.Cmp.{IsTotalOrder}
+use Rattle.std.specs.Cmp.Lexicographic.{slice_cmp}
 use Rattle.std.specs.Cmp.Rules.{signed_items}
-use Rattle.std.specs.Ordering.{int_cmp, int_eq, is_eq, is_lt, ordering_then, ordering_reverse}
+use Rattle.std.specs.Ordering.{int_cmp, is_lt, ordering_then}
 use Rattle.std.specs.declared.cmp.Ordering.{Ordering}
-use Rattle.std.specs.declared.cmp.Ordering.TheVariants.{Less, Equal, Greater}
-use Rattle.std.proofs.Math.IntN.{+ℤ_idl, +ℤ_idr}
-use Rattle.std.proofs.lemmas.Bool.{and_parts, and_from, false_from_ne_true, true≢false}
+use Rattle.std.specs.declared.cmp.Ordering.TheVariants.{Less}
+use Rattle.std.proofs.Math.IntN.{+ℤ_idr}
+use Rattle.std.proofs.lemmas.Bool.{and_from, false_from_ne_true, true≢false}
 use Rattle.std.proofs.lemmas.Cmp.{tied_itself}
-use Rattle.std.proofs.lemmas.Int.{ints}
-use Rattle.std.proofs.lemmas.List.{append-nil, drop_more, take_more, take_rest}
-use Rattle.std.proofs.lemmas.List.Elements.{recursion_from_All, All-from_recursion}
-use Rattle.std.proofs.lemmas.List.Sums.{sum_by-cons, sum_by-append, AllPass-from_list_all, list_all-from_AllPass}
-use Rattle.std.proofs.lemmas.Map.Keys.{sorted_head, sorted_tail}
+use Rattle.std.proofs.lemmas.Map.Keys.{sorted_head}
 use Rattle.lattice.specs.Order.{PartialOrderLaws}
 use Rattle.update.specs.declared.change.Update.{Update}
 use Rattle.update.specs.Bags.{same_row}
-use Rattle.update.specs.Updates.{total_where, total_at, HasLargeTotal, size}
-use Rattle.update.proofs.SumLemmas.{total_by-append, sum_where-none}
+use Rattle.update.specs.Updates.{total_at}
+use Rattle.update.proofs.SumLemmas.{sum_where-none}
 use Rattle.update.proofs.UniqueLemmas.{at_each, meets, meets_row, meets_time}
-use Rattle.update.proofs.TotalLemmas.{fits_zero}
-use Rattle.batch.specs.Batches.{by_row_then_time, IsSealed}
+use Rattle.batch.specs.Batches.{by_row_then_time}
 use Rattle.batch.proofs.SealLemmas.{by_row_total}
 
 module _ {T : Type 0} {below : T → T → Bool} {cmp : T → T → Ordering} (o : PartialOrderLaws below) (total : IsTotalOrder cmp) where

@@ -1,5 +1,5 @@
 -- A merge that is under way stays so through each update that it takes from one of its sources.
-use Rattle.std.proofs.Common.{◌≡◌, ◌≢◌, ℕ, zero, suc, ◌<◌, ◌≤◌, ◌+◌, Bool, true, false, List, [], ◌∷◌, ◌++◌, length, get_or, drop, ◌&&◌, IsTrue, ℤ, refl, sym, ap, ◌∙◌, subst, length-drop, arith}
+use Rattle.std.proofs.Common.{◌≡◌, ◌≢◌, ℕ, zero, suc, ◌<◌, ◌+◌, Bool, true, false, List, [], ◌∷◌, ◌++◌, length, get_or, drop, ◌&&◌, IsTrue, ℤ, refl, sym, ap, ◌∙◌, subst, length-drop, arith}
 use Rattle.std.specs.Prelude.{FitsSigned}
 use Rattle.std.specs.Int.{w64}
 use Rattle.std.specs.List.{AllByRecursion, list_all}
@@ -11,7 +11,7 @@ use Rattle.std.proofs.lemmas.Bool.{true≢false}
 use Rattle.std.proofs.lemmas.List.{drop_more}
 use Rattle.update.specs.declared.change.Update.{Update}
 use Rattle.update.specs.Bags.{same_row}
-use Rattle.update.specs.Updates.{total_where, HasLargeTotal}
+use Rattle.update.specs.Updates.{HasLargeTotal}
 use Rattle.batch.specs.Batches.{by_row_then_time, IsSealed}
 use Rattle.batch.specs.Compaction.{compacted, StandFor}
 use Rattle.batch.specs.Merging.{MergingState, IsMerging, IsUnderway, IsRead, is_left_next}
@@ -155,7 +155,8 @@ module _ {T : Type 0} (below : T → T → Bool) (cmp : T → T → Ordering) (j
           (subst (λ (x : MergingState T). is_left_next cmp (drop x.left us) (drop x.right vs) ≡ false) (sym seen) next)
           (subst (λ z. Refuses z u m.finished m.in_hand) same refuses))
 
-  -- if the left list is next, then it has an update that is not read, and otherwise the right one has
+  -- if the left list is next, then it has an update that is not read, and otherwise the right one
+  -- has
   pub left_is_within : (us vs : List (Update T)) (i j : ℕ) → is_left_next cmp (drop i us) (drop j vs) ≡ true → i < length us
   left_is_within us vs i j e = from (drop i us) refl e
     where

@@ -24,9 +24,9 @@ pub record MergingState (T : Type 0) : Type 0 where
   pub right : ℕ
 
 module _ {T : Type 0} (below : T → T → Bool) (cmp : T → T → Ordering) (joined met : T → T → T) (since : List T) where
-  -- `finished` and `in_hand` were written as of the frontier, and `xs` and `ys` are the rest of `us`
-  -- and `vs`. All that is in hand is of one row: what is finished is of earlier rows, and what is to
-  -- come is of no earlier one. No total of what is finished is too large.
+  -- `finished` and `in_hand` were written as of the frontier, and `xs` and `ys` are the rest of
+  -- `us` and `vs`. All that is in hand is of one row: what is finished is of earlier rows, and what
+  -- is to come is of no earlier one. No total of what is finished is too large.
   pub record IsMerging (us vs finished in_hand xs ys : List (Update T)) : Type 0 where
     pub at : List ℤ
     pub sealed : IsSealed cmp finished

@@ -56,8 +56,8 @@ impl<T: Lattice> Batch<T> {
     pub(crate) fn of(description: Description<T>, updates: Vec<Update<T>>) -> Batch<T>
         requires sealed { IsSealed T.cmp updates.items }
         requires still { IsEmptyIfStill (record { description = description; updates = updates.items }) }
-        requires compacted {
-            IsTrue (are_compacted T.joined T.met description.since T.below updates.items) }
+        requires compacted { IsTrue
+            (are_compacted T.joined T.met description.since T.below updates.items) }
         ensures { result ≡ record { description = description; updates = updates.items } }
     {
         Batch {

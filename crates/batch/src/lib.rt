@@ -23,8 +23,8 @@
 //!   fuel of each call goes.
 //!
 //! Totals are computed as in the crate `update`, so the order of pushes never decides whether a
-//! seal is refused. A merge is refused for a total only if the total of some row at some moved time,
-//! over its two batches, is no 64-bit number.
+//! seal is refused. A merge is refused for a total only if the total of some row at some moved
+//! time, over its two batches, is no 64-bit number.
 #![tactic(auto)]
 
 mod batch;

@@ -1,7 +1,8 @@
 //! What a merge writes. A merge reads its sources row by row, and copies the updates of a row, each
-//! at the representative of its time. The row is in hand until the next one begins. Then its updates
-//! are sorted by time, since moving times changes their order, and those that have become one are
-//! added up. So all that is finished is in order for good, and a merge can stop after each copy.
+//! at the representative of its time. The row is in hand until the next one begins. Then its
+//! updates are sorted by time, since moving times changes their order, and those that have become
+//! one are added up. So all that is finished is in order for good, and a merge can stop after each
+//! copy.
 //!
 //! Moving times never changes the order of rows. So it is enough to hold one row back.
 ghost use Rattle.std.specs.Prelude.{◌≡◌, ◌≢◌, ◌++◌, ◌∷◌, [], List, IfErr, IfOk, OnOk};
@@ -72,8 +73,8 @@ impl<T: Lattice> MergedRows<T> {
         })
     }
 
-    // Finishes the row in hand: sorts and adds up its updates. The list in hand keeps its memory for
-    // the next row. After a refusal the row in hand is lost.
+    // Finishes the row in hand: sorts and adds up its updates. The list in hand keeps its memory
+    // for the next row. After a refusal the row in hand is lost.
     pub(crate) fn finish_row(&mut self) -> Result<(), Refusal>
         ensures written { OnOk result ((row : List (Update T))
             × (self.new.finished.items ≡ self.old.finished.items ++ row)
@@ -136,9 +137,7 @@ impl<T: Lattice> MergedRows<T> {
     pub(crate) fn into_updates(self) -> Vec<Update<T>>
         ensures { result.items ≡ self.finished.items }
     {
-        let MergedRows {
-            mut finished, ..
-        } = self;
+        let MergedRows { mut finished, .. } = self;
         if finished.len() < finished.capacity() / 4 {
             finished.shrink_to_fit();
         }

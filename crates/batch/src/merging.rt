@@ -142,17 +142,13 @@ impl<T: Lattice> Merging<T> {
     /// its time. The batches must be those with which the merge was begun. If a step is refused,
     /// then the merge is given up, and the batches stay as they were.
     ///
-    /// - [`Refusal::Overflow`] only if the total of some row at some moved time is no 64-bit number.
+    /// - [`Refusal::Overflow`] only if the total of some row at some moved time is no 64-bit
+    ///   number.
     /// - [`Refusal::OutOfMemory`] only if memory for the updates of one row was refused.
     ///
     /// Cost: for each update one comparison of rows, and a join and a meet for each element of the
     /// frontier; for each row that is finished n log n comparisons of times, or n if no time moved.
-    pub fn step(
-        self,
-        a: &Batch<T>,
-        b: &Batch<T>,
-        fuel: u64,
-    ) -> Result<(Merging<T>, u64), Refusal>
+    pub fn step(self, a: &Batch<T>, b: &Batch<T>, fuel: u64) -> Result<(Merging<T>, u64), Refusal>
         requires { IsUnderway T.below T.cmp T.joined T.met a.now.updates b.now.updates self }
         ensures kept { IfOk result (λ new.
             IsUnderway T.below T.cmp T.joined T.met a.now.updates b.now.updates new.0) }
@@ -214,14 +210,14 @@ impl<T: Lattice> Merging<T> {
     /// both, each update at the representative of its time. So at each time beyond the since, it
     /// sums to the sum of both. If this is refused, then the merge is given up.
     ///
-    /// - [`Refusal::Overflow`] only if the total of some row at some moved time is no 64-bit number,
-    ///   and no batch is given in that case.
+    /// - [`Refusal::Overflow`] only if the total of some row at some moved time is no 64-bit
+    ///   number, and no batch is given in that case.
     /// - [`Refusal::OutOfMemory`] only if memory for the last row was refused.
     ///
     /// Cost: sorts the last row. A list that is a quarter full is moved to a smaller place.
     pub fn finish(self, a: &Batch<T>, b: &Batch<T>) -> Result<Batch<T>, Refusal>
-        requires underway {
-            IsUnderway T.below T.cmp T.joined T.met a.now.updates b.now.updates self }
+        requires underway { IsUnderway T.below T.cmp T.joined T.met
+            a.now.updates b.now.updates self }
         requires read { IsRead a.now.updates b.now.updates self }
         ensures described { IfOk result (λ batch. batch.description ≡ self.description) }
         ensures stand { IfOk result (λ batch. StandFor batch.updates
@@ -260,8 +256,8 @@ impl<T: Lattice> Merging<T> {
     fn take_left(&mut self, us: &[Update<T>], vs: &[Update<T>]) -> Result<(), Refusal>
         requires underway { IsUnderway T.below T.cmp T.joined T.met us.now vs.now self.old }
         requires within { self.old.left < length us.now }
-        requires next {
-            is_left_next T.cmp (drop self.old.left us.now) (drop self.old.right vs.now) ≡ true }
+        requires next { is_left_next T.cmp (drop self.old.left us.now)
+            (drop self.old.right vs.now) ≡ true }
         ensures kept { OnOk result
             (IsUnderway T.below T.cmp T.joined T.met us.now vs.now self.new) }
         ensures described { self.new.description ≡ self.old.description }
@@ -279,8 +275,8 @@ impl<T: Lattice> Merging<T> {
     fn take_right(&mut self, us: &[Update<T>], vs: &[Update<T>]) -> Result<(), Refusal>
         requires underway { IsUnderway T.below T.cmp T.joined T.met us.now vs.now self.old }
         requires within { self.old.right < length vs.now }
-        requires next {
-            is_left_next T.cmp (drop self.old.left us.now) (drop self.old.right vs.now) ≡ false }
+        requires next { is_left_next T.cmp (drop self.old.left us.now)
+            (drop self.old.right vs.now) ≡ false }
         ensures kept { OnOk result
             (IsUnderway T.below T.cmp T.joined T.met us.now vs.now self.new) }
         ensures described { self.new.description ≡ self.old.description }
@@ -289,7 +285,8 @@ impl<T: Lattice> Merging<T> {
         ensures refused { IfErr result (IsMemoryOrOverflow (HasLargeTotal T.below
             (compacted T.joined T.met self.old.description.since (us.now ++ vs.now)))) }
     {
-        self.rows.take_in(&vs[self.right], self.description.since())?;
+        self.rows
+            .take_in(&vs[self.right], self.description.since())?;
         self.right += 1;
         Ok(())
     }

@@ -16,13 +16,13 @@ use lattice::Lattice;
 use update::Refusal;
 
 /// Merges two neighbouring batches as of a frontier. The result reaches from the lower frontier of
-/// `a` to the upper frontier of `b`. Each time is moved to its representative as of `since`, and the
-/// list is the only sealed one in which each row at each time has its total over both batches. So at
-/// each time beyond `since` it sums to the sum of both, and no two updates of one row are left that
-/// no such sum can tell apart. Both batches stay as they are.
+/// `a` to the upper frontier of `b`. Each time is moved to its representative as of `since`, and
+/// the list is the only sealed one in which each row at each time has its total over both batches.
+/// So at each time beyond `since` it sums to the sum of both, and no two updates of one row are
+/// left that no such sum can tell apart. Both batches stay as they are.
 ///
-/// The merged batch has only rows of the two batches, and times at or after theirs. A moved time may
-/// be at or after the upper frontier.
+/// The merged batch has only rows of the two batches, and times at or after theirs. A moved time
+/// may be at or after the upper frontier.
 ///
 /// - [`Refusal::Stray`] if and only if `b` does not begin at the frontier at which `a` ends, or
 ///   their workers or nodes differ.
@@ -30,9 +30,9 @@ use update::Refusal;
 ///   64-bit number, and no batch is given in that case.
 /// - [`Refusal::OutOfMemory`] only if memory for the new batch was refused.
 ///
-/// Cost: each update is read and copied once, after one comparison of rows and a join and a meet for
-/// each element of `since`. Sorting the moved times of a row costs n log n comparisons, or n if none
-/// moved. Memory for the updates of both is allocated at once. To go on from call to call, use
+/// Cost: each update is read and copied once, after one comparison of rows and a join and a meet
+/// for each element of `since`. Sorting the moved times of a row costs n log n comparisons, or n if
+/// none moved. Memory for the updates of both is allocated at once. To go on from call to call, use
 /// [`Merging`].
 pub fn merge<T: Lattice>(a: &Batch<T>, b: &Batch<T>, since: &[T]) -> Result<Batch<T>, Refusal>
     requires { IsFrontier T.below T.cmp since.now }

@@ -11,7 +11,7 @@ use trials::sketches::{at, list};
 use update::{Refusal, Update};
 
 // Checks that the batch has these updates, in this order.
-fn assert_reads<B: BatchReader<Time = Bitime>>(
+pub(crate) fn assert_reads<B: BatchReader<Time = Bitime>>(
     rt: &impl Abort,
     batch: &B,
     want: &[Update<Bitime>],
@@ -97,8 +97,7 @@ fn strays_and_large_totals_are_refused(rt: HostRuntime) -> Result<(), Fail> {
 }
 
 // Memory is ample here, so a total that is too large is not told as want of memory. The updates
-// stay in the builder. Two batches that follow one another have no time in common, so no merge of
-// them can have such a total.
+// stay in the builder.
 #[test]
 fn a_seal_of_what_is_passed_tells_large_totals(rt: HostRuntime) -> Result<(), Fail> {
     let large = list(

@@ -10,6 +10,8 @@
 mod batch_tests;
 mod batches;
 #[cfg(test)]
+mod merge_tests;
+#[cfg(test)]
 mod trace_tests;
 
 pub use batches::{insert, sealed};

@@ -192,8 +192,8 @@ module _ {T : Type 0} (below : T → T → Bool) (o : PartialOrderLaws below) (l
             };
         since = ap (λ (x : SpineState T). x.since) w.kept ∙ is.since;
         start = ap (λ (x : SpineState T). x.list.start) w.kept ∙ is.start;
-        rows = w.among (λ row t. eqb (length row) a.width) is.rows;
-        times = w.among (λ row t. below least t) is.times;
+        rows = w.among (λ row t. eqb (length row) a.width) (λ row t u l k. k) is.rows;
+        times = w.among (λ row t. below least t) (λ row t u l k. o.transitive least t u k l) is.times;
         waiting_rows = is.waiting_rows;
         waiting_times = is.waiting_times;
       }

@@ -3,6 +3,7 @@ use Rattle.std.specs.Prelude.{◌≡◌, ℕ, zero, suc, ◌+◌, ◌-◌, ◌*�
 use Rattle.std.specs.List.{list_all, Contains}
 use Rattle.update.specs.Updates.{size}
 use Rattle.update.specs.declared.change.Update.{Update}
+use Rattle.batch.specs.Compaction.{IsUpward}
 use Rattle.batch.specs.Descriptions.{BatchState}
 use Rattle.trace.specs.Readings.{Insertion, IsReadable, AreUpTo, all_content, all_updates, reached}
 use Rattle.trace.specs.BatchLists.{BatchListState, IsMergeAt, end_of, ends_of, merged_at, updates_of}
@@ -105,6 +106,7 @@ module _ {T : Type 0} (below : T → T → Bool) where
     pub kept_open : (u : List T) → Contains (boundaries old) u → IsTrue (forbids below old.holds u)
         → Contains (boundaries new) u
     pub among : (p : List ℤ → T → Bool)
+        → IsUpward below p
         → IsTrue (list_all (λ u. p u.row u.time) (stored old))
         → IsTrue (list_all (λ u. p u.row u.time) (stored new))
     pub smaller : size (stored new) ≤ size (stored old)

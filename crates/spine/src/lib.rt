@@ -17,8 +17,9 @@
 //!   [`holds_are_kept_apart`] somebody with many readers knows each reader's hold after a call with
 //!   one of them, and by [`held_boundaries_stay`] a reader knows that its boundary can be read.
 //!
-//! Times stay as they were inserted. To move them to their representatives as of the since comes
-//! later, and changes no contract: all promises of readings speak of times beyond the since alone.
+//! A merge moves each time to its representative as of the since, and adds up what has become one.
+//! No reader can tell, because all promises of readings speak of times beyond the since alone. A
+//! batch that is never merged keeps its times.
 #![tactic(auto)]
 
 mod holds;

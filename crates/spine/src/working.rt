@@ -198,7 +198,8 @@ impl<T: Lattice> Spine<T> {
             (length self.new.list.batches < length self.old.list.batches) }
         ensures same { OnErr result (self.new ≡ self.old) }
         ensures refused { IfErr result
-            (IsMemoryOrOverflow (HasLargePair T.below self.old.list.batches)) }
+            (IsMemoryOrOverflow (HasLargePair T.below T.joined T.met
+            self.old.since self.old.list.batches)) }
     {
         let left = left_of(self.list.batches(), i, fuel);
         self.list.merge_at(i, self.since.as_slice())?;
@@ -215,10 +216,11 @@ impl<T: Lattice> Spine<T> {
         next_pair(self.list.batches(), self.holds.as_slice(), fuel)
     }
 
-    /// Merges neighbours across boundaries that no hold forbids, as far as the fuel goes. True if
-    /// and only if nothing is left to merge: some reader may ask for each boundary between two
-    /// batches. Readers notice nothing: whatever the spine stood for, it stands for still, and each
-    /// boundary that a reader may ask for is one still.
+    /// Merges neighbours across boundaries that no hold forbids, as far as the fuel goes, and moves
+    /// their times to representatives as of the since. True if and only if nothing is left to
+    /// merge: some reader may ask for each boundary between two batches. Readers notice nothing:
+    /// whatever the spine stood for, it stands for still, and each boundary that a reader may ask
+    /// for is one still.
     ///
     /// A merge costs one unit of fuel for each update of both batches, and one more. Work stops
     /// where the fuel that is left covers no merge that is allowed; and, with no more fuel than
@@ -228,8 +230,8 @@ impl<T: Lattice> Spine<T> {
     /// If work is refused, then some merges may have been done, and the spine still stands for the
     /// same.
     ///
-    /// - [`Refusal::Overflow`] only if the total of some row at some time over two neighbours is no
-    ///   64-bit number. Then the absolute diffs of all that was inserted sum to 2^63 or more.
+    /// - [`Refusal::Overflow`] only if the total of some row at some moved time over two neighbours
+    ///   is no 64-bit number. Then the absolute diffs of all that was inserted sum to 2^63 or more.
     /// - [`Refusal::OutOfMemory`] only if memory for a merged batch was refused.
     ///
     /// Cost: at most the fuel, and for each merge one step for each batch and hold.
@@ -251,7 +253,8 @@ impl<T: Lattice> Spine<T> {
             (λ done. (done ≡ true) ↔ IsDone T.below self.new.holds self.new.list.batches) }
         ensures idle { fuel ≡ 0 → self.new ≡ self.old }
         ensures refused { IfErr result
-            (IsMemoryOrOverflow (HasLargePair T.below self.new.list.batches)) }
+            (IsMemoryOrOverflow (HasLargePair T.below T.joined T.met
+            self.new.since self.new.list.batches)) }
         ensures large { result ≡ Err Refusal.Overflow → (h : List (Insertion T))
             → Stands T.below self.old h → 2 ^ 63 ≤ size (all_updates h) }
     {

@@ -1,6 +1,6 @@
 //! Spines: merges happen if there is memory, and not across a boundary that a reader may ask for;
-//! and a spine that is given fuel for each insertion keeps few batches. Which neighbours are merged
-//! is promised by no clause.
+//! they move times where no reader can tell; and a spine that is given fuel for each insertion
+//! keeps few batches. Which neighbours are merged is promised by no clause.
 ghost use Rattle.std.specs.Prelude.{◌≡◌, ◌∷◌, ◌++◌, List, [], IfOk, OnErr};
 ghost use Rattle.std.specs.List.{Contains};
 ghost use Rattle.spine.specs.Holding.{AreSameHolds};
@@ -268,5 +268,95 @@ fn a_since_of_many_holds_takes_memory(rt: HostRuntime) -> Result<(), Fail> {
     spine.release(first);
     outcome?;
     assert!(rt; spine.since().is_empty());
+    Ok(())
+}
+
+// The batch of the row [7] with difference 1 at each of these times, and once more if memory was
+// refused.
+fn sevens(
+    alloc: Global,
+    lower: (u64, u64),
+    upper: (u64, u64),
+    times: &[(u64, u64)],
+) -> Result<Batch<Bitime>, Refusal> {
+    let mut updates = Vec::new(alloc);
+    for time in times {
+        updates.append(&mut list(alloc, &[(*time, &[7], 1)])?)?;
+    }
+    sealed(alloc, lower, upper, &updates)
+}
+
+// Six updates in three batches, and a reader that asks for no boundary before the last one, and
+// sums only at times beyond {(2, 5), (5, 2)}.
+fn read_beyond_two_times(
+    alloc: Global,
+    spine: &mut Spine<Bitime>,
+    hold: &mut Hold<Bitime>,
+) -> Result<(), Refusal>
+    requires { Contains spine.old.holds hold.old }
+    ensures { Contains spine.new.holds hold.new }
+{
+    insert(spine, sevens(alloc, (0, 0), (1, 0), &[(0, 0), (0, 3)])?)?;
+    insert(spine, sevens(alloc, (1, 0), (2, 0), &[(1, 1)])?)?;
+    insert(
+        spine,
+        sevens(alloc, (2, 0), (9, 0), &[(2, 2), (3, 0), (3, 3)])?,
+    )?;
+    let mut logical = Antichain::from_elem(alloc, at((2, 5)));
+    logical.insert(at((5, 2)))?;
+    let physical = Antichain::from_elem(alloc, at((9, 0)));
+    spine.advance_hold(alloc, hold, &logical, &physical)
+}
+
+// The sum of all differences at times at or before (5, 3). The row is [7] throughout.
+fn sum_at_5_3(spine: &Spine<Bitime>) -> i64 {
+    let mut sum = 0i64;
+    for batch in all_batches(spine) {
+        for i in 0..batch.len() {
+            if batch.time(i).first <= 5 && batch.time(i).second <= 3 {
+                sum = sum.wrapping_add(batch.diff(i));
+            }
+        }
+    }
+    sum
+}
+
+// Whether the spine has one batch with four updates: three of the six have become one.
+fn is_moved(spine: &Spine<Bitime>) -> bool {
+    let [batch] = all_batches(spine) else {
+        return false;
+    };
+    batch.len() == 4
+        && batch.time(0) == at((2, 2))
+        && batch.diff(0) == 3
+        && batch.time(1) == at((2, 3))
+        && batch.time(2) == at((3, 2))
+        && batch.time(3) == at((3, 3))
+}
+
+// Work without fuel changes nothing, and with all of it leaves what was worked out by hand.
+fn move_times(
+    rt: &impl Abort,
+    alloc: Global,
+    spine: &mut Spine<Bitime>,
+    hold: &mut Hold<Bitime>,
+) -> Result<(), Refusal>
+    requires { Contains spine.old.holds hold.old }
+    ensures { Contains spine.new.holds hold.new }
+{
+    read_beyond_two_times(alloc, spine, hold)?;
+    assert!(rt; !spine.work(0)? && all_batches(spine).len() == 3 && sum_at_5_3(spine) == 6);
+    assert!(rt; spine.work(18_446_744_073_709_551_615)?);
+    assert!(rt; is_moved(spine) && sum_at_5_3(spine) == 6 && spine.kept() == 4);
+    Ok(())
+}
+
+// A spine that merged but moved no time would keep six updates.
+#[test]
+fn merges_move_times_that_no_reader_tells_apart(rt: HostRuntime) -> Result<(), Fail> {
+    let (mut spine, mut hold) = Spine::new(rt.alloc(), 0, 0)?;
+    let outcome = move_times(&rt, rt.alloc(), &mut spine, &mut hold);
+    spine.release(hold);
+    outcome?;
     Ok(())
 }

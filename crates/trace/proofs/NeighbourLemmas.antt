@@ -1,12 +1,10 @@
--- What is left of a list of linked batches when two neighbours become one.
+-- What is left of a list of linked batches when two neighbours become one, or one is rewritten.
 use Rattle.std.proofs.Common.{◌≡◌, ℕ, zero, suc, ◌<◌, ◌≤◌, ◌+◌, Bool, true, false, List, [], ◌∷◌, ◌++◌, set, length, slice_get, Some, IsTrue, refl, sym, ◌∙◌, ap, subst, arith}
 use Rattle.std.specs.Prelude.{ℤ}
 use Rattle.std.specs.List.{list_all, remove}
 use Rattle.std.specs.Cmp.{IsTotalOrder}
 use Rattle.std.specs.declared.cmp.Ordering.{Ordering}
-use Rattle.std.proofs.lemmas.Bool.{and_parts}
 use Rattle.std.proofs.lemmas.List.{append-nil}
-use Rattle.std.proofs.lemmas.List.Folds.{list_all-append}
 use Rattle.lattice.specs.Order.{PartialOrderLaws, LatticeLaws}
 use Rattle.lattice.specs.Frontiers.{is_beyond, all_beyond}
 use Rattle.lattice.proofs.FrontierLemmas.{all_beyond_later}
@@ -18,7 +16,7 @@ use Rattle.batch.specs.Compaction.{IsUpward, StandFor, compacted}
 use Rattle.batch.specs.Descriptions.{BatchState, DescriptionState, Follows}
 use Rattle.batch.proofs.CompactionLemmas.{stand_sums, stand_upward, stand_size}
 use Rattle.trace.specs.Readings.{IsReadable}
-use Rattle.trace.specs.BatchLists.{BatchListState, merged_at, IsMergeOf, IsMergeAt, IsLink, AreLinked, IsBatchList}
+use Rattle.trace.specs.BatchLists.{BatchListState, merged_at, IsMergeOf, IsMergeAt, IsRewriteOf, IsRewriteAt, IsLink, AreLinked, IsBatchList}
 use Rattle.batch.proofs.IntervalLemmas.{none_left}
 use Rattle.trace.proofs.ReadingLemmas.{readable_later}
 use Rattle.trace.proofs.BoundaryLemmas.{some_same, none_some, stays}
@@ -126,3 +124,60 @@ finished_merge {below = below} {joined = joined} {met = met} o l since m a b des
 -- earlier since is one
 pub merge_later : {T : Type 0} {below : T → T → Bool} (o : PartialOrderLaws below) (first since : List T) (m a b : BatchState T) → IsTrue (all_beyond below first since) → IsMergeOf below first m a b → IsReadable below since m.updates (a.updates ++ b.updates)
 merge_later {below = below} o first since m a b later is = readable_later below o first since m.updates (a.updates ++ b.updates) later is.reads
+
+-- ---- one batch for one
+
+module _ {T : Type 0} {below : T → T → Bool} (cmp : T → T → Ordering) (worker node : ℕ) (since : List T) where
+  -- a rewritten batch goes on where the old one begins
+  link_for_one : (from : List T) (m a : BatchState T) → IsRewriteOf below since m a → IsLink below cmp worker node from a → IsLink below cmp worker node from m
+  link_for_one from m a is l = record {
+    continues = (
+      ap (λ (d : DescriptionState T). d.worker) is.described ∙ l.continues.0,
+      ap (λ (d : DescriptionState T). d.node) is.described ∙ l.continues.1,
+      lower ∙ l.continues.2,
+    );
+    still = still;
+    frontier = subst (IsFrontier below cmp) (sym upper) l.frontier;
+    forward = subst (λ F. IsTrue (all_beyond below from F)) (sym upper) l.forward;
+  }
+    where
+      upper : m.description.upper ≡ a.description.upper
+      upper = ap (λ (d : DescriptionState T). d.upper) is.described
+
+      lower : m.description.lower ≡ a.description.lower
+      lower = ap (λ (d : DescriptionState T). d.lower) is.described
+
+      still : m.description.lower ≡ m.description.upper → m.updates ≡ []
+      still e =
+          let empty : a.updates ≡ [] = l.still (sym lower ∙ e ∙ upper) in
+          none_left m.updates (is.among (λ r t. false) (λ r t u l k. k) (subst (λ us. IsTrue (list_all (λ (u : Update T). false) us)) (sym empty) refl))
+
+  -- linked batches stay linked
+  linked_rewritten : (i : ℕ) (m : BatchState T) (from : List T) (bs : List (BatchState T)) → IsRewriteAt below since m i bs → AreLinked below cmp worker node from bs → AreLinked below cmp worker node from (set bs i m)
+  linked_rewritten i m from [] is l = tt
+  linked_rewritten zero m from (a ∷ bs) is l =
+      let one = is a refl in
+      (link_for_one from m a one l.0, subst (λ F. AreLinked below cmp worker node F bs) (sym (ap (λ (d : DescriptionState T). d.upper) one.described)) l.1)
+  linked_rewritten (suc i) m from (a ∷ bs) is l = (l.0, linked_rewritten i m a.description.upper bs is l.1)
+
+-- a batch list stays one if a batch is rewritten
+pub list_rewritten : {T : Type 0} {below : T → T → Bool} (cmp : T → T → Ordering) (since : List T) (s : BatchListState T) (i : ℕ) (m : BatchState T) → IsBatchList below cmp s → IsRewriteAt below since m i s.batches → IsBatchList below cmp (record s { batches = set s.batches i m })
+list_rewritten cmp since s i m is one = record { start = is.start; linked = linked_rewritten cmp s.worker s.node since i m s.start s.batches one is.linked }
+
+-- the rewriting of a batch that has read it makes one batch for one
+pub finished_rewrite : {T : Type 0} {below : T → T → Bool} {joined met : T → T → T} (o : PartialOrderLaws below) (l : LatticeLaws below joined met) (since : List T) (m a : BatchState T)
+    → m.description ≡ record a.description { since = since }
+    → StandFor m.updates (compacted joined met since (a.updates ++ []))
+    → IsRewriteOf below since m a
+finished_rewrite {below = below} {joined = joined} {met = met} o l since m a described both =
+    let stand = subst (λ us. StandFor m.updates (compacted joined met since us)) (append-nil a.updates) both in
+    let upward = stand_upward o l since m.updates a.updates stand in
+    record {
+      described = described;
+      reads = record {
+        sums = stand_sums o l since m.updates a.updates stand;
+        rows = λ p h. upward (λ r t. p r) (λ r t u l k. k) h;
+        smaller = stand_size o l since m.updates a.updates stand;
+      };
+      among = upward;
+    }

@@ -88,6 +88,20 @@ module _ {T : Type 0} (below : T → T → Bool) where
       → slice_get bs (suc i) ≡ Some b
       → IsMergeOf since m a b
 
+  -- one batch for another: it has the same interval, may be read in the place of the other beyond the
+  -- frontier, and has only rows of the other's, and times at or after its times
+  pub record IsRewriteOf (since : List T) (m a : BatchState T) : Type 0 where
+    pub described : m.description ≡ record a.description { since = since }
+    pub reads : IsReadable below since m.updates a.updates
+    pub among : (p : List ℤ → T → Bool)
+        → IsUpward below p
+        → IsTrue (list_all (λ u. p u.row u.time) a.updates)
+        → IsTrue (list_all (λ u. p u.row u.time) m.updates)
+
+  -- one batch for the one with this number
+  abbrev pub IsRewriteAt : List T → BatchState T → ℕ → List (BatchState T) → Type 0
+  IsRewriteAt since m i bs = (a : BatchState T) → slice_get bs i ≡ Some a → IsRewriteOf since m a
+
   -- the total of some row at some moved time over two neighbours is no 64-bit number
   abbrev pub HasLargePair : (T → T → T) → (T → T → T) → List T → List (BatchState T) → Type 0
   HasLargePair joined met since bs =

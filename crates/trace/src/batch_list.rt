@@ -5,9 +5,10 @@
 //! list, and decides when [`BatchList::merge_at`] makes one batch of two neighbours.
 //!
 //! The invariant: each batch begins at the frontier at which the one before it ends. Frontiers only
-//! move forward, so two batches that end at one boundary have only empty intervals between them, and
-//! a batch with an empty interval has no updates. So a boundary determines what is stored up to it.
-ghost use Rattle.std.specs.Prelude.{◌≡◌, ◌↔◌, ◌⊎◌, ◌≤◌, ◌<◌, ◌∷◌, ◌++◌, suc, [], Some, None, IfErr, IfOk, IfSome, IsErrAnd, OnErr, OnOk, IsTrue, true, length, take, drop};
+//! move forward, so two batches that end at one boundary have only empty intervals between them,
+//! and a batch with an empty interval has no updates. So a boundary determines what is stored up to
+//! it.
+ghost use Rattle.std.specs.Prelude.{◌≡◌, ◌↔◌, ◌⊎◌, ◌≤◌, ◌<◌, ◌∷◌, ◌++◌, suc, [], Some, None, IfErr, IfOk, IfSome, IsErrAnd, OnErr, OnOk, IsTrue, true, length, set, take, drop};
 ghost use Rattle.std.specs.Bool.{OnTrue};
 ghost use Rattle.std.specs.List.{Contains};
 ghost use Rattle.antichain.specs.Antichains.{IsFrontier};
@@ -15,7 +16,7 @@ ghost use Rattle.lattice.specs.Frontiers.{all_beyond};
 ghost use Rattle.update.specs.Refusals.{IsMemoryOrOverflow};
 ghost use Rattle.update.specs.declared.refusal.Refusal.{Refusal};
 ghost use Rattle.batch.specs.Descriptions.{BatchState};
-ghost use Rattle.trace.specs.BatchLists.{BatchListState, Continues, IsLink, IsBatchList, IsMergeAt, HasLargePair, end_of, ends_of, insertion_of, insertions_of, merged_at};
+ghost use Rattle.trace.specs.BatchLists.{BatchListState, Continues, IsLink, IsBatchList, IsMergeAt, IsRewriteAt, HasLargePair, end_of, ends_of, insertion_of, insertions_of, merged_at};
 
 use crate::Trace;
 use crate::boundaries::{are_same, end_in, number_in};
@@ -189,6 +190,17 @@ impl<T: Lattice> BatchList<T> {
         } }
     {
         put_merged(&mut self.batches, i, merged);
+    }
+
+    /// Puts a batch in the place of the one with this number, of which it is the rewriting as of
+    /// another frontier. Takes no memory.
+    pub fn put_one(&mut self, i: usize, rewritten: Batch<T>)
+        requires within { i < length self.old.batches }
+        requires rewritten { IsRewriteAt T.below rewritten.description.since
+            rewritten i self.old.batches }
+        ensures { self.new ≡ record self.old { batches = set self.old.batches i rewritten } }
+    {
+        self.batches[i] = rewritten;
     }
 
     /// The batches in order, each of which continues those before it. Takes no memory.

@@ -1,4 +1,4 @@
-use Rattle.std.proofs.Common.{◌≡◌, [], sym, ap, subst, arith, rules}
+use Rattle.std.proofs.Common.{[], sym, subst, arith}
 use Rattle.batch.specs.Merging.{IsMerging}
 use Rattle.batch.proofs.MergingLemmas.{merging_begins}
 use Rattle.batch.proofs.merging.begun.Goals as goal

@@ -1,10 +1,9 @@
-use Rattle.std.proofs.Common.{◌≡◌, ◌++◌, ap, ◌∙◌, subst, inl, inr, ⊎_elim}
+use Rattle.std.proofs.Common.{◌++◌, ap, ◌∙◌, subst, inl, inr, ⊎_elim}
 use Rattle.std.proofs.lemmas.Result.{err_from_is_err_and}
 use Rattle.update.specs.Updates.{HasLargeTotal}
 use Rattle.batch.specs.Compaction.{compacted, StandFor}
 use Rattle.batch.specs.Descriptions.{DescriptionState}
 use Rattle.batch.proofs.CompactionLemmas.{stand_sums, stand_upward, stand_size}
-use Rattle.batch.proofs.whole_merge.merge.Given.{Over}
 use Rattle.batch.proofs.whole_merge.merge.Goals as goal
 
 pub returns-in_err-read_all-clause-refused : goal.returns-in_err-read_all-clause-refused

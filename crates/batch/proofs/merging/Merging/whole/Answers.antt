@@ -6,7 +6,6 @@ use Rattle.batch.specs.Descriptions.{BatchState}
 use Rattle.batch.specs.Merging.{MergingState, IsUnderway, IsRead}
 use Rattle.batch.proofs.CompactionLemmas.{stand_once}
 use Rattle.batch.proofs.UnderwayLemmas.{ended_whole, ended_large}
-use Rattle.batch.proofs.merging.Merging.whole.Given.{Over}
 use Rattle.batch.proofs.merging.Merging.whole.Goals as goal
 
 pub returns-in_err-finish_row-clause-refused : goal.returns-in_err-finish_row-clause-refused

@@ -1,5 +1,4 @@
-use Rattle.std.proofs.Common.{◌≡◌, List, ◌∙◌, ap, subst, sym, rules}
-use Rattle.batch.specs.Descriptions.{BatchState}
+use Rattle.std.proofs.Common.{subst, sym, rules}
 use Rattle.trace.specs.BatchLists.{BatchListState, IsMergeAt}
 use Rattle.trace.proofs.NeighbourLemmas.{list_merged, same_merged}
 use Rattle.trace.proofs.batch_list.BatchList.put_pair.Goals as goal
