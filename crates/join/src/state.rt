@@ -120,7 +120,9 @@ impl<T: Lattice, L: Trace<Time = T>, R: Trace<Time = T>> JoinState<T, L, R> {
     /// Acknowledges a new batch of the left side, and returns its pairs with all updates that the
     /// right side has acknowledged, consolidated: the left row and the rest of the right row, at
     /// the join of both times, with the product of both diffs. The right trace may have moved times
-    /// together, as of its since: the pairs are those of the times that were inserted.
+    /// together, as of its since: the pairs are those of the times that were inserted. The batch is
+    /// taken as it is: if the left trace has moved its times, then its pairs are right at times
+    /// beyond the left since alone. No time moves that is beyond it.
     ///
     /// The batch begins at the left boundary, and its times are beyond the since of the right
     /// trace. The right boundary is one of the right trace. Rows of the batch have at least as many

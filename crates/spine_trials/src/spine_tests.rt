@@ -360,3 +360,34 @@ fn merges_move_times_that_no_reader_tells_apart(rt: HostRuntime) -> Result<(), F
     outcome?;
     Ok(())
 }
+
+// Two neighbours with a total of 2^63 once a reader from (2, 2) on cannot tell both times apart.
+fn overflow(
+    rt: &impl Abort,
+    alloc: Global,
+    spine: &mut Spine<Bitime>,
+    hold: &mut Hold<Bitime>,
+) -> Result<(), Refusal>
+    requires { Contains spine.old.holds hold.old }
+    ensures { Contains spine.new.holds hold.new }
+{
+    let largest = 9_223_372_036_854_775_807;
+    insert(spine, seven(alloc, (0, 0), (1, 0), (0, 0), largest)?)?;
+    insert(spine, seven(alloc, (1, 0), (2, 0), (1, 1), 1)?)?;
+    let from = Antichain::from_elem(alloc, at((2, 2)));
+    spine.advance_hold(alloc, hold, &from, &from)?;
+    assert!(rt; spine.work(1_000) == Err(Refusal::Overflow));
+    assert!(rt; spine.work(1_000) == Err(Refusal::Overflow) && spine.kept() == 2);
+    Ok(())
+}
+
+// Memory is ample here, so a total that is too large is not told as want of memory, and both batches
+// stay.
+#[test]
+fn work_tells_totals_that_are_large_once_times_move(rt: HostRuntime) -> Result<(), Fail> {
+    let (mut spine, mut hold) = Spine::new(rt.alloc(), 0, 0)?;
+    let outcome = overflow(&rt, rt.alloc(), &mut spine, &mut hold);
+    spine.release(hold);
+    outcome?;
+    Ok(())
+}
