@@ -30,7 +30,7 @@ use Rattle.linear.specs.Applied.{linear_output}
 use Rattle.linear.specs.Ports.{is_port}
 use Rattle.batch.specs.Batches.{by_row_then_time}
 use Rattle.batch.specs.Intervals.{is_between, all_between, is_interval_of, passed_updates, open_updates}
-use Rattle.batch.proofs.MergeLemmas.{no_tie, own_first}
+use Rattle.batch.proofs.TieLemmas.{no_tie, own_first}
 use Rattle.batch.proofs.SumsLemmas.{sums_from_totals}
 use Rattle.trace.specs.Readings.{Insertion, reached}
 use Rattle.machine.specs.declared.histories.event.Bundle.{Bundle}
