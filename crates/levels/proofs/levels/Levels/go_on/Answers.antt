@@ -1,0 +1,98 @@
+use Rattle.std.proofs.Common.{◌≡◌, ◌≤◌, ◌+◌, ◌-◌, suc, ◌++◌, ◌∷◌, [], List, Option, option_to_list, inr, sym, ◌∙◌, ap, subst, arith}
+use Rattle.batch.specs.Descriptions.{BatchState}
+use Rattle.trace.specs.BatchLists.{BatchListState}
+use Rattle.levels.specs.Levels.{UnderwayState, LevelsState, AreUnderway, unread_of, IsChangeAs, changed}
+use Rattle.levels.proofs.PlaceLemmas.{newest_at, change_same, underway_on, underway_put, underway_popped}
+use Rattle.levels.proofs.UnderwayLemmas.{put_spent}
+use Rattle.levels.proofs.levels.Levels.go_on.Goals as goal
+
+pub step-requires : goal.step-requires
+step-requires g c =
+    let below = g.T.PartialOrder.below in
+    let cmp = g.T.Ord.cmp in
+    let joined = g.T.Lattice.joined in
+    let met = g.T.Lattice.met in
+    let bs = c.self.inside.list.batches in
+    let cs = c.batches.result.now in
+    let us = c.self.inside.underway.items in
+    let rest = c.pop.new.self.items in
+    let n = c.unwrap-newest.result in
+    let was : us ≡ rest ++ n ∷ [] = c.pop.ensures.items ∙ ap (λ (r : Option (UnderwayState g.row.T.Denot)). rest ++ option_to_list r) c.unwrap-newest.ensures in
+    newest_at below cmp joined met bs cs us rest n c.batches.ensures.value was c.self.invariant
+
+pub invariant_of-self : goal.invariant_of-self
+invariant_of-self g c =
+    underway_popped g.T.PartialOrder.below g.T.Ord.cmp g.T.Lattice.joined g.T.Lattice.met c.self.inside.list.batches c.pop.new.self.items c.self.inside.underway.items c.pop.result c.pop.ensures.items c.self.invariant
+
+pub invariant_of-self-then-left-eq0 : goal.invariant_of-self-then-left-eq0
+invariant_of-self-then-left-eq0 g c =
+    let below = g.T.PartialOrder.below in
+    let cmp = g.T.Ord.cmp in
+    let joined = g.T.Lattice.joined in
+    let met = g.T.Lattice.met in
+    let bs = c.self.inside.list.batches in
+    let cs = c.batches.result.now in
+    let us = c.self.inside.underway.items in
+    let rest = c.pop.new.self.items in
+    let n = c.unwrap-newest.result in
+    let was : us ≡ rest ++ n ∷ [] = c.pop.ensures.items ∙ ap (λ (r : Option (UnderwayState g.row.T.Denot)). rest ++ option_to_list r) c.unwrap-newest.ensures in
+    let u = c.in_ok-newest.newest in
+    let h = c.in_ok-newest.ensures in
+    let stack = underway_on below cmp joined met bs cs us rest n u c.batches.ensures.value was c.self.invariant h.at h.same in
+    subst (λ (vs : List (UnderwayState g.row.T.Denot)). AreUnderway below cmp joined met bs vs) (sym c.in_ok-push.ensures.items) stack
+
+pub invariant_of-self-in_err-put : goal.invariant_of-self-in_err-put
+invariant_of-self-in_err-put g c =
+    let older = underway_popped g.T.PartialOrder.below g.T.Ord.cmp g.T.Lattice.joined g.T.Lattice.met c.self.inside.list.batches c.pop.new.self.items c.self.inside.underway.items c.pop.result c.pop.ensures.items c.self.invariant in
+    subst (λ (s : BatchListState g.row.T.Denot). AreUnderway g.T.PartialOrder.below g.T.Ord.cmp g.T.Lattice.joined g.T.Lattice.met s.batches c.pop.new.self.items) (sym c.in_err-put.ensures.same) older
+
+pub invariant_of-self-2 : goal.invariant_of-self-2
+invariant_of-self-2 g c =
+    let below = g.T.PartialOrder.below in
+    let cmp = g.T.Ord.cmp in
+    let joined = g.T.Lattice.joined in
+    let met = g.T.Lattice.met in
+    let bs = c.self.inside.list.batches in
+    let cs = c.batches.result.now in
+    let us = c.self.inside.underway.items in
+    let rest = c.pop.new.self.items in
+    let n = c.unwrap-newest.result in
+    let was : us ≡ rest ++ n ∷ [] = c.pop.ensures.items ∙ ap (λ (r : Option (UnderwayState g.row.T.Denot)). rest ++ option_to_list r) c.unwrap-newest.ensures in
+    let u = c.in_ok-newest.newest in
+    let h = c.in_ok-newest.ensures in
+    let stack = underway_on below cmp joined met bs cs us rest n u c.batches.ensures.value was c.self.invariant h.at h.same in
+    let change = c.in_ok-put.ensures.changed in
+    subst (λ (ds : List (BatchState g.row.T.Denot)). AreUnderway below cmp joined met ds rest) (sym (ap (λ (s : BatchListState g.row.T.Denot). s.batches) change.1)) (underway_put below cmp joined met bs rest u change.0 stack change.2)
+
+pub returns-clause-on : goal.returns-clause-on
+returns-clause-on g c =
+    let below = g.T.PartialOrder.below in
+    let cmp = g.T.Ord.cmp in
+    let joined = g.T.Lattice.joined in
+    let met = g.T.Lattice.met in
+    let bs = c.self.inside.list.batches in
+    let cs = c.batches.result.now in
+    let us = c.self.inside.underway.items in
+    let rest = c.pop.new.self.items in
+    let n = c.unwrap-newest.result in
+    let was : us ≡ rest ++ n ∷ [] = c.pop.ensures.items ∙ ap (λ (r : Option (UnderwayState g.row.T.Denot)). rest ++ option_to_list r) c.unwrap-newest.ensures in
+    let u = c.in_ok-newest.newest in
+    let h = c.in_ok-newest.ensures in
+    let view = c.self.view_is in
+    let change = c.in_ok-put.ensures.changed in
+    let at = newest_at below cmp joined met bs cs us rest n c.batches.ensures.value was c.self.invariant in
+    let more : 1 ≤ c.in_ok-newest.left = omega (arith, c.if-left-eq0.false) in
+    let spent = put_spent below cmp joined met cs n u c.in_ok-newest.left c.args.fuel at h.at h.same h.spent h.on more in
+    let list = ap (λ (s : LevelsState g.row.T.Denot). s.list) view in
+    let all = c.batches.ensures.value ∙ ap (λ (s : BatchListState g.row.T.Denot). s.batches) list in
+    let becomes = change.1 ∙ ap (λ (s : BatchListState g.row.T.Denot). record s { batches = changed change.0 s.batches; reserved = c.put.new.list.reserved }) list in
+    let makes = change_same below bs n u change.0 h.same change.2 in
+    inr (record {
+      older = rest;
+      newest = n;
+      change = change.0;
+      was = sym (ap (λ (s : LevelsState g.row.T.Denot). s.underway) view) ∙ was;
+      is = λ k. record { list = becomes k; underway = rest };
+      makes = subst (λ (s : BatchListState g.row.T.Denot). IsChangeAs below s.batches n change.0) list makes;
+      spent = subst (λ (ds : List (BatchState g.row.T.Denot)). (c.in_ok-newest.left - 1) + suc (unread_of ds n) ≡ c.args.fuel) all spent;
+    })

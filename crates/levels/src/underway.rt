@@ -1,0 +1,237 @@
+//! One merge that is under way in a list of batches: that of a batch and the next one, or the
+//! rewriting of one batch. It knows the number of its first batch, but does not own what it reads.
+//! So each call is lent the list, and asks for the one thing that a caller has to keep true: that
+//! the merge is of the batches at its place.
+//!
+//! Which of both kinds it is shows only here. A caller begins the one or the other, and then
+//! [`step`](Underway::step) and [`put`](Underway::put) are the same for both.
+ghost use Rattle.std.specs.Prelude.{◌≡◌, ◌⊎◌, ◌<◌, ◌+◌, suc, Some, true, false, IfErr, IfOk, OnErr, OnOk, length, slice_get};
+ghost use Rattle.antichain.specs.Antichains.{IsFrontier};
+ghost use Rattle.update.specs.Refusals.{IsMemoryOrOverflow};
+ghost use Rattle.update.specs.declared.refusal.Refusal.{Refusal};
+ghost use Rattle.batch.specs.Descriptions.{BatchState, Follows};
+ghost use Rattle.levels.specs.Levels.{Change, IsAt, IsBegun, IsChangeAs, IsSameMerge, HasLargeSources, changed, read_of, unread_of};
+
+use batch::{Batch, Merging};
+use lattice::Lattice;
+use std::marker::Model;
+use trace::BatchList;
+use update::Refusal;
+
+/// The batches that a merge reads: the one with this number and the next one, or that one alone.
+#[derive(Clone, Copy)]
+pub struct Place {
+    /// The number of the first batch, counted from 0.
+    pub number: usize,
+    /// Whether one batch is rewritten.
+    pub is_alone: bool,
+}
+
+// A merge of the batch with this number and the next one, or the rewriting of that one alone.
+#[derive(Drop)]
+pub(crate) struct Underway<T: Lattice> {
+    number: usize,
+    is_alone: bool,
+    merging: Merging<T>,
+}
+
+impl<T: Lattice> Model for Underway<T> {
+    ghost use Rattle.levels.specs.Levels.{UnderwayState};
+
+    ghost Value = { UnderwayState T };
+
+    ghost view = { λ u. record { number = u.number; alone = u.is_alone; merging = u.merging } };
+}
+
+impl<T: Lattice> Underway<T> {
+    // Begins to merge the batch with this number and the next one.
+    pub(crate) fn of_two(
+        batches: &[Batch<T>],
+        number: usize,
+        since: &[T],
+    ) -> Result<Underway<T>, Refusal>
+        requires within { suc number < length batches.now }
+        requires frontier { IsFrontier T.below T.cmp since.now }
+        requires follows { (a b : BatchState T) → slice_get batches.now number ≡ Some a
+            → slice_get batches.now (suc number) ≡ Some b → Follows a.description b.description }
+        ensures at { IfOk result (IsAt T.below T.cmp T.joined T.met batches.now) }
+        ensures begun { IfOk result (IsBegun number false since.now) }
+        ensures only { IfErr result (λ refused. refused ≡ Refusal.OutOfMemory) }
+    {
+        let merging = Merging::of_two(&batches[number], &batches[number + 1], since)?;
+        Ok(Underway {
+            number,
+            is_alone: false,
+            merging,
+        })
+    }
+
+    // Begins to rewrite the batch with this number.
+    pub(crate) fn of_one(
+        batches: &[Batch<T>],
+        number: usize,
+        since: &[T],
+    ) -> Result<Underway<T>, Refusal>
+        requires within { number < length batches.now }
+        requires frontier { IsFrontier T.below T.cmp since.now }
+        ensures at { IfOk result (IsAt T.below T.cmp T.joined T.met batches.now) }
+        ensures begun { IfOk result (IsBegun number true since.now) }
+        ensures only { IfErr result (λ refused. refused ≡ Refusal.OutOfMemory) }
+    {
+        let merging = Merging::of_one(&batches[number], since)?;
+        Ok(Underway {
+            number,
+            is_alone: true,
+            merging,
+        })
+    }
+
+    // Which batches it reads.
+    pub(crate) fn place(&self) -> Place
+        ensures number { result.number ≡ self.now.number }
+        ensures alone { result.is_alone ≡ self.now.alone }
+    {
+        Place {
+            number: self.number,
+            is_alone: self.is_alone,
+        }
+    }
+
+    // Reads as many more updates as the fuel says, or all that are left, and answers what is left
+    // of the fuel.
+    pub(crate) fn step(self, batches: &[Batch<T>], fuel: u64) -> Result<(Underway<T>, u64), Refusal>
+        requires { IsAt T.below T.cmp T.joined T.met batches.now self }
+        ensures at { IfOk result (λ new. IsAt T.below T.cmp T.joined T.met batches.now new.0) }
+        ensures same { IfOk result (λ new. IsSameMerge self new.0) }
+        ensures spent { IfOk result (λ new. read_of new.0 + new.1 ≡ read_of self + fuel) }
+        ensures on { IfOk result (λ new. (new.1 ≡ 0) ⊎ (unread_of batches.now new.0 ≡ 0)) }
+        ensures refused { IfErr result
+            (IsMemoryOrOverflow (HasLargeSources T.below T.joined T.met batches.now self)) }
+    {
+        if self.is_alone {
+            self.step_of_one(batches, fuel)
+        } else {
+            self.step_of_two(batches, fuel)
+        }
+    }
+
+    // Puts the batch that was made in the place of those that were read.
+    pub(crate) fn put(self, list: &mut BatchList<T>) -> Result<(), Refusal>
+        requires at { IsAt T.below T.cmp T.joined T.met list.old.batches self }
+        requires read { unread_of list.old.batches self ≡ 0 }
+        ensures changed { OnOk result ((c : Change T)
+            × (list.new ≡ record list.old {
+              batches = changed c list.old.batches;
+              reserved = list.new.reserved;
+            }) × IsChangeAs T.below list.old.batches self c) }
+        ensures same { OnErr result (list.new ≡ list.old) }
+        ensures refused { IfErr result
+            (IsMemoryOrOverflow (HasLargeSources T.below T.joined T.met list.old.batches self)) }
+    {
+        if self.is_alone {
+            self.put_one(list)
+        } else {
+            self.put_two(list)
+        }
+    }
+
+    // A step of the merge of two batches.
+    fn step_of_two(self, batches: &[Batch<T>], fuel: u64) -> Result<(Underway<T>, u64), Refusal>
+        requires at { IsAt T.below T.cmp T.joined T.met batches.now self }
+        requires two { self.alone ≡ false }
+        ensures at { IfOk result (λ new. IsAt T.below T.cmp T.joined T.met batches.now new.0) }
+        ensures same { IfOk result (λ new. IsSameMerge self new.0) }
+        ensures spent { IfOk result (λ new. read_of new.0 + new.1 ≡ read_of self + fuel) }
+        ensures on { IfOk result (λ new. (new.1 ≡ 0) ⊎ (unread_of batches.now new.0 ≡ 0)) }
+        ensures refused { IfErr result
+            (IsMemoryOrOverflow (HasLargeSources T.below T.joined T.met batches.now self)) }
+    {
+        let Underway {
+            number,
+            is_alone,
+            merging,
+        } = self;
+        let (merging, left) = merging.step(&batches[number], &batches[number + 1], fuel)?;
+        let on = Underway {
+            number,
+            is_alone,
+            merging,
+        };
+        Ok((on, left))
+    }
+
+    // A step of the rewriting of one batch.
+    fn step_of_one(self, batches: &[Batch<T>], fuel: u64) -> Result<(Underway<T>, u64), Refusal>
+        requires at { IsAt T.below T.cmp T.joined T.met batches.now self }
+        requires one { self.alone ≡ true }
+        ensures at { IfOk result (λ new. IsAt T.below T.cmp T.joined T.met batches.now new.0) }
+        ensures same { IfOk result (λ new. IsSameMerge self new.0) }
+        ensures spent { IfOk result (λ new. read_of new.0 + new.1 ≡ read_of self + fuel) }
+        ensures on { IfOk result (λ new. (new.1 ≡ 0) ⊎ (unread_of batches.now new.0 ≡ 0)) }
+        ensures refused { IfErr result
+            (IsMemoryOrOverflow (HasLargeSources T.below T.joined T.met batches.now self)) }
+    {
+        let Underway {
+            number,
+            is_alone,
+            merging,
+        } = self;
+        let (merging, left) = merging.step_of_one(&batches[number], fuel)?;
+        let on = Underway {
+            number,
+            is_alone,
+            merging,
+        };
+        Ok((on, left))
+    }
+
+    // Puts one batch in the place of two.
+    fn put_two(self, list: &mut BatchList<T>) -> Result<(), Refusal>
+        requires at { IsAt T.below T.cmp T.joined T.met list.old.batches self }
+        requires two { self.alone ≡ false }
+        requires read { unread_of list.old.batches self ≡ 0 }
+        ensures changed { OnOk result ((c : Change T)
+            × (list.new ≡ record list.old {
+              batches = changed c list.old.batches;
+              reserved = list.new.reserved;
+            }) × IsChangeAs T.below list.old.batches self c) }
+        ensures same { OnErr result (list.new ≡ list.old) }
+        ensures refused { IfErr result
+            (IsMemoryOrOverflow (HasLargeSources T.below T.joined T.met list.old.batches self)) }
+    {
+        let Underway {
+            number,
+            merging,
+            ..
+        } = self;
+        let batches = list.batches();
+        let merged = merging.finish(&batches[number], &batches[number + 1])?;
+        list.put_pair(number, merged);
+        Ok(())
+    }
+
+    // Puts the rewritten batch in the place of the old one.
+    fn put_one(self, list: &mut BatchList<T>) -> Result<(), Refusal>
+        requires at { IsAt T.below T.cmp T.joined T.met list.old.batches self }
+        requires one { self.alone ≡ true }
+        requires read { unread_of list.old.batches self ≡ 0 }
+        ensures changed { OnOk result ((c : Change T)
+            × (list.new ≡ record list.old {
+              batches = changed c list.old.batches;
+              reserved = list.new.reserved;
+            }) × IsChangeAs T.below list.old.batches self c) }
+        ensures same { OnErr result (list.new ≡ list.old) }
+        ensures refused { IfErr result
+            (IsMemoryOrOverflow (HasLargeSources T.below T.joined T.met list.old.batches self)) }
+    {
+        let Underway {
+            number,
+            merging,
+            ..
+        } = self;
+        let batches = list.batches();
+        let rewritten = merging.finish_one(&batches[number])?;
+        list.put_one(number, rewritten);
+        Ok(())
+    }
+}
