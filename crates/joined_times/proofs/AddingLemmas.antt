@@ -3,12 +3,10 @@
 use Rattle.std.proofs.Common.{◌≡◌, ◌↔◌, ℕ, ◌<◌, ◌≤◌, ◌+◌, ◌-◌, Bool, true, List, [], ◌∷◌, ◌++◌, map, length, get_or, take, drop, ◌⊎◌, inl, inr, ⊎_elim, refl, sym, ap, subst, ◌∙◌, append_assoc, length-append, arith}
 use Rattle.std.proofs.lemmas.List.{append-nil, map-append, take-append-drop, take_more, take_all, take_rest, drop_at, drop_all, drop_more, get_or-append_right}
 use Rattle.lattice.specs.Order.{PartialOrderLaws, LatticeLaws}
-use Rattle.update.specs.Joins.{joins_of}
-use Rattle.joined_times.specs.Joined.{Member, IsFresh}
+use Rattle.joined_times.specs.Joined.{Member}
 use Rattle.joined_times.specs.Adding.{SameMembers, joins_with, IsLast, Appends, IsFreshBy, AreBetween}
 use Rattle.joined_times.proofs.MemberLemmas.{member_at, member_last, pushed_members, append_members, itself, through, back, in_each, regrouped, exchanged}
-use Rattle.joined_times.proofs.JoinLemmas.{joins_append, fresh_same}
-use Rattle.joined_times.proofs.FreshLemmas.{none_fresh, near_same, one_fresh, fresh_parted, fresh_halves}
+use Rattle.joined_times.proofs.FreshLemmas.{none_fresh, new_same, one_fresh, fresh_parted, fresh_halves}
 
 -- one of three facts, with the last two exchanged
 last_exchanged : (A B C : Type 0) → ((A ⊎ B) ⊎ C) ↔ ((A ⊎ C) ⊎ B)
@@ -177,14 +175,8 @@ module _ {T : Type 0} {below : T → T → Bool} {joined met : T → T → T} (o
         appends_halves left right both before start middle now (e ∙ ap (λ xs. before ++ xs) b_read) by_left (subst (λ xs. Appends middle now (IsFreshBy joined right xs)) near_right second)
 
   -- what was appended to an empty list are the fresh times
-  pub fresh_all : (times distinct new before fresh now : List T) → SameMembers new distinct → before ≡ [] → Appends before fresh (IsFreshBy joined distinct times) → SameMembers fresh now → (old : List T) → SameMembers times (joins_of joined old) → (t : T) → Member t now ↔ IsFresh joined new old t
-  fresh_all times distinct new before fresh now same e a once old so t =
+  pub fresh_all : (times distinct new before fresh now : List T) → SameMembers new distinct → before ≡ [] → Appends before fresh (IsFreshBy joined distinct times) → SameMembers fresh now → (t : T) → Member t now ↔ IsFreshBy joined new times t
+  fresh_all times distinct new before fresh now same e a once t =
       let appended : fresh ≡ a.0 = a.1 ∙ ap (λ xs. xs ++ a.0) e in
       let is : Member t fresh ↔ IsFreshBy joined distinct times t = subst (λ xs. Member t xs ↔ IsFreshBy joined distinct times t) (sym appended) (a.2 t) in
-      through (back (once t)) (through is (through (near_same joined distinct times (joins_of joined old) so t)
-      (back (fresh_same o b new distinct old old same (λ s. itself) t))))
-
-  -- so the joined times of all are the kept ones and the fresh ones
-  pub joins_all : (times new fresh now old : List T) → SameMembers times (joins_of joined old) → ((t : T) → Member t fresh ↔ IsFresh joined new old t) → ((t : T) → Member t now ↔ (Member t times ⊎ Member t fresh)) → SameMembers now (joins_of joined (new ++ old))
-  joins_all times new fresh now old so is merged t =
-      through (merged t) (through (in_each (so t) (is t)) (through (exchanged (Member t (joins_of joined old)) (IsFresh joined new old t)) (back (joins_append o b new old t))))
+      through (back (once t)) (through is (back (new_same o b new distinct times same t)))

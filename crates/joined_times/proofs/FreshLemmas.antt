@@ -7,7 +7,7 @@ use Rattle.update.specs.Joins.{joins_of}
 use Rattle.joined_times.specs.Joined.{Member}
 use Rattle.joined_times.specs.Adding.{SameMembers, joins_with, IsFreshBy, AreBetween}
 use Rattle.joined_times.proofs.MemberLemmas.{in_left, in_right, in_either, only_one, image_in, image_of}
-use Rattle.joined_times.proofs.JoinLemmas.{joins_have, joins_least, joins_closed, joins_within, joins_append, join_later}
+use Rattle.joined_times.proofs.JoinLemmas.{joins_have, joins_least, joins_closed, joins_within, joins_same, joins_append, join_later}
 
 module _ {T : Type 0} (joined : T → T → T) where
   -- without new times nothing is fresh
@@ -22,6 +22,14 @@ module _ {T : Type 0} (joined : T → T → T) where
   near_same new xs ys same t = (near_within new xs ys (λ s. (same s).0) t, near_within new ys xs (λ s. (same s).1) t)
 
 module _ {T : Type 0} {below : T → T → Bool} {joined met : T → T → T} (o : PartialOrderLaws below) (b : LatticeLaws below joined met) where
+  -- of the new times only the members matter
+  pub new_same : (new more near : List T) → SameMembers new more → (t : T) → IsFreshBy joined new near t ↔ IsFreshBy joined more near t
+  new_same new more near same t =
+      let js = joins_same o b new more same in (
+        λ f. ⊎_elim (λ k. inl ((js t).0 k)) (λ r. inr (r.0, r.1, (js r.0).0 r.2, r.3, r.4)) f,
+        λ f. ⊎_elim (λ k. inl ((js t).1 k)) (λ r. inr (r.0, r.1, (js r.0).1 r.2, r.3, r.4)) f,
+      )
+
   -- by one new time, this time is fresh, and its join with each near one
   pub one_fresh : (n : T) (near : List T) (t : T) → Member t (joins_with joined n near) ↔ IsFreshBy joined (n ∷ []) near t
   one_fresh n near t = (

@@ -210,17 +210,3 @@ module _ {T : Type 0} {below : T → T → Bool} {joined met : T → T → T} (o
     -- a join of old times at or after a new one is fresh
     pub fresh_absorbs : (n t : T) → Member n new → Member t (joins_of joined old) → below n t ≡ true → IsFresh joined new old t
     fresh_absorbs n t m k h = inr (n, t, joins_have joined new n m, k, join_commutes o b n t ∙ join_later n t h)
-
-  -- more times have more fresh ones
-  pub fresh_within : (new more old others : List T) → ((t : T) → Member t new → Member t more) → ((t : T) → Member t old → Member t others) → (t : T) → IsFresh joined new old t → IsFresh joined more others t
-  fresh_within new more old others to too t f =
-      let news = joins_within new more (λ s m. joins_have joined more s (to s m)) in
-      let olds = joins_within old others (λ s m. joins_have joined others s (too s m)) in
-      ⊎_elim (λ k. inl (news t k)) (λ r. inr (r.0, r.1, news r.0 r.2, olds r.1 r.3, r.4)) f
-
-  -- which times are fresh depends on the members of both lists alone
-  pub fresh_same : (new more old others : List T) → SameMembers new more → SameMembers old others → (t : T) → IsFresh joined new old t ↔ IsFresh joined more others t
-  fresh_same new more old others same too t = (
-    fresh_within new more old others (λ s. (same s).0) (λ s. (too s).0) t,
-    fresh_within more new others old (λ s. (same s).1) (λ s. (too s).1) t,
-  )

@@ -1,5 +1,6 @@
 -- Lemmas about members of lists, and about the joins of times.
 pub mod AddingLemmas
+pub mod AlikeLemmas
 pub mod FreshLemmas
 pub mod JoinLemmas
 pub mod MemberLemmas

@@ -1,7 +1,8 @@
 -- The times at which the answer for a key can change: the joins of the times of its updates
 -- (McSherry et al., Differential Dataflow, CIDR 2013).
-use Rattle.std.specs.Prelude.{◌≡◌, ℕ, Bool, List, [], ◌∷◌, ℤ, map, take, ◌⊎◌}
+use Rattle.std.specs.Prelude.{◌≡◌, ◌↔◌, ℕ, Bool, IsTrue, List, [], ◌∷◌, ℤ, map, take, ◌⊎◌}
 use Rattle.std.specs.List.{filter}
+use Rattle.lattice.specs.Frontiers.{is_beyond}
 use Rattle.update.specs.Bags.{same_row}
 use Rattle.update.specs.Joins.{joins_of}
 use Rattle.update.specs.declared.change.Update.{Update}
@@ -35,3 +36,13 @@ module _ {T : Type 0} (joined : T → T → T) where
   IsFresh new old t =
       Member t (joins_of joined new)
       ⊎ ((a : T) × (b : T) × Member a (joins_of joined new) × Member b (joins_of joined old) × (joined a b ≡ t))
+
+  -- t is the join of n with one of these times
+  abbrev pub IsJoinWith : T → List T → T → Type 0
+  IsJoinWith n ts t = (s : T) × Member s ts × (joined n s ≡ t)
+
+module _ {T : Type 0} (below : T → T → Bool) (joined : T → T → T) where
+  -- joined with any time beyond the since, both lists make the same times
+  abbrev pub JoinAlike : List T → List T → List T → Type 0
+  JoinAlike since xs ys =
+      (n t : T) → IsTrue (is_beyond below since n) → IsJoinWith joined n xs t ↔ IsJoinWith joined n ys t

@@ -17,9 +17,8 @@
 //! Each call makes new lists, so a call that is refused has changed nothing.
 ghost use Rattle.std.specs.Prelude.{◌≡◌, ◌↔◌, ◌⊎◌, ◌≤◌, ◌<◌, ◌+◌, ◌++◌, List, [], ◌∷◌, drop, length, map, IsTrue, IfOk, IfErr, OnOk};
 ghost use Rattle.std.specs.List.Sorted.{IsStrictlySortedBy};
-ghost use Rattle.update.specs.Joins.{joins_of};
 ghost use Rattle.update.specs.declared.refusal.Refusal.{Refusal};
-ghost use Rattle.joined_times.specs.Joined.{Member, IsFresh};
+ghost use Rattle.joined_times.specs.Joined.{Member};
 ghost use Rattle.joined_times.specs.Adding.{SameMembers, joins_with, IsLast, Appends, AreBetween, IsFreshBy, IsMerging};
 
 use lattice::Lattice;
@@ -285,9 +284,10 @@ fn merged<T: Lattice>(alloc: Global, xs: &[T], ys: &[T]) -> Result<Vec<T>, Refus
     Ok(out)
 }
 
-/// Adds new times to the joined times of a key. If `times` are the joins of some old times, then
-/// the result has the joins of the old and new times, and the fresh ones among them become due.
-/// `new` may be in any order and have a time more than once.
+/// Adds new times to the joined times of a key: the joins of new times, and the joins of these with
+/// the kept times. All of these become due. If `times` join with the new times as the joins of some
+/// old times do, then what is added are the joins of old and new times that hold a new one. `new`
+/// may be in any order and have a time more than once.
 ///
 /// - [`Refusal::OutOfMemory`] only if memory for the new lists was refused.
 ///
@@ -304,12 +304,10 @@ pub fn with_times<T: Lattice>(
 ) -> Result<JoinedTimes<T>, Refusal>
     requires times { IsStrictlySortedBy T.cmp times.now }
     requires due { IsStrictlySortedBy T.cmp due.now }
-    ensures times { IfOk result
-        (λ out. (old : List T) → SameMembers times.now (joins_of T.joined old)
-        → SameMembers out.times.items (joins_of T.joined (new.now ++ old))) }
-    ensures due { IfOk result
-        (λ out. (old : List T) → SameMembers times.now (joins_of T.joined old)
-        → (t : T) → Member t out.due.items ↔ (Member t due.now ⊎ IsFresh T.joined new.now old t)) }
+    ensures times { IfOk result (λ out. (t : T) → Member t out.times.items
+        ↔ (Member t times.now ⊎ IsFreshBy T.joined new.now times.now t)) }
+    ensures due { IfOk result (λ out. (t : T) → Member t out.due.items
+        ↔ (Member t due.now ⊎ IsFreshBy T.joined new.now times.now t)) }
     ensures ordered_times { IfOk result (λ out. IsStrictlySortedBy T.cmp out.times.items) }
     ensures ordered_due { IfOk result (λ out. IsStrictlySortedBy T.cmp out.due.items) }
     ensures only { IfErr result (λ refused. refused ≡ Refusal.OutOfMemory) }

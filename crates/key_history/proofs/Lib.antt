@@ -1,5 +1,6 @@
 -- Lemmas about the history of a key.
 pub mod ApartLemmas
+pub mod CompactionLemmas
 pub mod OverfullLemmas
 pub mod PastLemmas
 pub mod ReplayLemmas

@@ -24,7 +24,7 @@ use Rattle.joined_times.specs.Joined.{Member, of_key}
 use Rattle.key_history.specs.Standing.{KeyStands, IsSettledAt, Shows}
 use Rattle.correction.specs.Corrections.{IsRight, AllAt, Corrects, IsTooMuch}
 use Rattle.key_history.specs.Owing.{IsOwed}
-use Rattle.key_history.specs.Settling.{ReadsAs, Steps, Settling, IsOverfullFor}
+use Rattle.key_history.specs.Settling.{AreReadable, ReadsAs, Steps, Settling, IsOverfullFor}
 use Rattle.correction.proofs.JoinedLemmas.{sum_at, sum_at-append}
 use Rattle.joined_times.proofs.MemberLemmas.{each_member, in_either, in_left, in_right}
 use Rattle.key_history.proofs.StandingLemmas.{corrects_one, key_right}
@@ -134,9 +134,9 @@ module _ {T : Type 0} {below : T → T → Bool} {joined met : T → T → T} (o
       (in_either s rest after m)
 
   -- what stands in for what was given does so with more behind both
-  pub shows_more : (given more : List (Update T)) → IsTrue (list_all (of_key k key) more) → Shows below k key stored given → Shows below k key (stored ++ more) (given ++ more)
-  shows_more given more own s = record {
-    sums = λ t row d. sum_at-append below t stored more row ∙ (ap (λ z. z +ℤ sum_at below t more row) (s.sums t row d) ∙ sym (sum_at-append below t given more row));
+  pub shows_more : (since : List T) (given more : List (Update T)) → IsTrue (list_all (of_key k key) more) → Shows below since k key stored given → Shows below since k key (stored ++ more) (given ++ more)
+  shows_more since given more own s = record {
+    sums = λ t row late d. sum_at-append below t stored more row ∙ (ap (λ z. z +ℤ sum_at below t more row) (s.sums t row late d) ∙ sym (sum_at-append below t given more row));
     smaller =
         let a = weight-append stored more in
         let b = weight-append (filter (of_key k key) given) (filter (of_key k key) more) in
@@ -158,10 +158,10 @@ module _ {T : Type 0} {below : T → T → Bool} {joined met : T → T → T} (o
   own_from [] h = refl
   own_from (u ∷ us) h = and_from (of_key k key u) (list_all (of_key k key) us) (h u (inl refl)) (own_from us (λ v m. h v (inr m)))
 
-  right_shown : (taken given stored2 given2 new : List (Update T)) (t : T) → ((t : T) (row : List ℤ) → same_row (take k row) key ≡ true → count_of (as_of below t stored2) row ≡ count_of (as_of below t given2) row)
+  right_shown : (taken given stored2 given2 new : List (Update T)) (t : T) → ((row : List ℤ) → same_row (take k row) key ≡ true → count_of (as_of below t stored2) row ≡ count_of (as_of below t given2) row)
       → IsRight below k reduce taken (stored2 ++ new) key t → IsRight below k reduce taken (given2 ++ new) key t
   right_shown taken given stored2 given2 new t s r row d =
-      sum_at-append below t given2 new row ∙ (ap (λ z. z +ℤ sum_at below t new row) (sym (s t row d)) ∙ (sym (sum_at-append below t stored2 new row) ∙ r row d))
+      sum_at-append below t given2 new row ∙ (ap (λ z. z +ℤ sum_at below t new row) (sym (s row d)) ∙ (sym (sum_at-append below t stored2 new row) ∙ r row d))
 
   -- ---- what is owed
 
@@ -195,7 +195,7 @@ module _ {T : Type 0} {below : T → T → Bool} {joined met : T → T → T} (o
     pub first_of : Settling below joined k reduce key content stored front due 0 [] []
     first_of = record {
       rest_is = refl;
-      stands = λ taken given rd sh w. subst (λ z. KeyStands below joined k reduce taken z key due) (sym (append-nil given)) w;
+      stands = λ since taken given be rd sh w. subst (λ z. KeyStands below joined k reduce taken z key due) (sym (append-nil given)) w;
       apart = tt;
       at = λ u m. absurd m;
       nonzero = λ u m. absurd m;
@@ -221,15 +221,15 @@ module _ {T : Type 0} {below : T → T → Bool} {joined met : T → T → T} (o
 
       -- with one more correction
       corrected : is_beyond below front t ≡ false → (new : List (Update T)) → Corrects below k reduce content (stored ++ more) key t new
-          → (taken given : List (Update T)) → ReadsAs below front due content taken → Shows below k key stored given → KeyStands below joined k reduce taken given key due
+          → (since : List T) (taken given : List (Update T)) → AreReadable below since front due → ReadsAs below front due content taken → Shows below since k key stored given → KeyStands below joined k reduce taken given key due
           → KeyStands below joined k reduce taken ((given ++ more) ++ new) key (rest ++ after)
-      corrected p new c taken given rd sh w =
+      corrected p new c since taken given be rd sh w =
           let here : Member t due = member_at due i t lt e in
-          let old : KeyStands below joined k reduce taken (given ++ more) key (rest ++ t ∷ after) = subst (λ z. KeyStands below joined k reduce taken (given ++ more) key (rest ++ z)) (next due i t lt e) (s.stands taken given rd sh w) in
+          let old : KeyStands below joined k reduce taken (given ++ more) key (rest ++ t ∷ after) = subst (λ z. KeyStands below joined k reduce taken (given ++ more) key (rest ++ z)) (next due i t lt e) (s.stands since taken given be rd sh w) in
           corrects_one o l k reduce taken (given ++ more) new key (rest ++ t ∷ after) (rest ++ after) t old (member-here t rest after)
           (λ v m. member-weaken v t rest after m) (λ v m. member-rest v t rest after m)
           (least t rest after left p (later x total due ascending i t lt e)) c.at
-          (right_shown taken given (stored ++ more) (given ++ more) new t (shows_more given more own sh).sums (c.right taken (rd t here p)))
+          (right_shown taken given (stored ++ more) (given ++ more) new t (λ row d. (shows_more since given more own sh).sums t row (be t here p) d) (c.right taken (rd t here p)))
 
       apart_new : (new : List (Update T)) → AllAt k key t new → AreApart below new → AreApart below (more ++ new)
       apart_new new a b = apart_both o more new s.apart b (λ u v m n. step u v m n (is_doubled below u v) refl)
@@ -244,7 +244,7 @@ module _ {T : Type 0} {below : T → T → Bool} {joined met : T → T → T} (o
       pub stepped : (more2 : List (Update T)) (rest2 : List T) → Steps below joined k reduce key content stored front t more more2 rest rest2 → Settling below joined k reduce key content stored front due (i + 1) more2 rest2
       stepped more2 rest2 (inl w) = record {
         rest_is = w.2 ∙ (ap (λ z. rest ++ z) (sym stays) ∙ sym rest_more);
-        stands = λ taken given rd sh st. subst (λ z. KeyStands below joined k reduce taken (given ++ z) key (rest2 ++ after)) (sym w.1) (subst (λ z. KeyStands below joined k reduce taken (given ++ more) key z) moved (s.stands taken given rd sh st));
+        stands = λ since taken given be rd sh st. subst (λ z. KeyStands below joined k reduce taken (given ++ z) key (rest2 ++ after)) (sym w.1) (subst (λ z. KeyStands below joined k reduce taken (given ++ more) key z) moved (s.stands since taken given be rd sh st));
         apart = subst (AreApart below) (sym w.1) s.apart;
         at = λ u m. still u (subst (Member u) w.1 m);
         nonzero = λ u m. s.nonzero u (subst (Member u) w.1 m);
@@ -257,9 +257,9 @@ module _ {T : Type 0} {below : T → T → Bool} {joined met : T → T → T} (o
           moved = ap (λ z. rest ++ z) (next due i t lt e) ∙ (sym (append_assoc rest (t ∷ []) after) ∙ ap (λ z. z ++ after) (sym w.2))
       stepped more2 rest2 (inr w) = record {
         rest_is = w.1 ∙ (sym (append-nil rest) ∙ (ap (λ z. rest ++ z) (sym goes) ∙ sym rest_more));
-        stands = λ taken given rd sh st.
+        stands = λ since taken given be rd sh st.
             subst (λ z. KeyStands below joined k reduce taken z key (rest2 ++ after)) (append_assoc given more new ∙ ap (λ z. given ++ z) (sym w.2.1))
-            (subst (λ z. KeyStands below joined k reduce taken ((given ++ more) ++ new) key (z ++ after)) (sym w.1) (corrected w.0 new c taken given rd sh st));
+            (subst (λ z. KeyStands below joined k reduce taken ((given ++ more) ++ new) key (z ++ after)) (sym w.1) (corrected w.0 new c since taken given be rd sh st));
         apart = subst (AreApart below) (sym w.2.1) (apart_new new c.at c.apart);
         at = λ u m. ⊎_elim (still u) (λ n. let a = all_at_is k key new t c.at u n in (a.0, subst (λ z. Member z (take (i + 1) due)) (sym a.1) here, ap (λ z. is_beyond below front z) a.1 ∙ w.0)) (in_either u more new (subst (Member u) w.2.1 m));
         nonzero = λ u m. ⊎_elim (s.nonzero u) (λ n. each_member (λ u. u.diff ≢ pos 0) new w.2.2 u n) (in_either u more new (subst (Member u) w.2.1 m));
@@ -279,7 +279,7 @@ module _ {T : Type 0} {below : T → T → Bool} {joined met : T → T → T} (o
 
       -- a number that is too large at a time that is due
       pub overfull : IsReducer k reduce → is_beyond below front t ≡ false → IsTooMuch below k reduce content (stored ++ more) key t → IsOverfullFor below joined k reduce key content stored front due
-      overfull q p large taken given rd sh st ag op ps = (
+      overfull q p large since taken given be rd sh st ag op ps = (
         key,
         t,
         filter (of_key k key) all,
@@ -289,7 +289,7 @@ module _ {T : Type 0} {below : T → T → Bool} {joined met : T → T → T} (o
           before = λ v under strict row d. own_count v row d ∙ key_right o l k reduce q taken all key left_over stands v (quiet v under strict) row d;
           large =
               too_much_given below k key t reduce taken (stored ++ more) (filter (of_key k key) all)
-              (λ row d. (shows_more given more own sh).sums t row d ∙ sym (own_count t row d))
+              (λ row d. (shows_more since given more own sh).sums t row (be t here p) d ∙ sym (own_count t row d))
               (too_much_taken below k key t reduce q content taken (stored ++ more) (rd t here p) large);
         },
       )
@@ -301,7 +301,7 @@ module _ {T : Type 0} {below : T → T → Bool} {joined met : T → T → T} (o
           left_over = rest ++ drop i due
 
           stands : KeyStands below joined k reduce taken all key left_over
-          stands = s.stands taken given rd sh st
+          stands = s.stands since taken given be rd sh st
 
           own_count : (v : T) (row : List ℤ) → same_row (take k row) key ≡ true → count_of (as_of below v (filter (of_key k key) all)) row ≡ count_of (as_of below v all) row
           own_count v row d = ap (λ z. count_of z row) (as_of-keyed below k key v all) ∙ count-had below k key v all row d

@@ -18,6 +18,11 @@ module _ {T : Type 0} (below : T → T → Bool) where
   ReadsAs front due content taken =
       (t : T) → Member t due → is_beyond below front t ≡ false → Alike (as_of below t content) (as_of below t taken)
 
+  -- the pending times that the frontier has passed are beyond the since
+  abbrev pub AreReadable : List T → List T → List T → Type 0
+  AreReadable since front due =
+      (t : T) → Member t due → is_beyond below front t ≡ false → IsTrue (is_beyond below since t)
+
 module _ {T : Type 0} (below : T → T → Bool) (joined : T → T → T) (k : ℕ) (reduce : List ℤ → List Entry → List Entry)
     (key : List ℤ) (content stored : List (Update T)) (front : List T) where
   -- one time: it stays, or it is corrected
@@ -33,8 +38,9 @@ module _ {T : Type 0} (below : T → T → Bool) (joined : T → T → T) (k : �
     -- after the first i of the pending times
     pub record Settling (i : ℕ) (more : List (Update T)) (rest : List T) : Type 0 where
       pub rest_is : rest ≡ filter (λ t. is_beyond below front t) (take i due)
-      pub stands : (taken given : List (Update T)) → ReadsAs below front due content taken
-          → Shows below k key stored given → KeyStands below joined k reduce taken given key due
+      pub stands : (since : List T) (taken given : List (Update T)) → AreReadable below since front due
+          → ReadsAs below front due content taken
+          → Shows below since k key stored given → KeyStands below joined k reduce taken given key due
           → KeyStands below joined k reduce taken (given ++ more) key (rest ++ drop i due)
       pub apart : AreApart below more
       pub at : (u : Update T) → Member u more
@@ -43,8 +49,9 @@ module _ {T : Type 0} (below : T → T → Bool) (joined : T → T → T) (k : �
 
     -- the cause of a refusal for a number that is too large
     abbrev pub IsOverfullFor : Type 0
-    IsOverfullFor = (taken given : List (Update T)) → ReadsAs below front due content taken
-        → Shows below k key stored given → KeyStands below joined k reduce taken given key due
+    IsOverfullFor = (since : List T) (taken given : List (Update T)) → AreReadable below since front due
+        → ReadsAs below front due content taken
+        → Shows below since k key stored given → KeyStands below joined k reduce taken given key due
         → AreApart below given
         → ((g : Update T) → Member g given → of_key k key g ≡ true → IsSettledAt below due g.time)
         → ((g : Update T) → Member g given → IsTrue (has_passed below front g.time))

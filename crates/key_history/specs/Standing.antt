@@ -1,7 +1,8 @@
 -- What a reduction is to keep of each key: which of its joined times are pending, and that at each
 -- other one the updates that were given are right.
-use Rattle.std.specs.Prelude.{◌≡◌, ℕ, ◌≤◌, Bool, true, List, ℤ, length, take, nat_le, ◌⊎◌}
+use Rattle.std.specs.Prelude.{◌≡◌, ℕ, ◌≤◌, Bool, true, List, ℤ, IsTrue, length, take, nat_le, ◌⊎◌}
 use Rattle.std.specs.List.{filter, list_all}
+use Rattle.lattice.specs.Frontiers.{is_beyond}
 use Rattle.update.specs.Bags.{Entry, count_of, same_row}
 use Rattle.update.specs.Updates.{as_of, size}
 use Rattle.update.specs.declared.change.Update.{Update}
@@ -29,9 +30,9 @@ module _ {T : Type 0} (below : T → T → Bool) where
   abbrev pub IsSettledAt : List T → T → Type 0
   IsSettledAt due t = (s : T) → Member s due → below s t ≡ true → ⊥
 
-  -- these updates stand in for what was given of a key: their rows sum to the same at every time,
-  -- and they are no larger
-  pub record Shows (k : ℕ) (key : List ℤ) (stored given : List (Update T)) : Type 0 where
-    pub sums : (t : T) (row : List ℤ) → same_row (take k row) key ≡ true
+  -- these updates stand in for what was given of a key, as of a since: their rows sum to the same
+  -- at every time beyond it, and they are no larger
+  pub record Shows (since : List T) (k : ℕ) (key : List ℤ) (stored given : List (Update T)) : Type 0 where
+    pub sums : (t : T) (row : List ℤ) → IsTrue (is_beyond below since t) → same_row (take k row) key ≡ true
         → count_of (as_of below t stored) row ≡ count_of (as_of below t given) row
     pub smaller : size stored ≤ size (filter (of_key k key) given)

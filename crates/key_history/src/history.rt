@@ -3,13 +3,21 @@
 //! through. Only [`KeyHistory::give`] takes memory, and what it appends can be taken back. So a
 //! call that is refused on its way can leave each history as it was.
 //!
+//! Kept times and what was given may be moved as of a since ([`KeyHistory::compact`]): no time beyond
+//! it tells the history from the one before.
+//!
 //! Beside what was given stands its past, which is a shorter list for the times to come. A contract
 //! does not see it.
 ghost use Rattle.std.specs.Prelude.{◌≡◌, ◌≤◌, ◌+◌, ◌++◌, List, [], ℤ, IfErr, OnErr, OnOk, length, vec_capacity, vec_len};
 ghost use Rattle.update.specs.declared.refusal.Refusal.{Refusal};
 ghost use Rattle.key_history.specs.States.{HistoryState, given_more, given_less, due_left, times_put};
 ghost use Rattle.key_history.specs.Replays.{StandsFrom};
+ghost use Rattle.key_history.specs.Compaction.{IsCompacted, IsFolded, retimed};
+ghost use Rattle.lattice.specs.Representatives.{representative_of};
+ghost use Rattle.update.specs.Refusals.{IsMemoryOrOverflow};
+ghost use Rattle.update.specs.Updates.{HasLargeTotal};
 
+use crate::compaction::{compact_given, compact_times};
 use crate::past::Past;
 use lattice::Lattice;
 use row::Row;
@@ -145,6 +153,27 @@ impl<T: Lattice> KeyHistory<T> {
         if let Ok(past) = Past::of(alloc, folded, recent, count, since) {
             self.past = past;
         }
+    }
+
+    /// Moves the kept times to their representatives as of a since, and adds up what was given as of
+    /// it. The pending times stay. If it is refused, then what is left undone stays as it was.
+    ///
+    /// - [`Refusal::Overflow`] only if the total of some row at some moved time over what was given
+    ///   is no 64-bit number.
+    /// - [`Refusal::OutOfMemory`] only if memory for the moved times or updates was refused.
+    ///
+    /// Cost: a join and a meet for each kept time, each update that was given and each element of
+    /// the since, and a sort of both.
+    pub fn compact(&mut self, alloc: Global, since: &[T]) -> Result<(), Refusal>
+        ensures compacted { IsCompacted T.below T.cmp T.joined since.now self.old self.new }
+        ensures folded { OnOk result
+            (IsFolded T.below T.joined T.met since.now T.cmp self.new) }
+        ensures refused { IfErr result (IsMemoryOrOverflow (HasLargeTotal T.below
+            (retimed (representative_of T.joined T.met since.now) self.old.given))) }
+    {
+        compact_times(alloc, &mut self.times, since)?;
+        compact_given(alloc, &mut self.given, &mut self.past, since)?;
+        Ok(())
     }
 
     /// Appends copies of updates to what was given. If the call is refused, then nothing has

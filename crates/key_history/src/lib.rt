@@ -18,6 +18,7 @@
 //! `specs/Settling.antt`.
 #![tactic(auto)]
 
+mod compaction;
 mod history;
 mod past;
 mod replay;

@@ -34,7 +34,8 @@ module _ {T : Type 0} where
   get_rewritten zero (suc k) m (a ∷ bs) l = refl
   get_rewritten (suc i) (suc k) m (a ∷ bs) l = get_rewritten i k m bs (omega (arith, l))
 
-  changed_before : (below : T → T → Bool) (bs : List (BatchState T)) (u : UnderwayState T) (c : Change T) → IsChangeAs below bs u c → (i : ℕ) → i < u.number → slice_get (changed c bs) i ≡ slice_get bs i
+  -- a change leaves the batches before its place
+  pub changed_before : (below : T → T → Bool) (bs : List (BatchState T)) (u : UnderwayState T) (c : Change T) → IsChangeAs below bs u c → (i : ℕ) → i < u.number → slice_get (changed c bs) i ≡ slice_get bs i
   changed_before below bs u (Merged k m) is i l = get_merged i k m bs (omega (arith, l, is.1))
   changed_before below bs u (Rewritten k m) is i l = get_rewritten i k m bs (omega (arith, l, is.1))
 
@@ -78,11 +79,13 @@ module _ {T : Type 0} (below : T → T → Bool) (cmp : T → T → Ordering) (j
   in_elsewhere true n k m bs cs same l is = (is.0, same n (omega (arith, l)) ∙ is.1, is.2)
   in_elsewhere false n k m bs cs same l is = (is.0, is.1, same n (omega (arith, l)) ∙ is.2, same (suc n) (omega (arith, l)) ∙ is.3, is.4)
 
-  places_forward : (bs : List (BatchState T)) (from : ℕ) (us : List (UnderwayState T)) → AreUnderwayFrom below cmp joined met from bs us → from ≤ end_of_places from us
+  -- places go forward
+  pub places_forward : (bs : List (BatchState T)) (from : ℕ) (us : List (UnderwayState T)) → AreUnderwayFrom below cmp joined met from bs us → from ≤ end_of_places from us
   places_forward bs from [] is = omega arith
   places_forward bs from (u ∷ us) is = let r = places_forward bs (end_of_place u) us is.2 in omega (arith, r, is.0)
 
-  ends_within : (bs : List (BatchState T)) (from : ℕ) (us : List (UnderwayState T)) → AreUnderwayFrom below cmp joined met from bs us → from ≤ length bs → end_of_places from us ≤ length bs
+  -- all places are within the list
+  pub ends_within : (bs : List (BatchState T)) (from : ℕ) (us : List (UnderwayState T)) → AreUnderwayFrom below cmp joined met from bs us → from ≤ length bs → end_of_places from us ≤ length bs
   ends_within bs from [] is l = l
   ends_within bs from (u ∷ us) is l = ends_within bs (end_of_place u) us is.2 (in_within u.alone u.number u.merging bs is.1)
 

@@ -9,7 +9,7 @@ ghost use Rattle.antichain.specs.Antichains.{IsFrontier};
 ghost use Rattle.update.specs.Refusals.{IsMemoryOrOverflow};
 ghost use Rattle.update.specs.declared.refusal.Refusal.{Refusal};
 ghost use Rattle.trace.specs.BatchLists.{Continues, IsBatchList, end_of, insertion_of, insertions_of};
-ghost use Rattle.levels.specs.Levels.{UnderwayState, IsBegun, IsWithoutNewest, HasGoneOn, IsPut, HasLargeNewest, end_of_places, width_of};
+ghost use Rattle.levels.specs.Levels.{UnderwayState, AreUnderway, IsBegun, IsWithoutNewest, HasGoneOn, IsPut, HasLargeNewest, end_of_places, width_of};
 
 use crate::Place;
 use crate::underway::Underway;
@@ -28,6 +28,15 @@ use update::Refusal;
 pub struct Levels<T: Lattice> {
     list: BatchList<T>,
     underway: Vec<Underway<T>>,
+}
+
+/// What a call of [`go_on`](Levels::go_on) came to.
+#[derive(Clone, Copy)]
+pub struct Step {
+    /// How many updates were copied.
+    pub copies: u64,
+    /// What is left of the fuel.
+    pub left: u64,
 }
 
 impl<T: Lattice> Model for Levels<T> {
@@ -64,6 +73,16 @@ impl<T: Lattice> Levels<T> {
         ensures known { IsBatchList T.below T.cmp self.now.list }
     {
         self.list.batches()
+    }
+
+    /// Tells the prover that each merge is at its place, and that no place begins before the end of
+    /// the one before it. Costs nothing.
+    pub fn known(&self)
+        ensures { AreUnderway T.below T.cmp T.joined T.met
+            self.now.list.batches self.now.underway }
+    {
+        // (a function knows the invariant if it uses a field)
+        let _list = &self.list;
     }
 
     /// Makes room for one more batch, so that the next [`insert`](Levels::insert) takes no memory.
@@ -121,10 +140,26 @@ impl<T: Lattice> Levels<T> {
             × (place.number ≡ u.number) × (place.is_alone ≡ u.alone)) }
         ensures end { IfSome result (λ place. end_of_places 0 self.now.underway
             ≡ place.number + width_of place.is_alone) }
+        ensures within { IfSome result (λ place.
+            place.number + width_of place.is_alone ≤ length self.now.list.batches) }
     {
         match self.underway.last() {
             Some(newest) => Some(newest.place()),
             None => None,
+        }
+    }
+
+    /// The number of the first batch behind the places of all merges that are under way. The next
+    /// merge may be begun from there on. Takes no memory.
+    pub fn end(&self) -> usize
+        ensures end { result ≡ end_of_places 0 self.now.underway }
+        ensures within { result ≤ length self.now.list.batches }
+    {
+        // (no place ends behind the batches, and their number is one)
+        let _many = self.batches().len();
+        match self.newest() {
+            Some(place) => place.number + place.width(),
+            None => 0,
         }
     }
 
@@ -179,8 +214,8 @@ impl<T: Lattice> Levels<T> {
         let _given_up = self.underway.pop();
     }
 
-    /// Goes on with the newest merge, by as many updates as the fuel says, and answers what is left
-    /// of the fuel. Each update that is read costs one unit. If there is fuel left when all is
+    /// Goes on with the newest merge, by as many updates as the fuel says, and answers how many were
+    /// copied and what is left of the fuel. Each update that is copied costs one unit. If there is fuel left when all is
     /// read, then the new batch takes the place of those that were read, for one unit more. If it
     /// is refused, then the merge is given up, and the list stays as it was.
     ///
@@ -190,11 +225,13 @@ impl<T: Lattice> Levels<T> {
     ///
     /// Cost: that of [`Merging::step`](batch::Merging::step); when the merge is whole, that of
     /// [`Merging::finish`](batch::Merging::finish) and one step for each batch behind it.
-    pub fn go_on(&mut self, fuel: u64) -> Result<u64, Refusal>
+    pub fn go_on(&mut self, fuel: u64) -> Result<Step, Refusal>
         requires one { self.old.underway ≢ [] }
         requires some { 0 < fuel }
-        ensures on { IfOk result (λ left. ((left ≡ 0) × HasGoneOn fuel self.old self.new)
-            ⊎ IsPut T.below fuel left self.old self.new) }
+        ensures on { IfOk result
+            (λ step. ((step.left ≡ 0) × (step.copies ≡ fuel) × HasGoneOn fuel self.old self.new)
+            ⊎ ((step.left + suc step.copies ≡ fuel)
+            × IsPut T.below fuel step.left self.old self.new)) }
         ensures gone { OnErr result (IsWithoutNewest self.old self.new) }
         ensures refused { IfErr result
             (IsMemoryOrOverflow (HasLargeNewest T.below T.joined T.met self.old)) }
@@ -203,9 +240,12 @@ impl<T: Lattice> Levels<T> {
         let (newest, left) = newest.step(self.list.batches(), fuel)?;
         if left == 0 {
             self.underway.push(newest)?;
-            return Ok(0);
+            return Ok(Step { copies: fuel, left });
         }
         newest.put(&mut self.list)?;
-        Ok(left - 1)
+        Ok(Step {
+            copies: fuel - left,
+            left: left - 1,
+        })
     }
 }

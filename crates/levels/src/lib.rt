@@ -18,5 +18,5 @@
 mod levels;
 mod underway;
 
-pub use levels::Levels;
+pub use levels::{Levels, Step};
 pub use underway::Place;

@@ -10,7 +10,7 @@ ghost use Rattle.antichain.specs.Antichains.{IsFrontier};
 ghost use Rattle.update.specs.Refusals.{IsMemoryOrOverflow};
 ghost use Rattle.update.specs.declared.refusal.Refusal.{Refusal};
 ghost use Rattle.batch.specs.Descriptions.{BatchState, Follows};
-ghost use Rattle.levels.specs.Levels.{Change, IsAt, IsBegun, IsChangeAs, IsSameMerge, HasLargeSources, changed, read_of, unread_of};
+ghost use Rattle.levels.specs.Levels.{Change, IsAt, IsBegun, IsChangeAs, IsSameMerge, HasLargeSources, changed, read_of, unread_of, width_of};
 
 use batch::{Batch, Merging};
 use lattice::Lattice;
@@ -25,6 +25,15 @@ pub struct Place {
     pub number: usize,
     /// Whether one batch is rewritten.
     pub is_alone: bool,
+}
+
+impl Place {
+    /// How many batches are at the place. Takes no memory.
+    pub fn width(self) -> usize
+        ensures { result ≡ width_of self.is_alone }
+    {
+        if self.is_alone { 1 } else { 2 }
+    }
 }
 
 // A merge of the batch with this number and the next one, or the rewriting of that one alone.

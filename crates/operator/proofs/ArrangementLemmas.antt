@@ -23,9 +23,10 @@ use Rattle.trace.specs.Holds.{HoldState}
 use Rattle.trace.proofs.BatchListLemmas.{reached_boundary}
 use Rattle.trace.proofs.BoundaryLemmas.{end-append}
 use Rattle.spine.specs.Holding.{AreSameHolds, IsMoved, IsSinceOf}
-use Rattle.spine.specs.Spines.{SpineState, Stands, Merge, AreMerges, IsWorked, after, boundaries, stored}
+use Rattle.levels.specs.Levels.{Change}
+use Rattle.spine.specs.Spines.{SpineState, Stands, AreAllowed, IsWorked, after, boundaries, stored}
 use Rattle.spine.proofs.HoldersLemmas.{all_same, hold_begun}
-use Rattle.spine.proofs.StandingLemmas.{end_merged}
+use Rattle.spine.proofs.StandingLemmas.{end_changed}
 use Rattle.operator.specs.Arrangements.{ArrangementState, IsArrangement, IsNew, IsReader, rows_have, times_from, upper_of}
 use Rattle.operator.proofs.HoldLemmas.{beyond_since, first_last, own_moved, some_passes}
 
@@ -56,18 +57,18 @@ module _ {T : Type 0} where
   all_more q us vs h k = list_all-append q us vs ∙ and_from (list_all q us) (list_all q vs) h k
 
   -- merges leave the frontier that the batches have reached
-  module _ (below : T → T → Bool) (since : List T) (holds : List (HoldState T)) where
-    end_worked : (ms : List (Merge T)) (from : List T) (bs : List (BatchState T)) → AreMerges below since holds ms bs → end_of from (after ms bs) ≡ end_of from bs
+  module _ (below : T → T → Bool) (o : PartialOrderLaws below) (since : List T) (holds : List (HoldState T)) where
+    end_worked : (cs : List (Change T)) (from : List T) (bs : List (BatchState T)) → AreAllowed below since holds cs bs → end_of from (after cs bs) ≡ end_of from bs
     end_worked [] from bs h = refl
-    end_worked (m ∷ ms) from bs h = end_merged below since m.number m.batch from (after ms bs) h.1 ∙ end_worked ms from bs h.2
+    end_worked (c ∷ cs) from bs h = end_changed below o since holds c from (after cs bs) h.0 ∙ end_worked cs from bs h.1
 
 module _ {T : Type 0} (below : T → T → Bool) (o : PartialOrderLaws below) (least : T) where
   -- the frontier that a spine has reached stays in work
-  pub upper_worked : (n : ℕ) (s t : SpineState T) → IsWorked below n s t → upper_of t ≡ upper_of s
-  upper_worked n s t w =
+  pub upper_worked : (n lost : ℕ) (s t : SpineState T) → IsWorked below n lost s t → upper_of t ≡ upper_of s
+  upper_worked n lost s t w =
       ap (λ (x : SpineState T). end_of x.list.start t.list.batches) w.kept
       ∙ ap (end_of s.list.start) w.batches
-      ∙ end_worked below s.since s.holds w.merges s.list.start s.list.batches w.allowed
+      ∙ end_worked below o s.since s.holds w.changes s.list.start s.list.batches w.allowed
 
   -- a hold from the upper frontier on is a reader
   reader_at_upper : (s : SpineState T) (h : HoldState T) → h.logical ≡ least ∷ [] → h.physical ≡ upper_of s → IsReader below least s h
@@ -175,9 +176,9 @@ module _ {T : Type 0} (below : T → T → Bool) (o : PartialOrderLaws below) (l
       })
 
   -- merged batches
-  pub arrangement_worked : (n : ℕ) (a : ArrangementState T) (s : SpineState T) → IsWorked below n a.spine s → IsArrangement below least a → IsArrangement below least (record a { spine = s })
-  arrangement_worked n a s w is =
-      let upper = upper_worked n a.spine s w in
+  pub arrangement_worked : (n lost : ℕ) (a : ArrangementState T) (s : SpineState T) → IsWorked below n lost a.spine s → IsArrangement below least a → IsArrangement below least (record a { spine = s })
+  arrangement_worked n lost a s w is =
+      let upper = upper_worked n lost a.spine s w in
       record {
         holds = subst (AreSameHolds a.holds) (sym (ap (λ (x : SpineState T). x.holds) w.kept)) is.holds;
         own = is.own;

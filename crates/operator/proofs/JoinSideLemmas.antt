@@ -121,9 +121,9 @@ module _ {T : Type 0} {below : T → T → Bool} (o : PartialOrderLaws below) (m
       (subst (λ (l : BatchListState T). Contains (ends_of l) boundary) (sym list) is.readable) is
 
   -- a side is as it was after its spine has merged batches, if a hold asks for its boundary
-  pub side_worked : (n : ℕ) (s r : SpineState T) (inserted taken : List (Insertion T)) (boundary : List T) → IsWorked below n s r → IsTrue (forbids below s.holds boundary)
+  pub side_worked : (n lost : ℕ) (s r : SpineState T) (inserted taken : List (Insertion T)) (boundary : List T) → IsWorked below n lost s r → IsTrue (forbids below s.holds boundary)
       → IsSide below minimum s inserted taken boundary → IsSide below minimum r inserted taken boundary
-  side_worked n s r inserted taken boundary work held is =
+  side_worked n lost s r inserted taken boundary work held is =
       side_kept o minimum s r inserted taken boundary (work.stands inserted)
       (ap (λ (x : SpineState T). x.list.start) work.kept)
       (ap (λ (x : SpineState T). x.since) work.kept)

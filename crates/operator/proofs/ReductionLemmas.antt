@@ -39,7 +39,7 @@ use Rattle.reduce.specs.Kinds.{kind_answer, kind_reduces}
 use Rattle.reduce.specs.Reductions.{StandsFor, IsOpenTo, IsQuietAt, SumsToTaken}
 use Rattle.key_history.proofs.ApartLemmas.{doubled, doubled_is, own_total, apart_both}
 use Rattle.key_history.proofs.OverfullLemmas.{overfull_is_large}
-use Rattle.reduce.proofs.HeldLemmas.{under_in, pending_under}
+use Rattle.reduce.proofs.HeldLemmas.{under_in, pending_under, or_nothing}
 use Rattle.joined_times.proofs.JoinLemmas.{joins_have}
 use Rattle.correction.proofs.KeyedLemmas.{absent_row}
 use Rattle.reduce.proofs.LawLemmas.{settled_law}
@@ -304,14 +304,18 @@ module _ {T : Type 0} {below : T → T → Bool} (o : PartialOrderLaws below) wh
 module _ {T : Type 0} {below : T → T → Bool} {joined met : T → T → T} (o : PartialOrderLaws below) (l : LatticeLaws below joined met) where
   -- where nothing is pending, what was given is what the plan's reduction makes of what was
   -- received
-  pub answer_at : (r : ReducingView T) (received emitted : List (Update T)) → HasRoom r.state.reducer r.key r.width → r.state.key ≡ state_key r.state.reducer r.key r.width → IsReduced below joined r received emitted
+  pub answer_at : {minimum : T} (r : ReducingView T) (received emitted : List (Update T)) → HasRoom r.state.reducer r.key r.width → r.state.key ≡ state_key r.state.reducer r.key r.width → IsReduced below joined minimum r received emitted
       → (t : T) → IsTrue (has_passed below (pending_of r) t) → IsAnswerAt below r received emitted t
-  answer_at r received emitted room goes w t h row =
-      settled_law o l r.state.key (kind_answer r.state.reducer) (kind_reduces r.state.reducer r.state.key) r.state.histories w.taken emitted w.stands t (quiet below r.state.histories t h) row
+  answer_at {minimum} r received emitted room goes w t h row =
+      settled_law o l r.state.key (kind_answer r.state.reducer) (kind_reduces r.state.reducer r.state.key) (minimum ∷ []) r.state.histories w.taken emitted w.stands t (quiet below r.state.histories t h) row
       ∙ (plan_answers r.state.reducer r.state.key r.key r.width goes room (as_of below t w.taken) (sum_wide below t r.width w.taken (w.same.among (λ row s. eqb (length row) r.width) w.wide)) row
       ∙ alike_answers r.state.reducer r.key (as_of below t w.taken) (as_of below t received) (w.same.sums t) row)
 
   -- ---- taking
+
+  -- what is taken is beyond each frontier that what was received is beyond
+  pub taken_beyond : (content us : List (Update T)) (F : List T) → AreAmong content us → IsTrue (all_beyond below F (times us)) → IsTrue (list_all (λ u. is_beyond below F u.time) content)
+  taken_beyond content us F among later = among (λ row t. is_beyond below F t) (sym (times_beyond below F us) ∙ later)
 
   -- what is taken comes after what was given
   pub behind : (k : ℕ) (content us emitted : List (Update T)) (upper : List T) → AreAmong content us → all_beyond below upper (times us) ≡ true
@@ -322,11 +326,11 @@ module _ {T : Type 0} {below : T → T → Bool} {joined met : T → T → T} (o
       let c = each_of (λ (u : Update T). has_passed below upper u.time) emitted passed g n in
       false_from_ne_true (below u.time g.time) (λ h. true≢false (sym (beyond_up o upper u.time g.time b h) ∙ not_beyond (is_beyond below upper g.time) c))
 
-  pub took : (r : ReducingView T) (content us received emitted : List (Update T)) (hs : List (HistoryState T)) (waiting : List ℕ) → StandIn below content us
-      → (w : IsReduced below joined r received emitted) → IsTrue (have_width r.width us)
-      → StandsFor below joined r.state.key (kind_answer r.state.reducer) hs (content ++ w.taken) emitted → IsOpenTo below r.state.key emitted hs
-      → IsReduced below joined (record r { state = record r.state { histories = hs; waiting = waiting } }) (us ++ received) emitted
-  took r content us received emitted hs waiting same w wide st ahead = record {
+  pub took : {minimum : T} (r : ReducingView T) (content us received emitted : List (Update T)) (hs : List (HistoryState T)) (waiting : List ℕ) → StandIn below content us
+      → (w : IsReduced below joined minimum r received emitted) → IsTrue (have_width r.width us)
+      → StandsFor below (minimum ∷ []) joined r.state.key (kind_answer r.state.reducer) hs (content ++ w.taken) emitted → IsOpenTo below r.state.key emitted hs
+      → IsReduced below joined minimum (record r { state = record r.state { histories = hs; waiting = waiting } }) (us ++ received) emitted
+  took {minimum} r content us received emitted hs waiting same w wide st ahead = record {
     taken = content ++ w.taken;
     same = stand_in_append below content us w.taken received same w.same;
     stands = st;
@@ -416,23 +420,27 @@ module _ {T : Type 0} {below : T → T → Bool} {joined met : T → T → T} (o
 
 -- ---- giving
 
+-- the least time is at or before the since of a trace that reads at every later one
+pub whole_beyond : {T : Type 0} {below : T → T → Bool} → PartialOrderLaws below → (least : T) (since : List T) → ((t : T) → is_beyond below since t ≡ below least t) → IsTrue (all_beyond below (least ∷ []) since)
+whole_beyond {T} {below} o least since whole = all_beyond_from o (least ∷ []) since (λ t h. or_nothing (below least t) ∙ (sym (whole t) ∙ h))
+
 -- what sums to what was received sums to what was taken
 pub sums_taken : {T : Type 0} (below : T → T → Bool) (since frontier : List T) (inserted received taken : List (Update T)) → SumsToReceived below frontier inserted received → StandIn below taken received
     → SumsToTaken below since frontier inserted taken
 sums_taken below since frontier inserted received taken h same t s f row = h t (is_passed (is_beyond below frontier t) f) row ∙ sym (same.sums t row)
 
 module _ {T : Type 0} {below : T → T → Bool} {joined met : T → T → T} {cmp : T → T → Ordering} (o : PartialOrderLaws below) (l : LatticeLaws below joined met) (total : IsTotalOrder cmp) where
-  pub gave : (r : ReducingView T) (received emitted out : List (Update T)) (frontier : List T) (hs : List (HistoryState T)) (waiting : List ℕ) (looked : ℕ)
-      → r.state.key ≡ state_key r.state.reducer r.key r.width → (w : IsReduced below joined r received emitted)
-      → StandsFor below joined r.state.key (kind_answer r.state.reducer) hs w.taken (emitted ++ out)
+  pub gave : {minimum : T} (r : ReducingView T) (received emitted out : List (Update T)) (frontier : List T) (hs : List (HistoryState T)) (waiting : List ℕ) (looked : ℕ)
+      → r.state.key ≡ state_key r.state.reducer r.key r.width → (w : IsReduced below joined minimum r received emitted)
+      → StandsFor below (minimum ∷ []) joined r.state.key (kind_answer r.state.reducer) hs w.taken (emitted ++ out)
       → AreApart below (emitted ++ out) → IsOpenTo below r.state.key (emitted ++ out) hs
       → ((t : T) → IsTrue (has_passed below frontier t) → IsQuietAt below hs t)
       → AreApart below out → AllByRecursion (λ u. u.diff ≢ pos 0) out → IsTrue (list_all (λ u. has_passed below frontier u.time) out)
-      → IsReduced below joined (record r { state = record r.state { histories = hs; waiting = waiting; looked = looked } }) received (out ++ emitted)
-  gave r received emitted out frontier hs waiting looked goes w st apart ahead calm once nonzero passed = record {
+      → IsReduced below joined minimum (record r { state = record r.state { histories = hs; waiting = waiting; looked = looked } }) received (out ++ emitted)
+  gave {minimum} r received emitted out frontier hs waiting looked goes w st apart ahead calm once nonzero passed = record {
     taken = w.taken;
     same = w.same;
-    stands = stands_permuted o l r.state.key (kind_answer r.state.reducer) (kind_reduces r.state.reducer r.state.key) hs w.taken w.taken (emitted ++ out) (out ++ emitted) (IsPermutation-refl w.taken) (IsPermutation-append_comm emitted out) st;
+    stands = stands_permuted o l r.state.key (kind_answer r.state.reducer) (kind_reduces r.state.reducer r.state.key) hs w.taken w.taken (emitted ++ out) (out ++ emitted) (IsPermutation-refl w.taken) (IsPermutation-append_comm emitted out) (minimum ∷ []) st;
     apart = apart_swapped o emitted out apart;
     ahead = open_swapped o r.state.key emitted out hs ahead;
     wide = w.wide;
@@ -445,7 +453,7 @@ module _ {T : Type 0} {below : T → T → Bool} {joined met : T → T → T} {c
 
       rows : IsTrue (have_width (output_width r) out)
       rows =
-          rows_answered o l total r.state.key (kind_answer r.state.reducer) (kind_reduces r.state.reducer r.state.key) (λ row. eqb (length row) (output_width r)) frontier hs w.taken emitted out st calm once nonzero passed w.answered
+          rows_answered o l total r.state.key (kind_answer r.state.reducer) (kind_reduces r.state.reducer r.state.key) (λ row. eqb (length row) (output_width r)) frontier (minimum ∷ []) hs w.taken emitted out st calm once nonzero passed w.answered
           (λ t h.
           subst (λ n. list_all (λ (e : Entry). eqb (length e.row) n) (reduction_output r.state.key (kind_answer r.state.reducer) (as_of below t w.taken)) ≡ true) same_width
           (output_wide r.state.reducer r.state.key r.width (as_of below t w.taken) (sum_wide below t r.width w.taken (w.same.among (λ row s. eqb (length row) r.width) w.wide))))

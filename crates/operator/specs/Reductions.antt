@@ -1,5 +1,5 @@
 -- What a worker keeps at a reduction: for which updates it stands, and which times are pending.
-use Rattle.std.specs.Prelude.{ℕ, ◌≤◌, ◌^◌, Bool, eqb, List, [], ℤ, IsTrue, length, take, flat_map, ◌⊎◌}
+use Rattle.std.specs.Prelude.{ℕ, ◌≤◌, ◌^◌, Bool, eqb, List, [], ◌∷◌, ℤ, IsTrue, length, take, flat_map, ◌⊎◌}
 use Rattle.std.specs.List.{filter, list_all, Contains}
 use Rattle.lattice.specs.Frontiers.{all_beyond}
 use Rattle.update.specs.Bags.{Alike, same_row}
@@ -109,13 +109,13 @@ module _ {T : Type 0} (below : T → T → Bool) where
       ⊎ ((key : List ℤ) × (us : List (Update T)) × AreOwedOf r received frontier key us
       × (2 ^ 63 ≤ size us))
 
-module _ {T : Type 0} (below : T → T → Bool) (joined : T → T → T) where
+module _ {T : Type 0} (below : T → T → Bool) (joined : T → T → T) (minimum : T) where
   -- a reduction that has received these updates and given those, each list with the newest first.
-  -- What it has taken stands in for what was received
+  -- What it has taken stands in for what was received. What it keeps is as of the least time
   pub record IsReduced (r : ReducingView T) (received emitted : List (Update T)) : Type 0 where
     pub taken : List (Update T)
     pub same : StandIn below taken received
-    pub stands : StandsFor below joined r.state.key (kind_answer r.state.reducer) r.state.histories taken emitted
+    pub stands : StandsFor below (minimum ∷ []) joined r.state.key (kind_answer r.state.reducer) r.state.histories taken emitted
     pub apart : AreApart below emitted
     pub ahead : IsOpenTo below r.state.key emitted r.state.histories
     pub wide : IsTrue (have_width r.width received)

@@ -45,7 +45,6 @@ pub struct Arrangement<T: Minimum> {
     spine: Spine<T>,
     waiting: Waiting<T>,
     holds: Vec<Hold<T>>,
-    saved: u64,
 }
 
 impl<T: Minimum> Model for Arrangement<T> {
@@ -76,7 +75,6 @@ impl<T: Minimum> Drop for Arrangement<T> {
             mut spine,
             waiting: _,
             mut holds,
-            saved: _,
         } = self;
         while let Some(hold) = holds.pop() {
             spine.release(hold);
@@ -94,20 +92,10 @@ fn known_forward<T: Lattice>(batch: &Batch<T>)
     let _lower = batch.description().lower();
 }
 
-// How many updates the batches have together; or the greatest number.
-fn updates_in<B: BatchReader>(batches: &[B]) -> u64 {
-    let mut updates: u64 = 0;
-    for batch in batches {
-        updates = updates.saturating_add(batch.len() as u64);
-    }
-    updates
-}
-
-// Twice the number of updates for each batch and for one more, and what was saved; or the greatest
-// number.
-fn fuel_for(saved: u64, updates: u64, batches: u64) -> u64 {
+// Twice the number of updates for each batch and for one more; or the greatest number.
+fn fuel_for(updates: u64, batches: u64) -> u64 {
     let rounds = batches.saturating_add(1).saturating_mul(2);
-    updates.saturating_mul(rounds).saturating_add(saved)
+    updates.saturating_mul(rounds)
 }
 
 // An empty list of holds, with room for one.
@@ -168,7 +156,6 @@ impl<T: Minimum> Arrangement<T> {
                     spine,
                     waiting: Waiting::new(alloc, worker, node),
                     holds,
-                    saved: 0,
                 })
             }
             Err(refused) => {
@@ -320,14 +307,13 @@ impl<T: Minimum> Arrangement<T> {
         self.spine.insert(batch).unwrap();
     }
 
-    /// Lets the spine merge batches, with fuel for so many more updates that were inserted, and
-    /// what earlier calls did not spend. What is saved is at most a unit for each update of the
-    /// spine: that is enough for any merge, and with more a spine would merge all that it has at
-    /// each small insertion. No reader notices. If a merge is refused, then it is left out, and may
-    /// be done by a later call.
+    /// Lets the spine merge batches, with fuel for so many more updates that were inserted. A merge
+    /// that is not whole when the fuel ends goes on with the next call. No reader notices. If a
+    /// merge is refused, then it is given up, and may be begun again by a later call.
     ///
-    /// Cost: the fuel is twice as many units as there are updates and batches, multiplied. A merge
-    /// spends one for each update that it reads, and one more.
+    /// Cost: the fuel is twice as many units as there are updates and batches, multiplied. So the
+    /// more batches there are, the faster they become fewer. Each update that is copied takes one,
+    /// and each batch that takes the place of others one more.
     pub fn work(&mut self, more: usize)
         ensures kept { self.new ≡ record self.old {
           spine = record self.old.spine {
@@ -335,7 +321,7 @@ impl<T: Minimum> Arrangement<T> {
               batches = self.new.spine.list.batches;
               reserved = self.new.spine.list.reserved;
             };
-            copied = self.new.spine.copied;
+            progress = self.new.spine.progress;
           };
         } }
         ensures upper { upper_of self.new.spine ≡ upper_of self.old.spine }
@@ -343,13 +329,7 @@ impl<T: Minimum> Arrangement<T> {
             → Stands T.below self.new.spine h }
     {
         let batches = all_batches(&self.spine).len() as u64;
-        let fuel = fuel_for(self.saved, more as u64, batches);
-        let copied = self.spine.copied();
-        let _done = self.spine.work(fuel);
-        let copies = self.spine.copied().saturating_sub(copied);
-        let merges = batches.saturating_sub(all_batches(&self.spine).len() as u64);
-        let left = fuel.saturating_sub(copies).saturating_sub(merges);
-        self.saved = left.min(updates_in(all_batches(&self.spine)));
+        let _done = self.spine.work(fuel_for(more as u64, batches));
     }
 
     /// Tells the spine that a reader, by the number of its hold, has taken all that was inserted,

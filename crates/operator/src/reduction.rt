@@ -7,7 +7,7 @@
 //! one list with the newest first.
 //!
 //! The invariant: no pending time comes before the least time. So wherever a time is due, a trace
-//! whose since is the least time can be read.
+//! whose since is the least time can be read. What the state keeps is as of the least time, too.
 //!
 //! A distinct goes by whole rows, whatever the plan's key is: of each row it answers from the count
 //! of that row alone. So a correction looks at one row, and not at all rows of a key. It costs a
@@ -97,7 +97,7 @@ impl<T: Minimum> Reducing<T> {
         ensures state { result.state.key ≡ state_key kind key width }
         ensures kind { result.state.reducer ≡ kind }
         ensures width { result.width ≡ width }
-        ensures stands { IsReduced T.below T.joined result [] [] }
+        ensures stands { IsReduced T.below T.joined T.least result [] [] }
         ensures pending { pending_of result ≡ [] }
     {
         Reducing {
@@ -154,15 +154,15 @@ impl<T: Minimum> Reducing<T> {
         requires later { IsTrue (all_beyond T.below (T.least ∷ []) (times updates.items)) }
         requires wide { IsTrue (have_width self.old.width updates.items) }
         ensures stands { OnOk result ((received emitted : List (Update T)) (upper : List T)
-            → IsReduced T.below T.joined self.old received emitted
+            → IsReduced T.below T.joined T.least self.old received emitted
             → IsTrue (all_beyond T.below upper (times updates.items))
             → IsTrue (list_all (λ u. has_passed T.below upper u.time) emitted)
-            → IsReduced T.below T.joined self.new (updates.items ++ received) emitted) }
+            → IsReduced T.below T.joined T.least self.new (updates.items ++ received) emitted) }
         ensures pending { OnOk result ((received emitted : List (Update T))
-            → IsReduced T.below T.joined self.old received emitted
+            → IsReduced T.below T.joined T.least self.old received emitted
             → IsPendingAfter T.below (pending_of self.old) updates.items (pending_of self.new)) }
         ensures uncancelled { OnOk result ((received emitted : List (Update T))
-            → IsReduced T.below T.joined self.old received emitted
+            → IsReduced T.below T.joined T.least self.old received emitted
             → AreApart T.below updates.items
             → AllByRecursion (λ u. u.diff ≢ pos 0) updates.items
             → IsPendingWith T.below (pending_of self.old) updates.items (pending_of self.new)) }
@@ -204,13 +204,13 @@ impl<T: Minimum> Reducing<T> {
             (received emitted : List (Update T))
             → Stands T.below trace.now inserted
             → SumsToReceived T.below frontier.now (all_updates inserted) received
-            → IsReduced T.below T.joined self.old received emitted
-            → IsReduced T.below T.joined self.new received (out.items ++ emitted)) }
+            → IsReduced T.below T.joined T.least self.old received emitted
+            → IsReduced T.below T.joined T.least self.new received (out.items ++ emitted)) }
         ensures law { IfOk result (λ out. (inserted : List (Insertion T))
             (received emitted : List (Update T))
             → Stands T.below trace.now inserted
             → SumsToReceived T.below frontier.now (all_updates inserted) received
-            → IsReduced T.below T.joined self.old received emitted
+            → IsReduced T.below T.joined T.least self.old received emitted
             → (t : T) → IsTrue (has_passed T.below (pending_of self.new) t)
             → IsAnswerAt T.below self.old received (out.items ++ emitted) t) }
         ensures settled { IfOk result
@@ -235,7 +235,7 @@ impl<T: Minimum> Reducing<T> {
             (received emitted : List (Update T))
             → Stands T.below trace.now inserted
             → SumsToReceived T.below frontier.now (all_updates inserted) received
-            → IsReduced T.below T.joined self.old received emitted
+            → IsReduced T.below T.joined T.least self.old received emitted
             → IsTrue (list_all (λ u. has_passed T.below frontier.now u.time) emitted)
             → IsOverfullWith T.below self.old received frontier.now)) }
     {

@@ -221,17 +221,17 @@ module _ (key : List ℤ) where
           settles_with : (i : ℕ) (more : List (Update T)) (rest : List T) → Settling below joined k reduce key (without_rows k key content) stored front due i more rest → Settling below joined k reduce key content stored front due i more rest
           settles_with i more rest s = record {
             rest_is = s.rest_is;
-            stands = λ taken given rd sh w.
+            stands = λ since taken given be rd sh w.
                 stands_with taken (given ++ more) (rest ++ drop i due)
-                (s.stands (without_rows k key taken) given (reads_without front due content taken rd) sh (stands_without taken given due w));
+                (s.stands since (without_rows k key taken) given be (reads_without front due content taken rd) sh (stands_without taken given due w));
             apart = s.apart;
             at = s.at;
             nonzero = s.nonzero;
           }
 
           overfull_with : IsOverfullFor below joined k reduce key (without_rows k key content) stored front due → IsOverfullFor below joined k reduce key content stored front due
-          overfull_with h taken given rd sh w apart settled passed =
-              let z = h (without_rows k key taken) given (reads_without front due content taken rd) sh (stands_without taken given due w) apart settled passed in
+          overfull_with h since taken given be rd sh w apart settled passed =
+              let z = h since (without_rows k key taken) given be (reads_without front due content taken rd) sh (stands_without taken given due w) apart settled passed in
               let at = z.3 in (
                 z.0,
                 z.1,

@@ -34,7 +34,7 @@ module _ {T : Type 0} where
 
   -- that is what a write at the place comes to
   module _ (i : ℕ) (f : HistoryState T → HistoryState T) (hs items : List (HistoryState T)) (old new : HistoryState T) (same : hs ≡ items) (within : i < length items) (read : old ≡ get_or hs i old) (wrote : new ≡ f old) where
-    there : slice_get hs i ≡ Some old
+    pub there : slice_get hs i ≡ Some old
     there = slice_get-at hs i old (subst (λ xs. i < length xs) (sym same) within) read
 
     pub changed_there : set hs i new ≡ changed_at i f items

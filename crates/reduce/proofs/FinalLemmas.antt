@@ -6,7 +6,8 @@ use Rattle.std.specs.List.{filter, AllByRecursion}
 use Rattle.std.specs.Cmp.{IsTotalOrder}
 use Rattle.std.specs.declared.cmp.Ordering.{Ordering}
 use Rattle.lattice.specs.Order.{PartialOrderLaws, LatticeLaws}
-use Rattle.lattice.specs.Frontiers.{is_beyond}
+use Rattle.lattice.specs.Frontiers.{is_beyond, all_beyond}
+use Rattle.lattice.proofs.FrontierLemmas.{beyond_later}
 use Rattle.update.specs.Bags.{Entry, Alike}
 use Rattle.update.specs.Updates.{as_of, AreApart}
 use Rattle.update.specs.declared.change.Update.{Update}
@@ -16,31 +17,34 @@ use Rattle.plan.specs.Reductions.{IsReducer}
 use Rattle.plan.proofs.CountLemmas.{row_same}
 use Rattle.trace.specs.Readings.{IsReadable}
 use Rattle.joined_times.specs.Joined.{Member, AreOnce}
-use Rattle.reduce.specs.Histories.{HistoryState, AreHistories, AreKeysApart, IsWaiting, due_of, joined_of}
+use Rattle.reduce.specs.Histories.{HistoryState, AreHistories, AreKeysApart, IsWaiting, due_of}
 use Rattle.key_history.specs.Standing.{KeyStands, Shows}
 use Rattle.key_history.specs.Owing.{IsOverfull}
 use Rattle.reduce.specs.Reductions.{StandsFor, IsOpenTo, IsQuietAt, SumsToTaken, all_reads}
-use Rattle.key_history.specs.Settling.{ReadsAs, IsOverfullFor}
-use Rattle.reduce.specs.Taking.{HaveJoins}
+use Rattle.key_history.specs.Settling.{AreReadable, ReadsAs, IsOverfullFor}
 use Rattle.reduce.specs.Visiting.{Visit, ChangeState, Gathers, AreWithin, AreCut, all_renewed, all_changed, changes_of}
 use Rattle.reduce.proofs.HistoryLemmas.{at_place, of_there}
-use Rattle.reduce.proofs.ReadyLemmas.{times_stay, apart_raw, raw_at, raw_nonzero, stands_after, rest_is, quiet, apart_after}
+use Rattle.reduce.proofs.ReadyLemmas.{apart_raw, raw_at, raw_nonzero, stands_after, rest_is, quiet, apart_after}
 use Rattle.reduce.proofs.RenewLemmas.{changed_is_renewed, changes_within, changes_cut, changes_once}
 use Rattle.reduce.proofs.RestLemmas.{waiting_after, histories_after, history_there, reads_are_all}
 use Rattle.key_history.proofs.StandingLemmas.{law}
 
 -- what is stored reads as what was taken, at the pending times that are due
-pub reads_as : {T : Type 0} (below : T → T → Bool) (since front due : List T) (content inserted taken : List (Update T)) → ((t : T) → Member t due → is_beyond below front t ≡ false → IsTrue (is_beyond below since t))
+pub reads_as : {T : Type 0} (below : T → T → Bool) (since front due : List T) (content inserted taken : List (Update T)) → AreReadable below since front due
     → IsReadable below since content inserted → SumsToTaken below since front inserted taken → ReadsAs below front due content taken
 reads_as below since front due content inserted taken held r s t m p row = r.sums t (held t m p) row ∙ s t (held t m p) p row
+
+-- pending times that are due are beyond each frontier that the trace's since is beyond
+pub readable_from : {T : Type 0} {below : T → T → Bool} → PartialOrderLaws below → (since held front due : List T) → IsTrue (all_beyond below since held) → AreReadable below held front due → AreReadable below since front due
+readable_from o since held front due later be t m p = beyond_later o since held t later (be t m p)
 
 module _ {T : Type 0} {below : T → T → Bool} {joined met : T → T → T} (cmp : T → T → Ordering) (total : IsTotalOrder cmp) (o : PartialOrderLaws below) (l : LatticeLaws below joined met) (k : ℕ) (reduce : List ℤ → List Entry → List Entry) (q : IsReducer k reduce)
     (content : List (Update T)) (front : List T) (hs : List (HistoryState T)) (known : AreHistories cmp k hs) (apart : AreKeysApart hs) (places : List ℕ) (waits : IsWaiting hs places) where
   -- a key for which a number is too large
   pub overfull_of : (i : ℕ) → IsSomeAnd (slice_get hs i) (λ h. IsOverfullFor below joined (length h.key) reduce h.key content h.given front h.due)
-      → (taken given : List (Update T)) → ((key : List ℤ) → ReadsAs below front (due_of key hs) content taken) → StandsFor below joined k reduce hs taken given → AreApart below given → IsOpenTo below k given hs
+      → (since : List T) (taken given : List (Update T)) → ((key : List ℤ) → AreReadable below since front (due_of key hs)) → ((key : List ℤ) → ReadsAs below front (due_of key hs) content taken) → StandsFor below since joined k reduce hs taken given → AreApart below given → IsOpenTo below k given hs
       → ((g : Update T) → Member g given → IsTrue (has_passed below front g.time)) → IsOverfull below k reduce taken front
-  overfull_of i s taken given rd st ag op ps =
+  overfull_of i s since taken given be rd st ag op ps =
       let p = at_place (slice_get hs i) s in
       let h = p.0 in
       let key = h.key in
@@ -48,7 +52,7 @@ module _ {T : Type 0} {below : T → T → Bool} {joined met : T → T → T} (c
       let cause = subst (λ n. IsOverfullFor below joined n reduce key content h.given front h.due) width p.2 in
       let due = of_there (λ h. h.due) hs i h apart p.1 in
       let stored = of_there (λ h. h.given) hs i h apart p.1 in
-      cause taken given (subst (λ z. ReadsAs below front z content taken) due (rd key)) (subst (λ z. Shows below k key z given) stored (st.shown key))
+      cause since taken given (subst (AreReadable below since front) due (be key)) (subst (λ z. ReadsAs below front z content taken) due (rd key)) (subst (λ z. Shows below since k key z given) stored (st.shown key))
       (subst (KeyStands below joined k reduce taken given key) due (st.keys key)) ag
       (λ g m e v n b. op g m v (subst (Member v) (sym (ap (λ z. due_of z hs) (row_same (take k g.row) key e) ∙ due)) n) b) ps
 
@@ -91,12 +95,6 @@ module _ {T : Type 0} {below : T → T → Bool} {joined met : T → T → T} (c
       pub known_after : AreHistories cmp k new
       known_after = subst (AreHistories cmp k) (sym renewed_is) (histories_after below front joined reduce content cmp k visits hs once g.visits_are known)
 
-      pub joins_after : HaveJoins joined hs → HaveJoins joined new
-      joins_after joins key =
-          let old = joins key in
-          let same : joined_of key new ≡ joined_of key hs = ap (joined_of key) renewed_is ∙ times_stay cmp o l k reduce content front hs known apart visits g.visits_are once key in
-          (old.0, λ t. ((λ m. (old.1 t).0 (subst (Member t) same m)), (λ m. subst (Member t) (sym same) ((old.1 t).1 m))))
-
       pub waits_after : IsWaiting new waiting
       waits_after =
           subst (λ z. IsWaiting z waiting) (sym renewed_is) (subst (IsWaiting (all_renewed visits hs)) (sym g.waiting_is)
@@ -108,15 +106,15 @@ module _ {T : Type 0} {below : T → T → Bool} {joined met : T → T → T} (c
       pub reads_are : reads ≡ all_reads below front content hs places
       reads_are = g.reads_are ∙ (reads_are_all below front joined reduce content visits hs g.visits_are ∙ ap (all_reads below front content hs) g.places_are)
 
-      pub final_stands : (taken given : List (Update T)) → ((key : List ℤ) → ReadsAs below front (due_of key hs) content taken) → StandsFor below joined k reduce hs taken given → StandsFor below joined k reduce new taken (given ++ gathered)
-      final_stands taken given rd st =
-          subst (λ z. StandsFor below joined k reduce new taken (given ++ z)) (sym g.out_is)
-          (subst (λ z. StandsFor below joined k reduce z taken (given ++ flat_map (λ v. v.more) visits)) (sym renewed_is) (stands_after cmp o l k reduce content front hs known apart visits g.visits_are once taken given rd st))
+      pub final_stands : (since : List T) (taken given : List (Update T)) → ((key : List ℤ) → AreReadable below since front (due_of key hs)) → ((key : List ℤ) → ReadsAs below front (due_of key hs) content taken) → StandsFor below since joined k reduce hs taken given → StandsFor below since joined k reduce new taken (given ++ gathered)
+      final_stands since taken given be rd st =
+          subst (λ z. StandsFor below since joined k reduce new taken (given ++ z)) (sym g.out_is)
+          (subst (λ z. StandsFor below since joined k reduce z taken (given ++ flat_map (λ v. v.more) visits)) (sym renewed_is) (stands_after cmp o l k reduce content front hs known apart visits g.visits_are once since taken given be rd st))
 
-      pub final_law : (taken given : List (Update T)) → ((key : List ℤ) → ReadsAs below front (due_of key hs) content taken) → StandsFor below joined k reduce hs taken given
+      pub final_law : (since : List T) (taken given : List (Update T)) → ((key : List ℤ) → AreReadable below since front (due_of key hs)) → ((key : List ℤ) → ReadsAs below front (due_of key hs) content taken) → StandsFor below since joined k reduce hs taken given
           → (t : T) → IsQuietAt below new t → Alike (as_of below t (given ++ gathered)) (reduction_output k reduce (as_of below t taken))
-      final_law taken given rd st t none =
-          let s = final_stands taken given rd st in
+      final_law since taken given be rd st t none =
+          let s = final_stands since taken given be rd st in
           law o l k reduce q taken (given ++ gathered) (λ key. due_of key new) s.wide s.keys t none
 
       pub final_quiet : (t : T) → IsTrue (has_passed below front t) → IsQuietAt below new t

@@ -6,9 +6,10 @@ use Rattle.std.specs.Cmp.{IsTotalOrder}
 use Rattle.std.specs.declared.cmp.Ordering.{Ordering}
 use Rattle.std.proofs.lemmas.Bool.{and_parts, false≢true}
 use Rattle.lattice.specs.Order.{PartialOrderLaws, LatticeLaws}
-use Rattle.lattice.specs.Frontiers.{is_beyond}
-use Rattle.lattice.proofs.FrontierLemmas.{beyond_up}
+use Rattle.lattice.specs.Frontiers.{is_beyond, all_beyond}
+use Rattle.lattice.proofs.FrontierLemmas.{beyond_later, beyond_up}
 use Rattle.update.specs.Bags.{Alike, Entry, count_of}
+use Rattle.update.specs.Joins.{joins_of}
 use Rattle.update.specs.Updates.{as_of, IsConsolidated}
 use Rattle.update.specs.declared.change.Update.{Update}
 use Rattle.update.proofs.UniqueLemmas.{same_totals, same_updates}
@@ -16,8 +17,9 @@ use Rattle.plan.specs.Changes.{has_passed}
 use Rattle.plan.specs.Operators.{reduction_output}
 use Rattle.plan.specs.Reductions.{IsReducer, has_key}
 use Rattle.joined_times.specs.Joined.{IsJoined, times_of}
-use Rattle.reduce.specs.Histories.{HistoryState, due_of}
+use Rattle.reduce.specs.Histories.{HistoryState, due_of, joined_of}
 use Rattle.reduce.specs.Reductions.{StandsFor, IsQuietAt}
+use Rattle.joined_times.proofs.AlikeLemmas.{alike_later}
 use Rattle.correction.proofs.JoinedLemmas.{Floor, floor, floor_joins, taken_same, taken_none}
 use Rattle.key_history.proofs.StandingLemmas.{law}
 
@@ -34,9 +36,19 @@ module _ {T : Type 0} {below : T → T → Bool} {joined met : T → T → T} (o
       at (inl a) = inl (λ row. ap (λ z. count_of (reduce key z) row) (taken_none o l k t key us a) ∙ q.nothing key row)
       at (inr f) = inr (f.0, f.1, f.2, (λ r j b. floor_joins o l (times_of k key us) f.0 t f.3 r j ∙ b), taken_same o l k f.0 t key us f.3)
 
-  pub settled_law : (k : ℕ) (reduce : List ℤ → List Entry → List Entry) → IsReducer k reduce → (hs : List (HistoryState T)) (taken given : List (Update T)) → StandsFor below joined k reduce hs taken given
+  pub settled_law : (k : ℕ) (reduce : List ℤ → List Entry → List Entry) → IsReducer k reduce → (since : List T) (hs : List (HistoryState T)) (taken given : List (Update T)) → StandsFor below since joined k reduce hs taken given
       → (t : T) → IsQuietAt below hs t → Alike (as_of below t given) (reduction_output k reduce (as_of below t taken))
-  settled_law k reduce q hs taken given st t quiet = law o l k reduce q taken given (λ key. due_of key hs) st.wide st.keys t quiet
+  settled_law k reduce q since hs taken given st t quiet = law o l k reduce q taken given (λ key. due_of key hs) st.wide st.keys t quiet
+
+  -- what stands as of a since stands as of each later one
+  pub stands_later : (k : ℕ) (reduce : List ℤ → List Entry → List Entry) (since later : List T) (hs : List (HistoryState T)) (taken given : List (Update T)) → IsTrue (all_beyond below since later)
+      → StandsFor below since joined k reduce hs taken given → StandsFor below later joined k reduce hs taken given
+  stands_later k reduce since later hs taken given a st = record {
+    wide = st.wide;
+    times = λ key. alike_later o l since later (joined_of key hs) (joins_of joined (times_of k key taken)) a (st.times key);
+    keys = st.keys;
+    shown = λ key. record { sums = λ t row h d. (st.shown key).sums t row (beyond_later o since later t a h) d; smaller = (st.shown key).smaller };
+  }
 
 module _ {T : Type 0} {below : T → T → Bool} {cmp : T → T → Ordering} (o : PartialOrderLaws below) (total : IsTotalOrder cmp) where
   pub passed_down : (frontier : List T) (s t : T) → IsTrue (below s t) → IsTrue (has_passed below frontier t) → IsTrue (has_passed below frontier s)

@@ -1,6 +1,7 @@
 -- Lemmas about reductions.
 pub mod BlindLemmas
 pub mod CommitLemmas
+pub mod CompactLemmas
 pub mod FinalLemmas
 pub mod HeldLemmas
 pub mod HistoryLemmas

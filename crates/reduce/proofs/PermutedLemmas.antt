@@ -8,17 +8,18 @@ use Rattle.std.proofs.lemmas.List.Recursion.{is_sum_by}
 use Rattle.std.proofs.lemmas.Bool.{and_parts, and_from}
 use Rattle.lattice.specs.Order.{PartialOrderLaws, LatticeLaws}
 use Rattle.update.specs.Bags.{Entry, count_of, same_row}
+use Rattle.update.specs.Joins.{joins_of}
 use Rattle.update.specs.Updates.{as_of, size}
 use Rattle.update.specs.declared.change.Update.{Update}
 use Rattle.update.proofs.SumLemmas.{total_by-permutation}
 use Rattle.plan.specs.Reductions.{IsReducer}
-use Rattle.joined_times.specs.Joined.{Member, of_key, times_of, IsJoined}
+use Rattle.joined_times.specs.Joined.{Member, of_key, times_of, IsJoined, JoinAlike}
 use Rattle.joined_times.specs.Adding.{SameMembers}
-use Rattle.reduce.specs.Histories.{HistoryState, due_of, given_of}
+use Rattle.reduce.specs.Histories.{HistoryState, due_of, joined_of, given_of}
 use Rattle.correction.specs.Corrections.{IsRight}
 use Rattle.key_history.specs.Standing.{KeyStands}
 use Rattle.reduce.specs.Reductions.{StandsFor}
-use Rattle.joined_times.proofs.MemberLemmas.{member_from_contains, contains_from_member, image_in, image_of, through}
+use Rattle.joined_times.proofs.MemberLemmas.{member_from_contains, contains_from_member, image_in, image_of}
 use Rattle.joined_times.proofs.JoinLemmas.{joins_same}
 use Rattle.correction.proofs.JoinedLemmas.{value, through_is}
 use Rattle.correction.proofs.CorrectionLemmas.{had-alike, weight, weight_is}
@@ -63,7 +64,8 @@ module _ {T : Type 0} where
   all_from q [] h = refl
   all_from q (u ∷ us) h = and_from (q u) (list_all q us) (h u (inl refl)) (all_from q us (λ v m. h v (inr m)))
 
-  all_to : (q : Update T → Bool) (us : List (Update T)) → IsTrue (list_all q us) → (u : Update T) → Member u us → IsTrue (q u)
+  -- what is true of all updates is true of each one
+  pub all_to : (q : Update T → Bool) (us : List (Update T)) → IsTrue (list_all q us) → (u : Update T) → Member u us → IsTrue (q u)
   all_to q [] h u m = absurd m
   all_to q (v ∷ us) h u m =
       let r = and_parts (q v) (list_all q us) h in
@@ -97,6 +99,13 @@ module _ {T : Type 0} {below : T → T → Bool} {joined met : T → T → T} (o
   same_joined : (key : List ℤ) (t : T) → IsJoined joined k taken key t ↔ IsJoined joined k taken2 key t
   same_joined key t = joins_same o l (times_of k key taken) (times_of k key taken2) (times_same k key taken taken2 (permuted taken taken2 p)) t
 
+  -- times join alike with the same times in another order
+  alike_same : (since xs ys zs : List T) → SameMembers ys zs → JoinAlike below joined since xs ys → JoinAlike below joined since xs zs
+  alike_same since xs ys zs same alike n t h = (
+    λ r. let s = (alike n t h).0 r in (s.0, (same s.0).0 s.1, s.2),
+    λ r. (alike n t h).1 (r.0, (same r.0).1 r.1, r.2),
+  )
+
   same_right : (key : List ℤ) (t : T) → IsRight below k reduce taken given key t → IsRight below k reduce taken2 given2 key t
   same_right key t h row d =
       sym (sum_same below t given given2 r row)
@@ -111,13 +120,13 @@ module _ {T : Type 0} {below : T → T → Bool} {joined met : T → T → T} (o
     settled = λ t j. ⊎_elim inl (λ x. inr (same_right key t x)) (h.settled t ((same_joined key t).1 j));
   }
 
-  pub stands_permuted : StandsFor below joined k reduce hs taken given → StandsFor below joined k reduce hs taken2 given2
-  stands_permuted h = record {
+  pub stands_permuted : (since : List T) → StandsFor below since joined k reduce hs taken given → StandsFor below since joined k reduce hs taken2 given2
+  stands_permuted since h = record {
     wide = all_from (λ u. nat_le k (length u.row)) taken2 (λ u m. all_to (λ u. nat_le k (length u.row)) taken h.wide u ((permuted taken taken2 p u).1 m));
-    times = λ key t. through (h.times key t) (same_joined key t);
+    times = λ key. alike_same since (joined_of key hs) (joins_of joined (times_of k key taken)) (joins_of joined (times_of k key taken2)) (same_joined key) (h.times key);
     keys = λ key. same_key key (due_of key hs) (h.keys key);
     shown = λ key. record {
-      sums = λ t row d. (h.shown key).sums t row d ∙ sum_same below t given given2 r row;
+      sums = λ t row late d. (h.shown key).sums t row late d ∙ sum_same below t given given2 r row;
       smaller = subst (λ z. size (given_of key hs) ≤ z) (size_kept (of_key k key) given given2 r) (h.shown key).smaller;
     };
   }

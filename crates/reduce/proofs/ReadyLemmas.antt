@@ -12,14 +12,15 @@ use Rattle.lattice.specs.Order.{PartialOrderLaws, LatticeLaws}
 use Rattle.lattice.specs.Frontiers.{is_beyond}
 use Rattle.lattice.proofs.FrontierLemmas.{beyond_up}
 use Rattle.update.specs.Bags.{Entry, count_of, same_row}
+use Rattle.update.specs.Joins.{joins_of}
 use Rattle.update.specs.Updates.{as_of, size, AreApart, is_doubled}
 use Rattle.update.specs.declared.change.Update.{Update}
 use Rattle.plan.specs.Changes.{has_passed}
 use Rattle.plan.proofs.CountLemmas.{row_same, row_itself}
-use Rattle.joined_times.specs.Joined.{Member, AreOnce, of_key}
+use Rattle.joined_times.specs.Joined.{Member, AreOnce, of_key, times_of, JoinAlike}
 use Rattle.key_history.specs.Standing.{KeyStands, Shows}
 use Rattle.reduce.specs.Histories.{HistoryState, AreHistories, AreKeysApart, due_of, joined_of, given_of}
-use Rattle.key_history.specs.Settling.{Settling, ReadsAs}
+use Rattle.key_history.specs.Settling.{Settling, AreReadable, ReadsAs}
 use Rattle.reduce.specs.Visiting.{Visit, AreVisits, all_renewed}
 use Rattle.reduce.specs.Reductions.{StandsFor, IsOpenTo, IsQuietAt}
 use Rattle.key_history.proofs.ApartLemmas.{apart_both, doubled_is}
@@ -72,24 +73,24 @@ module _ {T : Type 0} {below : T → T → Bool} {joined met : T → T → T} (c
         (a.0, subst (Member u.time) (take_whole c.visit.history.due ∙ sym c.old_due) a.1, a.2))
         (of_this key)
 
-    pub mine_stands : (taken given : List (Update T)) → ReadsAs below front (due_of key hs) content taken → Shows below k key (given_of key hs) given
+    pub mine_stands : (since : List T) (taken given : List (Update T)) → AreReadable below since front (due_of key hs) → ReadsAs below front (due_of key hs) content taken → Shows below since k key (given_of key hs) given
         → KeyStands below joined k reduce taken given key (due_of key hs) → KeyStands below joined k reduce taken (given ++ mine) key (due_of key after)
-    mine_stands taken given rd sh st = ⊎_elim
+    mine_stands since taken given be rd sh st = ⊎_elim
         (λ c. subst (λ z. KeyStands below joined k reduce taken (given ++ z) key (due_of key after)) (sym c.none) (subst (λ z. KeyStands below joined k reduce taken z key (due_of key after)) (sym (append-nil given)) (subst (KeyStands below joined k reduce taken given key) (sym c.due) st)))
         (λ c.
         let d = c.visit.history.due in
-        let all = (settled_k c).stands taken given (subst (λ z. ReadsAs below front z content taken) c.old_due rd) (subst (λ z. Shows below k key z given) c.old_given sh) (subst (KeyStands below joined k reduce taken given key) c.old_due st) in
+        let all = (settled_k c).stands since taken given (subst (AreReadable below since front) c.old_due be) (subst (λ z. ReadsAs below front z content taken) c.old_due rd) (subst (λ z. Shows below since k key z given) c.old_given sh) (subst (KeyStands below joined k reduce taken given key) c.old_due st) in
         subst (λ z. KeyStands below joined k reduce taken (given ++ z) key (due_of key after)) (sym c.out)
         (subst (KeyStands below joined k reduce taken (given ++ c.visit.more) key) (ap (λ z. c.visit.rest ++ z) (drop_whole d) ∙ (append-nil c.visit.rest ∙ sym c.due)) all))
         (of_this key)
 
-    pub mine_shown : (given : List (Update T)) → Shows below k key (given_of key hs) given → Shows below k key (given_of key after) (given ++ mine)
-    mine_shown given sh = ⊎_elim
-        (λ c. subst (λ z. Shows below k key (given_of key after) (given ++ z)) (sym c.none) (subst (λ z. Shows below k key (given_of key after) z) (sym (append-nil given)) (subst (λ z. Shows below k key z given) (sym c.given) sh)))
+    pub mine_shown : (since : List T) (given : List (Update T)) → Shows below since k key (given_of key hs) given → Shows below since k key (given_of key after) (given ++ mine)
+    mine_shown since given sh = ⊎_elim
+        (λ c. subst (λ z. Shows below since k key (given_of key after) (given ++ z)) (sym c.none) (subst (λ z. Shows below since k key (given_of key after) z) (sym (append-nil given)) (subst (λ z. Shows below since k key z given) (sym c.given) sh)))
         (λ c.
         let own_all = own_from o l k reduce key content c.visit.history.given front c.visit.more (λ u m. ((settled_k c).at u m).0) in
-        subst (λ z. Shows below k key (given_of key after) (given ++ z)) (sym c.out)
-        (subst (λ z. Shows below k key z (given ++ c.visit.more)) (sym c.given) (shows_more o l k reduce key content c.visit.history.given front given c.visit.more own_all (subst (λ z. Shows below k key z given) c.old_given sh))))
+        subst (λ z. Shows below since k key (given_of key after) (given ++ z)) (sym c.out)
+        (subst (λ z. Shows below since k key z (given ++ c.visit.more)) (sym c.given) (shows_more o l k reduce key content c.visit.history.given front since given c.visit.more own_all (subst (λ z. Shows below since k key z given) c.old_given sh))))
         (of_this key)
 
     pub times_stay : joined_of key after ≡ joined_of key hs
@@ -167,20 +168,20 @@ module _ {T : Type 0} {below : T → T → Bool} {joined met : T → T → T} (c
       ∙ (ap (λ z. sum_at below t given row +ℤ z) (sym (key_sum o k key raw t row d))
       ∙ sym (sum_at-append below t given (mine key) row))
 
-  key_stands : (taken given : List (Update T)) (key : List ℤ) → ReadsAs below front (due_of key hs) content taken → Shows below k key (given_of key hs) given
+  key_stands : (since : List T) (taken given : List (Update T)) (key : List ℤ) → AreReadable below since front (due_of key hs) → ReadsAs below front (due_of key hs) content taken → Shows below since k key (given_of key hs) given
       → KeyStands below joined k reduce taken given key (due_of key hs) → KeyStands below joined k reduce taken (given ++ raw) key (due_of key after)
-  key_stands taken given key rd sh st =
-      given_replaced o l k reduce taken (given ++ mine key) (given ++ raw) key (due_of key after) (mine_stands key taken given rd sh st) (raw_sum key given)
+  key_stands since taken given key be rd sh st =
+      given_replaced o l k reduce taken (given ++ mine key) (given ++ raw) key (due_of key after) (mine_stands key since taken given be rd sh st) (raw_sum key given)
       (λ g m e. ⊎_elim
       (λ a. st.given_joined g a e)
       (λ a. st.pending g.time (mine_at key g (member_filter (of_key k key) raw g a e)).1)
       (in_either g given raw m))
 
-  key_shown : (given : List (Update T)) (key : List ℤ) → Shows below k key (given_of key hs) given → Shows below k key (given_of key after) (given ++ raw)
-  key_shown given key sh =
-      let s = mine_shown key given sh in
+  key_shown : (since : List T) (given : List (Update T)) (key : List ℤ) → Shows below since k key (given_of key hs) given → Shows below since k key (given_of key after) (given ++ raw)
+  key_shown since given key sh =
+      let s = mine_shown key since given sh in
       record {
-        sums = λ t row d. s.sums t row d ∙ sym (raw_sum key given t row d);
+        sums = λ t row late d. s.sums t row late d ∙ sym (raw_sum key given t row d);
         smaller = subst (λ z. size (given_of key after) ≤ size z) alike s.smaller;
       }
     where
@@ -198,12 +199,12 @@ module _ {T : Type 0} {below : T → T → Bool} {joined met : T → T → T} (c
           ∙ (ap (λ z. filter (of_key k key) given ++ z) (twice raw)
           ∙ sym (filter-append (of_key k key) given raw))
 
-  pub stands_after : (taken given : List (Update T)) → ((key : List ℤ) → ReadsAs below front (due_of key hs) content taken) → StandsFor below joined k reduce hs taken given → StandsFor below joined k reduce after taken (given ++ raw)
-  stands_after taken given rd st = record {
+  pub stands_after : (since : List T) (taken given : List (Update T)) → ((key : List ℤ) → AreReadable below since front (due_of key hs)) → ((key : List ℤ) → ReadsAs below front (due_of key hs) content taken) → StandsFor below since joined k reduce hs taken given → StandsFor below since joined k reduce after taken (given ++ raw)
+  stands_after since taken given be rd st = record {
     wide = st.wide;
-    times = λ key t. let s = times_stay key in (λ m. (st.times key t).0 (subst (Member t) s m), λ j. subst (Member t) (sym s) ((st.times key t).1 j));
-    keys = λ key. key_stands taken given key (rd key) (st.shown key) (st.keys key);
-    shown = λ key. key_shown given key (st.shown key);
+    times = λ key. subst (λ z. JoinAlike below joined since z (joins_of joined (times_of k key taken))) (sym (times_stay key)) (st.times key);
+    keys = λ key. key_stands since taken given key (be key) (rd key) (st.shown key) (st.keys key);
+    shown = λ key. key_shown since given key (st.shown key);
   }
 
   module _ (all : (i : ℕ) → IsSomeAnd (slice_get hs i) (λ h. h.due ≢ []) → Member i (map (λ v. v.place) visits)) where

@@ -79,9 +79,9 @@ module _ {T : Type 0} (below : T → T → Bool) (p : List ℤ → Bool) where
 
 module _ {T : Type 0} {below : T → T → Bool} {joined met : T → T → T} {cmp : T → T → Ordering}
     (o : PartialOrderLaws below) (l : LatticeLaws below joined met) (total : IsTotalOrder cmp)
-    (k : ℕ) (reduce : List ℤ → List Entry → List Entry) (q : IsReducer k reduce) (p : List ℤ → Bool) (frontier : List T)
+    (k : ℕ) (reduce : List ℤ → List Entry → List Entry) (q : IsReducer k reduce) (p : List ℤ → Bool) (frontier since : List T)
     (hs : List (HistoryState T)) (taken given out : List (Update T))
-    (st : StandsFor below joined k reduce hs taken (given ++ out))
+    (st : StandsFor below since joined k reduce hs taken (given ++ out))
     (quiet : (t : T) → IsTrue (has_passed below frontier t) → IsQuietAt below hs t)
     (once : AreApart below out) (nonzero : AllByRecursion (λ u. u.diff ≢ pos 0) out) (passed : IsTrue (list_all (λ u. has_passed below frontier u.time) out))
     (before : IsTrue (list_all (λ u. p u.row) given))
@@ -95,7 +95,7 @@ module _ {T : Type 0} {below : T → T → Bool} {joined met : T → T → T} {c
       cancels (count_of (as_of below t given) row) (count_of (as_of below t out) row)
       (absent_row p (as_of below t given) row (sum_rows below p t given before) n)
       (sym (sum_at-append below t given out row)
-      ∙ (settled_law o l k reduce q hs taken (given ++ out) st t (quiet t h) row
+      ∙ (settled_law o l k reduce q since hs taken (given ++ out) st t (quiet t h) row
       ∙ absent_row p (reduction_output k reduce (as_of below t taken)) row (answered t h) n))
 
   alike : (t : T) → IsTrue (has_passed below frontier t) → Alike (as_of below t out) (as_of below t (passing below p out))

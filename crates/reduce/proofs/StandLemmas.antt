@@ -1,26 +1,32 @@
 -- What a reduction stands for once it has taken more updates.
 use Rattle.std.proofs.Common.{◌≡◌, ℕ, Bool, true, false, cond, List, [], ◌∷◌, ◌++◌, map, take, length, refl, sym, ap, subst, ◌∙◌, ◌⊎◌, inl, inr, ⊎_elim}
 use Rattle.std.specs.Prelude.{IsTrue, ℤ, ◌↔◌, nat_le}
-use Rattle.std.specs.List.{filter, list_any}
+use Rattle.std.specs.List.{filter, list_all, list_any}
 use Rattle.std.specs.declared.cmp.Ordering.{Ordering}
 use Rattle.std.proofs.lemmas.Bool.{and_from, or_parts, true≢false, false≢true}
 use Rattle.std.proofs.lemmas.List.{map-append}
 use Rattle.std.proofs.lemmas.List.Elements.{filter-append}
 use Rattle.std.proofs.lemmas.List.Folds.{list_all-append}
 use Rattle.lattice.specs.Order.{PartialOrderLaws, LatticeLaws}
+use Rattle.lattice.specs.Frontiers.{is_beyond}
 use Rattle.update.specs.Bags.{Entry, count_of}
 use Rattle.update.specs.Joins.{joins_of}
 use Rattle.update.specs.Updates.{entry, as_of}
 use Rattle.update.specs.declared.change.Update.{Update}
 use Rattle.plan.specs.Reductions.{has_key}
 use Rattle.plan.proofs.CountLemmas.{row_same}
-use Rattle.joined_times.specs.Joined.{Member, of_key, times_of, IsJoined, IsFresh}
+use Rattle.joined_times.specs.Joined.{Member, of_key, times_of, IsJoined, IsFresh, JoinAlike}
+use Rattle.joined_times.specs.Adding.{IsFreshBy}
 use Rattle.correction.specs.Corrections.{IsRight}
 use Rattle.key_history.specs.Standing.{are_wide, KeyStands, Shows}
 use Rattle.reduce.specs.Histories.{HistoryState, due_of, joined_of, given_of, history_of}
 use Rattle.reduce.specs.Reductions.{StandsFor, IsOpenTo}
-use Rattle.reduce.specs.Taking.{AreRenewed, HaveJoins, or_else}
+use Rattle.reduce.specs.Taking.{AreRenewed, or_else}
+use Rattle.joined_times.proofs.AlikeLemmas.{alike_more, fresh_alike, fresh_by_above}
+use Rattle.joined_times.proofs.FreshLemmas.{none_fresh}
 use Rattle.joined_times.proofs.JoinLemmas.{joins_append, fresh_above, fresh_absorbs}
+use Rattle.joined_times.proofs.MemberLemmas.{through, in_each, itself}
+use Rattle.reduce.proofs.PermutedLemmas.{all_to}
 use Rattle.reduce.proofs.TakenLemmas.{key_kept, key_renewed}
 
 module _ {T : Type 0} where
@@ -54,43 +60,41 @@ module _ {T : Type 0} {below : T → T → Bool} {joined met : T → T → T} (c
           is_some [] = ⊥
           is_some (x ∷ xs) = Unit {0}
 
-  module _ (key : List ℤ) (old : List T) (same : (t : T) → Member t (joined_of key hs) ↔ Member t (joins_of joined old)) where
+  module _ (key : List ℤ) where
     -- what becomes pending
-    pub due_now : (t : T) → Member t (due_of key new) ↔ (Member t (due_of key hs) ⊎ IsFresh joined (times_of k key us) old t)
+    pub due_now : (t : T) → Member t (due_of key new) ↔ (Member t (due_of key hs) ⊎ IsFreshBy joined (times_of k key us) (joined_of key hs) t)
     due_now t = step (times_of k key us) refl
       where
-        step : (ts : List T) → times_of k key us ≡ ts → Member t (due_of key new) ↔ (Member t (due_of key hs) ⊎ IsFresh joined (times_of k key us) old t)
+        step : (ts : List T) → times_of k key us ≡ ts → Member t (due_of key new) ↔ (Member t (due_of key hs) ⊎ IsFreshBy joined (times_of k key us) (joined_of key hs) t)
         step [] e =
             let d = key_kept joined cmp k hs us made new all put (λ h. h.due) key e in (
               λ m. inl (subst (Member t) d m),
-              λ m. ⊎_elim (λ n. subst (Member t) (sym d) n) (λ f. absurd (none (subst (λ z. IsFresh joined z old t) e f))) m,
+              λ m. ⊎_elim (λ n. subst (Member t) (sym d) n) (λ f. absurd (none_fresh joined (joined_of key hs) t (subst (λ z. IsFreshBy joined z (joined_of key hs) t) e f))) m,
             )
-          where
-            none : IsFresh joined [] old t → ⊥
-            none (inl m) = m
-            none (inr f) = f.2
         step (s ∷ ts) e =
             let some : times_of k key us ≡ [] → ⊥ = λ n. absurd (subst is_some (sym e ∙ n) tt) in
             let d = key_renewed joined cmp k hs us made new all put (λ h. h.due) key some in
-            let r = (all.taken key some).3.due_are old same t in
+            let r = (all.taken key some).3.due_are t in
             ((λ m. r.0 (subst (Member t) d m)), (λ m. subst (Member t) (sym d) (r.1 m)))
           where
             is_some : List T → Type 0
             is_some [] = ⊥
             is_some (x ∷ xs) = Unit {0}
 
-    -- the joined times
-    times_now : (t : T) → Member t (joined_of key new) ↔ Member t (joins_of joined (times_of k key us ++ old))
+    -- the kept times
+    times_now : (t : T) → Member t (joined_of key new) ↔ (Member t (joined_of key hs) ⊎ IsFreshBy joined (times_of k key us) (joined_of key hs) t)
     times_now t = step (times_of k key us) refl
       where
-        step : (ts : List T) → times_of k key us ≡ ts → Member t (joined_of key new) ↔ Member t (joins_of joined (times_of k key us ++ old))
+        step : (ts : List T) → times_of k key us ≡ ts → Member t (joined_of key new) ↔ (Member t (joined_of key hs) ⊎ IsFreshBy joined (times_of k key us) (joined_of key hs) t)
         step [] e =
-            let d = key_kept joined cmp k hs us made new all put (λ h. h.times) key e in
-            ((λ m. subst (λ z. Member t (joins_of joined (z ++ old))) (sym e) ((same t).0 (subst (Member t) d m))), (λ m. subst (Member t) (sym d) ((same t).1 (subst (λ z. Member t (joins_of joined (z ++ old))) e m))))
+            let d = key_kept joined cmp k hs us made new all put (λ h. h.times) key e in (
+              λ m. inl (subst (Member t) d m),
+              λ m. ⊎_elim (λ n. subst (Member t) (sym d) n) (λ f. absurd (none_fresh joined (joined_of key hs) t (subst (λ z. IsFreshBy joined z (joined_of key hs) t) e f))) m,
+            )
         step (s ∷ ts) e =
             let some : times_of k key us ≡ [] → ⊥ = λ n. absurd (subst is_some (sym e ∙ n) tt) in
             let d = key_renewed joined cmp k hs us made new all put (λ h. h.times) key some in
-            let r = (all.taken key some).3.times_are old same t in
+            let r = (all.taken key some).3.times_are t in
             ((λ m. r.0 (subst (Member t) d m)), (λ m. subst (Member t) (sym d) (r.1 m)))
           where
             is_some : List T → Type 0
@@ -98,27 +102,33 @@ module _ {T : Type 0} {below : T → T → Bool} {joined met : T → T → T} (c
             is_some (x ∷ xs) = Unit {0}
 
   -- each pending time is an old one, or at or after the time of an update that was taken
-  pub later_now : HaveJoins joined hs → (key : List ℤ) (t : T) → Member t (due_of key new) → Member t (due_of key hs) ⊎ ((u : Update T) × Member u us × (take k u.row ≡ key) × (below u.time t ≡ true))
-  later_now joins key t m =
-      let old = joins key in
+  pub later_now : (key : List ℤ) (t : T) → Member t (due_of key new) → Member t (due_of key hs) ⊎ ((u : Update T) × Member u us × (take k u.row ≡ key) × (below u.time t ≡ true))
+  later_now key t m =
       ⊎_elim inl
       (λ f.
-      let a = fresh_above o l (times_of k key us) old.0 t f in
+      let a = fresh_by_above o l (times_of k key us) (joined_of key hs) t f in
       let u = of_update k key us a.0 a.1 in
       inr (u.0, u.1, u.2, subst (λ z. below z t ≡ true) (sym u.3) a.2))
-      ((due_now key old.0 old.1 t).0 m)
+      ((due_now key t).0 m)
 
-  pub open_now : HaveJoins joined hs → (given : List (Update T)) → IsOpenTo below k given hs
+  pub open_now : (given : List (Update T)) → IsOpenTo below k given hs
       → ((u g : Update T) → Member u us → Member g given → take k u.row ≡ take k g.row → below u.time g.time ≡ false) → IsOpenTo below k given new
-  open_now joins given op n g m s d b =
+  open_now given op n g m s d b =
       ⊎_elim
       (λ a. op g m s a b)
       (λ u. true≢false (sym (o.transitive u.0.time s g.time u.3 b) ∙ n u.0 g u.1 m u.2))
-      (later_now joins (take k g.row) s d)
+      (later_now (take k g.row) s d)
 
-  module _ (reduce : List ℤ → List Entry → List Entry) (taken given : List (Update T)) (wide : IsTrue (are_wide k us)) (st : StandsFor below joined k reduce hs taken given) where
+  module _ (reduce : List ℤ → List Entry → List Entry) (since : List T) (beyond : IsTrue (list_all (λ u. is_beyond below since u.time) us)) (taken given : List (Update T)) (wide : IsTrue (are_wide k us)) (st : StandsFor below since joined k reduce hs taken given) where
+    -- each new time is beyond the since
+    new_beyond : (key : List ℤ) (n : T) → Member n (times_of k key us) → IsTrue (is_beyond below since n)
+    new_beyond key n m =
+        let u = of_update k key us n m in
+        subst (λ z. IsTrue (is_beyond below since z)) u.3 (all_to (λ (v : Update T). is_beyond below since v.time) us beyond u.0 u.1)
+
     pub pending_now : (key : List ℤ) (t : T) → Member t (due_of key new) ↔ (Member t (due_of key hs) ⊎ IsFresh joined (times_of k key us) (times_of k key taken) t)
-    pending_now key = due_now key (times_of k key taken) (st.times key)
+    pending_now key t =
+        through (due_now key t) (in_each itself (fresh_alike o l since (times_of k key us) (new_beyond key) (joined_of key hs) (joins_of joined (times_of k key taken)) (st.times key) t))
 
     module _ (key : List ℤ) where
       abbrev ns : List T
@@ -181,11 +191,11 @@ module _ {T : Type 0} {below : T → T → Bool} {joined met : T → T → T} (c
               (λ r. inr (λ row d. r row d ∙ ap (λ z. count_of (reduce key z) row) (sym (as_before t us e))))
               ((st.keys key).settled t j)
 
-    pub stands_now : StandsFor below joined k reduce new (us ++ taken) given
+    pub stands_now : StandsFor below since joined k reduce new (us ++ taken) given
     stands_now = record {
       wide = list_all-append (λ (u : Update T). nat_le k (length u.row)) us taken ∙ and_from (are_wide k us) (are_wide k taken) wide st.wide;
-      times = λ key t. let r = times_now key (times_of k key taken) (st.times key) t in
-          ((λ m. subst (λ z. Member t (joins_of joined z)) (sym (times-append k key us taken)) (r.0 m)), (λ m. r.1 (subst (λ z. Member t (joins_of joined z)) (times-append k key us taken) m)));
+      times = λ key. subst (λ z. JoinAlike below joined since (joined_of key new) (joins_of joined z)) (sym (times-append k key us taken))
+          (alike_more o l since (times_of k key us) (new_beyond key) (joined_of key hs) (times_of k key taken) (joined_of key new) (st.times key) (times_now key));
       keys = key_now;
-      shown = λ key. subst (λ z. Shows below k key z given) (sym (given_stays key)) (st.shown key);
+      shown = λ key. subst (λ z. Shows below since k key z given) (sym (given_stays key)) (st.shown key);
     }

@@ -8,17 +8,16 @@ use Rattle.std.specs.declared.cmp.Ordering.{Ordering}
 use Rattle.std.proofs.lemmas.List.{append-nil, map-append, map_push, length-map}
 use Rattle.std.proofs.lemmas.List.Elements.{filter-append}
 use Rattle.update.specs.Bags.{same_row}
-use Rattle.update.specs.Joins.{joins_of}
 use Rattle.update.specs.declared.change.Update.{Update}
 use Rattle.plan.proofs.CountLemmas.{row_same, row_itself}
 use Rattle.reduce.specs.declared.taking.Renewal.{Renewal}
-use Rattle.joined_times.specs.Joined.{Member, IsFresh, of_key, times_of}
-use Rattle.joined_times.specs.Adding.{SameMembers}
+use Rattle.joined_times.specs.Joined.{Member, of_key, times_of}
+use Rattle.joined_times.specs.Adding.{IsFreshBy}
 use Rattle.reduce.specs.Histories.{HistoryState, AreKeysApart, AreHistories, ArePending, IsHistory, of_history, history_of, joined_of, due_of, given_of}
-use Rattle.reduce.specs.Taking.{HasTaken, HaveJoins, IsRenewed, AreRenewed, made_from, or_else}
+use Rattle.reduce.specs.Taking.{HasTaken, IsRenewed, AreRenewed, made_from, or_else}
 use Rattle.reduce.proofs.HistoryLemmas.{at_place, of_absent, of_there, of_pushed, of_its_history, apart_pushed}
 use Rattle.correction.proofs.KeyedLemmas.{own_kept}
-use Rattle.joined_times.proofs.MemberLemmas.{in_right}
+use Rattle.joined_times.proofs.JoinLemmas.{joins_have}
 use Rattle.reduce.proofs.RunLemmas.{IsRun, IsBorder, others_none, front_longer, run_first, run_some}
 use Rattle.reduce.proofs.TakingLemmas.{absent_from, histories_behind}
 
@@ -80,8 +79,8 @@ module _ {T : Type 0} where
   -- history
   pub renewed_from : (joined : T → T → T) (cmp : T → T → Ordering) (hs : List (HistoryState T)) (key : List ℤ) (old : HistoryState T) (new : List T) (r : Renewal T) → StandsFor hs key old → IsHistory cmp (length old.key) old → r.key ≡ key
       → IsStrictlySortedBy cmp r.times.items → IsStrictlySortedBy cmp r.due.items
-      → ((before : List T) → SameMembers old.times (joins_of joined before) → SameMembers r.times.items (joins_of joined (new ++ before)))
-      → ((before : List T) → SameMembers old.times (joins_of joined before) → (t : T) → Member t r.due.items ↔ (Member t old.due ⊎ IsFresh joined new before t))
+      → ((t : T) → Member t r.times.items ↔ (Member t old.times ⊎ IsFreshBy joined new old.times t))
+      → ((t : T) → Member t r.due.items ↔ (Member t old.due ⊎ IsFreshBy joined new old.times t))
       → IsRenewed joined cmp (length key) hs key new (made_from hs r)
   renewed_from joined cmp hs key old new r stands is own sorted waits timely pending =
       let a = subst (λ z. IsTrue (list_all (of_key (length z) z) old.given)) stands.key_is is.keyed in
@@ -96,10 +95,10 @@ module _ {T : Type 0} where
         };
         given_is = ap (λ z. given_of z hs) own;
         taken = record {
-          times_are = λ before same. timely before (λ t. subst (λ z. Member t z ↔ Member t (joins_of joined before)) (sym stands.times_are) (same t));
-          due_are = λ before same t.
-              subst (λ z. Member t r.due.items ↔ (Member t z ⊎ IsFresh joined new before t)) stands.due_are
-              (pending before (λ s. subst (λ z. Member s z ↔ Member s (joins_of joined before)) (sym stands.times_are) (same s)) t);
+          times_are = λ t. subst (λ z. Member t r.times.items ↔ (Member t z ⊎ IsFreshBy joined new z t)) stands.times_are (timely t);
+          due_are = λ t.
+              subst (λ z. Member t r.due.items ↔ (Member t (due_of key hs) ⊎ IsFreshBy joined new z t)) stands.times_are
+              (subst (λ z. Member t r.due.items ↔ (Member t z ⊎ IsFreshBy joined new old.times t)) stands.due_are (pending t));
         };
       }
 
@@ -186,15 +185,11 @@ module _ {T : Type 0} (joined : T → T → T) (cmp : T → T → Ordering) (k :
 
   -- ---- pending times
 
-  -- a new time is the join of itself
-  new_joined : (t : T) (ts : List T) → Member t (joins_of joined (t ∷ ts))
-  new_joined t ts = in_right t (joins_of joined ts ++ map (λ s. joined s t) (joins_of joined ts)) (t ∷ []) (inl refl)
-
   -- a key with new times has pending ones
-  pending_with : (h : HistoryState T) (times due new : List T) → (new ≡ [] → ⊥) → HasTaken joined times due new h → (old : List T) × ((t : T) → Member t times ↔ Member t (joins_of joined old)) → h.due ≢ []
-  pending_with h times due [] some taken old none = some refl
-  pending_with h times due (t ∷ ts) some taken old none =
-      let there : Member t h.due = (taken.due_are old.0 old.1 t).1 (inr (inl (new_joined t ts))) in
+  pending_with : (h : HistoryState T) (times due new : List T) → (new ≡ [] → ⊥) → HasTaken joined times due new h → h.due ≢ []
+  pending_with h times due [] some taken none = some refl
+  pending_with h times due (t ∷ ts) some taken none =
+      let there : Member t h.due = (taken.due_are t).1 (inr (inl (joins_have joined (t ∷ ts) t (inl refl)))) in
       subst (Member t) none there
 
   -- the history of a key of the list is the one that is found
@@ -206,15 +201,14 @@ module _ {T : Type 0} (joined : T → T → T) (cmp : T → T → Ordering) (k :
       place_of (g ∷ gs) h m = ⊎_elim (λ e. (0, ap (λ x. Some x) (sym e))) (λ n. let at = place_of gs h n in (suc at.0, at.1)) m
 
   -- each new history has pending times
-  pub renewed_pending : (content : List (Update T)) (made : List (HistoryState T)) → AreRenewed joined cmp k content hs made → HaveJoins joined hs → ArePending made
-  renewed_pending content made all joins h m =
+  pub renewed_pending : (content : List (Update T)) (made : List (HistoryState T)) → AreRenewed joined cmp k content hs made → ArePending made
+  renewed_pending content made all h m =
       let found = found_itself made h all.apart m in
       let some : times_of k h.key content ≡ [] → ⊥ = λ e. let long : length (h ∷ []) ≡ 0 = ap length (sym found ∙ all.others h.key e) in omega (arith, long) in
       let r = all.taken h.key some in
       let same : r.0 ≡ h = head_same r.0 h (sym r.1 ∙ found) in
       pending_with h (joined_of h.key hs) (due_of h.key hs) (times_of k h.key content) some
       (subst (HasTaken joined (joined_of h.key hs) (due_of h.key hs) (times_of k h.key content)) same r.3)
-      (joins h.key)
     where
       head_same : (a b : HistoryState T) → a ∷ [] ≡ b ∷ [] → a ≡ b
       head_same a b e = cc
@@ -237,15 +231,3 @@ module _ {T : Type 0} (joined : T → T → T) (cmp : T → T → Ordering) (k :
         of_its_history f key new
         ∙ ap (flat_map f) (put key ∙ ap (λ xs. or_else xs (history_of key hs)) r.1)
         ∙ append-nil (f r.0)
-
-    -- the joined times of each key are still the joins of some times
-    pub joins_kept : HaveJoins joined hs → HaveJoins joined new
-    joins_kept joins key = step (times_of k key content) refl (joins key)
-      where
-        step : (ts : List T) → times_of k key content ≡ ts → (old : List T) × ((t : T) → Member t (joined_of key hs) ↔ Member t (joins_of joined old))
-            → (old : List T) × ((t : T) → Member t (joined_of key new) ↔ Member t (joins_of joined old))
-        step [] e old = (old.0, λ t. rw (key_kept (λ h. h.times) key e) (old.1 t))
-        step (s ∷ ts) e old =
-            let some : times_of k key content ≡ [] → ⊥ = λ n. let long : length (s ∷ ts) ≡ 0 = ap length (sym e ∙ n) in omega (arith, long) in
-            let r = all.taken key some in
-            (times_of k key content ++ old.0, λ t. rw (key_renewed (λ h. h.times) key some) (r.3.times_are old.0 old.1 t))

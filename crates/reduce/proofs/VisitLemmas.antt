@@ -69,7 +69,7 @@ module _ {T : Type 0} (below : T → T → Bool) (joined : T → T → T) (k : �
   pub untouched : (due : List T) → list_any (λ t. not (is_beyond below front t)) due ≡ false → Settling below joined k reduce key content stored front due (length due) [] due
   untouched due none = record {
     rest_is = sym (all_late due none) ∙ ap (filter (λ t. is_beyond below front t)) (sym (take_whole due));
-    stands = λ taken given rd sh w.
+    stands = λ since taken given be rd sh w.
         subst (λ z. KeyStands below joined k reduce taken z key (due ++ drop (length due) due)) (sym (append-nil given))
         (subst (λ z. KeyStands below joined k reduce taken given key z) (sym (ap (λ z. due ++ z) (drop_whole due) ∙ append-nil due)) w);
     apart = tt;

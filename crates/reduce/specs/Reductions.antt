@@ -1,24 +1,27 @@
 -- For which updates a reduction stands, and what its calls are to say of them.
-use Rattle.std.specs.Prelude.{◌≡◌, ◌↔◌, ℕ, Bool, false, List, ℤ, IsTrue, take, length, slice_get, Option, Some, None, sum_by, if◌then◌else◌}
+use Rattle.std.specs.Prelude.{◌≡◌, ℕ, Bool, false, List, ℤ, IsTrue, take, length, slice_get, Option, Some, None, sum_by, if◌then◌else◌}
 use Rattle.std.specs.List.{filter}
 use Rattle.lattice.specs.Frontiers.{is_beyond}
 use Rattle.update.specs.Bags.{Entry, Alike}
+use Rattle.update.specs.Joins.{joins_of}
 use Rattle.update.specs.Updates.{as_of}
 use Rattle.update.specs.declared.change.Update.{Update}
-use Rattle.joined_times.specs.Joined.{Member, of_key, IsJoined}
+use Rattle.joined_times.specs.Joined.{Member, of_key, times_of, JoinAlike}
 use Rattle.key_history.specs.Standing.{are_wide, KeyStands, IsSettledAt, Shows}
 use Rattle.reduce.specs.Histories.{HistoryState, due_of, joined_of, given_of}
 use Rattle.reduce.specs.Visiting.{is_due}
 
 module _ {T : Type 0} (below : T → T → Bool) where
-  -- these histories are those of all keys, after these updates were taken and those given
-  pub record StandsFor (joined : T → T → T) (k : ℕ) (reduce : List ℤ → List Entry → List Entry)
+  -- as of a since, these histories are those of all keys, after these updates were taken and those
+  -- given
+  pub record StandsFor (since : List T) (joined : T → T → T) (k : ℕ) (reduce : List ℤ → List Entry → List Entry)
       (hs : List (HistoryState T)) (taken given : List (Update T)) : Type 0 where
     -- each row that was taken has a key
     pub wide : IsTrue (are_wide k taken)
-    pub times : (key : List ℤ) (t : T) → Member t (joined_of key hs) ↔ IsJoined joined k taken key t
+    -- joined with any time beyond the since, the kept times make what the joined times make
+    pub times : (key : List ℤ) → JoinAlike below joined since (joined_of key hs) (joins_of joined (times_of k key taken))
     pub keys : (key : List ℤ) → KeyStands below joined k reduce taken given key (due_of key hs)
-    pub shown : (key : List ℤ) → Shows below k key (given_of key hs) given
+    pub shown : (key : List ℤ) → Shows below since k key (given_of key hs) given
 
   -- no pending time of its key is at or before the time of an update that was given
   abbrev pub IsOpenTo : ℕ → List (Update T) → List (HistoryState T) → Type 0

@@ -1,12 +1,12 @@
 -- What taking a batch makes of the histories of its keys.
-use Rattle.std.specs.Prelude.{◌≡◌, ◌↔◌, ◌⊎◌, ℕ, false, List, [], ◌∷◌, ◌++◌, ℤ, Option, Some, None, IsSomeAnd, slice_get}
+use Rattle.std.specs.Prelude.{◌≡◌, ◌↔◌, ◌⊎◌, ℕ, false, List, [], ◌∷◌, ℤ, Option, Some, None, IsSomeAnd, slice_get}
 use Rattle.std.specs.List.{list_any}
 use Rattle.std.specs.declared.cmp.Ordering.{Ordering}
 use Rattle.update.specs.Bags.{same_row}
-use Rattle.update.specs.Joins.{joins_of}
 use Rattle.update.specs.declared.change.Update.{Update}
 use Rattle.reduce.specs.declared.taking.Renewal.{Renewal}
-use Rattle.joined_times.specs.Joined.{Member, times_of, IsFresh}
+use Rattle.joined_times.specs.Joined.{Member, times_of}
+use Rattle.joined_times.specs.Adding.{IsFreshBy}
 use Rattle.reduce.specs.Histories.{HistoryState, IsHistory, AreHistories, AreKeysApart, history_of, due_of, joined_of, given_of}
 
 module _ {T : Type 0} where
@@ -24,16 +24,11 @@ module _ {T : Type 0} where
   IsPlaced hs r = IsPlaceOf hs r.key r.place
 
 module _ {T : Type 0} (joined : T → T → T) where
-  -- these times and pending times are those of a key that had `times` and `due`, with new ones
+  -- these times and pending times are those of a key that had `times` and `due`, with new ones: the
+  -- joins of new times, and the joins of these with kept times, were added to both
   pub record HasTaken (times due new : List T) (h : HistoryState T) : Type 0 where
-    pub times_are : (old : List T) → ((t : T) → Member t times ↔ Member t (joins_of joined old))
-        → (t : T) → Member t h.times ↔ Member t (joins_of joined (new ++ old))
-    pub due_are : (old : List T) → ((t : T) → Member t times ↔ Member t (joins_of joined old))
-        → (t : T) → Member t h.due ↔ (Member t due ⊎ IsFresh joined new old t)
-
-  -- the joined times of each key are the joins of some times
-  abbrev pub HaveJoins : List (HistoryState T) → Type 0
-  HaveJoins hs = (key : List ℤ) → (old : List T) × ((t : T) → Member t (joined_of key hs) ↔ Member t (joins_of joined old))
+    pub times_are : (t : T) → Member t h.times ↔ (Member t times ⊎ IsFreshBy joined new times t)
+    pub due_are : (t : T) → Member t h.due ↔ (Member t due ⊎ IsFreshBy joined new times t)
 
   -- h is the new history of a key that has these new times, in the place of the one among hs
   pub record IsRenewed (cmp : T → T → Ordering) (k : ℕ) (hs : List (HistoryState T)) (key : List ℤ) (new : List T) (h : HistoryState T) : Type 0 where

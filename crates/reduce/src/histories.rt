@@ -5,14 +5,19 @@
 //! key of history `i`, and no key occurs twice. No history is ever removed. So the index of a
 //! history never changes, and other tables can refer to a history by its index.
 //!
-//! A history is changed at its index, and keeps its key. Only [`Histories::reserve`] and
-//! [`Histories::give`] take memory. A caller that pushes histories reserves room first, and then no
+//! A history is changed at its index, and keeps its key. Only [`Histories::reserve`],
+//! [`Histories::give`] and [`Histories::compact`] take memory. A caller that pushes histories reserves room first, and then no
 //! later step can be refused. What was given can be taken back.
-ghost use Rattle.std.specs.Prelude.{◌≡◌, ◌≤◌, ◌<◌, ◌+◌, ◌++◌, ◌∷◌, [], None, false, IfErr, IfSome, IsSomeAnd, OnErr, OnOk, length, slice_get};
+ghost use Rattle.std.specs.Prelude.{◌≡◌, ◌≤◌, ◌<◌, ◌+◌, ◌++◌, ◌∷◌, [], None, Some, false, IfErr, IfSome, IsSomeAnd, OnErr, OnOk, length, set, slice_get};
 ghost use Rattle.std.specs.List.{list_any};
 ghost use Rattle.update.specs.Bags.{same_row};
 ghost use Rattle.update.specs.declared.refusal.Refusal.{Refusal};
-ghost use Rattle.reduce.specs.Histories.{AreKeysApart, changed_at, given_more, given_less, due_left, times_put};
+ghost use Rattle.lattice.specs.Representatives.{representative_of};
+ghost use Rattle.update.specs.Refusals.{IsMemoryOrOverflow};
+ghost use Rattle.update.specs.Updates.{HasLargeTotal};
+ghost use Rattle.key_history.specs.Compaction.{IsCompacted, IsFolded, retimed};
+ghost use Rattle.reduce.specs.Compacted.{AreCompacted, AreFolded, HasLargeGiven};
+ghost use Rattle.reduce.specs.Histories.{HistoryState, AreKeysApart, changed_at, given_more, given_less, due_left, times_put};
 
 use indexmap::IndexSet;
 use key_history::KeyHistory;
@@ -146,6 +151,23 @@ impl<T: Lattice> Histories<T> {
         history.fold(alloc, since);
     }
 
+    /// Moves what is kept of the key at an index as of a since: its joined times and what was given.
+    /// Its pending times stay. Refused as [`KeyHistory::compact`] is.
+    ///
+    /// Cost: that of [`KeyHistory::compact`].
+    pub(crate) fn compact(&mut self, alloc: Global, i: usize, since: &[T]) -> Result<(), Refusal>
+        requires { i < length self.old.items }
+        ensures { (old new : HistoryState T) × (slice_get self.old.items i ≡ Some old)
+            × (self.new.items ≡ set self.old.items i new)
+            × IsCompacted T.below T.cmp T.joined since.now old new
+            × OnOk result (IsFolded T.below T.joined T.met since.now T.cmp new)
+            × IfErr result (IsMemoryOrOverflow (HasLargeTotal T.below
+            (retimed (representative_of T.joined T.met since.now) old.given))) }
+    {
+        let history = &mut self.histories[i];
+        history.compact(alloc, since)
+    }
+
     /// Appends copies of updates to what was given of the key at an index. If the call is refused,
     /// then no history has changed.
     ///
@@ -181,4 +203,25 @@ impl<T: Lattice> Histories<T> {
         let history = &mut self.histories[i];
         history.leave(due);
     }
+}
+
+/// Moves what is kept of all keys as of a since, until one is refused.
+///
+/// Cost: that of [`KeyHistory::compact`] for each key.
+pub(crate) fn compact_all<T: Lattice>(
+    alloc: Global,
+    histories: &mut Histories<T>,
+    since: &[T],
+) -> Result<(), Refusal>
+    ensures items { AreCompacted T.below T.cmp T.joined since.now
+        histories.old.items histories.new.items }
+    ensures folded { OnOk result
+        (AreFolded T.below T.joined T.met since.now T.cmp histories.new.items) }
+    ensures refused { IfErr result (IsMemoryOrOverflow
+        (HasLargeGiven T.below T.joined T.met since.now histories.old.items)) }
+{
+    for i in 0..histories.len() {
+        histories.compact(alloc, i, since)?;
+    }
+    Ok(())
 }

@@ -3,6 +3,7 @@
 ghost use Rattle.std.specs.Prelude.{◌≡◌, ◌≢◌, ◌⊎◌, ◌≤◌, ◌^◌, ◌++◌, Bool, ℕ, ℤ, List, [], IsTrue, pos, true};
 ghost use Rattle.std.specs.List.{AllByRecursion, filter, list_all};
 ghost use Rattle.std.specs.List.Sorted.{IsPermutation};
+ghost use Rattle.lattice.specs.Frontiers.{all_beyond};
 ghost use Rattle.update.specs.Bags.{Alike, Entry};
 ghost use Rattle.update.specs.Joins.{joins_of};
 ghost use Rattle.update.specs.Updates.{as_of, size, AreApart, IsConsolidated};
@@ -45,8 +46,8 @@ pub fn joined_times_are_closed<T: Lattice>()
 /// was taken. Costs nothing.
 pub fn settled_is_right<T: Lattice>()
     ensures sums { (k : ℕ) (reduce : List ℤ → List Entry → List Entry) → IsReducer k reduce
-        → (hs : List (HistoryState T)) (taken given : List (Update T))
-        → StandsFor T.below T.joined k reduce hs taken given
+        → (since : List T) (hs : List (HistoryState T)) (taken given : List (Update T))
+        → StandsFor T.below since T.joined k reduce hs taken given
         → (t : T) → IsQuietAt T.below hs t
         → Alike (as_of T.below t given) (reduction_output k reduce (as_of T.below t taken)) }
 {}
@@ -58,8 +59,9 @@ pub fn settled_is_right<T: Lattice>()
 /// list is the same. Costs nothing.
 pub fn answers_are_the_differences<T: Lattice>()
     ensures one { (k : ℕ) (reduce : List ℤ → List Entry → List Entry) → IsReducer k reduce
-        → (frontier : List T) (hs : List (HistoryState T)) (taken given us vs : List (Update T))
-        → StandsFor T.below T.joined k reduce hs taken given
+        → (frontier since : List T) (hs : List (HistoryState T))
+        (taken given us vs : List (Update T))
+        → StandsFor T.below since T.joined k reduce hs taken given
         → ((t : T) → IsTrue (has_passed T.below frontier t) → IsQuietAt T.below hs t)
         → IsConsolidated T.cmp us
         → IsTrue (list_all (λ u. has_passed T.below frontier u.time) us)
@@ -76,10 +78,21 @@ pub fn answers_are_the_differences<T: Lattice>()
 /// Costs nothing.
 pub fn order_does_not_matter<T: Lattice>()
     ensures stands { (k : ℕ) (reduce : List ℤ → List Entry → List Entry) → IsReducer k reduce
-        → (hs : List (HistoryState T)) (taken taken2 given given2 : List (Update T))
+        → (since : List T) (hs : List (HistoryState T))
+        (taken taken2 given given2 : List (Update T))
         → IsPermutation taken taken2 → IsPermutation given given2
-        → StandsFor T.below T.joined k reduce hs taken given
-        → StandsFor T.below T.joined k reduce hs taken2 given2 }
+        → StandsFor T.below since T.joined k reduce hs taken given
+        → StandsFor T.below since T.joined k reduce hs taken2 given2 }
+{}
+
+/// What stands as of a since stands as of each later one. So kept times and kept answers may be
+/// folded as of any since that readers have reached, and then as of later ones. Costs nothing.
+pub fn stands_as_of_later_frontiers<T: Lattice>()
+    ensures stands { (k : ℕ) (reduce : List ℤ → List Entry → List Entry) (since later : List T)
+        (hs : List (HistoryState T)) (taken given : List (Update T))
+        → IsTrue (all_beyond T.below since later)
+        → StandsFor T.below since T.joined k reduce hs taken given
+        → StandsFor T.below later T.joined k reduce hs taken given }
 {}
 
 /// No row is given that no answer has. If a test passes for each row of the answers at the times
@@ -88,9 +101,9 @@ pub fn order_does_not_matter<T: Lattice>()
 /// nothing.
 pub fn rows_given_are_answered<T: Lattice>()
     ensures rows { (k : ℕ) (reduce : List ℤ → List Entry → List Entry) → IsReducer k reduce
-        → (p : List ℤ → Bool) (frontier : List T) (hs : List (HistoryState T))
+        → (p : List ℤ → Bool) (frontier since : List T) (hs : List (HistoryState T))
         (taken given out : List (Update T))
-        → StandsFor T.below T.joined k reduce hs taken (given ++ out)
+        → StandsFor T.below since T.joined k reduce hs taken (given ++ out)
         → ((t : T) → IsTrue (has_passed T.below frontier t) → IsQuietAt T.below hs t)
         → AreApart T.below out → AllByRecursion (λ u. u.diff ≢ pos 0) out
         → IsTrue (list_all (λ u. has_passed T.below frontier u.time) out)

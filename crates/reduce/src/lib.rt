@@ -8,6 +8,7 @@
 //! it, and again whenever an update comes in at or before it.
 //!
 //! - [`ReduceState`] takes batches and gives the differences that a frontier has passed.
+//! - What it keeps stands as of a since. [`ReduceState::compact`] folds it as of a later one.
 //! - The laws say what follows from the definitions: where answers can change, and that what is
 //!   given is one list in whatever pieces it was taken.
 //!
@@ -38,7 +39,7 @@ pub use key_history::KeyHistory;
 pub use laws::{
     answers_are_the_differences, joined_times_are_closed, large_numbers_have_large_sizes,
     order_does_not_matter, outputs_change_at_joined_times, rows_given_are_answered,
-    settled_is_right,
+    settled_is_right, stands_as_of_later_frontiers,
 };
 pub use reducer::{Count, Distinct, Max, Min, Reducer, RowCounts, Tally, kinds_are_reductions};
 pub use state::ReduceState;

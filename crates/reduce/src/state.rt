@@ -8,12 +8,18 @@
 //! time and all later joined times pending, is given at each of them once, whichever way it alters
 //! the answers.
 //!
+//! What is kept stands as of a since, a frontier that all readers have reached: nobody asks for a
+//! time that is not beyond it any more, and all updates to come are beyond it. Joined with any time
+//! beyond the since, the kept times make what the joined times make; and at each time beyond it
+//! what is kept of the answers sums to what was given. So a long past may be folded
+//! ([`ReduceState::compact`]), and what was right stays right as of each later since.
+//!
 //! A call gathers all that it changes aside, and changes the histories in place at its end. What it
 //! has appended by then is taken back if memory for more is refused. So a refusal leaves the state
 //! as it was.
 ghost use Rattle.std.specs.Prelude.{◌≡◌, ◌≢◌, ◌↔◌, ◌⊎◌, ◌≤◌, ◌<◌, ◌+◌, ◌-◌, ◌^◌, ◌++◌, ◌||◌, [], ℤ, List, false, true, length, min, pos, take, slice_get, IfErr, IfOk, IsSomeAnd, OnErr, OnOk, IsTrue};
-ghost use Rattle.std.specs.List.{AllByRecursion, filter};
-ghost use Rattle.lattice.specs.Frontiers.{is_beyond};
+ghost use Rattle.std.specs.List.{AllByRecursion, filter, list_all};
+ghost use Rattle.lattice.specs.Frontiers.{is_beyond, all_beyond};
 ghost use Rattle.update.specs.Bags.{Alike};
 ghost use Rattle.update.specs.Refusals.{IsMemoryOrOverflow};
 ghost use Rattle.update.specs.Updates.{as_of, AreApart};
@@ -22,12 +28,13 @@ ghost use Rattle.plan.specs.Changes.{has_passed};
 ghost use Rattle.plan.specs.Operators.{reduction_output};
 ghost use Rattle.trace.specs.Readings.{Insertion, all_updates};
 ghost use Rattle.joined_times.specs.Joined.{Member, IsFresh, times_of};
+ghost use Rattle.reduce.specs.Compacted.{AreCompacted, AreFolded, HasLargeGiven};
 ghost use Rattle.reduce.specs.Histories.{AreHistories, IsWaiting, due_of};
 ghost use Rattle.key_history.specs.Owing.{IsOverfull};
 ghost use Rattle.key_history.specs.Standing.{are_wide};
 ghost use Rattle.reduce.specs.Reductions.{StandsFor, IsOpenTo, IsQuietAt, SumsToTaken, all_reads};
 
-use crate::histories::Histories;
+use crate::histories::{Histories, compact_all};
 use crate::places::Places;
 use crate::taking::{put_all, renewed_by};
 use crate::visiting::{Gathered, change_all, fold_all, visit_all};
@@ -43,7 +50,8 @@ use update::{Refusal, Update};
 
 /// A reduction by a reducer `R` of rows by their first columns, at times `T`. A contract sees the
 /// number of these columns, the reducer, the history of each key, the places of the keys that wait,
-/// and how many updates were read.
+/// and how many updates were read. What it keeps stands as of a since, which no contract fixes: it
+/// may be the frontier of the least time, and each later one once reads and batches are beyond it.
 #[derive(Drop)]
 pub struct ReduceState<T: Lattice, R> {
     key: usize,
@@ -59,7 +67,6 @@ pub struct ReduceState<T: Lattice, R> {
 impl<T: Lattice, R> Model for ReduceState<T, R> {
     ghost use Rattle.std.specs.Prelude.{◌≤◌};
     ghost use Rattle.reduce.specs.Histories.{ReduceView, AreHistories, IsWaiting};
-    ghost use Rattle.reduce.specs.Taking.{HaveJoins};
 
     ghost Value = { ReduceView T R };
 
@@ -73,8 +80,7 @@ impl<T: Lattice, R> Model for ReduceState<T, R> {
 
     ghost invariant = { λ s. (1 ≤ s.key) × (s.key ≤ 8)
         × AreHistories T.cmp s.key s.histories.items
-        × IsWaiting s.histories.items s.waiting.items
-        × HaveJoins T.joined s.histories.items };
+        × IsWaiting s.histories.items s.waiting.items };
 }
 
 // Inserts all of these times.
@@ -102,7 +108,8 @@ fn meet_of<T: Lattice>(frontier: &[T], otherwise: T) -> T {
 }
 
 impl<T: Lattice, R: Reducer> ReduceState<T, R> {
-    /// A reduction by the first `key` columns, 1 to 8, that has taken nothing. Takes no memory.
+    /// A reduction by the first `key` columns, 1 to 8, that has taken nothing. It stands as of each
+    /// since. Takes no memory.
     pub fn new(alloc: Global, key: usize, reducer: R) -> ReduceState<T, R>
         requires some { 1 ≤ key }
         requires few { key ≤ 8 }
@@ -113,7 +120,8 @@ impl<T: Lattice, R: Reducer> ReduceState<T, R> {
           waiting = [];
           looked = 0;
         } }
-        ensures stands { StandsFor T.below T.joined key (R.reduces reducer) result.histories [] [] }
+        ensures stands { (since : List T)
+            → StandsFor T.below since T.joined key (R.reduces reducer) result.histories [] [] }
     {
         ReduceState {
             key,
@@ -184,8 +192,9 @@ impl<T: Lattice, R: Reducer> ReduceState<T, R> {
     /// all joins of sets of times that hold one of these. If the call is refused, then nothing has
     /// changed.
     ///
-    /// Each row of the batch has at least as many columns as the key. [`Refusal::OutOfMemory`] only
-    /// if memory for the times, or for the histories of the keys, was refused.
+    /// Each row of the batch has at least as many columns as the key. What is kept stands as of a
+    /// since that all times of the batch are beyond, before and after. [`Refusal::OutOfMemory`]
+    /// only if memory for the times, or for the histories of the keys, was refused.
     ///
     /// Cost: for each key of the batch one look-up of a hash, a copy of its times, and a sort of
     /// the joined times that are new. One new time of a key is joined with each joined time that
@@ -197,13 +206,15 @@ impl<T: Lattice, R: Reducer> ReduceState<T, R> {
         batch: &B,
     ) -> Result<(), Refusal>
         requires wide { IsTrue (are_wide self.old.key (B.content batch.now)) }
-        ensures stands { OnOk result ((taken given : List (Update T))
-            → StandsFor T.below T.joined self.old.key (R.reduces self.old.reducer)
+        ensures stands { OnOk result ((since : List T) (taken given : List (Update T))
+            → IsTrue (list_all (λ u. is_beyond T.below since u.time) (B.content batch.now))
+            → StandsFor T.below since T.joined self.old.key (R.reduces self.old.reducer)
             self.old.histories taken given
-            → StandsFor T.below T.joined self.old.key (R.reduces self.old.reducer)
+            → StandsFor T.below since T.joined self.old.key (R.reduces self.old.reducer)
             self.new.histories (B.content batch.now ++ taken) given) }
-        ensures pending { OnOk result ((taken given : List (Update T))
-            → StandsFor T.below T.joined self.old.key (R.reduces self.old.reducer)
+        ensures pending { OnOk result ((since : List T) (taken given : List (Update T))
+            → IsTrue (list_all (λ u. is_beyond T.below since u.time) (B.content batch.now))
+            → StandsFor T.below since T.joined self.old.key (R.reduces self.old.reducer)
             self.old.histories taken given
             → (key : List ℤ) (t : T) → Member t (due_of key self.new.histories)
             ↔ (Member t (due_of key self.old.histories)
@@ -232,6 +243,39 @@ impl<T: Lattice, R: Reducer> ReduceState<T, R> {
         Ok(())
     }
 
+    /// Folds what is kept as of a since: the frontier beyond which all reads and all batches to come
+    /// are. Each kept time is moved to its representative as of the since, each once, and what was
+    /// given is added up there. The pending times stay, and so does what the reduction is to give.
+    /// If the call is refused, then some keys may have been folded, and what is left undone stays as
+    /// it was.
+    ///
+    /// - [`Refusal::Overflow`] only if the total of some row at some moved time, over what was given
+    ///   of one key, is no 64-bit number.
+    /// - [`Refusal::OutOfMemory`] only if memory for the moved times or updates of one key was
+    ///   refused.
+    ///
+    /// Cost: a join and a meet for each kept time, each update that was given and each element of
+    /// the since, and a sort of both for each key.
+    pub fn compact(&mut self, alloc: Global, since: &[T]) -> Result<(), Refusal>
+        ensures stands { (earlier : List T) (taken given : List (Update T))
+            → IsTrue (all_beyond T.below earlier since.now)
+            → StandsFor T.below earlier T.joined self.old.key (R.reduces self.old.reducer)
+            self.old.histories taken given
+            → StandsFor T.below since.now T.joined self.old.key (R.reduces self.old.reducer)
+            self.new.histories taken given }
+        ensures due { (key : List ℤ)
+            → due_of key self.new.histories ≡ due_of key self.old.histories }
+        ensures places { AreCompacted T.below T.cmp T.joined since.now
+            self.old.histories self.new.histories }
+        ensures folded { OnOk result
+            (AreFolded T.below T.joined T.met since.now T.cmp self.new.histories) }
+        ensures kept { self.new ≡ record self.old { histories = self.new.histories } }
+        ensures refused { IfErr result (IsMemoryOrOverflow
+            (HasLargeGiven T.below T.joined T.met since.now self.old.histories)) }
+    {
+        compact_all(alloc, &mut self.histories, since)
+    }
+
     // Folds what was given of the keys that wait, as the times to come see it. Nothing that a
     // contract sees is changed.
     fn fold(&mut self, alloc: Global)
@@ -254,8 +298,9 @@ impl<T: Lattice, R: Reducer> ReduceState<T, R> {
     /// The frontier is the slice of its elements. The trace is read whole, and may have moved times
     /// together, as of its since: the pending times that the frontier has passed are to be beyond
     /// it. That the trace sums, at the times that the frontier has passed, to what was taken is a
-    /// premise of the promises and not a condition of the call. If the call is refused, then
-    /// nothing has changed.
+    /// premise of the promises and not a condition of the call. Another one is that what is kept
+    /// stands as of a since that the trace's since is beyond. If the call is refused, then nothing
+    /// has changed.
     ///
     /// - [`Refusal::Overflow`] only if, at some time that the frontier has passed, the count of a
     ///   row of what was taken, the sum of the counts of a key's rows, or what the count of a row is
@@ -282,17 +327,21 @@ impl<T: Lattice, R: Reducer> ReduceState<T, R> {
             → IsTrue (is_beyond T.below (S.held trace.now) t) }
         ensures once { IfOk result (λ out. AreApart T.below out.items) }
         ensures nonzero { IfOk result (λ out. AllByRecursion (λ u. u.diff ≢ pos 0) out.items) }
-        ensures stands { IfOk result (λ out. (h : List (Insertion T)) (taken given : List (Update T))
+        ensures stands { IfOk result (λ out. (since : List T)
+            (h : List (Insertion T)) (taken given : List (Update T))
+            → IsTrue (all_beyond T.below since (S.held trace.now))
             → S.stands trace.now h
             → SumsToTaken T.below (S.held trace.now) frontier.now (all_updates h) taken
-            → StandsFor T.below T.joined self.old.key (R.reduces self.old.reducer)
+            → StandsFor T.below since T.joined self.old.key (R.reduces self.old.reducer)
             self.old.histories taken given
-            → StandsFor T.below T.joined self.old.key (R.reduces self.old.reducer)
+            → StandsFor T.below since T.joined self.old.key (R.reduces self.old.reducer)
             self.new.histories taken (given ++ out.items)) }
-        ensures law { IfOk result (λ out. (h : List (Insertion T)) (taken given : List (Update T))
+        ensures law { IfOk result (λ out. (since : List T)
+            (h : List (Insertion T)) (taken given : List (Update T))
+            → IsTrue (all_beyond T.below since (S.held trace.now))
             → S.stands trace.now h
             → SumsToTaken T.below (S.held trace.now) frontier.now (all_updates h) taken
-            → StandsFor T.below T.joined self.old.key (R.reduces self.old.reducer)
+            → StandsFor T.below since T.joined self.old.key (R.reduces self.old.reducer)
             self.old.histories taken given
             → (t : T) → IsQuietAt T.below self.new.histories t
             → Alike (as_of T.below t (given ++ out.items))
@@ -321,10 +370,11 @@ impl<T: Lattice, R: Reducer> ReduceState<T, R> {
         }) }
         ensures same { OnErr result (self.new ≡ self.old) }
         ensures refused { IfErr result (IsMemoryOrOverflow
-            ((h : List (Insertion T)) (taken given : List (Update T))
+            ((since : List T) (h : List (Insertion T)) (taken given : List (Update T))
+            → IsTrue (all_beyond T.below since (S.held trace.now))
             → S.stands trace.now h
             → SumsToTaken T.below (S.held trace.now) frontier.now (all_updates h) taken
-            → StandsFor T.below T.joined self.old.key (R.reduces self.old.reducer)
+            → StandsFor T.below since T.joined self.old.key (R.reduces self.old.reducer)
             self.old.histories taken given
             → AreApart T.below given → IsOpenTo T.below self.old.key given self.old.histories
             → ((g : Update T) → Member g given → IsTrue (has_passed T.below frontier.now g.time))

@@ -12,7 +12,7 @@ ghost use Rattle.std.specs.List.{AllByRecursion};
 ghost use Rattle.update.specs.declared.refusal.Refusal.{Refusal};
 ghost use Rattle.key_history.specs.Standing.{are_wide};
 ghost use Rattle.reduce.specs.Histories.{AreHistories, AreKeysApart, ArePending, IsHistory, IsWaiting, history_of};
-ghost use Rattle.reduce.specs.Taking.{AreRenewed, HaveJoins, IsPlaced, IsRenewed, made_from, or_else};
+ghost use Rattle.reduce.specs.Taking.{AreRenewed, IsPlaced, IsRenewed, made_from, or_else};
 
 use crate::histories::Histories;
 use crate::places::Places;
@@ -135,8 +135,8 @@ pub(crate) fn renewed_by<T: Lattice, B: BatchReader<Time = T>>(
         (map (made_from histories.now.items) made.items)) }
     ensures placed { IfOk result
         (λ made. AllByRecursion (IsPlaced histories.now.items) made.items) }
-    ensures due { IfOk result (λ made. HaveJoins T.joined histories.now.items
-        → ArePending (map (made_from histories.now.items) made.items)) }
+    ensures due { IfOk result
+        (λ made. ArePending (map (made_from histories.now.items) made.items)) }
     ensures only { IfErr result (λ refused. refused ≡ Refusal.OutOfMemory) }
 {
     let mut made = Vec::new(alloc);

@@ -98,7 +98,8 @@ fn later(draws: &mut Draws, (valid, system): (u64, u64)) -> (u64, u64) {
 }
 
 // Takes the changes up to a drawn time. Then nothing is asked; or what is ready as of a drawn
-// frontier that has passed less; or what is ready as of all that was taken, which is checked.
+// frontier that has passed less; or what is ready as of all that was taken, which is checked. All
+// that comes later is beyond that frontier, so what is kept is then folded as of it.
 fn step(
     rt: &impl Abort,
     alloc: Global,
@@ -117,6 +118,7 @@ fn step(
         }
         _ => {
             round.ready(alloc, frontier.elements())?;
+            round.reduction.state.compact(alloc, frontier.elements())?;
             assert_given(rt, alloc, query, &round.given, &[frontier])
         }
     }

@@ -305,6 +305,66 @@ fn a_correction_behind_a_settled_day(rt: HostRuntime) -> Result<(), Fail> {
     Ok(())
 }
 
+// As of (5, 5) three settled changes fall on one time, and all that was given of them is one row.
+// Later changes are answered as if nothing had been folded: each takes the count of three back, and
+// the join of both takes what they had given.
+#[test]
+fn a_folded_past_is_answered_alike(rt: HostRuntime) -> Result<(), Fail> {
+    let mut reduction = Reduction::new(rt.alloc(), Kind::Count)?;
+    reduction.take(rt.alloc(), (0, 0), (5, 5), &list(rt.alloc(), &THREE)?)?;
+    assert_eq!(rt; reduction.ready(rt.alloc(), &[at((5, 5))])?.len(), 10);
+    reduction.state.compact(rt.alloc(), &[at((5, 5))])?;
+    assert!(rt; reduction.state.waiting().is_empty());
+    let later = list(rt.alloc(), &[((5, 7), &[7], 1), ((7, 5), &[7], 1)])?;
+    reduction.take(rt.alloc(), (5, 5), (16, 16), &later)?;
+    let least = [at((5, 7)), at((7, 5))];
+    assert!(rt; reduction.state.held(rt.alloc())?.elements() == least.as_slice());
+    let want: &[Change] = &[
+        ((5, 7), &[7, 3], -1),
+        ((5, 7), &[7, 4], 1),
+        ((7, 5), &[7, 3], -1),
+        ((7, 5), &[7, 4], 1),
+        ((7, 7), &[7, 3], 1),
+        ((7, 7), &[7, 4], -2),
+        ((7, 7), &[7, 5], 1),
+    ];
+    assert_ready(&rt, rt.alloc(), &mut reduction, &[], want)?;
+    Ok(())
+}
+
+// As of a since of two times, a settled change is moved to (1, 2), the meet of its joins with both:
+// no further, since a change at (1, 3) is to be joined with it there, and one at (3, 1) at (3, 2).
+#[test]
+fn a_since_of_two_times_moves_to_representatives(rt: HostRuntime) -> Result<(), Fail> {
+    let mut reduction = Reduction::new(rt.alloc(), Kind::Count)?;
+    let first = list(rt.alloc(), &[((0, 2), &[7], 1)])?;
+    reduction.take(rt.alloc(), (0, 0), (1, 1), &first)?;
+    assert_ready(
+        &rt,
+        rt.alloc(),
+        &mut reduction,
+        &[at((1, 1))],
+        &[((0, 2), &[7, 1], 1)],
+    )?;
+    reduction
+        .state
+        .compact(rt.alloc(), &[at((1, 3)), at((3, 1))])?;
+    let later = list(rt.alloc(), &[((1, 3), &[7], 1), ((3, 1), &[7], 1)])?;
+    reduction.take(rt.alloc(), (1, 1), (16, 16), &later)?;
+    let want: &[Change] = &[
+        ((1, 3), &[7, 1], -1),
+        ((1, 3), &[7, 2], 1),
+        ((3, 1), &[7, 1], 1),
+        ((3, 2), &[7, 1], -2),
+        ((3, 2), &[7, 2], 1),
+        ((3, 3), &[7, 1], 1),
+        ((3, 3), &[7, 2], -2),
+        ((3, 3), &[7, 3], 1),
+    ];
+    assert_ready(&rt, rt.alloc(), &mut reduction, &[], want)?;
+    Ok(())
+}
+
 // A thousand keys with one row each at (0, 0).
 fn thousand(alloc: Global) -> Result<Vec<Update<Bitime>>, Refusal> {
     let mut updates = Vec::new(alloc);

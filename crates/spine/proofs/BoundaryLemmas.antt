@@ -41,8 +41,8 @@ module _ {T : Type 0} where
         any_among (λ (k : HoldState T). all_beyond below k.physical hold.physical) hold holds (among_contains hold holds there) (beyond_itself o hold.physical)
 
     -- so work leaves it
-    pub own_left : (spent : ℕ) (old new : SpineState T) (hold : HoldState T) → IsWorked below spent old new → Contains old.holds hold → Contains (boundaries old) hold.physical → Contains new.holds hold × Contains (boundaries new) hold.physical
-    own_left spent old new hold worked held there = (
+    pub own_left : (spent lost : ℕ) (old new : SpineState T) (hold : HoldState T) → IsWorked below spent lost old new → Contains old.holds hold → Contains (boundaries old) hold.physical → Contains new.holds hold × Contains (boundaries new) hold.physical
+    own_left spent lost old new hold worked held there = (
       subst (λ hs. Contains hs hold) (sym (ap (λ (s : SpineState T). s.holds) worked.kept)) held,
       worked.kept_open hold.physical there (own_forbidden hold old.holds held),
     )

@@ -1,27 +1,31 @@
 -- A spine: a batch list that merges under its readers' holds, and for which insertions it stands.
-use Rattle.std.specs.Prelude.{◌≡◌, ℕ, zero, suc, ◌+◌, ◌-◌, ◌*◌, ◌^◌, min, ◌≤◌, ◌<◌, Bool, false, ℤ, List, [], ◌∷◌, ◌⊎◌, ⊤, length, take, slice_get, Some, IsTrue}
-use Rattle.std.specs.List.{list_all, Contains}
-use Rattle.update.specs.Updates.{size}
+use Rattle.std.specs.Prelude.{◌≡◌, ◌≢◌, ℕ, suc, ◌+◌, ◌-◌, ◌*◌, ◌^◌, min, ◌≤◌, ◌<◌, Bool, true, false, if◌then◌else◌, ℤ, List, [], ◌∷◌, ◌++◌, ◌⊎◌, ⊤, length, take, drop, sum_by, slice_get, Option, Some, None, IsTrue}
+use Rattle.std.specs.List.{list_all, list_any, AllByRecursion, Contains}
+use Rattle.lattice.specs.Frontiers.{all_beyond}
+use Rattle.lattice.specs.Representatives.{Indistinguishable}
+use Rattle.update.specs.Updates.{HasLargeTotal, size}
 use Rattle.update.specs.declared.change.Update.{Update}
-use Rattle.batch.specs.Compaction.{IsUpward}
+use Rattle.batch.specs.Compaction.{IsUpward, compacted}
 use Rattle.batch.specs.Descriptions.{BatchState}
 use Rattle.trace.specs.Readings.{Insertion, IsReadable, AreUpTo, all_content, all_updates, reached}
-use Rattle.trace.specs.BatchLists.{BatchListState, IsMergeAt, end_of, ends_of, merged_at, updates_of}
+use Rattle.trace.specs.BatchLists.{BatchListState, IsMergeAt, IsRewriteAt, end_of, ends_of, updates_of}
 use Rattle.trace.specs.Holds.{HoldState}
+use Rattle.levels.specs.Levels.{UnderwayState, Change, Merged, Rewritten, changed, end_of_places, read_of, width_of}
 use Rattle.spine.specs.Holding.{forbids}
 
--- the batches, the frontier beyond which they may be read, the readers' holds, and how many updates
--- were copied in merges
+-- how far merges have come: how many updates were copied, and the merges that are under way, oldest
+-- first
+pub record ProgressState (T : Type 0) : Type 0 where
+  pub copied : ℕ
+  pub underway : List (UnderwayState T)
+
+-- the batches, the frontier beyond which they may be read, the readers' holds, and how far merges have
+-- come
 pub record SpineState (T : Type 0) : Type 0 where
   pub list : BatchListState T
   pub since : List T
   pub holds : List (HoldState T)
-  pub copied : ℕ
-
--- one batch in the place of the one with a number and the next one
-pub record Merge (T : Type 0) : Type 0 where
-  pub number : ℕ
-  pub batch : BatchState T
+  pub progress : ProgressState T
 
 module _ {T : Type 0} where
   -- all that is stored
@@ -32,30 +36,37 @@ module _ {T : Type 0} where
   abbrev pub boundaries : SpineState T → List (List T)
   boundaries s = ends_of s.list
 
-  -- the batches after some merges, the newest of which comes first
-  abbrev pub after : List (Merge T) → List (BatchState T) → List (BatchState T)
+  -- the updates at a place: of the batch with this number and the next one, or of that one alone
+  abbrev pub sources_at : Bool → ℕ → List (BatchState T) → List (Update T)
+  sources_at alone i bs = all_content updates_of (take (width_of alone) (drop i bs))
+
+  -- the batches after some changes, the newest of which comes first
+  abbrev pub after : List (Change T) → List (BatchState T) → List (BatchState T)
   after [] bs = bs
-  after (m ∷ ms) bs = merged_at m.number m.batch (after ms bs)
+  after (c ∷ cs) bs = changed c (after cs bs)
 
-  -- how many updates two neighbours have
-  abbrev pub copies_at : ℕ → List (BatchState T) → ℕ
-  copies_at i [] = 0
-  copies_at i (a ∷ []) = 0
-  copies_at zero (a ∷ b ∷ bs) = length a.updates + length b.updates
-  copies_at (suc i) (a ∷ b ∷ bs) = copies_at i (b ∷ bs)
+  -- how many updates a change has read
+  abbrev pub reads_of : Change T → List (BatchState T) → ℕ
+  reads_of (Merged i m) bs = length (sources_at false i bs)
+  reads_of (Rewritten i m) bs = length (sources_at true i bs)
 
-  -- how many updates some merges copied at most
-  abbrev pub copies_of : List (Merge T) → List (BatchState T) → ℕ
-  copies_of [] bs = 0
-  copies_of (m ∷ ms) bs = copies_at m.number (after ms bs) + copies_of ms bs
+  -- how many updates some changes have read
+  abbrev pub all_reads : List (Change T) → List (BatchState T) → ℕ
+  all_reads [] bs = 0
+  all_reads (c ∷ cs) bs = reads_of c (after cs bs) + all_reads cs bs
 
-  -- what some merges cost: one unit for each, and one for each update of both batches
-  abbrev pub cost_of : List (Merge T) → List (BatchState T) → ℕ
-  cost_of ms bs = copies_of ms bs + length ms
+  -- how many updates were read by merges that are under way
+  abbrev pub read_by : List (UnderwayState T) → ℕ
+  read_by us = sum_by read_of us
 
   -- the older of two neighbours has more than twice as many updates as the newer one
   abbrev pub AreSteep : BatchState T → BatchState T → Type 0
   AreSteep a b = 2 * length b.updates < length a.updates
+
+-- what is left of some fuel when so much of it was spent, if any was
+abbrev pub IsLeft : ℕ → ℕ → Option ℕ → Type 0
+IsLeft spent fuel (Some left) = (left < fuel) × (left + spent ≡ fuel)
+IsLeft spent fuel None = spent ≡ 0
 
 -- a 64-bit count after so many more things: it stays at its greatest value
 abbrev pub IsCountAfter : ℕ → ℕ → ℕ → Type 0
@@ -75,31 +86,60 @@ module _ {T : Type 0} (below : T → T → Bool) where
         → IsReadable below s.since
         (all_content updates_of (take n s.list.batches)) (all_updates seen)
 
-  -- the batch with this number and the next one may become one: no reader may ask for the boundary
-  -- between them
-  pub record MayMerge (holds : List (HoldState T)) (i : ℕ) (bs : List (BatchState T)) : Type 0 where
-    pub within : suc i < length bs
-    pub allowed : (a : BatchState T) → slice_get bs i ≡ Some a
-        → forbids below holds a.description.upper ≡ false
+  -- some reader may ask for a boundary inside a place, which has to stay then
+  abbrev pub is_barred : List (HoldState T) → List (BatchState T) → Bool → ℕ → Bool
+  is_barred holds bs alone i =
+      list_any (λ b. forbids below holds b.description.upper) (take (width_of alone - 1) (drop i bs))
 
-  -- each of the merges is one of two neighbours across a boundary that no hold forbids
-  abbrev pub AreMerges : List T → List (HoldState T) → List (Merge T) → List (BatchState T) → Type 0
-  AreMerges since holds [] bs = ⊤
-  AreMerges since holds (m ∷ ms) bs =
-      MayMerge holds m.number (after ms bs)
-      × IsMergeAt below since m.batch m.number (after ms bs)
-      × AreMerges since holds ms bs
+  -- the batches at a place may become one: they are there, and no reader may ask for a boundary inside
+  pub record MayMerge (holds : List (HoldState T)) (bs : List (BatchState T)) (alone : Bool) (i : ℕ) : Type 0 where
+    pub within : i + width_of alone ≤ length bs
+    pub allowed : is_barred holds bs alone i ≡ false
 
-  -- so many updates were spent on merges, and nothing else has changed
-  pub record IsWorked (spent : ℕ) (old new : SpineState T) : Type 0 where
-    pub merges : List (Merge T)
-    pub allowed : AreMerges old.since old.holds merges old.list.batches
-    pub batches : new.list.batches ≡ after merges old.list.batches
-    pub cost : cost_of merges old.list.batches ≡ spent
-    pub copied : IsCountAfter old.copied (copies_of merges old.list.batches) new.copied
+  -- a change that was allowed: no hold forbids it, and the batch is as of the since or an earlier
+  -- frontier
+  abbrev pub IsAllowed : List T → List (HoldState T) → Change T → List (BatchState T) → Type 0
+  IsAllowed since holds (Merged i m) bs =
+      MayMerge holds bs false i
+      × IsTrue (all_beyond below m.description.since since)
+      × IsMergeAt below m.description.since m i bs
+  IsAllowed since holds (Rewritten i m) bs =
+      MayMerge holds bs true i
+      × IsTrue (all_beyond below m.description.since since)
+      × IsRewriteAt below m.description.since m i bs
+
+  -- each of the changes was allowed
+  abbrev pub AreAllowed : List T → List (HoldState T) → List (Change T) → List (BatchState T) → Type 0
+  AreAllowed since holds [] bs = ⊤
+  AreAllowed since holds (c ∷ cs) bs =
+      IsAllowed since holds c (after cs bs) × AreAllowed since holds cs bs
+
+  -- each merge that is under way is as of the since or an earlier frontier
+  abbrev pub AreEarlier : List T → List (UnderwayState T) → Type 0
+  AreEarlier since us =
+      AllByRecursion (λ u. IsTrue (all_beyond below u.merging.description.since since)) us
+
+  -- how many updates were read in vain: by merges across a boundary that some reader may ask for
+  abbrev pub read_in_vain : SpineState T → ℕ
+  read_in_vain s =
+      sum_by (λ u. if is_barred s.holds s.list.batches u.alone u.number then read_of u else 0)
+      s.progress.underway
+
+  -- so much fuel was spent: a unit for each update that was copied, and one for each new batch. What
+  -- was read is in the new batches, under way, or lost with merges that were given up. Nothing else
+  -- has changed
+  pub record IsWorked (spent lost : ℕ) (old new : SpineState T) : Type 0 where
+    pub changes : List (Change T)
+    pub allowed : AreAllowed old.since old.holds changes old.list.batches
+    pub batches : new.list.batches ≡ after changes old.list.batches
+    pub copies : ℕ
+    pub cost : copies + length changes ≡ spent
+    pub copied : IsCountAfter old.progress.copied copies new.progress.copied
+    pub read : (all_reads changes old.list.batches + read_by new.progress.underway) + lost
+        ≡ read_by old.progress.underway + copies
     pub kept : new ≡ record old {
       list = record old.list { batches = new.list.batches; reserved = new.list.reserved };
-      copied = new.copied;
+      progress = new.progress;
     }
     pub stands : (h : List (Insertion T)) → Stands old h → Stands new h
     pub fewer : (u : List T) → Contains (boundaries new) u → Contains (boundaries old) u
@@ -111,22 +151,59 @@ module _ {T : Type 0} (below : T → T → Bool) where
         → IsTrue (list_all (λ u. p u.row u.time) (stored new))
     pub smaller : size (stored new) ≤ size (stored old)
 
-  -- nothing is left to merge: some reader may ask for each boundary between two batches
-  abbrev pub IsDone : List (HoldState T) → List (BatchState T) → Type 0
-  IsDone holds bs =
-      (i : ℕ) (a : BatchState T)
-      → suc i < length bs
-      → slice_get bs i ≡ Some a
-      → IsTrue (forbids below holds a.description.upper)
+  -- the same, and only what was read in vain is lost
+  pub record IsWorkedOn (spent : ℕ) (old new : SpineState T) : Type 0 where
+    pub lost : ℕ
+    pub worked : IsWorked spent lost old new
+    pub in_vain : lost + read_in_vain new ≡ read_in_vain old
 
-  -- what is left of the fuel goes no further: some reader may ask for the boundary between two
-  -- neighbours, or they have as many updates as there is fuel, or more, or they are steep and all
-  -- that is stored is
-  abbrev pub IsStuck : ℕ → List (HoldState T) → List (BatchState T) → Type 0
-  IsStuck left holds bs =
-      (i : ℕ) (a b : BatchState T)
-      → slice_get bs i ≡ Some a
-      → slice_get bs (suc i) ≡ Some b
-      → IsTrue (forbids below holds a.description.upper)
-      ⊎ (left ≤ length a.updates + length b.updates)
-      ⊎ (AreSteep a b × (left ≤ length (all_content updates_of bs)))
+  -- of one row, the batch has no two updates that no read beyond the frontier tells apart
+  abbrev pub IsFolded : List T → BatchState T → Type 0
+  IsFolded since b =
+      (u v : Update T)
+      → Contains b.updates u
+      → Contains b.updates v
+      → u.row ≡ v.row
+      → Indistinguishable below since u.time v.time
+      → u ≡ v
+
+  -- the newest merge may go on: no reader may ask for the boundary inside its place
+  abbrev pub IsReady : SpineState T → Type 0
+  IsReady s =
+      (older : List (UnderwayState T)) (u : UnderwayState T)
+      → s.progress.underway ≡ older ++ u ∷ []
+      → is_barred s.holds s.list.batches u.alone u.number ≡ false
+
+  -- a merge may be begun at a place, which is behind all that are under way
+  pub record CanBegin (alone : Bool) (i : ℕ) (s : SpineState T) : Type 0 where
+    pub behind : end_of_places 0 s.progress.underway ≤ i
+    pub may : MayMerge s.holds s.list.batches alone i
+
+  -- nothing is left to do: some reader may ask for each boundary between two batches, and each batch
+  -- is as of the since, if there are readers
+  pub record AreDone (holds : List (HoldState T)) (since : List T) (bs : List (BatchState T)) : Type 0 where
+    pub merged : (i : ℕ) → suc i < length bs → IsTrue (is_barred holds bs false i)
+    pub compacted : since ≢ [] → AllByRecursion (λ b. b.description.since ≡ since) bs
+
+  abbrev pub IsDone : SpineState T → Type 0
+  IsDone s = AreDone s.holds s.since s.list.batches
+
+  -- so much fuel goes no further: no merge is under way, and of two neighbours the older one has more
+  -- than twice as many updates, or some reader may ask for the boundary between them. What else there
+  -- may be to do asks for more fuel than there are updates
+  pub record IsStuck (left : ℕ) (s : SpineState T) : Type 0 where
+    pub nothing : s.progress.underway ≡ []
+    pub steep : (i : ℕ) (a b : BatchState T)
+        → slice_get s.list.batches i ≡ Some a
+        → slice_get s.list.batches (suc i) ≡ Some b
+        → AreSteep a b ⊎ IsTrue (is_barred s.holds s.list.batches false i)
+    pub rest : IsDone s ⊎ (left ≤ length (stored s))
+
+  -- the total of some row over the updates at some place, moved as of the since or an earlier
+  -- frontier, is no 64-bit number
+  pub record HasLargePlace (joined met : T → T → T) (since : List T) (bs : List (BatchState T)) : Type 0 where
+    pub frontier : List T
+    pub earlier : IsTrue (all_beyond below frontier since)
+    pub alone : Bool
+    pub number : ℕ
+    pub large : HasLargeTotal below (compacted joined met frontier (sources_at alone number bs))

@@ -1,9 +1,11 @@
-//! The spine: a batch list, and the holds of its readers. What is inserted goes into the list as it
-//! is. What readers may still ask is known by their holds, and only across a boundary that nobody
-//! may ask for do two batches become one.
+//! The spine: levels of batches, and the holds of its readers. What is inserted goes into the list
+//! as it is. What readers may still ask is known by their holds, and only across a boundary that
+//! nobody may ask for do two batches become one.
 //!
 //! The invariant: `since` is the least of all logical frontiers that are held, with memory for all
 //! their elements. So a hold can be released, and the since found anew, where no memory is left.
+//! Each merge that is under way is as of a frontier that the since has reached. The since only goes
+//! forward, so a merge may be finished however long it takes.
 ghost use Rattle.std.specs.Prelude.{◌≡◌, ◌↔◌, ◌⊎◌, ◌++◌, ◌∷◌, ◌≤◌, min, ◌-◌, ◌^◌, List, [], Err, IfErr, IfOk, IsErrAnd, OnErr, OnOk, IsTrue, true, length, vec_capacity};
 ghost use Rattle.std.specs.List.{Contains};
 ghost use Rattle.lattice.specs.Frontiers.{all_beyond};
@@ -18,19 +20,21 @@ use crate::since::{make_room, refill};
 use antichain::Antichain;
 use batch::{Batch, BatchReader};
 use lattice::{Lattice, Minimum};
+use levels::Levels;
 use std::alloc::Global;
 use std::marker::Model;
 use trace::{BatchList, Hold, KeptHold, Trace, Unplaced};
 use update::Refusal;
 
 /// A trace that merges its batches under its readers' holds. A contract sees the batch list, the
-/// since, the holds, and how many updates were copied in merges.
+/// since, the holds, and how far merges have come: the updates that were copied, and the merges that
+/// are under way.
 ///
 /// One worker owns a spine and all its readers. Each reader has a [`Hold`], and gives it back by
 /// [`release`](Spine::release).
 #[derive(Drop)]
 pub struct Spine<T: Lattice> {
-    pub(crate) list: BatchList<T>,
+    pub(crate) levels: Levels<T>,
     pub(crate) since: Vec<T>,
     pub(crate) holds: Vec<KeptHold<T>>,
     pub(crate) copied: u64,
@@ -39,19 +43,20 @@ pub struct Spine<T: Lattice> {
 impl<T: Lattice> Model for Spine<T> {
     ghost use Rattle.std.specs.Prelude.{vec_capacity, ◌≤◌};
     ghost use Rattle.spine.specs.Holding.{IsSinceOf, logical_count};
-    ghost use Rattle.spine.specs.Spines.{SpineState};
+    ghost use Rattle.spine.specs.Spines.{SpineState, AreEarlier};
 
     ghost Value = { SpineState T };
 
     ghost view = { λ s. record {
-      list = s.list;
+      list = s.levels.list;
       since = s.since.items;
       holds = s.holds.items;
-      copied = s.copied;
+      progress = record { copied = s.copied; underway = s.levels.underway };
     } };
 
     ghost invariant = { λ s. IsSinceOf T.below T.cmp s.holds.items s.since.items
-        × (logical_count s.holds.items ≤ vec_capacity s.since) };
+        × (logical_count s.holds.items ≤ vec_capacity s.since)
+        × AreEarlier T.below s.since.items s.levels.underway };
 }
 
 // The frontier that has the least time alone.
@@ -79,7 +84,7 @@ impl<T: Minimum> Spine<T> {
           };
           since = T.least ∷ [];
           holds = record { logical = T.least ∷ []; physical = T.least ∷ [] } ∷ [];
-          copied = 0;
+          progress = record { copied = 0; underway = [] };
         }) }
         ensures hold { IfOk result
             (λ made. made.1 ≡ record { logical = T.least ∷ []; physical = T.least ∷ [] }) }
@@ -91,7 +96,7 @@ impl<T: Minimum> Spine<T> {
         let mut holds = Vec::new(alloc);
         let hold = push_hold(alloc, &mut holds, since.as_slice(), since.as_slice())?;
         let spine = Spine {
-            list,
+            levels: Levels::of(alloc, list),
             since,
             holds,
             copied: 0,
@@ -109,7 +114,7 @@ impl<T: Lattice> Spine<T> {
         ensures same { OnErr result (self.new ≡ self.old) }
         ensures only { IfErr result (λ refused. refused ≡ Refusal.OutOfMemory) }
     {
-        self.list.reserve()
+        self.levels.reserve()
     }
 
     /// Inserts a batch at the end. From then on the spine stands for one more insertion: that of
@@ -143,7 +148,7 @@ impl<T: Lattice> Spine<T> {
         ensures only { IfErr result (λ unplaced. (unplaced.refusal ≡ Refusal.OutOfMemory)
             ⊎ (unplaced.refusal ≡ Refusal.Stray)) }
     {
-        self.list.insert(batch)?;
+        self.levels.insert(batch)?;
         Ok(())
     }
 
@@ -171,7 +176,7 @@ impl<T: Lattice> Spine<T> {
         let more = self.since.len();
         make_room(&mut self.since, self.holds.as_slice(), more)?;
         let since = self.since.as_slice();
-        let hold = push_hold(alloc, &mut self.holds, since, self.list.upper())?;
+        let hold = push_hold(alloc, &mut self.holds, since, self.levels.list().upper())?;
         Ok(hold)
     }
 
@@ -246,7 +251,7 @@ impl<T: Lattice> Spine<T> {
     /// How many updates were copied in merges, since the spine was made. The count stays at its
     /// greatest value. Takes no memory.
     pub fn copied(&self) -> u64
-        ensures { result ≡ self.now.copied }
+        ensures { result ≡ self.now.progress.copied }
     {
         self.copied
     }
@@ -257,7 +262,7 @@ impl<T: Lattice> Spine<T> {
     pub fn kept(&self) -> u64
         ensures { result ≡ min (length (stored self.now)) (2 ^ 64 - 1) }
     {
-        updates_in(self.list.batches())
+        updates_in(self.levels.batches())
     }
 }
 
@@ -298,7 +303,7 @@ impl<T: Lattice> Trace for Spine<T> {
         all_content updates_of (batches_to (λ v. pointwise T.eq v u) s.list.start s.list.batches) };
 
     fn upper(&self) -> &[T] {
-        self.list.upper()
+        self.levels.list().upper()
     }
 
     fn since(&self) -> &[T] {
@@ -306,10 +311,10 @@ impl<T: Lattice> Trace for Spine<T> {
     }
 
     fn through(&self, upto: &[T]) -> Option<&[Batch<T>]> {
-        self.list.through(upto)
+        self.levels.list().through(upto)
     }
 
     fn after(&self, from: &[T]) -> Option<&[Batch<T>]> {
-        self.list.after(from)
+        self.levels.list().after(from)
     }
 }

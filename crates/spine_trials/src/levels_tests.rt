@@ -1,8 +1,5 @@
 //! Levels: merges succeed if there is memory, and readers see the old batches until a merge is
 //! whole. Which merge is begun when is the caller's choice, so these tests make one.
-ghost use Rattle.std.specs.Prelude.{◌≡◌, ◌-◌, ◌^◌, min};
-ghost use Rattle.levels.specs.Levels.{end_of_places};
-
 use antichain::Antichain;
 use batch::BatchReader;
 use batch_trials::sealed;
@@ -38,21 +35,10 @@ fn four(alloc: Global) -> Result<Levels<Bitime>, Refusal> {
     Ok(levels)
 }
 
-// The number behind the place of the newest merge.
-fn end(levels: &Levels<Bitime>) -> usize
-    ensures { result ≡ min (end_of_places 0 levels.now.underway) (2 ^ 64 - 1) }
-{
-    match levels.newest() {
-        Some(place) if place.is_alone => place.number.saturating_add(1),
-        Some(place) => place.number.saturating_add(2),
-        None => 0,
-    }
-}
-
 // Begins to merge the first two batches behind all that is under way, if there are two.
 fn begin_two(levels: &mut Levels<Bitime>, since: &Antichain<Bitime>) -> Result<bool, Refusal> {
-    let number = end(levels);
-    if number.saturating_add(1) >= levels.batches().len() {
+    let number = levels.end();
+    if levels.batches().len() - number < 2 {
         return Ok(false);
     }
     levels.begin_two(number, since.elements())?;
@@ -65,8 +51,8 @@ fn go_on(levels: &mut Levels<Bitime>, fuel: u64) -> Result<Option<u64>, Refusal>
     if levels.newest().is_none() || fuel == 0 {
         return Ok(None);
     }
-    let left = levels.go_on(fuel)?;
-    Ok(Some(left))
+    let step = levels.go_on(fuel)?;
+    Ok(Some(step.left))
 }
 
 // How many batches there are after so many calls of one unit each.
@@ -108,7 +94,6 @@ fn merge_behind(levels: &mut Levels<Bitime>, since: &Antichain<Bitime>) -> Resul
 }
 
 // A list that finished the older merge first, or whose numbers shifted, would merge other batches.
-// Rewriting the last batch leaves their number.
 #[test]
 fn the_newest_merge_goes_on(rt: HostRuntime) -> Result<(), Fail> {
     let mut levels = four(rt.alloc())?;
@@ -122,5 +107,42 @@ fn the_newest_merge_goes_on(rt: HostRuntime) -> Result<(), Fail> {
     assert!(rt; go_on(&mut levels, 100)? == Some(98));
     assert!(rt; matches!(levels.batches(), [both, rest] if both.len() == 1 && rest.len() == 1));
     assert!(rt; go_on(&mut levels, 100)? == None);
+    Ok(())
+}
+
+// Begins to rewrite the first batch behind all that is under way, if there is one.
+fn begin_one(levels: &mut Levels<Bitime>, since: &Antichain<Bitime>) -> Result<bool, Refusal> {
+    let number = levels.end();
+    if number == levels.batches().len() {
+        return Ok(false);
+    }
+    levels.begin_one(number, since.elements())?;
+    Ok(true)
+}
+
+// Gives the newest merge up, if there is one.
+fn give_up(levels: &mut Levels<Bitime>) {
+    if levels.newest().is_some() {
+        levels.give_up();
+    }
+}
+
+// A rewriting moves the times of one batch, and those of the others stay. The merge that was begun
+// behind it is given up first.
+#[test]
+fn one_batch_is_rewritten_alone(rt: HostRuntime) -> Result<(), Fail> {
+    let mut levels = four(rt.alloc())?;
+    let since = Antichain::from_elem(rt.alloc(), at((3, 3)));
+    assert!(rt; begin_one(&mut levels, &since)? && levels.end() == 1);
+    assert!(rt; begin_two(&mut levels, &since)? && levels.end() == 3);
+    give_up(&mut levels);
+    assert!(rt; matches!(levels.newest(), Some(place) if place.number == 0 && place.is_alone));
+    assert!(rt; go_on(&mut levels, 100)? == Some(98) && levels.end() == 0);
+    assert!(rt;
+        matches!(levels.batches(), [a, b, _, _] if a.len() == 1
+            && a.time(0) == at((3, 3))
+            && b.len() == 1
+            && b.time(0) == at((1, 1)))
+    );
     Ok(())
 }

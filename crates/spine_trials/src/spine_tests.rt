@@ -17,6 +17,23 @@ use trace::{Hold, Trace, all_batches};
 use trials::sketches::{at, list};
 use update::Refusal;
 
+// A spine and its hold, and once more if memory was refused.
+fn begin(alloc: Global) -> Result<(Spine<Bitime>, Hold<Bitime>), Refusal>
+    ensures { IfOk result (λ made. made.0.holds ≡ made.1 ∷ []) }
+{
+    match Spine::new(alloc, 0, 0) {
+        Err(Refusal::OutOfMemory) => Spine::new(alloc, 0, 0),
+        done => done,
+    }
+}
+
+// Works with some fuel. The holds stay.
+fn work(spine: &mut Spine<Bitime>, fuel: u64) -> Result<bool, Refusal>
+    ensures { spine.new.holds ≡ spine.old.holds }
+{
+    spine.work(fuel)
+}
+
 // Inserts the batch, and once more if it comes back.
 fn insert(spine: &mut Spine<Bitime>, batch: Batch<Bitime>) -> Result<(), Refusal>
     ensures { spine.new.holds ≡ spine.old.holds }
@@ -131,10 +148,7 @@ fn merge_under_a_hold(
 // The boundary (1, 1) goes away, since no reader may ask for it any more; (2, 2) stays.
 #[test]
 fn merging_takes_memory(rt: HostRuntime) -> Result<(), Fail> {
-    let (mut spine, mut hold) = match Spine::new(rt.alloc(), 0, 0) {
-        Err(Refusal::OutOfMemory) => Spine::new(rt.alloc(), 0, 0)?,
-        done => done?,
-    };
+    let (mut spine, mut hold) = begin(rt.alloc())?;
     let outcome = merge_under_a_hold(&rt, rt.alloc(), &mut spine, &mut hold);
     spine.release(hold);
     outcome?;
@@ -152,29 +166,33 @@ fn insert_one(alloc: Global, spine: &mut Spine<Bitime>, i: u64) -> Result<(), Re
     insert(spine, batch)
 }
 
-// Merges with some fuel, and answers what of it was not spent.
-fn work(spine: &mut Spine<Bitime>, fuel: u64) -> Result<u64, Refusal> {
-    let copied = spine.copied();
-    let batches = all_batches(spine).len();
-    spine.work(fuel)?;
-    let merges = batches.saturating_sub(all_batches(spine).len()) as u64;
-    Ok(fuel.saturating_sub(spine.copied().saturating_sub(copied).saturating_add(merges)))
+// Inserts so many batches of one update, with some fuel after each, and answers the greatest number
+// of batches that there were.
+fn most_batches(
+    alloc: Global,
+    spine: &mut Spine<Bitime>,
+    insertions: u64,
+    fuel: u64,
+) -> Result<usize, Refusal> {
+    let mut most = 0usize;
+    for i in 0..insertions {
+        insert_one(alloc, spine, i)?;
+        spine.work(fuel)?;
+        most = most.max(all_batches(spine).len());
+    }
+    Ok(most)
 }
 
-// After 4,096 insertions of one update, with 16 units of fuel for each, there are few batches: 13
-// would be one for each power of two. A policy that merges the oldest batch with the newest one at
-// each insertion runs out of fuel and leaves many. So does one that saves nothing for large merges,
-// but spends all fuel on pushing small batches into large ones.
+// While 4,096 updates are inserted one by one, with 16 units of fuel for each, there are never more
+// batches than 13, which would be one for each power of two. If nothing was merged while a long
+// merge is under way, there would be hundreds. A policy that spends all fuel on pushing small
+// batches into large ones leaves many, too.
 #[test]
 fn many_insertions_leave_few_batches(rt: HostRuntime) -> Result<(), Fail> {
     let (mut spine, hold) = Spine::new(rt.alloc(), 0, 0)?;
     spine.release(hold);
-    let mut saved = 0u64;
-    for i in 0..4_096u64 {
-        insert_one(rt.alloc(), &mut spine, i)?;
-        saved = work(&mut spine, saved.saturating_add(16))?;
-    }
-    assert!(rt; spine.kept() == 4_096 && all_batches(&spine).len() <= 13);
+    let most = most_batches(rt.alloc(), &mut spine, 4_096, 16)?;
+    assert!(rt; spine.kept() == 4_096 && most <= 13);
     Ok(())
 }
 
@@ -259,10 +277,7 @@ fn read_with_another(
 // The since of no hold is empty. Each call is made once more where memory was refused.
 #[test]
 fn a_since_of_many_holds_takes_memory(rt: HostRuntime) -> Result<(), Fail> {
-    let (mut spine, mut first) = match Spine::new(rt.alloc(), 0, 0) {
-        Err(Refusal::OutOfMemory) => Spine::new(rt.alloc(), 0, 0)?,
-        done => done?,
-    };
+    let (mut spine, mut first) = begin(rt.alloc())?;
     holds_are_kept_apart::<Bitime>();
     let outcome = read_with_another(&rt, rt.alloc(), &mut spine, &mut first);
     spine.release(first);
@@ -361,6 +376,105 @@ fn merges_move_times_that_no_reader_tells_apart(rt: HostRuntime) -> Result<(), F
     Ok(())
 }
 
+// Works with one unit of fuel so many times. True if the sum was 6 after each, and only the last
+// call answered that nothing is left to do.
+fn work_by_units(spine: &mut Spine<Bitime>, calls: u64) -> Result<bool, Refusal>
+    ensures { spine.new.holds ≡ spine.old.holds }
+{
+    let mut is_well = true;
+    for call in 1..=calls {
+        let done = work(spine, 1)?;
+        is_well = is_well && done == (call == calls) && sum_at_5_3(spine) == 6;
+    }
+    Ok(is_well)
+}
+
+// The merge of one and three updates takes five units, and leaves three updates. Their merge with
+// the first two takes six.
+fn move_times_by_units(
+    rt: &impl Abort,
+    alloc: Global,
+    spine: &mut Spine<Bitime>,
+    hold: &mut Hold<Bitime>,
+) -> Result<(), Refusal>
+    requires { Contains spine.old.holds hold.old }
+    ensures { Contains spine.new.holds hold.new }
+{
+    read_beyond_two_times(alloc, spine, hold)?;
+    assert!(rt; work_by_units(spine, 11)? && is_moved(spine) && spine.copied() == 9);
+    Ok(())
+}
+
+// A merge that is begun anew by each call would never be whole.
+#[test]
+fn a_merge_goes_on_from_call_to_call(rt: HostRuntime) -> Result<(), Fail> {
+    let (mut spine, mut hold) = Spine::new(rt.alloc(), 0, 0)?;
+    let outcome = move_times_by_units(&rt, rt.alloc(), &mut spine, &mut hold);
+    spine.release(hold);
+    outcome?;
+    Ok(())
+}
+
+// One batch, which lags behind a reader that sums from (3, 3) on.
+fn lag(
+    rt: &impl Abort,
+    alloc: Global,
+    spine: &mut Spine<Bitime>,
+    hold: &mut Hold<Bitime>,
+) -> Result<(), Refusal>
+    requires { Contains spine.old.holds hold.old }
+    ensures { Contains spine.new.holds hold.new }
+{
+    insert(
+        spine,
+        sevens(alloc, (0, 0), (4, 0), &[(0, 0), (1, 1), (2, 3)])?,
+    )?;
+    assert!(rt; work(spine, 4)? && spine.copied() == 0);
+    let from = Antichain::from_elem(alloc, at((3, 3)));
+    let start = Antichain::from_elem(alloc, at((0, 0)));
+    spine.advance_hold(alloc, hold, &from, &start)?;
+    assert!(rt; !work(spine, 3)? && spine.kept() == 3);
+    assert!(rt; work(spine, 4)? && spine.kept() == 1 && spine.copied() == 3);
+    Ok(())
+}
+
+// A single batch is rewritten, with more fuel than there are updates, once it lags.
+#[test]
+fn a_batch_that_lags_is_rewritten(rt: HostRuntime) -> Result<(), Fail> {
+    let (mut spine, mut hold) = Spine::new(rt.alloc(), 0, 0)?;
+    let outcome = lag(&rt, rt.alloc(), &mut spine, &mut hold);
+    spine.release(hold);
+    outcome?;
+    assert!(rt;
+        matches!(all_batches(&spine), [batch] if batch.len() == 1 && batch.time(0) == at((3, 3)))
+    );
+    Ok(())
+}
+
+// A batch of one update, and an empty batch that begins and ends where that one ends.
+fn insert_an_empty_one(alloc: Global, spine: &mut Spine<Bitime>) -> Result<(), Refusal> {
+    insert(spine, seven(alloc, (0, 0), (1, 0), (0, 0), 1)?)?;
+    insert(spine, sevens(alloc, (1, 0), (1, 0), &[])?)
+}
+
+// A reader that comes while a merge is under way may ask for the boundary inside it. So the merge
+// is given up, and the boundary stays.
+#[test]
+fn a_merge_across_a_hold_taken_later_is_given_up(rt: HostRuntime) -> Result<(), Fail> {
+    let (mut spine, hold) = Spine::new(rt.alloc(), 0, 0)?;
+    spine.release(hold);
+    insert_an_empty_one(rt.alloc(), &mut spine)?;
+    assert!(rt; !spine.work(1)? && spine.copied() == 1);
+    let late = spine.hold(rt.alloc())?;
+    let done = work(&mut spine, 1_000);
+    spine.release(late);
+    assert!(rt; done? && spine.copied() == 1);
+    assert!(rt; matches!(spine.after(&[at((0, 0))]), Some([_, _])));
+    assert!(rt; spine.work(1_000)? && spine.kept() == 1);
+    assert!(rt; matches!(spine.after(&[at((0, 0))]), Some([_])));
+    Ok(())
+}
+
 // Two neighbours with a total of 2^63 once a reader from (2, 2) on cannot tell both times apart.
 fn insert_large(
     alloc: Global,
@@ -384,7 +498,7 @@ fn is_too_large(spine: &mut Spine<Bitime>) -> bool
     matches!(spine.work(1_000), Err(Refusal::Overflow))
 }
 
-// Memory is ample here, so a total that is too large is not told as want of memory, and both batches
+// Memory is ample here, so a total that is too large is not told as want of memory. Both batches
 // stay.
 #[test]
 fn work_tells_totals_that_are_large_once_times_move(rt: HostRuntime) -> Result<(), Fail> {

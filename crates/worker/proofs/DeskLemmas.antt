@@ -177,7 +177,7 @@ module _ {T : Type 0} (below : T → T → Bool) (joined : T → T → T) (minim
             kind_is = x.kind_is;
             key = x.key;
             width = x.width;
-            reduced = subst (λ us. IsReduced below joined r us (emitted_by m k v.emitted)) (sym (s.received 0)) (subst (λ us. IsReduced below joined r (received_at w m k 0) us) (sym s.emitted) x.reduced);
+            reduced = subst (λ us. IsReduced below joined minimum r us (emitted_by m k v.emitted)) (sym (s.received 0)) (subst (λ us. IsReduced below joined minimum r (received_at w m k 0) us) (sym s.emitted) x.reduced);
             upper = x.upper;
             reducing = same_reducing below o p q w m k x.upper (pending_of r) x.reducing e allowed (other m far);
           },

@@ -130,10 +130,10 @@ module _ {T : Type 0} (below : T → T → Bool) (joined : T → T → T) (minim
       (large_first below minimum p (events (found_last k)) (found_legal below minimum k actor) n ready.free.at bundle took.node took.take o actor.dataflow cmp source read_there large)
 
   module _ (s : ReducingView T) (kept : s ≡ record r { state = record r.state { histories = s.state.histories; waiting = s.state.waiting } })
-      (takes : (received emitted : List (Update T)) (upper : List T) → IsReduced below joined r received emitted → IsTrue (all_beyond below upper (times bundle.updates)) → IsTrue (list_all (λ u. has_passed below upper u.time) emitted) → IsReduced below joined s (bundle.updates ++ received) emitted)
-      (pends : (received emitted : List (Update T)) → IsReduced below joined r received emitted → IsPendingAfter below (pending_of r) bundle.updates (pending_of s))
+      (takes : (received emitted : List (Update T)) (upper : List T) → IsReduced below joined minimum r received emitted → IsTrue (all_beyond below upper (times bundle.updates)) → IsTrue (list_all (λ u. has_passed below upper u.time) emitted) → IsReduced below joined minimum s (bundle.updates ++ received) emitted)
+      (pends : (received emitted : List (Update T)) → IsReduced below joined minimum r received emitted → IsPendingAfter below (pending_of r) bundle.updates (pending_of s))
       (held : List T) (is_held : IsHeldFor below held (pending_of s)) where
-    reduced_now : IsReduced below joined s (bundle.updates ++ received_at came bundle.place.node bundle.place.worker 0) (emitted_by bundle.place.node bundle.place.worker came.emitted)
+    reduced_now : IsReduced below joined minimum s (bundle.updates ++ received_at came bundle.place.node bundle.place.worker 0) (emitted_by bundle.place.node bundle.place.worker came.emitted)
     reduced_now = takes (received_at came bundle.place.node bundle.place.worker 0) (emitted_by bundle.place.node bundle.place.worker came.emitted) reduction_there.upper reduction_there.reduced
         (taken_beyond below o p actor.dataflow came 0 bundle stamped took.take reduction_there.upper reduction_there.reducing.passed) reduction_there.reducing.settled
 
@@ -251,14 +251,14 @@ module _ {T : Type 0} (below : T → T → Bool) (joined : T → T → T) (minim
 
     -- why the reduction could not answer
     pub ready_cause : (cmp : T → T → Ordering)
-        → ((inserted : List (Insertion T)) (received emitted : List (Update T)) → SpineStands below trace inserted → SumsToReceived below front (all_updates inserted) received → IsReduced below joined r received emitted → IsTrue (list_all (λ u. has_passed below front u.time) emitted) → IsOverfullWith below r received front)
+        → ((inserted : List (Insertion T)) (received emitted : List (Update T)) → SpineStands below trace inserted → SumsToReceived below front (all_updates inserted) received → IsReduced below joined minimum r received emitted → IsTrue (list_all (λ u. has_passed below front u.time) emitted) → IsOverfullWith below r received front)
         → IsTooLarge below minimum cmp k
     ready_cause cmp f = subst (λ v. HasNoSmallBound below cmp flow.nodes (changes_in v)) (sym turn.left) (overfull cmp (f inserted received emitted trace_stands sums here.reduced emitted_passed))
 
     -- what the reduction answers
     module _ (s : ReducingView T) (out : List (Update T)) (kept : s ≡ record r { state = record r.state { histories = s.state.histories; waiting = s.state.waiting; looked = s.state.looked } })
-        (stands_then : (inserted : List (Insertion T)) (received emitted : List (Update T)) → SpineStands below trace inserted → SumsToReceived below front (all_updates inserted) received → IsReduced below joined r received emitted → IsReduced below joined s received (out ++ emitted))
-        (law : (inserted : List (Insertion T)) (received emitted : List (Update T)) → SpineStands below trace inserted → SumsToReceived below front (all_updates inserted) received → IsReduced below joined r received emitted → (t : T) → IsTrue (has_passed below (pending_of s) t) → IsAnswerAt below r received (out ++ emitted) t)
+        (stands_then : (inserted : List (Insertion T)) (received emitted : List (Update T)) → SpineStands below trace inserted → SumsToReceived below front (all_updates inserted) received → IsReduced below joined minimum r received emitted → IsReduced below joined minimum s received (out ++ emitted))
+        (law : (inserted : List (Insertion T)) (received emitted : List (Update T)) → SpineStands below trace inserted → SumsToReceived below front (all_updates inserted) received → IsReduced below joined minimum r received emitted → (t : T) → IsTrue (has_passed below (pending_of s) t) → IsAnswerAt below r received (out ++ emitted) t)
         (passed : IsTrue (list_all (λ u. has_passed below front u.time) out)) (later : IsTrue (all_beyond below front (pending_of s)))
         (out_beyond : (other : List T) → IsTrue (all_beyond below other (pending_of r)) → IsTrue (all_beyond below other (times out)))
         (rest_beyond : (other : List T) → IsTrue (all_beyond below other (pending_of r)) → IsTrue (all_beyond below other (pending_of s)))
@@ -272,7 +272,7 @@ module _ {T : Type 0} (below : T → T → Bool) (joined : T → T → T) (minim
       width_kept : s.width ≡ r.width
       width_kept = ap (λ (z : ReducingView T). z.width) kept
 
-      reduced_then : IsReduced below joined s received (out ++ emitted)
+      reduced_then : IsReduced below joined minimum s received (out ++ emitted)
       reduced_then = stands_then inserted received emitted trace_stands sums here.reduced
 
       right_then : (t : T) → IsTrue (has_passed below (pending_of s) t) → IsAnswerAt below s received (out ++ emitted) t

@@ -108,7 +108,7 @@ module _ {T : Type 0} (below : T → T → Bool) (joined : T → T → T) (minim
           tight = λ h. absurd (h (in_hand_now below o p w number bundle));
         }
 
-    module _ (same_kind : s.state.reducer ≡ r.state.reducer) (same_key : s.key ≡ r.key) (same_width : s.width ≡ r.width) (reduced : IsReduced below joined s (us ++ received_at w n k 0) (emitted_by n k w.emitted))
+    module _ (same_kind : s.state.reducer ≡ r.state.reducer) (same_key : s.key ≡ r.key) (same_width : s.width ≡ r.width) (reduced : IsReduced below joined minimum s (us ++ received_at w n k 0) (emitted_by n k w.emitted))
         (held : List T) (is_held : IsHeldFor below held (pending_of s)) where
       none_found : IsFound below p taken n k before.upper (pending_of s) before.upper [] (pending_of s)
       none_found = found_none below o p q taken n k before.upper (pending_of s) reducing_now
@@ -131,7 +131,7 @@ module _ {T : Type 0} (below : T → T → Bool) (joined : T → T → T) (minim
             kind_is = same_kind ∙ before.kind_is;
             key = same_key ∙ before.key;
             width = same_width ∙ before.width;
-            reduced = subst (IsReduced below joined s (received_at taken n k 0)) (sym none_given) (subst (λ x. IsReduced below joined s x (emitted_by n k w.emitted)) (sym received_now) reduced);
+            reduced = subst (IsReduced below joined minimum s (received_at taken n k 0)) (sym none_given) (subst (λ x. IsReduced below joined minimum s x (emitted_by n k w.emitted)) (sym received_now) reduced);
             upper = before.upper;
             reducing = gave_reducing below o p q taken (no_emission n k) before.upper (pending_of s) before.upper (pending_of s) held [] reducing_now in_hand none_found is_held (cut_none below p n k);
           }))
@@ -155,7 +155,7 @@ module _ {T : Type 0} (below : T → T → Bool) (joined : T → T → T) (minim
 
   module _ (front : List T) (same : (t : T) → is_beyond below front t ≡ is_beyond below (input_frontier below p turned n) t)
       (s : ReducingView T) (same_kind : s.state.reducer ≡ r.state.reducer) (same_key : s.key ≡ r.key) (same_width : s.width ≡ r.width)
-      (out : List (Update T)) (reduced : IsReduced below joined s (received_at w n k 0) (out ++ emitted_by n k w.emitted))
+      (out : List (Update T)) (reduced : IsReduced below joined minimum s (received_at w n k 0) (out ++ emitted_by n k w.emitted))
       (right : (t : T) → IsTrue (has_passed below (pending_of s) t) → IsAnswerAt below s (received_at w n k 0) (out ++ emitted_by n k w.emitted) t)
       (passed : IsTrue (list_all (λ u. has_passed below front u.time) out)) (left : IsTrue (all_beyond below front (pending_of s)))
       (out_beyond : (other : List T) → IsTrue (all_beyond below other (pending_of r)) → IsTrue (all_beyond below other (times out)))
@@ -203,7 +203,7 @@ module _ {T : Type 0} (below : T → T → Bool) (joined : T → T → T) (minim
           kind_is = same_kind ∙ held_back.kind_is;
           key = same_key ∙ held_back.key;
           width = same_width ∙ held_back.width;
-          reduced = subst (IsReduced below joined s (received_at w n k 0)) (sym (Rattle.operator_laws.proofs.GatheringLemmas.emitted_is below p turned emission held sent)) reduced;
+          reduced = subst (IsReduced below joined minimum s (received_at w n k 0)) (sym (Rattle.operator_laws.proofs.GatheringLemmas.emitted_is below p turned emission held sent)) reduced;
           upper = front;
           reducing = gave_reducing below o p q turned emission held_back.upper (pending_of r) front (pending_of s) held sent pending_now hand_now is_found is_held cut;
         }))

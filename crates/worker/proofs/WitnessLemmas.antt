@@ -1,6 +1,6 @@
 -- For each plan there are a desk and a history of an actor that has looked once, with which the
 -- only worker is ready for its first pass. The desk is laid out as `Desk::open` does it.
-use Rattle.std.proofs.Common.{◌≡◌, ℕ, zero, suc, ◌+◌, ◌<◌, ◌≤◌, Bool, true, false, List, [], ◌∷◌, ◌++◌, length, length-append, set, Option, Some, None, sym, refl, ap, ◌∙◌, subst, arith, ℤ}
+use Rattle.std.proofs.Common.{◌≡◌, ℕ, zero, suc, ◌<◌, ◌≤◌, Bool, true, false, List, [], ◌∷◌, ◌++◌, length, length-append, set, Option, Some, None, sym, refl, ap, ◌∙◌, subst, arith, ℤ}
 use Rattle.std.specs.Bool.{⊤}
 use Rattle.std.specs.List.{slice_get}
 use Rattle.std.proofs.lemmas.Bool.{false≢true}
@@ -83,7 +83,7 @@ module _ {T : Type 0} (below : T → T → Bool) (joined : T → T → T) (minim
       list = record { worker = 0; node = n; start = minimum ∷ []; batches = []; reserved = false };
       since = minimum ∷ [];
       holds = start ∷ [];
-      copied = 0;
+      progress = record { copied = 0; underway = [] };
     };
     waiting = [];
     holds = start ∷ [];
@@ -99,12 +99,12 @@ module _ {T : Type 0} (below : T → T → Bool) (joined : T → T → T) (minim
     width = width_of p s;
   }
 
-  nothing_stands : (k : ℕ) (reduce : List ℤ → List Entry → List Entry) → StandsFor below joined k reduce [] [] []
+  nothing_stands : (k : ℕ) (reduce : List ℤ → List Entry → List Entry) → StandsFor below (minimum ∷ []) joined k reduce [] [] []
   nothing_stands k reduce = record {
     wide = refl;
-    times = λ key t. ((λ m. m), (λ m. m));
+    times = λ key n t late. ((λ m. m), (λ m. m));
     keys = λ key. record { given_joined = λ g m e. absurd m; pending = λ t m. absurd m; upward = λ s t m e. absurd m; settled = λ t m. absurd m };
-    shown = λ key. record { sums = λ t row e. refl; smaller = omega arith };
+    shown = λ key. record { sums = λ t row late e. refl; smaller = omega arith };
   }
 
   first_reduction : (n : ℕ) (kind : Kind) (s : ℕ) → IsFirstReduction below joined minimum p n kind s (new_reduction n kind s)

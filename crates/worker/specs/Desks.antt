@@ -83,7 +83,7 @@ module _ {T : Type 0} (below : T → T → Bool) (joined : T → T → T) (minim
     pub kind_is : r.state.reducer ≡ kind
     pub key : r.key ≡ key_width p.nodes (node_of p n)
     pub width : r.width ≡ width_of p.nodes s
-    pub reduced : IsReduced below joined r (received_at w n k 0) (emitted_by n k w.emitted)
+    pub reduced : IsReduced below joined minimum r (received_at w n k 0) (emitted_by n k w.emitted)
     pub upper : List T
     pub reducing : IsReducing below p w n k upper (pending_of r)
 

@@ -29,7 +29,7 @@ module _ {T : Type 0} (below : T → T → Bool) (joined : T → T → T) (minim
     pub kind_is : r.state.reducer ≡ kind
     pub key : r.key ≡ key_width p (node_at p n)
     pub width : r.width ≡ width_of p source
-    pub reduced : IsReduced below joined r [] []
+    pub reduced : IsReduced below joined minimum r [] []
     pub nothing_pending : pending_of r ≡ []
 
   -- a join of node n, which reads nodes l and r, that has taken nothing

@@ -38,5 +38,5 @@ loop-start-preserved g c =
     }
 
 pub returns-clause-due : goal.returns-clause-due
-returns-clause-due g c joins =
-    renewed_pending g.T.Lattice.joined g.T.Ord.cmp c.args.k c.args.histories.now.items _ (map (made_from c.args.histories.now.items) c.loop-start.made.items) c.loop-start.invariant.made joins
+returns-clause-due g c =
+    renewed_pending g.T.Lattice.joined g.T.Ord.cmp c.args.k c.args.histories.now.items _ (map (made_from c.args.histories.now.items) c.loop-start.made.items) c.loop-start.invariant.made

@@ -87,12 +87,34 @@ returns-clause-on g c =
     let all = c.batches.ensures.value ∙ ap (λ (s : BatchListState g.row.T.Denot). s.batches) list in
     let becomes = change.1 ∙ ap (λ (s : BatchListState g.row.T.Denot). record s { batches = changed change.0 s.batches; reserved = c.put.new.list.reserved }) list in
     let makes = change_same below bs n u change.0 h.same change.2 in
-    inr (record {
-      older = rest;
-      newest = n;
-      change = change.0;
-      was = sym (ap (λ (s : LevelsState g.row.T.Denot). s.underway) view) ∙ was;
-      is = λ k. record { list = becomes k; underway = rest };
-      makes = subst (λ (s : BatchListState g.row.T.Denot). IsChangeAs below s.batches n change.0) list makes;
-      spent = subst (λ (ds : List (BatchState g.row.T.Denot)). (c.in_ok-newest.left - 1) + suc (unread_of ds n) ≡ c.args.fuel) all spent;
-    })
+    inr (
+      omega (arith, spent, more),
+      record {
+        older = rest;
+        newest = n;
+        change = change.0;
+        was = sym (ap (λ (s : LevelsState g.row.T.Denot). s.underway) view) ∙ was;
+        is = λ k. record { list = becomes k; underway = rest };
+        makes = subst (λ (s : BatchListState g.row.T.Denot). IsChangeAs below s.batches n change.0) list makes;
+        spent = subst (λ (ds : List (BatchState g.row.T.Denot)). (c.in_ok-newest.left - 1) + suc (unread_of ds n) ≡ c.args.fuel) all spent;
+      },
+    )
+
+pub overflow_sub-result : goal.overflow_sub-result
+overflow_sub-result g c =
+    let below = g.T.PartialOrder.below in
+    let cmp = g.T.Ord.cmp in
+    let joined = g.T.Lattice.joined in
+    let met = g.T.Lattice.met in
+    let bs = c.self.inside.list.batches in
+    let cs = c.batches.result.now in
+    let us = c.self.inside.underway.items in
+    let rest = c.pop.new.self.items in
+    let n = c.unwrap-newest.result in
+    let was : us ≡ rest ++ n ∷ [] = c.pop.ensures.items ∙ ap (λ (r : Option (UnderwayState g.row.T.Denot)). rest ++ option_to_list r) c.unwrap-newest.ensures in
+    let u = c.in_ok-newest.newest in
+    let h = c.in_ok-newest.ensures in
+    let at = newest_at below cmp joined met bs cs us rest n c.batches.ensures.value was c.self.invariant in
+    let more : 1 ≤ c.in_ok-newest.left = omega (arith, c.if-left-eq0.false) in
+    let spent = put_spent below cmp joined met cs n u c.in_ok-newest.left c.args.fuel at h.at h.same h.spent h.on more in
+    omega (arith, spent, more)

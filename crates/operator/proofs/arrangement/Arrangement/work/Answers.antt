@@ -9,13 +9,13 @@ invariant_of-self g c =
     let below = g.T.PartialOrder.below in
     let a : ArrangementState g.row.T.Denot = record { width = c.self.inside.width; spine = c.self.inside.spine; waiting = c.self.inside.waiting.updates; holds = c.self.inside.holds.items } in
     let worked = c.work-done.ensures.worked in (
-      arrangement_worked below g.met.T.PartialOrder.order g.T.Minimum.least worked.0 a c.work-done.new.self worked.2 c.self.invariant.0,
-      c.self.invariant.1 ∙ sym (ap (λ (x : SpineState g.row.T.Denot). x.list.worker) worked.2.kept),
-      c.self.invariant.2 ∙ sym (ap (λ (x : SpineState g.row.T.Denot). x.list.node) worked.2.kept),
+      arrangement_worked below g.met.T.PartialOrder.order g.T.Minimum.least worked.0 worked.1 a c.work-done.new.self worked.3 c.self.invariant.0,
+      c.self.invariant.1 ∙ sym (ap (λ (x : SpineState g.row.T.Denot). x.list.worker) worked.3.kept),
+      c.self.invariant.2 ∙ sym (ap (λ (x : SpineState g.row.T.Denot). x.list.node) worked.3.kept),
     )
 
 pub returns-clause-upper : goal.returns-clause-upper
 returns-clause-upper g c =
     let worked = c.work-done.ensures.worked in
-    upper_worked g.T.PartialOrder.below g.met.T.PartialOrder.order g.T.Minimum.least worked.0 c.self.inside.spine c.work-done.new.self worked.2
+    upper_worked g.T.PartialOrder.below g.met.T.PartialOrder.order g.T.Minimum.least worked.0 worked.1 c.self.inside.spine c.work-done.new.self worked.3
     ∙ ap (λ (a : ArrangementState g.row.T.Denot). upper_of a.spine) c.self.view_is

@@ -10,7 +10,7 @@ use Rattle.reduce.specs.Histories.{ReduceView}
 use Rattle.reduce.proofs.HeldLemmas.{or_nothing}
 use Rattle.correction.proofs.ResultLemmas.{passed_on}
 use Rattle.operator.specs.Reductions.{HasRoom, ReducingView, IsReduced, SumsToReceived, pending_in, state_key}
-use Rattle.operator.proofs.ReductionLemmas.{each_of, pending_has, overfull, sums_taken, gave, answer_at, rest_later, rest_beyond, out_settled, out_beyond}
+use Rattle.operator.proofs.ReductionLemmas.{each_of, pending_has, overfull, sums_taken, gave, answer_at, rest_later, rest_beyond, out_settled, out_beyond, whole_beyond}
 use Rattle.operator.proofs.reduction.Reducing.ready.Given.{Over}
 use Rattle.operator.proofs.reduction.Reducing.ready.Goals as goal
 
@@ -33,7 +33,7 @@ returns-in_err-out-clause-refused g c =
       y.0,
       λ inserted received emitted st sums w passed.
           overfull below r c.self.invariant.0 c.self.invariant.1 g.met.T.PartialOrder.order received w.taken frontier w.same w.stands.wide (w.same.among (λ row s. eqb (length row) r.width) w.wide)
-          (y.1 inserted w.taken emitted st (sums_taken below c.args.trace.now.since frontier (all_updates inserted) received w.taken sums w.same) w.stands w.apart w.ahead
+          (y.1 (g.T.Minimum.least ∷ []) inserted w.taken emitted (whole_beyond g.met.T.PartialOrder.order g.T.Minimum.least c.args.trace.now.since c.requires.whole) st (sums_taken below c.args.trace.now.since frontier (all_updates inserted) received w.taken sums w.same) w.stands w.apart w.ahead
           (each_of (λ (u : Update g.row.T.Denot). has_passed below frontier u.time) emitted passed)),
     )) c.in_err-out.ensures.refused))
 
@@ -55,19 +55,19 @@ module _ (g : Over) (c : goal.In_ok-out g) where
   settled = out_settled g.T.PartialOrder.below c.args.frontier.now c.self.inside.state.key c.self.inside.state.histories c.in_ok-out.out.items c.in_ok-out.ensures.at
 
   stands : (inserted : List (Insertion g.row.T.Denot)) (received emitted : List (Update g.row.T.Denot)) → Rattle.spine.specs.Spines.Stands g.T.PartialOrder.below c.args.trace.now inserted
-      → SumsToReceived g.T.PartialOrder.below c.args.frontier.now (all_updates inserted) received → IsReduced g.T.PartialOrder.below g.T.Lattice.joined old received emitted
-      → IsReduced g.T.PartialOrder.below g.T.Lattice.joined new received (c.in_ok-out.out.items ++ emitted)
+      → SumsToReceived g.T.PartialOrder.below c.args.frontier.now (all_updates inserted) received → IsReduced g.T.PartialOrder.below g.T.Lattice.joined g.T.Minimum.least old received emitted
+      → IsReduced g.T.PartialOrder.below g.T.Lattice.joined g.T.Minimum.least new received (c.in_ok-out.out.items ++ emitted)
   stands inserted received emitted st sums w =
       let apart = c.in_ok-out.ensures.apart emitted w.apart w.ahead in
       gave g.met.T.PartialOrder.order g.met.T.Lattice.bounds g.met.T.Ord.total old received emitted c.in_ok-out.out.items c.args.frontier.now c.ready.new.self.histories c.ready.new.self.waiting c.ready.new.self.looked c.self.invariant.1 w
-      (c.in_ok-out.ensures.stands inserted w.taken emitted st (sums_taken g.T.PartialOrder.below c.args.trace.now.since c.args.frontier.now (all_updates inserted) received w.taken sums w.same) w.stands)
+      (c.in_ok-out.ensures.stands (g.T.Minimum.least ∷ []) inserted w.taken emitted (whole_beyond g.met.T.PartialOrder.order g.T.Minimum.least c.args.trace.now.since c.requires.whole) st (sums_taken g.T.PartialOrder.below c.args.trace.now.since c.args.frontier.now (all_updates inserted) received w.taken sums w.same) w.stands)
       apart.0 apart.1 c.in_ok-out.ensures.quiet c.in_ok-out.ensures.once c.in_ok-out.ensures.nonzero settled
 
 pub returns-clause-stands : goal.returns-clause-stands
 returns-clause-stands g c =
     rw (← c.self.view_is)
     (λ inserted received emitted st sums w.
-    subst (λ (s : ReduceView g.row.T.Denot Kind). IsReduced g.T.PartialOrder.below g.T.Lattice.joined (record { state = s; key = c.self.inside.key; width = c.self.inside.width }) received (c.in_ok-out.out.items ++ emitted)) (sym c.in_ok-out.ensures.kept)
+    subst (λ (s : ReduceView g.row.T.Denot Kind). IsReduced g.T.PartialOrder.below g.T.Lattice.joined g.T.Minimum.least (record { state = s; key = c.self.inside.key; width = c.self.inside.width }) received (c.in_ok-out.out.items ++ emitted)) (sym c.in_ok-out.ensures.kept)
     (stands g c inserted received emitted st sums w))
 
 pub returns-clause-law : goal.returns-clause-law

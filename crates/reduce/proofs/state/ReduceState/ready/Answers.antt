@@ -1,5 +1,6 @@
 use Rattle.std.proofs.Common.{◌≡◌, ◌∙◌, List, sym, ap, subst, inl, inr, ⊎_elim, arith}
 use Rattle.std.specs.Prelude.{ℤ, IsTrue}
+use Rattle.lattice.specs.Frontiers.{all_beyond}
 use Rattle.update.specs.Updates.{AreApart}
 use Rattle.plan.specs.Changes.{has_passed}
 use Rattle.key_history.specs.Owing.{IsOverfull}
@@ -8,9 +9,9 @@ use Rattle.trace.specs.Readings.{Insertion, IsReadable, all_content, all_updates
 use Rattle.joined_times.specs.Joined.{Member}
 use Rattle.reduce.specs.Histories.{HistoryState, ReduceView, IsWaiting, due_of}
 use Rattle.reduce.specs.Reductions.{StandsFor, IsOpenTo, SumsToTaken, all_reads}
-use Rattle.key_history.specs.Settling.{ReadsAs}
+use Rattle.key_history.specs.Settling.{AreReadable, ReadsAs}
 use Rattle.reduce.specs.Visiting.{all_changed}
-use Rattle.reduce.proofs.FinalLemmas.{reads_as, overfull_of, within, cut, changed_once, known_after, waits_after, joins_after, reads_are, final_rest, final_stands, final_law, final_once, final_nonzero, final_at, final_quiet, final_apart}
+use Rattle.reduce.proofs.FinalLemmas.{reads_as, overfull_of, within, cut, changed_once, known_after, waits_after, readable_from, reads_are, final_rest, final_stands, final_law, final_once, final_nonzero, final_at, final_quiet, final_apart}
 use Rattle.correction.proofs.ResultLemmas.{passed_on}
 use Rattle.reduce.proofs.TraceLemmas.{whole_is_readable}
 use Rattle.reduce.proofs.state.ReduceState.ready.Given.{Over}
@@ -31,12 +32,20 @@ module _ (g : Over) (c : goal.After-from_residual g) where
       whole_is_readable g.T.PartialOrder.below (g.S.Trace.held c.args.trace.now) (g.S.Trace.start c.args.trace.now) c.upper.result.now (g.S.Trace.stands c.args.trace.now) (all_content g.S.Batch.BatchReader.content c.unwrap-batches.result.now)
       (rw c.unwrap-batches.ensures at c.through.ensures.reads) h s (c.upper.ensures.newest h s)
 
+  -- the pending times that are due are beyond the since of the trace
+  held_is-1 : (key : List ℤ) → AreReadable g.T.PartialOrder.below (g.S.Trace.held c.args.trace.now) c.args.frontier.now (due_of key c.self.inside.histories.items)
+  held_is-1 key t m p = c.requires.held key t (subst (λ z. Member t (due_of key z)) (ap (λ s. s.histories) (c.self.view_is ∙ c.fold.ensures)) m) p
+
+  -- and so beyond each earlier one
+  beyond-1 : (since : List g.row.T.Denot) → IsTrue (all_beyond g.T.PartialOrder.below since (g.S.Trace.held c.args.trace.now)) → (key : List ℤ) → AreReadable g.T.PartialOrder.below since c.args.frontier.now (due_of key c.self.inside.histories.items)
+  beyond-1 since later key = readable_from g.met.T.PartialOrder.order since (g.S.Trace.held c.args.trace.now) c.args.frontier.now (due_of key c.self.inside.histories.items) later (held_is-1 key)
+
   reading-1 : (h : List (Insertion g.row.T.Denot)) (taken : List (Update g.row.T.Denot)) → g.S.Trace.stands c.args.trace.now h
       → SumsToTaken g.T.PartialOrder.below (g.S.Trace.held c.args.trace.now) c.args.frontier.now (all_updates h) taken
       → (key : List ℤ) → ReadsAs g.T.PartialOrder.below c.args.frontier.now (due_of key c.self.inside.histories.items) (all_content g.S.Batch.BatchReader.content c.unwrap-batches.result.now) taken
   reading-1 h taken s sums key =
       reads_as g.T.PartialOrder.below (g.S.Trace.held c.args.trace.now) c.args.frontier.now (due_of key c.self.inside.histories.items) (all_content g.S.Batch.BatchReader.content c.unwrap-batches.result.now) (all_updates h) taken
-      (λ t m p. c.requires.held key t (subst (λ z. Member t (due_of key z)) (ap (λ s. s.histories) (c.self.view_is ∙ c.fold.ensures)) m) p) (readable-1 h s) sums
+      (held_is-1 key) (readable-1 h s) sums
 
 pub returns-in_err-out-clause-refused : goal.returns-in_err-out-clause-refused
 returns-in_err-out-clause-refused g c =
@@ -44,14 +53,14 @@ returns-in_err-out-clause-refused g c =
     (⊎_elim inl (λ y. inr (
       y.0,
       subst
-          (λ (v : ReduceView g.row.T.Denot g.row.R.Denot). (h : List (Insertion g.row.T.Denot)) (taken given : List (Update g.row.T.Denot)) → g.S.Trace.stands c.args.trace.now h
+          (λ (v : ReduceView g.row.T.Denot g.row.R.Denot). (since : List g.row.T.Denot) (h : List (Insertion g.row.T.Denot)) (taken given : List (Update g.row.T.Denot)) → IsTrue (all_beyond g.T.PartialOrder.below since (g.S.Trace.held c.args.trace.now)) → g.S.Trace.stands c.args.trace.now h
           → SumsToTaken g.T.PartialOrder.below (g.S.Trace.held c.args.trace.now) c.args.frontier.now (all_updates h) taken
-          → StandsFor g.T.PartialOrder.below g.T.Lattice.joined v.key (g.R.Reducer.reduces v.reducer) v.histories taken given
+          → StandsFor g.T.PartialOrder.below since g.T.Lattice.joined v.key (g.R.Reducer.reduces v.reducer) v.histories taken given
           → AreApart g.T.PartialOrder.below given → IsOpenTo g.T.PartialOrder.below v.key given v.histories
           → ((x : Update g.row.T.Denot) → Member x given → IsTrue (has_passed g.T.PartialOrder.below c.args.frontier.now x.time))
           → IsOverfull g.T.PartialOrder.below v.key (g.R.Reducer.reduces v.reducer) taken c.args.frontier.now)
           (c.self.view_is ∙ c.fold.ensures)
-          (λ h taken given s sums st ag op ps. overfull_of g.T.Ord.cmp g.met.T.Ord.total g.met.T.PartialOrder.order g.met.T.Lattice.bounds c.self.inside.key (g.R.Reducer.reduces c.self.inside.reducer) (g.met.R.Reducer.laws c.self.inside.reducer c.self.inside.key) (content-1 g c) c.args.frontier.now (hs-1 g c) c.self.invariant.2 c.known.ensures c.as_slice.result.now (waits-1 g c) y.1.0 y.1.1 taken given (reading-1 g c h taken s sums) st ag op ps),
+          (λ since h taken given later s sums st ag op ps. overfull_of g.T.Ord.cmp g.met.T.Ord.total g.met.T.PartialOrder.order g.met.T.Lattice.bounds c.self.inside.key (g.R.Reducer.reduces c.self.inside.reducer) (g.met.R.Reducer.laws c.self.inside.reducer c.self.inside.key) (content-1 g c) c.args.frontier.now (hs-1 g c) c.self.invariant.2 c.known.ensures c.as_slice.result.now (waits-1 g c) y.1.0 y.1.1 since taken given (beyond-1 g c since later) (reading-1 g c h taken s sums) st ag op ps),
     )) c.in_err-out.ensures.refused)
 
 module _ (g : Over) (c : goal.After-as_slice-2 g) where
@@ -86,12 +95,20 @@ module _ (g : Over) (c : goal.After-self-2-1 g) where
       whole_is_readable g.T.PartialOrder.below (g.S.Trace.held c.args.trace.now) (g.S.Trace.start c.args.trace.now) c.upper.result.now (g.S.Trace.stands c.args.trace.now) (all_content g.S.Batch.BatchReader.content c.unwrap-batches.result.now)
       (rw c.unwrap-batches.ensures at c.through.ensures.reads) h s (c.upper.ensures.newest h s)
 
+  -- the pending times that are due are beyond the since of the trace
+  held_is : (key : List ℤ) → AreReadable g.T.PartialOrder.below (g.S.Trace.held c.args.trace.now) c.args.frontier.now (due_of key c.self.inside.histories.items)
+  held_is key t m p = c.requires.held key t (subst (λ z. Member t (due_of key z)) (ap (λ s. s.histories) (c.self.view_is ∙ c.fold.ensures)) m) p
+
+  -- and so beyond each earlier one
+  beyond : (since : List g.row.T.Denot) → IsTrue (all_beyond g.T.PartialOrder.below since (g.S.Trace.held c.args.trace.now)) → (key : List ℤ) → AreReadable g.T.PartialOrder.below since c.args.frontier.now (due_of key c.self.inside.histories.items)
+  beyond since later key = readable_from g.met.T.PartialOrder.order since (g.S.Trace.held c.args.trace.now) c.args.frontier.now (due_of key c.self.inside.histories.items) later (held_is key)
+
   reading : (h : List (Insertion g.row.T.Denot)) (taken : List (Update g.row.T.Denot)) → g.S.Trace.stands c.args.trace.now h
       → SumsToTaken g.T.PartialOrder.below (g.S.Trace.held c.args.trace.now) c.args.frontier.now (all_updates h) taken
       → (key : List ℤ) → ReadsAs g.T.PartialOrder.below c.args.frontier.now (due_of key c.self.inside.histories.items) (all_content g.S.Batch.BatchReader.content c.unwrap-batches.result.now) taken
   reading h taken s sums key =
       reads_as g.T.PartialOrder.below (g.S.Trace.held c.args.trace.now) c.args.frontier.now (due_of key c.self.inside.histories.items) (all_content g.S.Batch.BatchReader.content c.unwrap-batches.result.now) (all_updates h) taken
-      (λ t m p. c.requires.held key t (subst (λ z. Member t (due_of key z)) (ap (λ s. s.histories) (c.self.view_is ∙ c.fold.ensures)) m) p) (readable h s) sums
+      (held_is key) (readable h s) sums
 
   -- the histories are changed by what is given
   changed : c.change_all.new.histories.items ≡ all_changed c.in_ok-out.field-0.changes.items c.in_ok-out.field-0.out.items c.self.inside.histories.items
@@ -107,18 +124,17 @@ invariant_of-self-2 g c = (
   c.self.invariant.1,
   known_after g.T.Ord.cmp g.met.T.Ord.total g.met.T.PartialOrder.order g.met.T.Lattice.bounds c.self.inside.key (g.R.Reducer.reduces c.self.inside.reducer) (g.met.R.Reducer.laws c.self.inside.reducer c.self.inside.key) (content g c) c.args.frontier.now (hs g c) c.self.invariant.2 c.known.ensures c.as_slice.result.now (waits g c) c.in_ok-out.ensures.visited.0 c.in_ok-out.field-0.out.items c.in_ok-out.field-0.changes.items c.in_ok-out.field-0.waiting.items c.in_ok-out.ensures.visited.1 c.in_ok-out.ensures.visited.2 c.change_all.new.histories.items (changed g c),
   rw c.from.ensures (waits_after g.T.Ord.cmp g.met.T.Ord.total g.met.T.PartialOrder.order g.met.T.Lattice.bounds c.self.inside.key (g.R.Reducer.reduces c.self.inside.reducer) (g.met.R.Reducer.laws c.self.inside.reducer c.self.inside.key) (content g c) c.args.frontier.now (hs g c) c.self.invariant.2 c.known.ensures c.as_slice.result.now (waits g c) c.in_ok-out.ensures.visited.0 c.in_ok-out.field-0.out.items c.in_ok-out.field-0.changes.items c.in_ok-out.field-0.waiting.items c.in_ok-out.ensures.visited.1 c.in_ok-out.ensures.visited.2 c.change_all.new.histories.items (changed g c)),
-  joins_after g.T.Ord.cmp g.met.T.Ord.total g.met.T.PartialOrder.order g.met.T.Lattice.bounds c.self.inside.key (g.R.Reducer.reduces c.self.inside.reducer) (g.met.R.Reducer.laws c.self.inside.reducer c.self.inside.key) (content g c) c.args.frontier.now (hs g c) c.self.invariant.2 c.known.ensures c.as_slice.result.now (waits g c) c.in_ok-out.ensures.visited.0 c.in_ok-out.field-0.out.items c.in_ok-out.field-0.changes.items c.in_ok-out.field-0.waiting.items c.in_ok-out.ensures.visited.1 c.in_ok-out.ensures.visited.2 c.change_all.new.histories.items (changed g c) c.self.invariant.4,
 )
 
 pub returns-clause-stands : goal.returns-clause-stands
 returns-clause-stands g c =
     rw (← ap (λ s. s.key) (c.self.view_is ∙ c.fold.ensures), ← ap (λ s. s.histories) (c.self.view_is ∙ c.fold.ensures), ← ap (λ s. s.reducer) (c.self.view_is ∙ c.fold.ensures))
-    (λ h taken given s sums st. final_stands g.T.Ord.cmp g.met.T.Ord.total g.met.T.PartialOrder.order g.met.T.Lattice.bounds c.self.inside.key (g.R.Reducer.reduces c.self.inside.reducer) (g.met.R.Reducer.laws c.self.inside.reducer c.self.inside.key) (content g c) c.args.frontier.now (hs g c) c.self.invariant.2 c.known.ensures c.as_slice.result.now (waits g c) c.in_ok-out.ensures.visited.0 c.in_ok-out.field-0.out.items c.in_ok-out.field-0.changes.items c.in_ok-out.field-0.waiting.items c.in_ok-out.ensures.visited.1 c.in_ok-out.ensures.visited.2 c.change_all.new.histories.items (changed g c) taken given (reading g c h taken s sums) st)
+    (λ since h taken given later s sums st. final_stands g.T.Ord.cmp g.met.T.Ord.total g.met.T.PartialOrder.order g.met.T.Lattice.bounds c.self.inside.key (g.R.Reducer.reduces c.self.inside.reducer) (g.met.R.Reducer.laws c.self.inside.reducer c.self.inside.key) (content g c) c.args.frontier.now (hs g c) c.self.invariant.2 c.known.ensures c.as_slice.result.now (waits g c) c.in_ok-out.ensures.visited.0 c.in_ok-out.field-0.out.items c.in_ok-out.field-0.changes.items c.in_ok-out.field-0.waiting.items c.in_ok-out.ensures.visited.1 c.in_ok-out.ensures.visited.2 c.change_all.new.histories.items (changed g c) since taken given (beyond g c since later) (reading g c h taken s sums) st)
 
 pub returns-clause-law : goal.returns-clause-law
 returns-clause-law g c =
     rw (← ap (λ s. s.key) (c.self.view_is ∙ c.fold.ensures), ← ap (λ s. s.histories) (c.self.view_is ∙ c.fold.ensures), ← ap (λ s. s.reducer) (c.self.view_is ∙ c.fold.ensures))
-    (λ h taken given s sums st. final_law g.T.Ord.cmp g.met.T.Ord.total g.met.T.PartialOrder.order g.met.T.Lattice.bounds c.self.inside.key (g.R.Reducer.reduces c.self.inside.reducer) (g.met.R.Reducer.laws c.self.inside.reducer c.self.inside.key) (content g c) c.args.frontier.now (hs g c) c.self.invariant.2 c.known.ensures c.as_slice.result.now (waits g c) c.in_ok-out.ensures.visited.0 c.in_ok-out.field-0.out.items c.in_ok-out.field-0.changes.items c.in_ok-out.field-0.waiting.items c.in_ok-out.ensures.visited.1 c.in_ok-out.ensures.visited.2 c.change_all.new.histories.items (changed g c) taken given (reading g c h taken s sums) st)
+    (λ since h taken given later s sums st. final_law g.T.Ord.cmp g.met.T.Ord.total g.met.T.PartialOrder.order g.met.T.Lattice.bounds c.self.inside.key (g.R.Reducer.reduces c.self.inside.reducer) (g.met.R.Reducer.laws c.self.inside.reducer c.self.inside.key) (content g c) c.args.frontier.now (hs g c) c.self.invariant.2 c.known.ensures c.as_slice.result.now (waits g c) c.in_ok-out.ensures.visited.0 c.in_ok-out.field-0.out.items c.in_ok-out.field-0.changes.items c.in_ok-out.field-0.waiting.items c.in_ok-out.ensures.visited.1 c.in_ok-out.ensures.visited.2 c.change_all.new.histories.items (changed g c) since taken given (beyond g c since later) (reading g c h taken s sums) st)
 
 pub returns-clause-rest : goal.returns-clause-rest
 returns-clause-rest g c =

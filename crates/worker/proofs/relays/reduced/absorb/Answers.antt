@@ -92,7 +92,7 @@ hold_back-requires g c =
       within = subst (λ m. m < length (dataflow_of k).nodes) took.node (absorbed_due below joined least o k c.known-2.ensures r.0 n ready c.in-Some.bundle took).within;
       allowed =
           taken_may below joined least o k c.known-2.ensures r.0 n ready c.in-Some.bundle took e.0 e.1 reduce a r.2 b y.kept
-          (λ received emitted upper reduced later passed. subst (λ us. IsReduced below joined b (us ++ received) emitted) c.into_vec.ensures (y.stands received emitted upper reduced (subst (λ us. IsTrue (all_beyond below upper (times us))) (sym c.into_vec.ensures) later) passed))
+          (λ received emitted upper reduced later passed. subst (λ us. IsReduced below joined g.T.Minimum.least b (us ++ received) emitted) c.into_vec.ensures (y.stands received emitted upper reduced (subst (λ us. IsTrue (all_beyond below upper (times us))) (sym c.into_vec.ensures) later) passed))
           (λ received emitted reduced. subst (λ us. IsPendingAfter below (pending_of a) us (pending_of b)) c.into_vec.ensures (y.pending received emitted reduced))
           c.in_ok-held.held.items (record { covers = c.in_ok-held.ensures.covers; tight = c.in_ok-held.ensures.tight });
     }
@@ -116,7 +116,7 @@ returns-clause-runs g c d run own =
     let reduce = ap (λ p. node_of p n) (same_flow j k x.same) ∙ e.2 in
     left_running below joined least o k c.hold_back.new.worker c.known-2.ensures c.hold_back.ensures.same (with_reduction n b d) n _ (x.same.number ∙ run.number) c.in_ok-hold_back.ensures.left
     (taken_ready below joined least o k c.known-2.ensures d n ready c.in-Some.bundle took e.0 e.1 reduce a own b y.kept
-    (λ received emitted upper reduced later passed. subst (λ us. IsReduced below joined b (us ++ received) emitted) c.into_vec.ensures (y.stands received emitted upper reduced (subst (λ us. IsTrue (all_beyond below upper (times us))) (sym c.into_vec.ensures) later) passed))
+    (λ received emitted upper reduced later passed. subst (λ us. IsReduced below joined g.T.Minimum.least b (us ++ received) emitted) c.into_vec.ensures (y.stands received emitted upper reduced (subst (λ us. IsTrue (all_beyond below upper (times us))) (sym c.into_vec.ensures) later) passed))
     (λ received emitted reduced. subst (λ us. IsPendingAfter below (pending_of a) us (pending_of b)) c.into_vec.ensures (y.pending received emitted reduced))
     c.in_ok-held.held.items (record { covers = c.in_ok-held.ensures.covers; tight = c.in_ok-held.ensures.tight }))
 

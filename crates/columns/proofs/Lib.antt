@@ -1,0 +1,7 @@
+-- Lemmas about tables, runs, keys and searches.
+pub mod TableLemmas
+pub mod KeyLemmas
+pub mod SeekLemmas
+pub mod RunLemmas
+pub mod ColumnsLemmas
+pub mod SearchLemmas

@@ -1,0 +1,141 @@
+-- Searching the runs of sorted updates in place of the updates.
+use Rattle.std.proofs.Common.{◌≡◌, ℕ, ◌+◌, ◌<◌, ◌≤◌, Bool, true, false, List, [], length, get_or, ℤ, leb, max, sym, ap, ◌∙◌, ⊎_elim, arith}
+use Rattle.std.specs.List.{AllPairs, AllWithin, filter}
+use Rattle.std.specs.List.Sorted.{IsStrictlySortedBy, IsPartitionedBy, IsPartitionPoint}
+use Rattle.std.specs.declared.cmp.Ordering.{Ordering}
+use Rattle.std.proofs.lemmas.Bool.{cases_lt}
+use Rattle.std.proofs.lemmas.List.{get_or_default, get_or_past}
+use Rattle.update.specs.declared.change.Update.{Update}
+use Rattle.columns.specs.Keys.{by_row_then_time, is_row_left_behind, is_left_behind}
+use Rattle.columns.specs.Runs.{run_number, IsColumns}
+use Rattle.columns.proofs.SeekLemmas.{left_behind_parted}
+use Rattle.columns.proofs.ColumnsLemmas.{updates, long, starts_within, starts_up, some_start, row_at_place, some_update}
+use Rattle.columns.proofs.RunLemmas.{counts, counts_no_more, number_is, run_number_within}
+
+module _ {T : Type 0} (starts : List ℕ) (rows : List (List ℤ)) (times : List T) (diffs : List ℤ) (columns : IsColumns starts rows times diffs) where
+  abbrev us : List (Update T)
+  us = updates starts rows times diffs columns
+
+  abbrev up : AllPairs (λ s t. s < t) starts
+  up = starts_up starts rows times diffs columns
+
+  abbrev size : ℕ
+  size = length times
+
+  -- at each place with an update some run has begun
+  some_run : (place : ℕ) → 0 < size → 0 < length (filter (λ s. leb s place) starts)
+  some_run place h =
+      let first = columns.begins h in
+      counts place starts up 0 1 (some_start starts rows times diffs columns h) (omega (arith, first))
+
+  -- a place belongs to a run that begins at or before it
+  number_begins : (place : ℕ) → 0 < size → get_or starts (run_number starts place) 0 ≤ place
+  number_begins place h =
+      let some = some_run place h in
+      let within = run_number_within starts place (some_start starts rows times diffs columns h) in
+      ⊎_elim
+      (λ l. let few = counts_no_more place starts up (run_number starts place) 0 within l in absurd (omega (arith, few, some)))
+      (λ l. l)
+      (cases_lt place (get_or starts (run_number starts place) 0))
+
+  -- if a run begins at or before a place, then the place belongs to it or to a later one
+  number_from : (q d place : ℕ) → q < length starts → get_or starts q d ≤ place → q ≤ run_number starts place
+  number_from q d place h l =
+      let counted = counts place starts up q d h l in
+      omega (arith, counted)
+
+  -- later places belong to later runs
+  pub number_up : (from place : ℕ) → from ≤ place → place < size → run_number starts from ≤ run_number starts place
+  number_up from place g h =
+      let some : 0 < size = omega (arith, h) in
+      let begins = number_begins from some in
+      number_from (run_number starts from) 0 place (run_number_within starts from (some_start starts rows times diffs columns some)) (omega (arith, begins, g))
+
+  -- the row of a run is that of its first update
+  row_of_run : (k : ℕ) (d : List ℤ) (u : Update T) → k < length rows → get_or rows k d ≡ (get_or us (get_or starts k 0) u).row
+  row_of_run k d u h =
+      let rows_long = columns.rows_long in
+      let inside : k < length starts = omega (arith, h, rows_long) in
+      let within : get_or starts k 0 < size = starts_within starts rows times diffs columns k 0 inside in
+      let number = number_is starts up k 0 (get_or starts k 0) inside (omega arith) (λ m. up k (k + 1) 0 (omega arith) m) in
+      get_or_default rows k d [] h
+      ∙ ap (λ n. get_or rows n []) (sym number)
+      ∙ sym (row_at_place starts rows times diffs columns (get_or starts k 0) u within)
+
+  -- a run begins in front of the end, or at it if there is none of that number
+  pub place_within : (q : ℕ) → get_or starts q size ≤ size
+  place_within q =
+      ⊎_elim
+      (λ h. let before = starts_within starts rows times diffs columns q size h in omega (arith, before))
+      (λ h. let end = get_or_past starts q size h in omega (arith, end))
+      (cases_lt q (length starts))
+
+  module _ (p : List ℤ → Bool) (q : ℕ) (last : q ≤ length rows) where
+    -- what is so of the rows of the runs in front of one is so of the updates in front of its place
+    pub in_front : (first i : ℕ) (d : Update T) → AllWithin (λ row. p row ≡ true) rows first q → first ≤ run_number starts i → i < size → i < get_or starts q size → p (get_or us i d).row ≡ true
+    in_front first i d all g h l =
+        let some : 0 < size = omega (arith, h) in
+        let within = run_number_within starts i (some_start starts rows times diffs columns some) in
+        let begun = some_run i some in
+        let number : run_number starts i < q =
+        ⊎_elim
+        (λ m. let few = counts_no_more i starts up q size m l in omega (arith, few, begun))
+        (λ m. omega (arith, m, within))
+        (cases_lt q (length starts)) in
+        ap p (row_at_place starts rows times diffs columns i d h) ∙ all (run_number starts i) [] g number
+
+    -- and so of those behind
+    pub behind : (i : ℕ) (d : Update T) → AllWithin (λ row. p row ≡ false) rows q (length rows) → get_or starts q size ≤ i → i < size → p (get_or us i d).row ≡ false
+    behind i d all l h =
+        let some : 0 < size = omega (arith, h) in
+        let rows_long = columns.rows_long in
+        let within = run_number_within starts i (some_start starts rows times diffs columns some) in
+        let number : q ≤ run_number starts i =
+        ⊎_elim
+        (λ m. number_from q size i m l)
+        (λ m. let end = get_or_past starts q size m in absurd (omega (arith, end, l, h)))
+        (cases_lt q (length starts)) in
+        ap p (row_at_place starts rows times diffs columns i d h) ∙ all (run_number starts i) [] number (omega (arith, within, rows_long))
+
+  module _ (key : List ℤ) (through : Bool) (q place : ℕ) (last : q ≤ length rows) (at : place ≡ get_or starts q size) where
+    abbrev p : List ℤ → Bool
+    p = is_row_left_behind key through
+
+    -- a gallop from the run of an update on finds the updates that are left behind
+    pub galloped_before : (vs : List (Update T)) → us ≡ vs → (from found : ℕ) → found ≡ max from place → AllWithin (λ row. p row ≡ true) rows (run_number starts from) q → AllWithin (λ u. is_left_behind key through u ≡ true) vs from found
+    galloped_before vs view from found e all i d g l =
+        let within = place_within q in
+        let inside : i < size = omega (arith, g, l, e, at, within) in
+        ap (λ ws. is_left_behind key through (get_or ws i d)) (sym view)
+        ∙ in_front p q last (run_number starts from) i d all (number_up from i g inside) inside (omega (arith, g, l, e, at))
+
+    -- and the others
+    pub galloped_rest : (vs : List (Update T)) → us ≡ vs → (from found : ℕ) → found ≡ max from place → AllWithin (λ row. p row ≡ false) rows q (length rows) → AllWithin (λ u. is_left_behind key through u ≡ false) vs found (length vs)
+    galloped_rest vs view from found e all i d g l =
+        let size_is = sym (ap length view) ∙ long starts rows times diffs columns in
+        ap (λ ws. is_left_behind key through (get_or ws i d)) (sym view)
+        ∙ behind p q last i d all (omega (arith, g, e, at)) (omega (arith, l, size_is))
+
+    -- a search of all runs splits the updates
+    pub searched : (vs : List (Update T)) → us ≡ vs → AllWithin (λ row. p row ≡ true) rows 0 q → AllWithin (λ row. p row ≡ false) rows q (length rows) → IsPartitionPoint (λ u. is_left_behind key through u ≡ true) (λ u. is_left_behind key through u ≡ false) vs place
+    searched vs view before rest =
+        let within = place_within q in
+        let size_is = sym (ap length view) ∙ long starts rows times diffs columns in (
+          (λ i d g l. ap (λ ws. is_left_behind key through (get_or ws i d)) (sym view) ∙ in_front p q last 0 i d before (omega arith) (omega (arith, l, at, within)) (omega (arith, l, at))),
+          (λ i d g l. ap (λ ws. is_left_behind key through (get_or ws i d)) (sym view) ∙ behind p q last i d rest (omega (arith, g, at)) (omega (arith, l, size_is))),
+        )
+
+  module _ (cmp : T → T → Ordering) (key : List ℤ) (through : Bool) (sorted : IsStrictlySortedBy (by_row_then_time cmp) us) where
+    -- the rows of sorted updates are split where the updates are
+    pub rows_parted : IsPartitionedBy (is_row_left_behind key through) rows
+    rows_parted i j d l h t =
+        let rows_long = columns.rows_long in
+        let inside : j < length starts = omega (arith, h, rows_long) in
+        let within : get_or starts j 0 < size = starts_within starts rows times diffs columns j 0 inside in
+        let size_is = long starts rows times diffs columns in
+        let u = some_update starts rows times diffs columns (get_or starts j 0) within in
+        let onward : get_or starts i 0 ≤ get_or starts j 0 =
+        ⊎_elim (λ m. let less = up i j 0 m inside in omega (arith, less)) (λ m. let e : i ≡ j = omega (arith, l, m) in let same = ap (λ n. get_or starts n 0) e in omega (arith, same)) (cases_lt i j) in
+        ap (is_row_left_behind key through) (row_of_run i d u (omega (arith, l, h)))
+        ∙ left_behind_parted cmp key through us sorted (get_or starts i 0) (get_or starts j 0) u onward (omega (arith, within, size_is))
+        (ap (is_row_left_behind key through) (sym (row_of_run j d u h)) ∙ t)
