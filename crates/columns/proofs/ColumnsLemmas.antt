@@ -4,7 +4,7 @@ use Rattle.std.proofs.Common.{◌≡◌, ℕ, suc, ◌+◌, ◌-◌, ◌<◌, �
 use Rattle.std.specs.List.{All, AllPairs}
 use Rattle.std.specs.Cmp.Rules.{signed_items}
 use Rattle.std.proofs.lemmas.Bool.{cases_lt, true≢false}
-use Rattle.std.proofs.lemmas.List.{length_push, get_or_append_left, nil_from_length, get_or-map}
+use Rattle.std.proofs.lemmas.List.{append-nil, length_push, get_or_append_left, nil_from_length, get_or-map}
 use Rattle.std.proofs.lemmas.Option.{slice_get-get_or}
 use Rattle.std.proofs.lemmas.List.Elements.{All-head, All-weaker}
 use Rattle.update.specs.Bags.{same_row}
@@ -189,6 +189,45 @@ module _ {T : Type 0} (starts : List ℕ) (rows : List (List ℤ)) (times : List
               ∙ (λ j. sym columns.starts_are j ++ cond (same_row (last_is j) row) [] (end j ∷ [])));
         }
 
+  module _ (t : T) (d : ℤ) (some : 0 < length times) where
+    -- one more update is appended, and it has the last row
+    pub pushed_again : updates_from 0 starts rows (times ++ t ∷ []) (diffs ++ d ∷ []) ≡ updates ++ record { time = t; row = last_row rows; diff = d } ∷ []
+    pushed_again =
+        let all = All-weaker (λ s. s < length times) (λ s. s ≤ 0 + length times) (λ s h. omega (arith, h)) starts starts_within in
+        let long = columns.rows_long in
+        let same : length starts - 1 ≡ length rows - 1 = omega (arith, long) in
+        updates_push 0 starts rows times diffs t d columns.diffs_long
+        ∙ ap (λ n. updates ++ record { time = t; row = get_or rows n []; diff = d } ∷ []) (run_number_last starts (0 + length times) all ∙ same)
+
+    -- and what must be so is so
+    pub kept_again : IsColumns starts rows (times ++ t ∷ []) (diffs ++ d ∷ [])
+    kept_again =
+        let last = last_row rows in
+        let place = 0 + length updates in
+        record {
+          diffs_long = length_push diffs d ∙ ap (λ n. n + 1) columns.diffs_long ∙ sym (length_push times t);
+          rows_long = columns.rows_long;
+          begins = λ h. columns.begins some;
+          starts_are =
+              sym (ap row_starts pushed_again
+              ∙ starts_push 0 [] updates (record { time = t; row = last; diff = d })
+              ∙ (λ j. sym columns.starts_are j ++ cond (same_row (last_is j) last) [] (place ∷ []))
+              ∙ ap (λ b. starts ++ cond b [] (place ∷ [])) ((signed_items last last).1 refl)
+              ∙ append-nil starts);
+        }
+
+    -- the row is that of the last update
+    pub last_again : (us : List (Update T)) → updates ≡ us → (P : List ℤ → Type 0) → P (last_row rows) → (u : Update T) → slice_get us (length us - 1) ≡ Some u → P u.row
+    last_again us view P p u e =
+        let many = sym long ∙ ap length view in
+        let inside : length us - 1 < length us = omega (arith, some, many) in
+        let all = All-weaker (λ s. s < length times) (λ s. s ≤ length us - 1) (λ s h. omega (arith, h, many)) starts starts_within in
+        let l = columns.rows_long in
+        let same : length starts - 1 ≡ length rows - 1 = omega (arith, l) in
+        let number = run_number_last starts (length us - 1) all ∙ same in
+        subst (λ o. IsSomeAnd o (λ v. P v.row)) e
+        (some_row us view (length us - 1) inside P (subst (λ n. P (get_or rows n [])) (sym number) p))
+
 -- equal lists are kept alike
 pub columns_alike : {T : Type 0} (starts starts' : List ℕ) (rows rows' : List (List ℤ)) (times times' : List T) (diffs diffs' : List ℤ) → starts' ≡ starts → rows' ≡ rows → times' ≡ times → diffs' ≡ diffs → IsColumns starts rows times diffs → IsColumns starts' rows' times' diffs'
 columns_alike starts starts' rows rows' times times' diffs diffs' s r t d columns =
@@ -196,3 +235,11 @@ columns_alike starts starts' rows rows' times times' diffs diffs' s r t d column
     (subst (λ rs. IsColumns starts rs times' diffs') (sym r)
     (subst (λ ts. IsColumns starts rows ts diffs') (sym t)
     (subst (λ ds. IsColumns starts rows times ds) (sym d) columns)))
+
+-- one more update with the last row is kept, whatever its time and its difference are
+pub kept_longer : {T : Type 0} (starts : List ℕ) (rows : List (List ℤ)) (times : List T) (diffs : List ℤ) → IsColumns starts rows times diffs → 0 < length times → (ts ts' : List T) (t : T) (ds ds' : List ℤ) (d : ℤ) → ts' ≡ ts ++ t ∷ [] → ts ≡ times → ds' ≡ ds ++ d ∷ [] → ds ≡ diffs → IsColumns starts rows ts' ds'
+kept_longer starts rows times diffs columns some ts ts' t ds ds' d more same more' same' =
+    columns_alike _ starts _ rows _ ts' _ ds' refl refl
+    (more ∙ ap (λ us. us ++ t ∷ []) same)
+    (more' ∙ ap (λ us. us ++ d ∷ []) same')
+    (kept_again starts rows times diffs columns t d some)

@@ -163,6 +163,25 @@ compare_end (x ∷ key) (suc width) l =
     let same : nat_cmp width (length key) ≡ nat_cmp (suc width) (suc (length key)) = grind (arith, nat_tests) in
     rest ∙ same
 
+-- if all columns that two rows share are equal, then their widths are compared
+pub compare_widths : (m : ℕ) (row other : List ℤ) → m ≡ min (length row) (length other) → slice_cmp int_cmp (drop m row) (drop m other) ≡ nat_cmp (length row) (length other)
+compare_widths zero [] [] e = grind (arith, nat_tests)
+compare_widths zero [] (y ∷ other) e = grind (arith, nat_tests)
+compare_widths zero (x ∷ row) [] e = grind (arith, nat_tests)
+compare_widths zero (x ∷ row) (y ∷ other) e = absurd (omega (arith, e))
+compare_widths (suc m) [] other e = absurd (omega (arith, e))
+compare_widths (suc m) (x ∷ row) [] e = absurd (omega (arith, e))
+compare_widths (suc m) (x ∷ row) (y ∷ other) e =
+    let rest = compare_widths m row other (omega (arith, e)) in
+    let same : nat_cmp (length row) (length other) ≡ nat_cmp (suc (length row)) (suc (length other)) = grind (arith, nat_tests) in
+    rest ∙ same
+
+-- a step of the comparison of two rows, whose items were read
+pub compare_items : (row other : List ℤ) (i : ℕ) (x y : ℤ) (order : Ordering) → i < length row → i < length other → get_or row i (pos 0) ≡ x → get_or other i (pos 0) ≡ y → order ≡ int_cmp x y → slice_cmp int_cmp (drop i row) (drop i other) ≡ ordering_then order (slice_cmp int_cmp (drop (i + 1) row) (drop (i + 1) other))
+compare_items row other i x y order g h left right e =
+    let rest = slice_cmp int_cmp (drop (i + 1) row) (drop (i + 1) other) in
+    compare_step row other i g h ∙ (λ j. ordering_then (int_cmp (left j) (right j)) rest) ∙ ap (λ o. ordering_then o rest) (sym e)
+
 -- what is known of one row of a table
 module _ (columns : List (List ℤ)) (widths : List ℕ) (rows : List (List ℤ)) (number w : ℕ) (table : IsTable columns widths) (view : rows_from 0 columns widths ≡ rows) (inside : number < length rows) (read : w ≡ get_or widths number w) where
   number_inside : number < length widths
@@ -198,6 +217,13 @@ module _ (columns : List (List ℤ)) (widths : List ℕ) (rows : List (List ℤ)
 
     width : get_or widths number 0 ≡ w
     width = sym (get_or_read widths number w number_inside read 0)
+
+  -- its item in a column is what the column has at its place
+  pub row_item : (i : ℕ) (column : List ℤ) → i < w → column ≡ get_or columns i column → get_or (get_or rows number []) i (pos 0) ≡ get_or column number (pos 0)
+  row_item i column h e =
+      ap (λ r. get_or r i (pos 0)) row_is
+      ∙ row_at_get columns number w i column (pos 0) width_within h
+      ∙ ap (λ c. get_or c number (pos 0)) (sym e)
 
   -- its beginning, as far as the key goes, is what the first columns have
   pub row_begins : (key : List ℤ) (m : ℕ) → m ≡ min w (length key) → take (length key) (get_or rows number []) ≡ row_at columns number m

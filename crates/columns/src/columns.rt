@@ -6,17 +6,19 @@
 //!
 //! A push that is refused changes nothing: it asks for the memory of all lists before it writes
 //! into one.
-ghost use Rattle.std.specs.Prelude.{◌≡◌, ◌<◌, ◌≤◌, ◌++◌, ◌∷◌, [], cond, map, true, false, take, drop, slice_range, length, slice_index, slice_get, IsSomeAnd, IfOk, IfErr, OnOk, OnErr};
+ghost use Rattle.std.specs.Prelude.{◌≡◌, ◌<◌, ◌≤◌, ◌-◌, ◌++◌, ◌∷◌, [], Some, cond, map, true, false, take, drop, slice_range, length, slice_index, slice_get, IsSomeAnd, IfOk, IfErr, OnOk, OnErr};
+ghost use Rattle.std.specs.Cmp.Lexicographic.{slice_cmp};
 ghost use Rattle.std.specs.List.{AllWithin, filter};
 ghost use Rattle.std.specs.List.Sorted.{IsStrictlySortedBy, IsPartitionPoint};
+ghost use Rattle.std.specs.Ordering.{int_cmp};
 ghost use Rattle.update.specs.Bags.{same_row};
 ghost use Rattle.update.specs.declared.change.Update.{Update};
 ghost use Rattle.update.specs.declared.refusal.Refusal.TheVariants.{OutOfMemory};
 ghost use Rattle.columns.specs.Keys.{by_row_then_time, begins_with, at_key, is_left_behind, AllBefore, NoneBefore, AllAfter, NoneAfter};
-ghost use Rattle.columns.specs.Runs.{row_starts, AreRuns};
+ghost use Rattle.columns.specs.Runs.{run_number, row_starts, AreRuns};
 ghost use Rattle.columns.specs.Tables.{last_row};
 
-use crate::runs::{place_of, run_at};
+use crate::runs::{place_of, run_at, run_near};
 use crate::seeking::{first_kept, gallop};
 use crate::table::Table;
 use lattice::Lattice;
@@ -30,7 +32,6 @@ use update::{Refusal, Update};
 /// A list of updates, column by column. A contract sees the list of the updates.
 ///
 /// Cost: a time and 8 bytes for each update; for each run 9 bytes, and 8 for each column of its row.
-#[derive(Drop)]
 pub struct Columns<T: Lattice> {
     times: Vec<T>,
     diffs: Vec<i64>,
@@ -48,6 +49,18 @@ impl<T: Lattice> Model for Columns<T> {
     ghost view = { λ c. updates_from 0 c.starts.items c.rows c.times.items c.diffs.items };
 
     ghost invariant = { λ c. IsColumns c.starts.items c.rows c.times.items c.diffs.items };
+}
+
+// (written by hand, so that to let a list go is one step in the proofs of whoever holds it)
+impl<T: Lattice> Drop for Columns<T> {
+    fn drop(self) {
+        let Columns {
+            times: _,
+            diffs: _,
+            starts: _,
+            rows: _,
+        } = self;
+    }
 }
 
 // Stores a row as that of a new run, which begins at a place. If memory was refused, then nothing
@@ -129,13 +142,45 @@ impl<T: Lattice> Columns<T> {
         ensures same { OnErr result (self.new ≡ self.old) }
         ensures refused { IfErr result (λ refusal. refusal ≡ OutOfMemory) }
     {
-        update.row.known();
+        self.push_row(&update.row, update.time, update.diff)
+    }
+
+    /// Appends an update with this row, time and difference, as [`push`](Columns::push).
+    pub fn push_row(&mut self, row: &Row, time: T, diff: i64) -> Result<(), Refusal>
+        ensures more { OnOk result (self.new ≡ self.old ++ record {
+          time = time;
+          row = row.now;
+          diff = diff;
+        } ∷ []) }
+        ensures same { OnErr result (self.new ≡ self.old) }
+        ensures refused { IfErr result (λ refusal. refusal ≡ OutOfMemory) }
+    {
+        row.known();
         self.times.reserve(1)?;
         self.diffs.reserve(1)?;
         let place = self.times.len();
-        enter_run(&mut self.starts, &mut self.rows, place, &update.row)?;
-        self.times.push_reserved(update.time);
-        self.diffs.push_reserved(update.diff);
+        enter_run(&mut self.starts, &mut self.rows, place, row)?;
+        self.times.push_reserved(time);
+        self.diffs.push_reserved(diff);
+        Ok(())
+    }
+
+    /// Appends an update with the row of the last one. Refused only with `OutOfMemory`, and then
+    /// the updates are as before.
+    ///
+    /// Cost: constant: no row is compared.
+    pub fn push_again(&mut self, at: T, diff: i64) -> Result<(), Refusal>
+        requires { 0 < length self.old }
+        ensures more { OnOk result ((u : Update T)
+            → slice_get self.old (length self.old - 1) ≡ Some u
+            → self.new ≡ self.old ++ record { time = at; row = u.row; diff = diff } ∷ []) }
+        ensures same { OnErr result (self.new ≡ self.old) }
+        ensures refused { IfErr result (λ refusal. refusal ≡ OutOfMemory) }
+    {
+        self.times.reserve(1)?;
+        self.diffs.reserve(1)?;
+        self.times.push_reserved(at);
+        self.diffs.push_reserved(diff);
         Ok(())
     }
 
@@ -187,6 +232,62 @@ impl<T: Lattice> Columns<T> {
             (λ u. result ≡ u.row) }
     {
         self.rows.row(run)
+    }
+
+    /// The number of the run of update `i`, counted from 0; [`starts`](Columns::starts) says where
+    /// it begins. Takes no memory.
+    ///
+    /// Cost: constant if that is `near` or the number behind it, else a binary search in the list
+    /// of the runs. Any `near` is right.
+    pub fn run_near(&self, i: usize, near: usize) -> usize
+        requires { i < length self.now }
+        ensures { result ≡ run_number (row_starts self.now) i }
+    {
+        run_near(self.starts.as_slice(), i, near)
+    }
+
+    /// The row of update `i`, as [`row`](Columns::row). Takes no memory.
+    ///
+    /// Cost: as for [`run_near`](Columns::run_near), and one step for each column.
+    pub fn row_near(&self, i: usize, near: usize) -> Row
+        requires { i < length self.now }
+        ensures { IsSomeAnd (slice_get self.now i) (λ u. result ≡ u.row) }
+    {
+        self.rows.row(run_near(self.starts.as_slice(), i, near))
+    }
+
+    /// Whether update `i` has a row. Takes no memory, and makes no row.
+    ///
+    /// Cost: as for [`run_near`](Columns::run_near), and one comparison for each column.
+    pub fn has_row(&self, i: usize, near: usize, row: &[i64]) -> bool
+        requires { i < length self.now }
+        ensures { IsSomeAnd (slice_get self.now i) (λ u. result ≡ same_row u.row row.now) }
+    {
+        self.rows
+            .is_row(run_near(self.starts.as_slice(), i, near), row)
+    }
+
+    /// How the row of update `i` compares with the row of update `j` of another list. Takes no
+    /// memory, and makes no row.
+    ///
+    /// Cost: as for [`run_near`](Columns::run_near) in both, and one comparison for each column
+    /// that both have.
+    pub fn compare_rows(
+        &self,
+        i: usize,
+        near: usize,
+        other: &Columns<T>,
+        j: usize,
+        other_near: usize,
+    ) -> Ordering
+        requires place { i < length self.now }
+        requires other { j < length other.now }
+        ensures { IsSomeAnd (slice_get self.now i) (λ u. IsSomeAnd (slice_get other.now j)
+            (λ v. result ≡ slice_cmp int_cmp u.row v.row)) }
+    {
+        let run = run_near(self.starts.as_slice(), i, near);
+        let other_run = run_near(other.starts.as_slice(), j, other_near);
+        self.rows.compare(run, &other.rows, other_run)
     }
 
     /// The time of update `i`, counted from 0. Takes no memory.

@@ -6,9 +6,9 @@
 //! places where a row begins. At times of 16 bytes an update takes 24 bytes, and a row takes 9 bytes
 //! and 8 for each of its columns.
 //!
-//! A contract sees a list of updates and nothing of all this. Whoever pushes or reads an update need
-//! not know how it is kept. A reader that goes from row to row asks for the places where the rows
-//! begin ([`Columns::starts`]); the updates alone decide them.
+//! A contract sees a list of updates and nothing of all this. A caller that pushes or reads an
+//! update need not know how it is kept. A reader that goes from row to row asks for the places
+//! where the rows begin ([`Columns::starts`]); the updates alone decide them.
 //!
 //! Nothing here asks that the updates are in order. Only the searches by key do
 //! ([`Columns::range_of`], [`Columns::first_from`], [`Columns::first_past`]). They search the rows

@@ -132,7 +132,7 @@ impl Table {
     }
 
     /// Whether the row of a number is this one. Takes no memory.
-    fn is_row(&self, number: usize, row: &[i64]) -> bool
+    pub(crate) fn is_row(&self, number: usize, row: &[i64]) -> bool
         requires { number < length self.now }
         ensures { result ≡ same_row (slice_index_or self.now number []) row.now }
     {
@@ -173,5 +173,24 @@ impl Table {
             }
         }
         width.cmp(&key.len())
+    }
+
+    /// Compares a row with a row of another table, whole. Takes no memory.
+    pub(crate) fn compare(&self, number: usize, other: &Table, place: usize) -> Ordering
+        requires number { number < length self.now }
+        requires place { place < length other.now }
+        ensures { result ≡ slice_cmp int_cmp
+            (slice_index_or self.now number []) (slice_index_or other.now place []) }
+    {
+        let width = (self.widths[number] as usize).min(other.widths[place] as usize);
+        for i in 0..width {
+            let order = self.columns[i]
+                .get(number)
+                .cmp(&other.columns[i].get(place));
+            if order.is_ne() {
+                return order;
+            }
+        }
+        self.widths[number].cmp(&other.widths[place])
     }
 }

@@ -1,5 +1,7 @@
 //! Columns: pushes succeed if there is memory, a refused one loses nothing, and each row is stored
 //! once for its neighbours.
+ghost use Rattle.std.specs.Prelude.{◌<◌, length};
+
 use columns::Columns;
 use lattice::Bitime;
 use std::alloc::Global;
@@ -49,6 +51,25 @@ fn pushed(alloc: Global) -> Result<Columns<Bitime>, Refusal> {
     Ok(columns)
 }
 
+// Four updates in columns. The first two rows are shorter than the first one of the six or equal to
+// it, the third is longer, and the last has a larger number.
+fn four(alloc: Global) -> Result<Columns<Bitime>, Refusal> {
+    let updates = list(
+        alloc,
+        &[
+            ((0, 0), &[7], 1),
+            ((0, 0), &[7, 1], 1),
+            ((0, 0), &[7, 1, 0], 1),
+            ((0, 0), &[8], 1),
+        ],
+    )?;
+    let mut columns = Columns::new(alloc);
+    for update in &updates {
+        push(&mut columns, update)?;
+    }
+    Ok(columns)
+}
+
 // Each update has the time, the difference and the row that was pushed with it.
 #[test]
 fn pushing_takes_memory(rt: HostRuntime) -> Result<(), Fail> {
@@ -84,5 +105,71 @@ fn keys_are_compared_in_place(rt: HostRuntime) -> Result<(), Fail> {
     assert!(rt; columns.compare_key(3, &[7]) == Ordering::Equal);
     assert!(rt; columns.compare_key(3, &[7, 1]) == Ordering::Greater);
     assert!(rt; columns.compare_key(4, &[9, -5]) == Ordering::Less);
+    Ok(())
+}
+
+// A run is found from any number: its own, the one before it, others, and one that no run has.
+#[test]
+fn runs_are_found_from_any_number(rt: HostRuntime) -> Result<(), Fail> {
+    let columns = pushed(rt.alloc())?;
+    assert!(rt; columns.len() == 6);
+    assert!(rt; columns.run_near(2, 0) == 0 && columns.run_near(3, 1) == 1);
+    assert!(rt; columns.run_near(3, 0) == 1 && columns.run_near(4, 1) == 2);
+    assert!(rt; columns.run_near(5, 0) == 2 && columns.run_near(0, 2) == 0);
+    assert!(rt; columns.run_near(2, 3) == 0 && columns.run_near(5, usize::MAX) == 2);
+    Ok(())
+}
+
+// So is a row.
+#[test]
+fn rows_are_found_from_any_number(rt: HostRuntime) -> Result<(), Fail> {
+    let columns = pushed(rt.alloc())?;
+    assert!(rt; columns.len() == 6);
+    assert!(rt; columns.row_near(3, 1).columns() == [7i64, 2].as_slice());
+    assert!(rt; columns.row_near(3, 0).columns() == [7i64, 2].as_slice());
+    assert!(rt; columns.row_near(5, 0).columns() == [9i64].as_slice());
+    assert!(rt; columns.row_near(0, usize::MAX).columns() == [7i64, 1].as_slice());
+    Ok(())
+}
+
+// Pushes an update with the row of the last one, and once more if memory was refused.
+fn push_again(columns: &mut Columns<Bitime>, time: Bitime, diff: i64) -> Result<(), Refusal>
+    requires { 0 < length columns.old }
+{
+    match columns.push_again(time, diff) {
+        Err(Refusal::OutOfMemory) => columns.push_again(time, diff),
+        done => done,
+    }
+}
+
+// An update that is pushed again has the row of the last one, and starts no run. A row of another
+// number, or a longer one, is not that row.
+#[test]
+fn pushing_again_takes_memory(rt: HostRuntime) -> Result<(), Fail> {
+    let mut columns = pushed(rt.alloc())?;
+    assert!(rt; columns.len() == 6);
+    let time = columns.time(1);
+    push_again(&mut columns, time, 64)?;
+    assert!(rt; columns.len() == 7);
+    assert!(rt; columns.time(6) == time && columns.diff(6) == 64);
+    assert!(rt; columns.starts() == [0usize, 3, 4].as_slice());
+    assert!(rt; columns.has_row(6, 2, &[9]) && columns.has_row(6, usize::MAX, &[9]));
+    assert!(rt; !columns.has_row(6, 2, &[7]) && !columns.has_row(6, 2, &[9, 0]));
+    assert!(rt; columns.has_row(0, 2, &[7, 1]) && !columns.has_row(0, 0, &[7, 2]));
+    Ok(())
+}
+
+// A row comes behind its own beginning. In rows of several widths the first other column decides.
+#[test]
+fn rows_of_two_lists_are_compared_in_place(rt: HostRuntime) -> Result<(), Fail> {
+    let columns = pushed(rt.alloc())?;
+    let others = four(rt.alloc())?;
+    assert!(rt; columns.len() == 6 && others.len() == 4);
+    assert!(rt; columns.compare_rows(0, 0, &others, 0, 0) == Ordering::Greater);
+    assert!(rt; columns.compare_rows(0, 0, &others, 1, 0) == Ordering::Equal);
+    assert!(rt; columns.compare_rows(0, 0, &others, 2, 9) == Ordering::Less);
+    assert!(rt; columns.compare_rows(3, 0, &others, 2, 2) == Ordering::Greater);
+    assert!(rt; columns.compare_rows(2, 2, &others, 3, 0) == Ordering::Less);
+    assert!(rt; columns.compare_rows(5, 2, &others, 3, 3) == Ordering::Greater);
     Ok(())
 }
