@@ -5,9 +5,8 @@ use Rattle.std.specs.List.{list_all}
 use Rattle.std.specs.declared.cmp.Ordering.{Ordering}
 use Rattle.lattice.specs.Frontiers.{all_beyond}
 use Rattle.antichain.specs.Antichains.{IsFrontier}
-use Rattle.update.specs.Updates.{HasLargeTotal}
 use Rattle.update.specs.declared.change.Update.{Update}
-use Rattle.batch.specs.Compaction.{IsUpward, compacted}
+use Rattle.batch.specs.Compaction.{IsUpward}
 use Rattle.batch.specs.Descriptions.{BatchState, IsEmptyIfStill}
 use Rattle.trace.specs.Readings.{Insertion, IsReadable}
 
@@ -101,16 +100,6 @@ module _ {T : Type 0} (below : T → T → Bool) where
   -- one batch for the one with this number
   abbrev pub IsRewriteAt : List T → BatchState T → ℕ → List (BatchState T) → Type 0
   IsRewriteAt since m i bs = (a : BatchState T) → slice_get bs i ≡ Some a → IsRewriteOf since m a
-
-  -- the total of some row at some moved time over two neighbours is no 64-bit number
-  abbrev pub HasLargePair : (T → T → T) → (T → T → T) → List T → List (BatchState T) → Type 0
-  HasLargePair joined met since bs =
-      (i : ℕ)
-      × (a : BatchState T)
-      × (b : BatchState T)
-      × (slice_get bs i ≡ Some a)
-      × (slice_get bs (suc i) ≡ Some b)
-      × HasLargeTotal below (compacted joined met since (a.updates ++ b.updates))
 
 module _ {T : Type 0} (below : T → T → Bool) (cmp : T → T → Ordering) where
   -- the batch continues a batch list, and ends at a frontier beyond the one at which it begins; it

@@ -2,7 +2,7 @@
 //! moves no time, so it stands for exactly the batches that were inserted, and its since is the
 //! frontier at which it begins. It shows that the promises of [`Trace`] can be kept, and it is what
 //! a trace that merges and compacts has to agree with. Such a trace keeps its batches in a batch
-//! list, and decides when [`BatchList::merge_at`] makes one batch of two neighbours.
+//! list, makes one batch of two neighbours elsewhere, and puts it here in the place of both.
 //!
 //! The invariant: each batch begins at the frontier at which the one before it ends. Frontiers only
 //! move forward, so two batches that end at one boundary have only empty intervals between them,
@@ -13,21 +13,20 @@ ghost use Rattle.std.specs.Bool.{OnTrue};
 ghost use Rattle.std.specs.List.{Contains};
 ghost use Rattle.antichain.specs.Antichains.{IsFrontier};
 ghost use Rattle.lattice.specs.Frontiers.{all_beyond};
-ghost use Rattle.update.specs.Refusals.{IsMemoryOrOverflow};
 ghost use Rattle.update.specs.declared.refusal.Refusal.{Refusal};
 ghost use Rattle.batch.specs.Descriptions.{BatchState};
-ghost use Rattle.trace.specs.BatchLists.{BatchListState, Continues, IsLink, IsBatchList, IsMergeAt, IsRewriteAt, HasLargePair, end_of, ends_of, insertion_of, insertions_of, merged_at};
+ghost use Rattle.trace.specs.BatchLists.{BatchListState, Continues, IsLink, IsBatchList, IsMergeAt, IsRewriteAt, end_of, ends_of, insertion_of, insertions_of, merged_at};
 
 use crate::Trace;
 use crate::boundaries::{are_same, end_in, number_in};
-use crate::neighbours::{merged_pair, put_merged};
+use crate::neighbours::put_merged;
 use batch::{Batch, BatchReader, Description};
 use lattice::{Lattice, Minimum};
 use std::alloc::Global;
 use std::marker::Model;
 use update::Refusal;
 
-/// A trace that keeps each batch as it was inserted, until it is told to merge two. A contract sees
+/// A trace that keeps each batch as it was inserted, until it is given one for two. A contract sees
 /// the worker, the node, the frontier at which the list begins, the batches, and whether there is
 /// memory for one more.
 ///
@@ -149,31 +148,6 @@ impl<T: Lattice> BatchList<T> {
                 refusal: Refusal::OutOfMemory,
             });
         }
-        Ok(())
-    }
-
-    /// Makes one batch of the one with this number and the next one, as of a frontier. If it is
-    /// refused, then the list stays as it was.
-    ///
-    /// - [`Refusal::Overflow`] only if the total of some row at some moved time over both is no
-    ///   64-bit number.
-    /// - [`Refusal::OutOfMemory`] only if memory for the new batch was refused.
-    ///
-    /// Cost: that of merging both, and one step for each batch behind them.
-    pub fn merge_at(&mut self, i: usize, since: &[T]) -> Result<(), Refusal>
-        requires within { suc i < length self.old.batches }
-        requires frontier { IsFrontier T.below T.cmp since.now }
-        ensures merged { OnOk result ((m : BatchState T)
-            × (self.new ≡ record self.old {
-              batches = merged_at i m self.old.batches;
-              reserved = true;
-            }) × IsMergeAt T.below since.now m i self.old.batches) }
-        ensures same { OnErr result (self.new ≡ self.old) }
-        ensures refused { IfErr result
-            (IsMemoryOrOverflow (HasLargePair T.below T.joined T.met since.now self.old.batches)) }
-    {
-        let merged = merged_pair(self.batches.as_slice(), i, since)?;
-        put_merged(&mut self.batches, i, merged);
         Ok(())
     }
 
