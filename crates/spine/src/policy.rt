@@ -169,11 +169,24 @@ fn last_place<T: Lattice>(batches: &[Batch<T>], holds: &[KeptHold<T>], since: &[
     }
 }
 
+// Whether no neighbours may become one. The first that may end the search.
+fn are_all_shut<T: Lattice>(batches: &[Batch<T>], holds: &[KeptHold<T>]) -> bool
+    ensures { (result ≡ true) ↔ ((i : ℕ) → suc i < length batches.now
+        → IsTrue (is_barred T.below holds.now batches.now false i)) }
+{
+    for next in 1..batches.len() {
+        if !is_shut(batches, holds, next - 1) {
+            return false;
+        }
+    }
+    true
+}
+
 // Whether nothing is left to do.
 pub(crate) fn is_done<T: Lattice>(batches: &[Batch<T>], holds: &[KeptHold<T>], since: &[T]) -> bool
     ensures { (result ≡ true) ↔ AreDone T.below holds.now since.now batches.now }
 {
-    last_place(batches, holds, since).is_none()
+    are_all_shut(batches, holds) && lagging_batch(batches, since).is_none()
 }
 
 // The place of the merge that is to be begun next where none is under way.

@@ -3,8 +3,8 @@
 //! the next call. Nobody sees it until then.
 //!
 //! Each step gives up the newest merges whose boundary a reader may ask for by now, begins the merge
-//! that the policy asks for, and goes on with the newest one. Such a reader is rare: its hold must
-//! have begun at a boundary behind which there are only empty batches.
+//! that the policy asks for, and goes on with the newest one. Such a reader is rare: all batches
+//! behind the boundary at which its hold began must be empty.
 //!
 //! The invariant of a step: what was read is in new batches or in merges that are under way. Lost is
 //! only what was read in vain.
@@ -177,9 +177,9 @@ impl<T: Lattice> Spine<T> {
     ///   to 2^63 or more.
     /// - [`Refusal::OutOfMemory`] only if memory for a merged batch was refused.
     ///
-    /// Cost: at most the fuel, and for each merge one step for each batch and hold. When a row of a
-    /// merge ends, its updates are sorted, and that is not counted. Memory for the updates of all
-    /// batches that are being merged.
+    /// Cost: at most the fuel, and for each merge, and for the answer, one step for each batch and
+    /// hold. When a row of a merge ends, its updates are sorted unless they are in order, and that
+    /// is not counted. Memory for the updates of all batches that are being merged.
     pub fn work(&mut self, fuel: u64) -> Result<bool, Refusal>
         ensures worked { (spent : ℕ) × (lost : ℕ) × (spent ≤ fuel)
             × IsWorked T.below spent lost self.old self.new }
