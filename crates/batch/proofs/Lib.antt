@@ -4,8 +4,11 @@ pub mod SeekLemmas
 pub mod SealLemmas
 pub mod SumsLemmas
 pub mod TieLemmas
+pub mod SealedLemmas
 pub mod CompactionLemmas
 pub mod MergingLemmas
+pub mod ChangeLemmas
+pub mod HandLemmas
 pub mod UnderwayLemmas
 pub mod IntervalLemmas
 pub mod DeterminedLemmas

@@ -1,6 +1,6 @@
 -- A merge that moves times keeps `IsMerging` through each update that it takes in, and each row
 -- that it finishes.
-use Rattle.std.proofs.Common.{◌≡◌, ◌≢◌, ◌+◌, Bool, true, false, not, ◌&&◌, List, [], ◌∷◌, ◌++◌, IsTrue, ℤ, pos, ◌+ℤ◌, refl, sym, ap, ◌∙◌, subst, append_assoc, arith}
+use Rattle.std.proofs.Common.{◌≡◌, ◌≢◌, Bool, true, false, ◌&&◌, List, [], ◌∷◌, ◌++◌, IsTrue, ℤ, pos, ◌+ℤ◌, refl, sym, ap, ◌∙◌, subst, append_assoc, arith}
 use Rattle.std.specs.Prelude.{unsigned_abs, cond, FitsSigned}
 use Rattle.std.specs.Int.{w64}
 use Rattle.update.proofs.TotalLemmas.{fits_zero}
@@ -27,7 +27,7 @@ use Rattle.update.proofs.SumLemmas.{total_by-append}
 use Rattle.update.proofs.ConsolidatedLemmas.{moved_total, moved_among, moved_size}
 use Rattle.batch.specs.Batches.{by_row_then_time, IsSealed}
 use Rattle.batch.specs.Compaction.{at_representative, compacted, StandFor}
-use Rattle.batch.specs.Merging.{IsMerging, has_other_row}
+use Rattle.batch.specs.Merging.{IsMerging}
 
 -- ---- rows
 
@@ -351,37 +351,6 @@ module _ {T : Type 0} (below : T → T → Bool) (cmp : T → T → Ordering) (j
       fits_both m.at f h g m.before (row_of m.at h g m.one_row s) s m.fits fit
       (large_for (f ++ g) (compacted joined met since (us ++ vs)) (merging_ends us vs f h g sealed s m).1 large)
 
-  -- ---- whether another row is in hand
-
-  pub other_row : (row : List ℤ) (h : List (Update T)) → has_other_row row h ≡ true → (u : Update T) × (hs : List (Update T)) × (h ≡ u ∷ hs) × (u.row ≢ row)
-  other_row row [] e = absurd (true≢false (sym e))
-  other_row row (u ∷ hs) e = (u, hs, refl, λ d. true≢false (sym e ∙ ap not ((signed_items u.row row).1 d)))
-
-  all_of_row : (at r : List ℤ) → at ≡ r → (h : List (Update T)) → AllByRecursion (λ u. u.row ≡ at) h → AllByRecursion (λ u. u.row ≡ r) h
-  all_of_row at r e h a = weaker (λ (u : Update T). u.row ≡ at) (λ u. u.row ≡ r) (λ u d. d ∙ e) h a
-
-  pub no_other_row : (us vs f h xs ys : List (Update T)) (x : Update T) → has_other_row x.row h ≡ false → merging us vs f h xs ys → AllByRecursion (λ u. u.row ≡ x.row) h
-  no_other_row us vs f [] xs ys x e m = tt
-  no_other_row us vs f (u ∷ hs) xs ys x e m =
-      all_of_row m.at x.row (sym m.one_row.0 ∙ (signed_items u.row x.row).0 (not_false (same_row u.row x.row) e)) (u ∷ hs) m.one_row
-    where
-      not_false : (b : Bool) → not b ≡ false → b ≡ true
-      not_false true e = refl
-      not_false false e = sym e
-
-  -- a row that needs no finishing
-  pub merging_ready : (us vs f h xs ys : List (Update T)) (x : Update T) → has_other_row x.row h ≡ false → merging us vs f h xs ys → AllByRecursion (λ u. u.row ≡ x.row) h × merging us vs f h xs ys
-  merging_ready us vs f h xs ys x e m = (no_other_row us vs f h xs ys x e m, m)
-
-  -- a row that was finished before the next update
-  pub merging_made_ready : (us vs f h g new now xs ys : List (Update T)) (x : Update T) → has_other_row x.row h ≡ true → new ≡ f ++ g → now ≡ [] → IsSealed cmp g → StandFor g h → (HasLargeTotal below h → ⊥) → merging us vs f h (x ∷ xs) ys → AllByRecursion (λ v. rows x.row v.row ≢ Greater) ys → AllByRecursion (λ u. u.row ≡ x.row) now × merging us vs new now (x ∷ xs) ys
-  merging_made_ready us vs f h g new now xs ys x e d k sealed s fit m n =
-      let other = other_row x.row h e in
-      let made = merging_settled us vs f h g xs ys x other.0 other.1 other.2 other.3 sealed s fit m n in (
-        subst (AllByRecursion (λ u. u.row ≡ x.row)) (sym k) tt,
-        subst (λ ws. merging us vs ws now (x ∷ xs) ys) (sym d) (subst (λ ws. merging us vs (f ++ g) ws (x ∷ xs) ys) (sym k) made),
-      )
-
   -- ---- a total that is too large
 
   -- a total of the row in hand is a total of the whole merge
@@ -411,11 +380,10 @@ module _ {T : Type 0} (below : T → T → Bool) (cmp : T → T → Ordering) (j
   moved_rows at (w ∷ ws) a = (a.0, moved_rows at ws a.1)
 
   -- so is one of a row that is finished when the next update is of another row
-  pub large_settled : (us vs f h xs ys : List (Update T)) (x : Update T) → has_other_row x.row h ≡ true → merging us vs f h (x ∷ xs) ys → AllByRecursion (λ v. rows x.row v.row ≢ Greater) ys → HasLargeTotal below h → HasLargeTotal below (compacted joined met since (us ++ vs))
-  large_settled us vs f h xs ys x e m n large =
-      let other = other_row x.row h e in
-      let at_is : other.0.row ≡ m.at = (subst (AllByRecursion (λ (w : Update T). w.row ≡ m.at)) other.2 m.one_row).0 in
-      let earlier : rows m.at x.row ≡ Less = upto_and_other m.at x.row m.left_rows.0 (λ d. other.3 (at_is ∙ d)) in
+  pub large_settled : (us vs f h xs ys : List (Update T)) (x u : Update T) (hs : List (Update T)) → h ≡ u ∷ hs → u.row ≢ x.row → merging us vs f h (x ∷ xs) ys → AllByRecursion (λ v. rows x.row v.row ≢ Greater) ys → HasLargeTotal below h → HasLargeTotal below (compacted joined met since (us ++ vs))
+  large_settled us vs f h xs ys x u hs e other m n large =
+      let at_is : u.row ≡ m.at = (subst (AllByRecursion (λ (w : Update T). w.row ≡ m.at)) e m.one_row).0 in
+      let earlier : rows m.at x.row ≡ Less = upto_and_other m.at x.row m.left_rows.0 (λ d. other (at_is ∙ d)) in
       let on : (ws : List (Update T)) → AllByRecursion (λ v. rows x.row v.row ≢ Greater) ws → AllByRecursion (λ v. rows m.at v.row ≡ Less) ws =
       λ ws a. weaker (λ (v : Update T). rows x.row v.row ≢ Greater) (λ v. rows m.at v.row ≡ Less) (λ v k. less_then_upto m.at x.row v.row earlier k) ws a in
       let rest = both (λ (v : Update T). rows m.at v.row ≡ Less) (x ∷ xs) ys (on (x ∷ xs) (rows_behind x xs m.left_sorted)) (on ys n) in

@@ -1,6 +1,6 @@
 -- A merge that is under way stays so through each update that it takes from one of its sources.
-use Rattle.std.proofs.Common.{◌≡◌, ◌≢◌, ℕ, zero, suc, ◌<◌, ◌+◌, Bool, true, false, List, [], ◌∷◌, ◌++◌, length, get_or, drop, ◌&&◌, IsTrue, ℤ, refl, sym, ap, ◌∙◌, subst, length-drop, arith}
-use Rattle.std.specs.Prelude.{FitsSigned}
+use Rattle.std.proofs.Common.{◌≡◌, ◌≢◌, ℕ, zero, suc, ◌<◌, ◌≤◌, ◌+◌, Bool, true, false, List, [], ◌∷◌, ◌++◌, length, get_or, drop, ◌&&◌, IsTrue, ℤ, refl, sym, ap, ◌∙◌, subst, length-drop, arith}
+use Rattle.std.specs.Prelude.{FitsSigned, slice_get, IsSomeAnd}
 use Rattle.std.specs.Int.{w64}
 use Rattle.std.specs.List.{AllByRecursion, list_all}
 use Rattle.std.specs.List.Sorted.{IsStrictlySortedBy}
@@ -8,7 +8,7 @@ use Rattle.std.specs.Ordering.{is_le, ordering_reverse, ordering_then}
 use Rattle.std.specs.declared.cmp.Ordering.{Ordering}
 use Rattle.std.specs.declared.cmp.Ordering.TheVariants.{Less, Equal, Greater}
 use Rattle.std.proofs.lemmas.Bool.{true≢false}
-use Rattle.std.proofs.lemmas.List.{drop_more}
+use Rattle.std.proofs.lemmas.List.{drop_more, drop_all}
 use Rattle.update.specs.declared.change.Update.{Update}
 use Rattle.update.specs.Bags.{same_row}
 use Rattle.update.specs.Updates.{HasLargeTotal}
@@ -46,6 +46,27 @@ above_first Greater b e f = cc
 
 upto_back : (r s : List ℤ) → rows r s ≢ Less → rows s r ≢ Greater
 upto_back r s n e = n (rows_total.antisymm r s ∙ ap ordering_reverse e)
+
+-- an element that is read at a place
+pub read_is : {X : Type 0} (xs : List X) (i : ℕ) (x : X) → IsSomeAnd (slice_get xs i) (λ y. x ≡ y) → x ≡ get_or xs i x
+read_is [] i x h = absurd h
+read_is (y ∷ xs) zero x h = h
+read_is (y ∷ xs) (suc i) x h = read_is xs i x h
+
+module _ {T : Type 0} (cmp : T → T → Ordering) where
+  -- if only the left list has an update at its place, then that is next
+  pub next_alone : (us vs : List (Update T)) (i j : ℕ) → i < length us → length vs ≤ j → is_left_next cmp (drop i us) (drop j vs) ≡ true
+  next_alone [] vs i j h l = absurd (omega (arith, h))
+  next_alone (x ∷ us) vs zero j h l = ap (λ ys. is_left_next cmp (x ∷ us) ys) (drop_all j vs l)
+  next_alone (x ∷ us) vs (suc i) j h l = next_alone us vs i j (omega (arith, h)) l
+
+  -- if both have one, then the order of the rows and the times at the two places say which is next
+  pub next_by_order : (us vs : List (Update T)) (i j : ℕ) (o : Ordering) (t z : T) → IsSomeAnd (slice_get us i) (λ u. IsSomeAnd (slice_get vs j) (λ v. o ≡ rows u.row v.row)) → IsSomeAnd (slice_get us i) (λ u. t ≡ u.time) → IsSomeAnd (slice_get vs j) (λ v. z ≡ v.time) → is_le (ordering_then o (cmp t z)) ≡ is_left_next cmp (drop i us) (drop j vs)
+  next_by_order [] vs i j o t z a c d = absurd a
+  next_by_order (x ∷ us) vs (suc i) j o t z a c d = next_by_order us vs i j o t z a c d
+  next_by_order (x ∷ us) [] zero j o t z a c d = absurd a
+  next_by_order (x ∷ us) (y ∷ vs) zero zero o t z a c d = λ k. is_le (ordering_then (a k) (cmp (c k) (d k)))
+  next_by_order (x ∷ us) (y ∷ vs) zero (suc j) o t z a c d = next_by_order (x ∷ us) vs zero j o t z a c d
 
 module _ {T : Type 0} (below : T → T → Bool) (cmp : T → T → Ordering) (joined met : T → T → T) where
   weakened : (r s : List ℤ) → rows r s ≢ Greater → (ws : List (Update T)) → AllByRecursion (λ u. rows s u.row ≢ Greater) ws → AllByRecursion (λ u. rows r u.row ≢ Greater) ws

@@ -3,7 +3,7 @@ pub use Rattle.lattice.specs.Order
 pub use Rattle.lattice.specs.Frontiers
 pub mod Batches
 pub mod Compaction
+pub mod Changes
 pub mod Descriptions
 pub mod Intervals
 pub mod Merging
-pub mod Seeking

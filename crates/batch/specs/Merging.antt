@@ -1,6 +1,6 @@
 -- The state of a merge: some rows of two sealed lists are finished, the updates of one row are in
 -- hand, and the rest of both lists is still to come.
-use Rattle.std.specs.Prelude.{◌≡◌, ◌≢◌, ℕ, Bool, true, false, not, List, [], ◌∷◌, ◌++◌, ℤ, drop, length, ◌≤◌}
+use Rattle.std.specs.Prelude.{◌≡◌, ◌≢◌, ℕ, Bool, true, false, List, [], ◌∷◌, ◌++◌, ℤ, drop, length, ◌≤◌}
 use Rattle.std.specs.List.{AllByRecursion}
 use Rattle.std.specs.List.Sorted.{IsStrictlySortedBy}
 use Rattle.std.specs.Cmp.Lexicographic.{slice_cmp}
@@ -8,7 +8,6 @@ use Rattle.std.specs.Ordering.{int_cmp, is_le}
 use Rattle.std.specs.declared.cmp.Ordering.{Ordering}
 use Rattle.std.specs.declared.cmp.Ordering.TheVariants.{Less, Greater}
 use Rattle.update.specs.declared.change.Update.{Update}
-use Rattle.update.specs.Bags.{same_row}
 use Rattle.update.specs.Updates.{HasLargeTotal}
 use Rattle.batch.specs.Batches.{by_row_then_time, IsSealed}
 use Rattle.batch.specs.Compaction.{compacted, StandFor}
@@ -61,8 +60,3 @@ abbrev pub is_left_next : {T : Type 0} → (T → T → Ordering) → List (Upda
 is_left_next cmp [] ys = false
 is_left_next cmp (x ∷ xs) [] = true
 is_left_next cmp (x ∷ xs) (y ∷ ys) = is_le (by_row_then_time cmp x y)
-
--- another row than this one is in hand
-abbrev pub has_other_row : {T : Type 0} → List ℤ → List (Update T) → Bool
-has_other_row row [] = false
-has_other_row row (u ∷ us) = not (same_row u.row row)

@@ -1,5 +1,5 @@
 //! The batch itself: a description and sealed updates, neither of which ever changes. The updates
-//! are in one list, in the order in which they are read.
+//! are kept column by column, in the order in which they are read, and each row once.
 //!
 //! The invariant: the list is sealed, and empty if the interval is. A seal finds each time between
 //! the frontiers, and no time is between equal ones. A merge of two such batches is such a batch
@@ -8,31 +8,31 @@
 //! Each batch is compacted as of its own since: every time is its own representative. After a seal
 //! the since is the least time, and no time moves. A merge moves each time. So whether a batch lags
 //! behind a later since is one comparison of frontiers.
-ghost use Rattle.std.specs.Prelude.{◌≡◌, IsTrue};
+ghost use Rattle.std.specs.Prelude.{◌≡◌, map, IsTrue};
 ghost use Rattle.batch.specs.Batches.{IsSealed};
 ghost use Rattle.batch.specs.Compaction.{are_compacted};
 ghost use Rattle.batch.specs.Descriptions.{IsEmptyIfStill};
+ghost use Rattle.columns.specs.Runs.{row_starts, AreRuns};
 
-use crate::keys::{compare_key, range_of};
-use crate::seeking::{first_from, first_past};
 use crate::{BatchReader, Description};
+use columns::Columns;
 use lattice::Lattice;
 use row::Row;
 use std::alloc::Global;
 use std::cmp::Ordering;
 use std::marker::Model;
 use std::ops::Range;
-use update::Update;
 
 /// A sealed list of updates with its description. It never changes. A contract sees the description
 /// and the list.
 ///
-/// Cost: an update is read by its index in constant time; the range of a key is found by two binary
-/// searches.
+/// Cost: the time and the difference of an update are read by its index in constant time, and its
+/// row by a binary search of the rows. The range of a key is found by two binary searches of the
+/// rows.
 #[derive(Drop)]
 pub struct Batch<T: Lattice> {
     description: Description<T>,
-    updates: Vec<Update<T>>,
+    columns: Columns<T>,
 }
 
 impl<T: Lattice> Model for Batch<T> {
@@ -43,35 +43,58 @@ impl<T: Lattice> Model for Batch<T> {
 
     ghost Value = { BatchState T };
 
-    ghost view = { λ b. record { description = b.description; updates = b.updates.items } };
+    ghost view = { λ b. record { description = b.description; updates = b.columns } };
 
-    ghost invariant = { λ b. IsSealed T.cmp b.updates.items
-        × IsEmptyIfStill (record { description = b.description; updates = b.updates.items })
+    ghost invariant = { λ b. IsSealed T.cmp b.columns
+        × IsEmptyIfStill (record { description = b.description; updates = b.columns })
         × IsTrue
-        (are_compacted T.joined T.met b.description.since T.below b.updates.items) };
+        (are_compacted T.joined T.met b.description.since T.below b.columns) };
 }
 
 impl<T: Lattice> Batch<T> {
     // A batch of sealed updates. Takes no memory.
-    pub(crate) fn of(description: Description<T>, updates: Vec<Update<T>>) -> Batch<T>
-        requires sealed { IsSealed T.cmp updates.items }
-        requires still { IsEmptyIfStill (record { description = description; updates = updates.items }) }
+    pub(crate) fn of(description: Description<T>, columns: Columns<T>) -> Batch<T>
+        requires sealed { IsSealed T.cmp columns }
+        requires still { IsEmptyIfStill (record { description = description; updates = columns }) }
         requires compacted { IsTrue
-            (are_compacted T.joined T.met description.since T.below updates.items) }
-        ensures { result ≡ record { description = description; updates = updates.items } }
+            (are_compacted T.joined T.met description.since T.below columns) }
+        ensures { result ≡ record { description = description; updates = columns } }
     {
         Batch {
             description,
-            updates,
+            columns,
         }
     }
 
     // The updates, in order. Takes no memory.
-    pub(crate) fn updates(&self) -> &[Update<T>]
+    pub(crate) fn columns(&self) -> &Columns<T>
         ensures value { result.now ≡ self.now.updates }
         ensures sealed { IsSealed T.cmp self.now.updates }
     {
-        self.updates.as_slice()
+        &self.columns
+    }
+
+    /// The times of the updates, in order. Takes no memory.
+    pub fn times(&self) -> &[T]
+        ensures { result.now ≡ map (λ u. u.time) self.now.updates }
+    {
+        self.columns.times()
+    }
+
+    /// The differences of the updates, in order. Takes no memory.
+    pub fn diffs(&self) -> &[i64]
+        ensures { result.now ≡ map (λ u. u.diff) self.now.updates }
+    {
+        self.columns.diffs()
+    }
+
+    /// The places where a row begins that the update before does not have. The updates from one
+    /// place up to the next one have one row. Takes no memory.
+    pub fn starts(&self) -> &[usize]
+        ensures value { result.now ≡ row_starts self.now.updates }
+        ensures runs { AreRuns result.now self.now.updates }
+    {
+        self.columns.starts()
     }
 
     /// Tells the prover that each time is its own representative as of the since. Costs nothing.
@@ -85,7 +108,7 @@ impl<T: Lattice> Batch<T> {
 
     // The allocator of the batch. Takes no memory.
     pub(crate) fn allocator(&self) -> Global {
-        *self.updates.allocator()
+        self.description.allocator()
     }
 }
 
@@ -101,34 +124,42 @@ impl<T: Lattice> BatchReader for Batch<T> {
     }
 
     fn len(&self) -> usize {
-        self.updates.len()
+        self.columns.len()
     }
 
     fn row(&self, i: usize) -> Row {
-        self.updates[i].row.copy()
+        self.columns.row(i)
+    }
+
+    fn run_near(&self, i: usize, near: usize) -> usize {
+        self.columns.run_near(i, near)
+    }
+
+    fn row_near(&self, i: usize, near: usize) -> Row {
+        self.columns.row_near(i, near)
     }
 
     fn time(&self, i: usize) -> T {
-        self.updates[i].time
+        self.columns.time(i)
     }
 
     fn diff(&self, i: usize) -> i64 {
-        self.updates[i].diff
+        self.columns.diff(i)
     }
 
     fn key_range(&self, key: &[i64]) -> Range<usize> {
-        range_of(self.updates.as_slice(), key)
+        self.columns.range_of(key)
     }
 
     fn seek(&self, from: usize, key: &[i64]) -> usize {
-        first_from(self.updates.as_slice(), from, key)
+        self.columns.first_from(from, key)
     }
 
     fn seek_past(&self, from: usize, key: &[i64]) -> usize {
-        first_past(self.updates.as_slice(), from, key)
+        self.columns.first_past(from, key)
     }
 
     fn compare_key(&self, i: usize, key: &[i64]) -> Ordering {
-        compare_key(&self.updates[i].row, key)
+        self.columns.compare_key(i, key)
     }
 }

@@ -14,6 +14,7 @@ ghost use Rattle.batch.specs.Batches.{IsSealed};
 ghost use Rattle.batch.specs.Intervals.{all_between, is_interval_of, passed_updates, open_updates};
 
 use crate::passed::{drop_passed, is_interval_of_passed, passed_copies};
+use crate::plain::in_columns;
 use crate::seal::{known_times, sealed_list};
 use crate::{Batch, Description};
 use antichain::{Antichain, is_beyond};
@@ -86,11 +87,11 @@ impl<T: Minimum> Builder<T> {
     ///   update is not between them, even if another update cancels it.
     /// - Otherwise [`Refusal::Overflow`] if and only if the total of some row at some time is no
     ///   64-bit number.
-    /// - Otherwise [`Refusal::OutOfMemory`] only if memory for the frontiers was refused; the
-    ///   updates take none.
+    /// - Otherwise [`Refusal::OutOfMemory`] only if memory for the frontiers or for the columns of
+    ///   the batch was refused.
     ///
-    /// Cost: n log n comparisons in the number of updates, for two sorts in place, and one
-    /// comparison of each update with each element of the frontiers.
+    /// Cost: n log n comparisons in the number of updates, for one sort in place, one comparison of
+    /// each update with each element of the frontiers, and a copy of what is left.
     pub fn seal(self, lower: &Antichain<T>, upper: &Antichain<T>) -> Result<Batch<T>, Refusal>
         ensures described { IfOk result (λ batch. batch.description ≡ record {
           worker = self.worker;
@@ -130,7 +131,8 @@ impl<T: Minimum> Builder<T> {
         let sealed = sealed_list(updates)?;
         known_times(sealed.as_slice());
         let description = unmoved(alloc, worker, node, lower, upper)?;
-        Ok(Batch::of(description, sealed))
+        let columns = in_columns(alloc, sealed.as_slice())?;
+        Ok(Batch::of(description, columns))
     }
 
     /// Seals the updates whose times `upper` has passed, and keeps the others in their order. So a
@@ -142,11 +144,11 @@ impl<T: Minimum> Builder<T> {
     ///   update is not beyond `lower`, even if another update cancels it.
     /// - Otherwise [`Refusal::Overflow`] only if the total of some row at some time over the passed
     ///   updates is no 64-bit number, and no batch is given in that case.
-    /// - Otherwise [`Refusal::OutOfMemory`] only if memory for copies of the passed updates or for
-    ///   the frontiers was refused. The copies are made before totals are computed, so this may
-    ///   come in place of an overflow.
+    /// - Otherwise [`Refusal::OutOfMemory`] only if memory for copies of the passed updates, for
+    ///   the frontiers or for the columns of the batch was refused. The copies are made before
+    ///   totals are computed, so this may come in place of an overflow.
     ///
-    /// Cost: n log n comparisons in the number of passed updates, for two sorts of their copies,
+    /// Cost: n log n comparisons in the number of passed updates, for one sort of their copies,
     /// and a constant number of comparisons of each update of the builder with each element of the
     /// frontiers.
     pub fn seal_passed(

@@ -130,6 +130,11 @@ impl<T: Lattice> Description<T> {
         self.names() == next.names() && are_same(self.upper(), next.lower())
     }
 
+    // The allocator of the frontiers. Takes no memory.
+    pub(crate) fn allocator(&self) -> Global {
+        *self.lower.allocator()
+    }
+
     // The worker and the node.
     fn names(&self) -> (usize, usize)
         ensures worker { result.0 ≡ self.now.worker }

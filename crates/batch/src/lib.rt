@@ -7,7 +7,8 @@
 //!
 //! The one invariant is the order: by row, then by time, with one update for each row and time, and
 //! none with difference 0. Rows come first, so that the updates of a key are neighbours, whatever
-//! the width of the key. [`BatchReader::key_range`] finds them by two binary searches.
+//! the width of the key. Each row is stored once, however many updates it has
+//! ([`columns::Columns`]). [`BatchReader::key_range`] finds those of a key by two binary searches.
 //! [`BatchReader::seek`] and [`BatchReader::seek_past`] gallop from one key to the next, so that a
 //! join can go through two batches side by side and skip what the other does not have. A list of
 //! updates that travels is sorted by time first. A batch is not, since its readers do not ask what
@@ -29,15 +30,15 @@
 
 mod batch;
 mod builder;
+mod changes;
 mod description;
-mod keys;
 mod laws;
 mod merged_rows;
 mod merging;
 mod passed;
+mod plain;
 mod reader;
 mod seal;
-mod seeking;
 mod whole_merge;
 
 pub use batch::Batch;

@@ -18,50 +18,52 @@ ghost use Rattle.batch.specs.Descriptions.{Follows};
 ghost use Rattle.batch.specs.Merging.{IsUnderway, IsRead, is_left_next};
 
 use crate::merged_rows::MergedRows;
+use crate::plain::known_length;
 use crate::{Batch, BatchReader, Description};
+use columns::Columns;
 use lattice::Lattice;
 use std::alloc::Global;
 use std::marker::Model;
-use update::{Refusal, Update};
+use update::Refusal;
 
 /// A merge of two neighbouring batches that is under way, or the rewriting of one batch. A contract
 /// sees the description of the batch to come, the updates that are written, and how many of each
 /// source were read.
 ///
-/// Cost: memory for the updates of both sources is allocated when the merge begins.
+/// Cost: memory for the times and the differences of both sources is allocated when the merge
+/// begins, and memory for the rows as they are written.
 #[derive(Drop)]
 pub struct Merging<T: Lattice> {
     description: Description<T>,
     rows: MergedRows<T>,
     left: usize,
     right: usize,
+    // the runs of the next updates, so that no step searches for them
+    left_run: usize,
+    right_run: usize,
 }
 
 impl<T: Lattice> Model for Merging<T> {
+    ghost use Rattle.batch.specs.Changes.{with_row};
     ghost use Rattle.batch.specs.Merging.{MergingState};
 
     ghost Value = { MergingState T };
 
     ghost view = { λ m. record {
       description = m.description;
-      finished = m.rows.finished.items;
-      in_hand = m.rows.in_hand.items;
+      finished = m.rows.finished;
+      in_hand = with_row m.rows.row m.rows.in_hand.items;
       left = m.left;
       right = m.right;
     } };
 }
 
-// Whether the next update is that of the left list. In this order the updates of a row come sorted
-// as long as no time is moved, so that sorting them costs one comparison each.
-fn is_left_next<T: Lattice>(xs: &[Update<T>], ys: &[Update<T>]) -> bool
-    ensures { result ≡ is_left_next T.cmp xs.now ys.now }
-{
-    match xs {
-        [] => false,
-        [x, ..] => match ys {
-            [] => true,
-            [y, ..] => x.row.cmp(&y.row).then(x.time.cmp(&y.time)).is_le(),
-        },
+// The run of the update at a place, if there is one. That of the update before is near.
+fn run_of_next<T: Lattice>(columns: &Columns<T>, place: usize, near: usize) -> usize {
+    if place < columns.len() {
+        columns.run_near(place, near)
+    } else {
+        near
     }
 }
 
@@ -69,8 +71,8 @@ fn is_left_next<T: Lattice>(xs: &[Update<T>], ys: &[Update<T>]) -> bool
 fn begun<T: Lattice>(
     alloc: Global,
     description: Description<T>,
-    us: &[Update<T>],
-    vs: &[Update<T>],
+    us: &Columns<T>,
+    vs: &Columns<T>,
 ) -> Result<Merging<T>, Refusal>
     requires left { IsSealed T.cmp us.now }
     requires right { IsSealed T.cmp vs.now }
@@ -87,6 +89,8 @@ fn begun<T: Lattice>(
         rows,
         left: 0,
         right: 0,
+        left_run: 0,
+        right_run: 0,
     })
 }
 
@@ -118,7 +122,7 @@ impl<T: Lattice> Merging<T> {
     {
         let alloc = a.allocator();
         let description = a.description().followed_by(alloc, b.description(), since)?;
-        begun(alloc, description, a.updates(), b.updates())
+        begun(alloc, description, a.columns(), b.columns())
     }
 
     /// Begins to rewrite one batch as of a frontier. Nothing is read yet. [`Refusal::OutOfMemory`]
@@ -134,7 +138,8 @@ impl<T: Lattice> Merging<T> {
     {
         let alloc = a.allocator();
         let description = a.description().as_of(alloc, since)?;
-        begun(alloc, description, a.updates(), &a.updates()[..0])
+        let none = Columns::new(alloc);
+        begun(alloc, description, a.columns(), &none)
     }
 
     /// Reads as many more updates as the fuel says, or all that are left, and answers what is left
@@ -144,10 +149,11 @@ impl<T: Lattice> Merging<T> {
     ///
     /// - [`Refusal::Overflow`] only if the total of some row at some moved time is no 64-bit
     ///   number.
-    /// - [`Refusal::OutOfMemory`] only if memory for the updates of one row was refused.
+    /// - [`Refusal::OutOfMemory`] only if memory for what it writes was refused.
     ///
     /// Cost: for each update one comparison of rows, and a join and a meet for each element of the
-    /// frontier; for each row that is finished n log n comparisons of times, or n if no time moved.
+    /// frontier; for each row that is finished n log n comparisons of times, or n if they are still
+    /// in order.
     pub fn step(self, a: &Batch<T>, b: &Batch<T>, fuel: u64) -> Result<(Merging<T>, u64), Refusal>
         requires { IsUnderway T.below T.cmp T.joined T.met a.now.updates b.now.updates self }
         ensures kept { IfOk result (λ new.
@@ -162,7 +168,7 @@ impl<T: Lattice> Merging<T> {
             (compacted T.joined T.met self.description.since (a.now.updates ++ b.now.updates)))) }
     {
         let mut merging = self;
-        let left = merging.go_on(a.updates(), b.updates(), fuel)?;
+        let left = merging.go_on(a.columns(), b.columns(), fuel)?;
         Ok((merging, left))
     }
 
@@ -180,7 +186,8 @@ impl<T: Lattice> Merging<T> {
             (compacted T.joined T.met self.description.since (a.now.updates ++ [])))) }
     {
         let mut merging = self;
-        let left = merging.go_on(a.updates(), &a.updates()[..0], fuel)?;
+        let none = Columns::new(a.allocator());
+        let left = merging.go_on(a.columns(), &none, fuel)?;
         Ok((merging, left))
     }
 
@@ -196,14 +203,14 @@ impl<T: Lattice> Merging<T> {
     pub fn is_read(&self, a: &Batch<T>, b: &Batch<T>) -> bool
         ensures { IsTrue result ↔ IsRead a.now.updates b.now.updates self.now }
     {
-        self.has_read(a.updates(), b.updates())
+        self.has_read(a.columns(), b.columns())
     }
 
     /// Whether all of the batch was read that is rewritten. Takes no memory.
     pub fn is_one_read(&self, a: &Batch<T>) -> bool
         ensures { IsTrue result ↔ IsRead a.now.updates [] self.now }
     {
-        self.has_read(a.updates(), &a.updates()[..0])
+        self.has_read(a.columns(), &Columns::new(a.allocator()))
     }
 
     /// The merged batch, once all of both batches was read: the only sealed list with the totals of
@@ -214,7 +221,8 @@ impl<T: Lattice> Merging<T> {
     ///   number, and no batch is given in that case.
     /// - [`Refusal::OutOfMemory`] only if memory for the last row was refused.
     ///
-    /// Cost: sorts the last row. A list that is a quarter full is moved to a smaller place.
+    /// Cost: sorts the last row. A list that is no more than a quarter full is moved to a smaller
+    /// place.
     pub fn finish(self, a: &Batch<T>, b: &Batch<T>) -> Result<Batch<T>, Refusal>
         requires underway { IsUnderway T.below T.cmp T.joined T.met
             a.now.updates b.now.updates self }
@@ -227,7 +235,7 @@ impl<T: Lattice> Merging<T> {
         ensures refused { IfErr result (IsMemoryOrOverflow (HasLargeTotal T.below
             (compacted T.joined T.met self.description.since (a.now.updates ++ b.now.updates)))) }
     {
-        self.whole(a.updates(), b.updates())
+        self.whole(a.columns(), b.columns())
     }
 
     /// The rewritten batch, as [`finish`](Merging::finish).
@@ -242,18 +250,35 @@ impl<T: Lattice> Merging<T> {
         ensures refused { IfErr result (IsMemoryOrOverflow (HasLargeTotal T.below
             (compacted T.joined T.met self.description.since (a.now.updates ++ [])))) }
     {
-        self.whole(a.updates(), &a.updates()[..0])
+        self.whole(a.columns(), &Columns::new(a.allocator()))
     }
 
     // Whether all of both lists was read.
-    fn has_read(&self, us: &[Update<T>], vs: &[Update<T>]) -> bool
+    fn has_read(&self, us: &Columns<T>, vs: &Columns<T>) -> bool
         ensures { IsTrue result ↔ IsRead us.now vs.now self.now }
     {
         self.left == us.len() && self.right == vs.len()
     }
 
+    // Whether the next update is that of the left list. In this order the updates of a row come
+    // sorted as long as no time is moved, so that they need no sort.
+    fn is_left_next(&self, us: &Columns<T>, vs: &Columns<T>) -> bool
+        ensures { result
+            ≡ is_left_next T.cmp (drop self.now.left us.now) (drop self.now.right vs.now) }
+    {
+        if self.left >= us.len() {
+            return false;
+        }
+        if self.right >= vs.len() {
+            return true;
+        }
+        let rows = us.compare_rows(self.left, self.left_run, vs, self.right, self.right_run);
+        let times = us.time(self.left).cmp(&vs.time(self.right));
+        rows.then(times).is_le()
+    }
+
     // Takes in the next update of the left list.
-    fn take_left(&mut self, us: &[Update<T>], vs: &[Update<T>]) -> Result<(), Refusal>
+    fn take_left(&mut self, us: &Columns<T>, vs: &Columns<T>) -> Result<(), Refusal>
         requires underway { IsUnderway T.below T.cmp T.joined T.met us.now vs.now self.old }
         requires within { self.old.left < length us.now }
         requires next { is_left_next T.cmp (drop self.old.left us.now)
@@ -266,13 +291,16 @@ impl<T: Lattice> Merging<T> {
         ensures refused { IfErr result (IsMemoryOrOverflow (HasLargeTotal T.below
             (compacted T.joined T.met self.old.description.since (us.now ++ vs.now)))) }
     {
-        self.rows.take_in(&us[self.left], self.description.since())?;
+        self.rows
+            .take_in(us, self.left, self.left_run, self.description.since())?;
+        known_length(us);
         self.left += 1;
+        self.left_run = run_of_next(us, self.left, self.left_run);
         Ok(())
     }
 
     // Takes in the next update of the right list.
-    fn take_right(&mut self, us: &[Update<T>], vs: &[Update<T>]) -> Result<(), Refusal>
+    fn take_right(&mut self, us: &Columns<T>, vs: &Columns<T>) -> Result<(), Refusal>
         requires underway { IsUnderway T.below T.cmp T.joined T.met us.now vs.now self.old }
         requires within { self.old.right < length vs.now }
         requires next { is_left_next T.cmp (drop self.old.left us.now)
@@ -286,13 +314,15 @@ impl<T: Lattice> Merging<T> {
             (compacted T.joined T.met self.old.description.since (us.now ++ vs.now)))) }
     {
         self.rows
-            .take_in(&vs[self.right], self.description.since())?;
+            .take_in(vs, self.right, self.right_run, self.description.since())?;
+        known_length(vs);
         self.right += 1;
+        self.right_run = run_of_next(vs, self.right, self.right_run);
         Ok(())
     }
 
     // Takes in the next update of the list that has it.
-    fn take_next(&mut self, us: &[Update<T>], vs: &[Update<T>]) -> Result<(), Refusal>
+    fn take_next(&mut self, us: &Columns<T>, vs: &Columns<T>) -> Result<(), Refusal>
         requires underway { IsUnderway T.below T.cmp T.joined T.met us.now vs.now self.old }
         requires more { IsRead us.now vs.now self.old → ⊥ }
         ensures kept { OnOk result
@@ -303,7 +333,7 @@ impl<T: Lattice> Merging<T> {
         ensures refused { IfErr result (IsMemoryOrOverflow (HasLargeTotal T.below
             (compacted T.joined T.met self.old.description.since (us.now ++ vs.now)))) }
     {
-        if is_left_next(&us[self.left..], &vs[self.right..]) {
+        if self.is_left_next(us, vs) {
             self.take_left(us, vs)
         } else {
             self.take_right(us, vs)
@@ -311,7 +341,7 @@ impl<T: Lattice> Merging<T> {
     }
 
     // Goes on until the fuel is spent or all of both lists was read. Answers what is left of it.
-    fn go_on(&mut self, us: &[Update<T>], vs: &[Update<T>], fuel: u64) -> Result<u64, Refusal>
+    fn go_on(&mut self, us: &Columns<T>, vs: &Columns<T>, fuel: u64) -> Result<u64, Refusal>
         requires { IsUnderway T.below T.cmp T.joined T.met us.now vs.now self.old }
         ensures kept { OnOk result
             (IsUnderway T.below T.cmp T.joined T.met us.now vs.now self.new) }
@@ -332,7 +362,7 @@ impl<T: Lattice> Merging<T> {
     }
 
     // Goes on until all of both lists was read.
-    pub(crate) fn read_all(&mut self, us: &[Update<T>], vs: &[Update<T>]) -> Result<(), Refusal>
+    pub(crate) fn read_all(&mut self, us: &Columns<T>, vs: &Columns<T>) -> Result<(), Refusal>
         requires { IsUnderway T.below T.cmp T.joined T.met us.now vs.now self.old }
         ensures kept { OnOk result
             (IsUnderway T.below T.cmp T.joined T.met us.now vs.now self.new) }
@@ -348,7 +378,7 @@ impl<T: Lattice> Merging<T> {
     }
 
     // The batch of a merge that has read all of both lists.
-    fn whole(self, us: &[Update<T>], vs: &[Update<T>]) -> Result<Batch<T>, Refusal>
+    fn whole(self, us: &Columns<T>, vs: &Columns<T>) -> Result<Batch<T>, Refusal>
         requires underway { IsUnderway T.below T.cmp T.joined T.met us.now vs.now self }
         requires read { IsRead us.now vs.now self }
         ensures described { IfOk result (λ batch. batch.description ≡ self.description) }
@@ -365,6 +395,6 @@ impl<T: Lattice> Merging<T> {
             ..
         } = self;
         rows.finish_row()?;
-        Ok(Batch::of(description, rows.into_updates()))
+        Ok(Batch::of(description, rows.into_columns()))
     }
 }

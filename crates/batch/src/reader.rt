@@ -2,6 +2,7 @@
 //! [`Batch`](crate::Batch), so that the layout of updates can change without them.
 ghost use Rattle.std.specs.Prelude.{◌≡◌, ◌<◌, ◌≤◌, List, [], length, take, drop, slice_get, slice_range, IsSomeAnd};
 ghost use Rattle.std.specs.List.{filter};
+ghost use Rattle.columns.specs.Runs.{run_number, row_starts};
 ghost use Rattle.batch.specs.Batches.{IsSealed, begins_with, at_key, AllBefore, NoneBefore, AllAfter, NoneAfter};
 
 use crate::Description;
@@ -40,6 +41,23 @@ pub trait BatchReader {
         requires { i < length (content self.now) }
         ensures { IsSomeAnd (slice_get (content self.now) i) (λ u. result ≡ u.row) };
 
+    /// The number of the run of update `i`, counted from 0: the updates of one row are a run. Takes
+    /// no memory.
+    ///
+    /// Cost: constant if that is `near` or the number behind it, else a binary search of the runs.
+    /// Any `near` is right. So a reader that goes on from update to update gives the number that it
+    /// was given last, and pays for no search.
+    fn run_near(&self, i: usize, near: usize) -> usize
+        requires { i < length (content self.now) }
+        ensures { result ≡ run_number (row_starts (content self.now)) i };
+
+    /// The row of update `i`, as `row`. Takes no memory.
+    ///
+    /// Cost: as for `run_near`, and one step for each column.
+    fn row_near(&self, i: usize, near: usize) -> Row
+        requires { i < length (content self.now) }
+        ensures { IsSomeAnd (slice_get (content self.now) i) (λ u. result ≡ u.row) };
+
     /// The time of update `i`, counted from 0. Takes no memory.
     fn time(&self, i: usize) -> Self::Time
         requires { i < length (content self.now) }
@@ -54,7 +72,7 @@ pub trait BatchReader {
     /// are none, the range is empty and lies between the rows before the key and those after it.
     /// Takes no memory.
     ///
-    /// Cost: two binary searches over the whole batch.
+    /// Cost: two binary searches over the rows of the whole batch.
     fn key_range(&self, key: &[i64]) -> Range<usize>
         ensures ordered { result.start ≤ result.end }
         ensures within { result.end ≤ length (content self.now) }
@@ -66,9 +84,10 @@ pub trait BatchReader {
     /// The first update from `from` on whose row is not before the key; the length if there is
     /// none. Takes no memory.
     ///
-    /// Cost: a number of comparisons that is logarithmic in the distance from `from` to the result.
-    /// So a reader that seeks sorted keys, each from where the last one was found, pays for the
-    /// distances and not for the batch.
+    /// Cost: a search for the row of `from` in the list of the places where rows begin, and a
+    /// number of comparisons of rows that is logarithmic in the number of rows from there to the
+    /// result. So a reader that seeks sorted keys, each from where the last one was found, compares
+    /// few rows.
     fn seek(&self, from: usize, key: &[i64]) -> usize
         requires { from ≤ length (content self.now) }
         ensures ordered { from ≤ result }
@@ -88,7 +107,7 @@ pub trait BatchReader {
         ensures rest { AllAfter key.now (drop result (content self.now)) };
 
     /// How the row of update `i` compares with the rows of the key: it comes before them, is one of
-    /// them, or comes after them. Takes no memory, and copies no row.
+    /// them, or comes after them. Takes no memory, and makes no row.
     fn compare_key(&self, i: usize, key: &[i64]) -> Ordering
         requires { i < length (content self.now) }
         ensures { IsSomeAnd (slice_get (content self.now) i) (λ u. result ≡ at_key key.now u) };

@@ -30,10 +30,10 @@ use update::Refusal;
 ///   64-bit number, and no batch is given in that case.
 /// - [`Refusal::OutOfMemory`] only if memory for the new batch was refused.
 ///
-/// Cost: each update is read and copied once, after one comparison of rows and a join and a meet
+/// Cost: each update is read and copied once, after one comparison of rows, and a join and a meet
 /// for each element of `since`. Sorting the moved times of a row costs n log n comparisons, or n if
-/// none moved. Memory for the updates of both is allocated at once. To go on from call to call, use
-/// [`Merging`].
+/// they are still in order. Memory for the times and the differences of both is allocated at once.
+/// To go on from call to call, use [`Merging`].
 pub fn merge<T: Lattice>(a: &Batch<T>, b: &Batch<T>, since: &[T]) -> Result<Batch<T>, Refusal>
     requires { IsFrontier T.below T.cmp since.now }
     ensures described { IfOk result (λ both. both.description ≡ record {
@@ -65,7 +65,7 @@ pub fn merge<T: Lattice>(a: &Batch<T>, b: &Batch<T>, since: &[T]) -> Result<Batc
         (compacted T.joined T.met since.now (a.now.updates ++ b.now.updates))))) }
 {
     let mut merging = Merging::of_two(a, b, since)?;
-    merging.read_all(a.updates(), b.updates())?;
+    merging.read_all(a.columns(), b.columns())?;
     let both = merging.finish(a, b)?;
     Ok(both)
 }

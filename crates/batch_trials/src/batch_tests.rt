@@ -187,3 +187,31 @@ fn readers_go_on_from_where_they_stand(rt: HostRuntime) -> Result<(), Fail> {
     assert!(rt; batch.compare_key(3, &[8]).is_gt());
     Ok(())
 }
+
+// What stands in one list of a batch stands beside what stands at the same place of another. A row is the
+// same whatever run is named as near.
+#[test]
+fn lists_of_a_batch_fit_one_another(rt: HostRuntime) -> Result<(), Fail> {
+    let pushed = list(
+        rt.alloc(),
+        &[
+            ((1, 0), &[7, 1], -3),
+            ((0, 0), &[8], 4),
+            ((2, 5), &[7, 2], 1),
+            ((0, 0), &[7, 1], 2),
+        ],
+    )?;
+    let batch = sealed(rt.alloc(), (0, 0), (6, 6), &pushed)?;
+    let times = [at((0, 0)), at((1, 0)), at((2, 5)), at((0, 0))];
+    assert!(rt; batch.times() == times.as_slice());
+    assert!(rt; batch.diffs() == [2i64, -3, 1, 4].as_slice());
+    assert!(rt; batch.starts() == [0usize, 2, 3].as_slice());
+    for near in 0..5usize {
+        assert!(rt; batch.len() == 4);
+        assert_eq!(rt; batch.run_near(1, near), 0);
+        assert_eq!(rt; batch.run_near(2, near), 1);
+        assert_eq!(rt; batch.row_near(1, near).columns(), [7i64, 1].as_slice());
+        assert_eq!(rt; batch.row_near(3, near).columns(), [8i64].as_slice());
+    }
+    Ok(())
+}

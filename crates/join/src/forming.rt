@@ -113,14 +113,14 @@ fn formed_pair<T: Lattice>(
     }
 }
 
-// A copy of update `i` of a batch.
-fn update_at<B: BatchReader>(batch: &B, i: usize) -> Update<B::Time>
+// A copy of update `i` of a batch. The number of its run is near.
+fn update_at<B: BatchReader>(batch: &B, i: usize, near: usize) -> Update<B::Time>
     requires { i < length (B.content batch.now) }
     ensures { IsSomeAnd (slice_get (B.content batch.now) i) (λ u. result ≡ u) }
 {
     Update {
         time: batch.time(i),
-        row: batch.row(i),
+        row: batch.row_near(i, near),
         diff: batch.diff(i),
     }
 }
@@ -165,7 +165,7 @@ fn push_or_add<T: Lattice>(updates: &mut Vec<Update<T>>, pair: Update<T>) -> Res
     Ok(())
 }
 
-// Lists the pair of an update with update `i` of a batch.
+// Lists the pair of an update with update `i` of a batch, the number of whose run is near.
 fn push_pair<B: BatchReader>(
     formed: &mut Vec<Update<B::Time>>,
     side: Side,
@@ -173,6 +173,7 @@ fn push_pair<B: BatchReader>(
     u: &Update<B::Time>,
     inner: &B,
     i: usize,
+    near: usize,
 ) -> Result<(), Refusal>
     requires own { k ≤ length u.now.row }
     requires within { i < length (B.content inner.now) }
@@ -186,7 +187,7 @@ fn push_pair<B: BatchReader>(
         (IsSomeAnd (slice_get (B.content inner.now) i)
         (λ v. FitsSigned w64 (formed_pair side B.Time.joined k u.now v).diff → ⊥))) }
 {
-    let v = update_at(inner, i);
+    let v = update_at(inner, i, near);
     let pair = formed_pair(side, k, u, &v)?;
     push_or_add(formed, pair)
 }
@@ -214,16 +215,20 @@ fn push_pairs<B: BatchReader>(
         (HasLargeDiff (map (formed_pair side B.Time.joined k u.now)
         (slice_range (B.content inner.now) run.start run.end)))) }
 {
+    let mut near = 0;
     for i in run.start..run.end {
-        push_pair(formed, side, k, u, inner, i)?;
+        near = inner.run_near(i, near);
+        push_pair(formed, side, k, u, inner, i, near)?;
     }
     Ok(())
 }
 
-// Where the next key is sought: a place in the batch, and one in a batch of the other side.
+// Where the next key is sought: a place in the batch, and one in a batch of the other side. The run
+// that was read last is kept too, since the next key mostly begins with the next run.
 #[derive(Clone, Copy, Drop)]
 struct Places {
     batch: usize,
+    run: usize,
     other: usize,
 }
 
@@ -302,8 +307,10 @@ impl<T: Lattice> Formed<T> {
             (slice_range (B.content outer.now) run.start run.end)
             (slice_range (C.content inner.now) found.start found.end)))) }
     {
+        let mut near = 0;
         for i in run.start..run.end {
-            let u = update_at(outer, i);
+            near = outer.run_near(i, near);
+            let u = update_at(outer, i, near);
             push_pairs(
                 &mut self.updates,
                 side,
@@ -394,7 +401,8 @@ impl<T: Lattice> Formed<T> {
             self.old.updates.items (formed_all side T.joined k
             (drop at.batch (B.content batch.now)) (C.content other.now)))) }
     {
-        let u = update_at(batch, at.batch);
+        let run = batch.run_near(at.batch, at.run);
+        let u = update_at(batch, at.batch, run);
         let key = u.row.key(k);
         let next = batch.seek_past(at.batch, key);
         let start = other.seek(at.other, key);
@@ -402,6 +410,7 @@ impl<T: Lattice> Formed<T> {
         self.pair_found(side, k, batch, at.batch..next, other, start..end)?;
         Ok(Places {
             batch: next,
+            run,
             other: start,
         })
     }
@@ -428,7 +437,11 @@ impl<T: Lattice> Formed<T> {
             (formed_all side T.joined k (B.content batch.now) (C.content other.now)))) }
     {
         let end = batch.len();
-        let mut at = Places { batch: 0, other: 0 };
+        let mut at = Places {
+            batch: 0,
+            run: 0,
+            other: 0,
+        };
         while at.batch < end {
             at = self.pair_key(side, k, batch, other, at)?;
         }

@@ -11,14 +11,14 @@ use lattice::{Lattice, Minimum};
 use std::alloc::Global;
 use update::{Refusal, Update};
 
-// A copy of update `i` of a batch.
-fn update_at<T: Lattice>(batch: &Batch<T>, i: usize) -> Update<T>
+// A copy of update `i` of a batch. The number of its run is near.
+fn update_at<T: Lattice>(batch: &Batch<T>, i: usize, near: usize) -> Update<T>
     requires { i < length batch.now.updates }
     ensures { IsSomeAnd (slice_get batch.now.updates i) (λ u. result ≡ u) }
 {
     Update {
         time: batch.time(i),
-        row: batch.row(i),
+        row: batch.row_near(i, near),
         diff: batch.diff(i),
     }
 }
@@ -31,8 +31,10 @@ pub fn updates_of<T: Lattice>(alloc: Global, batch: &Batch<T>) -> Result<Vec<Upd
     ensures refused { IfErr result (λ refusal. refusal ≡ OutOfMemory) }
 {
     let mut updates = Vec::new(alloc);
+    let mut run = 0;
     for i in 0..batch.len() {
-        updates.push(update_at(batch, i))?;
+        run = batch.run_near(i, run);
+        updates.push(update_at(batch, i, run))?;
     }
     Ok(updates)
 }

@@ -15,27 +15,33 @@ use std::alloc::Global;
 use std::ops::Range;
 use update::{Refusal, Update};
 
-// The row of update `i` of a batch, or the key in its place.
-fn row_seen<B: BatchReader>(batch: &B, i: usize, key: &Row, sees_rows: bool) -> Row
+// The row of update `i` of a batch, or the key in its place. The number of its run is near.
+fn row_seen<B: BatchReader>(batch: &B, i: usize, near: usize, key: &Row, sees_rows: bool) -> Row
     requires { i < length (B.content batch.now) }
     ensures { IsSomeAnd (slice_get (B.content batch.now) i)
         (λ u. result ≡ if sees_rows then u.row else key.now) }
 {
     if sees_rows {
-        return batch.row(i);
+        return batch.row_near(i, near);
     }
     key.copy()
 }
 
 // A copy of update `i` of a batch, with the key in the place of its row if rows are not seen.
-fn update_at<B: BatchReader>(batch: &B, i: usize, key: &Row, sees_rows: bool) -> Update<B::Time>
+fn update_at<B: BatchReader>(
+    batch: &B,
+    i: usize,
+    near: usize,
+    key: &Row,
+    sees_rows: bool,
+) -> Update<B::Time>
     requires { i < length (B.content batch.now) }
     ensures { IsSomeAnd (slice_get (B.content batch.now) i)
         (λ u. result ≡ as_seen sees_rows key.now u) }
 {
     Update {
         time: batch.time(i),
-        row: row_seen(batch, i, key, sees_rows),
+        row: row_seen(batch, i, near, key, sees_rows),
         diff: batch.diff(i),
     }
 }
@@ -54,8 +60,10 @@ fn read_range<B: BatchReader>(
         (slice_range (B.content batch.now) range.start range.end)) }
     ensures only { IfErr result (λ refused. refused ≡ Refusal.OutOfMemory) }
 {
+    let mut run = 0;
     for i in range.start..range.end {
-        rows.push(update_at(batch, i, key, sees_rows))?;
+        run = batch.run_near(i, run);
+        rows.push(update_at(batch, i, run, key, sees_rows))?;
     }
     Ok(())
 }

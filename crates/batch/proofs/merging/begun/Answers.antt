@@ -1,4 +1,5 @@
 use Rattle.std.proofs.Common.{[], sym, subst, arith}
+use Rattle.batch.specs.Changes.{with_row}
 use Rattle.batch.specs.Merging.{IsMerging}
 use Rattle.batch.proofs.MergingLemmas.{merging_begins}
 use Rattle.batch.proofs.merging.begun.Goals as goal
@@ -16,7 +17,7 @@ returns-clause-underway g c =
       left = omega arith;
       right = omega arith;
       still = c.requires.still;
-      merging = subst (λ ws. IsMerging below cmp joined met since us vs ws c.in_ok-rows.rows.in_hand.items us vs) (sym c.in_ok-rows.ensures.finished)
-          (subst (λ ws. IsMerging below cmp joined met since us vs [] ws us vs) (sym c.in_ok-rows.ensures.in_hand)
+      merging = subst (λ ws. IsMerging below cmp joined met since us vs ws (with_row c.in_ok-rows.rows.row c.in_ok-rows.rows.in_hand.items) us vs) (sym c.in_ok-rows.ensures.finished)
+          (subst (λ cs. IsMerging below cmp joined met since us vs [] (with_row c.in_ok-rows.rows.row cs) us vs) (sym c.in_ok-rows.ensures.in_hand)
           (merging_begins below cmp joined met since us vs c.requires.left.ascending c.requires.right.ascending));
     }

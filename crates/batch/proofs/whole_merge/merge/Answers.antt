@@ -13,7 +13,7 @@ returns-in_err-read_all-clause-refused g c =
     let all = c.args.a.now.updates ++ c.args.b.now.updates in
     rw p.1 (⊎_elim
     (λ d. inl (p.2 ∙ d))
-    (λ r. inr (inr (p.2 ∙ r.0, subst (λ s. HasLargeTotal g.T.PartialOrder.below (compacted g.T.Lattice.joined g.T.Lattice.met s all)) since (rw (← c.updates.ensures.value, ← c.updates-2.ensures.value) r.1))))
+    (λ r. inr (inr (p.2 ∙ r.0, subst (λ s. HasLargeTotal g.T.PartialOrder.below (compacted g.T.Lattice.joined g.T.Lattice.met s all)) since (rw (← c.columns.ensures.value, ← c.columns-2.ensures.value) r.1))))
     c.in_err-read_all.ensures.refused)
 
 pub returns-in_err-both-clause-refused : goal.returns-in_err-both-clause-refused

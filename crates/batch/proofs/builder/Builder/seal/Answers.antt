@@ -12,8 +12,12 @@ use Rattle.batch.proofs.builder.Builder.seal.Given.{Over}
 use Rattle.batch.proofs.builder.Builder.seal.Goals as goal
 
 -- the updates lie between the frontiers
-whole : (g : Over) (c : goal.After-of g) → IsTrue (is_interval_of g.T.PartialOrder.below c.args.lower.now c.args.upper.now c.self.inside.updates.items)
+whole : (g : Over) (c : goal.After-drop-sealed-2 g) → IsTrue (is_interval_of g.T.PartialOrder.below c.args.lower.now c.args.upper.now c.self.inside.updates.items)
 whole g c = search rules
+
+-- the columns of the batch have the sealed updates
+made : (g : Over) (c : goal.After-drop-sealed-2 g) → c.in_ok-columns.columns ≡ c.in_ok-sealed.sealed.items
+made g c = c.in_ok-columns.ensures.made ∙ c.as_slice-2.ensures.value
 
 pub returns-in_err-sealed-clause-overflow : goal.returns-in_err-sealed-clause-overflow
 returns-in_err-sealed-clause-overflow g c =
@@ -25,6 +29,12 @@ returns-in_err-description-clause-overflow g c =
     let only : c.in_err-description.field-0.0 ≡ OutOfMemory = c.in_err-description.ensures.only in
     rw (p.1, ← c.self.view_is) ((λ e. absurd (cc (p.2, only, e))), (λ h. absurd (true≢false (sym (c.in_ok-sealed.ensures.overflow.1 h.1)))))
 
+pub returns-in_err-columns-clause-overflow : goal.returns-in_err-columns-clause-overflow
+returns-in_err-columns-clause-overflow g c =
+    let p = err_from_is_err_and c.from_residual-in_err-columns.result c.from_residual-in_err-columns.ensures.1 in
+    let only : c.in_err-columns.field-0.0 ≡ OutOfMemory = c.in_err-columns.ensures.only in
+    rw (p.1, ← c.self.view_is) ((λ e. absurd (cc (p.2, only, e))), (λ h. absurd (true≢false (sym (c.in_ok-sealed.ensures.overflow.1 h.1)))))
+
 pub of-requires-clause-still : goal.of-requires-clause-still
 of-requires-clause-still g c e =
     let below = g.T.PartialOrder.below in
@@ -33,20 +43,20 @@ of-requires-clause-still g c e =
     let made = c.in_ok-description.ensures.made in
     let same = sym (ap (λ d. d.lower) made) ∙ e ∙ ap (λ d. d.upper) made in
     let inside : IsTrue (is_interval_of below lower upper c.self.inside.updates.items) = search rules in
-    nothing_between below lower upper same _ (c.in_ok-sealed.ensures.among (λ _ t. is_between below lower upper t) (and_parts _ _ inside).1)
+    c.in_ok-columns.ensures.made ∙ c.as_slice-2.ensures.value ∙ nothing_between below lower upper same _ (c.in_ok-sealed.ensures.among (λ _ t. is_between below lower upper t) (and_parts _ _ inside).1)
 
 pub returns-clause-between : goal.returns-clause-between
 returns-clause-between g c =
     let below = g.T.PartialOrder.below in
     let lower = c.args.lower.now in
     let upper = c.args.upper.now in
-    rw c.of.ensures (c.in_ok-sealed.ensures.among (λ _ t. is_between below lower upper t) (and_parts _ _ (whole g c)).1)
+    rw (c.of.ensures, made g c) (c.in_ok-sealed.ensures.among (λ _ t. is_between below lower upper t) (and_parts _ _ (whole g c)).1)
 
 pub returns-clause-totals : goal.returns-clause-totals
-returns-clause-totals g c p = rw (c.of.ensures, ← c.self.view_is) (c.in_ok-sealed.ensures.totals p)
+returns-clause-totals g c p = rw (c.of.ensures, made g c, ← c.self.view_is) (c.in_ok-sealed.ensures.totals p)
 
 pub returns-clause-among : goal.returns-clause-among
-returns-clause-among g c p = rw (c.of.ensures, ← c.self.view_is) (c.in_ok-sealed.ensures.among p)
+returns-clause-among g c p = rw (c.of.ensures, made g c, ← c.self.view_is) (c.in_ok-sealed.ensures.among p)
 
 pub returns-clause-sums : goal.returns-clause-sums
 returns-clause-sums g c = sums_from_totals _ _ _ (returns-clause-totals g c)
@@ -58,10 +68,10 @@ pub returns-then-not-is_interval-clause-stray : goal.returns-then-not-is_interva
 returns-then-not-is_interval-clause-stray g c = grind (arith, common_steps)
 
 pub returns-clause-sealed : goal.returns-clause-sealed
-returns-clause-sealed g c = rw c.of.ensures c.in_ok-sealed.ensures.sealed
+returns-clause-sealed g c = rw (c.of.ensures, made g c) c.in_ok-sealed.ensures.sealed
 
 pub returns-clause-size : goal.returns-clause-size
-returns-clause-size g c = rw (c.of.ensures, ← c.self.view_is) c.in_ok-sealed.ensures.size
+returns-clause-size g c = rw (c.of.ensures, made g c, ← c.self.view_is) c.in_ok-sealed.ensures.size
 
 pub returns-clause-stray : goal.returns-clause-stray
 returns-clause-stray g c = rw (← c.self.view_is) ((λ e. cc), (λ n. absurd (n (whole g c))))
@@ -71,4 +81,4 @@ of-requires-clause-compacted g c =
     let below = g.T.PartialOrder.below in
     let updates = c.in_ok-sealed.sealed.items in
     let times : IsTrue (list_all (λ u. below g.T.Minimum.least u.time) updates) = rw (← c.as_slice.ensures.value) c.known_times.ensures in
-    rw c.in_ok-description.ensures.made (from_compacted g.met.T.PartialOrder.order g.met.T.Lattice.bounds g.T.Minimum.least updates times)
+    rw (c.in_ok-description.ensures.made, c.in_ok-columns.ensures.made, c.as_slice-2.ensures.value) (from_compacted g.met.T.PartialOrder.order g.met.T.Lattice.bounds g.T.Minimum.least updates times)

@@ -1,25 +1,29 @@
-use Rattle.std.proofs.Common.{◌≡◌, ◌∷◌, true, false, inl, inr, ⊎_elim, ◌∙◌, rules}
+use Rattle.std.proofs.Common.{◌≡◌, ◌≢◌, ◌⊎◌, [], inl, inr, ⊎_elim, sym, ◌∙◌, rules}
 use Rattle.std.proofs.lemmas.Result.{err_from_is_err_and}
-use Rattle.batch.specs.Merging.{has_other_row}
-use Rattle.batch.proofs.MergingLemmas.{merging_made_ready, merging_ready, large_settled}
+use Rattle.update.specs.declared.change.Update.{Update}
+use Rattle.batch.proofs.HandLemmas.{said_of, settled_before, large_before}
 use Rattle.batch.proofs.merged_rows.MergedRows.make_ready.Goals as goal
 
-pub returns-in_ok-finish_row-clause-kept : goal.returns-in_ok-finish_row-clause-kept
-returns-in_ok-finish_row-clause-kept g c us vs xs ys m n =
-    let other : has_other_row c.args.next.now.row c.args.self.now.in_hand.items ≡ true = search rules in
-    let w = c.in_ok-finish_row.ensures.written in
-    merging_made_ready g.T.PartialOrder.below g.T.Ord.cmp g.T.Lattice.joined g.T.Lattice.met c.args.since.now us vs c.args.self.now.finished.items c.args.self.now.in_hand.items w.0 _ _ xs ys c.args.next.now other w.1 c.in_ok-finish_row.ensures.emptied w.2 w.3 c.in_ok-finish_row.ensures.fits m n
+pub returns-then-has_row-clause-kept : goal.returns-then-has_row-clause-kept
+returns-then-has_row-clause-kept g c next e us vs xs ys m n =
+    (sym (said_of (λ (u : Update g.row.T.Denot). u.row ≡ c.args.self.now.row) c.args.source.now c.args.place next e (c.has_row.ensures.yes (search rules))), m)
 
 pub returns-in_err-finish_row-clause-refused : goal.returns-in_err-finish_row-clause-refused
 returns-in_err-finish_row-clause-refused g c =
-    let other : has_other_row c.args.next.now.row c.args.self.now.in_hand.items ≡ true = search rules in
     let p = err_from_is_err_and c.from_residual.result c.from_residual.ensures.1 in
     rw p.1 (⊎_elim
     (λ d. inl (p.2 ∙ d))
-    (λ r. inr (p.2 ∙ r.0, λ us vs xs ys m n. large_settled g.T.PartialOrder.below g.T.Ord.cmp g.T.Lattice.joined g.T.Lattice.met c.args.since.now us vs c.args.self.now.finished.items c.args.self.now.in_hand.items xs ys c.args.next.now other m n r.1))
+    (λ r. inr (
+      p.2 ∙ r.0,
+      λ next e us vs xs ys m n.
+          let other = said_of (λ (u : Update g.row.T.Denot). (c.args.self.now.in_hand.items ≡ []) ⊎ (u.row ≢ c.args.self.now.row)) c.args.source.now c.args.place next e (c.has_row.ensures.no (search rules)) in
+          large_before g.T.PartialOrder.below g.T.Ord.cmp g.T.Lattice.joined g.T.Lattice.met c.args.since.now us vs c.args.self.now.finished xs ys next c.args.self.now.row c.args.self.now.in_hand.items other m n r.1,
+    ))
     c.in_err-finish_row.ensures.refused)
 
-pub returns-else-has_other_row-clause-kept : goal.returns-else-has_other_row-clause-kept
-returns-else-has_other_row-clause-kept g c us vs xs ys m n =
-    let own : has_other_row c.args.next.now.row c.args.self.now.in_hand.items ≡ false = search rules in
-    merging_ready g.T.PartialOrder.below g.T.Ord.cmp g.T.Lattice.joined g.T.Lattice.met c.args.since.now us vs c.args.self.now.finished.items c.args.self.now.in_hand.items (c.args.next.now ∷ xs) ys c.args.next.now own m
+pub returns-clause-kept : goal.returns-clause-kept
+returns-clause-kept g c next e us vs xs ys m n =
+    let other = said_of (λ (u : Update g.row.T.Denot). (c.args.self.now.in_hand.items ≡ []) ⊎ (u.row ≢ c.args.self.now.row)) c.args.source.now c.args.place next e (c.has_row.ensures.no (search rules)) in
+    let row = said_of (λ (u : Update g.row.T.Denot). c.row_near.result ≡ u.row) c.args.source.now c.args.place next e c.row_near.ensures in
+    let w = c.in_ok-finish_row.ensures.written in
+    (row, settled_before g.T.PartialOrder.below g.T.Ord.cmp g.T.Lattice.joined g.T.Lattice.met c.args.since.now us vs c.args.self.now.finished w.0 c.finish_row.new.self.finished xs ys next c.args.self.now.row c.row_near.result c.args.self.now.in_hand.items c.finish_row.new.self.in_hand.items other w.1 c.in_ok-finish_row.ensures.emptied w.2 w.3 c.in_ok-finish_row.ensures.fits m n)

@@ -1,7 +1,10 @@
-use Rattle.std.proofs.Common.{◌≡◌, ◌≤◌, ◌+◌, ◌-◌, suc, ◌++◌, ◌∷◌, [], List, Option, option_to_list, inr, sym, ◌∙◌, ap, subst, arith}
-use Rattle.batch.specs.Descriptions.{BatchState}
+use Rattle.std.proofs.lemmas.Result.{err_from_is_err_and}
+use Rattle.std.proofs.Common.{inl, ⊎_elim, ◌≡◌, ◌≤◌, ◌+◌, ◌-◌, suc, ◌++◌, ◌∷◌, [], List, Option, option_to_list, inr, sym, ◌∙◌, ap, subst, arith}
+use Rattle.update.specs.Updates.{HasLargeTotal}
+use Rattle.batch.specs.Compaction.{compacted}
+use Rattle.batch.specs.Descriptions.{BatchState, DescriptionState}
 use Rattle.trace.specs.BatchLists.{BatchListState}
-use Rattle.levels.specs.Levels.{UnderwayState, LevelsState, AreUnderway, unread_of, IsChangeAs, changed}
+use Rattle.levels.specs.Levels.{UnderwayState, LevelsState, AreUnderway, HasLargeSources, sources_of, unread_of, IsChangeAs, changed}
 use Rattle.levels.proofs.PlaceLemmas.{newest_at, change_same, underway_on, underway_put, underway_popped}
 use Rattle.levels.proofs.UnderwayLemmas.{put_spent}
 use Rattle.levels.proofs.levels.Levels.go_on.Goals as goal
@@ -118,3 +121,46 @@ overflow_sub-result g c =
     let more : 1 ≤ c.in_ok-newest.left = omega (arith, c.if-left-eq0.false) in
     let spent = put_spent below cmp joined met cs n u c.in_ok-newest.left c.args.fuel at h.at h.same h.spent h.on more in
     omega (arith, spent, more)
+
+pub put-requires-clause-read : goal.put-requires-clause-read
+put-requires-clause-read g c =
+    ⊎_elim
+    (λ e. absurd (c.if-left-eq0.false e))
+    (λ r. subst (λ (ds : List (BatchState g.row.T.Denot)). unread_of ds c.in_ok-newest.newest ≡ 0) c.batches.ensures.value r)
+    c.in_ok-newest.ensures.on
+
+pub returns-in_err-newest-clause-refused : goal.returns-in_err-newest-clause-refused
+returns-in_err-newest-clause-refused g c =
+    let rest = c.pop.new.self.items in
+    let n = c.unwrap-newest.result in
+    let was : c.self.inside.underway.items ≡ rest ++ n ∷ [] = c.pop.ensures.items ∙ ap (λ (r : Option (UnderwayState g.row.T.Denot)). rest ++ option_to_list r) c.unwrap-newest.ensures in
+    let view = c.self.view_is in
+    let all = c.batches.ensures.value ∙ ap (λ (s : LevelsState g.row.T.Denot). s.list.batches) view in
+    let p = err_from_is_err_and c.from_residual.result c.from_residual.ensures.1 in
+    rw p.1
+    (⊎_elim (λ e. inl (p.2 ∙ e)) (λ r. inr (
+      p.2 ∙ r.0,
+      (rest, n, sym (ap (λ (s : LevelsState g.row.T.Denot). s.underway) view) ∙ was, subst (λ (ds : List (BatchState g.row.T.Denot)). HasLargeSources g.T.PartialOrder.below g.T.Lattice.joined g.T.Lattice.met ds n) all r.1),
+    )) c.in_err-newest.ensures.refused)
+
+pub returns-in_err-put-clause-refused : goal.returns-in_err-put-clause-refused
+returns-in_err-put-clause-refused g c =
+    let below = g.T.PartialOrder.below in
+    let joined = g.T.Lattice.joined in
+    let met = g.T.Lattice.met in
+    let rest = c.pop.new.self.items in
+    let n = c.unwrap-newest.result in
+    let u = c.in_ok-newest.newest in
+    let h = c.in_ok-newest.ensures in
+    let was : c.self.inside.underway.items ≡ rest ++ n ∷ [] = c.pop.ensures.items ∙ ap (λ (r : Option (UnderwayState g.row.T.Denot)). rest ++ option_to_list r) c.unwrap-newest.ensures in
+    let view = c.self.view_is in
+    let all = ap (λ (s : LevelsState g.row.T.Denot). s.list.batches) view in
+    let p = err_from_is_err_and c.from_residual-in_err-put.result c.from_residual-in_err-put.ensures.1 in
+    let same : HasLargeSources below joined met c.self.inside.list.batches u → HasLargeSources below joined met c.self.inside.list.batches n = λ large.
+    let there = subst (λ (v : UnderwayState g.row.T.Denot). HasLargeSources below joined met c.self.inside.list.batches (record v { merging = u.merging })) h.same.place large in
+    subst (λ F. HasLargeTotal below (compacted joined met F (sources_of c.self.inside.list.batches n))) (ap (λ (d : DescriptionState g.row.T.Denot). d.since) h.same.described) there in
+    rw p.1
+    (⊎_elim (λ e. inl (p.2 ∙ e)) (λ r. inr (
+      p.2 ∙ r.0,
+      (rest, n, sym (ap (λ (s : LevelsState g.row.T.Denot). s.underway) view) ∙ was, subst (λ (ds : List (BatchState g.row.T.Denot)). HasLargeSources below joined met ds n) all (same r.1)),
+    )) c.in_err-put.ensures.refused)
