@@ -191,7 +191,7 @@ pub fn answer_at<T: Lattice, R: Reducer>(
     ensures refused { IfErr result
         (IsMemoryOrOverflow (IsTooLarge (base.old ++ as_of T.below time near.now))) }
 {
-    let mut noted = Vec::new(alloc);
+    let mut noted = Vec::with_capacity(alloc, near.len())?;
     let tried = answer_by_tally(alloc, reducer, key, base, near, time, &mut noted);
     base.undo_all(noted);
     if let Some(answer) = tried? {

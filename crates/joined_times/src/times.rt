@@ -167,7 +167,7 @@ fn parts_of<T: Lattice>(alloc: Global, near: &[T], bounds: Bounds<T>) -> Result<
         → IsTrue (T.below bounds.join s)) }
     ensures only { IfErr result (λ refused. refused ≡ Refusal.OutOfMemory) }
 {
-    let mut within = Vec::new(alloc);
+    let mut within = Vec::with_capacity(alloc, near.len())?;
     let mut beyond = Vec::new(alloc);
     push_parts(&mut within, &mut beyond, near, bounds)?;
     keep_once(&mut within);

@@ -33,6 +33,7 @@ pub(crate) fn append_copies<T: Lattice>(
     ensures pushed { OnOk result (list.new.items ≡ list.old.items ++ more.now) }
     ensures only { IfErr result (λ refused. refused ≡ Refusal.OutOfMemory) }
 {
+    list.reserve(more.len())?;
     for update in more {
         list.push(update.copy())?;
     }
@@ -308,7 +309,8 @@ impl<T: Lattice> Replay<T> {
         if !self.has_settled(meet) {
             return Ok(());
         }
-        let near = mem::replace(&mut self.near, Vec::new(alloc));
+        let room = Vec::with_capacity(alloc, self.near.len())?;
+        let near = mem::replace(&mut self.near, room);
         for update in near {
             self.settle(update, base, meet)?;
         }

@@ -52,7 +52,7 @@ fn rows_in<T: Lattice>(alloc: Global, updates: &[Update<T>]) -> Result<Vec<Row>,
     ensures rows { IfOk result (λ rows. rows.items ≡ map (λ u. u.row) updates.now) }
     ensures only { IfErr result (λ refused. refused ≡ Refusal.OutOfMemory) }
 {
-    let mut rows = Vec::new(alloc);
+    let mut rows = Vec::with_capacity(alloc, updates.len())?;
     for update in updates {
         rows.push(update.row.copy())?;
     }

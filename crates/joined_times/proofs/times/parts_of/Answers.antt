@@ -8,4 +8,4 @@ pub returns-clause-members : goal.returns-clause-members
 returns-clause-members g c s =
     through (in_each (back (c.keep_once.ensures.members s)) itself)
     (through (c.in_ok-push_parts.ensures.members s)
-    (empty_parts s c.new-within.result.items c.new-beyond.result.items (Member s (map (λ r. g.T.Lattice.joined r c.args.bounds.meet) c.args.near.now)) c.new-within.ensures.items c.new-beyond.ensures.items))
+    (empty_parts s c.in_ok-within.within.items c.new-beyond.result.items (Member s (map (λ r. g.T.Lattice.joined r c.args.bounds.meet) c.args.near.now)) c.in_ok-within.ensures.items c.new-beyond.ensures.items))

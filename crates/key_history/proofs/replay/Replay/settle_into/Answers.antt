@@ -16,7 +16,7 @@ loop-update-init g c =
       left = gives.1 ∙ (c.replace-near.result.ok.0 ∙ ap length (sym gives.0));
       later = refl;
       entered = refl;
-      settles = rw (c.replace-near.ensures.after, c.new.ensures.items) (settles_none g.T.PartialOrder.below c.args.meet c.args.base.now []);
+      settles = rw (c.replace-near.ensures.after, c.in_ok-room.ensures.items) (settles_none g.T.PartialOrder.below c.args.meet c.args.base.now []);
     }
 
 pub loop-update-preserved : goal.loop-update-preserved
