@@ -1,6 +1,8 @@
 -- Lemmas about keys, seals and merges.
 pub mod KeyLemmas
 pub mod SeekLemmas
+pub mod CopyLemmas
+pub mod CountLemmas
 pub mod SealLemmas
 pub mod SumsLemmas
 pub mod TieLemmas

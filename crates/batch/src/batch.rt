@@ -27,8 +27,8 @@ use std::ops::Range;
 /// and the list.
 ///
 /// Cost: the time and the difference of an update are read by its index in constant time, and its
-/// row by a binary search of the rows. The range of a key is found by two binary searches of the
-/// rows.
+/// row by a binary search of the rows. The row of a run is read without a search. The range of a
+/// key is found by two binary searches of the rows.
 #[derive(Drop)]
 pub struct Batch<T: Lattice> {
     description: Description<T>,
@@ -131,12 +131,16 @@ impl<T: Lattice> BatchReader for Batch<T> {
         self.columns.row(i)
     }
 
-    fn run_near(&self, i: usize, near: usize) -> usize {
-        self.columns.run_near(i, near)
+    fn runs(&self) -> usize {
+        self.columns.runs()
     }
 
-    fn row_near(&self, i: usize, near: usize) -> Row {
-        self.columns.row_near(i, near)
+    fn run_start(&self, run: usize) -> usize {
+        self.columns.run_start(run)
+    }
+
+    fn run_row(&self, run: usize) -> Row {
+        self.columns.run_row(run)
     }
 
     fn time(&self, i: usize) -> T {
@@ -151,12 +155,24 @@ impl<T: Lattice> BatchReader for Batch<T> {
         self.columns.range_of(key)
     }
 
+    fn key_runs(&self, key: &[i64]) -> Range<usize> {
+        self.columns.key_runs(key)
+    }
+
     fn seek(&self, from: usize, key: &[i64]) -> usize {
         self.columns.first_from(from, key)
     }
 
     fn seek_past(&self, from: usize, key: &[i64]) -> usize {
         self.columns.first_past(from, key)
+    }
+
+    fn seek_run(&self, from: usize, key: &[i64]) -> usize {
+        self.columns.seek_run(from, key)
+    }
+
+    fn seek_past_run(&self, from: usize, key: &[i64]) -> usize {
+        self.columns.seek_past_run(from, key)
     }
 
     fn compare_key(&self, i: usize, key: &[i64]) -> Ordering {

@@ -91,7 +91,8 @@ impl<T: Minimum> Builder<T> {
     ///   the batch was refused.
     ///
     /// Cost: n log n comparisons in the number of updates, for one sort in place, one comparison of
-    /// each update with each element of the frontiers, and a copy of what is left.
+    /// each update with each element of the frontiers, and a count of the rows and a copy of what is
+    /// left.
     pub fn seal(self, lower: &Antichain<T>, upper: &Antichain<T>) -> Result<Batch<T>, Refusal>
         ensures described { IfOk result (λ batch. batch.description ≡ record {
           worker = self.worker;

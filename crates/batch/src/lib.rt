@@ -10,9 +10,11 @@
 //! the width of the key. Each row is stored once, however many updates it has
 //! ([`columns::Columns`]). [`BatchReader::key_range`] finds those of a key by two binary searches.
 //! [`BatchReader::seek`] and [`BatchReader::seek_past`] gallop from one key to the next, so that a
-//! join can go through two batches side by side and skip what the other does not have. A list of
-//! updates that travels is sorted by time first. A batch is not, since its readers do not ask what
-//! happened at a time, but what happened to a key.
+//! join can go through two batches side by side and skip what the other does not have. A reader
+//! that wants each row once for all its updates stands at runs ([`BatchReader::run_row`],
+//! [`BatchReader::seek_run`]), and [`copy_runs`] copies the updates of some runs. A list of updates
+//! that travels is sorted by time first. A batch is not, since its readers do not ask what happened
+//! at a time, but what happened to a key.
 //!
 //! - A [`Builder`] gathers updates in any order. It seals all of them between two frontiers, or
 //!   those that a frontier has passed, and then it keeps the others.
@@ -31,6 +33,7 @@
 mod batch;
 mod builder;
 mod changes;
+mod copying;
 mod description;
 mod laws;
 mod merged_rows;
@@ -43,6 +46,7 @@ mod whole_merge;
 
 pub use batch::Batch;
 pub use builder::Builder;
+pub use copying::copy_runs;
 pub use description::Description;
 pub use laws::{
     compacted_rows_are_apart, sealed_lists_are_determined, seeks_find_the_rows_of_a_key,

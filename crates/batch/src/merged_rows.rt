@@ -38,7 +38,7 @@ pub(crate) struct MergedRows<T: Lattice> {
     pub(crate) in_hand: Vec<Change<T>>,
 }
 
-// (written by hand, so that to let a merge go is one step in the proofs of whoever holds it)
+// (written by hand, so that to let a merge go is one step in the proofs of its owners)
 impl<T: Lattice> Drop for MergedRows<T> {
     fn drop(self) {
         let MergedRows {
@@ -111,14 +111,18 @@ fn put_row<T: Lattice>(
 }
 
 impl<T: Lattice> MergedRows<T> {
-    // No rows yet, with room for the times and the differences of so many updates.
-    pub(crate) fn with_capacity(alloc: Global, updates: usize) -> Result<MergedRows<T>, Refusal>
+    // No rows yet, with room for so many updates in so many runs.
+    pub(crate) fn with_capacity(
+        alloc: Global,
+        updates: usize,
+        runs: usize,
+    ) -> Result<MergedRows<T>, Refusal>
         ensures finished { IfOk result (λ made. made.finished ≡ []) }
         ensures in_hand { IfOk result (λ made. made.in_hand.items ≡ []) }
         ensures only { IfErr result (λ refused. refused ≡ Refusal.OutOfMemory) }
     {
         Ok(MergedRows {
-            finished: Columns::with_capacity(alloc, updates)?,
+            finished: Columns::with_capacity(alloc, updates, runs)?,
             row: Row::of(alloc, &[0]),
             in_hand: Vec::new(alloc),
         })

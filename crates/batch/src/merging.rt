@@ -83,7 +83,9 @@ fn begun<T: Lattice>(
     ensures begun { IfOk result (λ made. made.left + made.right ≡ 0) }
     ensures only { IfErr result (λ refused. refused ≡ Refusal.OutOfMemory) }
 {
-    let rows = MergedRows::with_capacity(alloc, us.len().saturating_add(vs.len()))?;
+    let updates = us.len().saturating_add(vs.len());
+    let runs = us.runs().saturating_add(vs.runs());
+    let rows = MergedRows::with_capacity(alloc, updates, runs)?;
     Ok(Merging {
         description,
         rows,

@@ -1,8 +1,12 @@
 //! How a batch is read. Operators are to be written against this trait and not against
 //! [`Batch`](crate::Batch), so that the layout of updates can change without them.
-ghost use Rattle.std.specs.Prelude.{◌≡◌, ◌<◌, ◌≤◌, List, [], length, take, drop, slice_get, slice_range, IsSomeAnd};
-ghost use Rattle.std.specs.List.{filter};
-ghost use Rattle.columns.specs.Runs.{run_number, row_starts};
+//!
+//! A reader may stand at an update or at a run, which is all updates of one row. A reader that goes
+//! through a batch stands at runs: it then builds a row once for all its updates, and pays for no
+//! search to find the run of an update.
+ghost use Rattle.std.specs.Prelude.{◌≡◌, ◌<◌, ◌≤◌, ◌+◌, List, [], length, take, drop, slice_get, slice_range, IsSomeAnd};
+ghost use Rattle.std.specs.List.{AllWithin, filter};
+ghost use Rattle.columns.specs.Runs.{row_starts, run_place};
 ghost use Rattle.batch.specs.Batches.{IsSealed, begins_with, at_key, AllBefore, NoneBefore, AllAfter, NoneAfter};
 
 use crate::Description;
@@ -41,22 +45,30 @@ pub trait BatchReader {
         requires { i < length (content self.now) }
         ensures { IsSomeAnd (slice_get (content self.now) i) (λ u. result ≡ u.row) };
 
-    /// The number of the run of update `i`, counted from 0: the updates of one row are a run. Takes
-    /// no memory.
-    ///
-    /// Cost: constant if that is `near` or the number behind it, else a binary search of the runs.
-    /// Any `near` is right. So a reader that goes on from update to update gives the number that it
-    /// was given last, and pays for no search.
-    fn run_near(&self, i: usize, near: usize) -> usize
-        requires { i < length (content self.now) }
-        ensures { result ≡ run_number (row_starts (content self.now)) i };
+    /// The number of runs. A run is the updates of one row, which are neighbours. Takes no memory.
+    fn runs(&self) -> usize
+        ensures runs { result ≡ length (row_starts (content self.now)) }
+        ensures first { run_place (content self.now) 0 ≡ 0 }
+        ensures ordered { IsSealed Self.Time.cmp (content self.now) };
 
-    /// The row of update `i`, as `row`. Takes no memory.
+    /// The update at which a run begins, counted from 0; the number of updates behind the last run.
+    /// A run is never empty. Takes no memory.
     ///
-    /// Cost: as for `run_near`, and one step for each column.
-    fn row_near(&self, i: usize, near: usize) -> Row
-        requires { i < length (content self.now) }
-        ensures { IsSomeAnd (slice_get (content self.now) i) (λ u. result ≡ u.row) };
+    /// Cost: constant.
+    fn run_start(&self, run: usize) -> usize
+        ensures place { result ≡ run_place (content self.now) run }
+        ensures within { result ≤ length (content self.now) }
+        ensures onward { run < length (row_starts (content self.now))
+            → result < run_place (content self.now) (run + 1) }
+        ensures first { run_place (content self.now) 0 ≡ 0 };
+
+    /// The row of a run: each update of the run has it. Takes no memory.
+    ///
+    /// Cost: one step for each column. So a reader that goes from run to run builds each row once.
+    fn run_row(&self, run: usize) -> Row
+        requires { run < length (row_starts (content self.now)) }
+        ensures { AllWithin (λ u. u.row ≡ result) (content self.now)
+            (run_place (content self.now) run) (run_place (content self.now) (run + 1)) };
 
     /// The time of update `i`, counted from 0. Takes no memory.
     fn time(&self, i: usize) -> Self::Time
@@ -80,6 +92,17 @@ pub trait BatchReader {
             ≡ filter (begins_with key.now) (content self.now) }
         ensures before { AllBefore key.now (take result.start (content self.now)) }
         ensures behind { AllAfter key.now (drop result.end (content self.now)) };
+
+    /// The runs whose rows begin with the columns of the key. If there are none, the range is empty
+    /// and lies between the runs before the key and those after it. Takes no memory.
+    ///
+    /// Cost: two binary searches over the rows of the whole batch.
+    fn key_runs(&self, key: &[i64]) -> Range<usize>
+        ensures ordered { result.start ≤ result.end }
+        ensures within { result.end ≤ length (row_starts (content self.now)) }
+        ensures exact { slice_range (content self.now)
+            (run_place (content self.now) result.start) (run_place (content self.now) result.end)
+            ≡ filter (begins_with key.now) (content self.now) };
 
     /// The first update from `from` on whose row is not before the key; the length if there is
     /// none. Takes no memory.
@@ -105,6 +128,36 @@ pub trait BatchReader {
         ensures within { result ≤ length (content self.now) }
         ensures before { NoneAfter key.now (slice_range (content self.now) from result) }
         ensures rest { AllAfter key.now (drop result (content self.now)) };
+
+    /// The first run from `from` on whose row is not before the key; the number of runs if there is
+    /// none. Takes no memory.
+    ///
+    /// Cost: a number of comparisons of rows that is logarithmic in the number of runs from `from`
+    /// to the result. So a reader that seeks sorted keys, each from where the last one was found,
+    /// compares few rows, and searches for no run.
+    fn seek_run(&self, from: usize, key: &[i64]) -> usize
+        requires { from ≤ length (row_starts (content self.now)) }
+        ensures ordered { from ≤ result }
+        ensures within { result ≤ length (row_starts (content self.now)) }
+        ensures onward { run_place (content self.now) from ≤ run_place (content self.now) result }
+        ensures before { AllBefore key.now (slice_range (content self.now)
+            (run_place (content self.now) from) (run_place (content self.now) result)) }
+        ensures rest { NoneBefore key.now
+            (drop (run_place (content self.now) result) (content self.now)) };
+
+    /// The first run from `from` on whose row comes after all rows of the key; the number of runs
+    /// if there is none. Takes no memory.
+    ///
+    /// Cost: as for `seek_run`.
+    fn seek_past_run(&self, from: usize, key: &[i64]) -> usize
+        requires { from ≤ length (row_starts (content self.now)) }
+        ensures ordered { from ≤ result }
+        ensures within { result ≤ length (row_starts (content self.now)) }
+        ensures onward { run_place (content self.now) from ≤ run_place (content self.now) result }
+        ensures before { NoneAfter key.now (slice_range (content self.now)
+            (run_place (content self.now) from) (run_place (content self.now) result)) }
+        ensures rest { AllAfter key.now
+            (drop (run_place (content self.now) result) (content self.now)) };
 
     /// How the row of update `i` compares with the rows of the key: it comes before them, is one of
     /// them, or comes after them. Takes no memory, and makes no row.

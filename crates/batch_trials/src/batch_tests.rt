@@ -2,9 +2,10 @@
 //! updates are in the right order.
 use crate::batches::sealed;
 use antichain::Antichain;
-use batch::{Batch, BatchReader, Builder, merge};
+use batch::{Batch, BatchReader, Builder, copy_runs, merge};
 use lattice::Bitime;
 use std::alloc::Global;
+use std::ops::Range;
 use std::process::Abort;
 use std::test::Fail;
 use trials::sketches::{at, list};
@@ -188,12 +189,10 @@ fn readers_go_on_from_where_they_stand(rt: HostRuntime) -> Result<(), Fail> {
     Ok(())
 }
 
-// What stands in one list of a batch stands beside what stands at the same place of another. A row is the
-// same whatever run is named as near.
-#[test]
-fn lists_of_a_batch_fit_one_another(rt: HostRuntime) -> Result<(), Fail> {
+// A batch of four updates, of which two have one row.
+fn three_rows(alloc: Global) -> Result<Batch<Bitime>, Refusal> {
     let pushed = list(
-        rt.alloc(),
+        alloc,
         &[
             ((1, 0), &[7, 1], -3),
             ((0, 0), &[8], 4),
@@ -201,17 +200,51 @@ fn lists_of_a_batch_fit_one_another(rt: HostRuntime) -> Result<(), Fail> {
             ((0, 0), &[7, 1], 2),
         ],
     )?;
-    let batch = sealed(rt.alloc(), (0, 0), (6, 6), &pushed)?;
+    sealed(alloc, (0, 0), (6, 6), &pushed)
+}
+
+// What stands in one list of a batch stands beside what stands at the same place of another.
+#[test]
+fn lists_of_a_batch_fit_one_another(rt: HostRuntime) -> Result<(), Fail> {
+    let batch = three_rows(rt.alloc())?;
     let times = [at((0, 0)), at((1, 0)), at((2, 5)), at((0, 0))];
     assert!(rt; batch.times() == times.as_slice());
     assert!(rt; batch.diffs() == [2i64, -3, 1, 4].as_slice());
     assert!(rt; batch.starts() == [0usize, 2, 3].as_slice());
-    for near in 0..5usize {
-        assert!(rt; batch.len() == 4);
-        assert_eq!(rt; batch.run_near(1, near), 0);
-        assert_eq!(rt; batch.run_near(2, near), 1);
-        assert_eq!(rt; batch.row_near(1, near).columns(), [7i64, 1].as_slice());
-        assert_eq!(rt; batch.row_near(3, near).columns(), [8i64].as_slice());
-    }
+    Ok(())
+}
+
+// A walk by runs gives all updates, each with the row of its run.
+#[test]
+fn batches_are_read_run_by_run(rt: HostRuntime) -> Result<(), Fail> {
+    let batch = three_rows(rt.alloc())?;
+    assert_eq!(rt; batch.runs(), 3);
+    assert!(rt; batch.run_start(0) == 0 && batch.run_start(1) == 2);
+    assert!(rt; batch.run_start(2) == 3 && batch.run_start(3) == 4);
+    let mut copies = Vec::new(rt.alloc());
+    copy_runs(&mut copies, &batch, 0..batch.runs())?;
+    assert_reads(&rt, &batch, &copies);
+    Ok(())
+}
+
+// Checks which runs a key has: by two gallops from the first run, and by a search of all runs.
+fn assert_found(rt: &impl Abort, batch: &Batch<Bitime>, key: &[i64], want: Range<usize>) {
+    let start = batch.seek_run(0, key);
+    let end = batch.seek_past_run(start, key);
+    assert!(rt; start == want.start && end == want.end);
+    let runs = batch.key_runs(key);
+    assert!(rt; runs.start == want.start && runs.end == want.end);
+}
+
+// Keys before the rows, in them, between them and behind them.
+#[test]
+fn keys_are_found_by_runs(rt: HostRuntime) -> Result<(), Fail> {
+    let batch = three_rows(rt.alloc())?;
+    assert_found(&rt, &batch, &[6], 0..0);
+    assert_found(&rt, &batch, &[7], 0..2);
+    assert_found(&rt, &batch, &[7, 2], 1..2);
+    assert_found(&rt, &batch, &[7, 3], 2..2);
+    assert_found(&rt, &batch, &[8], 2..3);
+    assert_found(&rt, &batch, &[9], 3..3);
     Ok(())
 }

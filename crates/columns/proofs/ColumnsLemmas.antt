@@ -119,21 +119,6 @@ module _ {T : Type 0} (starts : List ℕ) (rows : List (List ℤ)) (times : List
       let right : get_or (map (λ u. u.row) updates) (next - 0) [] ≡ (get_or updates next d).row = ap (λ n. get_or (map (λ u. u.row) updates) n []) whole ∙ get_or-map (λ u. u.row) updates next d [] (omega (arith, within, l)) in
       true≢false (sym ((signed_items _ _).1 (left ∙ same ∙ sym right)) ∙ differ)
 
-  -- the first update of a run has the row of that number
-  pub run_has_row : (us : List (Update T)) → updates ≡ us → (k : ℕ) → k < length (row_starts us) → (row : List ℤ) → row ≡ get_or rows k [] → (k < length rows) × IsSomeAnd (slice_get us (get_or (row_starts us) k 0)) (λ u. row ≡ u.row)
-  run_has_row us view k h row e =
-      let same : starts ≡ row_starts us = columns.starts_are ∙ ap row_starts view in
-      let rows_long = columns.rows_long in
-      let many = ap length same in
-      let inside : k < length starts = omega (arith, h, many) in
-      let within : get_or starts k 0 < length times = starts_within k 0 inside in
-      let size_is = sym (ap length view) ∙ long in
-      let number = number_is starts starts_up k 0 (get_or starts k 0) inside (omega arith) (λ m. starts_up k (k + 1) 0 (omega arith) m) in (
-        omega (arith, inside, rows_long),
-        subst (λ ss. IsSomeAnd (slice_get us (get_or ss k 0)) (λ u. row ≡ u.row)) same
-            (some_row us view (get_or starts k 0) (omega (arith, within, size_is)) (λ r. row ≡ r) (e ∙ ap (λ n. get_or rows n []) (sym number))),
-      )
-
   -- what a reader knows of the runs
   pub are_runs : AreRuns starts updates
   are_runs =

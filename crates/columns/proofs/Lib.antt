@@ -3,5 +3,7 @@ pub mod TableLemmas
 pub mod KeyLemmas
 pub mod SeekLemmas
 pub mod RunLemmas
+pub mod PlaceLemmas
 pub mod ColumnsLemmas
 pub mod SearchLemmas
+pub mod TruncateLemmas

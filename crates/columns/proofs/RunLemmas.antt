@@ -52,7 +52,7 @@ run_number_before starts false next place h =
     ∙ append-nil (filter (λ s. leb s place) starts))
 
 -- a filter that no element passes keeps none
-kept_none : (place : ℕ) (starts : List ℕ) → All (λ s. place < s) starts → filter (λ s. leb s place) starts ≡ []
+pub kept_none : (place : ℕ) (starts : List ℕ) → All (λ s. place < s) starts → filter (λ s. leb s place) starts ≡ []
 kept_none place [] all = refl
 kept_none place (s ∷ starts) all =
     let late : leb s place ≡ false = (let high = All-head (λ s. place < s) s starts all in grind (arith, nat_tests)) in
@@ -141,7 +141,7 @@ All-maybe_if : (P : ℕ → Type 0) (b : Bool) (x : ℕ) (xs : List ℕ) → (b 
 All-maybe_if P true x xs h a = a
 All-maybe_if P false x xs h a = All-cons P x xs (h refl) a
 
-append_maybe : (b : Bool) (x : ℕ) (xs ys : List ℕ) → cond b (xs ++ ys) (x ∷ (xs ++ ys)) ≡ cond b xs (x ∷ xs) ++ ys
+pub append_maybe : (b : Bool) (x : ℕ) (xs ys : List ℕ) → cond b (xs ++ ys) (x ∷ (xs ++ ys)) ≡ cond b xs (x ∷ xs) ++ ys
 append_maybe true x xs ys = refl
 append_maybe false x xs ys = refl
 

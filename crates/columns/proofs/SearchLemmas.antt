@@ -1,13 +1,13 @@
 -- Searching the runs of sorted updates in place of the updates.
-use Rattle.std.proofs.Common.{◌≡◌, ℕ, ◌+◌, ◌<◌, ◌≤◌, Bool, true, false, List, [], length, get_or, ℤ, leb, max, sym, ap, ◌∙◌, ⊎_elim, arith}
+use Rattle.std.proofs.Common.{◌≡◌, ℕ, ◌+◌, ◌<◌, ◌≤◌, Bool, true, false, List, [], length, get_or, ℤ, leb, sym, ap, ◌∙◌, ⊎_elim, arith}
 use Rattle.std.specs.List.{AllPairs, AllWithin, filter}
-use Rattle.std.specs.List.Sorted.{IsStrictlySortedBy, IsPartitionedBy, IsPartitionPoint}
+use Rattle.std.specs.List.Sorted.{IsStrictlySortedBy, IsPartitionedBy}
 use Rattle.std.specs.declared.cmp.Ordering.{Ordering}
 use Rattle.std.proofs.lemmas.Bool.{cases_lt}
 use Rattle.std.proofs.lemmas.List.{get_or_default, get_or_past}
 use Rattle.update.specs.declared.change.Update.{Update}
 use Rattle.columns.specs.Keys.{by_row_then_time, is_row_left_behind, is_left_behind}
-use Rattle.columns.specs.Runs.{run_number, IsColumns}
+use Rattle.columns.specs.Runs.{run_number, row_starts, run_place, IsColumns}
 use Rattle.columns.proofs.SeekLemmas.{left_behind_parted}
 use Rattle.columns.proofs.ColumnsLemmas.{updates, long, starts_within, starts_up, some_start, row_at_place, some_update}
 use Rattle.columns.proofs.RunLemmas.{counts, counts_no_more, number_is, run_number_within}
@@ -44,13 +44,6 @@ module _ {T : Type 0} (starts : List ℕ) (rows : List (List ℤ)) (times : List
       let counted = counts place starts up q d h l in
       omega (arith, counted)
 
-  -- later places belong to later runs
-  pub number_up : (from place : ℕ) → from ≤ place → place < size → run_number starts from ≤ run_number starts place
-  number_up from place g h =
-      let some : 0 < size = omega (arith, h) in
-      let begins = number_begins from some in
-      number_from (run_number starts from) 0 place (run_number_within starts from (some_start starts rows times diffs columns some)) (omega (arith, begins, g))
-
   -- the row of a run is that of its first update
   row_of_run : (k : ℕ) (d : List ℤ) (u : Update T) → k < length rows → get_or rows k d ≡ (get_or us (get_or starts k 0) u).row
   row_of_run k d u h =
@@ -68,6 +61,54 @@ module _ {T : Type 0} (starts : List ℕ) (rows : List (List ℤ)) (times : List
       ⊎_elim
       (λ h. let before = starts_within starts rows times diffs columns q size h in omega (arith, before))
       (λ h. let end = get_or_past starts q size h in omega (arith, end))
+      (cases_lt q (length starts))
+
+  -- the places at which the runs of these updates begin
+  pub place_is : (vs : List (Update T)) → us ≡ vs → (q : ℕ) → run_place vs q ≡ get_or starts q size
+  place_is vs view q =
+      let runs_are : starts ≡ row_starts vs = columns.starts_are ∙ ap row_starts view in
+      let size_is : size ≡ length vs = sym (long starts rows times diffs columns) ∙ ap length view in
+      sym (λ j. get_or (runs_are j) q (size_is j))
+
+  -- the run of an update begins at or before it
+  pub own_run_begins : (vs : List (Update T)) → us ≡ vs → (place : ℕ) → place < length vs → run_place vs (run_number starts place) ≤ place
+  own_run_begins vs view place h =
+      let size_is = sym (ap length view) ∙ long starts rows times diffs columns in
+      let some : 0 < size = omega (arith, h, size_is) in
+      let within = run_number_within starts place (some_start starts rows times diffs columns some) in
+      let start = place_is vs view (run_number starts place) ∙ get_or_default starts (run_number starts place) size 0 within in
+      let begins = number_begins place some in
+      omega (arith, start, begins)
+
+  -- the first run begins at the front
+  pub place_first : (vs : List (Update T)) → us ≡ vs → run_place vs 0 ≡ 0
+  place_first vs view =
+      let within = place_within 0 in
+      place_is vs view 0
+      ∙ ⊎_elim
+      (λ h. get_or_default starts 0 size 1 (some_start starts rows times diffs columns h) ∙ columns.begins h)
+      (λ h. omega (arith, within, h))
+      (cases_lt 0 size)
+
+  -- the updates of a run have its row
+  pub run_alike : (vs : List (Update T)) → us ≡ vs → (run : ℕ) → run < length starts → (row : List ℤ) → row ≡ get_or rows run [] → AllWithin (λ u. u.row ≡ row) vs (run_place vs run) (run_place vs (run + 1))
+  run_alike vs view run h row e i d g l =
+      let start = place_is vs view run ∙ get_or_default starts run size 0 h in
+      let end = place_is vs view (run + 1) in
+      let within = place_within (run + 1) in
+      let inside : i < size = omega (arith, l, end, within) in
+      let number = number_is starts up run 0 i h (omega (arith, g, start)) (λ m. let next = end ∙ get_or_default starts (run + 1) size 0 m in omega (arith, l, next)) in
+      ap (λ ws. (get_or ws i d).row) (sym view)
+      ∙ row_at_place starts rows times diffs columns i d inside
+      ∙ ap (λ n. get_or rows n []) number
+      ∙ sym e
+
+  -- a place at or behind the start of a run belongs to it or to a later one
+  number_behind : (q i : ℕ) → get_or starts q size ≤ i → i < size → q ≤ run_number starts i
+  number_behind q i l h =
+      ⊎_elim
+      (λ m. number_from q size i m l)
+      (λ m. let end = get_or_past starts q size m in absurd (omega (arith, end, l, h)))
       (cases_lt q (length starts))
 
   module _ (p : List ℤ → Bool) (q : ℕ) (last : q ≤ length rows) where
@@ -90,40 +131,27 @@ module _ {T : Type 0} (starts : List ℕ) (rows : List (List ℤ)) (times : List
         let some : 0 < size = omega (arith, h) in
         let rows_long = columns.rows_long in
         let within = run_number_within starts i (some_start starts rows times diffs columns some) in
-        let number : q ≤ run_number starts i =
-        ⊎_elim
-        (λ m. number_from q size i m l)
-        (λ m. let end = get_or_past starts q size m in absurd (omega (arith, end, l, h)))
-        (cases_lt q (length starts)) in
+        let number = number_behind q i l h in
         ap p (row_at_place starts rows times diffs columns i d h) ∙ all (run_number starts i) [] number (omega (arith, within, rows_long))
 
-  module _ (key : List ℤ) (through : Bool) (q place : ℕ) (last : q ≤ length rows) (at : place ≡ get_or starts q size) where
-    abbrev p : List ℤ → Bool
-    p = is_row_left_behind key through
-
-    -- a gallop from the run of an update on finds the updates that are left behind
-    pub galloped_before : (vs : List (Update T)) → us ≡ vs → (from found : ℕ) → found ≡ max from place → AllWithin (λ row. p row ≡ true) rows (run_number starts from) q → AllWithin (λ u. is_left_behind key through u ≡ true) vs from found
-    galloped_before vs view from found e all i d g l =
+  module _ (key : List ℤ) (through : Bool) (q : ℕ) (last : q ≤ length rows) (vs : List (Update T)) (view : us ≡ vs) where
+    -- a gallop from a run on finds the updates that are left behind
+    pub runs_before : (from : ℕ) → AllWithin (λ row. is_row_left_behind key through row ≡ true) rows from q → AllWithin (λ u. is_left_behind key through u ≡ true) vs (run_place vs from) (run_place vs q)
+    runs_before from all i d g l =
+        let start = place_is vs view from in
+        let end = place_is vs view q in
         let within = place_within q in
-        let inside : i < size = omega (arith, g, l, e, at, within) in
+        let inside : i < size = omega (arith, l, end, within) in
         ap (λ ws. is_left_behind key through (get_or ws i d)) (sym view)
-        ∙ in_front p q last (run_number starts from) i d all (number_up from i g inside) inside (omega (arith, g, l, e, at))
+        ∙ in_front (is_row_left_behind key through) q last from i d all (number_behind from i (omega (arith, g, start)) inside) inside (omega (arith, l, end))
 
     -- and the others
-    pub galloped_rest : (vs : List (Update T)) → us ≡ vs → (from found : ℕ) → found ≡ max from place → AllWithin (λ row. p row ≡ false) rows q (length rows) → AllWithin (λ u. is_left_behind key through u ≡ false) vs found (length vs)
-    galloped_rest vs view from found e all i d g l =
+    pub runs_rest : AllWithin (λ row. is_row_left_behind key through row ≡ false) rows q (length rows) → AllWithin (λ u. is_left_behind key through u ≡ false) vs (run_place vs q) (length vs)
+    runs_rest all i d g l =
+        let start = place_is vs view q in
         let size_is = sym (ap length view) ∙ long starts rows times diffs columns in
         ap (λ ws. is_left_behind key through (get_or ws i d)) (sym view)
-        ∙ behind p q last i d all (omega (arith, g, e, at)) (omega (arith, l, size_is))
-
-    -- a search of all runs splits the updates
-    pub searched : (vs : List (Update T)) → us ≡ vs → AllWithin (λ row. p row ≡ true) rows 0 q → AllWithin (λ row. p row ≡ false) rows q (length rows) → IsPartitionPoint (λ u. is_left_behind key through u ≡ true) (λ u. is_left_behind key through u ≡ false) vs place
-    searched vs view before rest =
-        let within = place_within q in
-        let size_is = sym (ap length view) ∙ long starts rows times diffs columns in (
-          (λ i d g l. ap (λ ws. is_left_behind key through (get_or ws i d)) (sym view) ∙ in_front p q last 0 i d before (omega arith) (omega (arith, l, at, within)) (omega (arith, l, at))),
-          (λ i d g l. ap (λ ws. is_left_behind key through (get_or ws i d)) (sym view) ∙ behind p q last i d rest (omega (arith, g, at)) (omega (arith, l, size_is))),
-        )
+        ∙ behind (is_row_left_behind key through) q last i d all (omega (arith, g, start)) (omega (arith, l, size_is))
 
   module _ (cmp : T → T → Ordering) (key : List ℤ) (through : Bool) (sorted : IsStrictlySortedBy (by_row_then_time cmp) us) where
     -- the rows of sorted updates are split where the updates are

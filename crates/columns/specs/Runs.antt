@@ -30,6 +30,10 @@ starts_from place before (u ∷ us) =
 abbrev pub row_starts : {T : Type 0} → List (Update T) → List ℕ
 row_starts us = starts_from 0 [] us
 
+-- the place where a run begins, and behind the last run the end of the updates
+abbrev pub run_place : {T : Type 0} → List (Update T) → ℕ → ℕ
+run_place us run = slice_index_or (row_starts us) run (length us)
+
 -- there is a difference for each time, and a row for each run, and the runs begin where the row of
 -- the updates changes
 pub record IsColumns {T : Type 0} (starts : List ℕ) (rows : List (List ℤ)) (times : List T) (diffs : List ℤ) : Type 0 where

@@ -1,8 +1,8 @@
 //! One column of a table: a list of numbers, one for each row.
 //!
 //! A column may be longer than the table is. What stands behind the last row belongs to a row whose
-//! push was refused halfway. Nobody reads it, and the next [`Column::put`] drops it. So a push needs
-//! no second pass that makes room in all columns first.
+//! push was refused halfway, or to rows that were dropped. Nobody reads it, and the next
+//! [`Column::put`] drops it. So a push needs no second pass that makes room in all columns first.
 ghost use Rattle.std.specs.Prelude.{◌≡◌, ◌<◌, ◌≤◌, ◌++◌, ◌∷◌, [], pos, take, length, slice_index_or, IfOk, IfErr, OnOk, OnErr};
 ghost use Rattle.update.specs.declared.refusal.Refusal.TheVariants.{OutOfMemory};
 
@@ -25,12 +25,12 @@ impl Model for Column {
 }
 
 impl Column {
-    /// A column of this many zeros. Refused only with `OutOfMemory`.
-    pub(crate) fn zeros(alloc: Global, height: usize) -> Result<Column, Refusal>
+    /// A column of this many zeros, with room for so many items. Refused only with `OutOfMemory`.
+    pub(crate) fn zeros(alloc: Global, height: usize, room: usize) -> Result<Column, Refusal>
         ensures long { IfOk result (λ column. length column ≡ height) }
         ensures refused { IfErr result (λ refusal. refusal ≡ OutOfMemory) }
     {
-        let mut items = Vec::new(alloc);
+        let mut items = Vec::with_capacity(alloc, room)?;
         items.resize(height, 0)?;
         Ok(Column { items })
     }

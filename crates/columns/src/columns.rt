@@ -6,7 +6,7 @@
 //!
 //! A push that is refused changes nothing: it asks for the memory of all lists before it writes
 //! into one.
-ghost use Rattle.std.specs.Prelude.{◌≡◌, ◌<◌, ◌≤◌, ◌-◌, ◌++◌, ◌∷◌, [], Some, cond, map, true, false, take, drop, slice_range, length, slice_index, slice_get, IsSomeAnd, IfOk, IfErr, OnOk, OnErr};
+ghost use Rattle.std.specs.Prelude.{◌≡◌, ◌<◌, ◌≤◌, ◌-◌, ◌++◌, ◌∷◌, [], Some, cond, map, true, false, take, drop, slice_range, length, slice_get, IsSomeAnd, IfOk, IfErr, OnOk, OnErr};
 ghost use Rattle.std.specs.Cmp.Lexicographic.{slice_cmp};
 ghost use Rattle.std.specs.List.{AllWithin, filter};
 ghost use Rattle.std.specs.List.Sorted.{IsStrictlySortedBy, IsPartitionPoint};
@@ -18,8 +18,10 @@ ghost use Rattle.columns.specs.Keys.{by_row_then_time, begins_with, at_key, is_l
 ghost use Rattle.columns.specs.Runs.{run_number, row_starts, AreRuns};
 ghost use Rattle.columns.specs.Tables.{last_row};
 
-use crate::runs::{place_of, run_at, run_near};
-use crate::seeking::{first_kept, gallop};
+mod cursor;
+mod plain;
+
+use crate::runs::{run_at, run_near};
 use crate::table::Table;
 use lattice::Lattice;
 use row::Row;
@@ -51,7 +53,7 @@ impl<T: Lattice> Model for Columns<T> {
     ghost invariant = { λ c. IsColumns c.starts.items c.rows c.times.items c.diffs.items };
 }
 
-// (written by hand, so that to let a list go is one step in the proofs of whoever holds it)
+// (written by hand, so that to let a list go is one step in the proofs of its owners)
 impl<T: Lattice> Drop for Columns<T> {
     fn drop(self) {
         let Columns {
@@ -119,19 +121,20 @@ impl<T: Lattice> Columns<T> {
         }
     }
 
-    /// No updates, with room for the times and the differences of so many. Refused only with
-    /// `OutOfMemory`.
-    pub fn with_capacity(alloc: Global, updates: usize) -> Result<Columns<T>, Refusal>
+    /// No updates, with room for so many in so many runs. Refused only with `OutOfMemory`.
+    pub fn with_capacity(alloc: Global, updates: usize, runs: usize) -> Result<Columns<T>, Refusal>
         ensures none { IfOk result (λ columns. columns ≡ []) }
         ensures refused { IfErr result (λ refusal. refusal ≡ OutOfMemory) }
     {
         let times = Vec::with_capacity(alloc, updates)?;
         let diffs = Vec::with_capacity(alloc, updates)?;
+        let starts = Vec::with_capacity(alloc, runs)?;
+        let rows = Table::with_capacity(alloc, runs)?;
         Ok(Columns {
             times,
             diffs,
-            starts: Vec::new(alloc),
-            rows: Table::new(alloc),
+            starts,
+            rows,
         })
     }
 
@@ -222,16 +225,6 @@ impl<T: Lattice> Columns<T> {
         ensures { IsSomeAnd (slice_get self.now i) (λ u. result ≡ u.row) }
     {
         self.rows.row(run_at(self.starts.as_slice(), i))
-    }
-
-    /// The row of a run, counted from 0; [`starts`](Columns::starts) says where it begins. Takes no
-    /// memory.
-    pub fn run_row(&self, run: usize) -> Row
-        requires { run < length (row_starts self.now) }
-        ensures { IsSomeAnd (slice_get self.now (slice_index (row_starts self.now) run))
-            (λ u. result ≡ u.row) }
-    {
-        self.rows.row(run)
     }
 
     /// The number of the run of update `i`, counted from 0; [`starts`](Columns::starts) says where
@@ -352,8 +345,8 @@ impl<T: Lattice> Columns<T> {
             return length;
         }
         let starts = self.starts.as_slice();
-        let run = gallop(&self.rows, run_at(starts, from), key, through);
-        from.max(place_of(starts, run, length))
+        let run = self.run_kept(run_at(starts, from), key, through);
+        from.max(self.run_start(run))
     }
 
     // The index of the first update that a reader does not leave behind, by a binary search of the
@@ -364,8 +357,7 @@ impl<T: Lattice> Columns<T> {
         ensures parted { IsPartitionPoint (λ u. is_left_behind key.now through u ≡ true)
             (λ u. is_left_behind key.now through u ≡ false) self.now result }
     {
-        let run = first_kept(&self.rows, 0..self.rows.len(), key, through);
-        place_of(self.starts.as_slice(), run, self.times.len())
+        self.run_start(self.run_split(key, through))
     }
 
     /// The range of the updates whose rows begin with the columns of the key. If there are none,

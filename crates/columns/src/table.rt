@@ -3,7 +3,7 @@
 //!
 //! Rows of several widths may stand in one table. Each column has an item for each row, and 0 where
 //! the row is too short; the width of the row says which items are its own.
-ghost use Rattle.std.specs.Prelude.{◌≡◌, ◌<◌, ◌≤◌, ◌++◌, ◌∷◌, [], ℕ, pos, take, length, slice_index_or, IfErr, OnOk, OnErr};
+ghost use Rattle.std.specs.Prelude.{◌≡◌, ◌<◌, ◌≤◌, ◌++◌, ◌∷◌, [], ℕ, pos, take, length, slice_index_or, IfOk, IfErr, OnOk, OnErr};
 ghost use Rattle.std.specs.Cmp.Lexicographic.{slice_cmp};
 ghost use Rattle.std.specs.List.{All};
 ghost use Rattle.std.specs.Ordering.{int_cmp};
@@ -36,8 +36,8 @@ impl Model for Table {
     ghost invariant = { λ t. IsTable t.columns.items t.widths.items };
 }
 
-// Appends columns of zeros until there are as many as the width.
-fn widen(columns: &mut Vec<Column>, width: usize, height: usize) -> Result<(), Refusal>
+// Appends columns of zeros until there are as many as the width. Each has room for so many rows.
+fn widen(columns: &mut Vec<Column>, width: usize, height: usize, room: usize) -> Result<(), Refusal>
     requires { All (λ column. height ≤ length column) columns.old.items }
     ensures long { All (λ column. height ≤ length column) columns.new.items }
     ensures same { take (length columns.old.items) columns.new.items ≡ columns.old.items }
@@ -47,7 +47,7 @@ fn widen(columns: &mut Vec<Column>, width: usize, height: usize) -> Result<(), R
 {
     let alloc = *columns.allocator();
     while columns.len() < width {
-        columns.push(Column::zeros(alloc, height)?)?;
+        columns.push(Column::zeros(alloc, height, room)?)?;
     }
     Ok(())
 }
@@ -97,6 +97,19 @@ impl Table {
         }
     }
 
+    /// No rows, with room for so many: a column gets it when the first row that has it comes.
+    /// Refused only with `OutOfMemory`.
+    pub(crate) fn with_capacity(alloc: Global, rows: usize) -> Result<Table, Refusal>
+        ensures none { IfOk result (λ table. table ≡ []) }
+        ensures refused { IfErr result (λ refusal. refusal ≡ OutOfMemory) }
+    {
+        let widths = Vec::with_capacity(alloc, rows)?;
+        Ok(Table {
+            columns: Vec::new(alloc),
+            widths,
+        })
+    }
+
     /// The number of rows. Takes no memory.
     pub(crate) fn len(&self) -> usize
         ensures { result ≡ length self.now }
@@ -112,10 +125,19 @@ impl Table {
     {
         let height = self.widths.len();
         let columns = row.columns();
-        widen(&mut self.columns, columns.len(), height)?;
+        // (a new column becomes as long as the list of widths, so it gets as much room)
+        let room = self.widths.capacity();
+        widen(&mut self.columns, columns.len(), height, room)?;
         put_row(&mut self.columns, height, columns)?;
         self.widths.push(columns.len() as u8)?;
         Ok(())
+    }
+
+    /// Drops the rows from a number on. Takes no memory.
+    pub(crate) fn truncate(&mut self, rows: usize)
+        ensures { self.new ≡ take rows self.old }
+    {
+        self.widths.truncate(rows);
     }
 
     /// The row of a number. Takes no memory.

@@ -89,11 +89,21 @@ fn pushing_takes_memory(rt: HostRuntime) -> Result<(), Fail> {
 fn rows_are_stored_once(rt: HostRuntime) -> Result<(), Fail> {
     let columns = pushed(rt.alloc())?;
     assert!(rt; columns.starts() == [0usize, 3, 4].as_slice());
-    assert!(rt;
-        columns.starts().len() == 3 && columns.run_row(1).columns() == [7i64, 2].as_slice()
-    );
+    assert!(rt; columns.runs() == 3 && columns.run_row(1).columns() == [7i64, 2].as_slice());
     assert!(rt; columns.diffs() == [1i64, -2, 4, 8, 16, 32].as_slice());
     assert!(rt; columns.times().len() == 6);
+    Ok(())
+}
+
+// A run begins where the one before it ends, and the number behind the last run stands at the end.
+#[test]
+fn runs_lie_one_behind_another(rt: HostRuntime) -> Result<(), Fail> {
+    let columns = pushed(rt.alloc())?;
+    assert!(rt; columns.run_start(0) == 0 && columns.run_start(1) == 3);
+    assert!(rt; columns.run_start(2) == 4 && columns.run_start(3) == 6);
+    assert!(rt; columns.runs() == 3);
+    assert!(rt; columns.run_row(0).columns() == [7i64, 1].as_slice());
+    assert!(rt; columns.run_row(2).columns() == [9i64].as_slice());
     Ok(())
 }
 

@@ -1,6 +1,6 @@
 -- How pairs are formed, one after the other: what one update of the batch adds, and what stands in
 -- for what.
-use Rattle.std.proofs.Common.{◌≡◌, ℕ, zero, suc, ◌+◌, ◌-◌, ◌≤◌, ◌<◌, Bool, List, [], ◌∷◌, ◌++◌, map, take, drop, length, get_or, slice_get, IsTrue, IsSomeAnd, refl, ◌∙◌, ap, arith, length-drop}
+use Rattle.std.proofs.Common.{◌≡◌, ℕ, zero, suc, ◌+◌, ◌-◌, ◌≤◌, ◌<◌, Bool, List, [], ◌∷◌, ◌++◌, map, take, drop, length, get_or, slice_get, IsTrue, IsSomeAnd, refl, ◌∙◌, ap, subst, arith, length-drop}
 use Rattle.std.specs.Prelude.{slice_range}
 use Rattle.std.specs.List.{Contains, list_all}
 use Rattle.std.proofs.lemmas.Bool.{and_parts}
@@ -25,6 +25,12 @@ module _ {X : Type 0} where
   at_some P [] i h d = absurd h
   at_some P (x ∷ xs) zero h d = h
   at_some P (x ∷ xs) (suc i) h d = at_some P xs i h d
+
+  -- what holds of what is read at a place holds of the element there
+  pub some_is : (P : X → Type 0) (xs : List X) (i : ℕ) (x : X) → IsSomeAnd (slice_get xs i) (λ y. x ≡ y) → P x → IsSomeAnd (slice_get xs i) P
+  some_is P [] i x e p = absurd e
+  some_is P (y ∷ xs) zero x e p = subst P e p
+  some_is P (y ∷ xs) (suc i) x e p = some_is P xs i x e p
 
   -- what is at a place is an element
   pub some_element : (P : X → Type 0) (xs : List X) (i : ℕ) → IsSomeAnd (slice_get xs i) P → (x : X) × Contains xs x × P x

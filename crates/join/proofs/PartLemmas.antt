@@ -95,6 +95,10 @@ module _ {T : Type 0} (below : T → T → Bool) where
     large = total_stands listed (vs ++ ws) (stands_in_turn listed (us ++ ws) (vs ++ ws) s (stands_before us vs ws t)) large;
   }
 
+  -- what has too large a total itself has a large part with any list
+  pub large_itself : (us ws : List (Update T)) → HasLargeTotal below us → HasLargePartWith below us ws
+  large_itself us ws large vs t = record { part = vs; within = part_front vs ws; large = total_stands us vs t large }
+
   -- what has a large part alone has one with any list
   pub large_alone : (us ws : List (Update T)) → HasLargePart below ws → HasLargePartWith below us ws
   large_alone us ws h vs t = large_more ws (vs ++ ws) (part_back vs ws) h

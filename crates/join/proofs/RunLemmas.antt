@@ -1,8 +1,8 @@
--- Runs: the updates of one key in a batch, and the pairs of two runs. Whichever run the outer loop
--- goes through, the same pairs are formed, in another order.
+-- The updates of a key in a batch, run by run, and the pairs of two lists of updates. Whichever of
+-- the two the outer loop goes through, the same pairs are formed, in another order.
 use Rattle.std.proofs.Common.{◌≡◌, ◌≢◌, ℕ, zero, suc, ◌+◌, ◌-◌, ◌*◌, ◌≤◌, ◌<◌, ◌^◌, Bool, true, List, [], ◌∷◌, ◌++◌, map, take, drop, length, get_or, slice_get, IsTrue, IsSomeAnd, min, ℤ, refl, sym, ◌∙◌, ap, subst, arith, length-take, length-drop, append_assoc, ⊎_elim, w64}
 use Rattle.std.specs.Prelude.{slice_range, FitsSigned}
-use Rattle.std.specs.List.{filter, flat_map, list_all}
+use Rattle.std.specs.List.{AllWithin, filter, flat_map, list_all}
 use Rattle.std.specs.List.Sorted.{IsPermutation, IsStrictlySortedBy}
 use Rattle.std.specs.Cmp.Lexicographic.{slice_cmp, lists_ties}
 use Rattle.std.specs.Ordering.{int_cmp, is_eq, is_le, ordering_reverse}
@@ -11,25 +11,28 @@ use Rattle.std.specs.declared.cmp.Ordering.TheVariants.{Less, Equal, Greater}
 use Rattle.std.proofs.lemmas.Bool.{and_parts, and_from, true≢false, cases_lt, leb-true, le-leb}
 use Rattle.std.proofs.lemmas.Cmp.{tied_itself}
 use Rattle.std.proofs.lemmas.Grind.{flat_map-append}
-use Rattle.std.proofs.lemmas.List.{take-append-drop, drop-take, drop-drop, get_or-take, get_or-drop, length-append, length-map, map-append, append-nil}
+use Rattle.std.proofs.lemmas.List.{take-append-drop, drop-take, drop-drop, get_or-take, get_or-drop, length-append, length-map, map-append, append-nil, take_more}
 use Rattle.std.proofs.lemmas.List.Elements.{filter_passes}
+use Rattle.std.proofs.lemmas.List.Folds.{list_all-append}
 use Rattle.std.proofs.lemmas.List.Sorted.{IsPermutation-sym}
 use Rattle.std.proofs.lemmas.List.Sums.{list_all-from_AllPass}
 use Rattle.lattice.proofs.FrontierLemmas.{all_more}
 use Rattle.antichain.proofs.Lists.{all_at, all_from}
 use Rattle.update.specs.declared.change.Update.{Update}
 use Rattle.plan.proofs.CountLemmas.{row_same}
+use Rattle.columns.specs.Runs.{row_starts, run_place}
+use Rattle.columns.proofs.PlaceLemmas.{run_place_end, run_place_within, run_place_onward, run_place_up, parts_joined}
 use Rattle.batch.specs.Batches.{by_row_then_time, at_key, AllBefore, NoneBefore, NoneAfter, AllAfter}
 use Rattle.batch.proofs.SeekLemmas.{range_long}
 use Rattle.join.specs.declared.forming.Side.{Side}
 use Rattle.join.specs.declared.forming.Side.TheVariants.{Left, Right}
 use Rattle.join.specs.Pairs.{is_keyed, is_wide}
 use Rattle.join.specs.Parts.{ArePartOf}
-use Rattle.join.specs.Forming.{turned, formed_pair, formed_fits, formed_fit, formed_with, formed_each, formed_all, StandsIn, HasLargeDiff, HasLargePartWith}
-use Rattle.join.proofs.FormingLemmas.{passes_at, some_at, at_some, some_element, range_more, image_at}
+use Rattle.join.specs.Forming.{turned, formed_pair, formed_fits, formed_fit, formed_with, formed_each, formed_all, updates_in, StandsIn, HasLargeDiff, HasLargePartWith}
+use Rattle.join.proofs.FormingLemmas.{passes_at, some_at, at_some, some_is, some_element, range_more, image_at}
 use Rattle.join.proofs.OrderLemmas.{rows_total, keys_rise, front_grows, front_stays, found_is}
-use Rattle.join.proofs.PartLemmas.{part_moved, part_front, part_back, part_of_part, pieces_part, large_so_far}
-use Rattle.join.proofs.StandingLemmas.{stands_before, stands_behind, stands_in_turn, moved_stands}
+use Rattle.join.proofs.PartLemmas.{part_moved, part_front, part_back, part_of_part, pieces_part, large_so_far, large_with_more}
+use Rattle.join.proofs.StandingLemmas.{stands_itself, stands_before, stands_behind, stands_in_turn, moved_stands}
 use Rattle.join.proofs.TurnedLemmas.{by_columns}
 
 -- ---- parts of a list
@@ -60,14 +63,6 @@ module _ {X : Type 0} where
       some_at P (slice_range xs a b) (i - a) here
       (λ d. subst P (sym (place xs a b (i - a) d here ∙ ap (λ n. get_or xs n d) same)) (at_some P xs i e d))
 
-  -- a test that all elements of a part pass is passed by the one at a place
-  pub part_passes : (p : X → Bool) (xs : List X) (a i b : ℕ) (d : X) → a ≤ i → i < b → b ≤ length xs → IsTrue (list_all p (slice_range xs a b)) → IsTrue (p (get_or xs i d))
-  part_passes p xs a i b d g h l all =
-      let long = range_long (λ _. true) xs a b (omega (arith, g, h)) l in
-      let here : i - a < length (slice_range xs a b) = omega (arith, g, h, long) in
-      let same : a + (i - a) ≡ i = omega (arith, g) in
-      subst (λ x. IsTrue (p x)) (place xs a b (i - a) d here ∙ ap (λ n. get_or xs n d) same) (passes_at p (slice_range xs a b) (i - a) d here all)
-
   -- a list up to a place, and then a part, is the list up to the end of the part
   pub part_behind : (xs : List X) (a b : ℕ) → a ≤ b → take a xs ++ slice_range xs a b ≡ take b xs
   part_behind xs a b h =
@@ -96,38 +91,42 @@ module _ {X : Type 0} where
   pub part_all : (p : X → Bool) (xs : List X) (a b : ℕ) → IsTrue (list_all p xs) → IsTrue (list_all p (slice_range xs a b))
   part_all p xs a b all = all_take p (b - a) (drop a xs) (all_drop p a xs all)
 
+  -- and by those of a part of a part
+  pub part_within : (p : X → Bool) (xs : List X) (a b c d : ℕ) → a ≤ b → b ≤ c → c ≤ d → IsTrue (list_all p (slice_range xs a d)) → IsTrue (list_all p (slice_range xs b c))
+  part_within p xs a b c d f g h all =
+      let front = sym (list_all-append p (slice_range xs a b) (slice_range xs b d)) ∙ ap (list_all p) (parts_joined xs a b d f (omega (arith, g, h))) ∙ all in
+      let back = sym (list_all-append p (slice_range xs b c) (slice_range xs c d)) ∙ ap (list_all p) (parts_joined xs b c d g h) ∙ (and_parts _ _ front).1 in
+      (and_parts _ _ back).0
+
+  -- an element at a place before the end
+  pub element_at : (xs : List X) (i : ℕ) → i < length xs → (x : X) × IsSomeAnd (slice_get xs i) (λ y. x ≡ y)
+  element_at [] i h = absurd (omega (arith, h))
+  element_at (x ∷ xs) zero h = (x, refl)
+  element_at (x ∷ xs) (suc i) h = element_at xs i (omega (arith, h))
+
   filter_all : (xs : List X) → filter (λ _. true) xs ≡ xs
   filter_all [] = refl
   filter_all (x ∷ xs) = ap (λ ys. x ∷ ys) (filter_all xs)
 
 -- ---- the pairs of one update with a run
 
-module _ {T : Type 0} (f : Update T → Update T) (vs : List (Update T)) where
+module _ {T : Type 0} (f : Update T → Update T) (vs : List (Update T)) (i : ℕ) (v : Update T) (e : IsSomeAnd (slice_get vs i) (λ w. v ≡ w)) where
   -- a pair with too large a diff is one of the pairs of the run
-  pub part_large : (a i b : ℕ) → a ≤ i → i < b → b ≤ length vs → IsSomeAnd (slice_get vs i) (λ v. FitsSigned w64 (f v).diff → ⊥) → HasLargeDiff (map f (slice_range vs a b))
-  part_large a i b g h l e =
-      let here = part_at (λ v. FitsSigned w64 (f v).diff → ⊥) vs a i b g h l e in
-      some_element (λ w. FitsSigned w64 w.diff → ⊥) (map f (slice_range vs a b)) (i - a)
-      (image_at f (λ w. FitsSigned w64 w.diff → ⊥) (slice_range vs a b) (i - a) here)
+  pub item_large : (FitsSigned w64 (f v).diff → ⊥) → HasLargeDiff (map f vs)
+  item_large h =
+      some_element (λ w. FitsSigned w64 w.diff → ⊥) (map f vs) i
+      (image_at f (λ w. FitsSigned w64 w.diff → ⊥) vs i (some_is (λ w. FitsSigned w64 (f w).diff → ⊥) vs i v e h))
 
   -- what stands in for the pairs so far, with one more pair, stands in for the pairs with that one
-  pub part_stands : (a i : ℕ) (old before new : List (Update T)) → a ≤ i → i < length vs
-      → StandsIn before (old ++ map f (slice_range vs a i))
-      → IsSomeAnd (slice_get vs i) (λ v. StandsIn new (before ++ f v ∷ []))
-      → StandsIn new (old ++ map f (slice_range vs a (i + 1)))
-  part_stands a i old before new g h s e =
-      some_of vs h (λ d.
-      let v = get_or vs i d in
-      let so_far = map f (slice_range vs a i) in
-      let grown : map f (slice_range vs a (i + 1)) ≡ so_far ++ f v ∷ [] = ap (map f) (range_more vs a i d g h) ∙ map-append f (slice_range vs a i) (v ∷ []) in
+  pub item_stands : (old before new : List (Update T)) → i < length vs → StandsIn before (old ++ map f (take i vs)) → StandsIn new (before ++ f v ∷ []) → StandsIn new (old ++ map f (take (i + 1) vs))
+  item_stands old before new h s t =
+      let so_far = map f (take i vs) in
+      let is : get_or vs i v ≡ v = sym (at_some (λ w. v ≡ w) vs i e v) in
+      let grown : map f (take (i + 1) vs) ≡ so_far ++ f v ∷ [] =
+      ap (map f) (take_more vs i v h ∙ ap (λ w. take i vs ++ w ∷ []) is) ∙ map-append f (take i vs) (v ∷ []) in
       subst (StandsIn new)
       (append_assoc old so_far (f v ∷ []) ∙ ap (λ ys. old ++ ys) (sym grown))
-      (stands_in_turn new (before ++ f v ∷ []) ((old ++ so_far) ++ f v ∷ []) (at_some (λ v. StandsIn new (before ++ f v ∷ [])) vs i e d) (stands_before before (old ++ so_far) (f v ∷ []) s)))
-    where
-      -- a list that has an element at a place
-      some_of : (us : List (Update T)) → i < length us → (Update T → StandsIn new (old ++ map f (slice_range vs a (i + 1)))) → StandsIn new (old ++ map f (slice_range vs a (i + 1)))
-      some_of [] l k = absurd (omega (arith, l))
-      some_of (u ∷ us) l k = k u
+      (stands_in_turn new (before ++ f v ∷ []) ((old ++ so_far) ++ f v ∷ []) t (stands_before before (old ++ so_far) (f v ∷ []) s))
 
 -- ---- the pairs of two runs
 
@@ -179,6 +178,17 @@ module _ {T : Type 0} (joined : T → T → T) (k : ℕ) where
       let here = length-append (map (formed_pair side joined k u) vs) (formed_each side joined k us vs) in
       let one = length-map vs (formed_pair side joined k u) in
       omega (arith, rest, here, one)
+
+  -- with nothing there are no pairs
+  each_none : (side : Side) (us : List (Update T)) → formed_each side joined k us [] ≡ []
+  each_none side [] = refl
+  each_none side (u ∷ us) = each_none side us
+
+  -- so what is listed stands in for itself with the pairs
+  pub none_stands : (side : Side) (us vs old : List (Update T)) → vs ≡ [] → StandsIn old (old ++ formed_each side joined k us vs)
+  none_stands side us vs old e =
+      subst (λ ps. StandsIn old (old ++ ps)) (sym (ap (formed_each side joined k us) e ∙ each_none side us))
+      (subst (StandsIn old) (sym (append-nil old)) (stands_itself old))
 
   -- the updates of one key form their pairs with the run of that key
   pub all_is_each : (side : Side) (key : List ℤ) (us vs : List (Update T)) → IsTrue (list_all (is_keyed k key) us) → formed_all side joined k us vs ≡ formed_each side joined k us (filter (is_keyed k key) vs)
@@ -237,6 +247,100 @@ module _ {T : Type 0} (joined : T → T → T) (k : ℕ) where
         part_of_part (ones u) grown (formed_each side joined k (slice_range us a b) vs)
         (subst (ArePartOf (ones u)) (sym (each_grown (omega (arith, h, l)))) (part_back so_far (ones u)))
         (each_part b h l)
+
+  -- ---- one part of the outer updates after the other
+
+  module _ (side : Side) (us vs : List (Update T)) (a b c : ℕ) (g : a ≤ b) (h : b ≤ c) where
+    abbrev each_in : ℕ → ℕ → List (Update T)
+    each_in from to = formed_each side joined k (slice_range us from to) vs
+
+    each_joined : each_in a c ≡ each_in a b ++ each_in b c
+    each_joined =
+        ap (λ ws. formed_each side joined k ws vs) (sym (parts_joined us a b c g h))
+        ∙ flat_map-append (λ u. map (formed_pair side joined k u) vs) (slice_range us a b) (slice_range us b c)
+
+    -- what stands in for the pairs so far, with those of the next part, stands in for the pairs with
+    -- that part
+    pub parts_more : (old before new : List (Update T)) → StandsIn before (old ++ each_in a b) → StandsIn new (before ++ each_in b c) → StandsIn new (old ++ each_in a c)
+    parts_more old before new s t =
+        subst (StandsIn new)
+        (append_assoc old (each_in a b) (each_in b c) ∙ ap (λ ys. old ++ ys) (sym each_joined))
+        (stands_in_turn new (before ++ each_in b c) ((old ++ each_in a b) ++ each_in b c) t (stands_before before (old ++ each_in a b) (each_in b c) s))
+
+    -- if they have too large a part, then all pairs have
+    parts_large : (below : T → T → Bool) (old before : List (Update T)) → StandsIn before (old ++ each_in a b) → HasLargePartWith below before (each_in b c) → HasLargePartWith below old (each_in a c)
+    parts_large below old before s large =
+        subst (HasLargePartWith below old) (sym each_joined)
+        (large_so_far below old (each_in a b) before (each_in b c) s large)
+
+  module _ (side : Side) (us vs : List (Update T)) (start run from to : ℕ) (g : start ≤ run) (e : from ≡ run_place us run) (f : to ≡ run_place us (run + 1)) where
+    abbrev each_of : ℕ → ℕ → List (Update T)
+    each_of i j = formed_each side joined k (updates_in us i j) vs
+
+    abbrev each_here : List (Update T)
+    each_here = formed_each side joined k (slice_range us from to) vs
+
+    here_is : each_here ≡ each_of run (run + 1)
+    here_is i = formed_each side joined k (slice_range us (e i) (f i)) vs
+
+    first_up : run_place us start ≤ run_place us run
+    first_up = run_place_up us start run g
+
+    next_up : run_place us run ≤ run_place us (run + 1)
+    next_up = run_place_up us run (run + 1) (omega arith)
+
+    -- so it is from run to run
+    pub run_more : (old before new : List (Update T)) → StandsIn before (old ++ each_of start run) → StandsIn new (before ++ each_here) → StandsIn new (old ++ each_of start (run + 1))
+    run_more old before new s t =
+        parts_more side us vs (run_place us start) (run_place us run) (run_place us (run + 1)) first_up next_up old before new s
+        (subst (λ ps. StandsIn new (before ++ ps)) here_is t)
+
+    pub run_large : (below : T → T → Bool) (end : ℕ) → run < end → (old before : List (Update T)) → StandsIn before (old ++ each_of start run) → HasLargePartWith below before each_here → HasLargePartWith below old (each_of start end)
+    run_large below end h old before s large =
+        let last = run_place_up us (run + 1) end (omega (arith, h)) in
+        let upto = run_place_up us start (run + 1) (omega (arith, g)) in
+        let grown = parts_large side us vs (run_place us start) (run_place us run) (run_place us (run + 1)) first_up next_up below old before s (subst (HasLargePartWith below before) here_is large) in
+        large_with_more below old (each_of start (run + 1)) (each_of start end)
+        (subst (ArePartOf (each_of start (run + 1))) (sym (each_joined side us vs (run_place us start) (run_place us (run + 1)) (run_place us end) upto last)) (part_front (each_of start (run + 1)) (each_of (run + 1) end)))
+        grown
+
+-- what all updates of some runs pass, those of one of them pass
+pub run_within : {T : Type 0} (p : Update T → Bool) (us : List (Update T)) (start run end from to : ℕ) → start ≤ run → run < end → from ≡ run_place us run → to ≡ run_place us (run + 1) → IsTrue (list_all p (updates_in us start end)) → IsTrue (list_all p (slice_range us from to))
+run_within p us start run end from to g h e f all =
+    (λ i. list_all p (slice_range us (e i) (f i)))
+    ∙ part_within p us (run_place us start) (run_place us run) (run_place us (run + 1)) (run_place us end) (run_place_up us start run g) (run_place_up us run (run + 1) (omega arith)) (run_place_up us (run + 1) end (omega (arith, h))) all
+
+module _ {T : Type 0} (us : List (Update T)) (i : ℕ) (h : i < length (row_starts us)) where
+  -- a run begins at an update
+  pub run_here : run_place us i < length us
+  run_here =
+      let next = run_place_onward us i h in
+      let within = run_place_within us (i + 1) in
+      omega (arith, next, within)
+
+  -- the runs behind it begin behind that
+  pub run_before : (j : ℕ) → i < j → run_place us i < run_place us j
+  run_before j g =
+      let next = run_place_onward us i h in
+      let up = run_place_up us (i + 1) j (omega (arith, g)) in
+      omega (arith, next, up)
+
+-- what begins before the end is a run
+pub run_inside : {T : Type 0} (us : List (Update T)) (i : ℕ) → run_place us i < length us → i < length (row_starts us)
+run_inside us i l =
+    ⊎_elim (λ m. m)
+    (λ m.
+    let up = run_place_up us (length (row_starts us)) i m in
+    let last = run_place_end us in
+    absurd (omega (arith, up, last, l)))
+    (cases_lt i (length (row_starts us)))
+
+-- and those that begin behind it are behind it
+pub run_behind : {T : Type 0} (us : List (Update T)) (i j : ℕ) → run_place us i < run_place us j → i < j
+run_behind us i j l =
+    ⊎_elim (λ m. m)
+    (λ m. let up = run_place_up us j i m in absurd (omega (arith, up, l)))
+    (cases_lt i j)
 
 -- ---- the run of a key in a sorted batch
 
@@ -335,30 +439,60 @@ found_pass p xs ys is = subst (λ zs. IsTrue (list_all p zs)) (sym is) (list_all
 
 -- ---- what is found of a key
 
--- the key of u: its run in us lies between two places, and its updates in vs between two others
-pub record IsFound {T : Type 0} (k : ℕ) (us vs : List (Update T)) (u : Update T) (i next start end : ℕ) : Type 0 where
-  pub wide : k ≤ length u.row
-  pub keyed : IsTrue (list_all (is_keyed k (take k u.row)) (slice_range us i next))
-  pub front : AllBefore (take k u.row) (take start vs)
-  pub found : slice_range vs start end ≡ filter (is_keyed k (take k u.row)) vs
+-- the key of a row: its updates in us lie between two places, and those in vs between two others
+pub record IsFound {T : Type 0} (k : ℕ) (us vs : List (Update T)) (row : List ℤ) (i next start end : ℕ) : Type 0 where
+  pub wide : k ≤ length row
+  pub keyed : IsTrue (list_all (is_keyed k (take k row)) (slice_range us i next))
+  pub onward : i < next
+  pub front : IsSomeAnd (slice_get us i) (λ w. AllBefore (take k w.row) (take start vs))
+  pub found : slice_range vs start end ≡ filter (is_keyed k (take k row)) vs
 
--- three searches find it
-pub is_found : {T : Type 0} (cmp : T → T → Ordering) (k : ℕ) (us vs : List (Update T)) → IsStrictlySortedBy (by_row_then_time cmp) us → IsTrue (list_all (λ w. is_wide k w.row) us)
-    → (i from next start end : ℕ) (u : Update T) (key : List ℤ) → IsSomeAnd (slice_get us i) (λ w. u ≡ w) → i < length us → key ≡ take k u.row
-    → IsSomeAnd (slice_get us i) (λ w. AllBefore (take k w.row) (take from vs))
-    → i ≤ next → next ≤ length us → NoneAfter key (slice_range us i next)
-    → from ≤ start → start ≤ length vs → AllBefore key (slice_range vs from start) → NoneBefore key (drop start vs)
-    → start ≤ end → end ≤ length vs → NoneAfter key (slice_range vs start end) → AllAfter key (drop end vs)
-    → IsFound k us vs u i next start end
-is_found cmp k us vs sorted all i from next start end u key e h is before g l none g' l' gone rest g'' l'' inside behind =
-    let wide = own_wide cmp k us sorted all i u e h in
-    let front = front_on cmp k us sorted all i u e h vs from start g' l' before (subst (λ r. AllBefore r (slice_range vs from start)) is gone) in
-    record {
-      wide = wide;
-      keyed = run_keyed cmp k us sorted all i u e h next g l (subst (λ r. NoneAfter r (slice_range us i next)) is none);
-      front = front;
-      found = found_is k u.row vs start end wide g'' l'' front (subst (λ r. NoneBefore r (drop start vs)) is rest) (subst (λ r. NoneAfter r (slice_range vs start end)) is inside) (subst (λ r. AllAfter r (drop end vs)) is behind);
-    }
+module _ {T : Type 0} (cmp : T → T → Ordering) (k : ℕ) (us vs : List (Update T)) (sorted : IsStrictlySortedBy (by_row_then_time cmp) us) (all : IsTrue (list_all (λ w. is_wide k w.row) us)) where
+  -- three searches find it
+  pub is_found : (i from next start end : ℕ) (u : Update T) (key : List ℤ) → IsSomeAnd (slice_get us i) (λ w. u ≡ w) → i < length us → key ≡ take k u.row
+      → IsSomeAnd (slice_get us i) (λ w. AllBefore (take k w.row) (take from vs))
+      → i ≤ next → next ≤ length us → NoneAfter key (slice_range us i next) → AllAfter key (drop next us)
+      → from ≤ start → start ≤ length vs → AllBefore key (slice_range vs from start) → NoneBefore key (drop start vs)
+      → start ≤ end → end ≤ length vs → NoneAfter key (slice_range vs start end) → AllAfter key (drop end vs)
+      → IsFound k us vs u.row i next start end
+  is_found i from next start end u key e h is before g l none past g' l' gone rest g'' l'' inside behind =
+      let wide = own_wide cmp k us sorted all i u e h in
+      let front = front_on cmp k us sorted all i u e h vs from start g' l' before (subst (λ r. AllBefore r (slice_range vs from start)) is gone) in
+      record {
+        wide = wide;
+        keyed = run_keyed cmp k us sorted all i u e h next g l (subst (λ r. NoneAfter r (slice_range us i next)) is none);
+        onward = run_onward cmp k us sorted all i u e h next g (subst (λ r. AllAfter r (drop next us)) is past);
+        front = front_there cmp k us sorted all i u e h (take start vs) front;
+        found = found_is k u.row vs start end wide g'' l'' front (subst (λ r. NoneBefore r (drop start vs)) is rest) (subst (λ r. NoneAfter r (slice_range vs start end)) is inside) (subst (λ r. AllAfter r (drop end vs)) is behind);
+      }
+
+  row_there : (i to : ℕ) (row : List ℤ) → i < length us → i < to → AllWithin (λ w. w.row ≡ row) us i to → (u : Update T) → IsSomeAnd (slice_get us i) (λ w. u ≡ w) → u.row ≡ row
+  row_there i to row h g alike u e = ap (λ w. w.row) (at_some (λ w. u ≡ w) us i e u) ∙ alike i u (omega arith) g
+
+  -- the row of a run has the columns of the key
+  pub run_wide : (i to : ℕ) (row : List ℤ) → i < length us → i < to → AllWithin (λ w. w.row ≡ row) us i to → k ≤ length row
+  run_wide i to row h g alike =
+      let u = element_at us i h in
+      let same = row_there i to row h g alike u.0 u.1 in
+      subst (λ r. k ≤ length r) same (own_wide cmp k us sorted all i u.0 u.1 h)
+
+  -- so three searches from a run on find its key
+  pub run_found : (at from next start end : ℕ) (row key : List ℤ) → at < length (row_starts us) → AllWithin (λ w. w.row ≡ row) us (run_place us at) (run_place us (at + 1)) → key ≡ take k row
+      → IsSomeAnd (slice_get us (run_place us at)) (λ w. AllBefore (take k w.row) (take (run_place vs from) vs))
+      → run_place us at ≤ run_place us next → NoneAfter key (updates_in us at next) → AllAfter key (drop (run_place us next) us)
+      → run_place vs from ≤ run_place vs start → AllBefore key (updates_in vs from start) → NoneBefore key (drop (run_place vs start) vs)
+      → run_place vs start ≤ run_place vs end → NoneAfter key (updates_in vs start end) → AllAfter key (drop (run_place vs end) vs)
+      → IsFound k us vs row (run_place us at) (run_place us next) (run_place vs start) (run_place vs end)
+  run_found at from next start end row key here alike is before g none past g' gone rest g'' inside behind =
+      let h = run_here us at here in
+      let onward = run_place_onward us at here in
+      let u = element_at us (run_place us at) h in
+      let same = row_there (run_place us at) (run_place us (at + 1)) row h onward alike u.0 u.1 in
+      subst (λ r. IsFound k us vs r (run_place us at) (run_place us next) (run_place vs start) (run_place vs end)) same
+      (is_found (run_place us at) (run_place vs from) (run_place us next) (run_place vs start) (run_place vs end) u.0 key u.1 h (is ∙ ap (take k) (sym same)) before
+      g (run_place_within us next) none past
+      g' (run_place_within vs start) gone rest
+      g'' (run_place_within vs end) inside behind)
 
 -- ---- one run of the batch after the other
 

@@ -1,8 +1,9 @@
 -- What a join forms of a new batch: the pairs of each of its updates with the updates of its key on
 -- the other side. The same definitions serve a batch on either side.
-use Rattle.std.specs.Prelude.{◌≡◌, ◌≤◌, ℕ, Bool, List, ◌++◌, map, take, ℤ, IsTrue, FitsSigned}
+use Rattle.std.specs.Prelude.{◌≡◌, ◌≤◌, ℕ, Bool, List, ◌++◌, map, take, slice_range, ℤ, IsTrue, FitsSigned}
 use Rattle.std.specs.Int.{w64}
 use Rattle.std.specs.List.{Contains, filter, flat_map, list_all}
+use Rattle.columns.specs.Runs.{run_place}
 use Rattle.update.specs.Updates.{total_where, size}
 use Rattle.update.specs.declared.change.Update.{Update}
 use Rattle.join.specs.declared.forming.Side.{Side}
@@ -16,6 +17,10 @@ turned Left = Right
 turned Right = Left
 
 module _ {T : Type 0} where
+  -- the updates of the runs from one on and before another one
+  abbrev pub updates_in : List (Update T) → ℕ → ℕ → List (Update T)
+  updates_in us start end = slice_range us (run_place us start) (run_place us end)
+
   -- the pair of an update u of the batch with an update v of the other side
   abbrev pub formed_pair : Side → (T → T → T) → ℕ → Update T → Update T → Update T
   formed_pair Left joined k u v = pair_of joined k u v

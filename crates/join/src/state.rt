@@ -138,10 +138,15 @@ impl<T: Lattice, L: Trace<Time = T>, R: Trace<Time = T>> JoinState<T, L, R> {
     /// - [`Refusal::OutOfMemory`] only if memory was refused, for the boundary or for pairs.
     ///
     /// Cost: each key of the batch is sought in each batch of the right side, from where the last
-    /// one was found, in the logarithm of the distance. Each pair is formed, and added to the one
+    /// one was found, in the logarithm of the distance. The updates of a key that is found are
+    /// copied from the side that has fewer of them. Each pair is formed, and added to the one
     /// before it if both have one row and time. Then n log n in the number of the pairs that are
-    /// left. No other update is read. Memory: twice the answer, the pairs of one update, and up to
-    /// four pairs for each update of the batch, or 4,096.
+    /// left: once for each key that has more than four pairs for each of its updates in the batch,
+    /// and once for all pairs. No other update is read.
+    ///
+    /// Memory: twice the pairs, if those of each key with each batch of the right side are added
+    /// up, and eight pairs for each update of the batch. Besides, the pairs of one key: twice what
+    /// they add up to, or four for each of its updates in the batch, or 256.
     pub fn take_left(
         &mut self,
         alloc: Global,

@@ -214,10 +214,11 @@ impl<T: Lattice> Levels<T> {
         let _given_up = self.underway.pop();
     }
 
-    /// Goes on with the newest merge, by as many updates as the fuel says, and answers how many were
-    /// copied and what is left of the fuel. Each update that is copied costs one unit. If there is fuel left when all is
-    /// read, then the new batch takes the place of those that were read, for one unit more. If it
-    /// is refused, then the merge is given up, and the list stays as it was.
+    /// Goes on with the newest merge, by as many updates as the fuel says, and answers how many
+    /// were copied and what is left of the fuel. Each update that is copied costs one unit. If
+    /// there is fuel left when all is read, then the new batch takes the place of those that were
+    /// read, for one unit more. If it is refused, then the merge is given up, and the list stays
+    /// as it was.
     ///
     /// - [`Refusal::Overflow`] only if the total of some row at some moved time over what the merge
     ///   reads is no 64-bit number.

@@ -6,22 +6,10 @@ ghost use Rattle.operator.specs.Arrangements.{IsKeptWith, rows_have, times_from,
 
 use crate::arrangement::Arrangement;
 use antichain::Antichain;
-use batch::{Batch, BatchReader};
+use batch::{Batch, BatchReader, copy_runs};
 use lattice::{Lattice, Minimum};
 use std::alloc::Global;
 use update::{Refusal, Update};
-
-// A copy of update `i` of a batch. The number of its run is near.
-fn update_at<T: Lattice>(batch: &Batch<T>, i: usize, near: usize) -> Update<T>
-    requires { i < length batch.now.updates }
-    ensures { IsSomeAnd (slice_get batch.now.updates i) (λ u. result ≡ u) }
-{
-    Update {
-        time: batch.time(i),
-        row: batch.row_near(i, near),
-        diff: batch.diff(i),
-    }
-}
 
 /// The updates of a batch, as a list. Refused only with `OutOfMemory`.
 ///
@@ -31,11 +19,7 @@ pub fn updates_of<T: Lattice>(alloc: Global, batch: &Batch<T>) -> Result<Vec<Upd
     ensures refused { IfErr result (λ refusal. refusal ≡ OutOfMemory) }
 {
     let mut updates = Vec::new(alloc);
-    let mut run = 0;
-    for i in 0..batch.len() {
-        run = batch.run_near(i, run);
-        updates.push(update_at(batch, i, run))?;
-    }
+    copy_runs(&mut updates, batch, 0..batch.runs())?;
     Ok(updates)
 }
 

@@ -1,7 +1,7 @@
 -- The runs of a batch: it is in order of row, so the updates of one key are neighbours.
 use Rattle.std.proofs.Common.{◌≡◌, ℕ, zero, suc, ◌+◌, ◌-◌, ◌≤◌, ◌<◌, Bool, true, false, cond, List, [], ◌∷◌, ◌++◌, ℤ, map, take, drop, length, get_or, slice_get, Some, IsTrue, ◌⊎◌, inl, inr, ⊎_elim, refl, sym, ap, ◌∙◌, subst, arith, length-take, length-drop}
 use Rattle.std.specs.Prelude.{slice_range, nat_le}
-use Rattle.std.specs.List.{All, filter, list_all}
+use Rattle.std.specs.List.{All, AllWithin, filter, list_all}
 use Rattle.std.specs.List.Sorted.{IsStrictlySortedBy}
 use Rattle.std.specs.Option.{IsSomeAnd}
 use Rattle.std.specs.Cmp.{IsTotalOrder}
@@ -18,6 +18,8 @@ use Rattle.std.proofs.lemmas.Option.{none-some, same_Some}
 use Rattle.std.proofs.Math.Seq.{take-add}
 use Rattle.update.specs.Bags.{same_row}
 use Rattle.update.specs.declared.change.Update.{Update}
+use Rattle.columns.specs.Runs.{row_starts, run_place}
+use Rattle.columns.proofs.PlaceLemmas.{run_place_onward, run_place_within}
 use Rattle.batch.specs.Batches.{by_row_then_time, at_key, begins_with, NoneBefore, NoneAfter, AllAfter, AllBefore}
 use Rattle.batch.proofs.KeyLemmas.{parted, keeps_before}
 use Rattle.batch.proofs.SeekLemmas.{found_is_filter}
@@ -94,6 +96,19 @@ range_mapped f xs a i old new y from within is so_far push =
     ∙ ap (map f) (sym more)
 
 -- ---- runs
+
+-- what holds of the element at a place of a list, whatever is taken behind its end
+pub some_there : {X : Type 0} (P : X → Type 0) (xs : List X) (i : ℕ) → i < length xs → ((d : X) → P (get_or xs i d)) → IsSomeAnd (slice_get xs i) P
+some_there P [] i h a = absurd (omega (arith, h))
+some_there P (x ∷ xs) zero h a = a x
+some_there P (x ∷ xs) (suc i) h a = some_there P xs i (omega (arith, h)) a
+
+-- the first update of a run has its row
+pub first_of_run : {T : Type 0} (us : List (Update T)) (run : ℕ) (row : List ℤ) → run < length (row_starts us) → AllWithin (λ u. u.row ≡ row) us (run_place us run) (run_place us (run + 1)) → IsSomeAnd (slice_get us (run_place us run)) (λ u. row ≡ u.row)
+first_of_run us run row h all =
+    let onward = run_place_onward us run h in
+    let within = run_place_within us (run + 1) in
+    some_there (λ u. row ≡ u.row) us (run_place us run) (omega (arith, onward, within)) (λ d. sym (all (run_place us run) d (omega arith) onward))
 
 -- each row of wide updates has a key
 pub wide_row : {T : Type 0} (k : ℕ) (us : List (Update T)) (i : ℕ) (row : List ℤ) → IsTrue (are_wide k us) → IsSomeAnd (slice_get us i) (λ u. row ≡ u.row) → k ≤ length row

@@ -6,8 +6,8 @@
 //! history never changes, and other tables can refer to a history by its index.
 //!
 //! A history is changed at its index, and keeps its key. Only [`Histories::reserve`],
-//! [`Histories::give`] and [`Histories::compact`] take memory. A caller that pushes histories reserves room first, and then no
-//! later step can be refused. What was given can be taken back.
+//! [`Histories::give`] and [`Histories::compact`] take memory. A caller that pushes histories
+//! reserves room first, and then no later step can be refused. What was given can be taken back.
 ghost use Rattle.std.specs.Prelude.{◌≡◌, ◌≤◌, ◌<◌, ◌+◌, ◌++◌, ◌∷◌, [], None, Some, false, IfErr, IfSome, IsSomeAnd, OnErr, OnOk, length, set, slice_get};
 ghost use Rattle.std.specs.List.{list_any};
 ghost use Rattle.update.specs.Bags.{same_row};

@@ -10,6 +10,7 @@
 ghost use Rattle.std.specs.Prelude.{◌≡◌, ◌≢◌, ◌≤◌, ◌<◌, ◌+◌, ◌∷◌, [], ℕ, ℤ, List, IsTrue, IsSomeAnd, IfOk, IfErr, length, map, slice_get, slice_range, take};
 ghost use Rattle.std.specs.List.{AllByRecursion};
 ghost use Rattle.update.specs.declared.refusal.Refusal.{Refusal};
+ghost use Rattle.columns.specs.Runs.{row_starts, run_place};
 ghost use Rattle.key_history.specs.Standing.{are_wide};
 ghost use Rattle.reduce.specs.Histories.{AreHistories, AreKeysApart, ArePending, IsHistory, IsWaiting, history_of};
 ghost use Rattle.reduce.specs.Taking.{AreRenewed, IsPlaced, IsRenewed, made_from, or_else};
@@ -35,16 +36,18 @@ pub(crate) struct Renewal<T> {
     due: Vec<T>,
 }
 
-// The key of update `i` of a batch: the first `k` columns of its row.
-fn key_at<B: BatchReader>(alloc: Global, k: usize, batch: &B, i: usize) -> Row
+// The key of a run of a batch: the first `k` columns of its row.
+fn key_of<B: BatchReader>(alloc: Global, k: usize, batch: &B, run: usize) -> Row
     requires some { 1 ≤ k }
     requires few { k ≤ 8 }
-    requires within { i < length (B.content batch.now) }
+    requires within { run < length (row_starts (B.content batch.now)) }
     requires wide { IsTrue (are_wide k (B.content batch.now)) }
-    ensures key { IsSomeAnd (slice_get (B.content batch.now) i) (λ u. result ≡ take k u.row) }
+    ensures key { IsSomeAnd
+        (slice_get (B.content batch.now) (run_place (B.content batch.now) run))
+        (λ u. result ≡ take k u.row) }
     ensures width { length result ≡ k }
 {
-    Row::of(alloc, batch.row(i).key(k))
+    Row::of(alloc, batch.run_row(run).key(k))
 }
 
 // The times of the updates of a batch in this range.
@@ -59,7 +62,7 @@ fn times_in<B: BatchReader>(
         ≡ map (λ u. u.time) (slice_range (B.content batch.now) run.start run.end)) }
     ensures only { IfErr result (λ refused. refused ≡ Refusal.OutOfMemory) }
 {
-    let mut times = Vec::new(alloc);
+    let mut times = Vec::with_capacity(alloc, run.end - run.start)?;
     for i in run.start..run.end {
         times.push(batch.time(i))?;
     }
@@ -118,7 +121,7 @@ fn renewed_run<T: Lattice, B: BatchReader<Time = T>>(
 ///
 /// [`Refusal::OutOfMemory`] only if memory for the new times was refused.
 ///
-/// Cost: for each key of the batch one look-up of a hash, a seek for the end of its run, and the
+/// Cost: for each key of the batch one look-up of a hash, a seek for the end of its runs, and the
 /// cost of [`with_times`] for its times in the batch.
 pub(crate) fn renewed_by<T: Lattice, B: BatchReader<Time = T>>(
     alloc: Global,
@@ -140,11 +143,14 @@ pub(crate) fn renewed_by<T: Lattice, B: BatchReader<Time = T>>(
     ensures only { IfErr result (λ refused. refused ≡ Refusal.OutOfMemory) }
 {
     let mut made = Vec::new(alloc);
-    let mut start = 0;
-    while start < batch.len() {
-        let key = key_at(alloc, k, batch, start);
-        let end = batch.seek_past(start, key.columns());
+    let mut run = 0;
+    let mut start = batch.run_start(run);
+    while run < batch.runs() {
+        let key = key_of(alloc, k, batch, run);
+        let next = batch.seek_past_run(run, key.columns());
+        let end = batch.run_start(next);
         made.push(renewed_run(alloc, key, histories, batch, start..end)?)?;
+        run = next;
         start = end;
     }
     Ok(made)

@@ -1,8 +1,7 @@
-use Rattle.std.proofs.Common.{◌++◌, map}
-use Rattle.std.specs.Prelude.{slice_range}
+use Rattle.std.proofs.Common.{◌++◌, map, take}
 use Rattle.join.specs.Forming.{formed_pair, StandsIn}
 use Rattle.join.proofs.forming.push_pairs.Given as goal
 
-abbrev pub invariant-loop-i : goal.invariant-loop-i
-invariant-loop-i g l =
-    StandsIn l.formed.items (l.fn.formed.items ++ map (formed_pair l.side g.B.Time.Lattice.joined l.k l.u) (slice_range (g.B.BatchReader.content l.inner) l.initial.i l.i))
+abbrev pub invariant-loop-v : goal.invariant-loop-v
+invariant-loop-v g l =
+    StandsIn l.formed.items (l.fn.formed.items ++ map (formed_pair l.side g.T.Lattice.joined l.k l.u) (take l.v-index l.inner))

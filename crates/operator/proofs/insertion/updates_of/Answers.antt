@@ -1,13 +1,12 @@
-use Rattle.std.proofs.Common.{◌≡◌, ◌+◌, ap, ◌∙◌, ◌++◌, ◌∷◌, [], suc, arith}
-use Rattle.operator.proofs.KeepLemmas.{take_more, take_all}
+use Rattle.std.proofs.Common.{◌++◌, ◌∙◌, ap}
+use Rattle.std.specs.Prelude.{slice_range}
+use Rattle.columns.specs.Runs.{run_place}
+use Rattle.columns.proofs.PlaceLemmas.{all_runs}
 use Rattle.operator.proofs.insertion.updates_of.Goals as goal
 
-pub loop-i-preserved : goal.loop-i-preserved
-loop-i-preserved g c =
-    let next : c.loop-i.i + 1 ≡ suc c.loop-i.i = omega arith in
-    c.in_ok-push.ensures.items
-    ∙ (ap (λ us. us ++ c.update_at.result ∷ []) c.loop-i.invariant
-    ∙ take_more c.args.batch.now.updates c.loop-i.i (c.loop-i.i + 1) c.update_at.result next c.update_at.ensures)
-
 pub returns-clause-same : goal.returns-clause-same
-returns-clause-same g c = c.loop-i.invariant ∙ take_all c.args.batch.now.updates c.loop-i.i (omega (arith, c.loop-i-test.false, c.len-i-end.ensures.len))
+returns-clause-same g c =
+    let us = c.args.batch.now.updates in
+    c.in_ok-copy_runs.ensures.copied
+    ∙ (ap (λ vs. vs ++ slice_range us (run_place us 0) (run_place us c.runs.result)) c.new-updates.ensures.items
+    ∙ (ap (λ n. slice_range us (run_place us 0) (run_place us n)) c.runs.ensures.runs ∙ all_runs us c.runs.ensures.first))

@@ -1,72 +1,27 @@
-use Rattle.std.proofs.Common.{rules, ◌≡◌, ◌+◌, ◌-◌, length, map, inr, ◌∙◌, refl}
-use Rattle.std.specs.Prelude.{slice_range}
-use Rattle.std.specs.List.{list_all}
-use Rattle.std.proofs.lemmas.Bool.{leb-true}
 use Rattle.std.proofs.lemmas.Result.{err_from_is_err_and}
+use Rattle.std.specs.List.{list_all}
 use Rattle.join.specs.Pairs.{is_wide}
-use Rattle.join.specs.Forming.{formed_pair, formed_fits, formed_each}
-use Rattle.join.proofs.FormingLemmas.{place_passes}
-use Rattle.join.proofs.PartLemmas.{large_alone, large_listed, large_more, large_one_part, large_with_more}
-use Rattle.join.proofs.RunLemmas.{part_at, each_more, each_part, one_part}
-use Rattle.join.proofs.StandingLemmas.{stands_in_turn}
+use Rattle.join.specs.Forming.{formed_fits}
 use Rattle.join.proofs.LargeLemmas.{refused_more}
+use Rattle.join.proofs.RunLemmas.{run_more, run_large, run_within}
 use Rattle.join.proofs.forming.Formed.pair_runs.Goals as goal
 
-pub push_pairs-requires-clause-own : goal.push_pairs-requires-clause-own
-push_pairs-requires-clause-own g c =
-    let us = g.B.BatchReader.content c.args.outer.now in
-    let u = c.update_at-u.result in
-    leb-true c.args.k (length u.row)
-    (place_passes (λ w. is_wide c.args.k w.row) (slice_range us c.args.run.start c.args.run.end) (c.loop-i.i - c.args.run.start) u
-    (part_at (λ w. u ≡ w) us c.args.run.start c.loop-i.i c.args.run.end c.loop-i.auto.i c.loop-i-test.true c.requires.run_within c.update_at-u.ensures)
-    c.requires.run_wide)
+pub pair_row-requires-clause-wide : goal.pair_row-requires-clause-wide
+pair_row-requires-clause-wide g c =
+    run_within (λ u. is_wide c.args.k u.row) (g.B.BatchReader.content c.args.outer.now) c.args.runs.start c.loop-run.run c.args.runs.end c.run_start.result c.run_start-in-loop-run.result c.loop-run.auto.run c.loop-run-test.true c.run_start.ensures.place c.run_start-in-loop-run.ensures.place c.requires.wide
 
-pub push_pairs-requires-clause-fits : goal.push_pairs-requires-clause-fits
-push_pairs-requires-clause-fits g c =
-    let us = g.B.BatchReader.content c.args.outer.now in
-    let vs = slice_range (g.C.BatchReader.content c.args.inner.now) c.args.found.start c.args.found.end in
-    let u = c.update_at-u.result in
-    place_passes (λ w. list_all (formed_fits c.args.side c.args.k w) vs) (slice_range us c.args.run.start c.args.run.end) (c.loop-i.i - c.args.run.start) u
-    (part_at (λ w. u ≡ w) us c.args.run.start c.loop-i.i c.args.run.end c.loop-i.auto.i c.loop-i-test.true c.requires.run_within c.update_at-u.ensures)
-    c.requires.fits
+pub pair_row-requires-clause-fits : goal.pair_row-requires-clause-fits
+pair_row-requires-clause-fits g c =
+    run_within (λ u. list_all (formed_fits c.args.side c.args.k u) c.args.inner.now) (g.B.BatchReader.content c.args.outer.now) c.args.runs.start c.loop-run.run c.args.runs.end c.run_start.result c.run_start-in-loop-run.result c.loop-run.auto.run c.loop-run-test.true c.run_start.ensures.place c.run_start-in-loop-run.ensures.place c.requires.fits
 
-pub returns-in_err-push_pairs-clause-refused : goal.returns-in_err-push_pairs-clause-refused
-returns-in_err-push_pairs-clause-refused g c =
+pub returns-in_err-pair_row-clause-refused : goal.returns-in_err-pair_row-clause-refused
+returns-in_err-pair_row-clause-refused g c =
     let us = g.B.BatchReader.content c.args.outer.now in
-    let vs = slice_range (g.C.BatchReader.content c.args.inner.now) c.args.found.start c.args.found.end in
-    let u = c.update_at-u.result in
     let p = err_from_is_err_and c.from_residual.result c.from_residual.ensures.1 in
-    let below = g.T.PartialOrder.below in
-    let ones = map (formed_pair c.args.side g.T.Lattice.joined c.args.k u) vs in
-    let each = formed_each c.args.side g.T.Lattice.joined c.args.k (slice_range us c.args.run.start c.args.run.end) vs in
-    let part = one_part g.T.Lattice.joined c.args.k c.args.side us vs c.args.run.start c.loop-i.i c.loop-i.auto.i u c.update_at-u.ensures c.args.run.end c.loop-i-test.true c.requires.run_within in
-    rw (p.1, p.2)
-    (refused_more _ _ c.in_err-push_pairs.field-0.0
-    (λ h. large_alone below c.args.self.now.updates.items each (large_more below ones each part (large_one_part g.met.T.PartialOrder.order ones h)))
-    c.in_err-push_pairs.ensures.refused)
+    let large = run_large g.T.Lattice.joined c.args.k c.args.side us c.args.inner.now c.args.runs.start c.loop-run.run c.run_start.result c.run_start-in-loop-run.result c.loop-run.auto.run c.run_start.ensures.place c.run_start-in-loop-run.ensures.place g.T.PartialOrder.below c.args.runs.end c.loop-run-test.true c.args.self.now.updates.items c.loop-run.self.updates.items c.loop-run.invariant in
+    rw (p.1, p.2) (refused_more _ _ c.in_err-pair_row.field-0.0 large c.in_err-pair_row.ensures.refused)
 
-pub returns-in_err-settle-clause-refused : goal.returns-in_err-settle-clause-refused
-returns-in_err-settle-clause-refused g c =
+pub loop-run-preserved : goal.loop-run-preserved
+loop-run-preserved g c =
     let us = g.B.BatchReader.content c.args.outer.now in
-    let vs = slice_range (g.C.BatchReader.content c.args.inner.now) c.args.found.start c.args.found.end in
-    let u = c.update_at-u.result in
-    let p = err_from_is_err_and c.from_residual-in_err-settle.result c.from_residual-in_err-settle.ensures.1 in
-    let below = g.T.PartialOrder.below in
-    let old = c.args.self.now.updates.items in
-    let grown = formed_each c.args.side g.T.Lattice.joined c.args.k (slice_range us c.args.run.start (c.loop-i.i + 1)) vs in
-    let each = formed_each c.args.side g.T.Lattice.joined c.args.k (slice_range us c.args.run.start c.args.run.end) vs in
-    let part = each_part g.T.Lattice.joined c.args.k c.args.side us vs c.args.run.start c.loop-i.i c.loop-i.auto.i u c.update_at-u.ensures c.args.run.end c.loop-i-test.true c.requires.run_within in
-    let stands = each_more g.T.Lattice.joined c.args.k c.args.side us vs c.args.run.start c.loop-i.i c.loop-i.auto.i u c.update_at-u.ensures old c.loop-i.self.updates.items _ (search rules) c.loop-i.invariant.formed c.in_ok-push_pairs.ensures.stands in
-    rw (p.1, p.2)
-    (inr (c.in_err-settle.ensures.only, large_with_more below old grown each part (large_listed below _ old grown stands (c.in_err-settle.ensures.large refl))))
-
-pub loop-i-preserved : goal.loop-i-preserved
-loop-i-preserved g c =
-    let us = g.B.BatchReader.content c.args.outer.now in
-    let vs = slice_range (g.C.BatchReader.content c.args.inner.now) c.args.found.start c.args.found.end in
-    let u = c.update_at-u.result in
-    record {
-      formed = each_more g.T.Lattice.joined c.args.k c.args.side us vs c.args.run.start c.loop-i.i c.loop-i.auto.i u c.update_at-u.ensures c.args.self.now.updates.items c.loop-i.self.updates.items c.settle.new.self.updates.items (search rules) c.loop-i.invariant.formed
-          (stands_in_turn _ _ _ c.in_ok-settle.ensures.stands c.in_ok-push_pairs.ensures.stands);
-      looked = c.in_ok-settle.ensures.looked ∙ c.loop-i.invariant.looked;
-    }
+    run_more g.T.Lattice.joined c.args.k c.args.side us c.args.inner.now c.args.runs.start c.loop-run.run c.run_start.result c.run_start-in-loop-run.result c.loop-run.auto.run c.run_start.ensures.place c.run_start-in-loop-run.ensures.place c.args.self.now.updates.items c.loop-run.self.updates.items c.pair_row.new.self.updates.items c.loop-run.invariant c.in_ok-pair_row.ensures.formed

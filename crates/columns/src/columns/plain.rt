@@ -1,0 +1,89 @@
+//! Lists of plain updates, such as an operator gives them: appending one as a whole, and copying
+//! single updates out.
+//!
+//! An append that is refused takes back the updates that it has pushed so far. It cuts off the times
+//! and the differences where the first of them stands, and keeps the runs that begin before that
+//! place.
+ghost use Rattle.std.specs.Prelude.{◌≡◌, ◌<◌, ◌≤◌, ◌++◌, take, length, slice_get, IsSomeAnd, IfErr, OnOk, OnErr};
+ghost use Rattle.std.specs.List.{AllPairs};
+ghost use Rattle.std.specs.List.Sorted.{IsPartitionPoint};
+ghost use Rattle.update.specs.declared.refusal.Refusal.TheVariants.{OutOfMemory};
+ghost use Rattle.columns.specs.Runs.{run_number, row_starts};
+
+use crate::columns::Columns;
+use lattice::Lattice;
+use update::{Refusal, Update};
+
+// How many runs begin before a place.
+fn runs_before(starts: &[usize], place: usize) -> usize
+    requires { AllPairs (λ s t. s < t) starts.now }
+    ensures within { result ≤ length starts.now }
+    ensures parted { IsPartitionPoint (λ s. s < place) (λ s. place ≤ s) starts.now result }
+{
+    starts.partition_point(|start| *start < place)
+}
+
+impl<T: Lattice> Columns<T> {
+    /// Drops all but the first `len` updates. Takes no memory, and gives none back.
+    ///
+    /// Cost: a binary search in the list of the runs.
+    pub fn truncate(&mut self, len: usize)
+        ensures { self.new ≡ take len self.old }
+    {
+        let runs = runs_before(self.starts.as_slice(), len);
+        self.times.truncate(len);
+        self.diffs.truncate(len);
+        self.starts.truncate(runs);
+        self.rows.truncate(runs);
+    }
+
+    /// Appends copies of all these updates. Refused only with `OutOfMemory`, and then the updates
+    /// are as before.
+    ///
+    /// Cost: one comparison of rows for each update, and a copy of each row that is another than
+    /// the one before.
+    pub fn append(&mut self, more: &[Update<T>]) -> Result<(), Refusal>
+        ensures more { OnOk result (self.new ≡ self.old ++ more.now) }
+        ensures same { OnErr result (self.new ≡ self.old) }
+        ensures refused { IfErr result (λ refusal. refusal ≡ OutOfMemory) }
+    {
+        let before = self.len();
+        match self.push_all(more) {
+            Ok(()) => Ok(()),
+            Err(refusal) => {
+                self.truncate(before);
+                Err(refusal)
+            }
+        }
+    }
+
+    // Pushes all these updates. If memory was refused, then some of them may stand behind those of
+    // before.
+    fn push_all(&mut self, more: &[Update<T>]) -> Result<(), Refusal>
+        ensures more { OnOk result (self.new ≡ self.old ++ more.now) }
+        ensures kept { take (length self.old) self.new ≡ self.old }
+        ensures refused { IfErr result (λ refusal. refusal ≡ OutOfMemory) }
+    {
+        self.times.reserve(more.len())?;
+        self.diffs.reserve(more.len())?;
+        for update in more {
+            self.push(update)?;
+        }
+        Ok(())
+    }
+
+    /// A copy of update `i`, counted from 0, whose run is known. Takes no memory.
+    ///
+    /// Cost: one step for each column of the row. [`run_near`](Columns::run_near) finds the run.
+    pub fn copy(&self, i: usize, run: usize) -> Update<T>
+        requires place { i < length self.now }
+        requires run { run ≡ run_number (row_starts self.now) i }
+        ensures { IsSomeAnd (slice_get self.now i) (λ u. result ≡ u) }
+    {
+        Update {
+            time: self.times[i],
+            row: self.rows.row(run),
+            diff: self.diffs[i],
+        }
+    }
+}
