@@ -20,3 +20,4 @@ pub mod ReadLemmas
 pub mod RoutingLemmas
 pub mod GraphLemmas
 pub mod ViewLemmas
+pub mod CapturedLemmas

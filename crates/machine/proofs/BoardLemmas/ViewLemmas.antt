@@ -1,5 +1,5 @@
 -- What a view remembers of its last read, and why a read that goes on from it is right.
-use Rattle.std.proofs.Common.{◌≡◌, ℕ, zero, suc, ◌+◌, ◌<◌, ◌≤◌, Bool, true, false, cond, not, ◌||◌, List, [], ◌∷◌, ◌++◌, length, take, drop, take_all, get_or, map, refl, sym, ap, ap₂, ◌∙◌, subst, ◌⊎◌, inl, inr, ⊎_elim, add-one, arith}
+use Rattle.std.proofs.Common.{◌≡◌, ℕ, zero, suc, ◌+◌, ◌<◌, ◌≤◌, Bool, true, false, cond, not, ◌||◌, List, [], ◌∷◌, ◌++◌, length, take, drop, take_all, map, refl, sym, ap, ap₂, ◌∙◌, subst, ◌⊎◌, inl, inr, ⊎_elim, add-one, arith}
 use Rattle.std.specs.Prelude.{ℤ, ◌+ℤ◌, Option, Some, None, Result, Ok, Err}
 use Rattle.std.specs.Option.{IfSome}
 use Rattle.std.specs.Result.{OnOk, OnErr}
@@ -23,14 +23,8 @@ or_none true = refl
 or_none false = refl
 
 module _ {T : Type 0} where
-  -- an update at a position is the list that is read there
-  pub update_there : (us : List (Update T)) (k : ℕ) (u : Update T) → k < length us → u ≡ get_or us k u → update_at us k ≡ u ∷ []
-  update_there [] k u l e = absurd (omega (arith, l))
-  update_there (v ∷ us) zero u l e = ap (λ w. w ∷ []) (sym e)
-  update_there (v ∷ us) (suc k) u l e = update_there us k u (omega (arith, l)) e
-
   -- the first updates with one more are those, and what is at the next position
-  take_position : (us : List (Update T)) (k : ℕ) → take (suc k) us ≡ take k us ++ update_at us k
+  pub take_position : (us : List (Update T)) (k : ℕ) → take (suc k) us ≡ take k us ++ update_at us k
   take_position [] zero = refl
   take_position [] (suc k) = refl
   take_position (u ∷ us) zero = refl
@@ -58,7 +52,7 @@ module _ {X : Type 0} (p q : X → Bool) (weaker : (x : X) → p x ≡ true → 
       step false e false f rest k = rest k
 
   -- of the elements that pass the weaker test, those that pass the stronger are all that do
-  filter_again : (xs : List X) → filter p (filter q xs) ≡ filter p xs
+  pub filter_again : (xs : List X) → filter p (filter q xs) ≡ filter p xs
   filter_again [] = refl
   filter_again (x ∷ xs) = step (p x) refl (q x) refl (filter_again xs)
     where

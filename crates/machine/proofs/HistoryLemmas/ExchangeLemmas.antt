@@ -1,5 +1,5 @@
 -- The histories of `specs/Histories/Exchanges.antt` are legal.
-use Rattle.std.proofs.Common.{◌≡◌, ◌≢◌, ℕ, ◌<◌, ◌≤◌, Bool, true, false, not, ◌||◌, List, [], ◌∷◌, ◌++◌, cond, sym, refl, ap, ◌∙◌, IsTrue, Option, None, Some, arith, nat_le, ℤ, pos, inl}
+use Rattle.std.proofs.Common.{◌≡◌, ℕ, ◌<◌, ◌≤◌, Bool, true, false, not, ◌||◌, List, [], ◌∷◌, ◌++◌, cond, sym, refl, ap, ◌∙◌, IsTrue, Option, None, Some, arith, nat_le, ℤ, pos, inl}
 use Rattle.std.proofs.Math.IntN.{negsuc, ◌+ℤ◌}
 use Rattle.std.proofs.lemmas.Bool.{and_parts, false≢true, true≢false}
 use Rattle.std.proofs.lemmas.Bool.Decides.{Decides-int_eq, nat_tests}

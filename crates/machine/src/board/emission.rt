@@ -44,8 +44,9 @@ impl<T: Minimum> Board<T> {
     /// Refused only if memory runs out. Then all arguments come back, the event is a look, and
     /// nothing else changes.
     ///
-    /// Cost: linear in the bundles that are sent, and at a view in the updates, which are appended.
-    /// Nothing is copied: what is given, held and sent moves.
+    /// Cost: linear in the bundles that are sent, and at a view in the updates. What is held and
+    /// sent moves. A view copies the updates: their times, their differences, and one row for all
+    /// neighbours that have it.
     pub fn give(
         &mut self,
         emission: Emission<T>,
@@ -94,11 +95,11 @@ impl<T: Minimum> Board<T> {
         }
     }
 
-    // Does all that `give` does, except that it does not record the event. What is given moves to
-    // where it goes.
+    // Does all that `give` does, except that it does not record the event. What is held and sent
+    // moves to where it goes.
     fn try_give(
         &mut self,
-        mut emission: Emission<T>,
+        emission: Emission<T>,
         held: Times<T>,
         sent: Bundles<T>,
     ) -> Result<(), Ungiven<T>>
@@ -115,7 +116,7 @@ impl<T: Minimum> Board<T> {
             &mut self.stations,
             &mut self.views,
             is_view,
-            &mut emission,
+            &emission,
             &sent.items,
         ) {
             Ok(()) => {
@@ -142,20 +143,17 @@ fn prepare<T: Minimum>(
     stations: &mut Stations<T>,
     views: &mut Vec<View<T>>,
     is_view: bool,
-    emission: &mut Emission<T>,
+    emission: &Emission<T>,
     sent: &[Bundle<T>],
 ) -> Result<(), Refusal>
-    requires { emission.old.node < length views.old.items }
+    requires { emission.now.node < length views.old.items }
     ensures stations { lots stations.new ≡ lots stations.old }
     ensures room { OnOk result (HasRoomFor sent.now stations.new) }
     ensures captured { OnOk result (views.new.items ≡ (if is_view
-        then capture_at emission.old.node emission.old.updates views.old.items
+        then capture_at emission.now.node emission.now.updates views.old.items
         else views.old.items)) }
     ensures len { length views.new.items ≡ length views.old.items }
-    ensures node { emission.new.node ≡ emission.old.node }
-    ensures worker { emission.new.worker ≡ emission.old.worker }
     ensures unchanged { OnErr result (views.new.items ≡ views.old.items) }
-    ensures kept { OnErr result (emission.new ≡ emission.old) }
 {
     stations.reserve(sent)?;
     capture(views, is_view, emission)
@@ -165,20 +163,17 @@ fn prepare<T: Minimum>(
 fn capture<T: Minimum>(
     views: &mut Vec<View<T>>,
     is_view: bool,
-    emission: &mut Emission<T>,
+    emission: &Emission<T>,
 ) -> Result<(), Refusal>
-    requires { emission.old.node < length views.old.items }
+    requires { emission.now.node < length views.old.items }
     ensures captured { OnOk result (views.new.items ≡ (if is_view
-        then capture_at emission.old.node emission.old.updates views.old.items
+        then capture_at emission.now.node emission.now.updates views.old.items
         else views.old.items)) }
     ensures len { length views.new.items ≡ length views.old.items }
-    ensures node { emission.new.node ≡ emission.old.node }
-    ensures worker { emission.new.worker ≡ emission.old.worker }
     ensures unchanged { OnErr result (views.new.items ≡ views.old.items) }
-    ensures kept { OnErr result (emission.new ≡ emission.old) }
 {
     if !is_view {
         return Ok(());
     }
-    views[emission.node.number()].append(&mut emission.updates)
+    views[emission.node.number()].append(emission.updates.as_slice())
 }

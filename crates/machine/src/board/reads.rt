@@ -24,6 +24,7 @@ ghost use Rattle.machine.specs.Boards.Reads.{front, input_front, captured_of, pa
 use crate::board::Board;
 use crate::board::workers::insert;
 use antichain::is_beyond;
+use columns::Columns;
 use lattice::Minimum;
 use plan::NodeId;
 use std::alloc::Global;
@@ -51,7 +52,7 @@ fn is_from_start<T: Minimum>(times: &[T]) -> bool
 // Copies the updates that are not beyond the times.
 fn passed_by<T: Minimum>(
     alloc: Global,
-    updates: &[Update<T>],
+    updates: &Columns<T>,
     times: &[T],
 ) -> Result<Vec<Update<T>>, Refusal>
     ensures passed { IfOk result (λ passed. passed.items
@@ -59,9 +60,11 @@ fn passed_by<T: Minimum>(
     ensures refused { IfErr result (λ refusal. refusal ≡ OutOfMemory) }
 {
     let mut passed = Vec::new(alloc);
-    for update in updates {
-        if !is_beyond(times, &update.time) {
-            passed.push(update.copy())?;
+    let mut run = 0;
+    for i in 0..updates.len() {
+        if !is_beyond(times, &updates.time(i)) {
+            run = updates.run_near(i, run);
+            passed.push(updates.copy(i, run))?;
         }
     }
     Ok(passed)
@@ -89,7 +92,7 @@ impl<T: Minimum> Board<T> {
     }
 
     // What a view captured.
-    fn captured(&self, view: NodeId) -> &[Update<T>]
+    fn captured(&self, view: NodeId) -> &Columns<T>
         requires { view < length self.now.dataflow.nodes }
         ensures { result.now ≡ captured_of self.now view }
     {
@@ -178,7 +181,7 @@ impl<T: Minimum> Board<T> {
     /// with `Overflow` if the total of a row at some time does not fit in 64 bits.
     ///
     /// Cost: that of [`Board::frontier`], one pass over what the view captured, and a sort of the
-    /// updates at passed times.
+    /// updates at passed times, which are copied.
     pub fn changes(&mut self, view: NodeId) -> Result<Vec<Update<T>>, Refusal>
         requires within { view < length self.old.dataflow.nodes }
         requires view { IsTrue (is_output (node_of self.old.dataflow view)) }

@@ -1,6 +1,9 @@
 //! What a board keeps of each node for its readers: what a view captured, and the frontier beyond
 //! which it may be read.
 //!
+//! What a view captured is kept column by column ([`Columns`]), since it is the longest list on a
+//! board. So a read copies the updates that it adds up, and no others.
+//!
 //! A view also remembers its last read: its time, its bag, how many captured updates it knows, and
 //! the positions of those that are not at or before its time. A read at the same time or a later
 //! one looks only at those positions and at what was captured since. It adds the updates that are
@@ -14,10 +17,11 @@ ghost use Rattle.update.specs.Updates.{as_of};
 ghost use Rattle.update.specs.declared.refusal.Refusal.TheVariants.{OutOfMemory, Overflow};
 ghost use Rattle.machine.specs.Boards.Views.{update_at, is_later_at, later_below, IsReadOf, IsSumRefusal};
 
+use columns::Columns;
 use lattice::Minimum;
 use std::alloc::Global;
 use std::marker::Model;
-use update::{Bag, Refusal, Times, Update, Updates, sum_at};
+use update::{Bag, Refusal, Times, Update, sum_at};
 
 // A read: its time, its bag, and what it knows of the captured updates.
 #[derive(Drop)]
@@ -32,10 +36,13 @@ struct LastRead<T> {
 
 /// What a view captured, and the frontier beyond which it may be read. A node that is no view
 /// captures nothing.
+///
+/// Cost: a captured update takes a time and 8 bytes. If its row is another than that of the update
+/// before, it takes 9 bytes more, and 8 for each column of the row.
 #[derive(Drop)]
 pub struct View<T: Minimum> {
     since: Times<T>,
-    captured: Updates<T>,
+    captured: Columns<T>,
     // The last read, if there was one.
     last: Option<LastRead<T>>,
 }
@@ -59,7 +66,7 @@ impl<T: Minimum> View<T> {
     {
         View {
             since,
-            captured: Vec::new(alloc).into(),
+            captured: Columns::new(alloc),
             last: None,
         }
     }
@@ -72,19 +79,21 @@ impl<T: Minimum> View<T> {
     }
 
     /// What the view captured. Takes no memory.
-    pub(crate) fn captured(&self) -> &[Update<T>]
+    pub(crate) fn captured(&self) -> &Columns<T>
         ensures { result.now ≡ self.now.captured }
     {
-        self.captured.as_slice()
+        &self.captured
     }
 
-    /// Captures all of these updates. Refused only with `OutOfMemory`, and then nothing changes.
-    pub(crate) fn append(&mut self, more: &mut Updates<T>) -> Result<(), Refusal>
+    /// Captures copies of all these updates. Refused only with `OutOfMemory`, and then nothing
+    /// changes.
+    ///
+    /// Cost: linear in the updates, each of whose rows is compared with the one before.
+    pub(crate) fn append(&mut self, more: &[Update<T>]) -> Result<(), Refusal>
         ensures more { OnOk result
-            (self.new ≡ record self.old { captured = self.old.captured ++ more.old }) }
+            (self.new ≡ record self.old { captured = self.old.captured ++ more.now }) }
         ensures refused { IfErr result (λ refusal. refusal ≡ OutOfMemory) }
         ensures unchanged { OnErr result (self.new ≡ self.old) }
-        ensures kept { OnErr result (more.new ≡ more.old) }
     {
         self.captured.append(more)
     }
@@ -96,6 +105,8 @@ impl<T: Minimum> View<T> {
     /// Cost: if the last read was at or before this time, linear in its bag, in the updates that it
     /// knew but left out, and in what was captured since, and a sort of the updates that come in.
     /// Otherwise linear in all that was captured, and a sort of the updates at or before the time.
+    /// The updates that come in are copied before they are added up, and so are those at or before
+    /// the time.
     pub(crate) fn sum_at(&mut self, alloc: Global, t: T) -> Result<Bag, Refusal>
         ensures kept { self.new ≡ self.old }
         ensures bag { IfOk result IsBag }
@@ -117,7 +128,7 @@ impl<T: Minimum> View<T> {
         ensures sum { IfOk result (λ r. Alike r.bag (as_of T.below t self.now.captured)) }
         ensures refused { IfErr result (IsSumRefusal T.below self.now.captured t) }
     {
-        let captured = self.captured.as_slice();
+        let captured = &self.captured;
         match &self.last {
             Some(last) if last.time.less_equal(&t) => read_on(alloc, captured, last, t),
             _ => read_anew(alloc, captured, t),
@@ -126,20 +137,16 @@ impl<T: Minimum> View<T> {
 }
 
 // A read that starts from nothing.
-fn read_anew<T: Minimum>(
-    alloc: Global,
-    captured: &[Update<T>],
-    t: T,
-) -> Result<LastRead<T>, Refusal>
+fn read_anew<T: Minimum>(alloc: Global, captured: &Columns<T>, t: T) -> Result<LastRead<T>, Refusal>
     ensures read { IfOk result (λ r.
         IsReadOf T.below captured.now r.time r.bag r.known r.later.items) }
     ensures bag { IfOk result (λ r. IsBag r.bag) }
     ensures sum { IfOk result (λ r. Alike r.bag (as_of T.below t captured.now)) }
     ensures refused { IfErr result (IsSumRefusal T.below captured.now t) }
 {
-    let bag = sum_at(alloc, captured, t)?;
     let mut later = Vec::new(alloc);
     push_later(&mut later, captured, 0, &t)?;
+    let bag = sum_captured(alloc, captured, captured.len() - later.len(), t)?;
     Ok(LastRead {
         time: t,
         bag,
@@ -148,10 +155,28 @@ fn read_anew<T: Minimum>(
     })
 }
 
+// What was captured, summed to a time. `room` is how many updates are at or before the time; any
+// other number costs memory or time and changes no sum.
+fn sum_captured<T: Minimum>(
+    alloc: Global,
+    captured: &Columns<T>,
+    room: usize,
+    t: T,
+) -> Result<Bag, Refusal>
+    ensures bag { IfOk result IsBag }
+    ensures sum { IfOk result (λ bag. Alike bag (as_of T.below t captured.now)) }
+    ensures refused { IfErr result (IsSumRefusal T.below captured.now t) }
+{
+    let mut arrived = Vec::with_capacity(alloc, room)?;
+    push_arrived(&mut arrived, captured, 0, &t)?;
+    let bag = sum_at(alloc, arrived.as_slice(), t)?;
+    Ok(bag)
+}
+
 // A read that goes on from an earlier read, whose time is at or before its own.
 fn read_on<T: Minimum>(
     alloc: Global,
-    captured: &[Update<T>],
+    captured: &Columns<T>,
     last: &LastRead<T>,
     t: T,
 ) -> Result<LastRead<T>, Refusal>
@@ -178,7 +203,7 @@ fn read_on<T: Minimum>(
 // Copies the updates at or before a time that are missing from the bag of an earlier read.
 fn arrived_since<T: Minimum>(
     alloc: Global,
-    captured: &[Update<T>],
+    captured: &Columns<T>,
     last: &LastRead<T>,
     t: &T,
 ) -> Result<Vec<Update<T>>, Refusal>
@@ -191,7 +216,7 @@ fn arrived_since<T: Minimum>(
     ensures refused { IfErr result (λ refusal. refusal ≡ OutOfMemory) }
 {
     let mut arrived = arrived_at(alloc, captured, &last.later, t)?;
-    push_arrived(&mut arrived, &captured[last.known..], t)?;
+    push_arrived(&mut arrived, captured, last.known, t)?;
     Ok(arrived)
 }
 
@@ -199,7 +224,7 @@ fn arrived_since<T: Minimum>(
 // read.
 fn later_since<T: Minimum>(
     alloc: Global,
-    captured: &[Update<T>],
+    captured: &Columns<T>,
     last: &LastRead<T>,
     t: &T,
 ) -> Result<Vec<usize>, Refusal>
@@ -218,7 +243,7 @@ fn later_since<T: Minimum>(
 // Copies the updates at these positions that are at or before a time.
 fn arrived_at<T: Minimum>(
     alloc: Global,
-    captured: &[Update<T>],
+    captured: &Columns<T>,
     positions: &[usize],
     t: &T,
 ) -> Result<Vec<Update<T>>, Refusal>
@@ -229,37 +254,66 @@ fn arrived_at<T: Minimum>(
     ensures refused { IfErr result (λ refusal. refusal ≡ OutOfMemory) }
 {
     let mut arrived = Vec::new(alloc);
+    let mut run = 0;
     for position in positions {
-        let update = &captured[*position];
-        if update.time.less_equal(t) {
-            arrived.push(update.copy())?;
-        }
+        run = push_if_arrived(&mut arrived, captured, *position, run, t)?;
     }
     Ok(arrived)
 }
 
-// Appends copies of the updates that are at or before a time.
+// Appends copies of the updates from `known` on that are at or before a time.
 fn push_arrived<T: Minimum>(
     arrived: &mut Vec<Update<T>>,
-    updates: &[Update<T>],
+    captured: &Columns<T>,
+    known: usize,
     t: &T,
 ) -> Result<(), Refusal>
+    requires { known ≤ length captured.now }
     ensures more { OnOk result (arrived.new.items ≡ arrived.old.items
-        ++ filter (λ u. T.below u.time t.now) updates.now) }
+        ++ filter (λ u. T.below u.time t.now) (drop known captured.now)) }
     ensures refused { IfErr result (λ refusal. refusal ≡ OutOfMemory) }
 {
-    for update in updates {
-        if update.time.less_equal(t) {
-            arrived.push(update.copy())?;
-        }
+    let mut run = 0;
+    for position in known..captured.len() {
+        run = push_if_arrived(arrived, captured, position, run, t)?;
     }
     Ok(())
+}
+
+// Appends a copy of the update at a position if it is at or before a time. The search for its run
+// begins at `near`. Returns where the next search begins.
+fn push_if_arrived<T: Minimum>(
+    arrived: &mut Vec<Update<T>>,
+    captured: &Columns<T>,
+    position: usize,
+    near: usize,
+    t: &T,
+) -> Result<usize, Refusal>
+    requires { position < length captured.now }
+    ensures more { OnOk result (arrived.new.items ≡ arrived.old.items
+        ++ filter (λ u. T.below u.time t.now) (update_at captured.now position)) }
+    ensures refused { IfErr result (λ refusal. refusal ≡ OutOfMemory) }
+{
+    if !captured.time(position).less_equal(t) {
+        return Ok(near);
+    }
+    let run = captured.run_near(position, near);
+    arrived.push(captured.copy(position, run))?;
+    Ok(run)
+}
+
+// Whether the update at a position is not at or before a time.
+fn is_later_at<T: Minimum>(captured: &Columns<T>, position: usize, t: &T) -> bool
+    requires { position < length captured.now }
+    ensures { result ≡ is_later_at T.below t.now captured.now position }
+{
+    !captured.time(position).less_equal(t)
 }
 
 // Keeps the positions at which the update is still not at or before a time.
 fn still_later<T: Minimum>(
     alloc: Global,
-    captured: &[Update<T>],
+    captured: &Columns<T>,
     positions: &[usize],
     t: &T,
 ) -> Result<Vec<usize>, Refusal>
@@ -270,8 +324,7 @@ fn still_later<T: Minimum>(
 {
     let mut later = Vec::new(alloc);
     for position in positions {
-        let update = &captured[*position];
-        if !update.time.less_equal(t) {
+        if is_later_at(captured, *position, t) {
             later.push(*position)?;
         }
     }
@@ -281,7 +334,7 @@ fn still_later<T: Minimum>(
 // Appends the positions from `known` on at which the update is not at or before a time.
 fn push_later<T: Minimum>(
     later: &mut Vec<usize>,
-    captured: &[Update<T>],
+    captured: &Columns<T>,
     known: usize,
     t: &T,
 ) -> Result<(), Refusal>
@@ -292,8 +345,7 @@ fn push_later<T: Minimum>(
     ensures refused { IfErr result (λ refusal. refusal ≡ OutOfMemory) }
 {
     for position in known..captured.len() {
-        let update = &captured[position];
-        if !update.time.less_equal(t) {
+        if is_later_at(captured, position, t) {
             later.push(position)?;
         }
     }

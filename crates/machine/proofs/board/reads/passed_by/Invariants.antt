@@ -3,5 +3,5 @@ use Rattle.std.specs.List.{filter}
 use Rattle.lattice.specs.Frontiers.{is_beyond}
 use Rattle.machine.proofs.board.reads.passed_by.Given as goal
 
-abbrev pub invariant-loop-update : goal.invariant-loop-update
-invariant-loop-update g l = l.passed.items ≡ filter (λ u. not (is_beyond g.T.PartialOrder.below l.times u.time)) (take l.update-index l.updates)
+abbrev pub invariant-loop-i : goal.invariant-loop-i
+invariant-loop-i g l = l.passed.items ≡ filter (λ u. not (is_beyond g.T.PartialOrder.below l.times u.time)) (take l.i l.updates)

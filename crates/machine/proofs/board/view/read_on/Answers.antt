@@ -2,6 +2,7 @@ use Rattle.std.proofs.Common.{◌++◌, ◌∙◌, map, sym, subst, inl, inr, �
 use Rattle.std.proofs.lemmas.Result.{err_from_is_err_and}
 use Rattle.update.specs.Bags.{Alike}
 use Rattle.update.specs.Updates.{as_of, entry}
+use Rattle.machine.specs.Boards.Views.{IsReadOf}
 use Rattle.machine.proofs.BoardLemmas.ViewLemmas.{read_onward, read_of_all}
 use Rattle.machine.proofs.board.view.read_on.Goals as goal
 
@@ -15,7 +16,8 @@ returns-clause-sum g c row =
 
 pub returns-clause-read : goal.returns-clause-read
 returns-clause-read g c =
-    read_of_all g.T.PartialOrder.below c.args.captured.now c.args.t c.in_ok-bag.bag c.in_ok-later.later.items (returns-clause-sum g c) c.in_ok-later.ensures.later
+    subst (λ n. IsReadOf g.T.PartialOrder.below c.args.captured.now c.args.t c.in_ok-bag.bag n c.in_ok-later.later.items) (sym c.len.ensures)
+    (read_of_all g.T.PartialOrder.below c.args.captured.now c.args.t c.in_ok-bag.bag c.in_ok-later.later.items (returns-clause-sum g c) c.in_ok-later.ensures.later)
 
 pub returns-in_err-bag-clause-refused : goal.returns-in_err-bag-clause-refused
 returns-in_err-bag-clause-refused g c =
