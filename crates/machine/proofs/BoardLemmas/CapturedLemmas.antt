@@ -2,13 +2,17 @@
 -- before a time.
 use Rattle.std.proofs.Common.{◌≡◌, ℕ, zero, suc, ◌+◌, ◌<◌, ◌≤◌, Bool, true, false, cond, not, List, [], ◌∷◌, ◌++◌, length, take, drop, get_or, slice_get, Some, IsSomeAnd, map, refl, sym, ap, ◌∙◌, subst, add-one, append_assoc, length-take-le, arith}
 use Rattle.std.specs.List.{filter}
-use Rattle.std.proofs.lemmas.List.{length-append, drop-append-le}
+use Rattle.std.proofs.lemmas.Int.{ints}
+use Rattle.std.proofs.lemmas.List.{length-append, drop-append-le, take-append-drop}
 use Rattle.std.proofs.lemmas.List.Elements.{filter-append}
+use Rattle.update.specs.Bags.{Entry, Alike, count_of}
 use Rattle.update.specs.Updates.{as_of, entry}
 use Rattle.update.specs.declared.change.Update.{Update}
 use Rattle.plan.specs.Ancestors.{numbers_below}
-use Rattle.machine.specs.Boards.Views.{update_at, is_later_at, later_below}
+use Rattle.plan.proofs.CountLemmas.{count_of-append}
+use Rattle.machine.specs.Boards.Views.{update_at, is_later_at, later_below, IsReadOf}
 use Rattle.machine.proofs.BoardLemmas.ViewLemmas.{take_position, later_there, filter_again}
+use Rattle.machine.proofs.HistoryLemmas.FlowLemmas.{sum_at-append}
 
 module _ {T : Type 0} where
   -- at a position before the end there is one update
@@ -70,3 +74,24 @@ module _ {T : Type 0} (below : T → T → Bool) (t : T) where
       let one = one_few (is_later_at below t us n) n in
       let more = ap length (filter-append (is_later_at below t us) (numbers_below n) (n ∷ [])) ∙ length-append (later_below below t us n) (cond (is_later_at below t us n) (n ∷ []) []) in
       omega (arith, few, one, more)
+
+take_twice : {X : Type 0} (n m : ℕ) (xs : List X) → n ≤ m → take n (take m xs) ≡ take n xs
+take_twice zero m xs l = refl
+take_twice (suc n) zero xs l = absurd (omega (arith, l))
+take_twice (suc n) (suc m) [] l = refl
+take_twice (suc n) (suc m) (x ∷ xs) l = ap (λ ys. x ∷ ys) (take_twice n m xs (omega (arith, l)))
+
+module _ {T : Type 0} (below : T → T → Bool) (t : T) (us : List (Update T)) where
+  -- a read goes on by a part: what came in by then is added to its bag
+  pub read_of_part : (bag more : List Entry) (n m : ℕ) (ks js : List ℕ) → IsReadOf below us t bag n ks → n ≤ m → m ≤ length us → Alike more (bag ++ map entry (filter (λ u. below u.time t) (drop n (take m us)))) → js ≡ later_below below t us m → IsReadOf below us t more m js
+  read_of_part bag more n m ks js read onward within sum later = record {
+    within = within;
+    sum = λ row.
+        let part = drop n (take m us) in
+        let was = read.sum row in
+        let split = count_of-append bag (map entry (filter (λ u. below u.time t) part)) row in
+        let whole = sum_at-append below t (take n us) part row in
+        let same = ap (λ vs. count_of (as_of below t (vs ++ part)) row) (sym (take_twice n m us onward)) ∙ ap (λ vs. count_of (as_of below t vs) row) (take-append-drop n (take m us)) in
+        sum row ∙ split ∙ omega (arith, ints, was, whole, same);
+    rest = later;
+  }

@@ -2,7 +2,8 @@
 //! which it may be read.
 //!
 //! What a view captured is kept column by column ([`Columns`]), since it is the longest list on a
-//! board. So a read copies the updates that it adds up, and no others.
+//! board. A read copies the updates that it adds up, part by part, and folds each part into a bag.
+//! So it takes memory for two bags and not for all that was captured.
 //!
 //! A view also remembers its last read: its time, its bag, how many captured updates it knows, and
 //! the positions of those that are not at or before its time. A read at the same time or a later
@@ -10,10 +11,11 @@
 //! now at or before its time to the bag. So a read after each change costs as much as the bag is
 //! long, however much was captured. A read at any other time sums anew. Each read becomes the last
 //! one.
-ghost use Rattle.std.specs.Prelude.{◌≡◌, ◌≤◌, ◌<◌, ◌++◌, List, [], IfErr, IfOk, OnErr, OnOk, IsTrue, length, drop};
+ghost use Rattle.std.specs.Prelude.{◌≡◌, ◌≤◌, ◌<◌, ◌⊎◌, ◌++◌, List, [], IfErr, IfOk, OnErr, OnOk, IsTrue, length, take, drop};
 ghost use Rattle.std.specs.List.{All, filter, flat_map};
 ghost use Rattle.update.specs.Bags.{Alike, IsBag};
 ghost use Rattle.update.specs.Updates.{as_of};
+ghost use Rattle.update.specs.declared.change.Update.{Update};
 ghost use Rattle.update.specs.declared.refusal.Refusal.TheVariants.{OutOfMemory, Overflow};
 ghost use Rattle.machine.specs.Boards.Views.{update_at, is_later_at, later_below, IsReadOf, IsSumRefusal};
 
@@ -21,7 +23,12 @@ use columns::Columns;
 use lattice::Minimum;
 use std::alloc::Global;
 use std::marker::Model;
-use update::{Bag, Refusal, Times, Update, sum_at};
+use std::ops::Range;
+use update::{Bag, Entries, Refusal, Times, Update, sum_at};
+
+// A read that starts from nothing adds up at least so many updates at a time: so many are sorted in
+// the cache.
+const PART: usize = 4096;
 
 // A read: its time, its bag, and what it knows of the captured updates.
 #[derive(Drop)]
@@ -104,9 +111,9 @@ impl<T: Minimum> View<T> {
     ///
     /// Cost: if the last read was at or before this time, linear in its bag, in the updates that it
     /// knew but left out, and in what was captured since, and a sort of the updates that come in.
-    /// Otherwise linear in all that was captured, and a sort of the updates at or before the time.
-    /// The updates that come in are copied before they are added up, and so are those at or before
-    /// the time.
+    /// Otherwise linear in all that was captured, and a sort of each part of it: of so many updates
+    /// as the bag has rows, or 4,096. Only if a sum on the way is too large, all are added up at
+    /// once.
     pub(crate) fn sum_at(&mut self, alloc: Global, t: T) -> Result<Bag, Refusal>
         ensures kept { self.new ≡ self.old }
         ensures bag { IfOk result IsBag }
@@ -136,7 +143,8 @@ impl<T: Minimum> View<T> {
     }
 }
 
-// A read that starts from nothing.
+// A read that starts from nothing, part by part. If a sum on the way is too large, then all is added
+// up at once, so that the order of the updates does not matter.
 fn read_anew<T: Minimum>(alloc: Global, captured: &Columns<T>, t: T) -> Result<LastRead<T>, Refusal>
     ensures read { IfOk result (λ r.
         IsReadOf T.below captured.now r.time r.bag r.known r.later.items) }
@@ -144,8 +152,99 @@ fn read_anew<T: Minimum>(alloc: Global, captured: &Columns<T>, t: T) -> Result<L
     ensures sum { IfOk result (λ r. Alike r.bag (as_of T.below t captured.now)) }
     ensures refused { IfErr result (IsSumRefusal T.below captured.now t) }
 {
+    match read_in_parts(alloc, captured, t) {
+        Err(Refusal::Overflow) => read_at_once(alloc, captured, t),
+        read => read,
+    }
+}
+
+// A read that adds up part by part. A part is as long as the bag so far, or longer. So the copies of
+// the bag are no longer together than what was captured, and a read needs no list of all updates.
+fn read_in_parts<T: Minimum>(
+    alloc: Global,
+    captured: &Columns<T>,
+    t: T,
+) -> Result<LastRead<T>, Refusal>
+    ensures read { IfOk result (λ r.
+        IsReadOf T.below captured.now r.time r.bag r.known r.later.items) }
+    ensures bag { IfOk result (λ r. IsBag r.bag) }
+    ensures sum { IfOk result (λ r. Alike r.bag (as_of T.below t captured.now)) }
+    ensures refused { IfErr result (λ refusal. (refusal ≡ OutOfMemory) ⊎ (refusal ≡ Overflow)) }
+{
+    let mut read = nothing_read(alloc, t)?;
+    while read.known < captured.len() {
+        let until = end_of_part(read.known, read.bag.len(), captured.len());
+        read_part(alloc, captured, &mut read, until)?;
+    }
+    Ok(read)
+}
+
+// A read of no updates.
+fn nothing_read<T: Minimum>(alloc: Global, t: T) -> Result<LastRead<T>, Refusal>
+    ensures read { IfOk result (λ r. (us : List (Update T))
+        → IsReadOf T.below us r.time r.bag r.known r.later.items) }
+    ensures bag { IfOk result (λ r. IsBag r.bag) }
+    ensures time { IfOk result (λ r. r.time ≡ t) }
+    ensures refused { IfErr result (λ refusal. (refusal ≡ OutOfMemory) ⊎ (refusal ≡ Overflow)) }
+{
+    let bag = Entries::new(alloc).into_bag()?;
+    Ok(LastRead {
+        time: t,
+        bag,
+        known: 0,
+        later: Vec::new(alloc),
+    })
+}
+
+// Where the next part ends.
+fn end_of_part(known: usize, rows: usize, captured: usize) -> usize
+    requires { known < captured }
+    ensures onward { known < result }
+    ensures within { result ≤ captured }
+{
+    captured.min(known.saturating_add(rows.max(PART)))
+}
+
+// Goes on with a read, from the updates that it knows up to another one.
+fn read_part<T: Minimum>(
+    alloc: Global,
+    captured: &Columns<T>,
+    read: &mut LastRead<T>,
+    until: usize,
+) -> Result<(), Refusal>
+    requires read { IsReadOf T.below captured.now
+        read.old.time read.old.bag read.old.known read.old.later.items }
+    requires onward { read.old.known ≤ until }
+    requires within { until ≤ length captured.now }
+    ensures read { OnOk result (IsReadOf T.below captured.now
+        read.new.time read.new.bag read.new.known read.new.later.items) }
+    ensures bag { OnOk result (IsBag read.new.bag) }
+    ensures time { read.new.time ≡ read.old.time }
+    ensures known { OnOk result (read.new.known ≡ until) }
+    ensures refused { IfErr result (λ refusal. (refusal ≡ OutOfMemory) ⊎ (refusal ≡ Overflow)) }
+{
+    let mut arrived = Vec::new(alloc);
+    push_arrived(&mut arrived, captured, read.known..until, &read.time)?;
+    push_later(&mut read.later, captured, read.known..until, &read.time)?;
+    read.bag = read.bag.with(&arrived)?;
+    read.known = until;
+    Ok(())
+}
+
+// A read that adds up all at once.
+fn read_at_once<T: Minimum>(
+    alloc: Global,
+    captured: &Columns<T>,
+    t: T,
+) -> Result<LastRead<T>, Refusal>
+    ensures read { IfOk result (λ r.
+        IsReadOf T.below captured.now r.time r.bag r.known r.later.items) }
+    ensures bag { IfOk result (λ r. IsBag r.bag) }
+    ensures sum { IfOk result (λ r. Alike r.bag (as_of T.below t captured.now)) }
+    ensures refused { IfErr result (IsSumRefusal T.below captured.now t) }
+{
     let mut later = Vec::new(alloc);
-    push_later(&mut later, captured, 0, &t)?;
+    push_later(&mut later, captured, 0..captured.len(), &t)?;
     let bag = sum_captured(alloc, captured, captured.len() - later.len(), t)?;
     Ok(LastRead {
         time: t,
@@ -168,7 +267,7 @@ fn sum_captured<T: Minimum>(
     ensures refused { IfErr result (IsSumRefusal T.below captured.now t) }
 {
     let mut arrived = Vec::with_capacity(alloc, room)?;
-    push_arrived(&mut arrived, captured, 0, &t)?;
+    push_arrived(&mut arrived, captured, 0..captured.len(), &t)?;
     let bag = sum_at(alloc, arrived.as_slice(), t)?;
     Ok(bag)
 }
@@ -216,7 +315,7 @@ fn arrived_since<T: Minimum>(
     ensures refused { IfErr result (λ refusal. refusal ≡ OutOfMemory) }
 {
     let mut arrived = arrived_at(alloc, captured, &last.later, t)?;
-    push_arrived(&mut arrived, captured, last.known, t)?;
+    push_arrived(&mut arrived, captured, last.known..captured.len(), t)?;
     Ok(arrived)
 }
 
@@ -236,7 +335,7 @@ fn later_since<T: Minimum>(
     ensures refused { IfErr result (λ refusal. refusal ≡ OutOfMemory) }
 {
     let mut later = still_later(alloc, captured, &last.later, t)?;
-    push_later(&mut later, captured, last.known, t)?;
+    push_later(&mut later, captured, last.known..captured.len(), t)?;
     Ok(later)
 }
 
@@ -261,20 +360,21 @@ fn arrived_at<T: Minimum>(
     Ok(arrived)
 }
 
-// Appends copies of the updates from `known` on that are at or before a time.
+// Appends copies of the updates of a part that are at or before a time.
 fn push_arrived<T: Minimum>(
     arrived: &mut Vec<Update<T>>,
     captured: &Columns<T>,
-    known: usize,
+    part: Range<usize>,
     t: &T,
 ) -> Result<(), Refusal>
-    requires { known ≤ length captured.now }
+    requires ordered { part.start ≤ part.end }
+    requires within { part.end ≤ length captured.now }
     ensures more { OnOk result (arrived.new.items ≡ arrived.old.items
-        ++ filter (λ u. T.below u.time t.now) (drop known captured.now)) }
+        ++ filter (λ u. T.below u.time t.now) (drop part.start (take part.end captured.now))) }
     ensures refused { IfErr result (λ refusal. refusal ≡ OutOfMemory) }
 {
     let mut run = 0;
-    for position in known..captured.len() {
+    for position in part.start..part.end {
         run = push_if_arrived(arrived, captured, position, run, t)?;
     }
     Ok(())
@@ -331,20 +431,21 @@ fn still_later<T: Minimum>(
     Ok(later)
 }
 
-// Appends the positions from `known` on at which the update is not at or before a time.
+// Appends the positions of a part at which the update is not at or before a time.
 fn push_later<T: Minimum>(
     later: &mut Vec<usize>,
     captured: &Columns<T>,
-    known: usize,
+    part: Range<usize>,
     t: &T,
 ) -> Result<(), Refusal>
-    requires within { known ≤ length captured.now }
-    requires before { later.old.items ≡ later_below T.below t.now captured.now known }
+    requires ordered { part.start ≤ part.end }
+    requires within { part.end ≤ length captured.now }
+    requires before { later.old.items ≡ later_below T.below t.now captured.now part.start }
     ensures later { OnOk result (later.new.items
-        ≡ later_below T.below t.now captured.now (length captured.now)) }
+        ≡ later_below T.below t.now captured.now part.end) }
     ensures refused { IfErr result (λ refusal. refusal ≡ OutOfMemory) }
 {
-    for position in known..captured.len() {
+    for position in part.start..part.end {
         if is_later_at(captured, position, t) {
             later.push(position)?;
         }
