@@ -4,3 +4,4 @@ pub use Rattle.lattice.specs.Frontiers
 pub mod Keys
 pub mod Tables
 pub mod Runs
+pub mod Lists

@@ -34,14 +34,14 @@ use update::{Refusal, Update};
 /// A list of updates, column by column. A contract sees the list of the updates.
 ///
 /// Cost: a time and 8 bytes for each update; for each run 9 bytes, and 8 for each column of its row.
-pub struct Columns<T: Lattice> {
+pub struct Columns<T> {
     times: Vec<T>,
     diffs: Vec<i64>,
     starts: Vec<usize>,
     rows: Table,
 }
 
-impl<T: Lattice> Model for Columns<T> {
+impl<T> Model for Columns<T> {
     ghost use Rattle.std.specs.Prelude.{List};
     ghost use Rattle.update.specs.declared.change.Update.{Update};
     ghost use Rattle.columns.specs.Runs.{updates_from, IsColumns};
@@ -54,7 +54,7 @@ impl<T: Lattice> Model for Columns<T> {
 }
 
 // (written by hand, so that to let a list go is one step in the proofs of its owners)
-impl<T: Lattice> Drop for Columns<T> {
+impl<T: Drop> Drop for Columns<T> {
     fn drop(self) {
         let Columns {
             times: _,

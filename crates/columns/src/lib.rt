@@ -25,8 +25,10 @@
 
 mod column;
 mod columns;
+mod list;
 mod runs;
 mod seeking;
 mod table;
 
 pub use columns::Columns;
+pub use list::UpdateList;

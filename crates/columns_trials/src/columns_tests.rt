@@ -2,7 +2,7 @@
 //! once for its neighbours.
 ghost use Rattle.std.specs.Prelude.{◌<◌, length};
 
-use columns::Columns;
+use columns::{Columns, UpdateList};
 use lattice::Bitime;
 use std::alloc::Global;
 use std::cmp::Ordering;
@@ -181,5 +181,36 @@ fn rows_of_two_lists_are_compared_in_place(rt: HostRuntime) -> Result<(), Fail> 
     assert!(rt; columns.compare_rows(3, 0, &others, 2, 2) == Ordering::Greater);
     assert!(rt; columns.compare_rows(2, 2, &others, 3, 0) == Ordering::Less);
     assert!(rt; columns.compare_rows(5, 2, &others, 3, 3) == Ordering::Greater);
+    Ok(())
+}
+
+// Whether a list has the six updates.
+fn is_six(rt: &HostRuntime, list: UpdateList<Bitime>) -> Result<bool, Fail> {
+    let want = six_again(rt.alloc())?;
+    if list.len() != want.len() || list.time(1) != want[1].time {
+        return Ok(false);
+    }
+    let updates = list.into_vec(rt.alloc())?;
+    Ok(
+        updates.len() == 6
+            && updates.iter().zip(want.iter()).all(|(have, one)| {
+                have.time == one.time && have.diff == one.diff && have.row == one.row
+            }),
+    )
+}
+
+// A list has the same updates in both forms, and so have its copies.
+#[test]
+fn lists_are_the_same_in_both_forms(rt: HostRuntime) -> Result<(), Fail> {
+    let alloc = rt.alloc();
+    let plain = UpdateList::from(six_again(alloc)?);
+    let packed = UpdateList::packed(alloc, pushed(alloc)?)?;
+    let copied = UpdateList::from(packed.to_vec(alloc)?);
+    assert!(rt; is_six(&rt, plain.copy(alloc)?)? && is_six(&rt, packed.copy(alloc)?)?);
+    let mut both = Columns::new(alloc);
+    plain.append_to(&mut both)?;
+    packed.append_to(&mut both)?;
+    assert!(rt; both.runs() == 6 && both.len() == 12 && both.time(11) == plain.time(5));
+    assert!(rt; is_six(&rt, plain)? && is_six(&rt, packed)? && is_six(&rt, copied)?);
     Ok(())
 }

@@ -4,7 +4,7 @@
 //! An append that is refused takes back the updates that it has pushed so far. It cuts off the times
 //! and the differences where the first of them stands, and keeps the runs that begin before that
 //! place.
-ghost use Rattle.std.specs.Prelude.{◌≡◌, ◌<◌, ◌≤◌, ◌++◌, take, length, slice_get, IsSomeAnd, IfErr, OnOk, OnErr};
+ghost use Rattle.std.specs.Prelude.{◌≡◌, ◌<◌, ◌≤◌, ◌++◌, take, length, slice_get, IsSomeAnd, IfErr, IfOk, OnOk, OnErr};
 ghost use Rattle.std.specs.List.{AllPairs};
 ghost use Rattle.std.specs.List.Sorted.{IsPartitionPoint};
 ghost use Rattle.update.specs.declared.refusal.Refusal.TheVariants.{OutOfMemory};
@@ -12,6 +12,7 @@ ghost use Rattle.columns.specs.Runs.{run_number, row_starts};
 
 use crate::columns::Columns;
 use lattice::Lattice;
+use std::alloc::Global;
 use update::{Refusal, Update};
 
 // How many runs begin before a place.
@@ -70,6 +71,58 @@ impl<T: Lattice> Columns<T> {
             self.push(update)?;
         }
         Ok(())
+    }
+
+    /// Appends copies of all updates of another list. Refused only with `OutOfMemory`, and then the
+    /// updates are as before.
+    ///
+    /// Cost: as for [`append`](Columns::append), and one step for each column of each row.
+    pub fn append_columns(&mut self, more: &Columns<T>) -> Result<(), Refusal>
+        ensures more { OnOk result (self.new ≡ self.old ++ more.now) }
+        ensures same { OnErr result (self.new ≡ self.old) }
+        ensures refused { IfErr result (λ refusal. refusal ≡ OutOfMemory) }
+    {
+        let len = self.len();
+        match self.push_columns(more) {
+            Ok(()) => Ok(()),
+            Err(refusal) => {
+                self.truncate(len);
+                Err(refusal)
+            }
+        }
+    }
+
+    // Pushes all updates of another list. If memory was refused, then some of them may stand behind
+    // those of before.
+    fn push_columns(&mut self, more: &Columns<T>) -> Result<(), Refusal>
+        ensures more { OnOk result (self.new ≡ self.old ++ more.now) }
+        ensures kept { take (length self.old) self.new ≡ self.old }
+        ensures refused { IfErr result (λ refusal. refusal ≡ OutOfMemory) }
+    {
+        self.times.reserve(more.len())?;
+        self.diffs.reserve(more.len())?;
+        let mut run = 0;
+        for i in 0..more.len() {
+            run = more.run_near(i, run);
+            self.push(&more.copy(i, run))?;
+        }
+        Ok(())
+    }
+
+    /// Copies of all updates, each with its row. Refused only with `OutOfMemory`.
+    ///
+    /// Cost: one step for each column of each row. So many updates take 104 bytes each.
+    pub fn to_vec(&self, alloc: Global) -> Result<Vec<Update<T>>, Refusal>
+        ensures copied { IfOk result (λ list. list.items ≡ self.now) }
+        ensures refused { IfErr result (λ refusal. refusal ≡ OutOfMemory) }
+    {
+        let mut list = Vec::with_capacity(alloc, self.len())?;
+        let mut run = 0;
+        for i in 0..self.len() {
+            run = self.run_near(i, run);
+            list.push(self.copy(i, run))?;
+        }
+        Ok(list)
     }
 
     /// A copy of update `i`, counted from 0, whose run is known. Takes no memory.

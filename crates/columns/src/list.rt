@@ -1,0 +1,170 @@
+//! Updates on their way from node to node.
+//!
+//! An operator that goes over updates in place has them one by one, each with its row. One that gives
+//! many updates of few rows, or more than it takes, gives them column by column: so they take half the
+//! memory or less while they wait. A list has one of the two forms, and a contract sees neither. A caller
+//! that wants the updates one by one asks for a vector: that copies a list of columns, and moves any
+//! other one.
+ghost use Rattle.std.specs.Prelude.{◌≡◌, ◌<◌, ◌++◌, length, slice_get, IfErr, IfOk, IsSomeAnd, OnErr, OnOk};
+ghost use Rattle.update.specs.declared.refusal.Refusal.TheVariants.{OutOfMemory};
+
+use crate::columns::Columns;
+use lattice::Lattice;
+use std::alloc::Global;
+use std::marker::Model;
+use update::{Refusal, Update};
+
+// The form of a list.
+#[derive(Drop)]
+pub(crate) enum Form<T> {
+    // One by one, each with its row.
+    Plain(Vec<Update<T>>),
+    // Column by column. They lie behind a box, so that a short list takes no more room.
+    Packed(Box<Columns<T>>),
+}
+
+/// Updates that travel together. A contract sees the list of them.
+pub struct UpdateList<T> {
+    form: Form<T>,
+}
+
+impl<T> Model for UpdateList<T> {
+    ghost use Rattle.std.specs.Prelude.{List};
+    ghost use Rattle.update.specs.declared.change.Update.{Update};
+    ghost use Rattle.columns.specs.Lists.{listed};
+
+    ghost Value = { List (Update T) };
+
+    ghost view = { λ list. listed list.form };
+}
+
+// (written by hand, so that to let a list go is one step in the proofs of its owners)
+impl<T: Drop> Drop for UpdateList<T> {
+    fn drop(self) {
+        let UpdateList { form: _ } = self;
+    }
+}
+
+impl<T: Lattice> UpdateList<T> {
+    /// A list that is kept column by column. Refused only with `OutOfMemory`.
+    pub fn packed(alloc: Global, columns: Columns<T>) -> Result<UpdateList<T>, Refusal>
+        ensures packed { IfOk result (λ list. list ≡ columns) }
+        ensures refused { IfErr result (λ refusal. refusal ≡ OutOfMemory) }
+    {
+        let columns = Box::new(alloc, columns)?;
+        Ok(UpdateList {
+            form: Form::Packed(columns),
+        })
+    }
+
+    /// The number of updates. Takes no memory.
+    pub fn len(&self) -> usize
+        ensures { result ≡ length self.now }
+    {
+        match &self.form {
+            Form::Plain(updates) => updates.len(),
+            Form::Packed(columns) => columns.len(),
+        }
+    }
+
+    /// The updates as a vector. Refused only with `OutOfMemory`, and only if they are in columns.
+    ///
+    /// Cost: none, or that of [`Columns::to_vec`].
+    pub fn into_vec(self, alloc: Global) -> Result<Vec<Update<T>>, Refusal>
+        ensures updates { IfOk result (λ updates. updates.items ≡ self) }
+        ensures refused { IfErr result (λ refusal. refusal ≡ OutOfMemory) }
+    {
+        let UpdateList { form } = self;
+        match form {
+            Form::Plain(updates) => Ok(updates),
+            Form::Packed(columns) => columns.to_vec(alloc),
+        }
+    }
+
+    /// The time of update `i`, counted from 0. Takes no memory.
+    pub fn time(&self, i: usize) -> T
+        requires { i < length self.now }
+        ensures { IsSomeAnd (slice_get self.now i) (λ u. result ≡ u.time) }
+    {
+        match &self.form {
+            Form::Plain(updates) => updates[i].time,
+            Form::Packed(columns) => columns.time(i),
+        }
+    }
+
+    /// Copies of the updates, each with its row. Refused only with `OutOfMemory`.
+    ///
+    /// Cost: one step for each column of each row.
+    pub fn to_vec(&self, alloc: Global) -> Result<Vec<Update<T>>, Refusal>
+        ensures copied { IfOk result (λ list. list.items ≡ self.now) }
+        ensures refused { IfErr result (λ refusal. refusal ≡ OutOfMemory) }
+    {
+        match &self.form {
+            Form::Plain(updates) => copies_of(alloc, updates.as_slice()),
+            Form::Packed(columns) => columns.to_vec(alloc),
+        }
+    }
+
+    /// A copy, in the same form. Refused only with `OutOfMemory`.
+    ///
+    /// Cost: one step for each column of each row.
+    pub fn copy(&self, alloc: Global) -> Result<UpdateList<T>, Refusal>
+        ensures copied { IfOk result (λ copy. copy ≡ self.now) }
+        ensures refused { IfErr result (λ refusal. refusal ≡ OutOfMemory) }
+    {
+        match &self.form {
+            Form::Plain(updates) => Ok(copies_of(alloc, updates.as_slice())?.into()),
+            Form::Packed(columns) => packed_copy(alloc, columns),
+        }
+    }
+
+    /// Appends copies of all updates to others that are kept column by column. Refused only with
+    /// `OutOfMemory`, and then those are as before.
+    ///
+    /// Cost: as for [`Columns::append`] or [`Columns::append_columns`].
+    pub fn append_to(&self, others: &mut Columns<T>) -> Result<(), Refusal>
+        ensures more { OnOk result (others.new ≡ others.old ++ self.now) }
+        ensures same { OnErr result (others.new ≡ others.old) }
+        ensures refused { IfErr result (λ refusal. refusal ≡ OutOfMemory) }
+    {
+        match &self.form {
+            Form::Plain(updates) => others.append(updates.as_slice()),
+            Form::Packed(columns) => others.append_columns(columns),
+        }
+    }
+}
+
+// Copies of updates.
+fn copies_of<T: Lattice>(alloc: Global, updates: &[Update<T>]) -> Result<Vec<Update<T>>, Refusal>
+    ensures copied { IfOk result (λ copies. copies.items ≡ updates.now) }
+    ensures refused { IfErr result (λ refusal. refusal ≡ OutOfMemory) }
+{
+    let mut copies = Vec::with_capacity(alloc, updates.len())?;
+    for update in updates {
+        copies.push(update.copy())?;
+    }
+    Ok(copies)
+}
+
+// A copy of columns, as a list.
+fn packed_copy<T: Lattice>(alloc: Global, columns: &Columns<T>) -> Result<UpdateList<T>, Refusal>
+    ensures copied { IfOk result (λ copy. copy ≡ columns.now) }
+    ensures refused { IfErr result (λ refusal. refusal ≡ OutOfMemory) }
+{
+    let mut copy = Columns::new(alloc);
+    copy.append_columns(columns)?;
+    UpdateList::packed(alloc, copy)
+}
+
+/// Takes no memory.
+impl<T> From<Vec<Update<T>>> for UpdateList<T> {
+    ghost use Rattle.std.specs.Prelude.{◌≡◌};
+
+    ghost from_gives = { λ v r. r ≡ v.items };
+
+    fn from(updates: Vec<Update<T>>) -> UpdateList<T> {
+        UpdateList {
+            form: Form::Plain(updates),
+        }
+    }
+}
