@@ -2,6 +2,7 @@
 pub mod ApartLemmas
 pub mod CompactionLemmas
 pub mod OverfullLemmas
+pub mod PackLemmas
 pub mod PastLemmas
 pub mod ReplayLemmas
 pub mod SettleLemmas

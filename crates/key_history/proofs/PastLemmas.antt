@@ -19,6 +19,14 @@ module _ {T : Type 0} (below : T → T → Bool) where
     among = a.among;
   }
 
+  -- what stands for a list stands for those that the list stands for
+  pub from_then : (m : T) (us vs ws : List (Update T)) → StandsFrom below m us vs → StandsFrom below m vs ws → StandsFrom below m us ws
+  from_then m us vs ws a b = record {
+    sums = λ t i row. b.sums t i row ∙ a.sums t i row;
+    smaller = let x = a.smaller in let y = b.smaller in omega (arith, x, y);
+    among = λ p i. b.among p (a.among p i);
+  }
+
   -- what is folded and the rest stand for all that was given
   pub past_stands : (p : Past T) (given : List (Update T)) → IsPast below given p → StandsFrom below p.since given (p.near.items ++ drop p.count given)
   past_stands p given a =

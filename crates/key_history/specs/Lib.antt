@@ -3,6 +3,7 @@
 pub use Rattle.lattice.specs.Order
 pub use Rattle.lattice.specs.Frontiers
 pub mod States
+pub mod Packs
 pub mod Compaction
 pub mod Standing
 pub mod Replays

@@ -20,6 +20,7 @@ ghost use Rattle.joined_times.specs.Joined.{JoinAlike};
 ghost use Rattle.key_history.specs.Compaction.{StandsBeyond, is_own, retimed};
 ghost use Rattle.key_history.specs.Pasts.{IsPast};
 
+use crate::pack::Pack;
 use crate::past::Past;
 use lattice::{Lattice, representative};
 use std::alloc::Global;
@@ -62,7 +63,7 @@ fn times_as_of<T: Lattice>(alloc: Global, times: &[T], since: &[T]) -> Result<Ve
 // Copies of updates, each at the representative of its time.
 fn moved_as_of<T: Lattice>(
     alloc: Global,
-    updates: &[Update<T>],
+    updates: &Pack<T>,
     since: &[T],
 ) -> Result<Vec<Update<T>>, Refusal>
     ensures moved { IfOk result (λ out. out.items
@@ -70,11 +71,14 @@ fn moved_as_of<T: Lattice>(
     ensures only { IfErr result (λ refused. refused ≡ Refusal.OutOfMemory) }
 {
     let mut out = Vec::with_capacity(alloc, updates.len())?;
-    for update in updates {
+    let mut place = updates.place(0);
+    for i in 0..updates.len() {
+        let Update { time, row, diff } = updates.copy(i, place);
+        place = updates.place_behind(i, place);
         out.push(Update {
-            time: representative(update.time, since),
-            row: update.row.copy(),
-            diff: update.diff,
+            time: representative(time, since),
+            row,
+            diff,
         })?;
     }
     Ok(out)
@@ -84,21 +88,21 @@ fn moved_as_of<T: Lattice>(
 // with difference 0.
 fn updates_as_of<T: Lattice>(
     alloc: Global,
-    updates: &[Update<T>],
+    updates: &Pack<T>,
     since: &[T],
-) -> Result<Vec<Update<T>>, Refusal>
+) -> Result<Pack<T>, Refusal>
     ensures stands { IfOk result
-        (λ out. StandsBeyond T.below since.now updates.now out.items) }
+        (λ out. StandsBeyond T.below since.now updates.now out) }
     ensures own { IfOk result (λ out.
-        IsTrue (list_all (λ u. is_own T.below T.joined T.met since.now u.time) out.items)) }
-    ensures once { IfOk result (λ out. IsConsolidated T.cmp out.items) }
+        IsTrue (list_all (λ u. is_own T.below T.joined T.met since.now u.time) out)) }
+    ensures once { IfOk result (λ out. IsConsolidated T.cmp out) }
     ensures refused { IfErr result (IsMemoryOrOverflow (HasLargeTotal T.below
         (retimed (representative_of T.joined T.met since.now) updates.now))) }
 {
     let list = moved_as_of(alloc, updates, since)?;
-    let mut out = consolidate(list)?;
-    out.shrink_to_fit();
-    Ok(out)
+    let out = consolidate(list)?;
+    let packed = Pack::of(alloc, out.as_slice())?;
+    Ok(packed)
 }
 
 /// Moves the kept times of a key to their representatives as of a since. If memory for that was
@@ -124,21 +128,22 @@ pub(crate) fn compact_times<T: Lattice>(
 /// Adds up what was given of a key, as of a since. Its past is forgotten then. If it is refused,
 /// then what was given stays.
 ///
-/// Cost: a join and a meet for each update and element of the since, and a sort of the updates.
+/// Cost: a join and a meet for each update and element of the since, a sort of the updates as a plain
+/// list, and a copy of what is left.
 pub(crate) fn compact_given<T: Lattice>(
     alloc: Global,
-    given: &mut Vec<Update<T>>,
+    given: &mut Pack<T>,
     past: &mut Past<T>,
     since: &[T],
 ) -> Result<(), Refusal>
-    requires past { IsPast T.below given.old.items past.old }
-    ensures past { IsPast T.below given.new.items past.new }
-    ensures stands { StandsBeyond T.below since.now given.old.items given.new.items }
+    requires past { IsPast T.below given.old past.old }
+    ensures past { IsPast T.below given.new past.new }
+    ensures stands { StandsBeyond T.below since.now given.old given.new }
     ensures own { OnOk result (IsTrue
-        (list_all (λ u. is_own T.below T.joined T.met since.now u.time) given.new.items)) }
-    ensures once { OnOk result (IsConsolidated T.cmp given.new.items) }
+        (list_all (λ u. is_own T.below T.joined T.met since.now u.time) given.new)) }
+    ensures once { OnOk result (IsConsolidated T.cmp given.new) }
     ensures refused { IfErr result (IsMemoryOrOverflow (HasLargeTotal T.below
-        (retimed (representative_of T.joined T.met since.now) given.old.items))) }
+        (retimed (representative_of T.joined T.met since.now) given.old))) }
 {
     *given = updates_as_of(alloc, given, since)?;
     *past = Past::none(alloc);

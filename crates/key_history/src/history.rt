@@ -3,12 +3,14 @@
 //! through. Only [`KeyHistory::give`] takes memory, and what it appends can be taken back. So a
 //! call that is refused on its way can leave each history as it was.
 //!
+//! What was given is kept packed ([`Pack`]), since it is among the largest lists of a run.
+//!
 //! Kept times and what was given may be moved as of a since ([`KeyHistory::compact`]): no time beyond
 //! it tells the history from the one before.
 //!
 //! Beside what was given stands its past, which is a shorter list for the times to come. A contract
 //! does not see it.
-ghost use Rattle.std.specs.Prelude.{◌≡◌, ◌≤◌, ◌+◌, ◌++◌, List, [], ℤ, IfErr, OnErr, OnOk, length, vec_capacity, vec_len};
+ghost use Rattle.std.specs.Prelude.{◌≡◌, ◌≤◌, ◌++◌, [], IfErr, IfOk, OnErr, OnOk, drop, length, slice_range};
 ghost use Rattle.update.specs.declared.refusal.Refusal.{Refusal};
 ghost use Rattle.key_history.specs.States.{HistoryState, given_more, given_less, due_left, times_put};
 ghost use Rattle.key_history.specs.Replays.{StandsFrom};
@@ -18,11 +20,14 @@ ghost use Rattle.update.specs.Refusals.{IsMemoryOrOverflow};
 ghost use Rattle.update.specs.Updates.{HasLargeTotal};
 
 use crate::compaction::{compact_given, compact_times};
+use crate::pack::Pack;
 use crate::past::Past;
+use columns::Columns;
 use lattice::Lattice;
 use row::Row;
 use std::alloc::Global;
 use std::marker::Model;
+use std::ops::Range;
 use update::{Refusal, Update};
 
 /// A key with its joined times, the pending ones among them, and what was given of it, as a
@@ -32,7 +37,7 @@ pub struct KeyHistory<T: Lattice> {
     key: Row,
     times: Vec<T>,
     due: Vec<T>,
-    given: Vec<Update<T>>,
+    given: Pack<T>,
     past: Past<T>,
 }
 
@@ -46,35 +51,10 @@ impl<T: Lattice> Model for KeyHistory<T> {
       key = h.key;
       times = h.times.items;
       due = h.due.items;
-      given = h.given.items;
+      given = h.given;
     } };
 
-    ghost invariant = { λ h. IsPast T.below h.given.items h.past };
-}
-
-// Makes room for so many more updates. A first list gets no more room than that, since many keys
-// get no second one.
-fn make_room<T: Lattice>(list: &mut Vec<Update<T>>, more: usize) -> Result<(), Refusal>
-    ensures items { list.new.items ≡ list.old.items }
-    ensures room { OnOk result (vec_len list.new + more ≤ vec_capacity list.new) }
-    ensures only { IfErr result (λ refused. refused ≡ Refusal.OutOfMemory) }
-{
-    if list.is_empty() {
-        list.reserve_exact(more)?;
-        return Ok(());
-    }
-    list.reserve(more)?;
-    Ok(())
-}
-
-// Appends copies of updates to a list that has room for them. Takes no memory.
-fn push_copies<T: Lattice>(list: &mut Vec<Update<T>>, more: &[Update<T>])
-    requires room { vec_len list.old + length more.now ≤ vec_capacity list.old }
-    ensures pushed { list.new.items ≡ list.old.items ++ more.now }
-{
-    for update in more {
-        list.push(update.copy()).unwrap();
-    }
+    ghost invariant = { λ h. IsPast T.below h.given h.past };
 }
 
 impl<T: Lattice> KeyHistory<T> {
@@ -91,7 +71,7 @@ impl<T: Lattice> KeyHistory<T> {
             key,
             times,
             due,
-            given: Vec::new(alloc),
+            given: Pack::new(alloc),
             past: Past::none(alloc),
         }
     }
@@ -117,23 +97,32 @@ impl<T: Lattice> KeyHistory<T> {
         self.due.as_slice()
     }
 
-    /// What was given of the key, the latest last. Takes no memory.
-    pub fn given(&self) -> &[Update<T>]
-        ensures { result.now ≡ self.now.given }
+    /// A copy of what was given of the key, the latest last.
+    ///
+    /// [`Refusal::OutOfMemory`] only if memory for the copy was refused.
+    ///
+    /// Cost: 104 bytes and a copy for each update, at times of 16 bytes.
+    pub fn given(&self, alloc: Global) -> Result<Vec<Update<T>>, Refusal>
+        ensures copied { IfOk result (λ given. given.items ≡ self.now.given) }
+        ensures only { IfErr result (λ refused. refused ≡ Refusal.OutOfMemory) }
     {
-        self.given.as_slice()
+        let mut given = Vec::with_capacity(alloc, self.given.len())?;
+        self.given.copy_from(0, &mut given)?;
+        Ok(given)
     }
 
-    /// What was given of the key, as the times at or after `meet` see it: the updates of two lists.
-    /// Takes no memory.
-    pub(crate) fn seen_from(&self, meet: T) -> (&[Update<T>], &[Update<T>])
-        ensures { StandsFrom T.below meet self.now.given (result.0.now ++ result.1.now) }
+    /// What was given of the key, as the times at or after `meet` see it: the updates of a list, and
+    /// those of a packed one from a place on. Takes no memory.
+    pub(crate) fn seen_from(&self, meet: T) -> (&[Update<T>], &Pack<T>, usize)
+        ensures within { result.2 ≤ length result.1.now }
+        ensures whole { result.1.now ≡ self.now.given }
+        ensures stands { StandsFrom T.below meet self.now.given
+            (result.0.now ++ drop result.2 result.1.now) }
     {
-        let given = self.given.as_slice();
         if self.past.since.less_equal(&meet) {
-            (self.past.near.as_slice(), &given[self.past.count..])
+            (self.past.near.as_slice(), &self.given, self.past.count)
         } else {
-            given.split_at(0)
+            (&self.past.near.as_slice()[..0], &self.given, 0)
         }
     }
 
@@ -149,8 +138,8 @@ impl<T: Lattice> KeyHistory<T> {
         if !self.past.is_worth_folding(count) {
             return;
         }
-        let (folded, recent) = self.seen_from(since);
-        if let Ok(past) = Past::of(alloc, folded, recent, count, since) {
+        let (folded, given, from) = self.seen_from(since);
+        if let Ok(past) = Past::of(alloc, folded, given, from, since) {
             self.past = past;
         }
     }
@@ -176,20 +165,23 @@ impl<T: Lattice> KeyHistory<T> {
         Ok(())
     }
 
-    /// Appends copies of updates to what was given. If the call is refused, then nothing has
-    /// changed.
+    /// Appends copies of a part of some updates to what was given. If the call is refused, then
+    /// nothing has changed.
     ///
     /// [`Refusal::OutOfMemory`] only if memory for the copies was refused.
     ///
-    /// Cost: a copy of `more`. If there is no room for it, then the list of what was given moves to
-    /// one of twice the room.
-    pub fn give(&mut self, more: &[Update<T>]) -> Result<(), Refusal>
-        ensures given { OnOk result (self.new ≡ given_more more.now self.old) }
+    /// Cost: a copy of the part, and a binary search for its first row. An update takes a time, 16
+    /// bytes, and 8 bytes for each column of its row. If there is no room for the part, then what
+    /// was given moves to lists of twice the room; the first part takes no more than it needs.
+    pub fn give(&mut self, out: &Columns<T>, part: Range<usize>) -> Result<(), Refusal>
+        requires ordered { part.start ≤ part.end }
+        requires within { part.end ≤ length out.now }
+        ensures given { OnOk result
+            (self.new ≡ given_more (slice_range out.now part.start part.end) self.old) }
         ensures same { OnErr result (self.new ≡ self.old) }
         ensures only { IfErr result (λ refused. refused ≡ Refusal.OutOfMemory) }
     {
-        make_room(&mut self.given, more.len())?;
-        push_copies(&mut self.given, more);
+        self.given.append(out, part)?;
         Ok(())
     }
 

@@ -20,6 +20,7 @@
 
 mod compaction;
 mod history;
+mod pack;
 mod past;
 mod replay;
 mod sweep;

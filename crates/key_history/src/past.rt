@@ -19,6 +19,7 @@ ghost use Rattle.update.specs.declared.refusal.Refusal.{Refusal};
 ghost use Rattle.key_history.specs.Pasts.{IsPast};
 ghost use Rattle.key_history.specs.Replays.{StandsFrom};
 
+use crate::pack::Pack;
 use crate::replay::{append_copies, nearer};
 use lattice::Lattice;
 use std::alloc::Global;
@@ -75,29 +76,32 @@ impl<T: Lattice> Past<T> {
         }
     }
 
-    /// The past, from `since` on, of so many updates, if those of two lists stand for them there.
+    /// The past, from `since` on, of all updates of a packed list, if `folded` and those from a
+    /// place on stand for them there.
     ///
     /// [`Refusal::OutOfMemory`] only if memory for the updates was refused.
     ///
-    /// Cost: copies the updates of both lists, and n log n in their number.
+    /// Cost: copies the folded updates and those from the place on, and n log n in their number.
     pub(crate) fn of(
         alloc: Global,
         folded: &[Update<T>],
-        recent: &[Update<T>],
-        count: usize,
+        given: &Pack<T>,
+        from: usize,
         since: T,
     ) -> Result<Past<T>, Refusal>
-        ensures past { IfOk result (λ p. (given : List (Update T)) → count ≡ length given
-            → StandsFrom T.below since given (folded.now ++ recent.now)
-            → IsPast T.below given p) }
+        requires { from ≤ length given.now }
+        ensures past { IfOk result (λ p.
+            StandsFrom T.below since given.now (folded.now ++ drop from given.now)
+            → IsPast T.below given.now p) }
         ensures only { IfErr result (λ refused. refused ≡ Refusal.OutOfMemory) }
     {
-        let mut list = Vec::with_capacity(alloc, folded.len().saturating_add(recent.len()))?;
+        let recent = given.len() - from;
+        let mut list = Vec::with_capacity(alloc, folded.len().saturating_add(recent))?;
         append_copies(&mut list, folded)?;
-        append_copies(&mut list, recent)?;
+        given.copy_from(from, &mut list)?;
         let mut near = nearer(alloc, list, since)?;
         near.shrink_to_fit();
-        Ok(Past::if_short(alloc, near, count, since))
+        Ok(Past::if_short(alloc, near, given.len(), since))
     }
 
     /// Whether it is worth to fold again, now that so many updates were given. Takes no memory.

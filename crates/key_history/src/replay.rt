@@ -18,6 +18,7 @@ ghost use Rattle.update.specs.declared.refusal.Refusal.{Refusal};
 ghost use Rattle.std.specs.declared.cmp.Ordering.{Ordering};
 ghost use Rattle.key_history.specs.Replays.{Ascends, Settles, StandsEver, StandsFrom, moved_to, on_the_way};
 
+use crate::pack::Pack;
 use lattice::Lattice;
 use reducer::Tally;
 use std::alloc::Global;
@@ -162,19 +163,41 @@ impl<T: Lattice> Replay<T> {
         Ok(())
     }
 
-    /// The updates of two lists on the way to a first time, after which so many times are to come.
-    /// Those whose time does not come after the first one have come in.
+    // Puts those of some packed updates from a place on with those that have come in, unless their
+    // time comes after the first one.
+    fn put_from(&mut self, given: &Pack<T>, from: usize, first: T) -> Result<(), Refusal>
+        requires { from ≤ length given.now }
+        ensures put { OnOk result ((before : List (Update T))
+            → StandsEver T.below before (self.old.near.items ++ self.old.later.items)
+            → StandsEver T.below (before ++ drop from given.now)
+            (self.new.near.items ++ self.new.later.items)) }
+        ensures entered { self.new.entered ≡ self.old.entered }
+        ensures only { IfErr result (λ refused. refused ≡ Refusal.OutOfMemory) }
+    {
+        let mut place = given.place(from);
+        for i in from..given.len() {
+            self.put(&given.copy(i, place), first)?;
+            place = given.place_behind(i, place);
+        }
+        Ok(())
+    }
+
+    /// The updates of a list, and those of a packed one from a place on, on the way to a first time,
+    /// after which so many times are to come. Those whose time does not come after the first one
+    /// have come in.
     ///
     /// Cost: a copy of the updates, and n log n in the number of those whose time comes after the
     /// first one.
     pub(crate) fn of(
         alloc: Global,
         updates: &[Update<T>],
-        more: &[Update<T>],
+        given: &Pack<T>,
+        from: usize,
         first: T,
         times: usize,
     ) -> Result<Replay<T>, Refusal>
-        ensures stands { IfOk result (λ p. StandsEver T.below (updates.now ++ more.now)
+        requires { from ≤ length given.now }
+        ensures stands { IfOk result (λ p. StandsEver T.below (updates.now ++ drop from given.now)
             (on_the_way p.near.items p.later.items p.entered)) }
         ensures ascending { IfOk result (λ p. Ascends T.cmp p.later.items) }
         ensures only { IfErr result (λ refused. refused ≡ Refusal.OutOfMemory) }
@@ -186,7 +209,7 @@ impl<T: Lattice> Replay<T> {
             limit: SLACK,
         };
         replay.put_all(updates, first)?;
-        replay.put_all(more, first)?;
+        replay.put_from(given, from, first)?;
         replay.later.sort_unstable();
         replay.limit = first_limit(replay.near.len(), times);
         Ok(replay)

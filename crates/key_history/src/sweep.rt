@@ -30,6 +30,7 @@ ghost use Rattle.correction.specs.Evaluations.{IsEvaluation};
 ghost use Rattle.key_history.specs.Settling.{Steps, Settling, IsOverfullFor};
 
 use crate::KeyHistory;
+use crate::pack::Pack;
 use crate::replay::Replay;
 use antichain::is_beyond;
 use correction::{Correction, Evaluation, answer_at, correct};
@@ -283,15 +284,15 @@ pub fn sweep_key<T: Lattice, R: Reducer>(
     let due = history.due();
     let first = first_of(due);
     let meets = meets_of(alloc, due)?;
-    let (folded, recent) = history.seen_from(first_of(meets.as_slice()));
-    let none = &rows[..0];
+    let (folded, given, from) = history.seen_from(first_of(meets.as_slice()));
+    let none = Pack::new(alloc);
     let mut sweep = Sweep {
         given: Vec::new(alloc),
         due: Vec::new(alloc),
         last: None,
         base: Tally::of(alloc, rows)?,
-        rows: Replay::of(alloc, none, rows, first, due.len())?,
-        had: Replay::of(alloc, folded, recent, first, due.len())?,
+        rows: Replay::of(alloc, rows, &none, 0, first, due.len())?,
+        had: Replay::of(alloc, folded, given, from, first, due.len())?,
     };
     for i in 0..due.len() {
         sweep_time(

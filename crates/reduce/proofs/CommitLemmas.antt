@@ -1,7 +1,8 @@
 -- Changes of some histories, one after the other: what is given is appended first, and then the
 -- other pending times are put in place. What was appended can be taken back.
-use Rattle.std.proofs.Common.{◌≡◌, ℕ, zero, suc, ◌+◌, ◌-◌, ◌<◌, ◌≤◌, List, [], ◌∷◌, ◌++◌, ℤ, map, set, take, drop, length, get_or, slice_get, Some, IsSomeAnd, refl, sym, ap, ◌∙◌, subst, inl, inr, arith, add-one, drop-cons, length-take}
-use Rattle.std.proofs.lemmas.List.{take_more, length-append}
+use Rattle.std.proofs.Common.{◌≡◌, ℕ, zero, suc, ◌+◌, ◌-◌, ◌<◌, ◌≤◌, List, [], ◌∷◌, ◌++◌, ℤ, map, set, take, drop, length, get_or, slice_get, Some, IsSomeAnd, refl, sym, ap, ◌∙◌, subst, inl, inr, arith, add-one, drop-cons, length-take, length-drop}
+use Rattle.std.specs.List.{slice_range}
+use Rattle.std.proofs.lemmas.List.{take_more, length-append, drop-drop}
 use Rattle.std.proofs.lemmas.Option.{same_Some}
 use Rattle.update.specs.declared.change.Update.{Update}
 use Rattle.joined_times.specs.Joined.{Member, AreOnce}
@@ -160,6 +161,26 @@ module _ {T : Type 0} (cs : List (ChangeState T)) (out : List (Update T)) (old :
     where
       taken_length : (us : List (Update T)) (n : ℕ) → n ≤ length us → length (take n us) ≡ n
       taken_length us n l = length-take n us ∙ omega (arith, l)
+
+  -- the next change has the part of the updates behind those that were appended
+  module _ (i left : ℕ) (hs : List (HistoryState T)) (c : ChangeState T) (lt : i < length cs) (e : c ≡ get_or cs i c) (within : left ≤ length out) (g : IsGiving i (drop (length out - left) out) hs) where
+    -- there are as many as it needs
+    pub enough : c.many ≤ left
+    enough =
+        let cut : AreCut (c ∷ drop (i + 1) cs) (drop (length out - left) out) = subst (λ z. AreCut z (drop (length out - left) out)) (next cs i c lt e) g.cut in
+        let some = cut.0 in
+        let many = length-drop (length out - left) out in
+        omega (arith, within, some, many)
+
+    pub giving_part : (start end : ℕ) (hs2 : List (HistoryState T)) → start ≡ length out - left → end ≡ length out - (left - c.many) → hs2 ≡ changed_at c.place (given_more (slice_range out start end)) hs
+        → IsGiving (i + 1) (drop (length out - (left - c.many)) out) hs2
+    giving_part start end hs2 s t h =
+        let some = enough in
+        let own : slice_range out start end ≡ take c.many (drop (length out - left) out) =
+        ap (λ n. take n (drop start out)) (omega (arith, within, some, s, t)) ∙ ap (λ n. take c.many (drop n out)) s in
+        let others : drop (length out - (left - c.many)) out ≡ drop c.many (drop (length out - left) out) =
+        ap (λ n. drop n out) (omega (arith, within, some)) ∙ sym (drop-drop c.many (length out - left) out) in
+        giving_more i (drop (length out - left) out) hs c lt e g (slice_range out start end) (drop (length out - (left - c.many)) out) hs2 own others h
 
 -- one more is taken back, from behind
 pub taking_back : {T : Type 0} (cs : List (ChangeState T)) (i : ℕ) (c : ChangeState T) (hs hs2 : List (HistoryState T)) → i < length cs → c ≡ get_or cs i c → hs2 ≡ changed_at c.place (given_less c.many) hs

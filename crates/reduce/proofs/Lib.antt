@@ -6,6 +6,7 @@ pub mod FinalLemmas
 pub mod HeldLemmas
 pub mod HistoryLemmas
 pub mod LawLemmas
+pub mod OutputLemmas
 pub mod PermutedLemmas
 pub mod ReadingLemmas
 pub mod ReadyLemmas

@@ -13,3 +13,4 @@ pub mod Compacted
 pub mod Taking
 pub mod Visiting
 pub mod Reductions
+pub mod Outputs

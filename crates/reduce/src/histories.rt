@@ -8,7 +8,7 @@
 //! A history is changed at its index, and keeps its key. Only [`Histories::reserve`],
 //! [`Histories::give`] and [`Histories::compact`] take memory. A caller that pushes histories
 //! reserves room first, and then no later step can be refused. What was given can be taken back.
-ghost use Rattle.std.specs.Prelude.{◌≡◌, ◌≤◌, ◌<◌, ◌+◌, ◌++◌, ◌∷◌, [], None, Some, false, IfErr, IfSome, IsSomeAnd, OnErr, OnOk, length, set, slice_get};
+ghost use Rattle.std.specs.Prelude.{◌≡◌, ◌≤◌, ◌<◌, ◌+◌, ◌++◌, ◌∷◌, [], None, Some, false, IfErr, IfSome, IsSomeAnd, OnErr, OnOk, length, set, slice_get, slice_range};
 ghost use Rattle.std.specs.List.{list_any};
 ghost use Rattle.update.specs.Bags.{same_row};
 ghost use Rattle.update.specs.declared.refusal.Refusal.{Refusal};
@@ -19,13 +19,15 @@ ghost use Rattle.key_history.specs.Compaction.{IsCompacted, IsFolded, retimed};
 ghost use Rattle.reduce.specs.Compacted.{AreCompacted, AreFolded, HasLargeGiven};
 ghost use Rattle.reduce.specs.Histories.{HistoryState, AreKeysApart, changed_at, given_more, given_less, due_left, times_put};
 
+use columns::Columns;
 use indexmap::IndexSet;
 use key_history::KeyHistory;
 use lattice::Lattice;
 use row::Row;
 use std::alloc::Global;
 use std::marker::Model;
-use update::{Refusal, Update};
+use std::ops::Range;
+use update::Refusal;
 
 /// The histories of all keys, each key once. A contract sees the histories in order of arrival, and
 /// how many more there is room for.
@@ -168,21 +170,28 @@ impl<T: Lattice> Histories<T> {
         history.compact(alloc, since)
     }
 
-    /// Appends copies of updates to what was given of the key at an index. If the call is refused,
-    /// then no history has changed.
+    /// Appends copies of a part of some updates to what was given of the key at an index. If the
+    /// call is refused, then no history has changed.
     ///
     /// [`Refusal::OutOfMemory`] only if memory for the copies was refused.
     ///
     /// Cost: that of [`KeyHistory::give`].
-    pub(crate) fn give(&mut self, i: usize, more: &[Update<T>]) -> Result<(), Refusal>
-        requires { i < length self.old.items }
-        ensures items { OnOk result
-            (self.new.items ≡ changed_at i (given_more more.now) self.old.items) }
+    pub(crate) fn give(
+        &mut self,
+        i: usize,
+        out: &Columns<T>,
+        part: Range<usize>,
+    ) -> Result<(), Refusal>
+        requires there { i < length self.old.items }
+        requires ordered { part.start ≤ part.end }
+        requires within { part.end ≤ length out.now }
+        ensures items { OnOk result (self.new.items ≡ changed_at i
+            (given_more (slice_range out.now part.start part.end)) self.old.items) }
         ensures same { OnErr result (self.new.items ≡ self.old.items) }
         ensures only { IfErr result (λ refused. refused ≡ Refusal.OutOfMemory) }
     {
         let history = &mut self.histories[i];
-        history.give(more)?;
+        history.give(out, part)?;
         Ok(())
     }
 

@@ -32,6 +32,8 @@ ghost use Rattle.reduce.specs.Compacted.{AreCompacted, AreFolded, HasLargeGiven}
 ghost use Rattle.reduce.specs.Histories.{AreHistories, IsWaiting, due_of};
 ghost use Rattle.key_history.specs.Owing.{IsOverfull};
 ghost use Rattle.key_history.specs.Standing.{are_wide};
+ghost use Rattle.reduce.specs.Outputs.{AreApplicable, IsAtDueTimes, IsOutput, IsQuietWherePassed, IsTooLarge, OthersStayDue, StandsWithOutput, StaysApart, SumsToReduction};
+ghost use Rattle.reduce.specs.Visiting.{all_changed};
 ghost use Rattle.reduce.specs.Reductions.{StandsFor, IsOpenTo, IsQuietAt, SumsToTaken, all_reads};
 
 use crate::histories::{Histories, compact_all};
@@ -40,6 +42,7 @@ use crate::taking::{put_all, renewed_by};
 use crate::visiting::{Gathered, change_all, fold_all, visit_all};
 use antichain::Antichain;
 use batch::BatchReader;
+use columns::Columns;
 use key_history::KeyHistory;
 use lattice::Lattice;
 use reducer::Reducer;
@@ -314,8 +317,10 @@ impl<T: Lattice, R: Reducer> ReduceState<T, R> {
     /// not pay for the corrections before it. For each due time a look at those rows and answers
     /// that not all times to come see, each once for all that these times do not tell apart, a
     /// search in the key's rows for each, and the reducer's own cost. So times of one revision cost
-    /// n log n. What is given is copied once, into the histories of its keys; what was given before
-    /// stays where it is. No other key is read.
+    /// n log n. What is given is copied twice: into the histories of its keys, and into the plain
+    /// list, which takes 104 bytes an update at times of 16 bytes. What was given before stays where
+    /// it is. No other key is read. [`ready_columns`](ReduceState::ready_columns) makes no plain
+    /// list.
     pub fn ready<S: Trace<Time = T>>(
         &mut self,
         alloc: Global,
@@ -381,14 +386,101 @@ impl<T: Lattice, R: Reducer> ReduceState<T, R> {
             → IsOverfull T.below self.old.key (R.reduces self.old.reducer) taken frontier.now)) }
     {
         self.fold(alloc);
+        let gathered = self.gather(alloc, frontier, trace)?;
+        let list = gathered.out.to_vec(alloc)?;
+        let columns = self.commit(gathered, frontier)?;
+        drop(columns);
+        Ok(list)
+    }
+
+    /// Gives the differences at the pending times that the frontier has passed, as
+    /// [`ready`](ReduceState::ready) does, as a list column by column. It is what was gathered
+    /// itself, so it is not copied once more.
+    ///
+    /// - [`Refusal::Overflow`] only as for [`ready`](ReduceState::ready).
+    /// - [`Refusal::OutOfMemory`] only if memory was refused.
+    ///
+    /// If the call is refused, then nothing has changed.
+    ///
+    /// Cost: that of [`ready`](ReduceState::ready) without the plain list. An update that is given
+    /// takes a time and 8 bytes, and its row 9 bytes and 8 for each column, once for neighbours
+    /// that have it.
+    pub fn ready_columns<S: Trace<Time = T>>(
+        &mut self,
+        alloc: Global,
+        frontier: &[T],
+        trace: &S,
+    ) -> Result<Columns<T>, Refusal>
+        requires held { (key : List ℤ) (t : T) → Member t (due_of key self.old.histories)
+            → is_beyond T.below frontier.now t ≡ false
+            → IsTrue (is_beyond T.below (S.held trace.now) t) }
+        ensures once { IfOk result (λ out. AreApart T.below out) }
+        ensures nonzero { IfOk result (λ out. AllByRecursion (λ u. u.diff ≢ pos 0) out) }
+        ensures stands { IfOk result (StandsWithOutput T.below T.joined
+            self.old.key (R.reduces self.old.reducer) (S.held trace.now) frontier.now
+            (S.stands trace.now) self.old.histories self.new.histories) }
+        ensures law { IfOk result (SumsToReduction T.below T.joined
+            self.old.key (R.reduces self.old.reducer) (S.held trace.now) frontier.now
+            (S.stands trace.now) self.old.histories self.new.histories) }
+        ensures rest { OnOk result (OthersStayDue T.below frontier.now
+            self.old.histories self.new.histories) }
+        ensures quiet { OnOk result (IsQuietWherePassed T.below frontier.now self.new.histories) }
+        ensures at { IfOk result (IsAtDueTimes T.below frontier.now
+            self.old.key self.old.histories) }
+        ensures apart { IfOk result (StaysApart T.below
+            self.old.key self.old.histories self.new.histories) }
+        ensures looked { OnOk result (self.new.looked ≤ self.old.looked
+            + all_reads T.below frontier.now (S.content trace.now)
+            self.old.histories self.old.waiting) }
+        ensures counted { OnOk result (min (self.old.looked
+            + all_reads T.below frontier.now (S.content trace.now)
+            self.old.histories self.old.waiting) (2 ^ 64 - 1) ≤ self.new.looked) }
+        ensures kept { OnOk result (self.new ≡ record self.old {
+          histories = self.new.histories;
+          waiting = self.new.waiting;
+          looked = self.new.looked;
+        }) }
+        ensures same { OnErr result (self.new ≡ self.old) }
+        ensures refused { IfErr result (IsMemoryOrOverflow (IsTooLarge T.below T.joined
+            self.old.key (R.reduces self.old.reducer) (S.held trace.now) frontier.now
+            (S.stands trace.now) self.old.histories)) }
+    {
+        self.fold(alloc);
+        let gathered = self.gather(alloc, frontier, trace)?;
+        let out = self.commit(gathered, frontier)?;
+        Ok(out)
+    }
+
+    // Settles the pending times that the frontier has passed, and gathers aside what comes of it.
+    // Nothing is changed.
+    fn gather<S: Trace<Time = T>>(
+        &self,
+        alloc: Global,
+        frontier: &[T],
+        trace: &S,
+    ) -> Result<Gathered<T>, Refusal>
+        requires held { (key : List ℤ) (t : T) → Member t (due_of key self.now.histories)
+            → is_beyond T.below frontier.now t ≡ false
+            → IsTrue (is_beyond T.below (S.held trace.now) t) }
+        ensures output { IfOk result (λ gathered. IsOutput T.below T.joined
+            self.now.key (R.reduces self.now.reducer) (S.held trace.now) frontier.now
+            (S.stands trace.now) self.now.histories
+            (all_changed gathered.changes.items gathered.out self.now.histories) gathered.out) }
+        ensures applicable { IfOk result (λ gathered. AreApplicable T.cmp self.now.key
+            self.now.histories gathered.changes.items gathered.out gathered.waiting.items) }
+        ensures looked { IfOk result (λ gathered. gathered.looked ≤ self.now.looked
+            + all_reads T.below frontier.now (S.content trace.now)
+            self.now.histories self.now.waiting) }
+        ensures counted { IfOk result (λ gathered. min (self.now.looked
+            + all_reads T.below frontier.now (S.content trace.now)
+            self.now.histories self.now.waiting) (2 ^ 64 - 1) ≤ gathered.looked) }
+        ensures refused { IfErr result (IsMemoryOrOverflow (IsTooLarge T.below T.joined
+            self.now.key (R.reduces self.now.reducer) (S.held trace.now) frontier.now
+            (S.stands trace.now) self.now.histories)) }
+    {
         self.histories.known();
         let batches = trace.through(trace.upper()).unwrap();
-        let Gathered {
-            out,
-            changes,
-            waiting,
-            looked,
-        } = visit_all(
+        let gathered = visit_all(
             alloc,
             &self.reducer,
             &self.histories,
@@ -397,7 +489,30 @@ impl<T: Lattice, R: Reducer> ReduceState<T, R> {
             batches,
             self.looked,
         )?;
-        change_all(&mut self.histories, changes, out.as_slice())?;
+        Ok(gathered)
+    }
+
+    // Puts in place what was gathered, and hands on what is given. If the call is refused, then
+    // nothing has changed.
+    fn commit(&mut self, gathered: Gathered<T>, frontier: &[T]) -> Result<Columns<T>, Refusal>
+        requires { AreApplicable T.cmp self.old.key
+            self.old.histories gathered.changes.items gathered.out gathered.waiting.items }
+        ensures out { IfOk result (λ out. out ≡ gathered.out) }
+        ensures put { OnOk result (self.new ≡ record self.old {
+          histories = all_changed gathered.changes.items gathered.out self.old.histories;
+          waiting = gathered.waiting.items;
+          looked = gathered.looked;
+        }) }
+        ensures same { OnErr result (self.new ≡ self.old) }
+        ensures only { IfErr result (λ refused. refused ≡ Refusal.OutOfMemory) }
+    {
+        let Gathered {
+            out,
+            changes,
+            waiting,
+            looked,
+        } = gathered;
+        change_all(&mut self.histories, changes, &out)?;
         self.waiting = Places::from(waiting);
         self.looked = looked;
         self.since = meet_of(frontier, self.since);

@@ -22,12 +22,13 @@ use crate::histories::Histories;
 use crate::reading::rows_of;
 use antichain::is_beyond;
 use batch::BatchReader;
+use columns::Columns;
 use key_history::{Settled, sweep_key};
 use lattice::Lattice;
 use reducer::Reducer;
 use std::alloc::Global;
 use std::marker::Model;
-use update::{Refusal, Update};
+use update::Refusal;
 
 /// What is new of the key at a place. A contract sees the place, how many of the updates that are
 /// given are the key's, and the times that are still pending.
@@ -53,8 +54,9 @@ impl<T> Model for Change<T> {
 /// What was gathered so far.
 #[derive(Drop)]
 pub(crate) struct Gathered<T> {
-    /// What is given, key by key, in the order of the changes.
-    pub(crate) out: Vec<Update<T>>,
+    /// What is given, key by key, in the order of the changes. It may be the longest list of a
+    /// call, so it is kept column by column.
+    pub(crate) out: Columns<T>,
     /// What is new of the keys of which some time was due.
     pub(crate) changes: Vec<Change<T>>,
     /// The places of the keys that still wait.
@@ -78,13 +80,13 @@ fn is_due<T: Lattice>(frontier: &[T], due: &[T]) -> bool
 impl<T: Lattice> Gathered<T> {
     // Nothing yet.
     fn none(alloc: Global, looked: u64) -> Gathered<T>
-        ensures out { result.out.items ≡ [] }
+        ensures out { result.out ≡ [] }
         ensures changes { result.changes.items ≡ [] }
         ensures waiting { result.waiting.items ≡ [] }
         ensures looked { result.looked ≡ looked }
     {
         Gathered {
-            out: Vec::new(alloc),
+            out: Columns::new(alloc),
             changes: Vec::new(alloc),
             waiting: Vec::new(alloc),
             looked,
@@ -93,7 +95,7 @@ impl<T: Lattice> Gathered<T> {
 
     // Gathers what settling the key at a place gave.
     fn put(&mut self, place: usize, settled: Settled<T>) -> Result<(), Refusal>
-        ensures out { OnOk result (self.new.out.items ≡ self.old.out.items ++ settled.given.items) }
+        ensures out { OnOk result (self.new.out ≡ self.old.out ++ settled.given.items) }
         ensures changes { OnOk result (self.new.changes.items
             ≡ self.old.changes.items ++ record {
               place = place;
@@ -105,10 +107,7 @@ impl<T: Lattice> Gathered<T> {
         ensures looked { self.new.looked ≡ self.old.looked }
         ensures only { IfErr result (λ refused. refused ≡ Refusal.OutOfMemory) }
     {
-        let Settled {
-            given: mut more,
-            due,
-        } = settled;
+        let Settled { given: more, due } = settled;
         if !due.is_empty() {
             self.waiting.push(place)?;
         }
@@ -117,7 +116,7 @@ impl<T: Lattice> Gathered<T> {
             many: more.len(),
             rest: due,
         })?;
-        self.out.append(&mut more)?;
+        self.out.append(more.as_slice())?;
         Ok(())
     }
 }
@@ -156,7 +155,7 @@ fn visit<T: Lattice, R: Reducer, B: BatchReader<Time = T>>(
     ensures visited { OnOk result ((v : Visit T) × (v.place ≡ place)
         × IsVisit T.below frontier.now T.joined (R.reduces reducer.now)
         (all_content B.content batches.now) histories.now.items v
-        × (gathered.new.out.items ≡ gathered.old.out.items ++ v.more)
+        × (gathered.new.out ≡ gathered.old.out ++ v.more)
         × (gathered.new.changes.items
         ≡ gathered.old.changes.items ++ changes_of T.below frontier.now v)
         × (gathered.new.waiting.items ≡ gathered.old.waiting.items ++ waits_on v)
@@ -201,7 +200,7 @@ pub(crate) fn visit_all<T: Lattice, R: Reducer, B: BatchReader<Time = T>>(
     ensures visited { IfOk result (λ gathered. (visits : List (Visit T)) × (reads : ℕ)
         × Gathers T.below frontier.now T.joined (R.reduces reducer.now)
         (all_content B.content batches.now) histories.now.items places.now visits
-        gathered.out.items gathered.changes.items gathered.waiting.items reads
+        gathered.out gathered.changes.items gathered.waiting.items reads
         × (gathered.looked ≤ looked + reads)
         × (min (looked + reads) (2 ^ 64 - 1) ≤ gathered.looked)) }
     ensures refused { IfErr result (IsMemoryOrOverflow ((i : ℕ)
@@ -242,7 +241,7 @@ fn take_back<T: Lattice>(histories: &mut Histories<T>, changes: &[Change<T>])
 fn give_all<T: Lattice>(
     histories: &mut Histories<T>,
     changes: &[Change<T>],
-    out: &[Update<T>],
+    out: &Columns<T>,
 ) -> Result<(), Refusal>
     requires within { AreWithin (length histories.old.items) changes.now }
     requires cut { AreCut changes.now out.now }
@@ -251,15 +250,17 @@ fn give_all<T: Lattice>(
     ensures same { OnErr result (histories.new.items ≡ histories.old.items) }
     ensures only { IfErr result (λ refused. refused ≡ Refusal.OutOfMemory) }
 {
-    let mut left = out;
+    // How many updates at the end of `out` are still to be appended.
+    let mut left = out.len();
     for i in 0..changes.len() {
         let change = &changes[i];
-        let (own, others) = left.split_at(change.many);
-        if let Err(refused) = histories.give(change.place, own) {
+        let start = out.len() - left;
+        left -= change.many;
+        let part = start..out.len() - left;
+        if let Err(refused) = histories.give(change.place, out, part) {
             take_back(histories, &changes[..i]);
             return Err(refused);
         }
-        left = others;
     }
     Ok(())
 }
@@ -284,12 +285,12 @@ fn leave_all<T: Lattice>(histories: &mut Histories<T>, changes: Vec<Change<T>>)
 ///
 /// - [`Refusal::OutOfMemory`] only if memory for what is given was refused.
 ///
-/// Cost: a copy of what is given. What was given before stays where it is, but in a history that
-/// has no room for more: its list moves to one of twice the room.
+/// Cost: that of [`KeyHistory::give`](key_history::KeyHistory::give) for each change. It copies what
+/// is given. What was given before stays where it is, but in a history that has no room for more.
 pub(crate) fn change_all<T: Lattice>(
     histories: &mut Histories<T>,
     changes: Vec<Change<T>>,
-    out: &[Update<T>],
+    out: &Columns<T>,
 ) -> Result<(), Refusal>
     requires within { AreWithin (length histories.old.items) changes.items }
     requires cut { AreCut changes.items out.now }

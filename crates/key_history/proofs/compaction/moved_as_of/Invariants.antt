@@ -1,7 +1,11 @@
 use Rattle.std.proofs.Common.{◌≡◌, take}
 use Rattle.lattice.specs.Representatives.{representative_of}
 use Rattle.key_history.specs.Compaction.{retimed}
+use Rattle.key_history.specs.Packs.{columns_before}
 use Rattle.key_history.proofs.compaction.moved_as_of.Given as goal
 
-abbrev pub invariant-loop-update : goal.invariant-loop-update
-invariant-loop-update g l = l.out.items ≡ retimed (representative_of g.T.Lattice.joined g.T.Lattice.met l.since) (take l.update-index l.updates)
+abbrev pub invariant-loop-i : goal.invariant-loop-i
+invariant-loop-i g l = record {
+  moved : l.out.items ≡ retimed (representative_of g.T.Lattice.joined g.T.Lattice.met l.since) (take l.i l.updates);
+  place : l.place ≡ columns_before l.i l.updates;
+}

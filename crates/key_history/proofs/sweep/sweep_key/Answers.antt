@@ -9,7 +9,7 @@ use Rattle.key_history.specs.Settling.{Settling}
 use Rattle.correction.proofs.KeyedLemmas.{own_kept}
 use Rattle.correction.proofs.ResultLemmas.{passed_on}
 use Rattle.key_history.specs.Sweeps.{AreMeets, IsSweep}
-use Rattle.key_history.specs.Replays.{on_the_way}
+use Rattle.key_history.specs.Replays.{StandsEver, on_the_way}
 use Rattle.key_history.proofs.PastLemmas.{on_the_times}
 use Rattle.key_history.proofs.SweepLemmas.{begun, drop_one, least_first, slice_whole}
 use Rattle.key_history.proofs.SettleLemmas.{first_of, stepped, overfull, own_from}
@@ -22,13 +22,15 @@ loop-i-init g c =
     let s : Sweep g.row.T.Denot = record { given = c.new.result; due = c.new-2.result; last = None; base = c.in_ok-of.field-0; rows = c.in_ok-of-2.field-0; had = c.in_ok-of-3.field-0 } in
     let none : h.given ++ c.new.result.items ≡ h.given = ap (λ z. h.given ++ z) c.new.ensures.items ∙ append-nil h.given in
     let meets = subst (λ z. AreMeets below z c.as_slice.result.now) c.due-due.ensures (subst (λ z. AreMeets below c.due-due.result.now z) (sym c.as_slice.ensures.value) c.in_ok-meets.ensures.meets) in
-    let had = on_the_times below c.first_of.result h.due h.given (c.seen_from.result.0.now ++ c.seen_from.result.1.now) (on_the_way s.had.near.items s.had.later.items s.had.entered)
-    (least_first below h.due c.as_slice.result.now meets c.first_of.result c.first_of.ensures) c.seen_from.ensures c.in_ok-of-3.ensures.stands in (
+    let rows =
+    subst (λ us. StandsEver below us (on_the_way s.rows.near.items s.rows.later.items s.rows.entered)) (ap (λ us. c.args.rows.now ++ us) c.new-none.ensures ∙ append-nil c.args.rows.now) c.in_ok-of-2.ensures.stands in
+    let had = on_the_times below c.first_of.result h.due h.given (c.seen_from-from.result.0.now ++ drop c.seen_from-from.result.2 c.seen_from-from.result.1.now) (on_the_way s.had.near.items s.had.later.items s.had.entered)
+    (least_first below h.due c.as_slice.result.now meets c.first_of.result c.first_of.ensures) c.seen_from-from.ensures.stands c.in_ok-of-3.ensures.stands in (
       rw c.new.ensures.items refl,
       rw (c.new.ensures.items, c.new-2.ensures.items) (λ content rows. first_of g.met.T.PartialOrder.order g.met.T.Lattice.bounds (length h.key) (g.R.Reducer.reduces c.args.reducer.now) h.key content h.given c.args.frontier.now g.met.T.Lattice.extends g.met.T.Ord.total h.due c.requires.ascending),
       subst (λ z. IsSweep g.T.PartialOrder.below g.T.Ord.cmp h.due c.args.rows.now z s) (sym none)
           (begun g.met.T.PartialOrder.order h.due c.args.rows.now h.given s refl c.in_ok-of.ensures.nothing c.in_ok-of.ensures.among c.in_ok-of-2.ensures.ascending c.in_ok-of-3.ensures.ascending
-          c.in_ok-of-2.ensures.stands had),
+          rows had),
     )
 
 pub returns-in_err-sweep_time-clause-refused : goal.returns-in_err-sweep_time-clause-refused

@@ -12,7 +12,7 @@ returns-then-not-is_due-clause-visited g c =
     let h = c.get-history.result.now in
     left_alone g.T.PartialOrder.below c.args.frontier.now g.T.Lattice.joined (g.R.Reducer.reduces c.args.reducer.now) (all_content g.B.BatchReader.content c.args.batches.now) c.args.histories.now.items
     c.args.place h (there c.args.histories.now.items c.args.place h c.get-history.ensures) (what_is_there (λ h. h.due ≢ []) c.args.histories.now.items c.args.place h c.get-history.ensures c.requires.waits)
-    (sym (rw c.due.ensures at c.is_due.ensures) ∙ c.if-not-is_due.true) c.args.gathered.now.out.items c.args.gathered.now.changes.items c.args.gathered.now.waiting.items c.push.new.self.items c.args.gathered.now.looked c.in_ok-push.ensures.items
+    (sym (rw c.due.ensures at c.is_due.ensures) ∙ c.if-not-is_due.true) c.args.gathered.now.out c.args.gathered.now.changes.items c.args.gathered.now.waiting.items c.push.new.self.items c.args.gathered.now.looked c.in_ok-push.ensures.items
 
 pub sweep_key-requires-clause-ascending : goal.sweep_key-requires-clause-ascending
 sweep_key-requires-clause-ascending g c =
@@ -52,7 +52,7 @@ returns-clause-visited g c =
     c.args.place h (there c.args.histories.now.items c.args.place h c.get-history.ensures)
     (sym (rw c.due.ensures at c.is_due.ensures) ∙ c.if-not-is_due.false) c.in_ok-settled.settled.given.items c.in_ok-settled.settled.due.items
     (seen_settles sees h.key content c.as_slice.result.now rows g.T.PartialOrder.below g.T.Lattice.joined (g.R.Reducer.reduces c.args.reducer.now) (g.met.R.Reducer.blind c.args.reducer.now (length h.key)) h.given c.args.frontier.now h.due (length h.due) c.in_ok-settled.settled.given.items c.in_ok-settled.settled.due.items c.in_ok-settled.ensures.settled)
-    c.args.gathered.now.out.items c.put.new.self.out.items c.args.gathered.now.changes.items c.put.new.self.changes.items c.args.gathered.now.waiting.items c.put.new.self.waiting.items c.args.gathered.now.looked c.put.new.self.looked c.len.result
+    c.args.gathered.now.out c.put.new.self.out c.args.gathered.now.changes.items c.put.new.self.changes.items c.args.gathered.now.waiting.items c.put.new.self.waiting.items c.args.gathered.now.looked c.put.new.self.looked c.len.result
     c.in_ok-put.ensures.out c.in_ok-put.ensures.changes c.in_ok-put.ensures.waiting
     (c.len.ensures ∙ (sym c.as_slice.ensures.len ∙ seen_length sees h.key content c.as_slice.result.now rows))
     (c.in_ok-put.ensures.looked ∙ c.saturating_add-gathered.ensures)

@@ -42,7 +42,7 @@ loop-place-preserved g c =
       old.0 ++ v.0 ∷ [],
       sum_by (reads_of below c.args.frontier.now content) (old.0 ++ v.0 ∷ []),
       gathers_more below c.args.frontier.now g.T.Lattice.joined (g.R.Reducer.reduces c.args.reducer.now) content c.args.histories.now.items c.args.places.now c.loop-place.place-index (get_or c.args.places.now c.loop-place.place-index 0) c.loop-place-test.true (item_is c.args.places.now c.loop-place.place-index 0 c.loop-place-test.true)
-          old.0 v.0 c.loop-place.gathered.out.items c.visit.new.gathered.out.items c.loop-place.gathered.changes.items c.visit.new.gathered.changes.items c.loop-place.gathered.waiting.items c.visit.new.gathered.waiting.items old.1
+          old.0 v.0 c.loop-place.gathered.out c.visit.new.gathered.out c.loop-place.gathered.changes.items c.visit.new.gathered.changes.items c.loop-place.gathered.waiting.items c.visit.new.gathered.waiting.items old.1
           old.2 v.1 v.2 v.3 v.4 v.5,
       omega (arith, more, read, a, b, d, e),
       omega (arith, more, read, a, b, d, e),

@@ -1,4 +1,4 @@
-use Rattle.std.proofs.Common.{[], ◌++◌, ◌∙◌, refl}
+use Rattle.std.proofs.Common.{[], ◌++◌, drop, ◌∙◌, refl}
 use Rattle.update.proofs.ConsolidatedLemmas.{sorted_by_time}
 use Rattle.key_history.proofs.ReplayLemmas.{ever_none, ever_sorted}
 use Rattle.key_history.proofs.replay.Replay.of.Goals as goal
@@ -9,8 +9,8 @@ returns-clause-ascending g c = sorted_by_time g.met.T.Ord.total _ c.sort_unstabl
 pub returns-clause-stands : goal.returns-clause-stands
 returns-clause-stands g c =
     let below = g.T.PartialOrder.below in
-    let p = c.put_all-2.new.self in
+    let p = c.put_from.new.self in
     let first = c.in_ok-put_all.ensures.put [] (ever_none below [] (c.new.result.items ++ c.new-2.result.items) refl (rw (c.new.ensures.items, c.new-2.ensures.items) refl)) in
-    let both = c.in_ok-put_all-2.ensures.put c.args.updates.now first in
-    rw (c.put_all-2.ensures.entered ∙ c.put_all.ensures.entered)
-    (ever_sorted below (c.args.updates.now ++ c.args.more.now) p.near.items p.later.items c.sort_unstable.new.self.items both c.sort_unstable.ensures.permutation)
+    let both = c.in_ok-put_from.ensures.put c.args.updates.now first in
+    rw (c.put_from.ensures.entered ∙ c.put_all.ensures.entered)
+    (ever_sorted below (c.args.updates.now ++ drop c.args.from c.args.given.now) p.near.items p.later.items c.sort_unstable.new.self.items both c.sort_unstable.ensures.permutation)

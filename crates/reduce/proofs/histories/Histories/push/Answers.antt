@@ -1,4 +1,4 @@
-use Rattle.std.proofs.Common.{◌≡◌, ◌++◌, ◌∷◌, [], List, ℤ, false, cond, sym, subst}
+use Rattle.std.proofs.Common.{◌≡◌, ◌≤◌, arith, ◌++◌, ◌∷◌, [], List, ℤ, false, cond, sym, subst}
 use Rattle.std.specs.List.{list_any}
 use Rattle.std.specs.Result.{IfOk, is_ok}
 use Rattle.indexmap.specs.IndexSet.{insert_key}
@@ -17,3 +17,9 @@ invariant_of-self g c =
     let inserted = subst (λ r. IfOk r (λ _. c.insert.new.self.keys ≡ insert_key same_row keys c.copy.result)) c.unwrap.ensures c.insert.ensures.keys in
     let pushed = subst (λ r. c.push.new.self.items ≡ cond (is_ok r) (hs ++ history ∷ []) hs) c.unwrap-2.ensures c.push.ensures.items in
     rw (inserted, c.copy.ensures, c.key.ensures, pushed) (keys_pushed keys hs history c.self.invariant new)
+
+-- there is room in the list
+pub unwrap-requires-2 : goal.unwrap-requires-2
+unwrap-requires-2 g c =
+    let room = subst (λ (s : HistoriesState g.row.T.Denot). 1 ≤ s.spare) (sym c.self.view_is) c.requires.room in
+    c.push.ensures.succeeds (omega (arith, room))
