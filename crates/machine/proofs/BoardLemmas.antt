@@ -18,6 +18,7 @@ pub mod GiveLemmas
 pub mod FoundLemmas
 pub mod ReadLemmas
 pub mod RoutingLemmas
+pub mod CutLemmas
 pub mod GraphLemmas
 pub mod ViewLemmas
 pub mod CapturedLemmas

@@ -15,6 +15,7 @@ ghost use Rattle.machine.specs.Boards.{BoardState, IsBoard, Stands, first_board,
 pub(crate) mod arrivals;
 pub(crate) mod clients;
 pub(crate) mod cut;
+pub(crate) mod cut_emission;
 pub(crate) mod emission;
 pub(crate) mod frontiers;
 pub(crate) mod graph;

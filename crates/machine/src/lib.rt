@@ -37,12 +37,15 @@ mod board;
 mod histories;
 
 pub use board::Board;
+pub use board::cut_emission::CutEmission;
 pub use board::emission::Ungiven;
 pub use board::inputs::{InputFrontiers, MAX_CHANGES, MAX_DIFFERENCE};
 pub use board::promises::meets;
 pub use board::routing::Routing;
 pub use board::view::View;
-pub use histories::event::{Bundle, Bundles, Emission, Event, Fed, HeldTime, OpenTime, Site};
+pub use histories::event::{
+    Bundle, Bundles, Emission, Event, Fed, HeldTime, OpenTime, RememberedEmission, Site,
+};
 pub use histories::theorems::{
     bounds_are_kept, clients_are_apart, frontiers_do_not_go_back, headline, nothing_lurks,
     one_list, parts_of_workers, port_frontiers_are_the_input_frontier, premises_can_be_met,

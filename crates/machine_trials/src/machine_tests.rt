@@ -1,6 +1,6 @@
 //! Boards and routings: their calls succeed if there is memory, and after a refusal once there is.
 use lattice::Bitime;
-use machine::{Board, Bundles, Emission, Routing};
+use machine::{Board, CutEmission, Emission, Routing};
 use plan::NodeId;
 use row::Row;
 use std::alloc::{AllocError, Global};
@@ -102,7 +102,7 @@ fn answers_take_memory(rt: HostRuntime) -> Result<(), Fail> {
 
 // The rows 7 and 4, given by worker 0 of two at an input, cut for the input's readers. These are an
 // arrange node, which sends each row to a different worker, and a view.
-fn cut(alloc: Global) -> Result<Bundles<Bitime>, Refusal> {
+fn cut(alloc: Global) -> Result<CutEmission<Bitime>, Refusal> {
     let plan = built(alloc, &[input(1), arrange(0, 1), view(0)])?;
     let routing = Routing::of(alloc, &plan, 2)?;
     let updates = list(alloc, &[((0, 0), &[7], 1), ((0, 1), &[4], 1)])?;
@@ -111,15 +111,19 @@ fn cut(alloc: Global) -> Result<Bundles<Bitime>, Refusal> {
         worker: 0,
         updates: updates.into(),
     };
-    routing.cut(alloc, &emission)
+    match routing.cut(alloc, emission) {
+        Ok(cut) => Ok(cut),
+        Err(_emission) => Err(Refusal::OutOfMemory),
+    }
 }
 
 #[test]
 fn cuts_take_memory(rt: HostRuntime) -> Result<(), Fail> {
     let alloc = rt.alloc();
-    let _bundles = match cut(alloc) {
+    let cut = match cut(alloc) {
         Err(Refusal::OutOfMemory) => cut(alloc)?,
         done => done?,
     };
+    assert!(rt; cut.node() == NodeId::new(0) && cut.worker() == 0 && cut.updates().len() == 2);
     Ok(())
 }

@@ -28,6 +28,7 @@ ghost use Rattle.operator.specs.Reductions.{HasRoom, StandIn, SumsToReceived, Is
 use crate::frontier::put_in_all;
 use antichain::Antichain;
 use batch::{Batch, Builder};
+use columns::Columns;
 use lattice::Minimum;
 use plan::Kind;
 use reduce::ReduceState;
@@ -181,7 +182,8 @@ impl<T: Minimum> Reducing<T> {
     }
 
     /// Gives the differences at the pending times that the frontier has passed. These times are
-    /// pending no longer. If the call is refused, then nothing has changed.
+    /// pending no longer. They come column by column. If the call is refused, then nothing has
+    /// changed.
     ///
     /// The trace is the arrangement that the reduction reads. That it sums, at the times that the
     /// frontier has passed, to what was received is a premise of the promises and not a condition
@@ -192,34 +194,34 @@ impl<T: Minimum> Reducing<T> {
     ///   computation it is what the reduction is to give.
     /// - [`Refusal::OutOfMemory`] only if memory was refused.
     ///
-    /// Cost: as for [`ReduceState::ready`].
+    /// Cost: as for [`ReduceState::ready_columns`].
     pub fn ready(
         &mut self,
         alloc: Global,
         frontier: &[T],
         trace: &Spine<T>,
-    ) -> Result<Vec<Update<T>>, Refusal>
+    ) -> Result<Columns<T>, Refusal>
         requires whole { (t : T) → is_beyond T.below trace.now.since t ≡ T.below T.least t }
         ensures stands { IfOk result (λ out. (inserted : List (Insertion T))
             (received emitted : List (Update T))
             → Stands T.below trace.now inserted
             → SumsToReceived T.below frontier.now (all_updates inserted) received
             → IsReduced T.below T.joined T.least self.old received emitted
-            → IsReduced T.below T.joined T.least self.new received (out.items ++ emitted)) }
+            → IsReduced T.below T.joined T.least self.new received (out ++ emitted)) }
         ensures law { IfOk result (λ out. (inserted : List (Insertion T))
             (received emitted : List (Update T))
             → Stands T.below trace.now inserted
             → SumsToReceived T.below frontier.now (all_updates inserted) received
             → IsReduced T.below T.joined T.least self.old received emitted
             → (t : T) → IsTrue (has_passed T.below (pending_of self.new) t)
-            → IsAnswerAt T.below self.old received (out.items ++ emitted) t) }
+            → IsAnswerAt T.below self.old received (out ++ emitted) t) }
         ensures settled { IfOk result
-            (λ out. IsTrue (list_all (λ u. has_passed T.below frontier.now u.time) out.items)) }
+            (λ out. IsTrue (list_all (λ u. has_passed T.below frontier.now u.time) out)) }
         ensures later { OnOk result
             (IsTrue (all_beyond T.below frontier.now (pending_of self.new))) }
         ensures out_beyond { IfOk result (λ out. (other : List T)
             → IsTrue (all_beyond T.below other (pending_of self.old))
-            → IsTrue (all_beyond T.below other (times out.items))) }
+            → IsTrue (all_beyond T.below other (times out))) }
         ensures rest_beyond { OnOk result ((other : List T)
             → IsTrue (all_beyond T.below other (pending_of self.old))
             → IsTrue (all_beyond T.below other (pending_of self.new))) }
@@ -239,7 +241,7 @@ impl<T: Minimum> Reducing<T> {
             → IsTrue (list_all (λ u. has_passed T.below frontier.now u.time) emitted)
             → IsOverfullWith T.below self.old received frontier.now)) }
     {
-        let out = self.state.ready(alloc, frontier, trace)?;
+        let out = self.state.ready_columns(alloc, frontier, trace)?;
         Ok(out)
     }
 }

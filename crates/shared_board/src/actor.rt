@@ -27,7 +27,7 @@ use crate::protocol::BoardProtocol;
 use antichain::Antichain;
 use hub::{Hub, Pass};
 use lattice::Minimum;
-use machine::{Bundle, Bundles, Emission, Ungiven};
+use machine::{Bundle, CutEmission, Ungiven};
 use plan::{NodeId, Plan};
 use std::alloc::Global;
 use std::marker::{Model, PhantomData};
@@ -348,25 +348,24 @@ impl<T: Minimum, P: BoardProtocol<T>> Actor<T, P> {
     pub fn give<R: Wait>(
         &mut self,
         rt: &R,
-        emission: Emission<T>,
+        cut: CutEmission<T>,
         held: Times<T>,
-        sent: Bundles<T>,
     ) -> Result<(), Ungiven<T>>
-        requires own { emission.worker ≡ self.old.number }
+        requires own { cut.given.worker ≡ self.old.number }
         requires worker { self.old.number < (terms_in self.old.seen).dataflow.workers }
-        requires within { emission.node < length (terms_in self.old.seen).dataflow.nodes }
+        requires within { cut.given.node < length (terms_in self.old.seen).dataflow.nodes }
         requires allowed { IsGive T.below (terms_in self.old.seen).dataflow
-            (state_left T.below T.least self.old) emission held sent }
-        ensures given { OnOk result (Adds self.old (Give emission held sent) self.new) }
+            (state_left T.below T.least self.old) cut.given held cut.sent }
+        ensures given { OnOk result (Adds self.old (Give cut.given held cut.sent) self.new) }
         ensures returned { IfErr result (λ r. Adds self.old (Look self.old.number) self.new
-            × (r ≡ record { emission = emission; held = held; sent = sent })) }
+            × (r ≡ record { cut = cut; held = held })) }
     {
         let Some(pass) = self.pass.take() else {
             unreachable!()
         };
         let mut tenure = self.hub.enter(rt, pass);
         let board = tenure.state();
-        let answer = board.give(emission, held, sent);
+        let answer = board.give(cut, held);
         self.accepted = board.accepted();
         self.pass = Some(tenure.leave());
         answer

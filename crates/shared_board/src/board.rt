@@ -31,7 +31,7 @@ ghost use Rattle.shared_board.specs.Tenures.{IsKeptBeside, StandsFor, WaitsOrNot
 
 use antichain::Antichain;
 use lattice::Minimum;
-use machine::{Board, Bundle, Bundles, Emission, Ungiven};
+use machine::{Board, Bundle, CutEmission, Ungiven};
 use plan::{NodeId, Plan};
 use std::alloc::Global;
 use std::marker::Model;
@@ -391,26 +391,21 @@ impl<T: Minimum> SharedBoard<T> {
 
     /// A worker gives what it computed at the node that it has in hand. Refused as [`Board::give`]
     /// says; then the event is a look.
-    pub fn give(
-        &mut self,
-        emission: Emission<T>,
-        held: Times<T>,
-        sent: Bundles<T>,
-    ) -> Result<(), Ungiven<T>>
-        requires worker { emission.worker < self.old.board.dataflow.workers }
-        requires within { emission.node < length self.old.board.dataflow.nodes }
+    pub fn give(&mut self, cut: CutEmission<T>, held: Times<T>) -> Result<(), Ungiven<T>>
+        requires worker { cut.given.worker < self.old.board.dataflow.workers }
+        requires within { cut.given.node < length self.old.board.dataflow.nodes }
         ensures terms { terms_of_board self.new ≡ terms_of_board self.old }
         ensures beside { IsKeptBeside self.old self.new }
-        ensures given { OnOk result (self.new.board.last ≡ Give emission held sent) }
-        ensures returned { IfErr result (λ r. (self.new.board.last ≡ Look emission.worker)
-            × (r ≡ record { emission = emission; held = held; sent = sent })) }
+        ensures given { OnOk result (self.new.board.last ≡ Give cut.given held cut.sent) }
+        ensures returned { IfErr result (λ r. (self.new.board.last ≡ Look cut.given.worker)
+            × (r ≡ record { cut = cut; held = held })) }
         ensures stands { (es : List (Entry (Doing T))) → StandsFor T.below T.least T.cmp self.old es
             → IsGive T.below self.old.board.dataflow
-            (left_by T.below T.least self.old.board.dataflow es) emission held sent
+            (left_by T.below T.least self.old.board.dataflow es) cut.given held cut.sent
             → StandsFor T.below T.least T.cmp self.new
-            (entry emission.worker (doing (terms_of_board self.old) self.new.board.last) ∷ es) }
+            (entry cut.given.worker (doing (terms_of_board self.old) self.new.board.last) ∷ es) }
     {
-        self.board.give(emission, held, sent)
+        self.board.give(cut, held)
     }
 
     /// How many changes the board has accepted, as long as that was counted.

@@ -1,9 +1,12 @@
 -- A cut gives each place exactly its share, in bundles none of which is empty and whose stamps are
 -- beyond what was held. So a give that sends a cut is allowed as far as its bundles go.
-use Rattle.std.proofs.Common.{◌≡◌, ℕ, zero, suc, ◌<◌, ◌≤◌, Bool, true, false, cond, not, ◌&&◌, List, [], ◌∷◌, ◌++◌, take, length, sym, refl, ap, ap₂, ◌∙◌, Option, Some, None, eqb, arith, ◌⊎◌, inl, inr}
+use Rattle.std.proofs.Common.{◌≡◌, ℕ, zero, suc, ◌<◌, ◌≤◌, Bool, true, false, cond, not, ◌&&◌, List, [], ◌∷◌, ◌++◌, take, length, sym, refl, ap, ap₂, ◌∙◌, Option, Some, None, eqb, ℤ, pos, negsuc, unsigned_abs, subst, arith, ◌⊎◌, inl, inr}
 use Rattle.std.specs.List.{flat_map, filter, list_all}
 use Rattle.std.proofs.lemmas.Bool.{eqb-true, eqb-false, eq-eqb, ne_eqb, and_parts, and_from, false≢true}
+use Rattle.std.proofs.lemmas.Int.{ints}
+use Rattle.std.specs.Int.{int_rem_euclid}
 use Rattle.std.proofs.lemmas.List.{append-nil}
+use Rattle.row.specs.Routing.{column_sum, route_of}
 use Rattle.std.proofs.lemmas.List.Concat.{flat_map-append}
 use Rattle.std.proofs.lemmas.List.Folds.{list_all-append}
 use Rattle.lattice.specs.Order.{PartialOrderLaws}
@@ -284,3 +287,36 @@ module _ {T : Type 0} (leq : T → T → Bool) (p : Dataflow) (g : Emission T) (
   along_workers columns some =
       same_below p.workers (λ k. bundled leq (place edge.reader edge.port k) (part_by_key columns p.workers g.updates k)) (λ k. bundled leq (place edge.reader edge.port k) (share p (place edge.reader edge.port k) g))
       (λ k l. ap (bundled leq (place edge.reader edge.port k)) (sym (gets k ∙ ap (λ c. part p c g.worker k g.updates) some)))
+
+  -- if there is one worker alone, all updates go to it along each edge
+  pub along_one : p.workers ≡ 1 → g.worker < p.workers → bundled leq (place edge.reader edge.port g.worker) g.updates ≡ cut_along leq p g edge
+  along_one one l = sym (
+      one_below p.workers g.worker (λ k. bundled leq (place edge.reader edge.port k) (share p (place edge.reader edge.port k) g))
+      (λ k d. ap (bundled leq (place edge.reader edge.port k)) (gets k ∙ none k (arranged_by (node_of p edge.reader)) d)) l
+      ∙ ap (bundled leq (place edge.reader edge.port g.worker)) (gets g.worker ∙ whole (arranged_by (node_of p edge.reader))))
+    where
+      alone : g.worker ≡ 0
+      alone = let few = subst (λ n. g.worker < n) one l in omega (arith, few)
+
+      remainder : (z : ℤ) → unsigned_abs (int_rem_euclid z (pos 1)) ≡ 0
+      remainder (pos a) = omega (arith, ints)
+      remainder (negsuc a) = omega (arith, ints)
+
+      routed : (key : List ℤ) → route p key ≡ 0
+      routed key = ap (route_of key) one ∙ remainder (column_sum key)
+
+      kept : (columns : ℕ) (us : List (Update T)) → filter (λ u. eqb (route p (take columns u.row)) 0) us ≡ us
+      kept columns [] = refl
+      kept columns (u ∷ us) = ap (λ b. cond b (u ∷ filter (λ v. eqb (route p (take columns v.row)) 0) us) (filter (λ v. eqb (route p (take columns v.row)) 0) us)) (eq-eqb (route p (take columns u.row)) 0 (routed (take columns u.row))) ∙ ap (λ vs. u ∷ vs) (kept columns us)
+
+      dropped : (columns k : ℕ) → (k ≡ 0 → ⊥) → (us : List (Update T)) → filter (λ u. eqb (route p (take columns u.row)) k) us ≡ []
+      dropped columns k d [] = refl
+      dropped columns k d (u ∷ us) = ap (λ b. cond b (u ∷ filter (λ v. eqb (route p (take columns v.row)) k) us) (filter (λ v. eqb (route p (take columns v.row)) k) us)) (ne_eqb (route p (take columns u.row)) k (λ z. d (sym z ∙ routed (take columns u.row)))) ∙ dropped columns k d us
+
+      whole : (c : Option ℕ) → part p c g.worker g.worker g.updates ≡ g.updates
+      whole None = ap (λ b. cond b g.updates []) (eq-eqb g.worker g.worker refl)
+      whole (Some columns) = ap (λ k. filter (λ u. eqb (route p (take columns u.row)) k) g.updates) alone ∙ kept columns g.updates
+
+      none : (k : ℕ) (c : Option ℕ) → (k ≡ g.worker → ⊥) → part p c g.worker k g.updates ≡ []
+      none k None d = ap (λ b. cond b g.updates []) (ne_eqb g.worker k (λ z. d (sym z)))
+      none k (Some columns) d = dropped columns k (λ z. d (z ∙ sym alone)) g.updates

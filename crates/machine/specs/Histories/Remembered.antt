@@ -3,10 +3,9 @@
 -- that nothing is lost.
 use Rattle.std.specs.Prelude.{◌≡◌, List, ⊤}
 use Rattle.machine.specs.declared.histories.event.Bundle.{Bundle}
-use Rattle.machine.specs.declared.histories.event.Emission.{Emission}
 use Rattle.machine.specs.declared.histories.event.Fed.{Fed}
 use Rattle.machine.specs.declared.histories.event.Event.{Event}
-use Rattle.machine.specs.declared.histories.event.Event.TheVariants.{Feed, Advance, Take, Give}
+use Rattle.machine.specs.declared.histories.event.Event.TheVariants.{Feed, Advance, Take}
 
 module _ {T : Type 0} where
   abbrev pub IsFeeding : Event T → Type 0
@@ -35,12 +34,3 @@ module _ {T : Type 0} where
   abbrev pub HasTaken : Event T → Bundle T → Type 0
   HasTaken (Take number bundle) taken = taken ≡ bundle
   HasTaken e taken = ⊥
-
-  abbrev pub IsGiving : Event T → Type 0
-  IsGiving (Give g ts sent) = ⊤
-  IsGiving e = ⊥
-
-  -- the parts of a give
-  abbrev pub HasGiven : Event T → Emission T → List T → List (Bundle T) → Type 0
-  HasGiven (Give g ts sent) f us bundles = (f ≡ g) × (us ≡ ts) × (bundles ≡ sent)
-  HasGiven e f us bundles = ⊥

@@ -12,6 +12,7 @@ ghost use Rattle.machine.specs.Histories.Cuts.{part_by_key, bundled, bundles_alo
 
 use crate::board::workers::stamp_of;
 use crate::histories::event::{Bundle, Emission, Site};
+use columns::UpdateList;
 use lattice::Minimum;
 use plan::Edge;
 use row::Row;
@@ -48,7 +49,8 @@ pub(crate) fn push_for_workers<T: Minimum>(
     ensures refused { IfErr result (λ refusal. refusal ≡ OutOfMemory) }
 {
     let alloc = *sent.allocator();
-    let parts = parts_by_key(alloc, emission.updates.as_slice(), columns, workers)?;
+    let updates = emission.updates.to_vec(alloc)?;
+    let parts = parts_by_key(alloc, updates.as_slice(), columns, workers)?;
     push_bundles(sent, edge, parts)
 }
 
@@ -96,7 +98,8 @@ fn push_bundles<T: Minimum>(
     ensures refused { IfErr result (λ refusal. refusal ≡ OutOfMemory) }
 {
     for worker in 0..parts.len() {
-        push_bundle(sent, place_at(edge, worker), parts[worker].take())?;
+        let updates = parts[worker].take().into_vec();
+        push_bundle(sent, place_at(edge, worker), updates.into())?;
     }
     Ok(())
 }
@@ -105,13 +108,13 @@ fn push_bundles<T: Minimum>(
 fn push_bundle<T: Minimum>(
     sent: &mut Vec<Bundle<T>>,
     place: Site,
-    updates: Updates<T>,
+    updates: UpdateList<T>,
 ) -> Result<(), Refusal>
     ensures more { OnOk result (sent.new.items ≡ sent.old.items ++ bundled T.below place updates) }
     ensures refused { IfErr result (λ refusal. refusal ≡ OutOfMemory) }
 {
     if updates.len() > 0 {
-        let stamp = stamp_of(*sent.allocator(), updates.as_slice())?;
+        let stamp = stamp_of(*sent.allocator(), &updates)?;
         sent.push(Bundle {
             place,
             updates,
@@ -122,7 +125,7 @@ fn push_bundle<T: Minimum>(
 }
 
 // The place at the end of an edge, on a worker.
-fn place_at(edge: &Edge, worker: usize) -> Site
+pub(crate) fn place_at(edge: &Edge, worker: usize) -> Site
     ensures { result ≡ place edge.now.reader edge.now.port worker }
 {
     Site {

@@ -6,28 +6,26 @@ ghost use Rattle.machine.specs.Boards.Stations.{lots, HasRoomFor};
 ghost use Rattle.machine.specs.Boards.{BoardState, IsBoard, IsGiveOn, Stands, after_look, give_output, after_give, capture_at};
 
 use crate::board::Board;
+use crate::board::cut_emission::CutEmission;
 use crate::board::stations::Stations;
 use crate::board::view::View;
-use crate::histories::event::{Bundle, Bundles, Emission, remembered_give};
+use columns::UpdateList;
 use lattice::Minimum;
 use plan::NodeId;
-use std::alloc::Global;
 use update::{Refusal, Times};
 
 /// The arguments of a `give` that ran out of memory, returned unchanged.
 #[derive(Drop)]
 pub struct Ungiven<T> {
-    /// The updates that the worker computed.
-    pub emission: Emission<T>,
+    /// The updates that the worker computed, and the bundles that would have been sent.
+    pub cut: CutEmission<T>,
     /// The times that it would have held from then on.
     pub held: Times<T>,
-    /// The bundles that would have been sent.
-    pub sent: Bundles<T>,
 }
 
 impl<T: Minimum> Board<T> {
-    /// A worker gives what it computed at the node that it has in hand: the updates, the times that
-    /// it holds there from then on, and the bundles that are sent. After that it has nothing in
+    /// A worker gives what it computed at the node that it has in hand: the updates with the bundles
+    /// that are sent, and the times that it holds there from then on. After that it has nothing in
     /// hand. If the node is a view, the updates are captured.
     ///
     /// The board stands for that event if the event is allowed. It is allowed if all of this holds:
@@ -47,43 +45,31 @@ impl<T: Minimum> Board<T> {
     /// Cost: linear in the bundles that are sent, and at a view in the updates. What is held and
     /// sent moves. A view copies the updates: their times, their differences, and one row for all
     /// neighbours that have it.
-    pub fn give(
-        &mut self,
-        emission: Emission<T>,
-        held: Times<T>,
-        sent: Bundles<T>,
-    ) -> Result<(), Ungiven<T>>
-        requires worker { emission.worker < self.old.dataflow.workers }
-        requires within { emission.node < length self.old.dataflow.nodes }
-        ensures given { OnOk result (self.new ≡ after_give emission held sent self.old) }
-        ensures returned { IfErr result (λ r.
-            r ≡ record { emission = emission; held = held; sent = sent }) }
-        ensures unchanged { OnErr result (self.new ≡ after_look emission.worker self.old) }
+    pub fn give(&mut self, cut: CutEmission<T>, held: Times<T>) -> Result<(), Ungiven<T>>
+        requires worker { cut.given.worker < self.old.dataflow.workers }
+        requires within { cut.given.node < length self.old.dataflow.nodes }
+        ensures given { OnOk result (self.new ≡ after_give cut.given held cut.sent self.old) }
+        ensures returned { IfErr result (λ r. r ≡ record { cut = cut; held = held }) }
+        ensures unchanged { OnErr result (self.new ≡ after_look cut.given.worker self.old) }
         ensures stands { (h : List (Event T)) → Stands T.below T.least self.old h
-            → IsGiveOn T.below T.least self.old h emission held sent
+            → IsGiveOn T.below T.least self.old h cut.given held cut.sent
             → Stands T.below T.least self.new (self.new.last ∷ h) }
     {
-        self.give_or_look(emission, held, sent)
+        self.give_or_look(cut, held)
     }
 
     // Changes the board as `give` says. `give` adds what that means for histories.
-    fn give_or_look(
-        &mut self,
-        emission: Emission<T>,
-        held: Times<T>,
-        sent: Bundles<T>,
-    ) -> Result<(), Ungiven<T>>
-        requires worker { emission.worker < self.old.dataflow.workers }
-        requires within { emission.node < length self.old.dataflow.nodes }
-        ensures given { OnOk result (self.new ≡ after_give emission held sent self.old) }
-        ensures returned { IfErr result (λ r.
-            r ≡ record { emission = emission; held = held; sent = sent }) }
-        ensures unchanged { OnErr result (self.new ≡ after_look emission.worker self.old) }
+    fn give_or_look(&mut self, cut: CutEmission<T>, held: Times<T>) -> Result<(), Ungiven<T>>
+        requires worker { cut.given.worker < self.old.dataflow.workers }
+        requires within { cut.given.node < length self.old.dataflow.nodes }
+        ensures given { OnOk result (self.new ≡ after_give cut.given held cut.sent self.old) }
+        ensures returned { IfErr result (λ r. r ≡ record { cut = cut; held = held }) }
+        ensures unchanged { OnErr result (self.new ≡ after_look cut.given.worker self.old) }
         ensures board { OnOk result (IsBoard self.old) }
     {
-        let worker = emission.worker;
-        let (emission, held, sent, event) = remembered_give(emission, held, sent);
-        match self.try_give(emission, held, sent) {
+        let worker = cut.worker();
+        let event = cut.event(&held);
+        match self.try_give(cut, held) {
             Ok(()) => {
                 self.note(event);
                 Ok(())
@@ -97,41 +83,27 @@ impl<T: Minimum> Board<T> {
 
     // Does all that `give` does, except that it does not record the event. What is held and sent
     // moves to where it goes.
-    fn try_give(
-        &mut self,
-        emission: Emission<T>,
-        held: Times<T>,
-        sent: Bundles<T>,
-    ) -> Result<(), Ungiven<T>>
-        requires worker { emission.worker < self.old.dataflow.workers }
-        requires within { emission.node < length self.old.dataflow.nodes }
-        ensures given { OnOk result (self.new ≡ give_output emission held sent self.old) }
-        ensures returned { IfErr result (λ r.
-            r ≡ record { emission = emission; held = held; sent = sent }) }
+    fn try_give(&mut self, cut: CutEmission<T>, held: Times<T>) -> Result<(), Ungiven<T>>
+        requires worker { cut.given.worker < self.old.dataflow.workers }
+        requires within { cut.given.node < length self.old.dataflow.nodes }
+        ensures given { OnOk result (self.new ≡ give_output cut.given held cut.sent self.old) }
+        ensures returned { IfErr result (λ r. r ≡ record { cut = cut; held = held }) }
         ensures unchanged { OnErr result (self.new ≡ self.old) }
         ensures board { IsBoard self.old }
     {
-        let is_view = self.plan.node(emission.node).is_output();
-        match prepare(
-            &mut self.stations,
-            &mut self.views,
-            is_view,
-            &emission,
-            &sent.items,
-        ) {
+        let node = cut.node();
+        let worker = cut.worker();
+        let is_view = self.plan.node(node).is_output();
+        match prepare(&mut self.stations, &mut self.views, is_view, &cut) {
             Ok(()) => {
-                self.stations.put_all(sent.items);
-                self.stations.hold(emission.node, emission.worker, held);
-                self.hand[emission.worker] = None;
+                self.stations.put_all(cut.into_sent());
+                self.stations.hold(node, worker, held);
+                self.hand[worker] = None;
                 Ok(())
             }
             Err(_refused) => {
-                self.stations.release(&sent.items);
-                Err(Ungiven {
-                    emission,
-                    held,
-                    sent,
-                })
+                self.stations.release(cut.sent());
+                Err(Ungiven { cut, held })
             }
         }
     }
@@ -143,31 +115,31 @@ fn prepare<T: Minimum>(
     stations: &mut Stations<T>,
     views: &mut Vec<View<T>>,
     is_view: bool,
-    emission: &Emission<T>,
-    sent: &[Bundle<T>],
+    cut: &CutEmission<T>,
 ) -> Result<(), Refusal>
-    requires { emission.now.node < length views.old.items }
+    requires { cut.now.given.node < length views.old.items }
     ensures stations { lots stations.new ≡ lots stations.old }
-    ensures room { OnOk result (HasRoomFor sent.now stations.new) }
+    ensures room { OnOk result (HasRoomFor cut.now.sent stations.new) }
     ensures captured { OnOk result (views.new.items ≡ (if is_view
-        then capture_at emission.now.node emission.now.updates views.old.items
+        then capture_at cut.now.given.node cut.now.given.updates views.old.items
         else views.old.items)) }
     ensures len { length views.new.items ≡ length views.old.items }
     ensures unchanged { OnErr result (views.new.items ≡ views.old.items) }
 {
-    stations.reserve(sent)?;
-    capture(views, is_view, emission)
+    stations.reserve(cut.sent())?;
+    capture(views, is_view, cut.node(), cut.updates())
 }
 
 // Captures what a node gave, if the node is a view.
 fn capture<T: Minimum>(
     views: &mut Vec<View<T>>,
     is_view: bool,
-    emission: &Emission<T>,
+    node: NodeId,
+    updates: &UpdateList<T>,
 ) -> Result<(), Refusal>
-    requires { emission.now.node < length views.old.items }
+    requires { node < length views.old.items }
     ensures captured { OnOk result (views.new.items ≡ (if is_view
-        then capture_at emission.now.node emission.now.updates views.old.items
+        then capture_at node updates.now views.old.items
         else views.old.items)) }
     ensures len { length views.new.items ≡ length views.old.items }
     ensures unchanged { OnErr result (views.new.items ≡ views.old.items) }
@@ -175,5 +147,5 @@ fn capture<T: Minimum>(
     if !is_view {
         return Ok(());
     }
-    views[emission.node.number()].append(emission.updates.as_slice())
+    views[node.number()].append(updates)
 }

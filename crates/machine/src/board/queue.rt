@@ -12,11 +12,15 @@ ghost use Rattle.machine.specs.declared.board.queue.Parcel.TheVariants.{Sent};
 ghost use Rattle.machine.specs.Boards.Loads.{load_of};
 
 use antichain::is_beyond;
+use columns::UpdateList;
 use lattice::Minimum;
 use std::alloc::Global;
 use std::collections::VecDeque;
 use std::marker::Model;
-use update::{Refusal, Times, Update, Updates};
+use update::{Refusal, Times, Update};
+
+// A queue with room for so many parcels keeps it once nothing waits.
+const SHORT: usize = 1024;
 
 /// One thing that waits at a place: a change as it was fed, or a bundle that a worker sent.
 #[derive(Drop)]
@@ -24,7 +28,7 @@ pub(crate) enum Parcel<T> {
     /// A change as it was fed.
     Change(Update<T>),
     /// The updates that a worker sent, and their stamp.
-    Sent(Updates<T>, Times<T>),
+    Sent(UpdateList<T>, Times<T>),
 }
 
 /// What waits at a place, the oldest first. A contract sees the loads, and the number of further
@@ -125,7 +129,7 @@ impl<T: Minimum> Queue<T> {
         &mut self,
         number: usize,
         held: &mut Vec<T>,
-    ) -> Result<(Updates<T>, Times<T>), Refusal>
+    ) -> Result<(UpdateList<T>, Times<T>), Refusal>
         requires { number < length self.old.loads }
         ensures load { IfOk result (λ load. slice_get self.old.loads number
             ≡ Some (record { updates = load.0; stamp = load.1 })) }
@@ -141,6 +145,17 @@ impl<T: Minimum> Queue<T> {
         match self.parcels.remove(number).unwrap() {
             Parcel::Sent(updates, stamp) => Ok((updates, stamp)),
             Parcel::Change(_update) => unreachable!(),
+        }
+    }
+
+    /// Gives back the memory of a long queue in which nothing waits any more, and gives up all
+    /// reserved room: a million changes may have waited, and never again. Takes no memory.
+    pub(crate) fn shrink(&mut self)
+        ensures unchanged { self.new.loads ≡ self.old.loads }
+    {
+        if self.parcels.is_empty() && self.parcels.capacity() > SHORT {
+            self.reserved = 0;
+            self.parcels.shrink_to_fit();
         }
     }
 

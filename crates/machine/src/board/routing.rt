@@ -1,8 +1,8 @@
 //! Routing: where the updates go that a node gives. This depends on the plan and the number of
 //! workers alone. So the edges from each node are found once, and a cut goes only along the edges
 //! of its own node. It needs no board.
-ghost use Rattle.std.specs.Prelude.{◌≡◌, ◌<◌, ◌≤◌, ◌++◌, ◌&&◌, List, IfErr, IfOk, OnOk, IsTrue, eqb, length, map, not};
-ghost use Rattle.std.specs.List.{list_all};
+ghost use Rattle.std.specs.Prelude.{◌≡◌, ◌⊎◌, ◌<◌, ◌≤◌, ◌++◌, ◌&&◌, List, None, IfErr, IfOk, OnOk, IsTrue, eqb, length, map, not, take};
+ghost use Rattle.std.specs.List.{flat_map, list_all};
 ghost use Rattle.lattice.specs.Frontiers.{all_beyond};
 ghost use Rattle.update.specs.declared.refusal.Refusal.TheVariants.{OutOfMemory};
 ghost use Rattle.plan.specs.Edges.{edges_from, leads_from};
@@ -13,10 +13,11 @@ ghost use Rattle.machine.specs.Histories.States.{times, updates_at};
 ghost use Rattle.machine.specs.Histories.Shares.{share, AreShares, are_filled, are_stamped};
 ghost use Rattle.machine.specs.Histories.Cuts.{cut_along, cut};
 ghost use Rattle.machine.specs.Boards.Routings.{all_edges};
-ghost use Rattle.machine.specs.Histories.Dataflows.{IsDataflow};
+ghost use Rattle.machine.specs.Histories.Dataflows.{IsDataflow, node_of};
 
-use crate::board::cut::{push_for_giver, push_for_workers};
-use crate::histories::event::{Bundle, Bundles, Emission};
+use crate::board::cut::{place_at, push_for_giver, push_for_workers};
+use crate::board::cut_emission::CutEmission;
+use crate::histories::event::{Bundle, Emission};
 use lattice::Minimum;
 use plan::{Edge, NodeId, Plan};
 use std::alloc::Global;
@@ -98,28 +99,29 @@ impl Routing {
     /// share in one bundle, and no bundle is empty. A bundle's stamp is the frontier of its times.
     /// So if each time of the emission is beyond the times that the giver held, so is each stamp.
     ///
-    /// Refused only with `OutOfMemory`.
+    /// Refused only if memory runs out. Then the emission comes back.
     ///
     /// Cost: for each edge from the node, linear in the updates given, and in the workers if the
     /// edge leads into an arrange node. Besides, for each bundle, the product of its updates and
-    /// the elements of its stamp.
+    /// the elements of its stamp. Along the last edge the updates are not copied if they all go to
+    /// one worker.
     pub fn cut<T: Minimum>(
         &self,
         alloc: Global,
-        emission: &Emission<T>,
-    ) -> Result<Bundles<T>, Refusal>
-        requires { emission.now.worker < self.now.workers }
-        ensures cut { IfOk result (λ sent. sent ≡ cut T.below self.now emission.now) }
-        ensures whole { IfOk result (AreShares self.now emission.now) }
-        ensures filled { IfOk result (λ sent. IsTrue (are_filled sent)) }
-        ensures stamped { IfOk result (λ sent. (held : List T)
-            → IsTrue (all_beyond T.below held (times emission.now.updates))
-            → IsTrue (are_stamped T.below held sent)) }
-        ensures refused { IfErr result (λ refusal. refusal ≡ OutOfMemory) }
+        emission: Emission<T>,
+    ) -> Result<CutEmission<T>, Emission<T>>
+        requires { emission.worker < self.now.workers }
+        ensures given { IfOk result (λ c. c.given ≡ emission) }
+        ensures cut { IfOk result (λ c. c.sent ≡ cut T.below self.now emission) }
+        ensures whole { IfOk result (λ c. AreShares self.now emission c.sent) }
+        ensures filled { IfOk result (λ c. IsTrue (are_filled c.sent)) }
+        ensures stamped { IfOk result (λ c. (held : List T)
+            → IsTrue (all_beyond T.below held (times emission.updates))
+            → IsTrue (are_stamped T.below held c.sent)) }
+        ensures returned { IfErr result (λ back. back ≡ emission) }
     {
         self.known();
-        let sent = self.cut_along_edges(alloc, emission)?;
-        Ok(sent.into())
+        self.cut_along_edges(alloc, emission)
     }
 
     // Costs nothing. It tells the prover that the dataflow is well formed.
@@ -129,21 +131,83 @@ impl Routing {
         let _ = &self.workers;
     }
 
-    // The bundles along all edges from the emission's node.
+    // The emission with the bundles along all edges from its node.
     fn cut_along_edges<T: Minimum>(
         &self,
         alloc: Global,
+        emission: Emission<T>,
+    ) -> Result<CutEmission<T>, Emission<T>>
+        requires { emission.worker < self.now.workers }
+        ensures given { IfOk result (λ c. c.given ≡ emission) }
+        ensures cut { IfOk result (λ c. c.sent ≡ cut T.below self.now emission) }
+        ensures returned { IfErr result (λ back. back ≡ emission) }
+    {
+        let edges = self.edges_from(emission.node);
+        let count = edges.len();
+        if count == 0 {
+            return Ok(CutEmission::new(emission, Vec::new(alloc).into()));
+        }
+        let Ok(sent) = self.cut_along_first(alloc, count - 1, &emission) else {
+            return Err(emission);
+        };
+        self.cut_along_last(alloc, sent, &edges[count - 1], emission)
+    }
+
+    // The bundles along the first edges from the emission's node, of this number.
+    fn cut_along_first<T: Minimum>(
+        &self,
+        alloc: Global,
+        count: usize,
         emission: &Emission<T>,
     ) -> Result<Vec<Bundle<T>>, Refusal>
-        requires { emission.now.worker < self.now.workers }
-        ensures cut { IfOk result (λ sent. sent.items ≡ cut T.below self.now emission.now) }
+        requires worker { emission.now.worker < self.now.workers }
+        requires count { count ≤ length (edges_from self.now.nodes emission.now.node) }
+        ensures cut { IfOk result (λ sent. sent.items
+            ≡ flat_map (cut_along T.below self.now emission.now)
+            (take count (edges_from self.now.nodes emission.now.node))) }
         ensures refused { IfErr result (λ refusal. refusal ≡ OutOfMemory) }
     {
         let mut sent = Vec::new(alloc);
-        for edge in self.edges_from(emission.node) {
+        for edge in &self.edges_from(emission.node)[..count] {
             self.push_along(&mut sent, edge, emission)?;
         }
         Ok(sent)
+    }
+
+    // The emission with these bundles, and behind them those along the last edge from its node. If
+    // all updates go to one worker there, then the list itself does.
+    fn cut_along_last<T: Minimum>(
+        &self,
+        alloc: Global,
+        mut sent: Vec<Bundle<T>>,
+        edge: &Edge,
+        emission: Emission<T>,
+    ) -> Result<CutEmission<T>, Emission<T>>
+        requires worker { emission.worker < self.now.workers }
+        requires leads { IsTrue (leads_from self.now.nodes emission.node edge.now) }
+        ensures given { IfOk result (λ c. c.given ≡ emission) }
+        ensures cut { IfOk result (λ c. c.sent
+            ≡ sent.items ++ cut_along T.below self.now emission edge.now) }
+        ensures returned { IfErr result (λ back. back ≡ emission) }
+    {
+        if self.goes_to_one(edge) {
+            let place = place_at(edge, emission.worker);
+            return CutEmission::sent_to(alloc, place, sent, emission);
+        }
+        match self.push_along(&mut sent, edge, &emission) {
+            Ok(()) => Ok(CutEmission::new(emission, sent.into())),
+            Err(_refused) => Err(emission),
+        }
+    }
+
+    // Whether all updates along an edge go to one worker, which is the giver: so they do if there
+    // is one worker alone, or if the edge does not lead into an arrange node.
+    fn goes_to_one(&self, edge: &Edge) -> bool
+        requires { edge.now.reader < length self.now.nodes }
+        ensures { IsTrue result → (self.now.workers ≡ 1)
+            ⊎ (arranged_by (node_of self.now edge.now.reader) ≡ None) }
+    {
+        self.workers == 1 || self.arranged[edge.reader.number()].is_none()
     }
 
     // Appends the bundles along one edge from the emission's node.

@@ -13,11 +13,12 @@ ghost use Rattle.machine.specs.Boards.Stations.{lot, lots, has_room, IsReleased,
 
 use crate::board::queue::{Parcel, Queue};
 use crate::histories::event::{Bundle, Site};
+use columns::UpdateList;
 use lattice::Minimum;
 use plan::NodeId;
 use std::alloc::Global;
 use std::marker::Model;
-use update::{Refusal, Times, Updates};
+use update::{Refusal, Times};
 
 // A worker that held at most this many times at a node keeps the list's memory when it holds none
 // any more. A longer list is freed.
@@ -113,7 +114,7 @@ impl<T: Minimum> Station<T> {
     }
 
     // Takes the load of a number from a port. The worker then holds its stamp.
-    fn take(&mut self, port: usize, number: usize) -> Result<(Updates<T>, Times<T>), Refusal>
+    fn take(&mut self, port: usize, number: usize) -> Result<(UpdateList<T>, Times<T>), Refusal>
         requires { number < length (loads_at port (lot self.old)) }
         ensures load { IfOk result (λ load. slice_get (loads_at port (lot self.old)) number
             ≡ Some (record { updates = load.0; stamp = load.1 })) }
@@ -130,10 +131,12 @@ impl<T: Minimum> Station<T> {
     }
 
     // The worker holds these times from now on, and no other. If there are none, a short list keeps
-    // its memory, since the next stamp goes there.
+    // its memory, since the next stamp goes there. Queues that were emptied give theirs back.
     fn hold(&mut self, times: Times<T>)
         ensures { lot self.new ≡ record (lot self.old) { held = times } }
     {
+        self.left.shrink();
+        self.right.shrink();
         if times.as_slice().is_empty() && self.held.len() <= MAX_KEPT {
             self.held.clear();
         } else {
@@ -216,7 +219,7 @@ impl<T: Minimum> Row<T> {
         worker: usize,
         port: usize,
         number: usize,
-    ) -> Result<(Updates<T>, Times<T>), Refusal>
+    ) -> Result<(UpdateList<T>, Times<T>), Refusal>
         requires { number < length (loads_at port (lot_in (map lot self.old) worker)) }
         ensures load { IfOk result (λ load.
             slice_get (loads_at port (lot_in (map lot self.old) worker)) number

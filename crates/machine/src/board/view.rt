@@ -19,7 +19,7 @@ ghost use Rattle.update.specs.declared.change.Update.{Update};
 ghost use Rattle.update.specs.declared.refusal.Refusal.TheVariants.{OutOfMemory, Overflow};
 ghost use Rattle.machine.specs.Boards.Views.{update_at, is_later_at, later_below, IsReadOf, IsSumRefusal};
 
-use columns::Columns;
+use columns::{Columns, UpdateList};
 use lattice::Minimum;
 use std::alloc::Global;
 use std::marker::Model;
@@ -96,13 +96,13 @@ impl<T: Minimum> View<T> {
     /// changes.
     ///
     /// Cost: linear in the updates, each of whose rows is compared with the one before.
-    pub(crate) fn append(&mut self, more: &[Update<T>]) -> Result<(), Refusal>
+    pub(crate) fn append(&mut self, more: &UpdateList<T>) -> Result<(), Refusal>
         ensures more { OnOk result
             (self.new ≡ record self.old { captured = self.old.captured ++ more.now }) }
         ensures refused { IfErr result (λ refusal. refusal ≡ OutOfMemory) }
         ensures unchanged { OnErr result (self.new ≡ self.old) }
     {
-        self.captured.append(more)
+        more.append_to(&mut self.captured)
     }
 
     /// What the view captured, summed to a time. Refused with `Overflow` only if a row's count at

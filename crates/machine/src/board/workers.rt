@@ -18,21 +18,25 @@ ghost use Rattle.machine.specs.Boards.Reads.{is_ready};
 use crate::board::Board;
 use crate::histories::event::{Bundle, Event, Site, remembered_take};
 use antichain::is_beyond;
+use columns::UpdateList;
 use lattice::Minimum;
 use plan::NodeId;
 use std::alloc::Global;
 use std::snapshot::Snapshot;
-use update::{Refusal, Update};
+use update::Refusal;
 
 // The stamp of updates: the frontier of their times.
 #[tactic(auto, unfolding(crate::specs::Histories::Outstanding::stamp))]
-pub(crate) fn stamp_of<T: Minimum>(alloc: Global, updates: &[Update<T>]) -> Result<Vec<T>, Refusal>
+pub(crate) fn stamp_of<T: Minimum>(
+    alloc: Global,
+    updates: &UpdateList<T>,
+) -> Result<Vec<T>, Refusal>
     ensures stamp { IfOk result (λ front. front.items ≡ stamp T.below updates.now) }
     ensures refused { IfErr result (λ refusal. refusal ≡ OutOfMemory) }
 {
     let mut stamp = Vec::new(alloc);
-    for update in updates {
-        insert(&mut stamp, update.time)?;
+    for i in 0..updates.len() {
+        insert(&mut stamp, updates.time(i))?;
     }
     Ok(stamp)
 }

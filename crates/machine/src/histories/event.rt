@@ -2,11 +2,12 @@
 //! names who did it and everything that it did. So a history is a list of events and nothing else.
 ghost use Rattle.std.specs.Prelude.{◌≡◌};
 ghost use Rattle.machine.specs.declared.histories.event.Event.TheVariants.{Feed, Advance, Take, Give};
-ghost use Rattle.machine.specs.Histories.Remembered.{IsFeeding, HasFed, IsAdvancing, HasAdvanced, IsTaking, HasTaken, IsGiving, HasGiven};
+ghost use Rattle.machine.specs.Histories.Remembered.{IsFeeding, HasFed, IsAdvancing, HasAdvanced, IsTaking, HasTaken};
 
+use columns::UpdateList;
 use plan::NodeId;
 use std::snapshot::Snapshot;
-use update::{Times, Update, Updates};
+use update::{Times, Update};
 
 /// A place where bundles wait: a port of a node, on a worker.
 #[derive(Clone, Copy)]
@@ -25,7 +26,7 @@ pub struct Bundle<T> {
     /// The place where they wait.
     pub place: Site,
     /// The updates.
-    pub updates: Updates<T>,
+    pub updates: UpdateList<T>,
     /// Times such that each update is at or after one of them. The sender finds them once.
     pub stamp: Times<T>,
 }
@@ -47,7 +48,66 @@ pub struct Emission<T> {
     /// The worker, by its number.
     pub worker: usize,
     /// The updates that it gave.
-    pub updates: Updates<T>,
+    pub updates: UpdateList<T>,
+}
+
+/// A value as an event remembers it, for clauses alone. A contract sees the value.
+#[derive(Drop)]
+pub struct Remembered<X> {
+    value: Snapshot<X>,
+}
+
+impl<X> std::marker::Model for Remembered<X> {
+    ghost use Rattle.std.specs.Prelude.{◌≡◌};
+
+    ghost Value = { X };
+
+    ghost view = { λ r. r.value.value };
+}
+
+impl<X> Remembered<X> {
+    // A value, for clauses alone.
+    pub(crate) fn of(value: &X) -> Remembered<X>
+        ensures { result ≡ value.now }
+    {
+        Remembered {
+            value: Snapshot::of(value),
+        }
+    }
+}
+
+/// An emission as an event remembers it, for clauses alone. It has no updates of its own, since these
+/// are on their way. A contract sees the emission.
+#[derive(Drop)]
+pub struct RememberedEmission<T> {
+    node: NodeId,
+    worker: usize,
+    updates: Snapshot<UpdateList<T>>,
+}
+
+impl<T> std::marker::Model for RememberedEmission<T> {
+    ghost use Rattle.machine.specs.declared.histories.event.Emission.{Emission};
+
+    ghost Value = { Emission T };
+
+    ghost view = { λ e. record {
+      node = e.node;
+      worker = e.worker;
+      updates = e.updates.value;
+    } };
+}
+
+impl<T> RememberedEmission<T> {
+    // The emission of these updates at a node, for clauses alone.
+    pub(crate) fn of(node: NodeId, worker: usize, updates: &UpdateList<T>) -> RememberedEmission<T>
+        ensures { result ≡ record { node = node; worker = worker; updates = updates.now } }
+    {
+        RememberedEmission {
+            node,
+            worker,
+            updates: Snapshot::of(updates),
+        }
+    }
 }
 
 /// A time that a worker holds at a node: the worker may still give updates there at this time or
@@ -84,6 +144,15 @@ impl<T> std::marker::Model for Bundles<T> {
     ghost Value = { List (Bundle T) };
 
     ghost view = { λ u. u.items.items };
+}
+
+impl<T> Bundles<T> {
+    /// The bundles, in the order in which they are sent. Takes no memory.
+    pub fn as_slice(&self) -> &[Bundle<T>]
+        ensures { result.now ≡ self.now }
+    {
+        self.items.as_slice()
+    }
 }
 
 /// Takes no memory.
@@ -135,9 +204,9 @@ pub enum Event<T> {
     /// A worker gives what it computed at a node, says which times it holds there from now on, and
     /// sends the updates on.
     Give {
-        given: Emission<T>,
-        held: Times<T>,
-        sent: Bundles<T>,
+        given: RememberedEmission<T>,
+        held: Remembered<Times<T>>,
+        sent: Remembered<Bundles<T>>,
     },
 }
 
@@ -221,29 +290,18 @@ fn times_in<T>(event: Event<T>) -> Times<T>
     }
 }
 
-// Makes the event of a give, for clauses alone, and returns its parts, which move through it.
-pub(crate) fn remembered_give<T>(
-    given: Emission<T>,
-    held: Times<T>,
-    sent: Bundles<T>,
-) -> (Emission<T>, Times<T>, Bundles<T>, Snapshot<Event<T>>)
-    ensures given { result.0 ≡ given }
-    ensures held { result.1 ≡ held }
-    ensures sent { result.2 ≡ sent }
-    ensures event { result.3.value ≡ Give given held sent }
+// The event of a give, for clauses alone. Nothing is moved or copied.
+pub(crate) fn remembered_give<T: Drop>(
+    given: RememberedEmission<T>,
+    held: &Times<T>,
+    sent: &Bundles<T>,
+) -> Snapshot<Event<T>>
+    ensures event { result.value ≡ Give given held.now sent.now }
 {
-    let event = Event::Give { given, held, sent };
-    let last = Snapshot::of(&event);
-    let (given, held, sent) = given_in(event);
-    (given, held, sent, last)
-}
-
-fn given_in<T>(event: Event<T>) -> (Emission<T>, Times<T>, Bundles<T>)
-    requires { IsGiving event }
-    ensures { HasGiven event result.0 result.1 result.2 }
-{
-    match event {
-        Event::Give { given, held, sent } => (given, held, sent),
-        _ => unreachable!(),
-    }
+    let event = Event::Give {
+        given,
+        held: Remembered::of(held),
+        sent: Remembered::of(sent),
+    };
+    Snapshot::of(&event)
 }

@@ -109,7 +109,8 @@ fn pair_left<T: Minimum, P: BoardProtocol<T>>(
     worker.known();
     let Bundle { updates, .. } = bundle;
     let other = arrangement_at(arrangements, right).trace();
-    joining.take_left(alloc, updates.into_vec(), upper, other)
+    let updates = updates.into_vec(alloc)?;
+    joining.take_left(alloc, updates, upper, other)
 }
 
 /// Pairs a bundle that was taken at the left port of a join with what the right side has taken, and
@@ -224,7 +225,8 @@ fn pair_right<T: Minimum, P: BoardProtocol<T>>(
     worker.known();
     let Bundle { updates, .. } = bundle;
     let other = arrangement_at(arrangements, left).trace();
-    joining.take_right(alloc, updates.into_vec(), upper, other)
+    let updates = updates.into_vec(alloc)?;
+    joining.take_right(alloc, updates, upper, other)
 }
 
 /// Pairs a bundle that was taken at the right port of a join with what the left side has taken, and

@@ -12,6 +12,7 @@ ghost use Rattle.shared_board.specs.Tenures.{state_found, state_left};
 
 use crate::relays::steps::{give_on, hold_back, take_at, turn_at};
 use antichain::Antichain;
+use columns::UpdateList;
 use lattice::Minimum;
 use machine::{Bundle, Emission, Routing};
 use operator::{Arrangement, Reducing};
@@ -66,7 +67,8 @@ pub(crate) fn absorb<T: Minimum, P: BoardProtocol<T>, R: Wait>(
         return Ok(false);
     };
     let Bundle { updates, .. } = bundle;
-    reducing.take(alloc, start, updates.into_vec())?;
+    let updates = updates.into_vec(alloc)?;
+    reducing.take(alloc, start, updates)?;
     let held = reducing.held(alloc)?;
     hold_back(alloc, rt, worker, node, held)?;
     Ok(more)
@@ -122,10 +124,11 @@ pub(crate) fn settle<T: Minimum, P: BoardProtocol<T>, R: Wait>(
     worker.known();
     let out = reducing.ready(alloc, upper.elements(), source.trace())?;
     let held = reducing.held(alloc)?;
+    let updates = UpdateList::packed(alloc, out)?;
     let answers = Emission {
         node,
         worker: 0,
-        updates: out.into(),
+        updates,
     };
     give_on(alloc, rt, routing, worker, answers, held)
 }

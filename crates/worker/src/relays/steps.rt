@@ -22,7 +22,7 @@ ghost use Rattle.shared_board.specs.Tenures.{WaitsOrNotIn, state_found, state_le
 
 use antichain::Antichain;
 use lattice::Minimum;
-use machine::{Bundle, Emission, Routing};
+use machine::{Bundle, CutEmission, Emission, Routing};
 use plan::NodeId;
 use shared_board::{Actor, BoardProtocol};
 use std::alloc::Global;
@@ -128,8 +128,10 @@ pub(crate) fn give_on<T: Minimum, P: BoardProtocol<T>, R: Wait>(
     ensures same { IsSameActor worker.old worker.new }
 {
     worker.known();
-    let sent = routing.cut(alloc, &emission)?;
-    let given = worker.give(rt, emission, held.into(), sent);
+    let Ok(cut) = routing.cut(alloc, emission) else {
+        return Err(Refusal::OutOfMemory);
+    };
+    let given = worker.give(rt, cut, held.into());
     worker.known();
     match given {
         Ok(()) => Ok(()),
@@ -170,7 +172,8 @@ pub(crate) fn hold_back<T: Minimum, P: BoardProtocol<T>, R: Wait>(
         worker: 0,
         updates: Vec::new(alloc).into(),
     };
-    let given = worker.give(rt, nothing, held.into(), Vec::new(alloc).into());
+    let cut = CutEmission::new(nothing, Vec::new(alloc).into());
+    let given = worker.give(rt, cut, held.into());
     worker.known();
     match given {
         Ok(()) => Ok(()),

@@ -14,5 +14,5 @@ returns-clause-more g c =
     let us = c.args.emission.now.updates in
     let same = ap (λ n. bundles_along below edge n (λ k. get_or parts k [])) c.in_ok-parts.ensures.workers
     ∙ same_below workers (λ k. bundled below (place edge.reader edge.port k) (get_or parts k [])) (λ k. bundled below (place edge.reader edge.port k) (part_by_key c.args.columns workers us k))
-    (λ k l. ap (bundled below (place edge.reader edge.port k)) (c.in_ok-parts.ensures.parts k l ∙ ap (λ vs. part_by_key c.args.columns workers vs k) c.as_slice.ensures)) in
+    (λ k l. ap (bundled below (place edge.reader edge.port k)) (c.in_ok-parts.ensures.parts k l ∙ ap (λ vs. part_by_key c.args.columns workers vs k) (c.as_slice.ensures.value ∙ c.in_ok-updates.ensures.copied))) in
     subst (λ bs. OnOk c.push_bundles.result (c.push_bundles.new.sent.items ≡ c.args.sent.now.items ++ bs)) same c.push_bundles.ensures.more

@@ -4,7 +4,7 @@ use Rattle.machine.specs.Histories.Outstanding.{with_times}
 use Rattle.machine.proofs.board.workers.stamp_of.Given as goal
 
 -- the frontier so far, with the times that are left, is the frontier of all
-abbrev pub invariant-loop-update : goal.invariant-loop-update
-invariant-loop-update g l =
+abbrev pub invariant-loop-i : goal.invariant-loop-i
+invariant-loop-i g l =
     let below = g.T.PartialOrder.below in
-    with_times below l.stamp.items (times (drop l.update-index l.updates)) ≡ with_times below [] (times l.updates)
+    with_times below l.stamp.items (times (drop l.i l.updates)) ≡ with_times below [] (times l.updates)

@@ -30,7 +30,7 @@ give-answer-requires-clause-within g c =
     let here : IsIn g.T.PartialOrder.below g.T.Minimum.least g.T.Ord.cmp pass held.state.value held.hub held.number held.found = record { actor = there.2; its_hub = t.0.0; its_number = t.0.1; agrees = t.0.2; stands = g.met.P.BoardProtocol.stands_for held.state held.found t.1 } in
     let same : c.deref_mut.result.now ≡ held.state.value = search rules in
     let self_is : pass ≡ c.args.self.now = search rules in
-    at_board g.T.PartialOrder.below g.T.Minimum.least g.T.Ord.cmp pass held.state.value held.hub held.number held.found here (λ (x : Terms). c.args.emission.node < length x.dataflow.nodes) (subst (λ (k : Known (Doing g.row.T.Denot)). (λ (x : Terms). c.args.emission.node < length x.dataflow.nodes) (terms_in k.seen)) (sym self_is) c.requires.within) c.deref_mut.result.now same
+    at_board g.T.PartialOrder.below g.T.Minimum.least g.T.Ord.cmp pass held.state.value held.hub held.number held.found here (λ (x : Terms). c.args.cut.given.node < length x.dataflow.nodes) (subst (λ (k : Known (Doing g.row.T.Denot)). (λ (x : Terms). c.args.cut.given.node < length x.dataflow.nodes) (terms_in k.seen)) (sym self_is) c.requires.within) c.deref_mut.result.now same
 
 pub leave-requires : goal.leave-requires
 leave-requires g c =
@@ -42,7 +42,7 @@ leave-requires g c =
     let same : c.deref_mut.result.now ≡ held.state.value = search rules in
     let self_is : pass ≡ c.args.self.now = search rules in
     g.met.P.BoardProtocol.may_stand _ _ (subst (λ (d : Doing _). StandsFor g.T.PartialOrder.below g.T.Minimum.least g.T.Ord.cmp c.give-answer.new.self (entry held.number d ∷ held.found)) (sym (g.met.P.BoardProtocol.last_is _))
-    (leaves_with g.T.PartialOrder.below g.T.Minimum.least g.T.Ord.cmp pass held.state.value held.hub held.number held.found here c.deref_mut.result.now c.give-answer.new.self c.args.emission.worker (ap (λ (k : Known (Doing g.row.T.Denot)). k.number) self_is ∙ sym c.requires.own) c.give-answer.ensures.terms (c.give-answer.ensures.stands held.found (stood_at g.T.PartialOrder.below g.T.Minimum.least g.T.Ord.cmp pass held.state.value held.hub held.number held.found here c.deref_mut.result.now same) (give_found g.T.PartialOrder.below g.T.Minimum.least g.T.Ord.cmp pass held.state.value held.hub held.number held.found here c.deref_mut.result.now same c.args.emission c.args.held c.args.sent (c.requires.own ∙ ap (λ (k : Known (Doing g.row.T.Denot)). k.number) (sym self_is)) (subst (λ (k : Known (Doing g.row.T.Denot)). IsGive g.T.PartialOrder.below (terms_in k.seen).dataflow (state_left g.T.PartialOrder.below g.T.Minimum.least k) c.args.emission c.args.held c.args.sent) (sym self_is) c.requires.allowed)))))
+    (leaves_with g.T.PartialOrder.below g.T.Minimum.least g.T.Ord.cmp pass held.state.value held.hub held.number held.found here c.deref_mut.result.now c.give-answer.new.self c.args.cut.given.worker (ap (λ (k : Known (Doing g.row.T.Denot)). k.number) self_is ∙ sym c.requires.own) c.give-answer.ensures.terms (c.give-answer.ensures.stands held.found (stood_at g.T.PartialOrder.below g.T.Minimum.least g.T.Ord.cmp pass held.state.value held.hub held.number held.found here c.deref_mut.result.now same) (give_found g.T.PartialOrder.below g.T.Minimum.least g.T.Ord.cmp pass held.state.value held.hub held.number held.found here c.deref_mut.result.now same c.args.cut.given c.args.held c.args.cut.sent (c.requires.own ∙ ap (λ (k : Known (Doing g.row.T.Denot)). k.number) (sym self_is)) (subst (λ (k : Known (Doing g.row.T.Denot)). IsGive g.T.PartialOrder.below (terms_in k.seen).dataflow (state_left g.T.PartialOrder.below g.T.Minimum.least k) c.args.cut.given c.args.held c.args.cut.sent) (sym self_is) c.requires.allowed)))))
 
 pub invariant_of-self : goal.invariant_of-self
 invariant_of-self g c =
@@ -53,7 +53,7 @@ invariant_of-self g c =
     let here : IsIn g.T.PartialOrder.below g.T.Minimum.least g.T.Ord.cmp pass held.state.value held.hub held.number held.found = record { actor = there.2; its_hub = t.0.0; its_number = t.0.1; agrees = t.0.2; stands = g.met.P.BoardProtocol.stands_for held.state held.found t.1 } in
     let same : c.deref_mut.result.now ≡ held.state.value = search rules in
     let self_is : pass ≡ c.args.self.now = search rules in
-    let after = after_with g.T.PartialOrder.below g.T.Minimum.least g.T.Ord.cmp pass held.state.value held.hub held.number held.found here c.deref_mut.result.now c.give-answer.new.self c.args.emission.worker same (ap (λ (k : Known (Doing g.row.T.Denot)). k.number) self_is ∙ sym c.requires.own) c.give-answer.ensures.terms (c.give-answer.ensures.stands held.found (stood_at g.T.PartialOrder.below g.T.Minimum.least g.T.Ord.cmp pass held.state.value held.hub held.number held.found here c.deref_mut.result.now same) (give_found g.T.PartialOrder.below g.T.Minimum.least g.T.Ord.cmp pass held.state.value held.hub held.number held.found here c.deref_mut.result.now same c.args.emission c.args.held c.args.sent (c.requires.own ∙ ap (λ (k : Known (Doing g.row.T.Denot)). k.number) (sym self_is)) (subst (λ (k : Known (Doing g.row.T.Denot)). IsGive g.T.PartialOrder.below (terms_in k.seen).dataflow (state_left g.T.PartialOrder.below g.T.Minimum.least k) c.args.emission c.args.held c.args.sent) (sym self_is) c.requires.allowed))) c.leave.result (c.leave.ensures ∙ ap (λ (d : Doing _). record { hub = held.hub; number = held.number; seen = entry held.number d ∷ held.found }) (g.met.P.BoardProtocol.last_is _)) in
+    let after = after_with g.T.PartialOrder.below g.T.Minimum.least g.T.Ord.cmp pass held.state.value held.hub held.number held.found here c.deref_mut.result.now c.give-answer.new.self c.args.cut.given.worker same (ap (λ (k : Known (Doing g.row.T.Denot)). k.number) self_is ∙ sym c.requires.own) c.give-answer.ensures.terms (c.give-answer.ensures.stands held.found (stood_at g.T.PartialOrder.below g.T.Minimum.least g.T.Ord.cmp pass held.state.value held.hub held.number held.found here c.deref_mut.result.now same) (give_found g.T.PartialOrder.below g.T.Minimum.least g.T.Ord.cmp pass held.state.value held.hub held.number held.found here c.deref_mut.result.now same c.args.cut.given c.args.held c.args.cut.sent (c.requires.own ∙ ap (λ (k : Known (Doing g.row.T.Denot)). k.number) (sym self_is)) (subst (λ (k : Known (Doing g.row.T.Denot)). IsGive g.T.PartialOrder.below (terms_in k.seen).dataflow (state_left g.T.PartialOrder.below g.T.Minimum.least k) c.args.cut.given c.args.held c.args.cut.sent) (sym self_is) c.requires.allowed))) c.leave.result (c.leave.ensures ∙ ap (λ (d : Doing _). record { hub = held.hub; number = held.number; seen = entry held.number d ∷ held.found }) (g.met.P.BoardProtocol.last_is _)) in
     (after.same_hub ∙ there.0, after.same_number ∙ there.1, after.actor, λ n e. after.counted n (sym (c.accepted-self-inside.ensures ∙ search rules) ∙ e))
 
 pub returns-clause-given : goal.returns-clause-given
@@ -65,8 +65,8 @@ returns-clause-given g c =
     let here : IsIn g.T.PartialOrder.below g.T.Minimum.least g.T.Ord.cmp pass held.state.value held.hub held.number held.found = record { actor = there.2; its_hub = t.0.0; its_number = t.0.1; agrees = t.0.2; stands = g.met.P.BoardProtocol.stands_for held.state held.found t.1 } in
     let same : c.deref_mut.result.now ≡ held.state.value = search rules in
     let self_is : pass ≡ c.args.self.now = search rules in
-    let after = after_with g.T.PartialOrder.below g.T.Minimum.least g.T.Ord.cmp pass held.state.value held.hub held.number held.found here c.deref_mut.result.now c.give-answer.new.self c.args.emission.worker same (ap (λ (k : Known (Doing g.row.T.Denot)). k.number) self_is ∙ sym c.requires.own) c.give-answer.ensures.terms (c.give-answer.ensures.stands held.found (stood_at g.T.PartialOrder.below g.T.Minimum.least g.T.Ord.cmp pass held.state.value held.hub held.number held.found here c.deref_mut.result.now same) (give_found g.T.PartialOrder.below g.T.Minimum.least g.T.Ord.cmp pass held.state.value held.hub held.number held.found here c.deref_mut.result.now same c.args.emission c.args.held c.args.sent (c.requires.own ∙ ap (λ (k : Known (Doing g.row.T.Denot)). k.number) (sym self_is)) (subst (λ (k : Known (Doing g.row.T.Denot)). IsGive g.T.PartialOrder.below (terms_in k.seen).dataflow (state_left g.T.PartialOrder.below g.T.Minimum.least k) c.args.emission c.args.held c.args.sent) (sym self_is) c.requires.allowed))) c.leave.result (c.leave.ensures ∙ ap (λ (d : Doing _). record { hub = held.hub; number = held.number; seen = entry held.number d ∷ held.found }) (g.met.P.BoardProtocol.last_is _)) in
-    on_ok_weaker c.give-answer.result (λ e. subst (λ (k : Known (Doing g.row.T.Denot)). Adds k (Give c.args.emission c.args.held c.args.sent) c.leave.result) self_is (subst (λ (e : Event g.row.T.Denot). Adds pass e c.leave.result) (e) after.adds)) c.give-answer.ensures.given
+    let after = after_with g.T.PartialOrder.below g.T.Minimum.least g.T.Ord.cmp pass held.state.value held.hub held.number held.found here c.deref_mut.result.now c.give-answer.new.self c.args.cut.given.worker same (ap (λ (k : Known (Doing g.row.T.Denot)). k.number) self_is ∙ sym c.requires.own) c.give-answer.ensures.terms (c.give-answer.ensures.stands held.found (stood_at g.T.PartialOrder.below g.T.Minimum.least g.T.Ord.cmp pass held.state.value held.hub held.number held.found here c.deref_mut.result.now same) (give_found g.T.PartialOrder.below g.T.Minimum.least g.T.Ord.cmp pass held.state.value held.hub held.number held.found here c.deref_mut.result.now same c.args.cut.given c.args.held c.args.cut.sent (c.requires.own ∙ ap (λ (k : Known (Doing g.row.T.Denot)). k.number) (sym self_is)) (subst (λ (k : Known (Doing g.row.T.Denot)). IsGive g.T.PartialOrder.below (terms_in k.seen).dataflow (state_left g.T.PartialOrder.below g.T.Minimum.least k) c.args.cut.given c.args.held c.args.cut.sent) (sym self_is) c.requires.allowed))) c.leave.result (c.leave.ensures ∙ ap (λ (d : Doing _). record { hub = held.hub; number = held.number; seen = entry held.number d ∷ held.found }) (g.met.P.BoardProtocol.last_is _)) in
+    on_ok_weaker c.give-answer.result (λ e. subst (λ (k : Known (Doing g.row.T.Denot)). Adds k (Give c.args.cut.given c.args.held c.args.cut.sent) c.leave.result) self_is (subst (λ (e : Event g.row.T.Denot). Adds pass e c.leave.result) (e) after.adds)) c.give-answer.ensures.given
 
 pub returns-clause-returned : goal.returns-clause-returned
 returns-clause-returned g c =
@@ -77,5 +77,5 @@ returns-clause-returned g c =
     let here : IsIn g.T.PartialOrder.below g.T.Minimum.least g.T.Ord.cmp pass held.state.value held.hub held.number held.found = record { actor = there.2; its_hub = t.0.0; its_number = t.0.1; agrees = t.0.2; stands = g.met.P.BoardProtocol.stands_for held.state held.found t.1 } in
     let same : c.deref_mut.result.now ≡ held.state.value = search rules in
     let self_is : pass ≡ c.args.self.now = search rules in
-    let after = after_with g.T.PartialOrder.below g.T.Minimum.least g.T.Ord.cmp pass held.state.value held.hub held.number held.found here c.deref_mut.result.now c.give-answer.new.self c.args.emission.worker same (ap (λ (k : Known (Doing g.row.T.Denot)). k.number) self_is ∙ sym c.requires.own) c.give-answer.ensures.terms (c.give-answer.ensures.stands held.found (stood_at g.T.PartialOrder.below g.T.Minimum.least g.T.Ord.cmp pass held.state.value held.hub held.number held.found here c.deref_mut.result.now same) (give_found g.T.PartialOrder.below g.T.Minimum.least g.T.Ord.cmp pass held.state.value held.hub held.number held.found here c.deref_mut.result.now same c.args.emission c.args.held c.args.sent (c.requires.own ∙ ap (λ (k : Known (Doing g.row.T.Denot)). k.number) (sym self_is)) (subst (λ (k : Known (Doing g.row.T.Denot)). IsGive g.T.PartialOrder.below (terms_in k.seen).dataflow (state_left g.T.PartialOrder.below g.T.Minimum.least k) c.args.emission c.args.held c.args.sent) (sym self_is) c.requires.allowed))) c.leave.result (c.leave.ensures ∙ ap (λ (d : Doing _). record { hub = held.hub; number = held.number; seen = entry held.number d ∷ held.found }) (g.met.P.BoardProtocol.last_is _)) in
+    let after = after_with g.T.PartialOrder.below g.T.Minimum.least g.T.Ord.cmp pass held.state.value held.hub held.number held.found here c.deref_mut.result.now c.give-answer.new.self c.args.cut.given.worker same (ap (λ (k : Known (Doing g.row.T.Denot)). k.number) self_is ∙ sym c.requires.own) c.give-answer.ensures.terms (c.give-answer.ensures.stands held.found (stood_at g.T.PartialOrder.below g.T.Minimum.least g.T.Ord.cmp pass held.state.value held.hub held.number held.found here c.deref_mut.result.now same) (give_found g.T.PartialOrder.below g.T.Minimum.least g.T.Ord.cmp pass held.state.value held.hub held.number held.found here c.deref_mut.result.now same c.args.cut.given c.args.held c.args.cut.sent (c.requires.own ∙ ap (λ (k : Known (Doing g.row.T.Denot)). k.number) (sym self_is)) (subst (λ (k : Known (Doing g.row.T.Denot)). IsGive g.T.PartialOrder.below (terms_in k.seen).dataflow (state_left g.T.PartialOrder.below g.T.Minimum.least k) c.args.cut.given c.args.held c.args.cut.sent) (sym self_is) c.requires.allowed))) c.leave.result (c.leave.ensures ∙ ap (λ (d : Doing _). record { hub = held.hub; number = held.number; seen = entry held.number d ∷ held.found }) (g.met.P.BoardProtocol.last_is _)) in
     if_err_map c.give-answer.result _ _ (λ r x. (subst (λ (k : Known (Doing g.row.T.Denot)). Adds k (Look k.number) c.leave.result) self_is (subst (λ (e : Event g.row.T.Denot). Adds pass e c.leave.result) (x.0 ∙ ap (λ n. Look n) (sym (ap (λ (k : Known (Doing g.row.T.Denot)). k.number) self_is ∙ sym c.requires.own))) after.adds), x.1)) c.give-answer.ensures.returned

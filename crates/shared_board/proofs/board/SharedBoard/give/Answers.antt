@@ -13,8 +13,8 @@ returns-clause-stands g c =
     let least = g.T.Minimum.least in
     let cmp = g.T.Ord.cmp in
     let old : SharedState g.row.T.Denot = record { board = c.self.inside.board; actors = c.self.inside.actors; accepted = c.self.inside.accepted; too_large = c.self.inside.too_large } in
-    let actor = c.args.emission.worker in
+    let actor = c.args.cut.given.worker in
     let new : SharedState g.row.T.Denot = record old { board = c.give.new.self } in
-    subst (λ (b : SharedState g.row.T.Denot). (es : List (Entry (Doing g.row.T.Denot))) → StandsFor below least cmp b es → IsGive below b.board.dataflow (left_by below least b.board.dataflow es) c.args.emission c.args.held c.args.sent
+    subst (λ (b : SharedState g.row.T.Denot). (es : List (Entry (Doing g.row.T.Denot))) → StandsFor below least cmp b es → IsGive below b.board.dataflow (left_by below least b.board.dataflow es) c.args.cut.given c.args.held c.args.cut.sent
     → StandsFor below least cmp new (entry actor (doing (terms_of_board b) c.give.new.self.last) ∷ es)) c.self.view_is
-    (λ es a may. gave below least cmp old c.give.new.self c.args.emission c.args.held c.args.sent c.give.result c.give.ensures.given c.give.ensures.unchanged es a (c.give.ensures.stands (events es) a.stands may))
+    (λ es a may. gave below least cmp old c.give.new.self c.args.cut.given c.args.held c.args.cut.sent c.give.result c.give.ensures.given c.give.ensures.unchanged es a (c.give.ensures.stands (events es) a.stands may))

@@ -34,7 +34,7 @@ take_in-requires-clause-rows g c =
     let ready = found_ready below joined least o j k c.known.ensures x.same r.0 n x.clients r.1.ready in
     let took = subst (λ f. IfSome f (λ t. HasTaken below least k n t.0)) c.in-Some.is x.taken in
     let arrange = ap (λ p. node_of p n) (same_flow j k x.same) ∙ e.2 in
-    subst (λ us. IsTrue (rows_have c.args.arrangement.now.width us)) (sym c.into_vec.ensures)
+    subst (λ us. IsTrue (rows_have c.args.arrangement.now.width us)) (sym c.in_ok-updates.ensures.updates)
     (absorbed_rows below joined least o k c.known-2.ensures r.0 n ready c.in-Some.bundle took e.0 e.1 arrange c.args.arrangement.now r.2)
 
 pub take_in-requires-clause-times : goal.take_in-requires-clause-times
@@ -50,7 +50,7 @@ take_in-requires-clause-times g c =
     let r = c.requires.running in
     let ready = found_ready below joined least o j k c.known.ensures x.same r.0 n x.clients r.1.ready in
     let took = subst (λ f. IfSome f (λ t. HasTaken below least k n t.0)) c.in-Some.is x.taken in
-    subst (λ us. IsTrue (times_from below least us)) (sym c.into_vec.ensures)
+    subst (λ us. IsTrue (times_from below least us)) (sym c.in_ok-updates.ensures.updates)
     (absorbed_times below joined least o k c.known-2.ensures r.0 n ready c.in-Some.bundle took)
 
 pub hold_back-requires : goal.hold_back-requires
@@ -69,7 +69,7 @@ hold_back-requires g c =
     let ready = found_ready below joined least o j k c.known.ensures x.same r.0 n x.clients r.1.ready in
     let took = subst (λ f. IfSome f (λ t. HasTaken below least k n t.0)) c.in-Some.is x.taken in
     let arrange = ap (λ p. node_of p n) (same_flow j k x.same) ∙ e.2 in
-    let grown = c.in_ok-take_in.ensures.waiting ∙ ap (λ us. record a { waiting = a.waiting ++ us }) c.into_vec.ensures in
+    let grown = c.in_ok-take_in.ensures.waiting ∙ ap (λ us. record a { waiting = a.waiting ++ us }) c.in_ok-updates.ensures.updates in
     record {
       number = x.same.number ∙ r.1.number;
       alone = ready.free.at.alone;
@@ -92,7 +92,7 @@ returns-clause-runs g c d run own =
     let ready = found_ready below joined least o j k c.known.ensures x.same d n x.clients run.ready in
     let took = subst (λ f. IfSome f (λ t. HasTaken below least k n t.0)) c.in-Some.is x.taken in
     let arrange = ap (λ p. node_of p n) (same_flow j k x.same) ∙ e.2 in
-    let grown = c.in_ok-take_in.ensures.waiting ∙ ap (λ us. record a { waiting = a.waiting ++ us }) c.into_vec.ensures in
+    let grown = c.in_ok-take_in.ensures.waiting ∙ ap (λ us. record a { waiting = a.waiting ++ us }) c.in_ok-updates.ensures.updates in
     left_running below joined least o k c.hold_back.new.worker c.known-2.ensures c.hold_back.ensures.same (with_arrangement n c.take_in.new.self d) n _ (x.same.number ∙ run.number) c.in_ok-hold_back.ensures.left
     (absorbed_ready below joined least o k c.known-2.ensures d n ready c.in-Some.bundle took e.0 e.1 arrange a own c.take_in.new.self grown c.in_ok-held.held.items (record { covers = c.in_ok-held.ensures.covers; tight = c.in_ok-held.ensures.tight }))
 

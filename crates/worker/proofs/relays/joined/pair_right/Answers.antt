@@ -36,7 +36,7 @@ take_right-requires g c =
     let other = c.arrangement_at.result.now in
     let known = c.trace-other.ensures.known in
     let value = sym c.trace-other.ensures.value in
-    let vec = sym c.into_vec.ensures in
+    let vec = sym c.in_ok-updates.ensures.updates in
     let rows = made_rows at order c.requires.taken 1 c.requires.port r.1 (right_source at) j.right_width (joined_widths at).1 in
     let times = made_times at order c.requires.taken 1 c.requires.port in
     let between = right_between at order c.requires.taken c.requires.port r.2 r.7 c.args.upper.now r.8 in
@@ -55,7 +55,7 @@ returns-clause-paired g c =
     let found = some_arrangement (sym c.arrangement_at.ensures ∙ there) in
     let same : c.trace-other.result.now ≡ a.spine = c.trace-other.ensures.value ∙ ap (λ (z : ArrangementState _). z.spine) found in (
       subst (IsArrangement below least) found c.trace-other.ensures.known,
-      λ inserted taken side. subst (λ us. IsAnswer below (pairs joined j.state.key (all_updates taken) us) us (all_updates taken) out.items) c.into_vec.ensures
+      λ inserted taken side. subst (λ us. IsAnswer below (pairs joined j.state.key (all_updates taken) us) us (all_updates taken) out.items) c.in_ok-updates.ensures.updates
           (if_ok_back c.take_right.result _ out e (c.take_right.ensures.answer inserted taken (subst (λ (s : SpineState _). IsSide below least s inserted taken j.state.left) (sym same) side))),
     ))
 
@@ -69,5 +69,5 @@ returns-clause-stopped g c =
     let side = left_side at c.arrangement_at.result.now there c.trace-other.ensures.known in
     if_err_from c.take_right.result _ (IsStopped below least g.T.Ord.cmp c.args.worker.now) (λ e refused. memory_or (λ large.
     right_large at g.met.T.PartialOrder.order c.requires.taken c.requires.port g.T.Ord.cmp
-    (subst (λ us. (2 ^ 63 ≤ size us) ⊎ (2 ^ 63 ≤ size us * size (all_updates (taken_left at)))) c.into_vec.ensures
+    (subst (λ us. (2 ^ 63 ≤ size us) ⊎ (2 ^ 63 ≤ size us * size (all_updates (taken_left at)))) c.in_ok-updates.ensures.updates
     (large (inserted_left at) (taken_left at) (subst (λ (s : SpineState _). IsSide below least s (inserted_left at) (taken_left at) c.args.joining.now.state.left) (sym c.trace-other.ensures.value) side)))) refused) c.take_right.ensures.refused

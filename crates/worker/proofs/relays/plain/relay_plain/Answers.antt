@@ -14,11 +14,11 @@ use Rattle.worker.proofs.relays.plain.relay_plain.Goals as goal
 pub give_all-requires-clause-gathering : goal.give_all-requires-clause-gathering
 give_all-requires-clause-gathering g c =
     let r = c.requires.running in
-    (r.0, some_of c.in_ok-gathered.field-0 (λ us. IsGatheringOn g.T.PartialOrder.below g.T.Lattice.joined g.T.Minimum.least c.gather.new.worker r.0 c.args.node us.items (Some c.args.node)) c.in-Some.gathered c.in-Some.is (c.in_ok-gathered.ensures.gathered r.0 r.1))
+    (r.0, some_of c.in_ok-gathered.field-0 (λ us. IsGatheringOn g.T.PartialOrder.below g.T.Lattice.joined g.T.Minimum.least c.gather.new.worker r.0 c.args.node us (Some c.args.node)) c.in-Some.gathered c.in-Some.is (c.in_ok-gathered.ensures.gathered r.0 r.1))
 
 pub returns-in-Some-clause-runs : goal.returns-in-Some-clause-runs
 returns-in-Some-clause-runs g c d run =
-    c.give_all.ensures.runs d (some_of c.in_ok-gathered.field-0 (λ us. IsGatheringOn g.T.PartialOrder.below g.T.Lattice.joined g.T.Minimum.least c.gather.new.worker d c.args.node us.items (Some c.args.node)) c.in-Some.gathered c.in-Some.is (c.in_ok-gathered.ensures.gathered d run))
+    c.give_all.ensures.runs d (some_of c.in_ok-gathered.field-0 (λ us. IsGatheringOn g.T.PartialOrder.below g.T.Lattice.joined g.T.Minimum.least c.gather.new.worker d c.args.node us (Some c.args.node)) c.in-Some.gathered c.in-Some.is (c.in_ok-gathered.ensures.gathered d run))
 
 pub returns-in-None-clause-runs : goal.returns-in-None-clause-runs
 returns-in-None-clause-runs g c d run = goes_next g.T.PartialOrder.below g.T.Lattice.joined g.T.Minimum.least c.gather.new.worker d c.args.node c.in_ok-gathered.ensures.none (c.in_ok-gathered.ensures.nothing d run c.in-None.is)

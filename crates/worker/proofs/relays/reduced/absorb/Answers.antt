@@ -44,8 +44,8 @@ take-requires g c =
     let ready = found_ready below joined least o j k c.known.ensures x.same r.0 n x.clients r.1.ready in
     let took = subst (λ f. IfSome f (λ t. HasTaken below least k n t.0)) c.in-Some.is x.taken in
     let reduce = ap (λ p. node_of p n) (same_flow j k x.same) ∙ e.2 in
-    let later = subst (λ us. IsTrue (all_beyond below (least ∷ []) (times us))) (sym c.into_vec.ensures) (absorbed_later below joined least o k c.known-2.ensures r.0 n ready c.in-Some.bundle took) in
-    let wide = subst (λ us. IsTrue (have_width c.args.reducing.now.width us)) (sym c.into_vec.ensures) (taken_rows below joined least o k c.known-2.ensures r.0 n ready c.in-Some.bundle took e.0 e.1 reduce c.args.reducing.now r.2) in
+    let later = subst (λ us. IsTrue (all_beyond below (least ∷ []) (times us))) (sym c.in_ok-updates.ensures.updates) (absorbed_later below joined least o k c.known-2.ensures r.0 n ready c.in-Some.bundle took) in
+    let wide = subst (λ us. IsTrue (have_width c.args.reducing.now.width us)) (sym c.in_ok-updates.ensures.updates) (taken_rows below joined least o k c.known-2.ensures r.0 n ready c.in-Some.bundle took e.0 e.1 reduce c.args.reducing.now r.2) in
     (search rules, (c.requires.start, (later, wide)))
 
 pub returns-in_err-take-clause-stopped : goal.returns-in_err-take-clause-stopped
@@ -64,7 +64,7 @@ returns-in_err-take-clause-stopped g c =
     let took = subst (λ f. IfSome f (λ t. HasTaken below least k n t.0)) c.in-Some.is x.taken in
     let reduce = ap (λ p. node_of p n) (same_flow j k x.same) ∙ e.2 in
     let p = err_from_is_err_and c.from_residual-in_err-take.result c.from_residual-in_err-take.ensures.1 in
-    let refused : IsMemoryOrOverflow (2 ^ 63 ≤ size c.in-Some.bundle.updates) c.in_err-take.field-0.0 = subst (λ us. IsMemoryOrOverflow (2 ^ 63 ≤ size us) c.in_err-take.field-0.0) c.into_vec.ensures c.in_err-take.ensures.refused in
+    let refused : IsMemoryOrOverflow (2 ^ 63 ≤ size c.in-Some.bundle.updates) c.in_err-take.field-0.0 = subst (λ us. IsMemoryOrOverflow (2 ^ 63 ≤ size us) c.in_err-take.field-0.0) c.in_ok-updates.ensures.updates c.in_err-take.ensures.refused in
     if_err_at c.from_residual-in_err-take.result (IsStopped below least g.T.Ord.cmp k) c.in_err-take.field-0.0 p.0 p.1 (cc p.2)
     (memory_or (taken_large below joined least o k c.known-2.ensures r.0 n ready c.in-Some.bundle took e.0 e.1 reduce c.args.reducing.now r.2 g.T.Ord.cmp) refused)
 
@@ -92,8 +92,8 @@ hold_back-requires g c =
       within = subst (λ m. m < length (dataflow_of k).nodes) took.node (absorbed_due below joined least o k c.known-2.ensures r.0 n ready c.in-Some.bundle took).within;
       allowed =
           taken_may below joined least o k c.known-2.ensures r.0 n ready c.in-Some.bundle took e.0 e.1 reduce a r.2 b y.kept
-          (λ received emitted upper reduced later passed. subst (λ us. IsReduced below joined g.T.Minimum.least b (us ++ received) emitted) c.into_vec.ensures (y.stands received emitted upper reduced (subst (λ us. IsTrue (all_beyond below upper (times us))) (sym c.into_vec.ensures) later) passed))
-          (λ received emitted reduced. subst (λ us. IsPendingAfter below (pending_of a) us (pending_of b)) c.into_vec.ensures (y.pending received emitted reduced))
+          (λ received emitted upper reduced later passed. subst (λ us. IsReduced below joined g.T.Minimum.least b (us ++ received) emitted) c.in_ok-updates.ensures.updates (y.stands received emitted upper reduced (subst (λ us. IsTrue (all_beyond below upper (times us))) (sym c.in_ok-updates.ensures.updates) later) passed))
+          (λ received emitted reduced. subst (λ us. IsPendingAfter below (pending_of a) us (pending_of b)) c.in_ok-updates.ensures.updates (y.pending received emitted reduced))
           c.in_ok-held.held.items (record { covers = c.in_ok-held.ensures.covers; tight = c.in_ok-held.ensures.tight });
     }
 
@@ -116,8 +116,8 @@ returns-clause-runs g c d run own =
     let reduce = ap (λ p. node_of p n) (same_flow j k x.same) ∙ e.2 in
     left_running below joined least o k c.hold_back.new.worker c.known-2.ensures c.hold_back.ensures.same (with_reduction n b d) n _ (x.same.number ∙ run.number) c.in_ok-hold_back.ensures.left
     (taken_ready below joined least o k c.known-2.ensures d n ready c.in-Some.bundle took e.0 e.1 reduce a own b y.kept
-    (λ received emitted upper reduced later passed. subst (λ us. IsReduced below joined g.T.Minimum.least b (us ++ received) emitted) c.into_vec.ensures (y.stands received emitted upper reduced (subst (λ us. IsTrue (all_beyond below upper (times us))) (sym c.into_vec.ensures) later) passed))
-    (λ received emitted reduced. subst (λ us. IsPendingAfter below (pending_of a) us (pending_of b)) c.into_vec.ensures (y.pending received emitted reduced))
+    (λ received emitted upper reduced later passed. subst (λ us. IsReduced below joined g.T.Minimum.least b (us ++ received) emitted) c.in_ok-updates.ensures.updates (y.stands received emitted upper reduced (subst (λ us. IsTrue (all_beyond below upper (times us))) (sym c.in_ok-updates.ensures.updates) later) passed))
+    (λ received emitted reduced. subst (λ us. IsPendingAfter below (pending_of a) us (pending_of b)) c.in_ok-updates.ensures.updates (y.pending received emitted reduced))
     c.in_ok-held.held.items (record { covers = c.in_ok-held.ensures.covers; tight = c.in_ok-held.ensures.tight }))
 
 pub returns-clause-all : goal.returns-clause-all

@@ -37,9 +37,9 @@ give_on-requires-clause-allowed g c =
     let x = c.in_ok-out.ensures in
     let turned = subst (HasTurned below least j n) (sym c.elements.ensures.value) c.requires.turned in
     subst (λ us. IsCut below (dataflow_of j) (record { node = n; worker = 0; updates = us }) (cut below (dataflow_of j) (record { node = n; worker = 0; updates = us }))
-    → IsGive below (dataflow_of j) (state_left below least j) (record { node = n; worker = 0; updates = us }) c.in_ok-held.held.items (cut below (dataflow_of j) (record { node = n; worker = 0; updates = us }))) (sym c.into.ensures)
+    → IsGive below (dataflow_of j) (state_left below least j) (record { node = n; worker = 0; updates = us }) c.in_ok-held.held.items (cut below (dataflow_of j) (record { node = n; worker = 0; updates = us }))) (sym c.in_ok-updates.ensures.packed)
     (answered_may below g.T.Lattice.joined least g.met.T.PartialOrder.order j c.known.ensures r.0 n r.3 c.elements.result.now turned r.1 r.2 r.4 c.args.reducing.now r.5 c.args.source.now r.6 c.trace.result.now c.trace.ensures.value
-    c.ready.new.self c.in_ok-out.out.items x.kept x.stands x.law x.settled x.later x.out_beyond x.rest_beyond c.in_ok-held.held.items (record { covers = c.in_ok-held.ensures.covers; tight = c.in_ok-held.ensures.tight }))
+    c.ready.new.self c.in_ok-out.out x.kept x.stands x.law x.settled x.later x.out_beyond x.rest_beyond c.in_ok-held.held.items (record { covers = c.in_ok-held.ensures.covers; tight = c.in_ok-held.ensures.tight }))
 
 pub returns-clause-runs : goal.returns-clause-runs
 returns-clause-runs g c d kind s ready reduce own read =
@@ -52,12 +52,12 @@ returns-clause-runs g c d kind s ready reduce own read =
     let n = c.args.node in
     let x = c.in_ok-out.ensures in
     let turned = subst (HasTurned below least j n) (sym c.elements.ensures.value) c.requires.turned in
-    let made = ap (λ us. record { node = n; worker = 0; updates = us }) c.into.ensures in
+    let made = ap (λ us. record { node = n; worker = 0; updates = us }) c.in_ok-updates.ensures.packed in
     on_ok_both c.give_on.result (λ is_cut left.
     left_running below joined least o j k c.known.ensures c.give_on.ensures.same (with_reduction n c.ready.new.self d) (suc n) _ c.requires.number
     (subst (λ (e : Emission g.row.T.Denot). IsLeftBy below (dataflow_of j) (next_state below (dataflow_of j) (state_left below least j) (Give e c.in_ok-held.held.items (cut below (dataflow_of j) e))) (state_left below least k)) made left)
     (answered_ready below joined least o j c.known.ensures d n ready c.elements.result.now turned kind s reduce c.args.reducing.now own c.args.source.now read c.trace.result.now c.trace.ensures.value
-    c.ready.new.self c.in_ok-out.out.items x.kept x.stands x.law x.settled x.later x.out_beyond x.rest_beyond c.in_ok-held.held.items (record { covers = c.in_ok-held.ensures.covers; tight = c.in_ok-held.ensures.tight })
+    c.ready.new.self c.in_ok-out.out x.kept x.stands x.law x.settled x.later x.out_beyond x.rest_beyond c.in_ok-held.held.items (record { covers = c.in_ok-held.ensures.covers; tight = c.in_ok-held.ensures.tight })
     (subst (λ (e : Emission g.row.T.Denot). IsCut below (dataflow_of j) e (cut below (dataflow_of j) e)) made is_cut) c.requires.none))
     c.give_on.ensures.cut c.give_on.ensures.left
 
@@ -73,9 +73,9 @@ returns-clause-settled g c calm settled =
     let r = c.requires.ready in
     let x = c.in_ok-out.ensures in
     let turned = subst (HasTurned below least j n) (sym c.elements.ensures.value) c.requires.turned in
-    let made = ap (λ us. record { node = n; worker = 0; updates = us }) c.into.ensures in
+    let made = ap (λ us. record { node = n; worker = 0; updates = us }) c.in_ok-updates.ensures.packed in
     on_ok_both c.give_on.result (λ is_cut gave.
     subst (λ w. IsSettledTo below p w (suc n)) (sym (subst (λ (e : Emission g.row.T.Denot). state_left below least k ≡ next_state below p (state_left below least j) (Give e held (cut below p e))) made gave))
     (answered_settled below g.T.Lattice.joined least g.met.T.PartialOrder.order j c.known.ensures r.0 n r.3 c.elements.result.now turned r.1 r.2 r.4 c.args.reducing.now r.5 c.args.source.now r.6 c.trace.result.now c.trace.ensures.value
-    c.ready.new.self c.in_ok-out.out.items x.kept x.stands x.law x.settled x.later x.out_beyond x.rest_beyond held (record { covers = c.in_ok-held.ensures.covers; tight = c.in_ok-held.ensures.tight })
+    c.ready.new.self c.in_ok-out.out x.kept x.stands x.law x.settled x.later x.out_beyond x.rest_beyond held (record { covers = c.in_ok-held.ensures.covers; tight = c.in_ok-held.ensures.tight })
     (subst (λ (e : Emission g.row.T.Denot). IsCut below p e (cut below p e)) made is_cut) c.requires.none settled)) c.give_on.ensures.cut (c.give_on.ensures.calm calm)

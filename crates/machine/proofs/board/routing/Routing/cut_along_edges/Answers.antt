@@ -1,6 +1,24 @@
+use Rattle.std.proofs.Common.{◌-◌, ◌++◌, length, take, sym, ap, ◌∙◌, arith}
+use Rattle.std.specs.List.{flat_map}
+use Rattle.machine.specs.Histories.Cuts.{cut_along}
+use Rattle.machine.proofs.BoardLemmas.CutLemmas.{if_ok, last_behind}
 use Rattle.machine.proofs.BoardLemmas.RoutingLemmas.{leading}
 use Rattle.machine.proofs.board.routing.Routing.cut_along_edges.Goals as goal
 
-pub push_along-requires-clause-leads : goal.push_along-requires-clause-leads
-push_along-requires-clause-leads g c =
-    leading c.args.self.now.nodes c.args.emission.now.node c.loop-edge.edge-index c.edge-item.result c.edges_from-edge-items.result.now c.edges_from-edge-items.ensures c.loop-edge-test.true c.edge-item.is
+pub cut_along_last-requires-clause-leads : goal.cut_along_last-requires-clause-leads
+cut_along_last-requires-clause-leads g c =
+    let edges = c.edges_from-edges.result.now in
+    leading c.args.self.now.nodes c.args.emission.node (length edges - 1) c.index-edges-count.result edges c.edges_from-edges.ensures (omega (arith, c.if-count-eq0.false)) c.index-edges-count.is
+
+pub returns-clause-cut : goal.returns-clause-cut
+returns-clause-cut g c =
+    let along = cut_along g.T.PartialOrder.below c.args.self.now c.args.emission in
+    let edges = c.edges_from-edges.result.now in
+    let last = c.index-edges-count.result in
+    let n = length edges - 1 in
+    let whole = last_behind along edges n last (omega (arith, c.if-count-eq0.false)) c.index-edges-count.is in
+    if_ok c.cut_along_last.result _ _ (λ made s.
+    s
+    ∙ ap (λ bs. bs ++ along last) (c.in-Ok.ensures.cut ∙ ap (λ es. flat_map along (take n es)) (sym c.edges_from-edges.ensures))
+    ∙ whole
+    ∙ ap (flat_map along) c.edges_from-edges.ensures) c.cut_along_last.ensures.cut

@@ -1,18 +1,18 @@
--- The bundles at a linear node are taken one by one.
+-- The bundles that still wait at a linear node are taken one by one.
 use Rattle.std.proofs.Common.{◌≡◌, Some}
 use Rattle.lattice.specs.Frontiers.{is_beyond}
 use Rattle.operator.specs.Arrangements.{times_of}
 use Rattle.worker.specs.Desks.{DeskState}
 use Rattle.shared_board.specs.Found.{dataflow_of}
-use Rattle.worker.specs.Relays.{IsCalm, IsGatheringOn, IsRunning, IsSameActor, IsSettledTo}
+use Rattle.worker.specs.Relays.{IsCalm, IsGatheringOn, IsSameActor, IsSettledTo}
 use Rattle.shared_board.specs.Tenures.{WaitsOrNotIn, state_left}
-use Rattle.worker.proofs.relays.plain.gather.Given as goal
+use Rattle.worker.proofs.relays.plain.gather_rest.Given as goal
 
 -- what the bundles so far gave is gathered, and the front has its least times; and what was settled
 -- still is if no client acted
 abbrev pub invariant-loop : goal.invariant-loop
 invariant-loop g l = record {
-  gathered : (d : DeskState g.row.T.Denot) → IsRunning g.T.PartialOrder.below g.T.Lattice.joined g.T.Minimum.least l.fn.worker d l.fn.node
+  gathered : (d : DeskState g.row.T.Denot) → IsGatheringOn g.T.PartialOrder.below g.T.Lattice.joined g.T.Minimum.least l.fn.worker d l.fn.node l.fn.gathered.items (Some l.fn.node)
       → IsGatheringOn g.T.PartialOrder.below g.T.Lattice.joined g.T.Minimum.least l.worker d l.fn.node l.gathered.items (Some l.fn.node);
   front : (t : g.row.T.Denot) → is_beyond g.T.PartialOrder.below l.front.items t ≡ is_beyond g.T.PartialOrder.below (times_of l.gathered.items) t;
   more : WaitsOrNotIn l.more l.fn.node 0 (state_left g.T.PartialOrder.below g.T.Minimum.least l.worker);

@@ -1,7 +1,7 @@
 use Rattle.std.proofs.Common.{◌≡◌, take}
 use Rattle.std.specs.List.{flat_map}
 use Rattle.machine.specs.Histories.Cuts.{cut_along}
-use Rattle.machine.proofs.board.routing.Routing.cut_along_edges.Given as goal
+use Rattle.machine.proofs.board.routing.Routing.cut_along_first.Given as goal
 
 -- the bundles along the edges so far
 abbrev pub invariant-loop-edge : goal.invariant-loop-edge

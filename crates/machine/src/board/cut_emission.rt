@@ -1,0 +1,159 @@
+//! What a worker gives: the updates of a node, cut into the bundles in which they go on.
+//!
+//! Most often all updates go on along the last edge. Then the last bundle is the list itself, and not
+//! a copy of it: an evaluation may give more updates than all else that lies on a board. So a cut
+//! emission has the updates in one place only: in a list of their own, or in the last bundle. The
+//! invariant: if it has no list of its own, then there is a last bundle.
+//!
+//! A contract sees the emission and the bundles, whichever of them has the list.
+ghost use Rattle.std.specs.Prelude.{◌≡◌, ◌++◌, IfErr, IfOk};
+ghost use Rattle.machine.specs.declared.histories.event.Event.TheVariants.{Give};
+ghost use Rattle.machine.specs.Histories.Cuts.{bundled};
+
+use crate::board::workers::stamp_of;
+use crate::histories::event::{
+    Bundle, Bundles, Emission, Event, RememberedEmission, Site, remembered_give,
+};
+use columns::UpdateList;
+use lattice::Minimum;
+use plan::NodeId;
+use std::alloc::Global;
+use std::marker::Model;
+use std::snapshot::Snapshot;
+use update::Times;
+
+/// An emission, cut into bundles. A contract sees both.
+#[derive(Drop)]
+pub struct CutEmission<T> {
+    node: NodeId,
+    worker: usize,
+    // The updates, unless the last bundle has them.
+    own: Option<UpdateList<T>>,
+    sent: Bundles<T>,
+}
+
+impl<T> Model for CutEmission<T> {
+    ghost use Rattle.machine.specs.Boards.CutEmissions.{CutState, HasUpdates, updates_in};
+
+    ghost Value = { CutState T };
+
+    ghost view = { λ c. record {
+      given = record { node = c.node; worker = c.worker; updates = updates_in c.own c.sent };
+      sent = c.sent;
+    } };
+
+    ghost invariant = { λ c. HasUpdates c.own c.sent };
+}
+
+impl<T: Minimum> CutEmission<T> {
+    /// An emission and the bundles that are sent of it, each with a list of its own. Takes no
+    /// memory.
+    pub fn new(emission: Emission<T>, sent: Bundles<T>) -> CutEmission<T>
+        ensures { result ≡ record { given = emission; sent = sent } }
+    {
+        let Emission {
+            node,
+            worker,
+            updates,
+        } = emission;
+        CutEmission {
+            node,
+            worker,
+            own: Some(updates),
+            sent,
+        }
+    }
+
+    // An emission of which all updates go to a place, behind these bundles. If memory was refused,
+    // then it comes back.
+    pub(crate) fn sent_to(
+        alloc: Global,
+        place: Site,
+        mut sent: Vec<Bundle<T>>,
+        emission: Emission<T>,
+    ) -> Result<CutEmission<T>, Emission<T>>
+        ensures given { IfOk result (λ c. c.given ≡ emission) }
+        ensures sent { IfOk result
+            (λ c. c.sent ≡ sent.items ++ bundled T.below place emission.updates) }
+        ensures returned { IfErr result (λ back. back ≡ emission) }
+    {
+        if emission.updates.len() == 0 {
+            return Ok(CutEmission::new(emission, sent.into()));
+        }
+        let Ok(stamp) = stamp_of(alloc, &emission.updates) else {
+            return Err(emission);
+        };
+        let Ok(()) = sent.reserve(1) else {
+            return Err(emission);
+        };
+        let Emission {
+            node,
+            worker,
+            updates,
+        } = emission;
+        sent.push_reserved(Bundle {
+            place,
+            updates,
+            stamp: stamp.into(),
+        });
+        Ok(CutEmission {
+            node,
+            worker,
+            own: None,
+            sent: sent.into(),
+        })
+    }
+
+    /// The node that gives. Takes no memory.
+    pub fn node(&self) -> NodeId
+        ensures { result ≡ self.now.given.node }
+    {
+        self.node
+    }
+
+    /// The worker that gives, by its number. Takes no memory.
+    pub fn worker(&self) -> usize
+        ensures { result ≡ self.now.given.worker }
+    {
+        self.worker
+    }
+
+    /// The updates that are given. Takes no memory.
+    pub fn updates(&self) -> &UpdateList<T>
+        ensures { result.now ≡ self.now.given.updates }
+    {
+        let sent = self.sent.as_slice();
+        match &self.own {
+            Some(updates) => updates,
+            None => &sent[sent.len() - 1].updates,
+        }
+    }
+
+    // The bundles. Takes no memory.
+    pub(crate) fn sent(&self) -> &[Bundle<T>]
+        ensures { result.now ≡ self.now.sent }
+    {
+        self.sent.as_slice()
+    }
+
+    // The bundles alone. Takes no memory.
+    pub(crate) fn into_sent(self) -> Vec<Bundle<T>>
+        ensures { result.items ≡ self.sent }
+    {
+        let CutEmission {
+            node: _,
+            worker: _,
+            own: _,
+            sent,
+        } = self;
+        sent.items
+    }
+
+    // The event of a give of this, for clauses alone. The giver holds these times from then on.
+    pub(crate) fn event(&self, held: &Times<T>) -> Snapshot<Event<T>>
+        ensures { result.value ≡ Give self.now.given held.now self.now.sent }
+    {
+        let given = RememberedEmission::of(self.node, self.worker, self.updates());
+        remembered_give(given, held, &self.sent)
+    }
+}
