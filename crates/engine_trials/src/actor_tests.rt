@@ -271,7 +271,7 @@ fn a_worker_takes_what_a_client_fed(rt: HostRuntime) -> Result<(), Fail> {
     assert!(rt; !more);
     let place = bundle.place;
     assert_eq!(rt; (place.node.number(), place.port, place.worker), (0, 0, 0));
-    let updates = bundle.updates.as_slice();
+    let updates = bundle.updates.to_vec(rt.alloc())?;
     assert_eq!(rt; updates.len(), 1);
     let Some(change) = updates.first() else {
         panic!(rt; "there is one update")
