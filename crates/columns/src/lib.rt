@@ -21,6 +21,8 @@
 //! [`Columns::first_from`], [`Columns::first_past`]) and for one that stands at runs
 //! ([`Columns::key_runs`], [`Columns::seek_run`], [`Columns::seek_past_run`]). The second form need
 //! not look for the run of an update first.
+//!
+//! [`UpdateList`] is a list on its way from node to node: plain updates, or columns.
 #![tactic(auto)]
 
 mod column;

@@ -1,10 +1,11 @@
 //! Updates on their way from node to node.
 //!
-//! An operator that goes over updates in place has them one by one, each with its row. One that gives
-//! many updates of few rows, or more than it takes, gives them column by column: so they take half the
-//! memory or less while they wait. A list has one of the two forms, and a contract sees neither. A caller
-//! that wants the updates one by one asks for a vector: that copies a list of columns, and moves any
-//! other one.
+//! An operator that goes over updates in place has them one by one, each with its row. One that
+//! gives many updates of few rows, or more than it takes, gives them column by column: so they take
+//! half the memory or less while they wait. A list has one of the two forms, and a contract sees
+//! neither. A caller that wants the updates one by one asks for a vector: that copies a list of
+//! columns, and moves any other one. A caller that collects columns gets a list of columns without a
+//! copy if it has none yet.
 ghost use Rattle.std.specs.Prelude.{◌≡◌, ◌<◌, ◌++◌, length, slice_get, IfErr, IfOk, IsSomeAnd, OnErr, OnOk};
 ghost use Rattle.update.specs.declared.refusal.Refusal.TheVariants.{OutOfMemory};
 
@@ -131,6 +132,24 @@ impl<T: Lattice> UpdateList<T> {
             Form::Plain(updates) => others.append(updates.as_slice()),
             Form::Packed(columns) => others.append_columns(columns),
         }
+    }
+
+    /// Appends all updates to others that are kept column by column. They move if they are kept so,
+    /// too, and there were no others. Refused only with `OutOfMemory`, and then both lists are as
+    /// before.
+    ///
+    /// Cost: constant if they move, else as for [`append_to`](UpdateList::append_to).
+    pub fn move_to(&mut self, others: &mut Columns<T>) -> Result<(), Refusal>
+        ensures more { OnOk result (others.new ≡ others.old ++ self.old) }
+        ensures same { OnErr result (others.new ≡ others.old) }
+        ensures left { OnErr result (self.new ≡ self.old) }
+        ensures refused { IfErr result (λ refusal. refusal ≡ OutOfMemory) }
+    {
+        if let Form::Packed(columns) = &mut self.form {
+            others.take_columns(columns)?;
+            return Ok(());
+        }
+        self.append_to(others)
     }
 }
 

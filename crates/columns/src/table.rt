@@ -153,6 +153,25 @@ impl Table {
         Row::of(*self.widths.allocator(), &values[..width])
     }
 
+    /// Appends the columns of the row of a number to a list, and returns how many they are. Refused
+    /// only with `OutOfMemory`; some of them may stand there then.
+    pub(crate) fn append_row(&self, number: usize, list: &mut Vec<i64>) -> Result<usize, Refusal>
+        requires { number < length self.now }
+        ensures more { OnOk result
+            (list.new.items ≡ list.old.items ++ slice_index_or self.now number []) }
+        ensures kept { take (length list.old.items) list.new.items ≡ list.old.items }
+        ensures width { IfOk result (λ width. width ≡ length (slice_index_or self.now number [])) }
+        ensures some { IfOk result (λ width. 1 ≤ width) }
+        ensures few { IfOk result (λ width. width ≤ 8) }
+        ensures refused { IfErr result (λ refusal. refusal ≡ OutOfMemory) }
+    {
+        let width = self.widths[number] as usize;
+        for i in 0..width {
+            list.push(self.columns[i].get(number))?;
+        }
+        Ok(width)
+    }
+
     /// Whether the row of a number is this one. Takes no memory.
     pub(crate) fn is_row(&self, number: usize, row: &[i64]) -> bool
         requires { number < length self.now }

@@ -214,3 +214,35 @@ fn lists_are_the_same_in_both_forms(rt: HostRuntime) -> Result<(), Fail> {
     assert!(rt; is_six(&rt, &again)?);
     Ok(())
 }
+
+// A list is moved behind what a list of columns has, whether it had something or nothing.
+#[test]
+fn lists_move_behind_what_is_there(rt: HostRuntime) -> Result<(), Fail> {
+    let alloc = rt.alloc();
+    let mut moved = Columns::new(alloc);
+    UpdateList::packed(alloc, pushed(alloc)?)?.move_to(&mut moved)?;
+    assert!(rt; moved.len() == 6 && moved.runs() == 3);
+    UpdateList::packed(alloc, pushed(alloc)?)?.move_to(&mut moved)?;
+    UpdateList::from(six_again(alloc)?).move_to(&mut moved)?;
+    assert!(rt; moved.len() == 18 && moved.runs() == 9);
+    let mut plain = Columns::new(alloc);
+    UpdateList::from(six_again(alloc)?).move_to(&mut plain)?;
+    assert!(rt; is_six(&rt, &UpdateList::packed(alloc, plain)?)?);
+    Ok(())
+}
+
+// The columns of a row are appended to a list of numbers.
+#[test]
+fn rows_are_appended_to_a_list(rt: HostRuntime) -> Result<(), Fail> {
+    let columns = pushed(rt.alloc())?;
+    let mut list = Vec::new(rt.alloc());
+    let mut run = 0;
+    for i in 0..columns.len() {
+        run = columns.run_near(i, run);
+        let before = list.len();
+        let width = columns.append_row(i, run, &mut list)?;
+        let row = columns.row(i);
+        assert!(rt; row.columns() == &list[before..] && width == row.width());
+    }
+    Ok(())
+}

@@ -13,6 +13,7 @@ ghost use Rattle.columns.specs.Runs.{run_number, row_starts};
 use crate::columns::Columns;
 use lattice::Lattice;
 use std::alloc::Global;
+use std::mem;
 use update::{Refusal, Update};
 
 // How many runs begin before a place.
@@ -92,6 +93,24 @@ impl<T: Lattice> Columns<T> {
         }
     }
 
+    /// Appends all updates of another list, which move if there were none before. Refused only with
+    /// `OutOfMemory`, and then both lists are as before.
+    ///
+    /// Cost: constant if there were none before, else as for
+    /// [`append_columns`](Columns::append_columns).
+    pub(crate) fn take_columns(&mut self, more: &mut Columns<T>) -> Result<(), Refusal>
+        ensures more { OnOk result (self.new ≡ self.old ++ more.old) }
+        ensures same { OnErr result (self.new ≡ self.old) }
+        ensures left { OnErr result (more.new ≡ more.old) }
+        ensures refused { IfErr result (λ refusal. refusal ≡ OutOfMemory) }
+    {
+        if self.len() == 0 {
+            mem::swap(self, more);
+            return Ok(());
+        }
+        self.append_columns(more)
+    }
+
     // Pushes all updates of another list. If memory was refused, then some of them may stand behind
     // those of before.
     fn push_columns(&mut self, more: &Columns<T>) -> Result<(), Refusal>
@@ -137,6 +156,32 @@ impl<T: Lattice> Columns<T> {
             time: self.times[i],
             row: self.rows.row(run),
             diff: self.diffs[i],
+        }
+    }
+
+    /// Appends the columns of the row of update `i`, whose run is known, to a list, and returns how
+    /// many they are. Refused only with `OutOfMemory`, and then the list is as before.
+    ///
+    /// Cost: one step for each column. No row is made.
+    pub fn append_row(&self, i: usize, run: usize, list: &mut Vec<i64>) -> Result<usize, Refusal>
+        requires place { i < length self.now }
+        requires run { run ≡ run_number (row_starts self.now) i }
+        ensures more { OnOk result (IsSomeAnd (slice_get self.now i)
+            (λ u. list.new.items ≡ list.old.items ++ u.row)) }
+        ensures same { OnErr result (list.new.items ≡ list.old.items) }
+        ensures width { IfOk result
+            (λ width. IsSomeAnd (slice_get self.now i) (λ u. width ≡ length u.row)) }
+        ensures some { IfOk result (λ width. 1 ≤ width) }
+        ensures few { IfOk result (λ width. width ≤ 8) }
+        ensures refused { IfErr result (λ refusal. refusal ≡ OutOfMemory) }
+    {
+        let before = list.len();
+        match self.rows.append_row(run, list) {
+            Ok(width) => Ok(width),
+            Err(refusal) => {
+                list.truncate(before);
+                Err(refusal)
+            }
         }
     }
 }
