@@ -12,6 +12,9 @@ use update::Refusal;
 /// The greatest length of a line, in bytes, without its newline.
 const MAX_LINE: usize = 4096;
 
+// A list of words gets room for so many at once. Most lines that change a row have no more.
+const USUAL_WORDS: usize = 8;
+
 // The index of the first newline.
 fn newline(bytes: &[u8]) -> Option<usize>
     ensures { result ≡ position (λ b. b == 10) bytes.now }
@@ -49,7 +52,9 @@ pub(crate) fn text(line: &[u8]) -> Result<&str, LineError>
 fn pieces(alloc: Global, line: &str) -> Result<Vec<&str>, AllocError>
     ensures { IfOk result (λ v. map (λ w. w.now) v.items ≡ slice_split (λ b. b == 32) line.now) }
 {
-    line.split(' ').collect(alloc)
+    let mut pieces = Vec::with_capacity(alloc, USUAL_WORDS)?;
+    pieces.extend(line.split(' '))?;
+    Ok(pieces)
 }
 
 // The words of the line: the pieces that are not empty.

@@ -139,6 +139,7 @@ fn push_counts<T: Lattice>(
         (entries.new.items ≡ entries.old.items ++ map at_unit_time updates.now) }
     ensures refused { IfErr result (λ refused. refused ≡ Refusal.OutOfMemory) }
 {
+    entries.reserve(updates.len())?;
     for update in updates {
         entries.push(Update {
             time: UnitTime,
