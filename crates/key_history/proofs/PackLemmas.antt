@@ -1,6 +1,6 @@
 -- Both lists of a pack are the parts of one list of updates: reading one of them, appending one, and
 -- dropping the last ones.
-use Rattle.std.proofs.Common.{◌≡◌, ℕ, zero, suc, ◌+◌, ◌-◌, ◌<◌, ◌≤◌, List, [], ◌∷◌, ◌++◌, map, length, get_or, take, drop, slice_get, IsSomeAnd, ℤ, refl, sym, ap, ◌∙◌, subst, length-append, length-drop, length-take-le, get_or-drop, arith}
+use Rattle.std.proofs.Common.{◌≡◌, ℕ, zero, suc, ◌+◌, ◌-◌, ◌<◌, ◌≤◌, List, [], ◌∷◌, ◌++◌, map, length, get_or, take, drop, slice_get, IsSomeAnd, Option, None, Some, ℤ, refl, sym, ap, ◌∙◌, subst, append_assoc, length-append, length-drop, length-take-le, get_or-drop, arith}
 use Rattle.std.specs.List.{All, slice_range}
 use Rattle.std.proofs.lemmas.Grind.{flat_map-append}
 use Rattle.std.proofs.lemmas.List.{append-nil, length-map, map-append, take-map, take_at, take_more, take_all, take-append-drop, drop_at, drop_more, drop-append-le, get_or-map}
@@ -55,6 +55,15 @@ module _ {T : Type 0} where
       one : (P : Update T → Type 0) (u : Update T) → P u → All P (u ∷ [])
       one P u p zero d h = p
       one P u p (suc k) d h = absurd (omega (arith, h))
+
+    -- one more update, of which each part was read
+    pub pushed_read : (found : Option (Update T)) (t : T) (d : ℤ) (w : ℕ) (heads2 : List (Head T)) (columns2 : List ℤ)
+        → heads2 ≡ heads ++ record { time = t; diff = d; width = w } ∷ []
+        → IsSomeAnd found (λ u. t ≡ u.time) → IsSomeAnd found (λ u. d ≡ u.diff) → IsSomeAnd found (λ u. columns2 ≡ columns ++ u.row) → IsSomeAnd found (λ u. w ≡ length u.row)
+        → 1 ≤ w → w ≤ 8 → IsSomeAnd found (λ u. ArePacked (us ++ u ∷ []) heads2 columns2)
+    pushed_read (Some u) t d w heads2 columns2 h at by put wide some few =
+        pushed u heads2 columns2 (h ∙ (λ j. heads ++ record { time = at j; diff = by j; width = wide j } ∷ [])) put (subst (λ n. 1 ≤ n) wide some) (subst (λ n. n ≤ 8) wide few)
+    pushed_read None t d w heads2 columns2 h at by put wide some few = elim at [ ]
 
     -- the columns of the rows before a place come first
     pub columns_parted : (i : ℕ) → columns ≡ columns_of (take i us) ++ columns_of (drop i us)
@@ -158,3 +167,24 @@ module _ {X : Type 0} where
       ap (λ n. take n (drop start xs)) many
       ∙ take_more (drop start xs) (i - start) x within
       ∙ ap (λ y. take (i - start) (drop start xs) ++ y ∷ []) (get_or-drop start xs (i - start) x ∙ ap (λ n. get_or xs n x) at ∙ item_is xs i x h s)
+
+  -- and it was appended to a list that has the part so far
+  pub range_pushed : (xs : List X) (start i : ℕ) → start ≤ i → i < length xs → (old mid new : List X) → mid ≡ old ++ slice_range xs start i
+      → IsSomeAnd (slice_get xs i) (λ x. new ≡ mid ++ x ∷ []) → new ≡ old ++ slice_range xs start (i + 1)
+  range_pushed xs start i l h old mid new m s = at (slice_get xs i) refl s where
+    at : (found : Option X) → slice_get xs i ≡ found → IsSomeAnd found (λ x. new ≡ mid ++ x ∷ []) → new ≡ old ++ slice_range xs start (i + 1)
+    at (Some x) e p =
+        p ∙ ap (λ ys. ys ++ x ∷ []) m ∙ append_assoc old (slice_range xs start i) (x ∷ [])
+        ∙ ap (λ ys. old ++ ys) (sym (range_more xs start i x l h (subst (λ f. IsSomeAnd f (λ y. x ≡ y)) (sym e) refl)))
+    at None e p = elim p [ ]
+
+module _ {T : Type 0} (us : List (Update T)) (heads : List (Head T)) (columns : List ℤ) where
+  -- lists that are those of some updates and one more are read as these
+  pub read_of : (found : Option (Update T)) → IsSomeAnd found (λ u. ArePacked (us ++ u ∷ []) heads columns) → IsSomeAnd found (λ u. unpacked heads columns ≡ us ++ u ∷ [])
+  read_of (Some u) a = view_of (us ++ u ∷ []) heads columns a
+  read_of None a = elim a [ ]
+
+  -- and so they are the lists of what they are read as
+  pub packed_read : (found : Option (Update T)) → IsSomeAnd found (λ u. ArePacked (us ++ u ∷ []) heads columns) → ArePacked (unpacked heads columns) heads columns
+  packed_read (Some u) a = packed_view (us ++ u ∷ []) heads columns a
+  packed_read None a = elim a [ ]

@@ -15,6 +15,7 @@
 //! depends on what is read and not on what is skipped.
 ghost use Rattle.std.specs.Prelude.{◌≡◌, ◌<◌, ◌≤◌, ◌+◌, ◌++◌, ◌∷◌, [], drop, take, length, slice_get, slice_range, IfOk, IfErr, IsSomeAnd, OnErr, OnOk};
 ghost use Rattle.update.specs.declared.refusal.Refusal.{Refusal};
+ghost use Rattle.columns.specs.Runs.{run_number, row_starts};
 ghost use Rattle.key_history.specs.Packs.{columns_before};
 
 use columns::Columns;
@@ -131,6 +132,26 @@ impl<T: Lattice> Pack<T> {
         Ok(())
     }
 
+    // Appends a copy of update `i` of some others, whose run is known. If memory was refused, then
+    // the updates are as before.
+    fn push_from(&mut self, out: &Columns<T>, i: usize, run: usize) -> Result<(), Refusal>
+        requires place { i < length out.now }
+        requires run { run ≡ run_number (row_starts out.now) i }
+        ensures more { OnOk result (IsSomeAnd (slice_get out.now i)
+            (λ u. self.new ≡ self.old ++ u ∷ [])) }
+        ensures same { OnErr result (self.new ≡ self.old) }
+        ensures only { IfErr result (λ refused. refused ≡ Refusal.OutOfMemory) }
+    {
+        self.heads.reserve(1)?;
+        let width = out.append_row(i, run, &mut self.columns)?;
+        self.heads.push_reserved(Head {
+            time: out.time(i),
+            diff: out.diff(i),
+            width: width as u8,
+        });
+        Ok(())
+    }
+
     /// The place where the row of update `i` begins; the end of all rows behind the last update.
     /// Takes no memory.
     ///
@@ -206,7 +227,7 @@ impl<T: Lattice> Pack<T> {
         let mut run = 0;
         for i in start..end {
             run = out.run_near(i, run);
-            self.push(&out.copy(i, run))?;
+            self.push_from(out, i, run)?;
         }
         Ok(())
     }

@@ -157,6 +157,8 @@ impl<T: Lattice> Replay<T> {
         ensures entered { self.new.entered ≡ self.old.entered }
         ensures only { IfErr result (λ refused. refused ≡ Refusal.OutOfMemory) }
     {
+        self.near.reserve(updates.len())?;
+        self.later.reserve(updates.len())?;
         for update in updates {
             self.put(update, first)?;
         }
@@ -174,6 +176,9 @@ impl<T: Lattice> Replay<T> {
         ensures entered { self.new.entered ≡ self.old.entered }
         ensures only { IfErr result (λ refused. refused ≡ Refusal.OutOfMemory) }
     {
+        let more = given.len() - from;
+        self.near.reserve(more)?;
+        self.later.reserve(more)?;
         let mut place = given.place(from);
         for i in from..given.len() {
             self.put(&given.copy(i, place), first)?;
@@ -187,7 +192,7 @@ impl<T: Lattice> Replay<T> {
     /// have come in.
     ///
     /// Cost: a copy of the updates, and n log n in the number of those whose time comes after the
-    /// first one.
+    /// first one. Those that stand in long ascending parts, as in a few batches, are only merged.
     pub(crate) fn of(
         alloc: Global,
         updates: &[Update<T>],
@@ -210,7 +215,7 @@ impl<T: Lattice> Replay<T> {
         };
         replay.put_all(updates, first)?;
         replay.put_from(given, from, first)?;
-        replay.later.sort_unstable();
+        replay.later.sort()?;
         replay.limit = first_limit(replay.near.len(), times);
         Ok(replay)
     }

@@ -287,7 +287,7 @@ pub fn sweep_key<T: Lattice, R: Reducer>(
     let (folded, given, from) = history.seen_from(first_of(meets.as_slice()));
     let none = Pack::new(alloc);
     let mut sweep = Sweep {
-        given: Vec::new(alloc),
+        given: Vec::with_capacity(alloc, due.len().saturating_mul(2))?,
         due: Vec::new(alloc),
         last: None,
         base: Tally::of(alloc, rows)?,

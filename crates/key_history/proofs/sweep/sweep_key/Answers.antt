@@ -19,15 +19,15 @@ pub loop-i-init : goal.loop-i-init
 loop-i-init g c =
     let below = g.T.PartialOrder.below in
     let h = c.args.history.now in
-    let s : Sweep g.row.T.Denot = record { given = c.new.result; due = c.new-2.result; last = None; base = c.in_ok-of.field-0; rows = c.in_ok-of-2.field-0; had = c.in_ok-of-3.field-0 } in
-    let none : h.given ++ c.new.result.items ≡ h.given = ap (λ z. h.given ++ z) c.new.ensures.items ∙ append-nil h.given in
+    let s : Sweep g.row.T.Denot = record { given = c.in_ok-with_capacity.field-0; due = c.new.result; last = None; base = c.in_ok-of.field-0; rows = c.in_ok-of-2.field-0; had = c.in_ok-of-3.field-0 } in
+    let none : h.given ++ c.in_ok-with_capacity.field-0.items ≡ h.given = ap (λ z. h.given ++ z) c.in_ok-with_capacity.ensures.items ∙ append-nil h.given in
     let meets = subst (λ z. AreMeets below z c.as_slice.result.now) c.due-due.ensures (subst (λ z. AreMeets below c.due-due.result.now z) (sym c.as_slice.ensures.value) c.in_ok-meets.ensures.meets) in
     let rows =
     subst (λ us. StandsEver below us (on_the_way s.rows.near.items s.rows.later.items s.rows.entered)) (ap (λ us. c.args.rows.now ++ us) c.new-none.ensures ∙ append-nil c.args.rows.now) c.in_ok-of-2.ensures.stands in
     let had = on_the_times below c.first_of.result h.due h.given (c.seen_from-from.result.0.now ++ drop c.seen_from-from.result.2 c.seen_from-from.result.1.now) (on_the_way s.had.near.items s.had.later.items s.had.entered)
     (least_first below h.due c.as_slice.result.now meets c.first_of.result c.first_of.ensures) c.seen_from-from.ensures.stands c.in_ok-of-3.ensures.stands in (
-      rw c.new.ensures.items refl,
-      rw (c.new.ensures.items, c.new-2.ensures.items) (λ content rows. first_of g.met.T.PartialOrder.order g.met.T.Lattice.bounds (length h.key) (g.R.Reducer.reduces c.args.reducer.now) h.key content h.given c.args.frontier.now g.met.T.Lattice.extends g.met.T.Ord.total h.due c.requires.ascending),
+      rw c.in_ok-with_capacity.ensures.items refl,
+      rw (c.in_ok-with_capacity.ensures.items, c.new.ensures.items) (λ content rows. first_of g.met.T.PartialOrder.order g.met.T.Lattice.bounds (length h.key) (g.R.Reducer.reduces c.args.reducer.now) h.key content h.given c.args.frontier.now g.met.T.Lattice.extends g.met.T.Ord.total h.due c.requires.ascending),
       subst (λ z. IsSweep g.T.PartialOrder.below g.T.Ord.cmp h.due c.args.rows.now z s) (sym none)
           (begun g.met.T.PartialOrder.order h.due c.args.rows.now h.given s refl c.in_ok-of.ensures.nothing c.in_ok-of.ensures.among c.in_ok-of-2.ensures.ascending c.in_ok-of-3.ensures.ascending
           rows had),
