@@ -6,7 +6,8 @@
 //! invariant: if it has no list of its own, then there is a last bundle.
 //!
 //! A contract sees the emission and the bundles, whichever of them has the list.
-ghost use Rattle.std.specs.Prelude.{◌≡◌, ◌++◌, IfErr, IfOk};
+ghost use Rattle.std.specs.Prelude.{◌≡◌, ◌++◌, IfErr, IfOk, OnErr, OnOk};
+ghost use Rattle.update.specs.declared.refusal.Refusal.TheVariants.{OutOfMemory};
 ghost use Rattle.machine.specs.declared.histories.event.Event.TheVariants.{Give};
 ghost use Rattle.machine.specs.Histories.Cuts.{bundled};
 
@@ -14,13 +15,13 @@ use crate::board::workers::stamp_of;
 use crate::histories::event::{
     Bundle, Bundles, Emission, Event, RememberedEmission, Site, remembered_give,
 };
-use columns::UpdateList;
+use columns::{Columns, UpdateList};
 use lattice::Minimum;
 use plan::NodeId;
 use std::alloc::Global;
 use std::marker::Model;
 use std::snapshot::Snapshot;
-use update::Times;
+use update::{Refusal, Times};
 
 /// An emission, cut into bundles. A contract sees both.
 #[derive(Drop)]
@@ -127,6 +128,23 @@ impl<T: Minimum> CutEmission<T> {
             Some(updates) => updates,
             None => &sent[sent.len() - 1].updates,
         }
+    }
+
+    // Appends the updates that are given to others. They move if they are in columns and there were
+    // no others, and then nothing is given any more. If memory was refused, then nothing has
+    // changed.
+    pub(crate) fn move_updates_to(&mut self, others: &mut Columns<T>) -> Result<(), Refusal>
+        ensures more { OnOk result (others.new ≡ others.old ++ self.old.given.updates) }
+        ensures same { OnErr result (others.new ≡ others.old) }
+        ensures sent { self.new.sent ≡ self.old.sent }
+        ensures unchanged { OnErr result (self.new ≡ self.old) }
+        ensures refused { IfErr result (λ refusal. refusal ≡ OutOfMemory) }
+    {
+        if let Some(updates) = &mut self.own {
+            updates.move_to(others)?;
+            return Ok(());
+        }
+        self.updates().append_to(others)
     }
 
     // The bundles. Takes no memory.

@@ -9,9 +9,7 @@ use crate::board::Board;
 use crate::board::cut_emission::CutEmission;
 use crate::board::stations::Stations;
 use crate::board::view::View;
-use columns::UpdateList;
 use lattice::Minimum;
-use plan::NodeId;
 use update::{Refusal, Times};
 
 /// The arguments of a `give` that ran out of memory, returned unchanged.
@@ -44,7 +42,7 @@ impl<T: Minimum> Board<T> {
     ///
     /// Cost: linear in the bundles that are sent, and at a view in the updates. What is held and
     /// sent moves. A view copies the updates: their times, their differences, and one row for all
-    /// neighbours that have it.
+    /// neighbours that have it. If it has captured none yet, then updates in columns move, too.
     pub fn give(&mut self, cut: CutEmission<T>, held: Times<T>) -> Result<(), Ungiven<T>>
         requires worker { cut.given.worker < self.old.dataflow.workers }
         requires within { cut.given.node < length self.old.dataflow.nodes }
@@ -83,7 +81,7 @@ impl<T: Minimum> Board<T> {
 
     // Does all that `give` does, except that it does not record the event. What is held and sent
     // moves to where it goes.
-    fn try_give(&mut self, cut: CutEmission<T>, held: Times<T>) -> Result<(), Ungiven<T>>
+    fn try_give(&mut self, mut cut: CutEmission<T>, held: Times<T>) -> Result<(), Ungiven<T>>
         requires worker { cut.given.worker < self.old.dataflow.workers }
         requires within { cut.given.node < length self.old.dataflow.nodes }
         ensures given { OnOk result (self.new ≡ give_output cut.given held cut.sent self.old) }
@@ -94,7 +92,7 @@ impl<T: Minimum> Board<T> {
         let node = cut.node();
         let worker = cut.worker();
         let is_view = self.plan.node(node).is_output();
-        match prepare(&mut self.stations, &mut self.views, is_view, &cut) {
+        match prepare(&mut self.stations, &mut self.views, is_view, &mut cut) {
             Ok(()) => {
                 self.stations.put_all(cut.into_sent());
                 self.stations.hold(node, worker, held);
@@ -110,42 +108,40 @@ impl<T: Minimum> Board<T> {
 }
 
 // The part of a give that may be refused: it reserves room for the bundles, and captures the
-// updates at a view.
+// updates at a view. If it was refused, then nothing has changed.
 fn prepare<T: Minimum>(
     stations: &mut Stations<T>,
     views: &mut Vec<View<T>>,
     is_view: bool,
-    cut: &CutEmission<T>,
+    cut: &mut CutEmission<T>,
 ) -> Result<(), Refusal>
-    requires { cut.now.given.node < length views.old.items }
+    requires { cut.old.given.node < length views.old.items }
     ensures stations { lots stations.new ≡ lots stations.old }
-    ensures room { OnOk result (HasRoomFor cut.now.sent stations.new) }
+    ensures room { OnOk result (HasRoomFor cut.old.sent stations.new) }
     ensures captured { OnOk result (views.new.items ≡ (if is_view
-        then capture_at cut.now.given.node cut.now.given.updates views.old.items
+        then capture_at cut.old.given.node cut.old.given.updates views.old.items
         else views.old.items)) }
+    ensures sent { cut.new.sent ≡ cut.old.sent }
     ensures len { length views.new.items ≡ length views.old.items }
     ensures unchanged { OnErr result (views.new.items ≡ views.old.items) }
+    ensures kept { OnErr result (cut.new ≡ cut.old) }
 {
     stations.reserve(cut.sent())?;
-    capture(views, is_view, cut.node(), cut.updates())
-}
-
-// Captures what a node gave, if the node is a view.
-fn capture<T: Minimum>(
-    views: &mut Vec<View<T>>,
-    is_view: bool,
-    node: NodeId,
-    updates: &UpdateList<T>,
-) -> Result<(), Refusal>
-    requires { node < length views.old.items }
-    ensures captured { OnOk result (views.new.items ≡ (if is_view
-        then capture_at node updates.now views.old.items
-        else views.old.items)) }
-    ensures len { length views.new.items ≡ length views.old.items }
-    ensures unchanged { OnErr result (views.new.items ≡ views.old.items) }
-{
     if !is_view {
         return Ok(());
     }
-    views[node.number()].append(updates)
+    capture(views, cut)
+}
+
+// Captures what a view gives.
+fn capture<T: Minimum>(views: &mut Vec<View<T>>, cut: &mut CutEmission<T>) -> Result<(), Refusal>
+    requires { cut.old.given.node < length views.old.items }
+    ensures captured { OnOk result (views.new.items
+        ≡ capture_at cut.old.given.node cut.old.given.updates views.old.items) }
+    ensures sent { cut.new.sent ≡ cut.old.sent }
+    ensures len { length views.new.items ≡ length views.old.items }
+    ensures unchanged { OnErr result (views.new.items ≡ views.old.items) }
+    ensures kept { OnErr result (cut.new ≡ cut.old) }
+{
+    views[cut.node().number()].capture(cut)
 }

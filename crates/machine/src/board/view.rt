@@ -19,7 +19,8 @@ ghost use Rattle.update.specs.declared.change.Update.{Update};
 ghost use Rattle.update.specs.declared.refusal.Refusal.TheVariants.{OutOfMemory, Overflow};
 ghost use Rattle.machine.specs.Boards.Views.{update_at, is_later_at, later_below, IsReadOf, IsSumRefusal};
 
-use columns::{Columns, UpdateList};
+use crate::board::cut_emission::CutEmission;
+use columns::Columns;
 use lattice::Minimum;
 use std::alloc::Global;
 use std::marker::Model;
@@ -27,7 +28,7 @@ use std::ops::Range;
 use update::{Bag, Entries, Refusal, Times, Update, sum_at};
 
 // A read that starts from nothing adds up at least so many updates at a time: so many are sorted in
-// the cache.
+// the cache. A read that goes on asks for room for so many at once.
 const PART: usize = 4096;
 
 // A read: its time, its bag, and what it knows of the captured updates.
@@ -92,17 +93,20 @@ impl<T: Minimum> View<T> {
         &self.captured
     }
 
-    /// Captures copies of all these updates. Refused only with `OutOfMemory`, and then nothing
-    /// changes.
+    /// Captures the updates that are given. They move if they are in columns and nothing was
+    /// captured before. Refused only with `OutOfMemory`, and then nothing changes.
     ///
-    /// Cost: linear in the updates, each of whose rows is compared with the one before.
-    pub(crate) fn append(&mut self, more: &UpdateList<T>) -> Result<(), Refusal>
-        ensures more { OnOk result
-            (self.new ≡ record self.old { captured = self.old.captured ++ more.now }) }
+    /// Cost: constant if they move, else linear in the updates, each of whose rows is compared with
+    /// the one before.
+    pub(crate) fn capture(&mut self, cut: &mut CutEmission<T>) -> Result<(), Refusal>
+        ensures more { OnOk result (self.new
+            ≡ record self.old { captured = self.old.captured ++ cut.old.given.updates }) }
+        ensures sent { cut.new.sent ≡ cut.old.sent }
         ensures refused { IfErr result (λ refusal. refusal ≡ OutOfMemory) }
         ensures unchanged { OnErr result (self.new ≡ self.old) }
+        ensures kept { OnErr result (cut.new ≡ cut.old) }
     {
-        more.append_to(&mut self.captured)
+        cut.move_updates_to(&mut self.captured)
     }
 
     /// What the view captured, summed to a time. Refused with `Overflow` only if a row's count at
@@ -223,7 +227,7 @@ fn read_part<T: Minimum>(
     ensures known { OnOk result (read.new.known ≡ until) }
     ensures refused { IfErr result (λ refusal. (refusal ≡ OutOfMemory) ⊎ (refusal ≡ Overflow)) }
 {
-    let mut arrived = Vec::new(alloc);
+    let mut arrived = Vec::with_capacity(alloc, until - read.known)?;
     push_arrived(&mut arrived, captured, read.known..until, &read.time)?;
     push_later(&mut read.later, captured, read.known..until, &read.time)?;
     read.bag = read.bag.with(&arrived)?;
@@ -315,6 +319,7 @@ fn arrived_since<T: Minimum>(
     ensures refused { IfErr result (λ refusal. refusal ≡ OutOfMemory) }
 {
     let mut arrived = arrived_at(alloc, captured, &last.later, t)?;
+    arrived.reserve(PART.min(captured.len().saturating_sub(last.known)))?;
     push_arrived(&mut arrived, captured, last.known..captured.len(), t)?;
     Ok(arrived)
 }
