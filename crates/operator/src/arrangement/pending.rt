@@ -19,6 +19,10 @@ use std::alloc::Global;
 use std::marker::Model;
 use update::{Refusal, Update};
 
+// A list with room for at most this many updates keeps it when it is emptied, since the next updates
+// go there.
+const MAX_KEPT: usize = 1024;
+
 /// Updates of one worker at one node, with the least of their times. A contract sees both numbers,
 /// and the updates in the order in which they came.
 #[derive(Drop)]
@@ -146,4 +150,16 @@ fn drop_passed<T: Lattice>(updates: &mut Vec<Update<T>>, upper: &[T])
     ensures { updates.new.items ≡ open_updates T.below upper.now updates.old.items }
 {
     updates.retain(|update| is_beyond(upper, &update.time));
+    give_room_back(updates);
+}
+
+// A long list of which at most a quarter is left gives memory back. It would keep that as long as
+// the arrangement lives.
+fn give_room_back<T: Lattice>(updates: &mut Vec<Update<T>>)
+    ensures { updates.new.items ≡ updates.old.items }
+{
+    let room = updates.capacity();
+    if room > MAX_KEPT && updates.len() <= room / 4 {
+        updates.shrink_to_fit();
+    }
 }

@@ -1,8 +1,9 @@
-use Rattle.std.proofs.Common.{rules}
+use Rattle.std.proofs.Common.{◌∙◌, rules}
 use Rattle.std.proofs.lemmas.Fn.{filter_same}
 use Rattle.lattice.specs.Frontiers.{is_beyond}
 use Rattle.operator.proofs.arrangement.pending.drop_passed.Goals as goal
 
 pub returns : goal.returns
 returns g c =
-    filter_same _ (λ u. is_beyond g.T.PartialOrder.below c.args.upper.now u.time) _ (λ x b f r. search rules) _ _ c.retain.ensures.filtered
+    c.give_room_back.ensures
+    ∙ filter_same _ (λ u. is_beyond g.T.PartialOrder.below c.args.upper.now u.time) _ (λ x b f r. search rules) _ _ c.retain.ensures.filtered
