@@ -1,0 +1,7 @@
+-- Lemmas of counts and of the frontiers that follow from them.
+pub mod NumberLemmas
+pub mod GraphLemmas
+pub mod CountLemmas
+pub mod ItemLemmas
+pub mod FrontierLemmas
+pub mod PortLemmas

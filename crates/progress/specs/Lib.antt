@@ -1,0 +1,4 @@
+-- The definitions of what is outstanding, of the frontiers, and of what code keeps of a plan.
+pub mod Tallies
+pub mod Scopes
+pub mod Graphs

@@ -1,0 +1,46 @@
+//! What is outstanding in a dataflow, counted by place and time, and the frontiers that follow.
+//!
+//! A frontier is a promise: nothing will come to a node any more at the times that it has passed.
+//! The promise rests on knowing all from which something may still come: the bundles in flight,
+//! the times that workers hold, and what the inputs leave open. A [`Tally`] counts just that. An
+//! item is a time at a [`Place`]: a port of a node, what is held at a node, or the frontier of an
+//! input. A sender counts a bundle before it sends it. A worker that takes a bundle holds its
+//! times before the tally stops counting it. So at no moment is anything left out.
+//!
+//! The frontier of a node is the least of what is counted at the node or above it. That is the
+//! definition, and here it is also the code: a tally is a plain list, and each question goes over
+//! all of it. Nothing is kept from one question to the next, so nothing can be out of date. The
+//! three kinds of frontier differ only in which places they count ([`Tally::frontier`],
+//! [`Tally::input_frontier_of`], [`Tally::input_frontier`]).
+//!
+//! Of what is counted, a contract says only how often each item occurs, and nothing of the order.
+//! [`counts_determine_frontiers`] proves that no frontier depends on more than that. Questions
+//! borrow the tally mutably, though this one changes nothing. So a tally that keeps counts in a
+//! tree and frontiers beside them can take its place under the same contracts.
+//!
+//! A [`Capability`] is the right to give updates at a place at a time or later. The tally counts
+//! it as long as it lives. It cannot be dropped: it goes back to the tally, or is given anew at a
+//! later time. So a worker cannot forget a time that it holds.
+//!
+//! The code knows no workers, no bundles and no updates. The functions with empty bodies, such as
+//! [`ports_make_the_input_frontier`], state the laws that a board needs.
+#![tactic(auto)]
+
+mod capability;
+mod counted;
+mod graph;
+mod laws;
+mod place;
+mod scope;
+mod tally;
+
+pub use capability::Capability;
+pub use counted::Counted;
+pub use graph::Graph;
+pub use laws::{
+    counts_determine_frontiers, counts_tell_what_is_there, downgrades_move_nothing_back,
+    ports_make_the_input_frontier, what_is_beyond_moves_nothing_back,
+    what_is_counted_is_not_passed,
+};
+pub use place::Place;
+pub use tally::Tally;

@@ -1,0 +1,59 @@
+//! Which places count for a frontier of a node. The three kinds of frontier differ in nothing else,
+//! so whatever finds one is written once.
+ghost use Rattle.std.specs.Prelude.{◌≡◌, ◌<◌, IfSome, length};
+ghost use Rattle.progress.specs.Tallies.{is_upstream, comes_from};
+ghost use Rattle.progress.specs.Scopes.{scope_node, is_in_scope};
+
+use crate::graph::Graph;
+use crate::place::Place;
+use plan::NodeId;
+
+/// One of the frontiers of a node.
+#[derive(Drop)]
+pub(crate) enum Scope {
+    /// The frontier of the node.
+    Output(NodeId),
+    /// The input frontier of the node.
+    Input(NodeId),
+    /// The input frontier of one port.
+    Port(NodeId, usize),
+}
+
+impl Scope {
+    /// Whether what is outstanding at a place counts for this frontier. Takes no memory, and
+    /// constant time.
+    pub(crate) fn counts(&self, graph: &Graph, place: &Place) -> bool
+        requires { scope_node self.now < length graph.now }
+        ensures { result ≡ is_in_scope graph.now self.now place.now }
+    {
+        match self {
+            Scope::Output(node) => is_upstream(graph, *node, place),
+            Scope::Input(node) => is_upstream(graph, *node, place) && !place.is_held_at(*node),
+            Scope::Port(node, port) => {
+                place.is_port(*node, *port)
+                    || comes_from(graph, *node, graph.source(*node, *port), place)
+            }
+        }
+    }
+}
+
+// Whether a place lies at a node or above it.
+fn is_upstream(graph: &Graph, node: NodeId, place: &Place) -> bool
+    requires { node < length graph.now }
+    ensures { result ≡ is_upstream graph.now node place.now }
+{
+    graph.reaches(place.node(), node)
+}
+
+// Whether a place lies at a port's source or above it. If the port has none, then the node is an
+// input, and it counts its own frontier.
+fn comes_from(graph: &Graph, node: NodeId, source: Option<NodeId>, place: &Place) -> bool
+    requires node { node < length graph.now }
+    requires source { IfSome source (λ s. s < length graph.now) }
+    ensures { result ≡ comes_from graph.now node source place.now }
+{
+    match source {
+        Some(source) => is_upstream(graph, source, place),
+        None => place.is_input_at(node),
+    }
+}
