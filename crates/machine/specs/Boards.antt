@@ -24,7 +24,7 @@ use Rattle.machine.specs.declared.histories.event.Bundle.{Bundle}
 use Rattle.machine.specs.declared.histories.event.Fed.{Fed}
 use Rattle.machine.specs.declared.histories.event.Emission.{Emission}
 use Rattle.machine.specs.declared.histories.event.Event.{Event}
-use Rattle.machine.specs.declared.histories.event.Event.TheVariants.{Feed, Advance, Look, Take, TakeHeld, Give}
+use Rattle.machine.specs.declared.histories.event.Event.TheVariants.{Feed, Advance, Allow, Look, Take, TakeHeld, Give}
 use Rattle.machine.specs.Boards.Views.{ViewState}
 use Rattle.machine.specs.Histories.Dataflows.{Dataflow, node_of}
 use Rattle.machine.specs.Histories.States.{State, queue, held_at, emitted_at, fed_to, open_at}
@@ -105,6 +105,13 @@ module _ {T : Type 0} where
     last = Advance client i ts;
   }
 
+  -- the board after readers gave up a view's past: its since is these times from then on
+  abbrev pub after_allow : ℕ → ℕ → List T → BoardState T → BoardState T
+  after_allow client v ts b = record b {
+    views = set b.views v (record (get_or b.views v no_view) { since = ts });
+    last = Allow client v ts;
+  }
+
   -- the view after it captured these updates too
   abbrev pub capture : ViewState T → List (Update T) → ViewState T
   capture view us = record view { captured = view.captured ++ us }
@@ -144,13 +151,17 @@ module _ {T : Type 0} where
   }
 
 module _ {T : Type 0} (below : T → T → Bool) where
-  -- the refusal of a change, and of times as an input's next frontier, if there is one
+  -- the refusal of a change, and of times as an input's next frontier or as a view's next since, if
+  -- there is one
   abbrev pub feed_refusal : BoardState T → Fed T → Option Refusal
   feed_refusal b f = first_refusal
       (feed_faults below b.dataflow.nodes (front_at f.input b.inputs) (get_or b.accepted f.input 0) f)
 
   abbrev pub advance_refusal : BoardState T → ℕ → List T → Option Refusal
   advance_refusal b i ts = first_refusal (advance_faults below (front_at i b.inputs) ts)
+
+  abbrev pub allow_refusal : BoardState T → ℕ → List T → Option Refusal
+  allow_refusal b v ts = first_refusal (advance_faults below (get_or b.views v no_view).since ts)
 
 -- the dataflow with which the board was opened. No event changes it
 abbrev pub opened_dataflow : {T : Type 0} → BoardState T → Dataflow

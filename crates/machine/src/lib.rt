@@ -20,8 +20,8 @@
 //! inputs' frontiers, and the tests that refuse a change or a frontier, are a type of their own
 //! ([`InputFrontiers`]), so that changes can be accepted without a board.
 //!
-//! A client calls `feed`, `advance`, `close` and `look`, and reads by `frontier`, `read`, `changes`
-//! and `is_quiet`. A worker finds work by `waiting_at` or `is_ready` and starts on it by `take` or
+//! A client calls `feed`, `advance`, `close`, `allow` and `look`, and reads by `frontier`, `read`,
+//! `changes` and `is_quiet`. A worker finds work by `waiting_at` or `is_ready` and starts on it by `take` or
 //! `take_held`. It computes up to the node's `input_frontier`, cuts the output by `cut`, and gives
 //! it by `give`. `cut` belongs to a [`Routing`], which is made once from the plan and the number of
 //! workers.
@@ -40,7 +40,7 @@ pub use board::Board;
 pub use board::cut_emission::CutEmission;
 pub use board::emission::Ungiven;
 pub use board::inputs::{InputFrontiers, MAX_CHANGES, MAX_DIFFERENCE};
-pub use board::promises::meets;
+pub use board::promises::{later_sinces_keep_sums, meets};
 pub use board::routing::Routing;
 pub use board::view::View;
 pub use histories::event::{

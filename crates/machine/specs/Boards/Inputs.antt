@@ -30,6 +30,7 @@ module _ {T : Type 0} (below : T → T → Bool) where
       ∷ (not (nat_lt taken 1048576), InputFull)
       ∷ []
 
-  -- the faults of times as the next frontier of an input whose frontier is this one
+  -- the faults of times as the next frontier in the place of this one: an input's, or the since of
+  -- a view
   abbrev pub advance_faults : List T → List T → List (Bool × Refusal)
   advance_faults frontier ts = (not (all_beyond below frontier ts), NotForward) ∷ []

@@ -1,18 +1,22 @@
-//! The events of clients: changes of the inputs' tables, and moves of the inputs' frontiers. If a
-//! change may not be fed, or a frontier would go back, the call is refused and the event is a look.
-//! The history then shows that the client was there and did nothing.
-ghost use Rattle.std.specs.Prelude.{◌≡◌, ◌<◌, ◌≤◌, ◌+◌, List, [], ◌∷◌, None, Some, IfErr, IfOk, OnErr, OnOk, length};
+//! The events of clients: changes of the inputs' tables, and moves of the inputs' frontiers and of
+//! the frontiers beyond which views may be read. If a change may not be fed, or a frontier would go
+//! back, the call is refused and the event is a look. The history then shows that the client was
+//! there and did nothing.
+ghost use Rattle.std.specs.Prelude.{◌≡◌, ◌<◌, ◌≤◌, ◌+◌, List, [], ◌∷◌, None, Some, IfErr, IfOk, IsTrue, OnErr, OnOk, length};
 ghost use Rattle.update.specs.declared.refusal.Refusal.TheVariants.{OutOfMemory};
 ghost use Rattle.update.specs.Refusals.{IsRefusalBy};
 ghost use Rattle.machine.specs.declared.histories.event.Event.{Event};
 ghost use Rattle.machine.specs.declared.histories.event.Event.TheVariants.{Feed};
 ghost use Rattle.machine.specs.Histories.States.{change_to};
+ghost use Rattle.plan.specs.Nodes.{is_output};
+ghost use Rattle.machine.specs.Histories.Dataflows.{node_of};
 ghost use Rattle.machine.specs.Histories.{IsInput};
-ghost use Rattle.machine.specs.Boards.{BoardState, IsBoard, Stands, after_look, put_change, accept_change, after_feed, after_advance, feed_refusal, advance_refusal};
+ghost use Rattle.machine.specs.Boards.{BoardState, IsBoard, Stands, after_look, put_change, accept_change, after_feed, after_advance, after_allow, feed_refusal, advance_refusal, allow_refusal};
 
 use crate::board::Board;
 use crate::board::queue::Parcel;
-use crate::histories::event::{Event, Site, remembered_advance, remembered_feed};
+use crate::histories::event::{Event, Site, remembered_advance, remembered_allow, remembered_feed};
+use antichain::all_beyond;
 use lattice::Minimum;
 use plan::{NodeId, Plan};
 use std::alloc::Global;
@@ -178,5 +182,49 @@ impl<T: Minimum> Board<T> {
         let (none, event) = remembered_advance(client, input, none);
         self.inputs.close(input);
         self.note(event);
+    }
+
+    /// Readers of a view give up its past: from then on the view may be read only at times beyond
+    /// these. With no times it may not be read at all.
+    ///
+    /// Refused only with `NotForward`, if one of the times is not beyond the view's old since. The
+    /// old since itself is taken. Takes no memory. After a refusal the event is a look, and nothing
+    /// else changes.
+    ///
+    /// Cost: the product of the times and the elements of the view's old since.
+    pub fn allow(&mut self, client: usize, view: NodeId, times: Times<T>) -> Result<(), Refusal>
+        requires client { self.old.dataflow.workers ≤ client }
+        requires within { view < length self.old.dataflow.nodes }
+        requires view { IsTrue (is_output (node_of self.old.dataflow view)) }
+        ensures allowed { OnOk result (self.new ≡ after_allow client view times self.old) }
+        ensures accepted { OnOk result (allow_refusal T.below self.old view times ≡ None) }
+        ensures refused { IfErr result (λ refusal.
+            allow_refusal T.below self.old view times ≡ Some refusal) }
+        ensures unchanged { OnErr result (self.new ≡ after_look client self.old) }
+        ensures stands { (h : List (Event T)) → Stands T.below T.least self.old h
+            → Stands T.below T.least self.new (self.new.last ∷ h) }
+    {
+        self.try_allow(client, view, times)
+    }
+
+    // Changes the board as `allow` says. `allow` adds what that means for histories.
+    fn try_allow(&mut self, client: usize, view: NodeId, times: Times<T>) -> Result<(), Refusal>
+        requires { view < length self.old.dataflow.nodes }
+        ensures allowed { OnOk result (self.new ≡ after_allow client view times self.old) }
+        ensures accepted { OnOk result (allow_refusal T.below self.old view times ≡ None) }
+        ensures refused { IfErr result (λ refusal.
+            allow_refusal T.below self.old view times ≡ Some refusal) }
+        ensures board { IsBoard self.old }
+        ensures unchanged { OnErr result (self.new ≡ after_look client self.old) }
+    {
+        self.known();
+        if !all_beyond(self.since(view), times.as_slice()) {
+            self.look(client);
+            return Err(Refusal::NotForward);
+        }
+        let event = remembered_allow(client, view, &times);
+        self.views[view.number()].move_since(times);
+        self.note(event);
+        Ok(())
     }
 }

@@ -1,10 +1,12 @@
 //! What holds of a board. A crate above calls this and gets the headline for every history that the
 //! board may stand for.
-ghost use Rattle.std.specs.Prelude.{ℕ, List};
+ghost use Rattle.std.specs.Prelude.{ℕ, List, IsTrue};
+ghost use Rattle.lattice.specs.Frontiers.{all_beyond};
+ghost use Rattle.update.specs.declared.change.Update.{Update};
 ghost use Rattle.machine.specs.declared.histories.event.Event.{Event};
 ghost use Rattle.machine.specs.Histories.Promises.{MeetsQuery};
 ghost use Rattle.machine.specs.Histories.Readings.{ReadsQuery};
-ghost use Rattle.machine.specs.Boards.{state_on, plan_on, Stands};
+ghost use Rattle.machine.specs.Boards.{state_on, plan_on, IsKeptOf, Stands};
 
 use crate::board::Board;
 use lattice::Minimum;
@@ -21,3 +23,13 @@ pub fn meets<T: Minimum>(board: &Board<T>)
 {
     board.known();
 }
+
+/// What a board keeps of a view for its readers serves every later since: the sums at the times
+/// that may still be read are as before, and nothing has grown. So readers that give up times
+/// change nothing of what a view captured, nor of its last read. Costs nothing.
+pub fn later_sinces_keep_sums<T: Minimum>()
+    ensures { (earlier later : List T) (captured emitted : List (Update T))
+        → IsTrue (all_beyond T.below earlier later)
+        → IsKeptOf T.below T.least earlier captured emitted
+        → IsKeptOf T.below T.least later captured emitted }
+{}

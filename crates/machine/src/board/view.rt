@@ -86,6 +86,19 @@ impl<T: Minimum> View<T> {
         self.since.as_slice()
     }
 
+    /// Moves the frontier beyond which the view may be read. Takes no memory.
+    ///
+    /// The last read stays, even if its own time may not be read any more: it is a sum of what was
+    /// captured, and a read at a later time goes on from it. It goes only if no time may be read.
+    pub(crate) fn move_since(&mut self, since: Times<T>)
+        ensures { self.new ≡ record self.old { since = since } }
+    {
+        if since.as_slice().is_empty() {
+            self.last = None;
+        }
+        self.since = since;
+    }
+
     /// What the view captured. Takes no memory.
     pub(crate) fn captured(&self) -> &Columns<T>
         ensures { result.now ≡ self.now.captured }

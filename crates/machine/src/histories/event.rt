@@ -1,7 +1,7 @@
 //! The events that may happen on a board, and the entries of the logs that they leave. Each event
 //! names who did it and everything that it did. So a history is a list of events and nothing else.
 ghost use Rattle.std.specs.Prelude.{◌≡◌};
-ghost use Rattle.machine.specs.declared.histories.event.Event.TheVariants.{Feed, Advance, Take, Give};
+ghost use Rattle.machine.specs.declared.histories.event.Event.TheVariants.{Feed, Advance, Allow, Take, Give};
 ghost use Rattle.machine.specs.Histories.Remembered.{IsFeeding, HasFed, IsAdvancing, HasAdvanced, IsTaking, HasTaken};
 
 use columns::UpdateList;
@@ -185,7 +185,7 @@ pub enum Event<T> {
     Allow {
         client: usize,
         view: NodeId,
-        times: Times<T>,
+        times: Remembered<Times<T>>,
     },
     /// A client or worker looks at the board and leaves it as it is.
     Look {
@@ -288,6 +288,22 @@ fn times_in<T>(event: Event<T>) -> Times<T>
         Event::Advance { times, .. } => times,
         _ => unreachable!(),
     }
+}
+
+// The event of an allow, for clauses alone. Nothing is moved or copied.
+pub(crate) fn remembered_allow<T: Drop>(
+    client: usize,
+    view: NodeId,
+    times: &Times<T>,
+) -> Snapshot<Event<T>>
+    ensures event { result.value ≡ Allow client view times.now }
+{
+    let event = Event::Allow {
+        client,
+        view,
+        times: Remembered::of(times),
+    };
+    Snapshot::of(&event)
 }
 
 // The event of a give, for clauses alone. Nothing is moved or copied.
