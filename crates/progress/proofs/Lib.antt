@@ -2,6 +2,7 @@
 pub mod NumberLemmas
 pub mod GraphLemmas
 pub mod CountLemmas
+pub mod SeveralLemmas
 pub mod ItemLemmas
 pub mod FrontierLemmas
 pub mod PortLemmas

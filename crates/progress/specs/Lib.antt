@@ -1,4 +1,5 @@
 -- The definitions of what is outstanding, of the frontiers, and of what code keeps of a plan.
 pub mod Tallies
+pub mod Several
 pub mod Scopes
 pub mod Graphs

@@ -32,6 +32,7 @@ mod graph;
 mod laws;
 mod place;
 mod scope;
+mod several;
 mod tally;
 
 pub use capability::Capability;
