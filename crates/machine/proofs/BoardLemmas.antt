@@ -20,6 +20,4 @@ pub mod ReadLemmas
 pub mod RoutingLemmas
 pub mod CutLemmas
 pub mod GraphLemmas
-pub mod ViewLemmas
-pub mod CapturedLemmas
 pub mod AllowLemmas

@@ -5,7 +5,6 @@
 pub mod Loads
 pub mod Stations
 pub mod Inputs
-pub mod Views
 pub mod Reads
 pub mod Routings
 pub mod CutEmissions
@@ -25,7 +24,7 @@ use Rattle.machine.specs.declared.histories.event.Fed.{Fed}
 use Rattle.machine.specs.declared.histories.event.Emission.{Emission}
 use Rattle.machine.specs.declared.histories.event.Event.{Event}
 use Rattle.machine.specs.declared.histories.event.Event.TheVariants.{Feed, Advance, Allow, Look, Take, TakeHeld, Give}
-use Rattle.machine.specs.Boards.Views.{ViewState}
+use Rattle.views.specs.Views.{ViewState}
 use Rattle.machine.specs.Histories.Dataflows.{Dataflow, node_of}
 use Rattle.machine.specs.Histories.States.{State, queue, held_at, emitted_at, fed_to, open_at}
 use Rattle.machine.specs.Histories.Shares.{home}

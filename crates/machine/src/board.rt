@@ -26,13 +26,11 @@ pub(crate) mod reads;
 pub(crate) mod routing;
 pub(crate) mod stations;
 pub(crate) mod survey;
-pub(crate) mod view;
 pub(crate) mod workers;
 
 use crate::board::graph::Graph;
 use crate::board::inputs::InputFrontiers;
 use crate::board::stations::Stations;
-use crate::board::view::View;
 use crate::histories::event::Event;
 use lattice::Minimum;
 use plan::{NodeId, Plan};
@@ -40,6 +38,7 @@ use std::alloc::Global;
 use std::marker::Model;
 use std::snapshot::Snapshot;
 use update::Refusal;
+use views::View;
 
 /// The state between clients and workers. A contract sees all of it as a `BoardState`.
 #[derive(Drop)]

@@ -21,10 +21,10 @@
 //! ([`InputFrontiers`]), so that changes can be accepted without a board.
 //!
 //! A client calls `feed`, `advance`, `close`, `allow` and `look`, and reads by `frontier`, `read`,
-//! `changes` and `is_quiet`. A worker finds work by `waiting_at` or `is_ready` and starts on it by `take` or
-//! `take_held`. It computes up to the node's `input_frontier`, cuts the output by `cut`, and gives
-//! it by `give`. `cut` belongs to a [`Routing`], which is made once from the plan and the number of
-//! workers.
+//! `changes` and `is_quiet`. A worker finds work by `waiting_at` or `is_ready` and starts on it by
+//! `take` or `take_held`. It computes up to the node's `input_frontier`, cuts the output by `cut`,
+//! and gives it by `give`. `cut` belongs to a [`Routing`], which is made once from the plan and the
+//! number of workers.
 //!
 //! A worker that gives has two duties. The first is the node law: at every time that is not beyond
 //! the times it still holds, what it gave is what the node makes of what it received. This makes
@@ -42,7 +42,6 @@ pub use board::emission::Ungiven;
 pub use board::inputs::{InputFrontiers, MAX_CHANGES, MAX_DIFFERENCE};
 pub use board::promises::{later_sinces_keep_sums, meets};
 pub use board::routing::Routing;
-pub use board::view::View;
 pub use histories::event::{
     Bundle, Bundles, Emission, Event, Fed, HeldTime, OpenTime, RememberedEmission, Site,
 };
@@ -54,3 +53,4 @@ pub use histories::theorems::{
 pub use histories::witnesses::{
     bundles_wait_in_order, definitions_fit_examples, own_bounds_are_met, two_workers_can_exchange,
 };
+pub use views::View;

@@ -10,7 +10,7 @@ use Rattle.machine.specs.declared.histories.event.Bundle.{Bundle}
 use Rattle.machine.specs.declared.histories.event.Fed.{Fed}
 use Rattle.machine.specs.declared.histories.event.Site.{Site}
 use Rattle.machine.specs.Boards.Loads.{Load, Lot, with_load_at, without_load_at, with_lot, put_at, put_all, taken_from, held_from}
-use Rattle.machine.specs.Boards.Views.{ViewState}
+use Rattle.views.specs.Views.{ViewState}
 use Rattle.machine.specs.Boards.{BoardState, IsBoard, put_change, accept_change}
 use Rattle.machine.proofs.BoardLemmas.PlacingLemmas.{as_many, as_wide, many_put_all, wide_put_all}
 

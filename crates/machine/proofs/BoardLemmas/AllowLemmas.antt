@@ -16,7 +16,7 @@ use Rattle.machine.specs.Histories.Dataflows.{node_of}
 use Rattle.machine.specs.Histories.States.{State, emitted_at}
 use Rattle.machine.specs.Histories.{state_after, with_at}
 use Rattle.machine.specs.Histories.Readings.{is_from_start}
-use Rattle.machine.specs.Boards.Views.{ViewState}
+use Rattle.views.specs.Views.{ViewState}
 use Rattle.machine.specs.Boards.{BoardState, IsBoard, IsKeptOf, Stands, after_allow, allow_refusal, no_view}
 
 unfaulted : (b : Bool) → not b ≡ false → b ≡ true

@@ -31,7 +31,7 @@ use Rattle.machine.specs.declared.histories.event.Site.{Site}
 use Rattle.std.proofs.lemmas.Int.{ints}
 use Rattle.machine.specs.declared.histories.event.Bundle.{Bundle}
 use Rattle.machine.specs.declared.histories.event.Emission.{Emission}
-use Rattle.machine.specs.Boards.Views.{ViewState}
+use Rattle.views.specs.Views.{ViewState}
 use Rattle.machine.specs.Boards.{capture, after_give, after_take, after_turn, no_view, first_board, BoardState, IsBoard, Stands, after_look, after_feed, after_advance, feed_refusal, advance_refusal}
 use Rattle.machine.specs.Histories.Readings.{is_from_start}
 use Rattle.machine.proofs.HistoryLemmas.FlowLemmas.{sum_at-append}

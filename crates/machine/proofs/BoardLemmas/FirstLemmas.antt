@@ -5,7 +5,7 @@ use Rattle.plan.specs.Nodes.{is_input}
 use Rattle.machine.specs.Boards.Loads.{Lot, no_lot, first_stations}
 use Rattle.machine.specs.declared.histories.event.Event.{Event}
 use Rattle.machine.specs.declared.histories.event.Event.TheVariants.{Look}
-use Rattle.machine.specs.Boards.Views.{ViewState}
+use Rattle.views.specs.Views.{ViewState}
 use Rattle.machine.specs.Histories.Dataflows.{Dataflow, IsDataflow}
 use Rattle.machine.specs.Boards.Inputs.{first_inputs}
 use Rattle.machine.specs.Boards.{IsBoard, first_board}

@@ -4,7 +4,7 @@ use Rattle.plan.specs.Nodes.{is_output}
 use Rattle.plan.specs.declared.node.Node.{Node}
 use Rattle.machine.specs.declared.histories.event.Bundle.{Bundle}
 use Rattle.machine.specs.declared.histories.event.Emission.{Emission}
-use Rattle.machine.specs.Boards.Views.{ViewState}
+use Rattle.views.specs.Views.{ViewState}
 use Rattle.machine.specs.Histories.Dataflows.{node_of}
 use Rattle.machine.specs.Boards.{BoardState, capture_output, capture, give_output, no_view}
 use Rattle.machine.specs.Boards.Loads.{Lot, put_all, held_from}

@@ -21,7 +21,7 @@ use Rattle.machine.specs.Histories.Dataflows.{node_of}
 use Rattle.machine.specs.Histories.Outstanding.{frontier}
 use Rattle.machine.specs.Histories.{state_after}
 use Rattle.machine.specs.Histories.Promises.{changes_in}
-use Rattle.machine.specs.Boards.Views.{ViewState}
+use Rattle.views.specs.Views.{ViewState}
 use Rattle.machine.specs.Boards.{BoardState, no_view, Stands, IsBoard}
 use Rattle.machine.specs.Histories.Readings.{is_from_start}
 use Rattle.machine.specs.Boards.Reads.{front, captured_of, since_of, read_refusal_on, changes_refusal_on}

@@ -15,7 +15,7 @@ use Rattle.machine.specs.Boards.Inputs.{front_at}
 use Rattle.machine.specs.Histories.States.{State}
 use Rattle.machine.specs.Boards.Loads.{is_none, lot_of, all_bundles, all_held}
 use Rattle.machine.specs.Histories.Outstanding.{frontier, input_frontier}
-use Rattle.machine.specs.Boards.Views.{HasLargeSum}
+use Rattle.views.specs.Views.{HasLargeSum}
 use Rattle.update.specs.Refusals.{IsRefusalOr}
 use Rattle.machine.specs.Boards.{BoardState, no_view, is_from_start}
 

@@ -15,13 +15,14 @@ use crate::board::workers::stamp_of;
 use crate::histories::event::{
     Bundle, Bundles, Emission, Event, RememberedEmission, Site, remembered_give,
 };
-use columns::{Columns, UpdateList};
+use columns::UpdateList;
 use lattice::Minimum;
 use plan::NodeId;
 use std::alloc::Global;
 use std::marker::Model;
 use std::snapshot::Snapshot;
 use update::{Refusal, Times};
+use views::View;
 
 /// An emission, cut into bundles. A contract sees both.
 #[derive(Drop)]
@@ -130,21 +131,21 @@ impl<T: Minimum> CutEmission<T> {
         }
     }
 
-    // Appends the updates that are given to others. They move if they are in columns and there were
-    // no others, and then nothing is given any more. If memory was refused, then nothing has
-    // changed.
-    pub(crate) fn move_updates_to(&mut self, others: &mut Columns<T>) -> Result<(), Refusal>
-        ensures more { OnOk result (others.new ≡ others.old ++ self.old.given.updates) }
-        ensures same { OnErr result (others.new ≡ others.old) }
+    // Has a view capture the updates that are given. They may move there, and then nothing is given
+    // any more. If memory was refused, then nothing has changed.
+    pub(crate) fn captured_by(&mut self, view: &mut View<T>) -> Result<(), Refusal>
+        ensures more { OnOk result (view.new
+            ≡ record view.old { captured = view.old.captured ++ self.old.given.updates }) }
+        ensures same { OnErr result (view.new ≡ view.old) }
         ensures sent { self.new.sent ≡ self.old.sent }
         ensures unchanged { OnErr result (self.new ≡ self.old) }
         ensures refused { IfErr result (λ refusal. refusal ≡ OutOfMemory) }
     {
         if let Some(updates) = &mut self.own {
-            updates.move_to(others)?;
+            view.capture(updates)?;
             return Ok(());
         }
-        self.updates().append_to(others)
+        view.append(self.updates())
     }
 
     // The bundles. Takes no memory.

@@ -8,9 +8,9 @@ ghost use Rattle.machine.specs.Boards.{BoardState, IsBoard, IsGiveOn, Stands, af
 use crate::board::Board;
 use crate::board::cut_emission::CutEmission;
 use crate::board::stations::Stations;
-use crate::board::view::View;
 use lattice::Minimum;
 use update::{Refusal, Times};
+use views::View;
 
 /// The arguments of a `give` that ran out of memory, returned unchanged.
 #[derive(Drop)]
@@ -143,5 +143,5 @@ fn capture<T: Minimum>(views: &mut Vec<View<T>>, cut: &mut CutEmission<T>) -> Re
     ensures unchanged { OnErr result (views.new.items ≡ views.old.items) }
     ensures kept { OnErr result (cut.new ≡ cut.old) }
 {
-    views[cut.node().number()].capture(cut)
+    cut.captured_by(&mut views[cut.node().number()])
 }

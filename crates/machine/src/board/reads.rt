@@ -13,7 +13,7 @@ ghost use Rattle.plan.specs.Nodes.{is_output};
 ghost use Rattle.machine.specs.declared.histories.event.Event.{Event};
 ghost use Rattle.machine.specs.Histories.Dataflows.{IsDataflow, node_of};
 ghost use Rattle.machine.specs.Histories.Outstanding.{with_times};
-ghost use Rattle.machine.specs.Boards.Views.{IsSumRefusal};
+ghost use Rattle.views.specs.Views.{IsSumRefusal};
 ghost use Rattle.update.specs.Refusals.{IsMemoryOrOverflow};
 ghost use Rattle.machine.specs.Boards.{plan_on, frontier_on, changes_on, query_on, IsQuietOn, Stands, IsBoard};
 ghost use Rattle.machine.specs.Histories.Readings.{is_from_start};

@@ -1,5 +1,5 @@
 use Rattle.std.proofs.Common.{◌≡◌, ◌++◌, ◌∷◌, [], replicate, ap, ◌∙◌, arith}
-use Rattle.machine.specs.Boards.Views.{ViewState}
+use Rattle.views.specs.Views.{ViewState}
 use Rattle.machine.proofs.BoardLemmas.PutLemmas.{put_alike}
 use Rattle.machine.proofs.board.first_views.Goals as goal
 

@@ -2,7 +2,7 @@ use Rattle.std.proofs.Common.{subst}
 use Rattle.std.specs.Result.{IfOk}
 use Rattle.update.specs.Bags.{Alike}
 use Rattle.update.specs.Updates.{as_of}
-use Rattle.machine.specs.Boards.Views.{ViewState}
+use Rattle.views.specs.Views.{ViewState}
 use Rattle.machine.proofs.BoardLemmas.ReadLemmas.{view_read}
 use Rattle.machine.proofs.board.Board.captured_at.Goals as goal
 

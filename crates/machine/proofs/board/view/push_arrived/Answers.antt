@@ -1,8 +1,0 @@
-use Rattle.std.proofs.Common.{rules}
-use Rattle.machine.proofs.BoardLemmas.CapturedLemmas.{copies_more}
-use Rattle.machine.proofs.board.view.push_arrived.Goals as goal
-
-pub loop-position-preserved : goal.loop-position-preserved
-loop-position-preserved g c =
-    let i = c.loop-position in
-    copies_more (λ u. g.T.PartialOrder.below u.time c.args.t.now) c.args.captured.now c.args.part.start i.position c.args.arrived.now.items i.arrived.items c.push_if_arrived.new.arrived.items (search rules) (search rules) i.invariant c.in_ok-run.ensures.more

@@ -1,7 +1,0 @@
-use Rattle.std.proofs.Common.{◌≡◌, ◌++◌, take, drop}
-use Rattle.std.specs.List.{filter}
-use Rattle.machine.proofs.board.view.push_arrived.Given as goal
-
--- those of the part up to the position
-abbrev pub invariant-loop-position : goal.invariant-loop-position
-invariant-loop-position g l = l.arrived.items ≡ l.fn.arrived.items ++ filter (λ u. g.T.PartialOrder.below u.time l.t) (drop l.initial.position (take l.position l.captured))

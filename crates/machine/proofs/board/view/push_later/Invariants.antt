@@ -1,7 +1,0 @@
-use Rattle.std.proofs.Common.{◌≡◌}
-use Rattle.machine.specs.Boards.Views.{later_below}
-use Rattle.machine.proofs.board.view.push_later.Given as goal
-
--- the positions so far
-abbrev pub invariant-loop-position : goal.invariant-loop-position
-invariant-loop-position g l = l.later.items ≡ later_below g.T.PartialOrder.below l.t l.captured l.position

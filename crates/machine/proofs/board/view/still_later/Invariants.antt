@@ -1,7 +1,0 @@
-use Rattle.std.proofs.Common.{◌≡◌, take}
-use Rattle.std.specs.List.{filter}
-use Rattle.machine.specs.Boards.Views.{is_later_at}
-use Rattle.machine.proofs.board.view.still_later.Given as goal
-
-abbrev pub invariant-loop-position : goal.invariant-loop-position
-invariant-loop-position g l = l.later.items ≡ filter (is_later_at g.T.PartialOrder.below l.t l.captured) (take l.position-index l.positions)

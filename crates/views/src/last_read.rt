@@ -1,0 +1,354 @@
+//! The last read of a view, and how a read goes on from it.
+//!
+//! What a view captured is kept column by column ([`Columns`]), since it is the longest list on a
+//! board. A read copies the updates that it adds up, part by part, and folds each part into a bag.
+//! So it takes memory for two bags and not for all that was captured.
+//!
+//! A read remembers its time, its bag, how many captured updates it knows, and the positions of
+//! those that are not at or before its time. A read at the same time or a later one looks only at
+//! those positions and at what was captured since. It adds the updates that are now at or before its
+//! time to the bag. So a read after each change costs as much as the bag is long, however much was
+//! captured. A read at any other time sums anew. Each read becomes the last one.
+ghost use Rattle.std.specs.Prelude.{◌≡◌, ◌≤◌, ◌<◌, ◌⊎◌, ◌++◌, List, [], IfErr, IfOk, OnErr, OnOk, IsTrue, length, take, drop};
+ghost use Rattle.std.specs.List.{All, filter, flat_map};
+ghost use Rattle.update.specs.Bags.{Alike, IsBag};
+ghost use Rattle.update.specs.Updates.{as_of};
+ghost use Rattle.update.specs.declared.change.Update.{Update};
+ghost use Rattle.update.specs.declared.refusal.Refusal.TheVariants.{OutOfMemory, Overflow};
+ghost use Rattle.views.specs.Views.{update_at, is_later_at, later_below, IsReadOf, IsSumRefusal};
+
+use columns::Columns;
+use lattice::Minimum;
+use std::alloc::Global;
+use std::ops::Range;
+use update::{Bag, Entries, Refusal, Update, sum_at};
+
+// A read that starts from nothing adds up at least so many updates at a time: so many are sorted in
+// the cache. A read that goes on asks for room for so many at once.
+const PART: usize = 4096;
+
+// A read: its time, its bag, and what it knows of the captured updates.
+#[derive(Drop)]
+pub(crate) struct LastRead<T> {
+    pub(crate) time: T,
+    pub(crate) bag: Bag,
+    // How many of the captured updates it knows, counted from the first.
+    pub(crate) known: usize,
+    // The positions of the known updates that are not at or before its time.
+    pub(crate) later: Vec<usize>,
+}
+
+// A read that starts from nothing, part by part. If a sum on the way is too large, then all is added
+// up at once, so that the order of the updates does not matter.
+pub(crate) fn read_anew<T: Minimum>(
+    alloc: Global,
+    captured: &Columns<T>,
+    t: T,
+) -> Result<LastRead<T>, Refusal>
+    ensures read { IfOk result (λ r.
+        IsReadOf T.below captured.now r.time r.bag r.known r.later.items) }
+    ensures bag { IfOk result (λ r. IsBag r.bag) }
+    ensures sum { IfOk result (λ r. Alike r.bag (as_of T.below t captured.now)) }
+    ensures refused { IfErr result (IsSumRefusal T.below captured.now t) }
+{
+    match read_in_parts(alloc, captured, t) {
+        Err(Refusal::Overflow) => read_at_once(alloc, captured, t),
+        read => read,
+    }
+}
+
+// A read that adds up part by part. A part is as long as the bag so far, or longer. So the copies of
+// the bag are no longer together than what was captured, and a read needs no list of all updates.
+fn read_in_parts<T: Minimum>(
+    alloc: Global,
+    captured: &Columns<T>,
+    t: T,
+) -> Result<LastRead<T>, Refusal>
+    ensures read { IfOk result (λ r.
+        IsReadOf T.below captured.now r.time r.bag r.known r.later.items) }
+    ensures bag { IfOk result (λ r. IsBag r.bag) }
+    ensures sum { IfOk result (λ r. Alike r.bag (as_of T.below t captured.now)) }
+    ensures refused { IfErr result (λ refusal. (refusal ≡ OutOfMemory) ⊎ (refusal ≡ Overflow)) }
+{
+    let mut read = nothing_read(alloc, t)?;
+    while read.known < captured.len() {
+        let until = end_of_part(read.known, read.bag.len(), captured.len());
+        read_part(alloc, captured, &mut read, until)?;
+    }
+    Ok(read)
+}
+
+// A read of no updates.
+fn nothing_read<T: Minimum>(alloc: Global, t: T) -> Result<LastRead<T>, Refusal>
+    ensures read { IfOk result (λ r. (us : List (Update T))
+        → IsReadOf T.below us r.time r.bag r.known r.later.items) }
+    ensures bag { IfOk result (λ r. IsBag r.bag) }
+    ensures time { IfOk result (λ r. r.time ≡ t) }
+    ensures refused { IfErr result (λ refusal. (refusal ≡ OutOfMemory) ⊎ (refusal ≡ Overflow)) }
+{
+    let bag = Entries::new(alloc).into_bag()?;
+    Ok(LastRead {
+        time: t,
+        bag,
+        known: 0,
+        later: Vec::new(alloc),
+    })
+}
+
+// Where the next part ends.
+fn end_of_part(known: usize, rows: usize, captured: usize) -> usize
+    requires { known < captured }
+    ensures onward { known < result }
+    ensures within { result ≤ captured }
+{
+    captured.min(known.saturating_add(rows.max(PART)))
+}
+
+// Goes on with a read, from the updates that it knows up to another one.
+fn read_part<T: Minimum>(
+    alloc: Global,
+    captured: &Columns<T>,
+    read: &mut LastRead<T>,
+    until: usize,
+) -> Result<(), Refusal>
+    requires read { IsReadOf T.below captured.now
+        read.old.time read.old.bag read.old.known read.old.later.items }
+    requires onward { read.old.known ≤ until }
+    requires within { until ≤ length captured.now }
+    ensures read { OnOk result (IsReadOf T.below captured.now
+        read.new.time read.new.bag read.new.known read.new.later.items) }
+    ensures bag { OnOk result (IsBag read.new.bag) }
+    ensures time { read.new.time ≡ read.old.time }
+    ensures known { OnOk result (read.new.known ≡ until) }
+    ensures refused { IfErr result (λ refusal. (refusal ≡ OutOfMemory) ⊎ (refusal ≡ Overflow)) }
+{
+    let mut arrived = Vec::with_capacity(alloc, until - read.known)?;
+    push_arrived(&mut arrived, captured, read.known..until, &read.time)?;
+    push_later(&mut read.later, captured, read.known..until, &read.time)?;
+    read.bag = read.bag.with(&arrived)?;
+    read.known = until;
+    Ok(())
+}
+
+// A read that adds up all at once.
+fn read_at_once<T: Minimum>(
+    alloc: Global,
+    captured: &Columns<T>,
+    t: T,
+) -> Result<LastRead<T>, Refusal>
+    ensures read { IfOk result (λ r.
+        IsReadOf T.below captured.now r.time r.bag r.known r.later.items) }
+    ensures bag { IfOk result (λ r. IsBag r.bag) }
+    ensures sum { IfOk result (λ r. Alike r.bag (as_of T.below t captured.now)) }
+    ensures refused { IfErr result (IsSumRefusal T.below captured.now t) }
+{
+    let mut later = Vec::new(alloc);
+    push_later(&mut later, captured, 0..captured.len(), &t)?;
+    let bag = sum_captured(alloc, captured, captured.len() - later.len(), t)?;
+    Ok(LastRead {
+        time: t,
+        bag,
+        known: captured.len(),
+        later,
+    })
+}
+
+// What was captured, summed to a time. `room` is how many updates are at or before the time; any
+// other number costs memory or time and changes no sum.
+fn sum_captured<T: Minimum>(
+    alloc: Global,
+    captured: &Columns<T>,
+    room: usize,
+    t: T,
+) -> Result<Bag, Refusal>
+    ensures bag { IfOk result IsBag }
+    ensures sum { IfOk result (λ bag. Alike bag (as_of T.below t captured.now)) }
+    ensures refused { IfErr result (IsSumRefusal T.below captured.now t) }
+{
+    let mut arrived = Vec::with_capacity(alloc, room)?;
+    push_arrived(&mut arrived, captured, 0..captured.len(), &t)?;
+    let bag = sum_at(alloc, arrived.as_slice(), t)?;
+    Ok(bag)
+}
+
+// A read that goes on from an earlier read, whose time is at or before its own.
+pub(crate) fn read_on<T: Minimum>(
+    alloc: Global,
+    captured: &Columns<T>,
+    last: &LastRead<T>,
+    t: T,
+) -> Result<LastRead<T>, Refusal>
+    requires last { IsReadOf T.below captured.now
+        last.now.time last.now.bag last.now.known last.now.later.items }
+    requires onward { IsTrue (T.below last.now.time t) }
+    ensures read { IfOk result (λ r.
+        IsReadOf T.below captured.now r.time r.bag r.known r.later.items) }
+    ensures bag { IfOk result (λ r. IsBag r.bag) }
+    ensures sum { IfOk result (λ r. Alike r.bag (as_of T.below t captured.now)) }
+    ensures refused { IfErr result (IsSumRefusal T.below captured.now t) }
+{
+    let arrived = arrived_since(alloc, captured, last, &t)?;
+    let later = later_since(alloc, captured, last, &t)?;
+    let bag = last.bag.with(&arrived)?;
+    Ok(LastRead {
+        time: t,
+        bag,
+        known: captured.len(),
+        later,
+    })
+}
+
+// Copies the updates at or before a time that are missing from the bag of an earlier read.
+fn arrived_since<T: Minimum>(
+    alloc: Global,
+    captured: &Columns<T>,
+    last: &LastRead<T>,
+    t: &T,
+) -> Result<Vec<Update<T>>, Refusal>
+    requires { IsReadOf T.below captured.now
+        last.now.time last.now.bag last.now.known last.now.later.items }
+    ensures arrived { IfOk result (λ arrived. arrived.items
+        ≡ flat_map (λ k. filter (λ u. T.below u.time t.now) (update_at captured.now k))
+        last.now.later.items
+        ++ filter (λ u. T.below u.time t.now) (drop last.now.known captured.now)) }
+    ensures refused { IfErr result (λ refusal. refusal ≡ OutOfMemory) }
+{
+    let mut arrived = arrived_at(alloc, captured, &last.later, t)?;
+    arrived.reserve(PART.min(captured.len().saturating_sub(last.known)))?;
+    push_arrived(&mut arrived, captured, last.known..captured.len(), t)?;
+    Ok(arrived)
+}
+
+// The positions of all updates that are not at or before a time, found from those of an earlier
+// read.
+fn later_since<T: Minimum>(
+    alloc: Global,
+    captured: &Columns<T>,
+    last: &LastRead<T>,
+    t: &T,
+) -> Result<Vec<usize>, Refusal>
+    requires last { IsReadOf T.below captured.now
+        last.now.time last.now.bag last.now.known last.now.later.items }
+    requires onward { IsTrue (T.below last.now.time t.now) }
+    ensures later { IfOk result (λ later. later.items
+        ≡ later_below T.below t.now captured.now (length captured.now)) }
+    ensures refused { IfErr result (λ refusal. refusal ≡ OutOfMemory) }
+{
+    let mut later = still_later(alloc, captured, &last.later, t)?;
+    push_later(&mut later, captured, last.known..captured.len(), t)?;
+    Ok(later)
+}
+
+// Copies the updates at these positions that are at or before a time.
+fn arrived_at<T: Minimum>(
+    alloc: Global,
+    captured: &Columns<T>,
+    positions: &[usize],
+    t: &T,
+) -> Result<Vec<Update<T>>, Refusal>
+    requires { All (λ k. k < length captured.now) positions.now }
+    ensures arrived { IfOk result (λ arrived. arrived.items
+        ≡ flat_map (λ k. filter (λ u. T.below u.time t.now) (update_at captured.now k))
+        positions.now) }
+    ensures refused { IfErr result (λ refusal. refusal ≡ OutOfMemory) }
+{
+    let mut arrived = Vec::new(alloc);
+    let mut run = 0;
+    for position in positions {
+        run = push_if_arrived(&mut arrived, captured, *position, run, t)?;
+    }
+    Ok(arrived)
+}
+
+// Appends copies of the updates of a part that are at or before a time.
+fn push_arrived<T: Minimum>(
+    arrived: &mut Vec<Update<T>>,
+    captured: &Columns<T>,
+    part: Range<usize>,
+    t: &T,
+) -> Result<(), Refusal>
+    requires ordered { part.start ≤ part.end }
+    requires within { part.end ≤ length captured.now }
+    ensures more { OnOk result (arrived.new.items ≡ arrived.old.items
+        ++ filter (λ u. T.below u.time t.now) (drop part.start (take part.end captured.now))) }
+    ensures refused { IfErr result (λ refusal. refusal ≡ OutOfMemory) }
+{
+    let mut run = 0;
+    for position in part.start..part.end {
+        run = push_if_arrived(arrived, captured, position, run, t)?;
+    }
+    Ok(())
+}
+
+// Appends a copy of the update at a position if it is at or before a time. The search for its run
+// begins at `near`. Returns where the next search begins.
+fn push_if_arrived<T: Minimum>(
+    arrived: &mut Vec<Update<T>>,
+    captured: &Columns<T>,
+    position: usize,
+    near: usize,
+    t: &T,
+) -> Result<usize, Refusal>
+    requires { position < length captured.now }
+    ensures more { OnOk result (arrived.new.items ≡ arrived.old.items
+        ++ filter (λ u. T.below u.time t.now) (update_at captured.now position)) }
+    ensures refused { IfErr result (λ refusal. refusal ≡ OutOfMemory) }
+{
+    if !captured.time(position).less_equal(t) {
+        return Ok(near);
+    }
+    let run = captured.run_near(position, near);
+    arrived.push(captured.copy(position, run))?;
+    Ok(run)
+}
+
+// Whether the update at a position is not at or before a time.
+fn is_later_at<T: Minimum>(captured: &Columns<T>, position: usize, t: &T) -> bool
+    requires { position < length captured.now }
+    ensures { result ≡ is_later_at T.below t.now captured.now position }
+{
+    !captured.time(position).less_equal(t)
+}
+
+// Keeps the positions at which the update is still not at or before a time.
+fn still_later<T: Minimum>(
+    alloc: Global,
+    captured: &Columns<T>,
+    positions: &[usize],
+    t: &T,
+) -> Result<Vec<usize>, Refusal>
+    requires { All (λ k. k < length captured.now) positions.now }
+    ensures later { IfOk result (λ later. later.items
+        ≡ filter (is_later_at T.below t.now captured.now) positions.now) }
+    ensures refused { IfErr result (λ refusal. refusal ≡ OutOfMemory) }
+{
+    let mut later = Vec::new(alloc);
+    for position in positions {
+        if is_later_at(captured, *position, t) {
+            later.push(*position)?;
+        }
+    }
+    Ok(later)
+}
+
+// Appends the positions of a part at which the update is not at or before a time.
+fn push_later<T: Minimum>(
+    later: &mut Vec<usize>,
+    captured: &Columns<T>,
+    part: Range<usize>,
+    t: &T,
+) -> Result<(), Refusal>
+    requires ordered { part.start ≤ part.end }
+    requires within { part.end ≤ length captured.now }
+    requires before { later.old.items ≡ later_below T.below t.now captured.now part.start }
+    ensures later { OnOk result (later.new.items
+        ≡ later_below T.below t.now captured.now part.end) }
+    ensures refused { IfErr result (λ refusal. refusal ≡ OutOfMemory) }
+{
+    for position in part.start..part.end {
+        if is_later_at(captured, position, t) {
+            later.push(position)?;
+        }
+    }
+    Ok(())
+}
