@@ -1,4 +1,8 @@
 //! Boards and routings: their calls succeed if there is memory, and after a refusal once there is.
+ghost use Rattle.std.specs.Prelude.{◌<◌, IsTrue, length};
+ghost use Rattle.plan.specs.Nodes.{is_output};
+ghost use Rattle.machine.specs.Histories.Dataflows.{node_of};
+
 use lattice::Bitime;
 use machine::{Board, CutEmission, Emission, Routing};
 use plan::NodeId;
@@ -42,8 +46,13 @@ fn times(alloc: Global, time: (u64, u64)) -> Result<Times<Bitime>, AllocError> {
     Ok(times.into())
 }
 
-// Moves the frontier of the input to (0, 1).
-fn advanced(rt: &impl Abort, alloc: Global, board: &mut Board<Bitime>) -> Result<(), Refusal> {
+// Moves the frontier of the input to one time.
+fn advanced(
+    rt: &impl Abort,
+    alloc: Global,
+    board: &mut Board<Bitime>,
+    time: (u64, u64),
+) -> Result<(), Refusal> {
     let input = NodeId::new(0);
     let there = input.number() < board.plan().len();
     assert!(rt; there);
@@ -51,7 +60,60 @@ fn advanced(rt: &impl Abort, alloc: Global, board: &mut Board<Bitime>) -> Result
     assert!(rt; is_input);
     let is_client = board.workers() <= CLIENT;
     assert!(rt; is_client);
-    board.advance(CLIENT, input, times(alloc, (0, 1))?)
+    board.advance(CLIENT, input, times(alloc, time)?)
+}
+
+// The view. The asserts show that it is one, as questions require.
+fn the_view(rt: &impl Abort, board: &Board<Bitime>) -> NodeId
+    ensures within { result < length board.now.dataflow.nodes }
+    ensures view { IsTrue (is_output (node_of board.now.dataflow result)) }
+{
+    let view = NodeId::new(1);
+    let there = view.number() < board.plan().len();
+    assert!(rt; there);
+    let is_view = board.plan().node(view).is_output();
+    assert!(rt; is_view);
+    view
+}
+
+// Readers of the view give up all times that are not at or after this one.
+fn allowed(
+    rt: &impl Abort,
+    alloc: Global,
+    board: &mut Board<Bitime>,
+    time: (u64, u64),
+) -> Result<(), Refusal> {
+    let view = the_view(rt, board);
+    let is_client = board.workers() <= CLIENT;
+    assert!(rt; is_client);
+    board.allow(CLIENT, view, times(alloc, time)?)
+}
+
+// How many rows the view has at a time.
+fn rows_at(rt: &impl Abort, board: &mut Board<Bitime>, time: (u64, u64)) -> Result<usize, Refusal> {
+    let view = the_view(rt, board);
+    let bag = board.read(view, at(time))?;
+    Ok(bag.len())
+}
+
+// How many changes the view has.
+fn changes_of(rt: &impl Abort, board: &mut Board<Bitime>) -> Result<usize, Refusal> {
+    let view = the_view(rt, board);
+    let changes = board.changes(view)?;
+    Ok(changes.len())
+}
+
+// Readers give up the times before (4, 4) of a view that has passed all times before (9, 9). Then
+// they may not come back, and may ask only at times that are passed and not given up.
+fn is_given_up(rt: &impl Abort, alloc: Global, board: &mut Board<Bitime>) -> Result<bool, Refusal> {
+    advanced(rt, alloc, board, (9, 9))?;
+    allowed(rt, alloc, board, (4, 4))?;
+    let before = rows_at(rt, board, (3, 3)) == Err(Refusal::GivenUp);
+    let apart = rows_at(rt, board, (3, 8)) == Err(Refusal::GivenUp);
+    let at_it = rows_at(rt, board, (4, 4))? == 0;
+    let open = rows_at(rt, board, (9, 9)) == Err(Refusal::NotPassed);
+    let listed = changes_of(rt, board) == Err(Refusal::GivenUp);
+    Ok(before && apart && at_it && open && listed)
 }
 
 // Asks for the view's frontier and changes. If nothing was fed, the frontier has one time and there
@@ -78,8 +140,8 @@ fn boards_take_memory(rt: HostRuntime) -> Result<(), Fail> {
         Err(Refusal::OutOfMemory) => fed(&rt, alloc, &mut board)?,
         done => done?,
     }
-    match advanced(&rt, alloc, &mut board) {
-        Err(Refusal::OutOfMemory) => advanced(&rt, alloc, &mut board)?,
+    match advanced(&rt, alloc, &mut board, (0, 1)) {
+        Err(Refusal::OutOfMemory) => advanced(&rt, alloc, &mut board, (0, 1))?,
         done => done?,
     }
     assert_eq!(rt; fed(&rt, alloc, &mut board), Err(Refusal::TimePassed));
@@ -97,6 +159,25 @@ fn answers_take_memory(rt: HostRuntime) -> Result<(), Fail> {
         done => done?,
     };
     assert!(rt; answered && board.is_quiet());
+    Ok(())
+}
+
+#[test]
+fn giving_up_times_takes_memory(rt: HostRuntime) -> Result<(), Fail> {
+    let alloc = rt.alloc();
+    let mut board = match opened(alloc) {
+        Err(Refusal::OutOfMemory) => opened(alloc)?,
+        done => done?,
+    };
+    let given_up = match is_given_up(&rt, alloc, &mut board) {
+        Err(Refusal::OutOfMemory) => is_given_up(&rt, alloc, &mut board)?,
+        done => done?,
+    };
+    assert!(rt; given_up);
+    match allowed(&rt, alloc, &mut board, (3, 9)) {
+        Err(Refusal::OutOfMemory) => return Ok(()),
+        done => assert_eq!(rt; done, Err(Refusal::NotForward)),
+    }
     Ok(())
 }
 
