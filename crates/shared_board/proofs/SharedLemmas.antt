@@ -19,10 +19,10 @@ use Rattle.machine.specs.Histories.{actor_of, next_state}
 use Rattle.machine.specs.Histories.Promises.{changes_in}
 use Rattle.machine.specs.Boards.Inputs.{feed_faults, advance_faults}
 use Rattle.machine.specs.Boards as boards
-use Rattle.machine.specs.Boards.{BoardState, Stands, after_look, after_feed, after_advance, after_take, after_turn, after_give}
+use Rattle.machine.specs.Boards.{BoardState, Stands, after_look, after_feed, after_advance, after_allow, after_take, after_turn, after_give}
 use Rattle.shared_board.specs.declared.event.Doing.{Doing}
 use Rattle.shared_board.specs.Large.{HasNoSmallBound}
-use Rattle.shared_board.specs.Tenures.{Terms, SharedState, events, terms_of_board, doing, is_change, AreOn, left_by, StandsFor, feed_refusal_in, advance_refusal_in}
+use Rattle.shared_board.specs.Tenures.{Terms, SharedState, events, terms_of_board, doing, is_change, AreOn, left_by, StandsFor, feed_refusal_in, advance_refusal_in, allow_refusal_in}
 
 true_among : (a b : Bool) → (a || b) ≡ true → (a ≡ true) ⊎ (b ≡ true)
 true_among true b e = inl refl
@@ -91,6 +91,12 @@ module _ {T : Type 0} (below : T → T → Bool) (minimum : T) (cmp : T → T �
   advanced b c client i ts (Err refusal) there done looks = looked b c client looks
   advanced b c client i ts (Ok x) there done looks = subst (λ (d : BoardState T). GoesOn b d client) (sym done)
       (λ extends es a. one_more_but_fed b (record b { board = after_advance client i ts b.board }) client (Advance client i ts) es a refl refl (λ _. there) (extends (events es) a.stands) refl refl refl)
+
+  pub allowed : (b : SharedState T) (c : BoardState T) (client v : ℕ) (ts : List T) (r : Result (Unit {0}) Refusal) → client < b.actors
+      → OnOk r (c ≡ after_allow client v ts b.board) → OnErr r (c ≡ after_look client b.board) → GoesOn b c client
+  allowed b c client v ts (Err refusal) there done looks = looked b c client looks
+  allowed b c client v ts (Ok x) there done looks = subst (λ (d : BoardState T). GoesOn b d client) (sym done)
+      (λ extends es a. one_more_but_fed b (record b { board = after_allow client v ts b.board }) client (Allow client v ts) es a refl refl (λ _. there) (extends (events es) a.stands) refl refl refl)
 
   -- after a change that was counted, the entry of the board's last event is right
   abbrev pub Counts : SharedState T → BoardState T → ℕ → Option ℕ → Type 0
@@ -195,3 +201,7 @@ module _ {T : Type 0} (below : T → T → Bool) (minimum : T) (cmp : T → T �
   pub same_advance_refusal : (b : SharedState T) (i : ℕ) (ts : List T) (es : List (Entry (Doing T))) → StandsFor below minimum cmp b es
       → boards.advance_refusal below b.board i ts ≡ advance_refusal_in below (left_by below minimum b.board.dataflow es) i ts
   same_advance_refusal b i ts es a = λ j. first_refusal (advance_faults below (a.stands.open_times i j) ts)
+
+  pub same_allow_refusal : (b : SharedState T) (v : ℕ) (ts : List T) (es : List (Entry (Doing T))) → v < length b.board.dataflow.nodes → StandsFor below minimum cmp b es
+      → boards.allow_refusal below b.board v ts ≡ allow_refusal_in below (left_by below minimum b.board.dataflow es) v ts
+  same_allow_refusal b v ts es within a = λ j. first_refusal (advance_faults below (a.stands.since v within j) ts)

@@ -111,12 +111,15 @@ module _ {T : Type 0} where
       pub large : IsTrue b.too_large → HasNoSmallBound below cmp b.board.dataflow.nodes (changes_in (left_by b.board.dataflow es))
 
   module _ (below : T → T → Bool) where
-    -- the refusal of a change in a state, and of a new frontier of an input
+    -- the refusal of a change in a state, of a new frontier of an input, and of a new since of a view
     abbrev pub feed_refusal_in : Dataflow → State T → Fed T → Option Refusal
     feed_refusal_in p w f = first_refusal (feed_faults below p.nodes (open_at f.input w.open_times) (length (fed_to f.input w.fed)) f)
 
     abbrev pub advance_refusal_in : State T → ℕ → List T → Option Refusal
     advance_refusal_in w i ts = first_refusal (advance_faults below (open_at i w.open_times) ts)
+
+    abbrev pub allow_refusal_in : State T → ℕ → List T → Option Refusal
+    allow_refusal_in w v ts = first_refusal (advance_faults below (w.since v) ts)
 
     -- the refusal of a read of a view in a state, and of a view's changes
     abbrev pub read_refusal_in : Dataflow → State T → ℕ → T → Option Refusal

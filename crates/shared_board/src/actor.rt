@@ -13,7 +13,7 @@ ghost use Rattle.update.specs.Refusals.{IsRefusalBy};
 ghost use Rattle.update.specs.declared.refusal.Refusal.TheVariants.{OutOfMemory};
 ghost use Rattle.plan.specs.Changes.{has_passed};
 ghost use Rattle.plan.specs.Nodes.{is_output};
-ghost use Rattle.machine.specs.declared.histories.event.Event.TheVariants.{Advance, Feed, Give, Look, Take, TakeHeld};
+ghost use Rattle.machine.specs.declared.histories.event.Event.TheVariants.{Advance, Allow, Feed, Give, Look, Take, TakeHeld};
 ghost use Rattle.machine.specs.Histories.{IsGive, IsInput};
 ghost use Rattle.machine.specs.Histories.Dataflows.{node_of};
 ghost use Rattle.machine.specs.Histories.Outstanding.{frontier};
@@ -21,7 +21,7 @@ ghost use Rattle.machine.specs.Histories.Promises.{changes_in};
 ghost use Rattle.machine.specs.Histories.States.{change_to, held_at, place, queue};
 ghost use Rattle.shared_board.specs.Found.{AreDifferencesFound, IsChangesRefusalFound, IsReadRefusalFound, WasQuiet, WasTooLarge, changes_refusal_found, feed_refusal_found, frontier_found, input_frontier_found, query_found, read_refusal_found};
 ghost use Rattle.shared_board.specs.Large.{HasNoSmallBound};
-ghost use Rattle.shared_board.specs.Tenures.{Adds, IsActor, IsFirst, WaitsOrNotIn, terms_for, terms_in, state_found, state_left, advance_refusal_in};
+ghost use Rattle.shared_board.specs.Tenures.{Adds, IsActor, IsFirst, WaitsOrNotIn, terms_for, terms_in, state_found, state_left, advance_refusal_in, allow_refusal_in};
 
 use crate::protocol::BoardProtocol;
 use antichain::Antichain;
@@ -191,6 +191,32 @@ impl<T: Minimum, P: BoardProtocol<T>> Actor<T, P> {
         board.close(self.number, input);
         self.accepted = board.accepted();
         self.pass = Some(tenure.leave());
+    }
+
+    /// Readers of a view give up its past: from then on it may be read only at times beyond these.
+    /// Refused as `Board::allow` says; then the event is a look. Takes no memory.
+    pub fn allow<R: Wait>(&mut self, rt: &R, view: NodeId, times: Times<T>) -> Result<(), Refusal>
+        requires client { (terms_in self.old.seen).dataflow.workers ≤ self.old.number }
+        requires within { view < length (terms_in self.old.seen).dataflow.nodes }
+        requires view { IsTrue (is_output (node_of (terms_in self.old.seen).dataflow view)) }
+        ensures allowed { OnOk result
+            (Adds self.old (Allow self.old.number view times) self.new) }
+        ensures unchanged { OnErr result (Adds self.old (Look self.old.number) self.new) }
+        ensures accepted { OnOk result
+            (allow_refusal_in T.below (state_found T.below T.least self.new) view times ≡ None) }
+        ensures refused { IfErr result (λ refusal.
+            allow_refusal_in T.below (state_found T.below T.least self.new) view times
+            ≡ Some refusal) }
+    {
+        let Some(pass) = self.pass.take() else {
+            unreachable!()
+        };
+        let mut tenure = self.hub.enter(rt, pass);
+        let board = tenure.state();
+        let answer = board.allow(self.number, view, times);
+        self.accepted = board.accepted();
+        self.pass = Some(tenure.leave());
+        answer
     }
 
     /// The frontier of a view. Refused only with `OutOfMemory`.

@@ -18,7 +18,7 @@ ghost use Rattle.update.specs.Refusals.{IsRefusalBy};
 ghost use Rattle.update.specs.declared.refusal.Refusal.TheVariants.{OutOfMemory};
 ghost use Rattle.plan.specs.Changes.{AreDifferences, has_passed, query_at};
 ghost use Rattle.plan.specs.Nodes.{is_output};
-ghost use Rattle.machine.specs.declared.histories.event.Event.TheVariants.{Advance, Feed, Give, Look, Take, TakeHeld};
+ghost use Rattle.machine.specs.declared.histories.event.Event.TheVariants.{Advance, Allow, Feed, Give, Look, Take, TakeHeld};
 ghost use Rattle.machine.specs.Histories.{IsInput, IsGive};
 ghost use Rattle.machine.specs.Histories.Dataflows.{node_of};
 ghost use Rattle.machine.specs.Histories.Outstanding.{frontier, input_frontier};
@@ -27,7 +27,7 @@ ghost use Rattle.machine.specs.Histories.Readings.{IsQuiet};
 ghost use Rattle.machine.specs.Histories.States.{change_to, held_at, place, queue};
 ghost use Rattle.shared_board.specs.declared.event.Doing.{Doing};
 ghost use Rattle.shared_board.specs.Large.{HasNoSmallBound};
-ghost use Rattle.shared_board.specs.Tenures.{IsKeptBeside, StandsFor, WaitsOrNot, doing, left_by, terms_for, terms_of_board, feed_refusal_in, advance_refusal_in, read_refusal_in, changes_refusal_in, IsReadRefusalIn, IsChangesRefusalIn};
+ghost use Rattle.shared_board.specs.Tenures.{IsKeptBeside, StandsFor, WaitsOrNot, doing, left_by, terms_for, terms_of_board, feed_refusal_in, advance_refusal_in, allow_refusal_in, read_refusal_in, changes_refusal_in, IsReadRefusalIn, IsChangesRefusalIn};
 
 use antichain::Antichain;
 use lattice::Minimum;
@@ -199,6 +199,32 @@ impl<T: Minimum> SharedBoard<T> {
             (entry client (doing (terms_of_board self.old) self.new.board.last) ∷ es) }
     {
         self.board.close(client, input);
+    }
+
+    /// Readers of a view give up its past. Refused as [`Board::allow`] says; then the event is a
+    /// look. Takes no memory.
+    pub fn allow(&mut self, client: usize, view: NodeId, times: Times<T>) -> Result<(), Refusal>
+        requires client { self.old.board.dataflow.workers ≤ client }
+        requires actor { client < self.old.actors }
+        requires within { view < length self.old.board.dataflow.nodes }
+        requires view { IsTrue (is_output (node_of self.old.board.dataflow view)) }
+        ensures terms { terms_of_board self.new ≡ terms_of_board self.old }
+        ensures beside { IsKeptBeside self.old self.new }
+        ensures allowed { OnOk result (self.new.board.last ≡ Allow client view times) }
+        ensures unchanged { OnErr result (self.new.board.last ≡ Look client) }
+        ensures stands { (es : List (Entry (Doing T))) → StandsFor T.below T.least T.cmp self.old es
+            → StandsFor T.below T.least T.cmp self.new
+            (entry client (doing (terms_of_board self.old) self.new.board.last) ∷ es) }
+        ensures accepted { (es : List (Entry (Doing T)))
+            → StandsFor T.below T.least T.cmp self.old es
+            → OnOk result (allow_refusal_in T.below
+            (left_by T.below T.least self.old.board.dataflow es) view times ≡ None) }
+        ensures refused { (es : List (Entry (Doing T)))
+            → StandsFor T.below T.least T.cmp self.old es
+            → IfErr result (λ refusal. allow_refusal_in T.below
+            (left_by T.below T.least self.old.board.dataflow es) view times ≡ Some refusal) }
+    {
+        self.board.allow(client, view, times)
     }
 
     /// The frontier of a view. The event is a look. Refused only with `OutOfMemory`.
