@@ -22,3 +22,4 @@ pub mod CutLemmas
 pub mod GraphLemmas
 pub mod ViewLemmas
 pub mod CapturedLemmas
+pub mod PieceLemmas
