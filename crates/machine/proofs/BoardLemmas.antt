@@ -21,3 +21,4 @@ pub mod RoutingLemmas
 pub mod CutLemmas
 pub mod GraphLemmas
 pub mod AllowLemmas
+pub mod PieceLemmas

@@ -20,6 +20,7 @@ pub(crate) mod emission;
 pub(crate) mod frontiers;
 pub(crate) mod graph;
 pub(crate) mod inputs;
+pub(crate) mod pieces;
 pub(crate) mod promises;
 pub(crate) mod queue;
 pub(crate) mod reads;

@@ -40,6 +40,7 @@ pub use board::Board;
 pub use board::cut_emission::CutEmission;
 pub use board::emission::Ungiven;
 pub use board::inputs::{InputFrontiers, MAX_CHANGES, MAX_DIFFERENCE};
+pub use board::pieces::Piece;
 pub use board::promises::{later_sinces_keep_sums, meets};
 pub use board::routing::Routing;
 pub use histories::event::{

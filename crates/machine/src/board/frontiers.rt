@@ -418,7 +418,7 @@ impl<T: Minimum> Board<T> {
     }
 
     // Answers `is_ready` for a board that is only borrowed.
-    fn holds_passed(&self, worker: usize, node: NodeId) -> bool
+    pub(crate) fn holds_passed(&self, worker: usize, node: NodeId) -> bool
         requires { node < length self.now.dataflow.nodes }
         ensures value { result ≡ is_ready T.below self.now worker node }
         ensures board { IsBoard self.now }

@@ -1,0 +1,11 @@
+use Rattle.std.proofs.Common.{◌≡◌, ◌+◌, length}
+use Rattle.std.specs.List.{flat_map}
+use Rattle.plan.specs.Ancestors.{numbers_below}
+use Rattle.machine.specs.Boards.Pieces.{pieces_at}
+use Rattle.machine.proofs.board.Board.find.Given as goal
+
+-- the number is past the pieces of the nodes so far, by what is left of it
+abbrev pub invariant-loop-n : goal.invariant-loop-n
+invariant-loop-n g l =
+    let below = g.T.PartialOrder.below in
+    l.number ≡ length (flat_map (pieces_at below l.self l.worker) (numbers_below l.n)) + l.left

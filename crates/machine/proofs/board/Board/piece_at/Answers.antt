@@ -1,0 +1,15 @@
+use Rattle.machine.specs.Boards.Pieces.{IsPiece, MayTakeOn}
+use Rattle.machine.proofs.BoardLemmas.PieceLemmas.{on_some, piece_allowed, no_piece}
+use Rattle.machine.proofs.board.Board.piece_at.Goals as goal
+
+pub returns-clause-stands : goal.returns-clause-stands
+returns-clause-stands g c h s =
+    let below = g.T.PartialOrder.below in
+    let b = c.args.self.now in
+    on_some c.pick.result (IsPiece below b c.args.worker) (MayTakeOn below g.T.Minimum.least b h c.args.worker)
+    (piece_allowed below g.met.T.PartialOrder.order g.T.Minimum.least b c.pick.ensures.board h s c.args.worker c.requires)
+    c.pick.ensures.piece
+
+pub returns-clause-idle : goal.returns-clause-idle
+returns-clause-idle g c h s e =
+    no_piece g.T.PartialOrder.below g.met.T.PartialOrder.order g.T.Minimum.least c.args.self.now c.pick.ensures.board h s c.args.worker (c.pick.ensures.none e)
