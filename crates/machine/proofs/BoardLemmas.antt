@@ -19,6 +19,5 @@ pub mod FoundLemmas
 pub mod ReadLemmas
 pub mod RoutingLemmas
 pub mod CutLemmas
-pub mod GraphLemmas
 pub mod AllowLemmas
 pub mod PieceLemmas

@@ -8,7 +8,6 @@ pub mod Inputs
 pub mod Reads
 pub mod Routings
 pub mod CutEmissions
-pub mod Graphs
 pub mod Pieces
 use Rattle.std.specs.Prelude.{◌≡◌, ℕ, suc, ◌<◌, ◌≤◌, Bool, ◌||◌, if◌then◌else◌, List, [], ◌∷◌, ◌++◌, length, set, get_or, replicate, Option, Some, None, IsTrue, ⊤}
 use Rattle.lattice.specs.Frontiers.{is_beyond}

@@ -12,27 +12,10 @@ use Rattle.plan.specs.declared.edges.Edge.{Edge}
 use Rattle.plan.specs.declared.node.Node.{Node}
 use Rattle.plan.specs.declared.node.Node.TheVariants.{Input}
 use Rattle.plan.proofs.PlanLemmas.{has_source, source_smaller}
+use Rattle.progress.proofs.NumberLemmas.{numbers_long, number_at}
 use Rattle.machine.specs.Histories.Dataflows.{Dataflow, node_of}
 use Rattle.machine.specs.Boards.Routings.{IsRouting}
 use Rattle.machine.proofs.HistoryLemmas.CuttingLemmas.{source_there}
-
--- ---- the numbers below a number
-
--- there are n numbers below n
-pub numbers_long : (n : ℕ) → length (numbers_below n) ≡ n
-numbers_long zero = refl
-numbers_long (suc n) = let e = numbers_long n in length-append (numbers_below n) (n ∷ []) ∙ omega (arith, e)
-
--- the number at a position is the position
-pub number_at : (n k d : ℕ) → k < n → get_or (numbers_below n) k d ≡ k
-number_at zero k d l = absurd (omega (arith, l))
-number_at (suc n) k d l =
-    ⊎_elim
-    (λ m. get_or_append_left (numbers_below n) (n ∷ []) d k (subst (λ z. k < z) (sym (numbers_long n)) m) ∙ number_at n k d m)
-    (λ m.
-    let same : k ≡ n = omega (arith, l, m) in
-    ap (λ j. get_or (numbers_below n ++ n ∷ []) j d) same ∙ (get_or_at (numbers_below n) n [] d n (numbers_long n) ∙ sym same))
-    (cases_lt k n)
 
 -- ---- how the tables are built
 

@@ -18,12 +18,12 @@ ghost use Rattle.machine.specs.Boards.Inputs.{front_at};
 ghost use Rattle.machine.specs.Boards.Reads.{open_on, front, input_front, is_ready};
 
 use crate::board::Board;
-use crate::board::graph::Graph;
 use crate::board::inputs::InputFrontiers;
 use crate::board::stations::Stations;
 use antichain::{Antichain, is_beyond};
 use lattice::Minimum;
 use plan::NodeId;
+use progress::Graph;
 use std::alloc::Global;
 use update::Refusal;
 
