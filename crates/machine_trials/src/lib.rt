@@ -7,3 +7,5 @@
 mod grammar_tests;
 #[cfg(test)]
 mod machine_tests;
+#[cfg(test)]
+mod piece_tests;

@@ -1,0 +1,205 @@
+//! The pieces that a worker may take, told by number: the order in which a caller meets them.
+use lattice::Bitime;
+use machine::{Board, Emission, Piece, Routing, Site};
+use plan::{Kind, NodeId};
+use row::Row;
+use std::alloc::Global;
+use std::process::Abort;
+use std::test::Fail;
+use trials::sketches::{at, reduction};
+use update::{Refusal, Times, Update};
+
+// The client's number, which is greater than that of the worker.
+const CLIENT: usize = 7;
+
+// The nodes of the plan: an input, arranged, and its counts.
+const INPUT: usize = 0;
+
+const ARRANGED: usize = 1;
+
+const COUNTS: usize = 2;
+
+// Feeds the row 7 at a time. The asserts show what `feed` requires.
+fn fed(
+    rt: &impl Abort,
+    alloc: Global,
+    board: &mut Board<Bitime>,
+    time: (u64, u64),
+) -> Result<(), Refusal> {
+    let input = NodeId::new(INPUT);
+    let there = input.number() < board.plan().len();
+    assert!(rt; there);
+    let is_input = board.plan().node(input).is_input();
+    assert!(rt; is_input);
+    let is_client = board.workers() <= CLIENT;
+    assert!(rt; is_client);
+    let update = Update {
+        time: at(time),
+        row: Row::new(alloc, &[7])?,
+        diff: 1,
+    };
+    board.feed(CLIENT, input, update)
+}
+
+// Moves the frontier of the input to a time.
+fn advanced(
+    rt: &impl Abort,
+    alloc: Global,
+    board: &mut Board<Bitime>,
+    time: (u64, u64),
+) -> Result<(), Refusal> {
+    let input = NodeId::new(INPUT);
+    let there = input.number() < board.plan().len();
+    assert!(rt; there);
+    let is_input = board.plan().node(input).is_input();
+    assert!(rt; is_input);
+    let is_client = board.workers() <= CLIENT;
+    assert!(rt; is_client);
+    let mut times = Vec::new(alloc);
+    times.push(at(time))?;
+    board.advance(CLIENT, input, times.into())
+}
+
+// Takes the first bundle that waits at a node, and gives its updates there.
+fn passed_on(
+    rt: &impl Abort,
+    alloc: Global,
+    board: &mut Board<Bitime>,
+    node: usize,
+) -> Result<(), Refusal> {
+    let site = Site {
+        node: NodeId::new(node),
+        port: 0,
+        worker: 0,
+    };
+    let waits = board.waiting(&site) > 0;
+    assert!(rt; waits);
+    board.known();
+    let is_free = board.in_hand(0).is_none();
+    assert!(rt; is_free);
+    let bundle = board.take(site, 0)?;
+    let given = Emission {
+        node: NodeId::new(node),
+        worker: 0,
+        updates: bundle.updates,
+    };
+    gave(rt, alloc, board, given, Vec::new(alloc).into())
+}
+
+// Takes the first bundle that waits at the counts, and gives nothing, so the worker still holds the
+// bundle's time.
+fn held_on(
+    rt: &impl Abort,
+    alloc: Global,
+    board: &mut Board<Bitime>,
+    time: (u64, u64),
+) -> Result<(), Refusal> {
+    let site = Site {
+        node: NodeId::new(COUNTS),
+        port: 0,
+        worker: 0,
+    };
+    let waits = board.waiting(&site) > 0;
+    assert!(rt; waits);
+    board.known();
+    let is_free = board.in_hand(0).is_none();
+    assert!(rt; is_free);
+    let _bundle = board.take(site, 0)?;
+    let given = Emission {
+        node: NodeId::new(COUNTS),
+        worker: 0,
+        updates: Vec::new(alloc).into(),
+    };
+    let mut held = Vec::new(alloc);
+    held.push(at(time))?;
+    gave(rt, alloc, board, given, held.into())
+}
+
+// Gives this, and holds these times at the node from then on.
+fn gave(
+    rt: &impl Abort,
+    alloc: Global,
+    board: &mut Board<Bitime>,
+    given: Emission<Bitime>,
+    held: Times<Bitime>,
+) -> Result<(), Refusal> {
+    board.known();
+    let there = given.node.number() < board.plan().len() && given.worker == 0;
+    assert!(rt; there);
+    let routing = Routing::of(alloc, board.plan(), 1)?;
+    let Ok(cut) = routing.cut(alloc, given) else {
+        return Err(Refusal::OutOfMemory);
+    };
+    match board.give(cut, held) {
+        Ok(()) => Ok(()),
+        Err(_ungiven) => Err(Refusal::OutOfMemory),
+    }
+}
+
+// A board of one worker. Two changes wait at the input, two bundles at the arrange node, and at the
+// counts the worker holds a time that has passed.
+fn prepared(rt: &impl Abort, alloc: Global) -> Result<Board<Bitime>, Refusal> {
+    let mut board = Board::open(alloc, reduction(alloc, 1, Kind::Count)?, 1)?;
+    fed(rt, alloc, &mut board, (0, 0))?;
+    passed_on(rt, alloc, &mut board, INPUT)?;
+    passed_on(rt, alloc, &mut board, ARRANGED)?;
+    held_on(rt, alloc, &mut board, (0, 0))?;
+    for _change in 0..2 {
+        fed(rt, alloc, &mut board, (0, 1))?;
+        passed_on(rt, alloc, &mut board, INPUT)?;
+    }
+    fed(rt, alloc, &mut board, (0, 1))?;
+    fed(rt, alloc, &mut board, (0, 1))?;
+    advanced(rt, alloc, &mut board, (0, 1))?;
+    Ok(board)
+}
+
+// Whether a pick is answered with the bundle of a number at a node, or with the times held there if
+// there is no number.
+fn is_told(
+    rt: &impl Abort,
+    board: &mut Board<Bitime>,
+    pick: usize,
+    node: usize,
+    number: Option<usize>,
+) -> bool {
+    let is_staffed = board.workers() > 0;
+    assert!(rt; is_staffed);
+    match &board.piece_at(0, pick) {
+        Some(Piece::Waiting { site, number: n }) => {
+            site.node == NodeId::new(node) && site.port == 0 && number == Some(*n)
+        }
+        Some(Piece::Held { node: n }) => *n == NodeId::new(node) && number.is_none(),
+        None => false,
+    }
+}
+
+// Only the first change at the input is told, both bundles at the arrange node, and held times
+// last. The number after the last tells the first again, and one less than a multiple of 4 the
+// last.
+#[test]
+fn pieces_are_told_in_order(rt: HostRuntime) -> Result<(), Fail> {
+    let mut board = prepared(&rt, rt.alloc())?;
+    let told = [
+        (0, INPUT, Some(0)),
+        (1, ARRANGED, Some(0)),
+        (2, ARRANGED, Some(1)),
+        (3, COUNTS, None),
+        (4, INPUT, Some(0)),
+        (232792559, COUNTS, None),
+    ];
+    for (pick, node, number) in told {
+        assert!(rt; is_told(&rt, &mut board, pick, node, number));
+    }
+    Ok(())
+}
+
+#[test]
+fn an_idle_board_has_no_pieces(rt: HostRuntime) -> Result<(), Fail> {
+    let alloc = rt.alloc();
+    let mut board: Board<Bitime> = Board::open(alloc, reduction(alloc, 1, Kind::Count)?, 1)?;
+    let is_staffed = board.workers() > 0;
+    assert!(rt; is_staffed);
+    assert!(rt; board.piece_at(0, 5).is_none() && board.pieces(0) == 0);
+    Ok(())
+}
