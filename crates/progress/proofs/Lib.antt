@@ -5,3 +5,8 @@ pub mod CountLemmas
 pub mod ItemLemmas
 pub mod FrontierLemmas
 pub mod PortLemmas
+pub mod KeptLemmas
+pub mod ChangeLemmas
+pub mod MarkLemmas
+pub mod ScopeLemmas
+pub mod CurrentLemmas

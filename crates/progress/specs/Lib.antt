@@ -2,3 +2,4 @@
 pub mod Tallies
 pub mod Scopes
 pub mod Graphs
+pub mod Kept
