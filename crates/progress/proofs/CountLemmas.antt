@@ -124,6 +124,18 @@ module _ {T : Type 0} where
       ∙ (sym (ap (λ n. cond (test y) (suc n) n) (one_more test zs z))
       ∙ sym (one_more test (z ∷ zs) y)))))))
 
+  -- an item set in a place is that item and the others
+  pub set_counts : (xs : List (Counted T)) (i : ℕ) (y : Counted T) → i < length xs → SameCounts (y ∷ remove xs i) (slice_set xs i y)
+  set_counts [] i y l test = absurd (omega (arith, l))
+  set_counts (z ∷ zs) zero y l test = refl
+  set_counts (z ∷ zs) (suc i) y l test =
+      one_more test (z ∷ remove zs i) y
+      ∙ (ap (λ n. cond (test y) (suc n) n) (one_more test (remove zs i) z)
+      ∙ (swapped (test y) (test z) (length (filter test (remove zs i)))
+      ∙ (sym (ap (λ n. cond (test z) (suc n) n) (one_more test (remove zs i) y))
+      ∙ (ap (λ n. cond (test z) (suc n) n) (set_counts zs i y (omega (arith, l)) test)
+      ∙ sym (one_more test (slice_set zs i y) z)))))
+
 or_swap : (a b c : Bool) → ((a || b) || c) ≡ (b || (a || c))
 or_swap true true c = refl
 or_swap true false c = refl

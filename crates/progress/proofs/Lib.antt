@@ -6,3 +6,8 @@ pub mod SeveralLemmas
 pub mod ItemLemmas
 pub mod FrontierLemmas
 pub mod PortLemmas
+pub mod KeptLemmas
+pub mod ChangeLemmas
+pub mod MarkLemmas
+pub mod ScopeLemmas
+pub mod CurrentLemmas

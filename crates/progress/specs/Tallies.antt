@@ -1,7 +1,7 @@
 -- What is outstanding, counted, and the frontiers that follow from it (Murray et al., Naiad, SOSP
 -- 2013, section 2.3; Abadi, McSherry, Murray and Rodeheffer, Formal Analysis of a Distributed
 -- Algorithm for Tracking Progress, 2013).
-use Rattle.std.specs.Prelude.{◌≡◌, ℕ, ◌<◌, Bool, false, not, ◌&&◌, ◌||◌, eqb, if◌then◌else◌, IsTrue, List, [], ◌∷◌, Option, Some, None, ◌⊎◌, Contains, length, slice_get}
+use Rattle.std.specs.Prelude.{◌≡◌, ℕ, ◌+◌, min, ◌<◌, Bool, true, false, not, ◌&&◌, ◌||◌, eqb, if◌then◌else◌, IsTrue, List, [], ◌∷◌, Option, Some, None, ◌⊎◌, Contains, length, get_or, slice_get}
 use Rattle.std.specs.List.{filter, flat_map}
 use Rattle.antichain.specs.Antichains.{least}
 use Rattle.plan.specs.Ancestors.{reaches}
@@ -12,10 +12,21 @@ use Rattle.progress.specs.declared.place.Place.{Place}
 use Rattle.progress.specs.declared.place.Place.TheVariants.{Port, Held, Input}
 use Rattle.progress.specs.declared.counted.Counted.{Counted}
 
--- what a contract sees of a tally: the nodes of its plan, and what it counts
+-- what a contract sees of a tally: the nodes of its plan, what it counts, by node whether what is
+-- kept of it is out of date, and how often what is kept of a node was found anew
 pub record TallyState (T : Type 0) : Type 0 where
   pub nodes : List Node
   pub items : List (Counted T)
+  pub marked : List Bool
+  pub rebuilt : ℕ
+
+-- node n is marked; what has no mark is not
+abbrev pub is_marked : List Bool → ℕ → Bool
+is_marked marked n = get_or marked n false
+
+-- the count after a question about a node: one more if the node was marked, up to the greatest u64
+abbrev pub rebuilt_after : Bool → ℕ → ℕ
+rebuilt_after was_marked rebuilt = if was_marked then min (rebuilt + 1) 18446744073709551615 else rebuilt
 
 -- each item is counted equally often in both lists, in whatever order
 abbrev pub SameCounts : {T : Type 0} → List (Counted T) → List (Counted T) → Type 0
@@ -74,6 +85,11 @@ comes_from nodes n (Some source) place = is_upstream nodes source place
 abbrev pub is_port_upstream : List Node → ℕ → ℕ → Place → Bool
 is_port_upstream nodes n port place =
     is_port n port place || comes_from nodes n (slice_get (sources (node_at nodes n)) port) place
+
+-- a mark stays, and a new one is at a node that the place reaches: at its node, or below it
+pub record AreMarksBelow (nodes : List Node) (place : Place) (old new : List Bool) : Type 0 where
+  pub stay : (n : ℕ) → is_marked old n ≡ true → is_marked new n ≡ true
+  pub below : (n : ℕ) → is_marked new n ≡ true → (is_marked old n ≡ true) ⊎ (reaches nodes (node_of place) n ≡ true)
 
 -- the times that are counted at the places that pass a test
 abbrev pub times_where : {T : Type 0} → (Place → Bool) → List (Counted T) → List T

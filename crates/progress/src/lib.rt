@@ -7,16 +7,22 @@
 //! input. A sender counts a bundle before it sends it. A worker that takes a bundle holds its
 //! times before the tally stops counting it. So at no moment is anything left out.
 //!
-//! The frontier of a node is the least of what is counted at the node or above it. That is the
-//! definition, and here it is also the code: a tally is a plain list, and each question goes over
-//! all of it. Nothing is kept from one question to the next, so nothing can be out of date. The
-//! three kinds of frontier differ only in which places they count ([`Tally::frontier`],
-//! [`Tally::input_frontier_of`], [`Tally::input_frontier`]).
+//! The frontier of a node is the least of what is counted at the node or above it. The three kinds
+//! of frontier differ only in which places they count ([`Tally::frontier`],
+//! [`Tally::input_frontier_of`], [`Tally::input_frontier`]). To go over all that is counted at each
+//! question costs more the more is in flight, so the tally keeps the frontiers of each node that
+//! somebody asks about. The one invariant: what is kept of a node is right, or the node is marked.
+//!
+//! A time more is inserted into what is kept. A time less is harder: whether the frontier moves
+//! depends on all else that is counted. But it can move only if the time is one of its elements.
+//! Otherwise some element is before the time, that element is still counted, and the frontier is
+//! what it was. So a time that is an element marks the node, and the next question finds its
+//! frontiers anew; any other time costs nothing more. [`Tally::rebuilt`] counts how often a node was
+//! found anew. At first all nodes are marked, so a node that nobody asks about is never found.
 //!
 //! Of what is counted, a contract says only how often each item occurs, and nothing of the order.
 //! [`counts_determine_frontiers`] proves that no frontier depends on more than that. Questions
-//! borrow the tally mutably, though this one changes nothing. So a tally that keeps counts in a
-//! tree and frontiers beside them can take its place under the same contracts.
+//! borrow the tally mutably, since they change what is kept.
 //!
 //! A [`Capability`] is the right to give updates at a place at a time or later. The tally counts
 //! it as long as it lives. It cannot be dropped: it goes back to the tally, or is given anew at a
@@ -28,11 +34,15 @@
 
 mod capability;
 mod counted;
+mod elements;
 mod graph;
+mod kept;
 mod laws;
 mod place;
+mod scan;
 mod scope;
 mod several;
+mod table;
 mod tally;
 
 pub use capability::Capability;

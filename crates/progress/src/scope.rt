@@ -1,7 +1,9 @@
 //! Which places count for a frontier of a node. The three kinds of frontier differ in nothing else,
 //! so whatever finds one is written once.
-ghost use Rattle.std.specs.Prelude.{◌≡◌, ◌<◌, IfSome, length};
-ghost use Rattle.progress.specs.Tallies.{is_upstream, comes_from};
+ghost use Rattle.std.specs.Prelude.{◌≡◌, ◌<◌, IfSome, false, length};
+ghost use Rattle.plan.specs.Ancestors.{reaches};
+ghost use Rattle.progress.specs.Tallies.{node_of, is_upstream, comes_from};
+ghost use Rattle.progress.specs.declared.scope.Scope.{Scope};
 ghost use Rattle.progress.specs.Scopes.{scope_node, is_in_scope};
 
 use crate::graph::Graph;
@@ -20,6 +22,17 @@ pub(crate) enum Scope {
 }
 
 impl Scope {
+    /// The node whose frontier it is. Takes no memory.
+    pub(crate) fn node(&self) -> NodeId
+        ensures { result ≡ scope_node self.now }
+    {
+        match self {
+            Scope::Output(node) => *node,
+            Scope::Input(node) => *node,
+            Scope::Port(node, _) => *node,
+        }
+    }
+
     /// Whether what is outstanding at a place counts for this frontier. Takes no memory, and
     /// constant time.
     pub(crate) fn counts(&self, graph: &Graph, place: &Place) -> bool
@@ -35,6 +48,17 @@ impl Scope {
             }
         }
     }
+}
+
+// Whether a place lies at a node or above it. Only then may it count for a frontier of the node.
+pub(crate) fn is_reached(graph: &Graph, node: NodeId, place: &Place) -> bool
+    requires { node < length graph.now }
+    ensures value { result ≡ reaches graph.now (node_of place.now) node }
+    ensures unreached { result ≡ false → (scope : Scope) → scope_node scope ≡ node
+        → is_in_scope graph.now scope place.now ≡ false }
+{
+    graph.known();
+    is_upstream(graph, node, place)
 }
 
 // Whether a place lies at a node or above it.

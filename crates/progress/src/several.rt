@@ -3,7 +3,7 @@
 //! caller that is refused memory has nothing to take back.
 ghost use Rattle.std.specs.Prelude.{◌≡◌, ◌++◌, IfErr, OnErr, OnOk};
 ghost use Rattle.update.specs.declared.refusal.Refusal.TheVariants.{OutOfMemory};
-ghost use Rattle.progress.specs.Tallies.{SameCounts};
+ghost use Rattle.progress.specs.Tallies.{AreMarksBelow, SameCounts};
 ghost use Rattle.progress.specs.Several.{items_at, AreCounted};
 
 use crate::place::Place;
@@ -22,6 +22,10 @@ impl<T: Lattice> Tally<T> {
         ensures nodes { self.new.nodes ≡ self.old.nodes }
         ensures refused { IfErr result (λ refusal. refusal ≡ OutOfMemory) }
         ensures unchanged { OnErr result (SameCounts self.new.items self.old.items) }
+        ensures marked { OnOk result (self.new.marked ≡ self.old.marked) }
+        ensures below { OnErr result
+            (AreMarksBelow self.old.nodes place.now self.old.marked self.new.marked) }
+        ensures rebuilt { self.new.rebuilt ≡ self.old.rebuilt }
     {
         for number in 0..times.len() {
             if let Err(refusal) = self.add(place.copy(), times[number]) {
@@ -41,6 +45,8 @@ impl<T: Lattice> Tally<T> {
         ensures counted { SameCounts (items_at place.now times.now ++ self.new.items)
             self.old.items }
         ensures nodes { self.new.nodes ≡ self.old.nodes }
+        ensures below { AreMarksBelow self.old.nodes place.now self.old.marked self.new.marked }
+        ensures rebuilt { self.new.rebuilt ≡ self.old.rebuilt }
     {
         for number in 0..times.len() {
             self.remove(place, &times[number]);

@@ -1,19 +1,22 @@
-//! The tally: a plain list of what is outstanding. Its frontiers are found from the whole list at
-//! each question, so what is kept is always right.
-ghost use Rattle.std.specs.Prelude.{◌≡◌, ◌<◌, ◌||◌, [], ◌∷◌, IsTrue, IfErr, IfOk, OnErr, OnOk, Contains, length, slice_index_or};
+//! The tally: a plain list of what is outstanding, and the frontiers of those nodes that somebody
+//! asked about. What is kept of a node is right, or the node is marked.
+ghost use Rattle.std.specs.Prelude.{◌≡◌, ℕ, ◌<◌, true, not, ◌&&◌, eqb, [], ◌∷◌, IsTrue, IfErr, IfOk, OnErr, OnOk, Contains, length, slice_index_or};
 ghost use Rattle.lattice.specs.Frontiers.{is_beyond};
 ghost use Rattle.antichain.specs.Antichains.{SameElements, least};
 ghost use Rattle.update.specs.declared.refusal.Refusal.TheVariants.{OutOfMemory};
 ghost use Rattle.plan.specs.Changes.{has_passed};
 ghost use Rattle.plan.specs.Rules.{IsPlan};
-ghost use Rattle.progress.specs.Tallies.{SameCounts, times_where, frontier, input_frontier, port_frontier};
+ghost use Rattle.progress.specs.Kept.{HaveChanged, IsInserted, IsSpared};
+ghost use Rattle.progress.specs.Tallies.{AreMarksBelow, SameCounts, is_marked, times_where, frontier, input_frontier, node_of, port_frontier, rebuilt_after};
 ghost use Rattle.progress.specs.Scopes.{scope_node, is_in_scope};
 
 use crate::capability::Capability;
 use crate::counted::Counted;
 use crate::graph::Graph;
+use crate::kept::Kept;
 use crate::place::Place;
 use crate::scope::Scope;
+use crate::table::{all_marked, forget_in_all, insert_in_all, mark_below};
 use antichain::Antichain;
 use lattice::Lattice;
 use plan::{NodeId, Plan};
@@ -23,38 +26,52 @@ use update::Refusal;
 
 /// What is outstanding in a dataflow, counted by place and time. The same item may be counted
 /// several times. A contract sees the nodes of the plan and a list of what is counted, and says
-/// only how often each item occurs in it.
+/// only how often each item occurs in it. It also sees by node whether the node is marked, which
+/// means that the next question about the node finds its frontiers anew.
 #[derive(Drop)]
 pub struct Tally<T: Lattice> {
     graph: Graph,
     items: Vec<Counted<T>>,
+    // By node.
+    kept: Vec<Kept<T>>,
+    rebuilt: u64,
 }
 
 impl<T: Lattice> Model for Tally<T> {
-    ghost use Rattle.plan.specs.Rules.{IsPlan};
+    ghost use Rattle.progress.specs.Kept.{IsTally, marks_of};
     ghost use Rattle.progress.specs.Tallies.{TallyState};
 
     ghost Value = { TallyState T };
 
-    ghost view = { λ t. record { nodes = t.graph; items = t.items.items } };
+    ghost view = { λ t. record {
+      nodes = t.graph;
+      items = t.items.items;
+      marked = marks_of t.kept.items;
+      rebuilt = t.rebuilt;
+    } };
 
-    ghost invariant = { λ t. IsPlan t.graph };
+    ghost invariant = { λ t. IsTally T.below t.graph t.items.items t.kept.items };
 }
 
 impl<T: Lattice> Tally<T> {
-    /// A tally of a plan that counts nothing. Refused only with `OutOfMemory`.
+    /// A tally of a plan that counts nothing. All nodes are marked. Refused only with `OutOfMemory`.
     ///
     /// Cost: the square of the nodes, of which a plan has at most 256.
     pub fn new(alloc: Global, plan: Plan) -> Result<Tally<T>, Refusal>
         ensures nodes { IfOk result (λ tally. tally.nodes ≡ plan) }
         ensures none { IfOk result (λ tally. tally.items ≡ []) }
+        ensures marked { IfOk result (λ tally. (n : ℕ) → n < length plan
+            → is_marked tally.marked n ≡ true) }
+        ensures rebuilt { IfOk result (λ tally. tally.rebuilt ≡ 0) }
         ensures refused { IfErr result (λ refusal. refusal ≡ OutOfMemory) }
     {
         let graph = Graph::of(alloc, plan)?;
-        graph.len();
+        let kept = all_marked(alloc, graph.len())?;
         Ok(Tally {
             graph,
             items: Vec::new(alloc),
+            kept,
+            rebuilt: 0,
         })
     }
 
@@ -66,38 +83,60 @@ impl<T: Lattice> Tally<T> {
         self.graph.plan()
     }
 
+    /// How often the frontiers of a node were found anew. It stays at its greatest value. Takes no
+    /// memory.
+    pub fn rebuilt(&self) -> u64
+        ensures { result ≡ self.now.rebuilt }
+    {
+        self.rebuilt
+    }
+
     /// Counts a time at a place, once more if it is counted there already. Refused only with
-    /// `OutOfMemory`, and then nothing is counted.
+    /// `OutOfMemory`, and then nothing is counted. The time is inserted into what is kept of the
+    /// nodes that count the place. If that is refused, these nodes are marked.
     ///
-    /// Cost: constant, but for the growth of the list.
+    /// Cost: constant for each node of the plan, and linear in what is kept of those that count the
+    /// place; but for the growth of lists.
     pub fn add(&mut self, place: Place, t: T) -> Result<(), Refusal>
         ensures counted { OnOk result
             (SameCounts self.new.items (record { place = place; time = t } ∷ self.old.items)) }
         ensures nodes { self.new.nodes ≡ self.old.nodes }
         ensures refused { IfErr result (λ refusal. refusal ≡ OutOfMemory) }
         ensures unchanged { OnErr result (self.new.items ≡ self.old.items) }
+        ensures marked { OnOk result (self.new.marked ≡ self.old.marked) }
+        ensures below { OnErr result
+            (AreMarksBelow self.old.nodes place self.old.marked self.new.marked) }
+        ensures rebuilt { self.new.rebuilt ≡ self.old.rebuilt }
     {
-        self.items.push(Counted { place, time: t })?;
+        if let Err(refusal) = count(&mut self.kept, &mut self.items, &self.graph, &place, t) {
+            mark_below(&mut self.kept, &self.graph, &place);
+            return Err(refusal);
+        }
         Ok(())
     }
 
-    /// Counts a time at a place once less. It must be counted there. Takes no memory.
+    /// Counts a time at a place once less. It must be counted there. Takes no memory. A node is
+    /// marked if the place counts for one of its frontiers that has the time as an element. If it is
+    /// no element, then an earlier time keeps that frontier back, and it stays what it is.
     ///
-    /// Cost: linear in what is counted.
+    /// Cost: linear in what is counted. For each node of the plan as `add`.
     pub fn remove(&mut self, place: &Place, t: &T)
         requires { Contains self.old.items (record { place = place.now; time = t.now }) }
         ensures counted { SameCounts (record { place = place.now; time = t.now } ∷ self.new.items)
             self.old.items }
         ensures nodes { self.new.nodes ≡ self.old.nodes }
+        ensures below { AreMarksBelow self.old.nodes place.now self.old.marked self.new.marked }
+        ensures rebuilt { self.new.rebuilt ≡ self.old.rebuilt }
     {
         let number = position(self.items.as_slice(), place, t);
         let _ = self.items.remove(number);
+        forget_in_all(&mut self.kept, &self.graph, place, t);
     }
 
     /// Counts a time at a place, and answers the capability for it. Refused only with
-    /// `OutOfMemory`, and then nothing is counted.
+    /// `OutOfMemory`, and then nothing is counted, as at `add`.
     ///
-    /// Cost: constant, but for the growth of the list.
+    /// Cost: that of `add`.
     pub fn hold(&mut self, place: Place, t: T) -> Result<Capability<T>, Refusal>
         ensures capability { IfOk result (λ capability.
             capability ≡ record { place = place; time = t }) }
@@ -106,6 +145,10 @@ impl<T: Lattice> Tally<T> {
         ensures nodes { self.new.nodes ≡ self.old.nodes }
         ensures refused { IfErr result (λ refusal. refusal ≡ OutOfMemory) }
         ensures unchanged { OnErr result (self.new.items ≡ self.old.items) }
+        ensures marked { OnOk result (self.new.marked ≡ self.old.marked) }
+        ensures below { OnErr result
+            (AreMarksBelow self.old.nodes place self.old.marked self.new.marked) }
+        ensures rebuilt { self.new.rebuilt ≡ self.old.rebuilt }
     {
         let kept = place.copy();
         self.add(place, t)?;
@@ -116,15 +159,19 @@ impl<T: Lattice> Tally<T> {
     }
 
     /// Gives a capability that this tally counts anew, at the same time or a later one. Takes no
-    /// memory.
+    /// memory. It marks as `remove` does. The later time need not be inserted anywhere: what keeps
+    /// the old time from being passed keeps the later one too.
     ///
-    /// Cost: linear in what is counted.
+    /// Cost: that of `remove`.
     pub fn downgrade(&mut self, capability: Capability<T>, later: T) -> Capability<T>
         requires counted { Contains self.old.items capability }
         requires later { IsTrue (T.below capability.time later) }
         ensures capability { result ≡ record capability { time = later } }
         ensures counted { SameCounts (capability ∷ self.new.items) (result ∷ self.old.items) }
         ensures nodes { self.new.nodes ≡ self.old.nodes }
+        ensures below { AreMarksBelow self.old.nodes capability.place self.old.marked
+            self.new.marked }
+        ensures rebuilt { self.new.rebuilt ≡ self.old.rebuilt }
     {
         let Capability { place, time } = capability;
         let number = position(self.items.as_slice(), &place, &time);
@@ -132,25 +179,32 @@ impl<T: Lattice> Tally<T> {
             place: place.copy(),
             time: later,
         };
+        forget_in_all(&mut self.kept, &self.graph, &place, &time);
         Capability { place, time: later }
     }
 
-    /// Ends a capability that this tally counts. Takes no memory.
+    /// Ends a capability that this tally counts. Takes no memory. It marks as `remove` does.
     ///
-    /// Cost: linear in what is counted.
+    /// Cost: that of `remove`.
     pub fn give_back(&mut self, capability: Capability<T>)
         requires { Contains self.old.items capability }
         ensures counted { SameCounts (capability ∷ self.new.items) self.old.items }
         ensures nodes { self.new.nodes ≡ self.old.nodes }
+        ensures below { AreMarksBelow self.old.nodes capability.place self.old.marked
+            self.new.marked }
+        ensures rebuilt { self.new.rebuilt ≡ self.old.rebuilt }
     {
         let Capability { place, time } = capability;
         self.remove(&place, &time);
     }
 
-    /// The frontier of a node: the least of what is outstanding at it or above it. Refused only
-    /// with `OutOfMemory`. It takes memory only if it meets five times that cannot be compared.
+    /// The frontier of a node: the least of what is outstanding at it or above it. If the node is
+    /// marked, then all that is kept of it is found anew, and it is marked no more. Otherwise the
+    /// answer is a copy of what is kept, and takes memory only for more than four elements. Refused
+    /// only with `OutOfMemory`, and then the mark is what it was.
     ///
-    /// Cost: linear in what is counted, times the elements of the frontier.
+    /// Cost: the square of the elements. If the node is marked, also linear in what is counted,
+    /// times the most elements that are met on the way.
     pub fn frontier(&mut self, node: NodeId) -> Result<Antichain<T>, Refusal>
         requires { node < length self.old.nodes }
         ensures items { self.new.items ≡ self.old.items }
@@ -160,14 +214,20 @@ impl<T: Lattice> Tally<T> {
         ensures beyond { IfOk result (λ found. (t : T) → is_beyond T.below found t
             ≡ is_beyond T.below (frontier T.below self.old.nodes self.old.items node) t) }
         ensures refused { IfErr result (λ refusal. refusal ≡ OutOfMemory) }
+        ensures unmarked { OnOk result ((n : ℕ) → is_marked self.new.marked n
+            ≡ (is_marked self.old.marked n && not (eqb n node))) }
+        ensures unanswered { OnErr result (self.new.marked ≡ self.old.marked) }
+        ensures rebuilt { OnOk result (self.new.rebuilt
+            ≡ rebuilt_after (is_marked self.old.marked node) self.old.rebuilt) }
+        ensures not_rebuilt { OnErr result (self.new.rebuilt ≡ self.old.rebuilt) }
     {
-        self.least(&Scope::Output(node))
+        self.answer(&Scope::Output(node))
     }
 
-    /// The input frontier of a node: the same, without what is held at the node itself. Refused
-    /// only with `OutOfMemory`, and takes memory as `frontier` does.
+    /// The input frontier of a node: the same, without what is held at the node itself. It is
+    /// answered, and refused, as `frontier` is.
     ///
-    /// Cost: linear in what is counted, times the elements of the frontier.
+    /// Cost: that of `frontier`.
     pub fn input_frontier_of(&mut self, node: NodeId) -> Result<Antichain<T>, Refusal>
         requires { node < length self.old.nodes }
         ensures items { self.new.items ≡ self.old.items }
@@ -177,15 +237,22 @@ impl<T: Lattice> Tally<T> {
         ensures beyond { IfOk result (λ found. (t : T) → is_beyond T.below found t
             ≡ is_beyond T.below (input_frontier T.below self.old.nodes self.old.items node) t) }
         ensures refused { IfErr result (λ refusal. refusal ≡ OutOfMemory) }
+        ensures unmarked { OnOk result ((n : ℕ) → is_marked self.new.marked n
+            ≡ (is_marked self.old.marked n && not (eqb n node))) }
+        ensures unanswered { OnErr result (self.new.marked ≡ self.old.marked) }
+        ensures rebuilt { OnOk result (self.new.rebuilt
+            ≡ rebuilt_after (is_marked self.old.marked node) self.old.rebuilt) }
+        ensures not_rebuilt { OnErr result (self.new.rebuilt ≡ self.old.rebuilt) }
     {
-        self.least(&Scope::Input(node))
+        self.answer(&Scope::Input(node))
     }
 
     /// The input frontier of one port: the least of what is in flight to it, and of what is
-    /// outstanding at its source or above; at an input, of that input's own frontier. Refused only
-    /// with `OutOfMemory`, and takes memory as `frontier` does.
+    /// outstanding at its source or above; at an input, of that input's own frontier. It is answered,
+    /// and refused, as `frontier` is. No frontier is kept of a port of 2 or more, which no node has:
+    /// it is found from what is counted at each question, and marks go as at the other ports.
     ///
-    /// Cost: linear in what is counted, times the elements of the frontier.
+    /// Cost: that of `frontier`. For a port of 2 or more always that of a marked node.
     pub fn input_frontier(&mut self, node: NodeId, port: usize) -> Result<Antichain<T>, Refusal>
         requires { node < length self.old.nodes }
         ensures items { self.new.items ≡ self.old.items }
@@ -195,60 +262,117 @@ impl<T: Lattice> Tally<T> {
         ensures beyond { IfOk result (λ found. (t : T) → is_beyond T.below found t
             ≡ is_beyond T.below (port_frontier T.below self.old.nodes self.old.items node port) t) }
         ensures refused { IfErr result (λ refusal. refusal ≡ OutOfMemory) }
+        ensures unmarked { OnOk result ((n : ℕ) → is_marked self.new.marked n
+            ≡ (is_marked self.old.marked n && not (eqb n node))) }
+        ensures unanswered { OnErr result (self.new.marked ≡ self.old.marked) }
+        ensures rebuilt { OnOk result (self.new.rebuilt
+            ≡ rebuilt_after (is_marked self.old.marked node) self.old.rebuilt) }
+        ensures not_rebuilt { OnErr result (self.new.rebuilt ≡ self.old.rebuilt) }
     {
-        self.least(&Scope::Port(node, port))
+        self.answer(&Scope::Port(node, port))
     }
 
-    /// Whether the frontier of a node has passed a time. Takes no memory.
+    /// Whether the frontier of a node has passed a time. Takes no memory, and leaves a mark.
     ///
-    /// Cost: linear in what is counted, and less if it has not passed.
+    /// Cost: linear in the elements. If the node is marked, linear in what is counted, and less if
+    /// the time is not passed.
     pub fn has_passed(&mut self, node: NodeId, t: &T) -> bool
         requires { node < length self.old.nodes }
         ensures items { self.new.items ≡ self.old.items }
         ensures nodes { self.new.nodes ≡ self.old.nodes }
         ensures value { result
             ≡ has_passed T.below (frontier T.below self.old.nodes self.old.items node) t.now }
+        ensures marked { self.new.marked ≡ self.old.marked }
+        ensures rebuilt { self.new.rebuilt ≡ self.old.rebuilt }
     {
         self.is_passed(&Scope::Output(node), t)
     }
 
-    /// Whether the input frontier of a node has passed a time. Takes no memory.
+    /// Whether the input frontier of a node has passed a time. Takes no memory, and leaves a mark.
     ///
-    /// Cost: linear in what is counted, and less if it has not passed.
+    /// Cost: that of `has_passed`.
     pub fn input_has_passed(&mut self, node: NodeId, t: &T) -> bool
         requires { node < length self.old.nodes }
         ensures items { self.new.items ≡ self.old.items }
         ensures nodes { self.new.nodes ≡ self.old.nodes }
         ensures value { result
             ≡ has_passed T.below (input_frontier T.below self.old.nodes self.old.items node) t.now }
+        ensures marked { self.new.marked ≡ self.old.marked }
+        ensures rebuilt { self.new.rebuilt ≡ self.old.rebuilt }
     {
         self.is_passed(&Scope::Input(node), t)
     }
 
-    // The least of what counts for a frontier.
-    fn least(&self, scope: &Scope) -> Result<Antichain<T>, Refusal>
-        requires { scope_node scope.now < length self.now.nodes }
+    // One of the frontiers of a node, found anew if the node is marked.
+    fn answer(&mut self, scope: &Scope) -> Result<Antichain<T>, Refusal>
+        requires { scope_node scope.now < length self.old.nodes }
+        ensures items { self.new.items ≡ self.old.items }
+        ensures nodes { self.new.nodes ≡ self.old.nodes }
         ensures least { IfOk result (λ found. SameElements found
-            (least T.below (times_where (is_in_scope self.now.nodes scope.now) self.now.items))) }
+            (least T.below (times_where (is_in_scope self.old.nodes scope.now) self.old.items))) }
         ensures beyond { IfOk result (λ found. (t : T) → is_beyond T.below found t
             ≡ is_beyond T.below
-            (least T.below (times_where (is_in_scope self.now.nodes scope.now) self.now.items)) t) }
+            (least T.below (times_where (is_in_scope self.old.nodes scope.now) self.old.items)) t) }
         ensures refused { IfErr result (λ refusal. refusal ≡ OutOfMemory) }
+        ensures unmarked { OnOk result ((n : ℕ) → is_marked self.new.marked n
+            ≡ (is_marked self.old.marked n && not (eqb n (scope_node scope.now)))) }
+        ensures unanswered { OnErr result (self.new.marked ≡ self.old.marked) }
+        ensures rebuilt { OnOk result (self.new.rebuilt
+            ≡ rebuilt_after (is_marked self.old.marked (scope_node scope.now))
+            self.old.rebuilt) }
+        ensures not_rebuilt { OnErr result (self.new.rebuilt ≡ self.old.rebuilt) }
     {
-        let mut found = Antichain::new(*self.items.allocator());
-        insert_in(&mut found, &self.graph, scope, self.items.as_slice())?;
+        let number = scope.node().number();
+        let was_marked = self.kept[number].is_marked();
+        let found = self.kept[number].answer(&self.graph, scope, self.items.as_slice())?;
+        self.rebuilt = rebuilt_after(was_marked, self.rebuilt);
         Ok(found)
     }
 
-    // Whether nothing that counts for a frontier is at or before a time. The first such item
-    // settles it, so no antichain is made.
+    // Whether nothing that counts for a frontier is at or before a time.
     fn is_passed(&self, scope: &Scope, t: &T) -> bool
         requires { scope_node scope.now < length self.now.nodes }
         ensures { result ≡ has_passed T.below (least T.below
             (times_where (is_in_scope self.now.nodes scope.now) self.now.items)) t.now }
     {
-        !is_any_in(&self.graph, scope, self.items.as_slice(), t)
+        let number = scope.node().number();
+        self.kept[number].has_passed(&self.graph, scope, self.items.as_slice(), t)
     }
+}
+
+// The count after a question about a node.
+fn rebuilt_after(was_marked: bool, rebuilt: u64) -> u64
+    ensures { result ≡ rebuilt_after was_marked rebuilt }
+{
+    if was_marked {
+        return rebuilt.saturating_add(1);
+    }
+    rebuilt
+}
+
+// Counts a time at a place. Refused only with `OutOfMemory`; then some of the nodes that count the
+// place may have the time and others not, so all of them must be marked.
+fn count<T: Lattice>(
+    kept: &mut Vec<Kept<T>>,
+    items: &mut Vec<Counted<T>>,
+    graph: &Graph,
+    place: &Place,
+    t: T,
+) -> Result<(), Refusal>
+    requires { length kept.old.items ≡ length graph.now }
+    ensures counted { OnOk result (SameCounts items.new.items
+        (record { place = place.now; time = t } ∷ items.old.items)) }
+    ensures inserted { OnOk result (HaveChanged (IsInserted T.below graph.now place.now t)
+        kept.old.items kept.new.items (length kept.old.items)) }
+    ensures spared { HaveChanged (IsSpared graph.now place.now) kept.old.items kept.new.items
+        (length kept.old.items) }
+    ensures refused { IfErr result (λ refusal. refusal ≡ OutOfMemory) }
+    ensures unchanged { OnErr result (items.new.items ≡ items.old.items) }
+{
+    insert_in_all(kept, graph, place, t)?;
+    let place = place.copy();
+    items.push(Counted { place, time: t })?;
+    Ok(())
 }
 
 // The number of an item of a place and a time. There must be one; which of several does not matter.
@@ -264,39 +388,4 @@ fn position<T: Lattice>(items: &[Counted<T>], place: &Place, t: &T) -> usize
         }
     }
     unreachable!()
-}
-
-// Inserts the times that count for a frontier.
-fn insert_in<T: Lattice>(
-    found: &mut Antichain<T>,
-    graph: &Graph,
-    scope: &Scope,
-    items: &[Counted<T>],
-) -> Result<(), Refusal>
-    requires { scope_node scope.now < length graph.now }
-    ensures beyond { OnOk result ((t : T) → is_beyond T.below found.new t
-        ≡ (is_beyond T.below found.old t
-        || is_beyond T.below (times_where (is_in_scope graph.now scope.now) items.now) t)) }
-    ensures refused { IfErr result (λ refusal. refusal ≡ OutOfMemory) }
-{
-    for item in items {
-        if scope.counts(graph, &item.place) {
-            found.insert(item.time)?;
-        }
-    }
-    Ok(())
-}
-
-// Whether some time that counts for a frontier is at or before this one.
-fn is_any_in<T: Lattice>(graph: &Graph, scope: &Scope, items: &[Counted<T>], t: &T) -> bool
-    requires { scope_node scope.now < length graph.now }
-    ensures { result
-        ≡ is_beyond T.below (times_where (is_in_scope graph.now scope.now) items.now) t.now }
-{
-    for item in items {
-        if scope.counts(graph, &item.place) && item.time.less_equal(t) {
-            return true;
-        }
-    }
-    false
 }

@@ -3,4 +3,6 @@
 #![tactic(auto)]
 
 #[cfg(test)]
+mod kept_tests;
+#[cfg(test)]
 mod tally_tests;

@@ -1,0 +1,121 @@
+//! A kept frontier, as the list of its elements. A time more that counts is inserted. A time less
+//! matters only if it is an element: otherwise some element before it keeps it back as before, and
+//! the frontier stays what it is.
+ghost use Rattle.std.specs.Prelude.{◌≡◌, ◌<◌, ◌≤◌, ◌∷◌, ◌||◌, not, false, IsTrue, IfErr, OnErr, OnOk, List, Contains, length};
+ghost use Rattle.std.specs.List.{filter};
+ghost use Rattle.std.specs.Vec.{vec_len, vec_capacity};
+ghost use Rattle.lattice.specs.Frontiers.{is_beyond};
+ghost use Rattle.update.specs.declared.refusal.Refusal.TheVariants.{OutOfMemory};
+ghost use Rattle.progress.specs.declared.counted.Counted.{Counted};
+ghost use Rattle.progress.specs.Kept.{IsFront};
+ghost use Rattle.progress.specs.Scopes.{scope_node, is_in_scope};
+
+use crate::counted::Counted;
+use crate::graph::Graph;
+use crate::place::Place;
+use crate::scan::insert_times;
+use crate::scope::Scope;
+use antichain::is_beyond;
+use lattice::Lattice;
+use update::Refusal;
+
+// Finds a frontier anew, from all that is counted. Refused only with `OutOfMemory`.
+pub(crate) fn find<T: Lattice>(
+    elements: &mut Vec<T>,
+    graph: &Graph,
+    scope: &Scope,
+    items: &[Counted<T>],
+) -> Result<(), Refusal>
+    requires { scope_node scope.now < length graph.now }
+    ensures front { OnOk result (IsFront T.below graph.now items.now scope.now elements.new.items) }
+    ensures refused { IfErr result (λ refusal. refusal ≡ OutOfMemory) }
+{
+    elements.clear();
+    insert_times(elements, graph, scope, items)?;
+    Ok(())
+}
+
+// A time more is counted at a place. Refused only with `OutOfMemory`.
+pub(crate) fn insert_where<T: Lattice>(
+    elements: &mut Vec<T>,
+    graph: &Graph,
+    scope: &Scope,
+    place: &Place,
+    t: T,
+) -> Result<(), Refusal>
+    requires { scope_node scope.now < length graph.now }
+    ensures front { OnOk result ((items : List (Counted T))
+        → IsFront T.below graph.now items scope.now elements.old.items
+        → IsFront T.below graph.now (record { place = place.now; time = t } ∷ items) scope.now
+        elements.new.items) }
+    ensures refused { IfErr result (λ refusal. refusal ≡ OutOfMemory) }
+{
+    if scope.counts(graph, place) {
+        insert_time(elements, t)?;
+    }
+    Ok(())
+}
+
+// Whether a time is an element of a frontier for which the place counts. Only then does the
+// frontier change when the time is counted there once less, or in its place a later one.
+pub(crate) fn has_element_where<T: Lattice>(
+    elements: &Vec<T>,
+    graph: &Graph,
+    scope: &Scope,
+    place: &Place,
+    t: &T,
+) -> bool
+    requires { scope_node scope.now < length graph.now }
+    ensures counts { IsTrue result → IsTrue (is_in_scope graph.now scope.now place.now) }
+    ensures element { IsTrue result → Contains elements.now.items t.now }
+    ensures gone { result ≡ false → (items : List (Counted T))
+        → IsFront T.below graph.now (record { place = place.now; time = t.now } ∷ items) scope.now
+        elements.now.items
+        → IsFront T.below graph.now items scope.now elements.now.items }
+    ensures later { result ≡ false → (items : List (Counted T)) (u : T) → IsTrue (T.below t.now u)
+        → IsFront T.below graph.now (record { place = place.now; time = t.now } ∷ items) scope.now
+        elements.now.items
+        → IsFront T.below graph.now (record { place = place.now; time = u } ∷ items) scope.now
+        elements.now.items }
+{
+    scope.counts(graph, place) && has_element(elements.as_slice(), t)
+}
+
+// Inserts a time, unless it is beyond the elements already. Refused only with `OutOfMemory`, and
+// then nothing changes.
+pub(crate) fn insert_time<T: Lattice>(elements: &mut Vec<T>, t: T) -> Result<(), Refusal>
+    ensures beyond { OnOk result ((s : T) → is_beyond T.below elements.new.items s
+        ≡ (T.below t s || is_beyond T.below elements.old.items s)) }
+    ensures refused { IfErr result (λ refusal. refusal ≡ OutOfMemory) }
+    ensures unchanged { OnErr result (elements.new.items ≡ elements.old.items) }
+{
+    if is_beyond(elements, &t) {
+        return Ok(());
+    }
+    elements.reserve(1)?;
+    remove_above(elements, t);
+    elements.push_reserved(t);
+    Ok(())
+}
+
+// Removes the elements that a new time is at or before.
+fn remove_above<T: Lattice>(elements: &mut Vec<T>, t: T)
+    ensures left { elements.new.items ≡ filter (λ f. not (T.below t f)) elements.old.items }
+    ensures room { vec_capacity elements.new ≡ vec_capacity elements.old }
+    ensures len { vec_len elements.new ≤ vec_len elements.old }
+{
+    elements.retain(|f| !t.less_equal(f));
+}
+
+// Whether a time is among these. Times are equal if each is at or before the other.
+pub(crate) fn has_element<T: Lattice>(elements: &[T], t: &T) -> bool
+    ensures found { IsTrue result → Contains elements.now t.now }
+    ensures missing { result ≡ false → Contains elements.now t.now → ⊥ }
+{
+    for number in 0..elements.len() {
+        if elements[number].less_equal(t) && t.less_equal(&elements[number]) {
+            return true;
+        }
+    }
+    false
+}

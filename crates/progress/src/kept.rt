@@ -1,0 +1,269 @@
+//! What is kept of one node: its frontier, its input frontier, the input frontiers of its two ports,
+//! and a mark. While the node is marked, the elements mean nothing. The next question about the
+//! node finds all four anew. So a node that nobody asks about is never found anew, and one that is
+//! marked already costs the counting nothing.
+ghost use Rattle.std.specs.Prelude.{◌≡◌, ◌<◌, ◌∷◌, ◌⊎◌, true, false, IsTrue, IfErr, IfOk, IfSome, OnErr, OnOk, List, length};
+ghost use Rattle.lattice.specs.Frontiers.{is_beyond};
+ghost use Rattle.antichain.specs.Antichains.{SameElements, least};
+ghost use Rattle.update.specs.declared.refusal.Refusal.TheVariants.{OutOfMemory};
+ghost use Rattle.plan.specs.Ancestors.{reaches};
+ghost use Rattle.plan.specs.Changes.{has_passed};
+ghost use Rattle.plan.specs.declared.node.Node.{Node};
+ghost use Rattle.progress.specs.declared.counted.Counted.{Counted};
+ghost use Rattle.progress.specs.Kept.{IsFront, AreFronts, IsCurrent, IsSpared, IsMarked, IsInserted, IsForgotten};
+ghost use Rattle.progress.specs.Tallies.{times_where};
+ghost use Rattle.progress.specs.Scopes.{scope_node, is_in_scope};
+
+use crate::counted::Counted;
+use crate::elements::{find, has_element_where, insert_where};
+use crate::graph::Graph;
+use crate::place::Place;
+use crate::scan::{insert_times, is_any_in};
+use crate::scope::{Scope, is_reached};
+use antichain::{Antichain, is_beyond};
+use lattice::Lattice;
+use plan::NodeId;
+use std::alloc::Global;
+use update::Refusal;
+
+/// The frontiers of one node that are kept, as lists on the heap: with inline antichains a list of
+/// all nodes would have elements of no known size.
+#[derive(Drop)]
+pub(crate) struct Kept<T: Lattice> {
+    output: Vec<T>,
+    input: Vec<T>,
+    // The input frontiers of the ports 0 and 1.
+    first: Vec<T>,
+    second: Vec<T>,
+    marked: bool,
+}
+
+impl<T: Lattice> Kept<T> {
+    /// What is kept of a node that nobody has asked about: it is marked. Takes no memory.
+    pub(crate) fn new(alloc: Global) -> Kept<T>
+        ensures { result.marked ≡ true }
+    {
+        Kept {
+            output: Vec::new(alloc),
+            input: Vec::new(alloc),
+            first: Vec::new(alloc),
+            second: Vec::new(alloc),
+            marked: true,
+        }
+    }
+
+    /// Whether the node is marked. Takes no memory.
+    pub(crate) fn is_marked(&self) -> bool
+        ensures { result ≡ self.now.marked }
+    {
+        self.marked
+    }
+
+    /// Marks the node if it counts the place. Takes no memory.
+    pub(crate) fn mark(&mut self, graph: &Graph, node: NodeId, place: &Place)
+        requires { node < length graph.now }
+        ensures { IsMarked graph.now place.now node self.old self.new }
+    {
+        if is_reached(graph, node, place) {
+            self.marked = true;
+        }
+    }
+
+    /// A time more is counted at a place. Refused only with `OutOfMemory`; then some of the
+    /// frontiers may have the time and others not.
+    ///
+    /// Cost: linear in the elements; constant if the node is marked or does not count the place.
+    pub(crate) fn insert(
+        &mut self,
+        graph: &Graph,
+        node: NodeId,
+        place: &Place,
+        t: T,
+    ) -> Result<(), Refusal>
+        requires { node < length graph.now }
+        ensures inserted { OnOk result
+            (IsInserted T.below graph.now place.now t node self.old self.new) }
+        ensures spared { IsSpared graph.now place.now node self.old self.new }
+        ensures refused { IfErr result (λ refusal. refusal ≡ OutOfMemory) }
+    {
+        if !self.marked && is_reached(graph, node, place) {
+            self.insert_in_all(graph, node, place, t)?;
+        }
+        Ok(())
+    }
+
+    // Inserts the time into each of the frontiers for which the place counts.
+    fn insert_in_all(
+        &mut self,
+        graph: &Graph,
+        node: NodeId,
+        place: &Place,
+        t: T,
+    ) -> Result<(), Refusal>
+        requires { node < length graph.now }
+        ensures fronts { OnOk result ((items : List (Counted T))
+            → AreFronts T.below graph.now items node self.old
+            → AreFronts T.below graph.now (record { place = place.now; time = t } ∷ items) node
+            self.new) }
+        ensures mark { self.new.marked ≡ self.old.marked }
+        ensures refused { IfErr result (λ refusal. refusal ≡ OutOfMemory) }
+    {
+        insert_where(&mut self.output, graph, &Scope::Output(node), place, t)?;
+        insert_where(&mut self.input, graph, &Scope::Input(node), place, t)?;
+        insert_where(&mut self.first, graph, &Scope::Port(node, 0), place, t)?;
+        insert_where(&mut self.second, graph, &Scope::Port(node, 1), place, t)?;
+        Ok(())
+    }
+
+    /// A time is counted once less at a place, or a later one in its place. The node is marked only
+    /// if the time is an element of one of its frontiers for which the place counts. Takes no
+    /// memory.
+    ///
+    /// Cost: linear in the elements; constant if the node is marked or does not count the place.
+    pub(crate) fn forget(&mut self, graph: &Graph, node: NodeId, place: &Place, t: &T)
+        requires { node < length graph.now }
+        ensures { IsForgotten T.below graph.now place.now t.now node self.old self.new }
+    {
+        if is_reached(graph, node, place) && self.has_element(graph, node, place, t) {
+            self.marked = true;
+        }
+    }
+
+    // Whether the time is an element of one of the frontiers for which the place counts.
+    fn has_element(&self, graph: &Graph, node: NodeId, place: &Place, t: &T) -> bool
+        requires { node < length graph.now }
+        ensures gone { result ≡ false → (items : List (Counted T))
+            → AreFronts T.below graph.now (record { place = place.now; time = t.now } ∷ items) node
+            self.now
+            → AreFronts T.below graph.now items node self.now }
+        ensures later { result ≡ false → (items : List (Counted T)) (u : T)
+            → IsTrue (T.below t.now u)
+            → AreFronts T.below graph.now (record { place = place.now; time = t.now } ∷ items) node
+            self.now
+            → AreFronts T.below graph.now (record { place = place.now; time = u } ∷ items) node
+            self.now }
+    {
+        if has_element_where(&self.output, graph, &Scope::Output(node), place, t) {
+            return true;
+        }
+        if has_element_where(&self.input, graph, &Scope::Input(node), place, t) {
+            return true;
+        }
+        if has_element_where(&self.first, graph, &Scope::Port(node, 0), place, t) {
+            return true;
+        }
+        has_element_where(&self.second, graph, &Scope::Port(node, 1), place, t)
+    }
+
+    /// One of the frontiers of the node. If the node is marked, all that is kept of it is found
+    /// anew from what is counted, and it is marked no more. Refused only with `OutOfMemory`; then
+    /// its mark is what it was.
+    ///
+    /// Cost: the square of the elements. If the node is marked, also linear in what is counted,
+    /// times the elements.
+    pub(crate) fn answer(
+        &mut self,
+        graph: &Graph,
+        scope: &Scope,
+        items: &[Counted<T>],
+    ) -> Result<Antichain<T>, Refusal>
+        requires node { scope_node scope.now < length graph.now }
+        requires current { IsCurrent T.below graph.now items.now (scope_node scope.now) self.old }
+        ensures current { IsCurrent T.below graph.now items.now (scope_node scope.now) self.new }
+        ensures unmarked { OnOk result (self.new.marked ≡ false) }
+        ensures unchanged { OnErr result (self.new.marked ≡ self.old.marked) }
+        ensures least { IfOk result (λ found. SameElements found
+            (least T.below (times_where (is_in_scope graph.now scope.now) items.now))) }
+        ensures beyond { IfOk result (λ found. (t : T) → is_beyond T.below found t
+            ≡ is_beyond T.below
+            (least T.below (times_where (is_in_scope graph.now scope.now) items.now)) t) }
+        ensures refused { IfErr result (λ refusal. refusal ≡ OutOfMemory) }
+    {
+        self.find_all(graph, scope.node(), items)?;
+        let answer = self.least(graph, scope, items)?;
+        self.marked = false;
+        Ok(answer)
+    }
+
+    // Finds all frontiers anew if the node is marked. It stays marked.
+    fn find_all(&mut self, graph: &Graph, node: NodeId, items: &[Counted<T>]) -> Result<(), Refusal>
+        requires node { node < length graph.now }
+        requires current { IsCurrent T.below graph.now items.now node self.old }
+        ensures fronts { OnOk result (AreFronts T.below graph.now items.now node self.new) }
+        ensures current { IsCurrent T.below graph.now items.now node self.new }
+        ensures mark { self.new.marked ≡ self.old.marked }
+        ensures refused { IfErr result (λ refusal. refusal ≡ OutOfMemory) }
+    {
+        if self.marked {
+            find(&mut self.output, graph, &Scope::Output(node), items)?;
+            find(&mut self.input, graph, &Scope::Input(node), items)?;
+            find(&mut self.first, graph, &Scope::Port(node, 0), items)?;
+            find(&mut self.second, graph, &Scope::Port(node, 1), items)?;
+        }
+        Ok(())
+    }
+
+    // The least of what counts for a frontier, from what is kept. If it is the frontier of a port
+    // of 2 or more, then it is found from what is counted.
+    fn least(
+        &self,
+        graph: &Graph,
+        scope: &Scope,
+        items: &[Counted<T>],
+    ) -> Result<Antichain<T>, Refusal>
+        requires node { scope_node scope.now < length graph.now }
+        requires fronts { AreFronts T.below graph.now items.now (scope_node scope.now) self.now }
+        ensures least { IfOk result (λ found. SameElements found
+            (least T.below (times_where (is_in_scope graph.now scope.now) items.now))) }
+        ensures beyond { IfOk result (λ found. (t : T) → is_beyond T.below found t
+            ≡ is_beyond T.below
+            (least T.below (times_where (is_in_scope graph.now scope.now) items.now)) t) }
+        ensures refused { IfErr result (λ refusal. refusal ≡ OutOfMemory) }
+    {
+        let alloc = *self.output.allocator();
+        if let Some(elements) = self.elements(scope) {
+            return Ok(Antichain::least_of(alloc, elements)?);
+        }
+        let mut found = Vec::new(alloc);
+        insert_times(&mut found, graph, scope, items)?;
+        Ok(Antichain::least_of(alloc, &found)?)
+    }
+
+    /// Whether one of the frontiers of the node has passed a time. Takes no memory.
+    ///
+    /// Cost: linear in the elements. If the node is marked, linear in what is counted.
+    pub(crate) fn has_passed(
+        &self,
+        graph: &Graph,
+        scope: &Scope,
+        items: &[Counted<T>],
+        t: &T,
+    ) -> bool
+        requires node { scope_node scope.now < length graph.now }
+        requires current { IsCurrent T.below graph.now items.now (scope_node scope.now) self.now }
+        ensures { result ≡ has_passed T.below (least T.below
+            (times_where (is_in_scope graph.now scope.now) items.now)) t.now }
+    {
+        if !self.marked
+            && let Some(elements) = self.elements(scope)
+        {
+            return !is_beyond(elements, t);
+        }
+        !is_any_in(graph, scope, items, t)
+    }
+
+    // The elements that are kept for a frontier. None are for a port of 2 or more.
+    fn elements(&self, scope: &Scope) -> Option<&[T]>
+        ensures { IfSome result (λ elements. (nodes : List Node) (items : List (Counted T))
+            → AreFronts T.below nodes items (scope_node scope.now) self.now
+            → IsFront T.below nodes items scope.now elements.now) }
+    {
+        match scope {
+            Scope::Output(_) => Some(self.output.as_slice()),
+            Scope::Input(_) => Some(self.input.as_slice()),
+            Scope::Port(_, 0) => Some(self.first.as_slice()),
+            Scope::Port(_, 1) => Some(self.second.as_slice()),
+            Scope::Port(_, _) => None,
+        }
+    }
+}

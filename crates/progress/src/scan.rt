@@ -1,0 +1,55 @@
+//! What is found from all that is counted: the least times that count for a frontier, and whether
+//! any is at or before a time.
+ghost use Rattle.std.specs.Prelude.{◌≡◌, ◌<◌, ◌||◌, IfErr, OnOk, length};
+ghost use Rattle.lattice.specs.Frontiers.{is_beyond};
+ghost use Rattle.update.specs.declared.refusal.Refusal.TheVariants.{OutOfMemory};
+ghost use Rattle.progress.specs.Tallies.{times_where};
+ghost use Rattle.progress.specs.Scopes.{scope_node, is_in_scope};
+
+use crate::counted::Counted;
+use crate::elements::insert_time;
+use crate::graph::Graph;
+use crate::scope::Scope;
+use lattice::Lattice;
+use update::Refusal;
+
+// Inserts the times that count for a frontier.
+pub(crate) fn insert_times<T: Lattice>(
+    found: &mut Vec<T>,
+    graph: &Graph,
+    scope: &Scope,
+    items: &[Counted<T>],
+) -> Result<(), Refusal>
+    requires { scope_node scope.now < length graph.now }
+    ensures beyond { OnOk result ((t : T) → is_beyond T.below found.new.items t
+        ≡ (is_beyond T.below found.old.items t
+        || is_beyond T.below (times_where (is_in_scope graph.now scope.now) items.now) t)) }
+    ensures refused { IfErr result (λ refusal. refusal ≡ OutOfMemory) }
+{
+    for item in items {
+        if scope.counts(graph, &item.place) {
+            insert_time(found, item.time)?;
+        }
+    }
+    Ok(())
+}
+
+// Whether some time that counts for a frontier is at or before this one. The first such item
+// settles it.
+pub(crate) fn is_any_in<T: Lattice>(
+    graph: &Graph,
+    scope: &Scope,
+    items: &[Counted<T>],
+    t: &T,
+) -> bool
+    requires { scope_node scope.now < length graph.now }
+    ensures { result
+        ≡ is_beyond T.below (times_where (is_in_scope graph.now scope.now) items.now) t.now }
+{
+    for item in items {
+        if scope.counts(graph, &item.place) && item.time.less_equal(t) {
+            return true;
+        }
+    }
+    false
+}
