@@ -1,8 +1,8 @@
--- What the loops over several items have counted so far.
-use Rattle.std.proofs.Common.{◌≡◌, ℕ, ◌+◌, ◌<◌, ◌≤◌, Bool, List, [], ◌∷◌, ◌++◌, map, length, take, drop, get_or, sym, refl, ap, ◌∙◌, inl, arith}
+-- What several items that are counted, or removed, together make of the counts.
+use Rattle.std.proofs.Common.{◌≡◌, ℕ, ◌+◌, ◌<◌, Bool, List, ◌∷◌, ◌++◌, map, length, take, drop, get_or, sym, refl, ap, ◌∙◌, inl, arith}
 use Rattle.std.specs.Prelude.{Contains}
 use Rattle.std.specs.List.{filter}
-use Rattle.std.proofs.lemmas.List.{length-append, map-append, take_more, drop_more, take_all, take-append-drop}
+use Rattle.std.proofs.lemmas.List.{length-append, map-append, drop_more, take-append-drop}
 use Rattle.std.proofs.lemmas.List.Elements.{filter-append}
 use Rattle.lattice.specs.Order.{PartialOrderLaws}
 use Rattle.antichain.proofs.Lists.{contains_among}
@@ -20,31 +20,6 @@ module _ {T : Type 0} where
   pub passing_both : (test : Counted T → Bool) (xs ys : List (Counted T)) → passing test (xs ++ ys) ≡ passing test xs + passing test ys
   passing_both test xs ys = ap length (filter-append test xs ys) ∙ length-append (filter test xs) (filter test ys)
 
-  -- one time more of the list
-  one_more : (place : Place) (ts : List T) (i : ℕ) (t : T) → i < length ts → t ≡ get_or ts i t → items_at place (take (i + 1) ts) ≡ items_at place (take i ts) ++ record { place = place; time = t } ∷ []
-  one_more place ts i t l e =
-      let one = λ (u : T). let x : Counted T = record { place = place; time = u } in x in
-      ap (map one) (take_more ts i t l) ∙ (map-append one (take i ts) (get_or ts i t ∷ []) ∙ ap (λ u. map one (take i ts) ++ one u ∷ []) (sym e))
-
-  -- after one more add, one item more is counted
-  pub added_so_far : (place : Place) (ts : List T) (i : ℕ) (t : T) (old mid new : List (Counted T)) → i < length ts → t ≡ get_or ts i t
-      → SameCounts mid (items_at place (take i ts) ++ old) → SameCounts new (record { place = place; time = t } ∷ mid) → SameCounts new (items_at place (take (i + 1) ts) ++ old)
-  added_so_far place ts i t old mid new l e so_far one test =
-      let x : Counted T = record { place = place; time = t } in
-      let before = items_at place (take i ts) in
-      let a = one test in
-      let b = passing_both test (x ∷ []) mid in
-      let c = so_far test in
-      let d = passing_both test before old in
-      let f = passing_both test (before ++ x ∷ []) old in
-      let g = passing_both test before (x ∷ []) in
-      let h = ap (λ xs. passing test (xs ++ old)) (one_more place ts i t l e) in
-      omega (arith, a, b, c, d, f, g, h)
-
-  -- all are counted at the end
-  pub added_all : (place : Place) (ts : List T) (i : ℕ) (old new : List (Counted T)) → length ts ≤ i → SameCounts new (items_at place (take i ts) ++ old) → SameCounts new (items_at place ts ++ old)
-  added_all place ts i old new l so_far test = so_far test ∙ ap (λ us. passing test (items_at place us ++ old)) (take_all i ts l)
-
   -- after those that were added are removed, all is as it was
   pub taken_back : (place : Place) (us : List T) (old mid new : List (Counted T)) → SameCounts mid (items_at place us ++ old) → SameCounts (items_at place us ++ new) mid → SameCounts new old
   taken_back place us old mid new added removed test =
@@ -53,24 +28,6 @@ module _ {T : Type 0} where
       let c = passing_both test (items_at place us) old in
       let d = passing_both test (items_at place us) new in
       omega (arith, a, b, c, d)
-
-  -- after one more removal, one item more is gone
-  pub removed_so_far : (place : Place) (ts : List T) (i : ℕ) (t : T) (old mid new : List (Counted T)) → i < length ts → t ≡ get_or ts i t
-      → SameCounts (items_at place (take i ts) ++ mid) old → SameCounts (record { place = place; time = t } ∷ new) mid → SameCounts (items_at place (take (i + 1) ts) ++ new) old
-  removed_so_far place ts i t old mid new l e so_far one test =
-      let x : Counted T = record { place = place; time = t } in
-      let before = items_at place (take i ts) in
-      let a = one test in
-      let b = passing_both test (x ∷ []) new in
-      let c = so_far test in
-      let d = passing_both test before mid in
-      let f = passing_both test (before ++ x ∷ []) new in
-      let g = passing_both test before (x ∷ []) in
-      let h = ap (λ xs. passing test (xs ++ new)) (one_more place ts i t l e) in
-      omega (arith, a, b, c, d, f, g, h)
-
-  pub removed_all : (place : Place) (ts : List T) (i : ℕ) (old new : List (Counted T)) → length ts ≤ i → SameCounts (items_at place (take i ts) ++ new) old → SameCounts (items_at place ts ++ new) old
-  removed_all place ts i old new l so_far test = ap (λ us. passing test (items_at place us ++ new)) (sym (take_all i ts l)) ∙ so_far test
 
   -- the next item to be removed is there
   pub next_is_there : (below : T → T → Bool) → PartialOrderLaws below → (place : Place) (ts : List T) (i : ℕ) (t : T) (old mid : List (Counted T)) → i < length ts → t ≡ get_or ts i t

@@ -1,4 +1,4 @@
-use Rattle.progress.proofs.SeveralLemmas.{next_is_there, removed_so_far, removed_all}
+use Rattle.progress.proofs.SeveralLemmas.{next_is_there}
 use Rattle.std.proofs.Common.{arith}
 use Rattle.progress.proofs.tally.Tally.remove_all.Goals as goal
 
