@@ -1,5 +1,6 @@
 -- The lemmas of histories. They know no code, and the theorems of `histories/theorems.rt` are their
 -- ends.
+pub mod OutstandingLemmas
 pub mod StampLemmas
 pub mod FlowLemmas
 pub mod KeptLemmas

@@ -15,7 +15,6 @@ use Rattle.lattice.specs.Order.{PartialOrderLaws}
 use Rattle.lattice.specs.Frontiers.{is_beyond, all_beyond}
 use Rattle.lattice.proofs.FrontierLemmas.{all_more, beyond_itself}
 use Rattle.antichain.proofs.Lists.{Among, all_at, all_from, all_filter, filter_has}
-use Rattle.antichain.proofs.InsertionLemmas.{least_beyond}
 use Rattle.update.specs.Bags.{Alike, count_of, same_row}
 use Rattle.update.specs.Updates.{as_of, total_where, total_at, size}
 use Rattle.update.specs.declared.change.Update.{Update}
@@ -39,12 +38,13 @@ use Rattle.machine.specs.declared.histories.event.Event.{Event}
 use Rattle.machine.specs.declared.histories.event.Event.TheVariants.{Take, Give}
 use Rattle.machine.specs.Histories.Dataflows.{Dataflow, IsDataflow, node_of, upstream}
 use Rattle.machine.specs.Histories.States.{State, times, emitted_by}
-use Rattle.machine.specs.Histories.Outstanding.{open_where, input_frontier}
+use Rattle.machine.specs.Histories.Outstanding.{input_frontier}
 use Rattle.machine.specs.Histories.NodeLaws.{received_at}
 use Rattle.machine.specs.Histories.{open_entries, initial_state, give_state, next_state, IsTake, IsGive, IsAllowed}
 use Rattle.machine.specs.Histories.Promises.{NeverGoesBack}
 use Rattle.machine.proofs.HistoryLemmas.FlowLemmas.{is_passed, not_beyond}
 use Rattle.machine.proofs.HistoryLemmas.OnwardLemmas.{input_onward, taken_later}
+use Rattle.machine.proofs.HistoryLemmas.OutstandingLemmas.{open_where, beyond_input_frontier}
 use Rattle.operator_laws.specs.Gathering.{is_of, IsCut, IsInHand, IsSplit, IsStamped, IsGathering, IsHeldFor}
 use Rattle.operator_laws.specs.Arranging.{IsArranging, IsSealOf}
 use Rattle.operator_laws.proofs.GatheringLemmas.{size_none, times_both, over_times, beyond_both, same_after, same_gathering, first_gathering, linear_piece_lem, took_gathering, emitted_is, may_give, gave_gathering, turned_beyond, turned_gathering}
@@ -160,7 +160,7 @@ module _ {T : Type 0} (below : T → T → Bool) (o : PartialOrderLaws below) (p
 
   -- before the first event an input frontier has passed what the least time has
   pub first_passed : (minimum : T) (n : ℕ) → NeverGoesBack below (minimum ∷ []) (input_frontier below p (initial_state below minimum p) n)
-  first_passed minimum n t h = is_passed _ (least_beyond o (open_where (upstream p n) (initial_state below minimum p).open_times) t ∙ false_from_ne_true _ (λ b. never (beyond_first minimum t (upstream p n) (numbers_where is_input p.nodes) b)))
+  first_passed minimum n t h = is_passed _ (beyond_input_frontier p (initial_state below minimum p) n below o t ∙ false_from_ne_true _ (λ b. never (beyond_first minimum t (upstream p n) (numbers_where is_input p.nodes) b)))
     where
       never : below minimum t ≡ true → ⊥
       never e = false≢true (sym (ap (λ b. not (b || false)) e) ∙ h)

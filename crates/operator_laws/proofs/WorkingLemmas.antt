@@ -31,13 +31,14 @@ use Rattle.machine.specs.Histories.Cuts.{cut}
 use Rattle.machine.specs.Histories.Dataflows.{Dataflow, IsDataflow, node_of, source_of, upstream}
 use Rattle.machine.specs.Histories.States.{State, place, updates_at, queue, emitted_by, held_at}
 use Rattle.machine.specs.Histories.Shares.{share, share_fed, share_from}
-use Rattle.machine.specs.Histories.Outstanding.{strictly_upstream, counted_times, input_frontier}
+use Rattle.machine.specs.Histories.Outstanding.{strictly_upstream, input_frontier}
 use Rattle.machine.specs.Histories.NodeLaws.{received_at}
 use Rattle.machine.specs.Histories.Readings.{IsQuiet}
 use Rattle.machine.specs.Histories.{initial_state, next_state, give_state, state_after, IsTake, IsGive, IsAllowed, IsLegal}
 use Rattle.machine.proofs.HistoryLemmas.ClearLemmas.{arrived_passed}
 use Rattle.machine.proofs.HistoryLemmas.CuttingLemmas.{share_none}
-use Rattle.machine.proofs.HistoryLemmas.FlowLemmas.{value, through_is, passed-least, not_beyond}
+use Rattle.machine.proofs.HistoryLemmas.FlowLemmas.{value, through_is, not_beyond}
+use Rattle.machine.proofs.HistoryLemmas.OutstandingLemmas.{beyond_input_frontier}
 use Rattle.machine.proofs.HistoryLemmas.KeptLemmas.{coming, kept_state}
 use Rattle.machine.proofs.HistoryLemmas.PlaceLemmas.{in_place_lem}
 use Rattle.machine.proofs.HistoryLemmas.WorkerLemmas.{shared_along, fed_none}
@@ -127,7 +128,7 @@ module _ {T : Type 0} (below : T → T → Bool) (o : PartialOrderLaws below) (p
       let site = place n port k in
       let kept = kept_state below o p minimum h l in
       let v : Update T → ℤ = λ u. cond (below u.time t) (value row u) (pos 0) in
-      let gone = (arrived_passed below o t (upstream p n) (strictly_upstream p n) w kept.stamped (passed-least below o (counted_times w (upstream p n) (strictly_upstream p n)) t (not_beyond _ passed)) n (above_itself p.nodes q.plan n)).flight port k in
+      let gone = (arrived_passed below o t (upstream p n) (strictly_upstream p n) w kept.stamped (sym (beyond_input_frontier p w n below o t) ∙ not_beyond _ passed) n (above_itself p.nodes q.plan n)).flight port k in
       let none : total_by v (updates_at site w.in_flight) ≡ pos 0 = sym (through_is below row t (updates_at site w.in_flight)) ∙ ap (λ es. count_of es row) gone in
       let given : flat_map (share p site) w.emitted ≡ emitted_by source k w.emitted = (λ i. flat_map (share_from p (reads i) (stays i) k) w.emitted) ∙ shared_along below t p source k w.emitted in
       let fed : flat_map (share_fed p site) w.fed ≡ [] = fed_none below t p site w.fed kept.inputs (no_source (node_of p n) port source reads) in

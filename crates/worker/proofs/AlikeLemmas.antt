@@ -5,7 +5,6 @@ use Rattle.std.specs.List.{list_all, list_any}
 use Rattle.std.proofs.lemmas.List.Folds.{list_any-append}
 use Rattle.lattice.specs.Order.{PartialOrderLaws}
 use Rattle.lattice.specs.Frontiers.{is_beyond}
-use Rattle.antichain.proofs.InsertionLemmas.{least_beyond}
 use Rattle.update.specs.declared.change.Update.{Update}
 use Rattle.plan.specs.declared.node.Node.{Node}
 use Rattle.plan.specs.declared.node.Node.TheVariants.{Input, Map, Filter, Concat, Negate, Arrange, Join, Reduce, Output}
@@ -13,9 +12,10 @@ use Rattle.trace.specs.Readings.{Insertion}
 use Rattle.machine.specs.declared.histories.event.Site.{Site}
 use Rattle.machine.specs.declared.histories.event.Bundle.{Bundle}
 use Rattle.machine.specs.Histories.Dataflows.{Dataflow, node_of, upstream}
-use Rattle.machine.specs.Histories.Outstanding.{stamps, held_where, open_where, strictly_upstream, counted_times, input_frontier}
+use Rattle.machine.specs.Histories.Outstanding.{stamps, strictly_upstream, input_frontier}
 use Rattle.machine.specs.Histories.Promises.{NeverGoesBack}
 use Rattle.machine.specs.Histories.States.{State, place, queue}
+use Rattle.machine.proofs.HistoryLemmas.OutstandingLemmas.{held_where, open_where, beyond_input_frontier}
 use Rattle.worker.specs.Between.{IsAlike}
 use Rattle.worker.specs.Desks.{DeskState, IsDeskAt}
 use Rattle.operator_laws.specs.Gathering.{IsGathering}
@@ -34,11 +34,11 @@ module _ {T : Type 0} (below : T → T → Bool) (joined : T → T → T) (minim
   front_same n t =
       let test = λ (f : T). below f t in
       let held = held_where (strictly_upstream p n) w.held ++ open_where (upstream p n) w.open_times in
-      least_beyond o (counted_times v (upstream p n) (strictly_upstream p n)) t
+      beyond_input_frontier p v n below o t
       ∙ (list_any-append test (stamps (λ site. upstream p n site.node) xs) held
       ∙ (ap (λ b. b || list_any test held) (stamped (λ site. upstream p n site.node) t)
       ∙ (sym (list_any-append test (stamps (λ site. upstream p n site.node) w.in_flight) held)
-      ∙ sym (least_beyond o (counted_times w (upstream p n) (strictly_upstream p n)) t))))
+      ∙ sym (beyond_input_frontier p w n below o t))))
 
   never_back : (F : List T) (n : ℕ) → NeverGoesBack below F (input_frontier below p w n) → NeverGoesBack below F (input_frontier below p v n)
   never_back F n g t h = ap not (front_same n t) ∙ g t h

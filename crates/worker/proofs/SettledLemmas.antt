@@ -17,7 +17,8 @@ use Rattle.machine.specs.declared.histories.event.Event.{Event}
 use Rattle.machine.specs.declared.histories.event.Event.TheVariants.{Take, TakeHeld}
 use Rattle.machine.specs.Histories.Dataflows.{Dataflow, IsDataflow, upstream}
 use Rattle.machine.specs.Histories.States.{State, place, same_place, queue, held_at}
-use Rattle.machine.specs.Histories.Outstanding.{stamps, held_where, open_where, strictly_upstream, input_frontier}
+use Rattle.machine.specs.Histories.Outstanding.{stamps, strictly_upstream, input_frontier}
+use Rattle.machine.proofs.HistoryLemmas.OutstandingLemmas.{held_where, open_where, input_outstanding_is}
 use Rattle.machine.specs.Histories.Readings.{IsQuiet}
 use Rattle.machine.specs.Histories.{without, is_held_by, held_entries, next_state, give_state, state_after, IsLegal}
 use Rattle.machine.proofs.HistoryLemmas.KeptLemmas.{held_unmarked, held_kept}
@@ -106,7 +107,7 @@ module _ (p : Dataflow) (q : IsDataflow p) where
         let no : there bundle.place.node ≡ false = not_upstream m bundle.place.node l in
         let a = stamps_less (λ site. there site.node) bundle.place no (λ other s. ap there (eqb-true other.node bundle.place.node (and_parts (eqb other.node bundle.place.node) (eqb other.port bundle.place.port && eqb other.worker bundle.place.worker) s).0) ∙ no) w.in_flight number in
         let b = held_more (strictly_upstream p m) w.held bundle.place.node bundle.place.worker bundle.stamp (not_strictly m bundle.place.node (omega arith)) in
-        ap (least below) (λ i. a i ++ (b i ++ open_where there w.open_times))
+        ap (least below) (input_outstanding_is p (next_state below p w (Take number bundle)) m ∙ ((λ i. a i ++ (b i ++ open_where there w.open_times)) ∙ sym (input_outstanding_is p w m)))
 
     -- a give at the node or at a later one, to nodes that are later still
     pub front_given : (m : ℕ) (g : Emission T) (ts : List T) (sent : List (Bundle T)) → m ≤ g.node → ((b : Bundle T) → Among b sent → g.node < b.place.node) → input_frontier below p (give_state below p w g ts sent) m ≡ input_frontier below p w m
@@ -114,7 +115,7 @@ module _ (p : Dataflow) (q : IsDataflow p) where
         let there = upstream p m in
         let a = stamps_more (λ site. there site.node) w.in_flight sent (λ b among. not_upstream m b.place.node (let s = far b among in omega arith)) in
         let b = held_instead (strictly_upstream p m) w.held g.node g.worker ts (not_strictly m g.node l) in
-        ap (least below) (λ i. a i ++ (b i ++ open_where there w.open_times))
+        ap (least below) (input_outstanding_is p (give_state below p w g ts sent) m ∙ ((λ i. a i ++ (b i ++ open_where there w.open_times)) ∙ sym (input_outstanding_is p w m)))
 
 -- ---- what is held elsewhere
 

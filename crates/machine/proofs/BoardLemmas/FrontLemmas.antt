@@ -17,9 +17,12 @@ use Rattle.machine.specs.declared.histories.event.Bundle.{Bundle}
 use Rattle.machine.specs.declared.histories.event.HeldTime.{HeldTime}
 use Rattle.machine.specs.declared.histories.event.OpenTime.{OpenTime}
 use Rattle.machine.specs.declared.histories.event.Event.{Event}
-use Rattle.machine.specs.Histories.Dataflows.{upstream}
+use Rattle.machine.specs.Histories.Dataflows.{Dataflow, upstream}
 use Rattle.machine.specs.Histories.States.{State, queue, held_at}
-use Rattle.machine.specs.Histories.Outstanding.{stamps, held_where, open_where, counted_times, outstanding, frontier, strictly_upstream, input_frontier}
+use Rattle.progress.specs.Tallies.{is_upstream, is_input_upstream, times_where}
+use Rattle.progress.proofs.FrontierLemmas.{same_least}
+use Rattle.progress.proofs.NumberLemmas.{number_below}
+use Rattle.machine.specs.Histories.Outstanding.{stamps, items_of, frontier, strictly_upstream, input_frontier}
 use Rattle.machine.specs.Histories.{state_after, IsTakeHeld}
 use Rattle.machine.specs.Histories.Promises.{IsInPlace}
 use Rattle.machine.specs.Histories.Readings.{IsQuiet}
@@ -27,8 +30,7 @@ use Rattle.machine.specs.Boards.{BoardState, IsBoard, Stands}
 use Rattle.machine.specs.Boards.Reads.{on_board, open_on, front, input_front, is_ready, hands_are_free, is_quiet_board}
 use Rattle.machine.specs.Boards.Loads.{Lot, is_none, lot_of, all_bundles, all_held, stamps_at, times_at}
 use Rattle.machine.proofs.BoardLemmas.LotLemmas.{any_flat, all_held_all, all_queued, all_held_at, stamps_spread, held_spread}
-use Rattle.machine.proofs.HistoryLemmas.QuietLemmas.{least_same}
-use Rattle.machine.proofs.HistoryLemmas.PlaceLemmas.{number_below}
+use Rattle.machine.proofs.HistoryLemmas.OutstandingLemmas.{held_where, open_where, counted_times, outstanding_is, input_outstanding_is, beyond_frontier, beyond_input_frontier}
 use Rattle.machine.proofs.BoardLemmas.OpenLemmas.{open_on_at, where_spread}
 use Rattle.machine.specs.Boards.Inputs.{front_at}
 use Rattle.plan.specs.Ancestors.{numbers_below}
@@ -103,51 +105,69 @@ module _ {T : Type 0} (below : T → T → Bool) (o : PartialOrderLaws below) wh
 
   -- states that are alike at each place count the same
   pub counted_like : (v w : State T) (there holds : ℕ → Bool) → AreQueued v.in_flight w.in_flight → AreHeld v.held w.held → AreOpen v.open_times w.open_times
-      → (t : T) → is_beyond below (least below (counted_times v there holds)) t ≡ is_beyond below (least below (counted_times w there holds)) t
+      → (t : T) → is_beyond below (counted_times v there holds) t ≡ is_beyond below (counted_times w there holds) t
   counted_like v w there holds queued held opened t =
-      least_beyond o (counted_times v there holds) t
-      ∙ (counted_any v there holds t
+      counted_any v there holds t
       ∙ (ap₂ (λ x y. x || y) (queued_any (λ b. there b.place.node && is_beyond below b.stamp t) v.in_flight w.in_flight queued)
       (ap₂ (λ x y. x || y) (held_any_like (λ n u. holds n && below u t) v.held w.held held) (open_any_like (λ i u. there i && below u t) v.open_times w.open_times opened))
-      ∙ (sym (counted_any w there holds t) ∙ sym (least_beyond o (counted_times w there holds) t))))
+      ∙ sym (counted_any w there holds t))
 
   or_thrice : (a b c : Bool) → ((a || b) || c) ≡ (a || (b || c))
   or_thrice true b c = refl
   or_thrice false b c = refl
 
-  -- three tests tell whether a frontier has passed a time
-  pub passed_found : (w : State T) (there holds : ℕ → Bool) (t : T) (a b c : Bool)
+  -- three tests tell whether all that counts has passed a time
+  none_found : (w : State T) (there holds : ℕ → Bool) (t : T) (a b c : Bool)
       → a ≡ list_any (λ b. there b.place.node && is_beyond below b.stamp t) w.in_flight → b ≡ list_any (λ m. holds m.node && below m.time t) w.held → c ≡ list_any (λ x. there x.input && below x.time t) w.open_times
-      → not ((a || b) || c) ≡ has_passed below (least below (counted_times w there holds)) t
-  passed_found w there holds t a b c e f g =
-      ap not (or_thrice a b c ∙ ap₂ (λ x y. x || y) e (ap₂ (λ x y. x || y) f g) ∙ sym (counted_any w there holds t) ∙ sym (least_beyond o (counted_times w there holds) t))
+      → not ((a || b) || c) ≡ has_passed below (counted_times w there holds) t
+  none_found w there holds t a b c e f g =
+      ap not (or_thrice a b c ∙ ap₂ (λ x y. x || y) e (ap₂ (λ x y. x || y) f g) ∙ sym (counted_any w there holds t))
 
-  -- the three parts that were collected, one after another, are all times that count for a node
+  -- the three parts that were collected, one after another, are all times that count for a node, if
+  -- held times count at the nodes that pass a test
+  collected : (b : BoardState T) {v : BoardState T} → v ≡ b → IsBoard v → (n : ℕ) (holds : Dataflow → ℕ → Bool) (none flight some all : List T) → none ≡ []
+      → flight ≡ none ++ flat_map (λ m. cond (upstream v.dataflow n m) (stamps_at v.stations m) []) (numbers_below (length v.dataflow.nodes))
+      → some ≡ flight ++ flat_map (λ m. cond (holds v.dataflow m) (times_at v.stations m) []) (numbers_below (length v.dataflow.nodes))
+      → all ≡ some ++ flat_map (λ i. cond (upstream v.dataflow n i) (front_at i v.inputs) []) (numbers_below (length v.dataflow.nodes))
+      → all ≡ counted_times (on_board b) (upstream b.dataflow n) (holds b.dataflow)
+  collected b {v} e is n holds none flight some all x f s a =
+      let waiting = f ∙ (ap (λ ts. ts ++ flat_map (λ m. cond (upstream v.dataflow n m) (stamps_at v.stations m) []) (numbers_below (length v.dataflow.nodes))) x
+      ∙ (ap (λ k. flat_map (λ m. cond (upstream v.dataflow n m) (stamps_at v.stations m) []) (numbers_below k)) (sym is.stations) ∙ sym (stamps_spread (upstream v.dataflow n) v.stations))) in
+      let holding = ap (λ k. flat_map (λ m. cond (holds v.dataflow m) (times_at v.stations m) []) (numbers_below k)) (sym is.stations) ∙ sym (held_spread (holds v.dataflow) v.stations) in
+      a
+      ∙ (ap₂ (λ ts us. ts ++ us) (s ∙ ap₂ (λ ts us. ts ++ us) waiting holding) (sym (where_spread (upstream v.dataflow n) (λ i. front_at i v.inputs) (length v.dataflow.nodes)))
+      ∙ (append_assoc (stamps (λ site. upstream v.dataflow n site.node) (all_bundles v.stations)) (held_where (holds v.dataflow) (all_held v.stations)) (open_where (upstream v.dataflow n) (open_on v))
+      ∙ ap (λ (w : BoardState T). counted_times (on_board w) (upstream w.dataflow n) (holds w.dataflow)) e))
+
+  -- what a frontier counts on the board
+  abbrev counted : BoardState T → ℕ → List T
+  counted b n = times_where (is_upstream b.dataflow.nodes n) (items_of (on_board b))
+
   pub all_collected : (b : BoardState T) {v : BoardState T} → v ≡ b → IsBoard v → (n : ℕ) (none flight some all : List T) → none ≡ []
       → flight ≡ none ++ flat_map (λ m. cond (upstream v.dataflow n m) (stamps_at v.stations m) []) (numbers_below (length v.dataflow.nodes))
       → some ≡ flight ++ flat_map (λ m. cond (upstream v.dataflow n m) (times_at v.stations m) []) (numbers_below (length v.dataflow.nodes))
       → all ≡ some ++ flat_map (λ i. cond (upstream v.dataflow n i) (front_at i v.inputs) []) (numbers_below (length v.dataflow.nodes))
-      → all ≡ (stamps (λ site. upstream b.dataflow n site.node) (all_bundles b.stations) ++ held_where (upstream b.dataflow n) (all_held b.stations)) ++ open_where (upstream b.dataflow n) (open_on b)
-  all_collected b {v} e is n none flight some all x f s a =
-      let waiting = f ∙ (ap (λ ts. ts ++ flat_map (λ m. cond (upstream v.dataflow n m) (stamps_at v.stations m) []) (numbers_below (length v.dataflow.nodes))) x
-      ∙ (ap (λ k. flat_map (λ m. cond (upstream v.dataflow n m) (stamps_at v.stations m) []) (numbers_below k)) (sym is.stations) ∙ sym (stamps_spread (upstream v.dataflow n) v.stations))) in
-      let holding = ap (λ k. flat_map (λ m. cond (upstream v.dataflow n m) (times_at v.stations m) []) (numbers_below k)) (sym is.stations) ∙ sym (held_spread (upstream v.dataflow n) v.stations) in
-      a
-      ∙ (ap₂ (λ ts us. ts ++ us) (s ∙ ap₂ (λ ts us. ts ++ us) waiting holding) (sym (where_spread (upstream v.dataflow n) (λ i. front_at i v.inputs) (length v.dataflow.nodes)))
-      ∙ ap (λ (w : BoardState T). (stamps (λ site. upstream w.dataflow n site.node) (all_bundles w.stations) ++ held_where (upstream w.dataflow n) (all_held w.stations)) ++ open_where (upstream w.dataflow n) (open_on w)) e)
-
-  collected : (b : BoardState T) (n : ℕ) (all : List T) → all ≡ (stamps (λ site. upstream b.dataflow n site.node) (all_bundles b.stations) ++ held_where (upstream b.dataflow n) (all_held b.stations)) ++ open_where (upstream b.dataflow n) (open_on b) → all ≡ outstanding b.dataflow (on_board b) n
-  collected b n all e = e ∙ append_assoc (stamps (λ site. upstream b.dataflow n site.node) (all_bundles b.stations)) (held_where (upstream b.dataflow n) (all_held b.stations)) (open_where (upstream b.dataflow n) (open_on b))
+      → all ≡ counted b n
+  all_collected b e is n none flight some all x f s a = collected b e is n (λ p. upstream p n) none flight some all x f s a ∙ sym (outstanding_is b.dataflow (on_board b) n)
 
   -- the least of the collected times are the node's frontier
-  pub front_found : (b : BoardState T) (n : ℕ) (all found : List T) → all ≡ (stamps (λ site. upstream b.dataflow n site.node) (all_bundles b.stations) ++ held_where (upstream b.dataflow n) (all_held b.stations)) ++ open_where (upstream b.dataflow n) (open_on b)
-      → SameElements found (least below all) → SameElements found (front below b n)
-  front_found b n all found e same = subst (λ ts. SameElements found (least below ts)) (collected b n all e) same
+  pub front_found : (b : BoardState T) (n : ℕ) (all found : List T) → all ≡ counted b n → SameElements found (least below all) → SameElements found (front below b n)
+  front_found b n all found e same = subst (λ ts. SameElements found (least below ts)) e same
 
   -- the same times are beyond the collected times' least and beyond the frontier
-  pub beyond_found : (b : BoardState T) (n : ℕ) (all found : List T) → all ≡ (stamps (λ site. upstream b.dataflow n site.node) (all_bundles b.stations) ++ held_where (upstream b.dataflow n) (all_held b.stations)) ++ open_where (upstream b.dataflow n) (open_on b)
-      → ((t : T) → is_beyond below found t ≡ is_beyond below all t) → (t : T) → is_beyond below found t ≡ is_beyond below (front below b n) t
-  beyond_found b n all found e same t = same t ∙ (ap (λ ts. is_beyond below ts t) (collected b n all e) ∙ sym (least_beyond o (outstanding b.dataflow (on_board b) n) t))
+  pub beyond_found : (b : BoardState T) (n : ℕ) (all found : List T) → all ≡ counted b n → ((t : T) → is_beyond below found t ≡ is_beyond below all t) → (t : T) → is_beyond below found t ≡ is_beyond below (front below b n) t
+  beyond_found b n all found e same t = same t ∙ (ap (λ ts. is_beyond below ts t) e ∙ sym (least_beyond o (counted b n) t))
+
+  -- three tests tell whether a frontier has passed a time
+  pub passed_found : (b : BoardState T) (n : ℕ) (t : T) (x y z : Bool)
+      → x ≡ list_any (λ q. upstream b.dataflow n q.place.node && is_beyond below q.stamp t) (all_bundles b.stations) → y ≡ list_any (λ m. upstream b.dataflow n m.node && below m.time t) (all_held b.stations)
+      → z ≡ list_any (λ i. upstream b.dataflow n i.input && below i.time t) (open_on b) → not ((x || y) || z) ≡ has_passed below (front below b n) t
+  passed_found b n t x y z e f g =
+      none_found (on_board b) (upstream b.dataflow n) (upstream b.dataflow n) t x y z e f g ∙ ap not (sym (beyond_frontier b.dataflow (on_board b) n below o t))
+
+  -- what an input frontier counts on the board
+  abbrev counted_above : BoardState T → ℕ → List T
+  counted_above b n = times_where (is_input_upstream b.dataflow.nodes n) (items_of (on_board b))
 
   -- the three parts that were collected for an input frontier: as for a frontier, but without what
   -- is held at the node itself
@@ -155,27 +175,23 @@ module _ {T : Type 0} (below : T → T → Bool) (o : PartialOrderLaws below) wh
       → flight ≡ none ++ flat_map (λ m. cond (upstream v.dataflow n m) (stamps_at v.stations m) []) (numbers_below (length v.dataflow.nodes))
       → some ≡ flight ++ flat_map (λ m. cond (strictly_upstream v.dataflow n m) (times_at v.stations m) []) (numbers_below (length v.dataflow.nodes))
       → all ≡ some ++ flat_map (λ i. cond (upstream v.dataflow n i) (front_at i v.inputs) []) (numbers_below (length v.dataflow.nodes))
-      → all ≡ (stamps (λ site. upstream b.dataflow n site.node) (all_bundles b.stations) ++ held_where (strictly_upstream b.dataflow n) (all_held b.stations)) ++ open_where (upstream b.dataflow n) (open_on b)
-  input_collected b {v} e is n none flight some all x f s a =
-      let waiting = f ∙ (ap (λ ts. ts ++ flat_map (λ m. cond (upstream v.dataflow n m) (stamps_at v.stations m) []) (numbers_below (length v.dataflow.nodes))) x
-      ∙ (ap (λ k. flat_map (λ m. cond (upstream v.dataflow n m) (stamps_at v.stations m) []) (numbers_below k)) (sym is.stations) ∙ sym (stamps_spread (upstream v.dataflow n) v.stations))) in
-      let holding = ap (λ k. flat_map (λ m. cond (strictly_upstream v.dataflow n m) (times_at v.stations m) []) (numbers_below k)) (sym is.stations) ∙ sym (held_spread (strictly_upstream v.dataflow n) v.stations) in
-      a
-      ∙ (ap₂ (λ ts us. ts ++ us) (s ∙ ap₂ (λ ts us. ts ++ us) waiting holding) (sym (where_spread (upstream v.dataflow n) (λ i. front_at i v.inputs) (length v.dataflow.nodes)))
-      ∙ ap (λ (w : BoardState T). (stamps (λ site. upstream w.dataflow n site.node) (all_bundles w.stations) ++ held_where (strictly_upstream w.dataflow n) (all_held w.stations)) ++ open_where (upstream w.dataflow n) (open_on w)) e)
-
-  input_all : (b : BoardState T) (n : ℕ) (all : List T) → all ≡ (stamps (λ site. upstream b.dataflow n site.node) (all_bundles b.stations) ++ held_where (strictly_upstream b.dataflow n) (all_held b.stations)) ++ open_where (upstream b.dataflow n) (open_on b) → all ≡ counted_times (on_board b) (upstream b.dataflow n) (strictly_upstream b.dataflow n)
-  input_all b n all e = e ∙ append_assoc (stamps (λ site. upstream b.dataflow n site.node) (all_bundles b.stations)) (held_where (strictly_upstream b.dataflow n) (all_held b.stations)) (open_where (upstream b.dataflow n) (open_on b))
+      → all ≡ counted_above b n
+  input_collected b e is n none flight some all x f s a = collected b e is n (λ p. strictly_upstream p n) none flight some all x f s a ∙ sym (input_outstanding_is b.dataflow (on_board b) n)
 
   -- the least of the collected times are the node's input frontier
-  pub input_front_found : (b : BoardState T) (n : ℕ) (all found : List T) → all ≡ (stamps (λ site. upstream b.dataflow n site.node) (all_bundles b.stations) ++ held_where (strictly_upstream b.dataflow n) (all_held b.stations)) ++ open_where (upstream b.dataflow n) (open_on b)
-      → SameElements found (least below all) → SameElements found (input_front below b n)
-  input_front_found b n all found e same = subst (λ ts. SameElements found (least below ts)) (input_all b n all e) same
+  pub input_front_found : (b : BoardState T) (n : ℕ) (all found : List T) → all ≡ counted_above b n → SameElements found (least below all) → SameElements found (input_front below b n)
+  input_front_found b n all found e same = subst (λ ts. SameElements found (least below ts)) e same
 
   -- the same times are beyond the collected times' least and beyond the frontier
-  pub input_beyond_found : (b : BoardState T) (n : ℕ) (all found : List T) → all ≡ (stamps (λ site. upstream b.dataflow n site.node) (all_bundles b.stations) ++ held_where (strictly_upstream b.dataflow n) (all_held b.stations)) ++ open_where (upstream b.dataflow n) (open_on b)
-      → ((t : T) → is_beyond below found t ≡ is_beyond below all t) → (t : T) → is_beyond below found t ≡ is_beyond below (input_front below b n) t
-  input_beyond_found b n all found e same t = same t ∙ (ap (λ ts. is_beyond below ts t) (input_all b n all e) ∙ sym (least_beyond o (counted_times (on_board b) (upstream b.dataflow n) (strictly_upstream b.dataflow n)) t))
+  pub input_beyond_found : (b : BoardState T) (n : ℕ) (all found : List T) → all ≡ counted_above b n → ((t : T) → is_beyond below found t ≡ is_beyond below all t) → (t : T) → is_beyond below found t ≡ is_beyond below (input_front below b n) t
+  input_beyond_found b n all found e same t = same t ∙ (ap (λ ts. is_beyond below ts t) e ∙ sym (least_beyond o (counted_above b n) t))
+
+  -- three tests tell whether an input frontier has passed a time
+  pub input_passed_found : (b : BoardState T) (n : ℕ) (t : T) (x y z : Bool)
+      → x ≡ list_any (λ q. upstream b.dataflow n q.place.node && is_beyond below q.stamp t) (all_bundles b.stations) → y ≡ list_any (λ m. strictly_upstream b.dataflow n m.node && below m.time t) (all_held b.stations)
+      → z ≡ list_any (λ i. upstream b.dataflow n i.input && below i.time t) (open_on b) → not ((x || y) || z) ≡ has_passed below (input_front below b n) t
+  input_passed_found b n t x y z e f g =
+      none_found (on_board b) (upstream b.dataflow n) (strictly_upstream b.dataflow n) t x y z e f g ∙ ap not (sym (beyond_input_frontier b.dataflow (on_board b) n below o t))
 
 -- what follows from a fact about an answer holds if the fact does
 pub on_ok : {A E : Type 0} (r : Result A E) (P Q : A → Type 0) → ((x : A) → P x → Q x) → IfOk r P → IfOk r Q
@@ -196,26 +212,34 @@ module _ {T : Type 0} (below : T → T → Bool) (o : PartialOrderLaws below) (m
 
   -- the same times are beyond a frontier found on the board and the one that the history leaves
   pub front_stands : (b : BoardState T) → IsBoard b → (h : List (Event T)) → Stands below minimum b h → (n : ℕ) (t : T) → is_beyond below (front below b n) t ≡ is_beyond below (frontier below b.dataflow (state_after below minimum b.dataflow h) n) t
-  front_stands b board h s n t = counted_like below o (on_board b) (state_after below minimum b.dataflow h) (upstream b.dataflow n) (upstream b.dataflow n) (queued b h s) (holds b h s) (opened b board h s) t
+  front_stands b board h s n t =
+      let w = state_after below minimum b.dataflow h in
+      beyond_frontier b.dataflow (on_board b) n below o t
+      ∙ (counted_like below o (on_board b) w (upstream b.dataflow n) (upstream b.dataflow n) (queued b h s) (holds b h s) (opened b board h s) t
+      ∙ sym (beyond_frontier b.dataflow w n below o t))
 
   -- they have the same elements
   pub front_elements : (b : BoardState T) → IsBoard b → (h : List (Event T)) → Stands below minimum b h → (n : ℕ) → SameElements (front below b n) (frontier below b.dataflow (state_after below minimum b.dataflow h) n)
   front_elements b board h s n =
-      let found = outstanding b.dataflow (on_board b) n in
-      let left = outstanding b.dataflow (state_after below minimum b.dataflow h) n in
-      least_same below o found left (λ t. sym (least_beyond o found t) ∙ (front_stands b board h s n t ∙ least_beyond o left t))
+      let found = times_where (is_upstream b.dataflow.nodes n) (items_of (on_board b)) in
+      let left = times_where (is_upstream b.dataflow.nodes n) (items_of (state_after below minimum b.dataflow h)) in
+      same_least below o found left (λ t. sym (least_beyond o found t) ∙ (front_stands b board h s n t ∙ least_beyond o left t))
 
   -- the same times are beyond an input frontier found on the board and the one that the history
   -- leaves
   pub input_front_stands : (b : BoardState T) → IsBoard b → (h : List (Event T)) → Stands below minimum b h → (n : ℕ) (t : T) → is_beyond below (input_front below b n) t ≡ is_beyond below (input_frontier below b.dataflow (state_after below minimum b.dataflow h) n) t
-  input_front_stands b board h s n t = counted_like below o (on_board b) (state_after below minimum b.dataflow h) (upstream b.dataflow n) (strictly_upstream b.dataflow n) (queued b h s) (holds b h s) (opened b board h s) t
+  input_front_stands b board h s n t =
+      let w = state_after below minimum b.dataflow h in
+      beyond_input_frontier b.dataflow (on_board b) n below o t
+      ∙ (counted_like below o (on_board b) w (upstream b.dataflow n) (strictly_upstream b.dataflow n) (queued b h s) (holds b h s) (opened b board h s) t
+      ∙ sym (beyond_input_frontier b.dataflow w n below o t))
 
   -- they have the same elements
   pub input_front_elements : (b : BoardState T) → IsBoard b → (h : List (Event T)) → Stands below minimum b h → (n : ℕ) → SameElements (input_front below b n) (input_frontier below b.dataflow (state_after below minimum b.dataflow h) n)
   input_front_elements b board h s n =
-      let found = counted_times (on_board b) (upstream b.dataflow n) (strictly_upstream b.dataflow n) in
-      let left = counted_times (state_after below minimum b.dataflow h) (upstream b.dataflow n) (strictly_upstream b.dataflow n) in
-      least_same below o found left (λ t. sym (least_beyond o found t) ∙ (input_front_stands b board h s n t ∙ least_beyond o left t))
+      let found = times_where (is_input_upstream b.dataflow.nodes n) (items_of (on_board b)) in
+      let left = times_where (is_input_upstream b.dataflow.nodes n) (items_of (state_after below minimum b.dataflow h)) in
+      same_least below o found left (λ t. sym (least_beyond o found t) ∙ (input_front_stands b board h s n t ∙ least_beyond o left t))
 
   -- a worker is ready on the board if some time that it holds after the history is one that the
   -- input frontier has passed

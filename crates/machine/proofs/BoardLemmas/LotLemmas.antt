@@ -12,7 +12,8 @@ use Rattle.machine.specs.declared.histories.event.Site.{Site}
 use Rattle.machine.specs.declared.histories.event.Bundle.{Bundle}
 use Rattle.machine.specs.declared.histories.event.HeldTime.{HeldTime}
 use Rattle.machine.specs.Histories.States.{place, same_place, queue, held_at}
-use Rattle.machine.specs.Histories.Outstanding.{stamps, held_where}
+use Rattle.machine.specs.Histories.Outstanding.{stamps}
+use Rattle.machine.proofs.HistoryLemmas.OutstandingLemmas.{held_where}
 use Rattle.machine.specs.Histories.{held_entries}
 use Rattle.machine.specs.Boards.Loads.{is_none, Load, Lot, bundle_at, no_lot, loads_at, lot_of, queue_of, bundles_of, bundles_in, all_bundles, held_in, all_held, stamps_of, stamps_at, times_at}
 use Rattle.machine.specs.Boards.Stations.{lot}

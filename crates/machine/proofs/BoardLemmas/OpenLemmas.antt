@@ -15,7 +15,7 @@ use Rattle.plan.specs.declared.node.Node.{Node}
 use Rattle.plan.specs.declared.node.Node.TheVariants.{Input}
 use Rattle.machine.specs.declared.histories.event.OpenTime.{OpenTime}
 use Rattle.machine.specs.Histories.States.{open_at}
-use Rattle.machine.specs.Histories.Outstanding.{open_where}
+use Rattle.machine.proofs.HistoryLemmas.OutstandingLemmas.{open_where}
 use Rattle.machine.specs.Histories.{open_entries}
 use Rattle.machine.specs.Boards.Inputs.{front_at, first_inputs}
 

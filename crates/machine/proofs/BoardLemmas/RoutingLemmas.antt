@@ -1,8 +1,7 @@
 -- The edges and the columns that a routing keeps: how the tables are built, and what they answer.
-use Rattle.std.proofs.Common.{◌≡◌, ℕ, zero, suc, ◌+◌, ◌<◌, ◌≤◌, Bool, true, false, cond, List, [], ◌∷◌, ◌++◌, map, take, length, get_or, sym, refl, ap, ap₂, ◌∙◌, subst, Option, arith, inl, inr, ⊎_elim}
+use Rattle.std.proofs.Common.{◌≡◌, ℕ, zero, suc, ◌+◌, ◌<◌, ◌≤◌, Bool, true, false, cond, List, [], ◌∷◌, ◌++◌, map, take, length, get_or, sym, refl, ap, ap₂, ◌∙◌, subst, Option, arith, inl, inr}
 use Rattle.std.specs.List.{filter}
-use Rattle.std.proofs.lemmas.Bool.{cases_lt}
-use Rattle.std.proofs.lemmas.List.{length-map, length-append, get_or-map, get_or_at, get_or_append_left, map_push, take_more}
+use Rattle.std.proofs.lemmas.List.{length-map, get_or-map, map_push, take_more}
 use Rattle.std.proofs.lemmas.Option.{unwrap_or-slice_get}
 use Rattle.antichain.proofs.Lists.{Among, filter_has}
 use Rattle.plan.specs.Ancestors.{numbers_below}

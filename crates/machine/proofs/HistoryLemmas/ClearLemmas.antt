@@ -11,14 +11,14 @@ use Rattle.machine.proofs.HistoryLemmas.StampLemmas.{beyond_passed}
 use Rattle.machine.specs.declared.histories.event.Bundle.{Bundle}
 use Rattle.machine.specs.declared.histories.event.HeldTime.{HeldTime}
 use Rattle.machine.specs.Histories.States.{State, place, same_place, times, updates_at, held_at}
-use Rattle.machine.specs.Histories.Outstanding.{stamps, held_where, open_where, counted_times}
+use Rattle.machine.specs.Histories.Outstanding.{stamps}
+use Rattle.machine.proofs.HistoryLemmas.OutstandingLemmas.{held_where, open_where, counted_times}
 use Rattle.std.specs.List.{list_all}
 use Rattle.std.proofs.lemmas.Bool.{and_from}
-use Rattle.antichain.specs.Antichains.{least}
 use Rattle.plan.specs.Changes.{has_passed}
 use Rattle.machine.specs.Histories.Dataflows.{Dataflow, upstream}
 use Rattle.machine.specs.Histories.Promises.{IsClearAt}
-use Rattle.machine.proofs.HistoryLemmas.FlowLemmas.{as_of-append, passed-least}
+use Rattle.machine.proofs.HistoryLemmas.FlowLemmas.{as_of-append}
 use Rattle.machine.proofs.HistoryLemmas.KeptLemmas.{as_of-passed, is_stamped}
 
 -- nothing that counts at t is still in flight to the node
@@ -119,11 +119,11 @@ module _ {T : Type 0} (leq : T → T → Bool) (o : PartialOrderLaws leq) (t : T
       one true k = ap not (or_parts (leq (time x) t) false k).0
       one false k = refl
 
--- if a frontier has passed a time, nothing is outstanding at or before it, at one node
+-- if all that counts has passed a time, nothing is outstanding at or before it, at one node
 pub lurks_lem : {T : Type 0} (leq : T → T → Bool) → PartialOrderLaws leq → (p : Dataflow) (w : State T) (n : ℕ) (holding : ℕ → Bool) (t : T) → list_all (is_stamped leq) w.in_flight ≡ true
-    → is_beyond leq (least leq (counted_times w (upstream p n) holding)) t ≡ false → IsClearAt leq p w n holding t
+    → is_beyond leq (counted_times w (upstream p n) holding) t ≡ false → IsClearAt leq p w n holding t
 lurks_lem leq o p w n holding t a h =
-    let c = counted_parts leq o t (upstream p n) holding w (passed-least leq o (counted_times w (upstream p n) holding) t h) in
+    let c = counted_parts leq o t (upstream p n) holding w h in
     record {
       in_flight = no_bundle leq o t (upstream p n) w.in_flight a c.0;
       held = none_of leq o t (λ m. holding m.node) (λ m. m.time) w.held c.1;

@@ -7,9 +7,6 @@ use Rattle.std.proofs.lemmas.Bool.{and_parts, eqb-true, false≢true}
 use Rattle.std.proofs.lemmas.Option.{same_Some}
 use Rattle.std.proofs.lemmas.List.Concat.{flat_map-append}
 use Rattle.std.proofs.Math.IntN.{ℤ, pos, ◌+ℤ◌, +ℤ_idl}
-use Rattle.lattice.specs.Order.{PartialOrderLaws}
-use Rattle.lattice.specs.Frontiers.{is_beyond}
-use Rattle.antichain.specs.Antichains.{least}
 use Rattle.antichain.proofs.Lists.{Among}
 use Rattle.update.specs.Bags.{count_of, same_row, total_by}
 use Rattle.update.specs.Updates.{as_of, entry}
@@ -21,7 +18,6 @@ use Rattle.machine.specs.Histories.{without}
 use Rattle.update.proofs.SumLemmas.{total_by-append}
 use Rattle.plan.proofs.CountLemmas.{count_of-append}
 pub use Rattle.views.proofs.SumLemmas.{sum_at, as_of-append, sum_at-append}
-use Rattle.antichain.proofs.InsertionLemmas.{least_beyond}
 
 -- places that the test calls the same are equal
 pub place_same : (a b : Site) → same_place a b ≡ true → a ≡ b
@@ -107,17 +103,6 @@ module _ {T : Type 0} where
       step : (c : Bool) → Among b (cond c (without site qs j) (without site qs (suc j))) → (Among b (without site qs j) → Among b qs) → (Among b (without site qs (suc j)) → Among b qs) → Among b qs
       step true m ih jh = ih m
       step false m ih jh = jh m
-
--- Least elements and the list that they come from have passed the same times
-
-module _ {T : Type 0} (leq : T → T → Bool) (o : PartialOrderLaws leq) where
-  -- what is beyond a list is beyond its least elements
-  pub beyond-least : (S : List T) (t : T) → is_beyond leq S t ≡ true → is_beyond leq (least leq S) t ≡ true
-  beyond-least S t h = least_beyond o S t ∙ h
-
-  -- a list has passed what its least elements have passed
-  pub passed-least : (S : List T) (t : T) → is_beyond leq (least leq S) t ≡ false → is_beyond leq S t ≡ false
-  passed-least S t h = sym (least_beyond o S t) ∙ h
 
 -- Passed as a test, and as the fact that the time is not beyond
 

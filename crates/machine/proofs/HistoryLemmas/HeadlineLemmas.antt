@@ -19,14 +19,15 @@ use Rattle.machine.specs.declared.histories.event.Event.{Event}
 use Rattle.machine.specs.Histories.Dataflows.{Dataflow, IsDataflow, node_of, node_output, upstream, route}
 use Rattle.machine.specs.Histories.States.{State, emitted_at}
 use Rattle.machine.specs.Histories.NodeLaws.{received_at}
-use Rattle.machine.specs.Histories.Outstanding.{outstanding, counted_times, frontier, strictly_upstream, input_frontier, port_frontier}
+use Rattle.machine.specs.Histories.Outstanding.{frontier, strictly_upstream, input_frontier, port_frontier}
 use Rattle.machine.specs.Histories.{IsLegal, state_after}
 use Rattle.machine.specs.Histories.Promises.{changes_in, MeetsQuery, MeetsDifferences, MeetsPart, IsClearAt, NothingLurks, NeverGoesBack}
 use Rattle.machine.proofs.HistoryLemmas.ClaimLemmas.{claim, part_claim, due_claim}
 use Rattle.machine.proofs.HistoryLemmas.ClearLemmas.{IsClear, IsArrived, arrived_passed, clear_passed, lurks_lem}
-use Rattle.machine.proofs.HistoryLemmas.FlowLemmas.{passed-least, is_passed, not_beyond}
+use Rattle.machine.proofs.HistoryLemmas.FlowLemmas.{is_passed, not_beyond}
 use Rattle.machine.proofs.HistoryLemmas.KeptLemmas.{is_stamped, kept_state}
 use Rattle.machine.proofs.HistoryLemmas.OnwardLemmas.{frontier_onward, input_onward, port_onward}
+use Rattle.machine.proofs.HistoryLemmas.OutstandingLemmas.{counted_times, outstanding, beyond_frontier, beyond_input_frontier}
 use Rattle.machine.proofs.HistoryLemmas.PassedLemmas.{passed_down}
 
 module _ {T : Type 0} (leq : T → T → Bool) (minimum : T) (o : PartialOrderLaws leq) (p : Dataflow) (q : IsDataflow p) where
@@ -38,11 +39,18 @@ module _ {T : Type 0} (leq : T → T → Bool) (minimum : T) (o : PartialOrderLa
     stamped : list_all (is_stamped leq) w.in_flight ≡ true
     stamped = (kept_state leq o p minimum h l).stamped
 
+    -- what a passed frontier says of all that it counts
+    none_out : (t : T) → is_beyond leq (frontier leq p w n) t ≡ false → is_beyond leq (outstanding p w n) t ≡ false
+    none_out t f = sym (beyond_frontier p w n leq o t) ∙ f
+
+    none_before : (t : T) → is_beyond leq (input_frontier leq p w n) t ≡ false → is_beyond leq (counted_times w (upstream p n) (strictly_upstream p n)) t ≡ false
+    none_before t f = sym (beyond_input_frontier p w n leq o t) ∙ f
+
     -- the headline: a view is right at each time that its frontier has passed; all promises to
     -- readers follow from it
     pub headline_lem : MeetsQuery leq p w n
     headline_lem t e r =
-        (claim leq p q w (kept_state leq o p minimum h l) t n (λ m a. clear_passed leq o t (upstream p n) (upstream p n) w stamped (passed-least leq o (outstanding p w n) t (not_beyond _ e)) m a a)).all r
+        (claim leq p q w (kept_state leq o p minimum h l) t n (λ m a. clear_passed leq o t (upstream p n) (upstream p n) w stamped (none_out t (not_beyond _ e)) m a a)).all r
 
     -- consolidated, what a node gave at passed times is the one list of differences
     pub differences_lem : (cmp : T → T → Ordering) → MeetsDifferences leq p w n cmp
@@ -52,15 +60,15 @@ module _ {T : Type 0} (leq : T → T → Bool) (minimum : T) (o : PartialOrderLa
     }
 
     arrived : (t : T) → is_beyond leq (input_frontier leq p w n) t ≡ false → IsArrived leq w t n
-    arrived t f = arrived_passed leq o t (upstream p n) (strictly_upstream p n) w stamped (passed-least leq o (counted_times w (upstream p n) (strictly_upstream p n)) t f) n (above_itself p.nodes q.plan n)
+    arrived t f = arrived_passed leq o t (upstream p n) (strictly_upstream p n) w stamped (none_before t f) n (above_itself p.nodes q.plan n)
 
     others : (t : T) → is_beyond leq (input_frontier leq p w n) t ≡ false → (m : ℕ) → upstream p n m ≡ true → m < n → IsClear leq w t m
-    others t f m a b = clear_passed leq o t (upstream p n) (strictly_upstream p n) w stamped (passed-least leq o (counted_times w (upstream p n) (strictly_upstream p n)) t f) m a (and_from (upstream p n m) (not (eqb m n)) a (ap not (ne_eqb m n (λ x. absurd (omega arith)))))
+    others t f m a b = clear_passed leq o t (upstream p n) (strictly_upstream p n) w stamped (none_before t f) m a (and_from (upstream p n m) (not (eqb m n)) a (ap not (ne_eqb m n (λ x. absurd (omega arith)))))
 
     -- nothing at or before a passed time is outstanding, so no answer at a passed time can still
     -- change
     pub lurks : NothingLurks leq p w n
-    lurks t e = lurks_lem leq o p w n (upstream p n) t stamped (not_beyond _ e)
+    lurks t e = lurks_lem leq o p w n (upstream p n) t stamped (none_out t (not_beyond _ e))
 
     -- at a join or reduction, each worker gave exactly its part of the query
     pub part_lem : (k : ℕ) → MeetsPart leq p w n k
@@ -93,7 +101,9 @@ module _ {T : Type 0} (leq : T → T → Bool) (minimum : T) (o : PartialOrderLa
     -- if an input frontier has passed a time, then in every later state nothing that could reach
     -- the node is outstanding at or before it
     pub lurks_later : IsLegal leq minimum p (later ++ h) → (n : ℕ) (t : T) → IsTrue (has_passed leq (input_frontier leq p (state_after leq minimum p h) n) t) → IsClearAt leq p (state_after leq minimum p (later ++ h)) n (strictly_upstream p n) t
-    lurks_later l n t k = lurks_lem leq o p (state_after leq minimum p (later ++ h)) n (strictly_upstream p n) t (kept_state leq o p minimum (later ++ h) l).stamped (not_beyond _ (inputs_lem l n t k))
+    lurks_later l n t k =
+        let stamped = (kept_state leq o p minimum (later ++ h) l).stamped in
+        lurks_lem leq o p (state_after leq minimum p (later ++ h)) n (strictly_upstream p n) t stamped (none_before (later ++ h) l n t (not_beyond _ (inputs_lem l n t k)))
 
     -- a time that a port's frontier has passed stays passed
     pub ports_lem : IsLegal leq minimum p (later ++ h) → (n port : ℕ) → NeverGoesBack leq (port_frontier leq p (state_after leq minimum p h) n port) (port_frontier leq p (state_after leq minimum p (later ++ h)) n port)

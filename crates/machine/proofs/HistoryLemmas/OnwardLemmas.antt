@@ -1,16 +1,17 @@
 -- No frontier goes back. Each event adds only times that are beyond what was outstanding at the
 -- nodes from which they come. The lemma `onward` proves this once, for any choice of what a
 -- frontier counts; the frontiers of nodes, inputs and ports follow.
-use Rattle.std.proofs.Common.{◌≡◌, ℕ, Bool, true, false, cond, not, ◌&&◌, ◌||◌, List, [], ◌∷◌, ◌++◌, sym, refl, ap, ◌∙◌, subst, Option, Some, None, eqb, arith, inl, inr, ⊎_elim}
+use Rattle.std.proofs.Common.{◌≡◌, ℕ, Bool, true, false, cond, not, ◌&&◌, List, [], ◌∷◌, ◌++◌, sym, refl, ap, ◌∙◌, subst, Option, Some, None, eqb, arith, ◌⊎◌, inl, inr, ⊎_elim}
 use Rattle.std.specs.List.{flat_map, filter, slice_get}
-use Rattle.std.proofs.lemmas.Bool.{and_parts, and_from, or_parts, or_from, or_right, eqb-true, ne_eqb, false≢true}
-use Rattle.std.proofs.lemmas.Option.{same_Some}
+use Rattle.std.proofs.lemmas.Bool.{and_parts, and_from, or_parts, or_from, or_right, or_cases, eqb-true, ne_eqb, false≢true}
 use Rattle.std.proofs.lemmas.List.Concat.{flat_map-append}
 use Rattle.std.proofs.lemmas.List.Folds.{list_any-append}
 use Rattle.lattice.specs.Order.{PartialOrderLaws}
 use Rattle.lattice.specs.Frontiers.{is_beyond, all_beyond}
-use Rattle.antichain.specs.Antichains.{least}
 use Rattle.plan.specs.Nodes.{is_input}
+use Rattle.progress.specs.declared.place.Place.{Place}
+use Rattle.progress.specs.declared.place.Place.TheVariants.{Port, Held, Input}
+use Rattle.progress.specs.Tallies.{comes_from, is_port_upstream}
 use Rattle.machine.proofs.HistoryLemmas.StampLemmas.{beyond_passed}
 use Rattle.machine.specs.declared.histories.event.Site.{Site}
 use Rattle.machine.specs.declared.histories.event.Bundle.{Bundle}
@@ -23,13 +24,13 @@ use Rattle.machine.specs.declared.histories.event.Event.TheVariants.{Feed, Advan
 use Rattle.machine.specs.Histories.Dataflows.{Dataflow, IsDataflow, node_of, source_of, upstream, route}
 use Rattle.machine.specs.Histories.States.{State, place, times, queue, held_at, open_at}
 use Rattle.machine.specs.Histories.Shares.{home}
-use Rattle.machine.specs.Histories.Outstanding.{stamps, held_where, open_where, counted_times, frontier, strictly_upstream, input_frontier, port_frontier, outstanding_from}
+use Rattle.machine.specs.Histories.Outstanding.{stamps, frontier, strictly_upstream, input_frontier, port_frontier}
 use Rattle.machine.specs.Histories.{alone, without, is_held_by, held_entries, open_entries, take_state, give_state, next_state, IsFeed, IsGive, IsAllowed}
 use Rattle.plan.proofs.SortLemmas.{no_source}
 use Rattle.antichain.proofs.Lists.{Among, all_at}
-use Rattle.machine.proofs.HistoryLemmas.FlowLemmas.{passed-least, queued, among_left}
+use Rattle.machine.proofs.HistoryLemmas.OutstandingLemmas.{held_where, open_where, logged_times, at_site, at_held, at_input, beyond_frontier, beyond_input_frontier, beyond_port_frontier}
+use Rattle.machine.proofs.HistoryLemmas.FlowLemmas.{queued, among_left}
 use Rattle.machine.proofs.HistoryLemmas.PlaceLemmas.{sent_from}
-use Rattle.antichain.proofs.InsertionLemmas.{least_beyond}
 use Rattle.plan.proofs.PlanLemmas.{source_smaller}
 use Rattle.plan.proofs.StandLemmas.{above_itself, above_from_source, above_earlier, above_transitive}
 
@@ -76,10 +77,6 @@ module _ {T : Type 0} (leq : T → T → Bool) (o : PartialOrderLaws leq) (t : T
       (λ e. subst (λ c. IsPassed (cond c (part x) [])) a (subst (λ (z : X). IsPassed (cond (test z) (part z) [])) e g.0))
       (λ n. passed_one test part xs g.1 x n a)
       m
-
-  -- if a list has passed the time, so have its least elements
-  pub passed_least : (F : List T) → IsPassed F → IsPassed (least leq F)
-  passed_least F h = least_beyond o F t ∙ h
 
   module _ (test : ℕ → Bool) where
     -- if what counts at the nodes that pass a test has passed the time, so has what counts at one
@@ -207,16 +204,17 @@ module _ {T : Type 0} (leq : T → T → Bool) (o : PartialOrderLaws leq) (t : T
     onward w (TakeHeld m k) a h = h
     onward w (Give g held sent) a h = onward_gave w g held sent a h
 
-  -- if all that counts has passed the time, so has each of the three logs
-  pub passed_counts : (there holds : ℕ → Bool) (w : State T) → IsPassed (counted_times w there holds) → IsPassed (stamps (λ site. there site.node) w.in_flight) × IsPassed (held_where holds w.held) × IsPassed (open_where there w.open_times)
-  passed_counts there holds w h =
-      let a = passed_parts (stamps (λ site. there site.node) w.in_flight) (held_where holds w.held ++ open_where there w.open_times) h in
-      let b = passed_parts (held_where holds w.held) (open_where there w.open_times) a.1 in
-      (a.0, b.0, b.1)
+  module _ (there : Site → Bool) (holds opens : ℕ → Bool) (w : State T) where
+    -- if all that counts has passed the time, so has each of the three logs
+    passed_logs : IsPassed (logged_times w there holds opens) → IsPassed (stamps there w.in_flight) × IsPassed (held_where holds w.held) × IsPassed (open_where opens w.open_times)
+    passed_logs h =
+        let a = passed_parts (stamps there w.in_flight) (held_where holds w.held ++ open_where opens w.open_times) h in
+        let b = passed_parts (held_where holds w.held) (open_where opens w.open_times) a.1 in
+        (a.0, b.0, b.1)
 
-  -- if each of the three logs has passed the time, so has all that counts
-  pub counts_passed : (there holds : ℕ → Bool) (w : State T) → IsPassed (stamps (λ site. there site.node) w.in_flight) × IsPassed (held_where holds w.held) × IsPassed (open_where there w.open_times) → IsPassed (counted_times w there holds)
-  counts_passed there holds w h = passed_both (stamps (λ site. there site.node) w.in_flight) (held_where holds w.held ++ open_where there w.open_times) h.0 (passed_both (held_where holds w.held) (open_where there w.open_times) h.1 h.2)
+    -- if each of the three logs has passed the time, so has all that counts
+    logs_passed : IsPassed (stamps there w.in_flight) × IsPassed (held_where holds w.held) × IsPassed (open_where opens w.open_times) → IsPassed (logged_times w there holds opens)
+    logs_passed h = passed_both (stamps there w.in_flight) (held_where holds w.held ++ open_where opens w.open_times) h.0 (passed_both (held_where holds w.held) (open_where opens w.open_times) h.1 h.2)
 
   module _ (p : Dataflow) (q : IsDataflow p) (n : ℕ) where
     -- the source of a node that is above is above too
@@ -235,117 +233,70 @@ module _ {T : Type 0} (leq : T → T → Bool) (o : PartialOrderLaws leq) (t : T
     -- a frontier has passed after each event what it had passed before
     pub frontier_onward : (w : State T) (e : Event T) → IsAllowed leq p w e → IsPassed (frontier leq p w n) → IsPassed (frontier leq p (next_state leq p w e) n)
     frontier_onward w e a h =
-        passed_least (counted_times (next_state leq p w e) (upstream p n) (upstream p n))
-        (counts_passed (upstream p n) (upstream p n) (next_state leq p w e)
+        beyond_frontier p (next_state leq p w e) n leq o t
+        ∙ logs_passed site_above (upstream p n) (upstream p n) (next_state leq p w e)
         (onward p q site_above (upstream p n) (upstream p n) upward (λ i k b x. x) (λ site x. x) w e a
-        (passed_counts (upstream p n) (upstream p n) w (passed-least leq o (counted_times w (upstream p n) (upstream p n)) t h))))
+        (passed_logs site_above (upstream p n) (upstream p n) w (sym (beyond_frontier p w n leq o t) ∙ h)))
 
     -- if an input frontier has passed the time, each of the three logs has
-    pub in_passed : (w : State T) → IsPassed (input_frontier leq p w n) → IsPassed (stamps site_above w.in_flight) × IsPassed (held_where (strictly_upstream p n) w.held) × IsPassed (open_where (upstream p n) w.open_times)
-    in_passed w h = passed_counts (upstream p n) (strictly_upstream p n) w (passed-least leq o (counted_times w (upstream p n) (strictly_upstream p n)) t h)
+    in_passed : (w : State T) → IsPassed (input_frontier leq p w n) → IsPassed (stamps site_above w.in_flight) × IsPassed (held_where (strictly_upstream p n) w.held) × IsPassed (open_where (upstream p n) w.open_times)
+    in_passed w h = passed_logs site_above (strictly_upstream p n) (upstream p n) w (sym (beyond_input_frontier p w n leq o t) ∙ h)
 
     -- an input frontier has passed after each event what it had passed before
     pub input_onward : (w : State T) (e : Event T) → IsAllowed leq p w e → IsPassed (input_frontier leq p w n) → IsPassed (input_frontier leq p (next_state leq p w e) n)
     input_onward w e a h =
-        passed_least (counted_times (next_state leq p w e) (upstream p n) (strictly_upstream p n))
-        (counts_passed (upstream p n) (strictly_upstream p n) (next_state leq p w e)
-        (onward p q site_above (strictly_upstream p n) (upstream p n) source_strict (λ i k b x. x) (λ site x. (and_parts (upstream p n site.node) (not (eqb site.node n)) x).0) w e a (in_passed w h)))
+        beyond_input_frontier p (next_state leq p w e) n leq o t
+        ∙ logs_passed site_above (strictly_upstream p n) (upstream p n) (next_state leq p w e)
+        (onward p q site_above (strictly_upstream p n) (upstream p n) source_strict (λ i k b x. x) (λ site x. (and_parts (upstream p n site.node) (not (eqb site.node n)) x).0) w e a (in_passed w h))
 
     -- a bundle that is taken at a node is beyond what the node's input frontier had passed
     pub taken_later : (w : State T) (j : ℕ) (b : Bundle T) → slice_get (queue b.place w.in_flight) j ≡ Some b → b.place.node ≡ n → IsPassed (input_frontier leq p w n) → IsPassed b.stamp
     taken_later w j b e i h = passed_taken site_above w.in_flight j b e (ap (upstream p n) i ∙ above_itself p.nodes q.plan n) (in_passed w h).0
 
-  -- bundles at the places that pass one of two tests have passed the time if those of each test
-  -- have, and back
-  passed_either : (f g : Site → Bool) (qs : List (Bundle T)) → IsPassed (stamps f qs) → IsPassed (stamps g qs) → IsPassed (stamps (λ site. f site || g site) qs)
-  passed_either f g [] h k = refl
-  passed_either f g (x ∷ qs) h k =
-      let a = passed_parts (cond (f x.place) x.stamp []) (stamps f qs) h in
-      let b = passed_parts (cond (g x.place) x.stamp []) (stamps g qs) k in
-      passed_both (cond (f x.place || g x.place) x.stamp []) (stamps (λ site. f site || g site) qs) (one (f x.place) a.0 b.0) (passed_either f g qs a.1 b.1)
-    where
-      one : (b : Bool) → IsPassed (cond b x.stamp []) → IsPassed (cond (g x.place) x.stamp []) → IsPassed (cond (b || g x.place) x.stamp [])
-      one true y z = y
-      one false y z = z
-
-  passed_each : (f g : Site → Bool) (qs : List (Bundle T)) → IsPassed (stamps (λ site. f site || g site) qs) → IsPassed (stamps f qs) × IsPassed (stamps g qs)
-  passed_each f g [] h = (refl, refl)
-  passed_each f g (x ∷ qs) h =
-      let a = passed_parts (cond (f x.place || g x.place) x.stamp []) (stamps (λ site. f site || g site) qs) h in
-      let b = one (f x.place) (g x.place) a.0 in
-      let r = passed_each f g qs a.1 in
-      (passed_both (cond (f x.place) x.stamp []) (stamps f qs) b.0 r.0, passed_both (cond (g x.place) x.stamp []) (stamps g qs) b.1 r.1)
-    where
-      one : (b c : Bool) → IsPassed (cond (b || c) x.stamp []) → IsPassed (cond b x.stamp []) × IsPassed (cond c x.stamp [])
-      one true true y = (y, y)
-      one true false y = (y, refl)
-      one false true y = (refl, y)
-      one false false y = (refl, refl)
-
   module _ (p : Dataflow) (q : IsDataflow p) (n port : ℕ) where
+    -- what the frontier of the port counts
+    abbrev counts : Place → Bool
+    counts = is_port_upstream p.nodes n port
+
     abbrev is_at_port : Site → Bool
     is_at_port site = eqb site.node n && eqb site.port port
 
-    abbrev or_above : ℕ → Site → Bool
-    or_above s site = is_at_port site || upstream p s site.node
+    -- what comes from a source or above it comes from that node's sources too
+    above_source : (from : Option ℕ) (site : Site) (s : ℕ) → source_of p site.node site.port ≡ Some s → comes_from p.nodes n from (Port site.node site.port) ≡ true → comes_from p.nodes n from (Held s) ≡ true
+    above_source None site s f x = absurd (false≢true x)
+    above_source (Some m) site s f x = upward p q m site x s f
 
-    -- a port of an input has nothing above it but the input's own frontier
-    input_port : (w : State T) (e : Event T) → IsAllowed leq p w e → source_of p n port ≡ None
-        → IsPassed (stamps is_at_port w.in_flight) → IsPassed (open_at n w.open_times)
-        → IsPassed (stamps is_at_port (next_state leq p w e).in_flight) × IsPassed (open_at n (next_state leq p w e).open_times)
-    input_port w e a none h k =
-        let r = onward p q is_at_port (λ m. false) (λ i. eqb i n) sources (λ i k b x. (and_parts (eqb i n) (eqb 0 port) x).0) (λ site x. absurd (false≢true x)) w e a (h, no_held w.held, k) in
-        (r.0, r.2)
+    port_sources : (site : Site) → at_site counts site ≡ true → (s : ℕ) → source_of p site.node site.port ≡ Some s → at_held counts s ≡ true
+    port_sources site x s f =
+        ⊎_elim
+        (λ y.
+        let v = and_parts (eqb site.node n) (eqb site.port port) y in
+        let g : source_of p n port ≡ Some s = subst (λ b. source_of p n b ≡ Some s) (eqb-true site.port port v.1) (subst (λ a. source_of p a site.port ≡ Some s) (eqb-true site.node n v.0) f) in
+        ap (λ from. comes_from p.nodes n from (Held s)) g ∙ above_itself p.nodes q.plan s)
+        (λ y. above_source (source_of p n port) site s f y)
+        (or_cases (is_at_port site) (comes_from p.nodes n (source_of p n port) (Port site.node site.port)) x)
+
+    -- a change is fed to an input, which has no source but its own frontier
+    port_inputs : (i k : ℕ) → is_input (node_of p i) ≡ true → at_site counts (place i 0 k) ≡ true → at_input counts i ≡ true
+    port_inputs i k b x = step (source_of p n port) refl (or_cases (eqb i n && eqb 0 port) (comes_from p.nodes n (source_of p n port) (Port i 0)) x)
       where
-        no_held : (ms : List (HeldTime T)) → IsPassed (held_where (λ m. false) ms)
-        no_held [] = refl
-        no_held (m ∷ ms) = no_held ms
+        step : (from : Option ℕ) → source_of p n port ≡ from → ((eqb i n && eqb 0 port) ≡ true) ⊎ (comes_from p.nodes n from (Port i 0) ≡ true) → comes_from p.nodes n from (Input i) ≡ true
+        step None f (inl y) = (and_parts (eqb i n) (eqb 0 port) y).0
+        step None f (inr y) = absurd (false≢true y)
+        step (Some s) f (inl y) = absurd (no_source (node_of p n) port s f (subst (λ m. is_input (node_of p m) ≡ true) (eqb-true i n (and_parts (eqb i n) (eqb 0 port) y).0) b))
+        step (Some s) f (inr y) = y
 
-        sources : (site : Site) → is_at_port site ≡ true → (s : ℕ) → source_of p site.node site.port ≡ Some s → false ≡ true
-        sources site x s f =
-            let y = and_parts (eqb site.node n) (eqb site.port port) x in
-            absurd (clash (subst (λ b. source_of p n b ≡ Some s) (eqb-true site.port port y.1) (subst (λ a. source_of p a site.port ≡ Some s) (eqb-true site.node n y.0) f)))
-          where
-            clash : source_of p n port ≡ Some s → ⊥
-            clash g = cc (none, g)
-
-    source_port : (s : ℕ) (w : State T) (e : Event T) → IsAllowed leq p w e → source_of p n port ≡ Some s
-        → IsPassed (stamps is_at_port w.in_flight) → IsPassed (counted_times w (upstream p s) (upstream p s))
-        → IsPassed (stamps is_at_port (next_state leq p w e).in_flight) × IsPassed (counted_times (next_state leq p w e) (upstream p s) (upstream p s))
-    source_port s w e a some h k =
-        let c = passed_counts (upstream p s) (upstream p s) w k in
-        let r = onward p q (or_above s) (upstream p s) (upstream p s) sources inputs (λ site x. or_right (is_at_port site) (upstream p s site.node) x) w e a (passed_either is_at_port (λ site. upstream p s site.node) w.in_flight h c.0, c.1, c.2) in
-        let y = passed_each is_at_port (λ site. upstream p s site.node) (next_state leq p w e).in_flight r.0 in
-        (y.0, counts_passed (upstream p s) (upstream p s) (next_state leq p w e) (y.1, r.1, r.2))
+    port_places : (site : Site) → at_held counts site.node ≡ true → at_site counts site ≡ true
+    port_places site x = or_right (is_at_port site) (comes_from p.nodes n (source_of p n port) (Port site.node site.port)) (step (source_of p n port) x)
       where
-        sources : (site : Site) → or_above s site ≡ true → (m : ℕ) → source_of p site.node site.port ≡ Some m → upstream p s m ≡ true
-        sources site x m f = step (is_at_port site) refl x
-          where
-            step : (b : Bool) → is_at_port site ≡ b → (b || upstream p s site.node) ≡ true → upstream p s m ≡ true
-            step true y z =
-                let v = and_parts (eqb site.node n) (eqb site.port port) y in
-                let g : source_of p n port ≡ Some m = subst (λ b. source_of p n b ≡ Some m) (eqb-true site.port port v.1) (subst (λ a. source_of p a site.port ≡ Some m) (eqb-true site.node n v.0) f) in
-                subst (λ i. upstream p s i ≡ true) (same_Some s m (sym some ∙ g)) (above_itself p.nodes q.plan s)
-            step false y z = upward p q s site z m f
-
-        inputs : (i k : ℕ) → is_input (node_of p i) ≡ true → or_above s (place i 0 k) ≡ true → upstream p s i ≡ true
-        inputs i k b x = step (eqb i n && eqb 0 port) refl x
-          where
-            step : (c : Bool) → (eqb i n && eqb 0 port) ≡ c → (c || upstream p s i) ≡ true → upstream p s i ≡ true
-            step true y z = absurd (no_source (node_of p n) port s some (subst (λ m. is_input (node_of p m) ≡ true) (eqb-true i n (and_parts (eqb i n) (eqb 0 port) y).0) b))
-            step false y z = z
+        step : (from : Option ℕ) → comes_from p.nodes n from (Held site.node) ≡ true → comes_from p.nodes n from (Port site.node site.port) ≡ true
+        step None y = absurd (false≢true y)
+        step (Some s) y = y
 
     -- the frontier of a port has passed after each event what it had passed before
     pub port_onward : (w : State T) (e : Event T) → IsAllowed leq p w e → IsPassed (port_frontier leq p w n port) → IsPassed (port_frontier leq p (next_state leq p w e) n port)
-    port_onward w e a h = step (source_of p n port) refl (passed_parts (stamps is_at_port w.in_flight) (outstanding_from p w n (source_of p n port)) (passed-least leq o (stamps is_at_port w.in_flight ++ outstanding_from p w n (source_of p n port)) t h))
-      where
-        z : State T
-        z = next_state leq p w e
-
-        step : (s : Option ℕ) → source_of p n port ≡ s → IsPassed (stamps is_at_port w.in_flight) × IsPassed (outstanding_from p w n (source_of p n port)) → IsPassed (port_frontier leq p z n port)
-        step None f x =
-            let r = input_port w e a f x.0 (subst (λ s. IsPassed (outstanding_from p w n s)) f x.1) in
-            passed_least (stamps is_at_port z.in_flight ++ outstanding_from p z n (source_of p n port)) (passed_both (stamps is_at_port z.in_flight) (outstanding_from p z n (source_of p n port)) r.0 (subst (λ s. IsPassed (outstanding_from p z n s)) (sym f) r.1))
-        step (Some s) f x =
-            let r = source_port s w e a f x.0 (subst (λ s. IsPassed (outstanding_from p w n s)) f x.1) in
-            passed_least (stamps is_at_port z.in_flight ++ outstanding_from p z n (source_of p n port)) (passed_both (stamps is_at_port z.in_flight) (outstanding_from p z n (source_of p n port)) r.0 (subst (λ s. IsPassed (outstanding_from p z n s)) (sym f) r.1))
+    port_onward w e a h =
+        beyond_port_frontier p (next_state leq p w e) n leq o t port
+        ∙ logs_passed (at_site counts) (at_held counts) (at_input counts) (next_state leq p w e)
+        (onward p q (at_site counts) (at_held counts) (at_input counts) port_sources port_inputs port_places w e a
+        (passed_logs (at_site counts) (at_held counts) (at_input counts) w (sym (beyond_port_frontier p w n leq o t port) ∙ h)))

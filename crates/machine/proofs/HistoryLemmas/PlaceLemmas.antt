@@ -6,12 +6,16 @@ use Rattle.std.proofs.Math.IntN.{ℤ}
 use Rattle.update.specs.Bags.{total_by}
 use Rattle.std.proofs.lemmas.Bool.{and_parts, and_from, eqb-true, eq-eqb, false≢true}
 use Rattle.std.proofs.lemmas.Option.{same_Some}
-use Rattle.antichain.proofs.Lists.{Among, among_contains, filter_has}
+use Rattle.antichain.proofs.Lists.{Among, among_contains, contains_among, filter_has}
 use Rattle.update.specs.declared.change.Update.{Update}
 use Rattle.plan.specs.Ancestors.{numbers_below}
 use Rattle.plan.specs.Edges.{numbers_where}
 use Rattle.plan.specs.Nodes.{sources, arranged_by, node_at, is_input}
 use Rattle.plan.proofs.PlanLemmas.{has_source}
+use Rattle.progress.specs.declared.place.Place.TheVariants.{Port, Held, Input}
+use Rattle.progress.specs.declared.counted.Counted.{Counted}
+use Rattle.progress.specs.Tallies
+use Rattle.progress.proofs.NumberLemmas.{number_below}
 use Rattle.machine.specs.declared.histories.event.Site.{Site}
 use Rattle.machine.specs.declared.histories.event.Bundle.{Bundle}
 use Rattle.machine.specs.declared.histories.event.Emission.{Emission}
@@ -22,6 +26,7 @@ use Rattle.machine.specs.declared.histories.event.Event.TheVariants.{Feed, Advan
 use Rattle.machine.specs.Histories.Dataflows.{Dataflow, IsDataflow, node_of, source_of, route}
 use Rattle.machine.specs.Histories.States.{State, same_place, updates_at}
 use Rattle.machine.specs.Histories.Shares.{part, share_from, share}
+use Rattle.machine.specs.Histories.Outstanding.{items_in_flight, items_held, items_open, items_of}
 use Rattle.machine.specs.Histories.{alone, with_at, is_held_by, held_entries, open_entries, give_state, next_state, IsInput, IsGive, IsAllowed, initial_state, state_after, IsLegal}
 use Rattle.machine.specs.Histories.Promises.{IsPlace, IsInPlace}
 use Rattle.machine.proofs.HistoryLemmas.ClaimLemmas.{routed}
@@ -39,9 +44,9 @@ each_both P (z ∷ xs) ys a b x m = ⊎_elim (λ e. a x (inl e)) (λ n. each_bot
 each_one : {X : Type 0} (P : X → Type 0) (x : X) → P x → Each P (x ∷ [])
 each_one P x h y m = ⊎_elim (λ e. subst P e h) (λ n. absurd n) m
 
-each_map : {X Y : Type 0} (P : Y → Type 0) (f : X → Y) (xs : List X) → ((x : X) → P (f x)) → Each P (map f xs)
+each_map : {X Y : Type 0} (P : Y → Type 0) (f : X → Y) (xs : List X) → ((x : X) → Among x xs → P (f x)) → Each P (map f xs)
 each_map P f [] h y m = absurd m
-each_map P f (x ∷ xs) h y m = ⊎_elim (λ e. subst P e (h x)) (λ n. each_map P f xs h y n) m
+each_map P f (x ∷ xs) h y m = ⊎_elim (λ e. subst P e (h x (inl refl))) (λ n. each_map P f xs (λ z i. h z (inr i)) y n) m
 
 each_flat : {X Y : Type 0} (P : Y → Type 0) (f : X → List Y) (xs : List X) → ((x : X) → Among x xs → Each P (f x)) → Each P (flat_map f xs)
 each_flat P f [] h = λ y m. absurd m
@@ -49,15 +54,6 @@ each_flat P f (x ∷ xs) h = each_both P (f x) (flat_map f xs) (h x (inl refl)) 
 
 each_filter : {X : Type 0} (P : X → Type 0) (keep : X → Bool) (xs : List X) → Each P xs → Each P (filter keep xs)
 each_filter P keep xs h x m = h x (filter_has keep xs x m).0
-
--- each of the numbers below n is below n
-pub number_below : (n i : ℕ) → Among i (numbers_below n) → i < n
-number_below zero i m = absurd m
-number_below (suc n) i m = parts (numbers_below n) (number_below n i) m
-  where
-    parts : (xs : List ℕ) → (Among i xs → i < n) → Among i (xs ++ n ∷ []) → i < suc n
-    parts [] h m = ⊎_elim (λ e. omega arith) (λ k. absurd k) m
-    parts (x ∷ xs) h m = ⊎_elim (λ e. let r = h (inl e) in omega arith) (λ k. parts xs (λ j. h (inr j)) k) m
 
 module _ {T : Type 0} where
   -- if a bundle that is not empty is among these, there are updates at its place
@@ -173,7 +169,7 @@ module _ {T : Type 0} (p : Dataflow) (q : IsDataflow p) where
         let some = filled_some sent a.filled in
         record {
           bundles = each_both IsBundle w.in_flight sent s.bundles (λ b m. (shared b.place g a.worker (sent_some g sent a.whole a.filled b m), some b m));
-          held = each_both IsHeld (held_entries g.node g.worker ts) (filter (λ m. not (is_held_by g.node g.worker m)) w.held) (each_map IsHeld (λ t. record { node = g.node; worker = g.worker; time = t }) ts (λ t. here)) (each_filter IsHeld (λ m. not (is_held_by g.node g.worker m)) w.held s.held);
+          held = each_both IsHeld (held_entries g.node g.worker ts) (filter (λ m. not (is_held_by g.node g.worker m)) w.held) (each_map IsHeld (λ t. record { node = g.node; worker = g.worker; time = t }) ts (λ t m. here)) (each_filter IsHeld (λ m. not (is_held_by g.node g.worker m)) w.held s.held);
           inputs = s.inputs;
           hand = hand_with p w.hand g.worker None s.hand (λ n e. cc);
         }
@@ -190,7 +186,7 @@ module _ {T : Type 0} (p : Dataflow) (q : IsDataflow p) where
       bundles = s.bundles;
       held = s.held;
       hand = s.hand;
-      inputs = each_both IsOpen (open_entries i ts) (filter (λ o. not (eqb o.input i)) w.open_times) (each_map IsOpen (λ t. record { input = i; time = t }) ts (λ t. a.input)) (each_filter IsOpen (λ o. not (eqb o.input i)) w.open_times s.inputs);
+      inputs = each_both IsOpen (open_entries i ts) (filter (λ o. not (eqb o.input i)) w.open_times) (each_map IsOpen (λ t. record { input = i; time = t }) ts (λ t m. a.input)) (each_filter IsOpen (λ o. not (eqb o.input i)) w.open_times s.inputs);
     }
     sited_after w (Allow c v ts) a s = record { bundles = s.bundles; held = s.held; inputs = s.inputs; hand = s.hand }
     sited_after w (Look c) a s = s
@@ -198,7 +194,7 @@ module _ {T : Type 0} (p : Dataflow) (q : IsDataflow p) where
         let here = (s.bundles b (queued b.place w.in_flight j b a.waits).0).0.node in
         record {
           bundles = λ x m. s.bundles x (among_left b.place w.in_flight j x m);
-          held = each_both IsHeld w.held (held_entries b.place.node b.place.worker b.stamp) s.held (each_map IsHeld (λ t. record { node = b.place.node; worker = b.place.worker; time = t }) b.stamp (λ t. (here, a.worker)));
+          held = each_both IsHeld w.held (held_entries b.place.node b.place.worker b.stamp) s.held (each_map IsHeld (λ t. record { node = b.place.node; worker = b.place.worker; time = t }) b.stamp (λ t m. (here, a.worker)));
           inputs = s.inputs;
           hand = hand_with p w.hand b.place.worker (Some b.place.node) s.hand (λ n e. (subst (λ z. z < length p.nodes) (same_Some b.place.node n e) here, a.worker));
         }
@@ -228,3 +224,22 @@ module _ {T : Type 0} (p : Dataflow) (q : IsDataflow p) where
           inputs = λ o c. s.inputs o (among_contains o w.open_times c);
           hand = s.hand;
         }
+
+-- all that is outstanding is counted at a place of the plan
+module _ {T : Type 0} (p : Dataflow) (w : State T) (placed : IsInPlace p w) where
+  abbrev IsPlaced : Counted T → Type 0
+  IsPlaced x = Tallies.IsPlace p.nodes x.place
+
+  pub items_in_place : Tallies.AreInPlace p.nodes (items_of w)
+  items_in_place x c = each_both IsPlaced (items_in_flight w.in_flight) (items_held w.held ++ items_open w.open_times) flight (each_both IsPlaced (items_held w.held) (items_open w.open_times) held opens) x (among_contains x (items_of w) c)
+    where
+      flight : Each IsPlaced (items_in_flight w.in_flight)
+      flight = each_flat IsPlaced (λ b. map (λ t. record { place = Port b.place.node b.place.port; time = t }) b.stamp) w.in_flight (λ b m.
+          let sited = (placed.bundles b (contains_among b w.in_flight m)).0 in
+          each_map IsPlaced (λ t. record { place = Port b.place.node b.place.port; time = t }) b.stamp (λ t i. (sited.node, sited.port)))
+
+      held : Each IsPlaced (items_held w.held)
+      held = each_map IsPlaced (λ m. record { place = Held m.node; time = m.time }) w.held (λ m i. (placed.held m (contains_among m w.held i)).0)
+
+      opens : Each IsPlaced (items_open w.open_times)
+      opens = each_map IsPlaced (λ o. record { place = Input o.input; time = o.time }) w.open_times (λ o i. placed.inputs o (contains_among o w.open_times i))

@@ -1,6 +1,6 @@
 -- A quiet board has caught up: each node's frontier is the least of the frontiers of the inputs
 -- that feed it.
-use Rattle.std.proofs.Common.{◌≡◌, ℕ, zero, suc, ◌<◌, Bool, true, false, cond, not, ◌||◌, List, [], ◌∷◌, ◌++◌, length, sym, refl, ap, ◌∙◌, subst, eqb, arith, IsTrue, ◌⊎◌, inl, inr, ⊎_elim}
+use Rattle.std.proofs.Common.{◌≡◌, ℕ, ◌<◌, Bool, true, false, cond, not, ◌||◌, List, [], ◌∷◌, ◌++◌, length, sym, refl, ap, ◌∙◌, subst, eqb, arith, IsTrue, ◌⊎◌, inl, inr, ⊎_elim}
 use Rattle.std.specs.List.{flat_map}
 use Rattle.std.proofs.lemmas.Bool.{and_parts, and_from, or_left, or_right, eqb-true, eq-eqb, false≢true, true≢false}
 use Rattle.std.proofs.lemmas.List.Folds.{list_any-append}
@@ -8,73 +8,24 @@ use Rattle.lattice.specs.Order.{PartialOrderLaws}
 use Rattle.lattice.specs.Frontiers.{is_beyond}
 use Rattle.lattice.proofs.BoundLemmas.{same_test}
 use Rattle.lattice.proofs.FrontierLemmas.{beyond_up}
-use Rattle.antichain.specs.Antichains.{is_least, least, SameElements}
-use Rattle.antichain.proofs.AntichainLemmas.{beyond_has, has_beyond, among_same}
-use Rattle.antichain.proofs.InsertionLemmas.{least_beyond}
-use Rattle.antichain.proofs.Lists.{Among, among_contains, contains_among, all_at, all_from, filter_has, filter_takes}
+use Rattle.antichain.specs.Antichains.{least, SameElements}
+use Rattle.antichain.proofs.AntichainLemmas.{beyond_has, has_beyond}
+use Rattle.antichain.proofs.Lists.{Among, among_contains, contains_among, all_at, filter_has, filter_takes}
 use Rattle.plan.specs.Ancestors.{feeds, feeders, numbers_below}
 use Rattle.plan.specs.Nodes.{is_input}
 use Rattle.plan.specs.Changes.{open_for}
 use Rattle.plan.proofs.StandLemmas.{above_transitive}
 use Rattle.plan.proofs.UpwardLemmas.{by_smaller}
+use Rattle.progress.proofs.FrontierLemmas.{same_least}
+use Rattle.progress.proofs.NumberLemmas.{numbered}
 use Rattle.machine.specs.declared.histories.event.HeldTime.{HeldTime}
 use Rattle.machine.specs.declared.histories.event.OpenTime.{OpenTime}
 use Rattle.machine.specs.Histories.Dataflows.{Dataflow, IsDataflow, node_of, upstream}
 use Rattle.machine.specs.Histories.States.{State, open_at}
-use Rattle.machine.specs.Histories.Outstanding.{held_where, open_where, counted_times, outstanding, frontier, strictly_upstream, input_frontier}
+use Rattle.machine.specs.Histories.Outstanding.{stamps, strictly_upstream, input_frontier}
+use Rattle.machine.proofs.HistoryLemmas.OutstandingLemmas.{held_where, open_where, counted_times, outstanding, outstanding_is, beyond_input_frontier}
 use Rattle.machine.specs.Histories.Readings.{IsQuiet, IsCaughtUp}
 use Rattle.plan.proofs.StandLemmas.{above_earlier}
-
--- if the same times are beyond two lists, their least elements are the same
-module _ {T : Type 0} (below : T → T → Bool) (o : PartialOrderLaws below) where
-  least_into : (S R : List T) → ((t : T) → is_beyond below S t ≡ is_beyond below R t) → (t : T) → Among t (least below S) → Among t (least below R)
-  unfolding least
-  least_into S R same t m =
-      let k = filter_has (is_least below S) S t m in
-      let r = beyond_has below R t (sym (same t) ∙ has_beyond below S t t k.0 (o.reflexive t)) in
-      let s = beyond_has below S r.0 (same r.0 ∙ has_beyond below R r.0 r.0 r.1 (o.reflexive r.0)) in
-      let up = implied (below s.0 t) (below t s.0) (all_at (λ s. not (below s t) || below t s) S s.0 k.1 s.1) (o.transitive s.0 r.0 t s.2 r.2) in
-      let e : r.0 ≡ t = o.antisymmetric r.0 t r.2 (o.transitive t s.0 r.0 up s.2) in
-      filter_takes (is_least below R) R t (among_same r.0 t R e r.1)
-      (all_from (λ s. not (below s t) || below t s) R (λ x n. implies (below x t) (below t x) (λ h.
-      let y = beyond_has below S x (same x ∙ has_beyond below R x x n (o.reflexive x)) in
-      let up = implied (below y.0 t) (below t y.0) (all_at (λ s. not (below s t) || below t s) S y.0 k.1 y.1) (o.transitive y.0 x t y.2 h) in
-      o.transitive t y.0 x up y.2)))
-    where
-      implied : (b c : Bool) → (not b || c) ≡ true → b ≡ true → c ≡ true
-      implied true c h e = h
-      implied false c h e = absurd (false≢true e)
-
-      implies : (b c : Bool) → (b ≡ true → c ≡ true) → (not b || c) ≡ true
-      implies true c h = h refl
-      implies false c h = refl
-
-  -- least elements depend only on which times are beyond the list
-  pub least_same : (S R : List T) → ((t : T) → is_beyond below S t ≡ is_beyond below R t) → SameElements (least below S) (least below R)
-  least_same S R same = record {
-    into = λ t c. contains_among t (least below R) (least_into S R same t (among_contains t (least below S) c));
-    back = λ t c. contains_among t (least below S) (least_into R S (λ s. sym (same s)) t (among_contains t (least below R) c));
-  }
-
--- each number below n is among the numbers below n
-pub numbered : (n i : ℕ) → i < n → Among i (numbers_below n)
-numbered zero i l = absurd (omega arith)
-numbered (suc n) i l = step (eqb i n) refl (numbered n i)
-  where
-    last : (xs : List ℕ) → Among n (xs ++ n ∷ [])
-    last [] = inl refl
-    last (x ∷ xs) = inr (last xs)
-
-    more : (xs : List ℕ) → Among i xs → Among i (xs ++ n ∷ [])
-    more [] a = absurd a
-    more (x ∷ xs) a = ⊎_elim (λ e. inl e) (λ b. inr (more xs b)) a
-
-    step : (b : Bool) → eqb i n ≡ b → (i < n → Among i (numbers_below n)) → Among i (numbers_below n ++ n ∷ [])
-    step true e ih = subst (λ z. Among z (numbers_below n ++ n ∷ [])) (sym (eqb-true i n e)) (last (numbers_below n))
-    step false e ih = more (numbers_below n) (ih (other (λ f. false≢true (sym e ∙ eq-eqb i n f))))
-      where
-        other : (i ≡ n → ⊥) → i < n
-        other d = omega arith
 
 module _ {T : Type 0} (leq : T → T → Bool) (o : PartialOrderLaws leq) (p : Dataflow) (q : IsDataflow p) (w : State T) (n : ℕ)
     (at_inputs : (x : OpenTime T) → Among x w.open_times → (x.input < length p.nodes) × IsTrue (is_input (node_of p x.input))) where
@@ -194,7 +145,7 @@ module _ {T : Type 0} (leq : T → T → Bool) (o : PartialOrderLaws leq) (p : D
     held_open : (a : ℕ) → upstream p n a ≡ true → (m : HeldTime T) → Among m w.held → m.node ≡ a → is_beyond leq (open_where (upstream p n) w.open_times) m.time ≡ true
     held_open = by_smaller (λ a. upstream p n a ≡ true → (m : HeldTime T) → Among m w.held → m.node ≡ a → is_beyond leq (open_where (upstream p n) w.open_times) m.time ≡ true) (λ a rest e m i f.
         let x = all_at (λ m. is_beyond leq (input_frontier leq p w m.node) m.time) w.held m quiet.held i in
-        let y = subst (λ z. is_beyond leq (counted_times w (upstream p z) (strictly_upstream p z)) m.time ≡ true) f (sym (least_beyond o (counted_times w (upstream p m.node) (strictly_upstream p m.node)) m.time) ∙ x) in
+        let y = subst (λ z. is_beyond leq (counted_times w (upstream p z) (strictly_upstream p z)) m.time ≡ true) f (sym (beyond_input_frontier p w m.node leq o m.time) ∙ x) in
         ⊎_elim
         (λ h.
         let r = held_of (strictly_upstream p a) m.time w.held h in
@@ -212,7 +163,9 @@ module _ {T : Type 0} (leq : T → T → Bool) (o : PartialOrderLaws leq) (p : D
     -- on a quiet board, each node's frontier is the least of the frontiers of the inputs that feed
     -- it
     pub caught_up_lem : IsCaughtUp leq p w n
-    caught_up_lem = least_same leq o (outstanding p w n) fronts (λ t. same_test (is_beyond leq (outstanding p w n) t) (is_beyond leq fronts t) (into t) (back t))
+    caught_up_lem =
+        subst (λ ts. SameElements (least leq ts) (least leq fronts)) (sym (outstanding_is p w n))
+        (same_least leq o (outstanding p w n) fronts (λ t. same_test (is_beyond leq (outstanding p w n) t) (is_beyond leq fronts t) (into t) (back t)))
       where
         into : (t : T) → is_beyond leq (outstanding p w n) t ≡ true → is_beyond leq fronts t ≡ true
         into t h =
@@ -227,8 +180,8 @@ module _ {T : Type 0} (leq : T → T → Bool) (o : PartialOrderLaws leq) (p : D
         back : (t : T) → is_beyond leq fronts t ≡ true → is_beyond leq (outstanding p w n) t ≡ true
         back t h =
             let k = open_back t (feeders p.nodes n) (λ i a. (and_parts (is_input (node_of p i)) (upstream p n i) (filter_has (λ j. feeds p.nodes j n) (numbers_below (length p.nodes)) i a).1).1) h in
-            list_any-append (λ f. leq f t) (Rattle.machine.specs.Histories.Outstanding.stamps (λ site. upstream p n site.node) w.in_flight) (held_where (upstream p n) w.held ++ open_where (upstream p n) w.open_times)
-            ∙ or_right (is_beyond leq (Rattle.machine.specs.Histories.Outstanding.stamps (λ site. upstream p n site.node) w.in_flight) t) (is_beyond leq (held_where (upstream p n) w.held ++ open_where (upstream p n) w.open_times) t)
+            list_any-append (λ f. leq f t) (stamps (λ site. upstream p n site.node) w.in_flight) (held_where (upstream p n) w.held ++ open_where (upstream p n) w.open_times)
+            ∙ or_right (is_beyond leq (stamps (λ site. upstream p n site.node) w.in_flight) t) (is_beyond leq (held_where (upstream p n) w.held ++ open_where (upstream p n) w.open_times) t)
             (list_any-append (λ f. leq f t) (held_where (upstream p n) w.held) (open_where (upstream p n) w.open_times)
             ∙ or_right (is_beyond leq (held_where (upstream p n) w.held) t) (is_beyond leq (open_where (upstream p n) w.open_times) t) k)
 

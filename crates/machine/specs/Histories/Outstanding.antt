@@ -1,18 +1,20 @@
--- Frontiers: a node may still give updates at times beyond its frontier. A frontier counts the
--- bundles in flight, by the stamps that they carry, the times that are held, and the elements of
--- the inputs' frontiers, at the node and above it, on every worker (Murray et al., Naiad, SOSP
--- 2013, section 2.3).
-use Rattle.std.specs.Prelude.{ℕ, Bool, not, ◌&&◌, eqb, if◌then◌else◌, List, [], ◌∷◌, ◌++◌, Option, Some, None}
+-- Frontiers: a node may still give updates at times beyond its frontier. A frontier counts what is
+-- outstanding, as `progress` counts it: the bundles in flight, by the stamps that they carry, the
+-- times that are held, and the elements of the inputs' frontiers, on every worker (Murray et al.,
+-- Naiad, SOSP 2013, section 2.3).
+use Rattle.std.specs.Prelude.{ℕ, Bool, not, ◌&&◌, eqb, if◌then◌else◌, List, [], ◌∷◌, ◌++◌, map}
 use Rattle.std.specs.List.{flat_map, filter}
 use Rattle.lattice.specs.Frontiers.{is_beyond}
-use Rattle.antichain.specs.Antichains.{least}
 use Rattle.update.specs.declared.change.Update.{Update}
+use Rattle.progress.specs.declared.place.Place.TheVariants.{Port, Held, Input}
+use Rattle.progress.specs.declared.counted.Counted.{Counted}
+use Rattle.progress.specs.Tallies
 use Rattle.machine.specs.declared.histories.event.Site.{Site}
 use Rattle.machine.specs.declared.histories.event.Bundle.{Bundle}
 use Rattle.machine.specs.declared.histories.event.HeldTime.{HeldTime}
 use Rattle.machine.specs.declared.histories.event.OpenTime.{OpenTime}
-use Rattle.machine.specs.Histories.Dataflows.{Dataflow, source_of, upstream}
-use Rattle.machine.specs.Histories.States.{State, times, open_at}
+use Rattle.machine.specs.Histories.Dataflows.{Dataflow, upstream}
+use Rattle.machine.specs.Histories.States.{State, times}
 
 module _ {T : Type 0} (below : T → T → Bool) where
   -- a frontier with one time added: if the time is not beyond it, the time comes in, and the
@@ -38,42 +40,34 @@ strictly_upstream p n m = upstream p n m && not (eqb m n)
 abbrev pub stamps : {T : Type 0} → (Site → Bool) → List (Bundle T) → List T
 stamps test bundles = flat_map (λ b. if test b.place then b.stamp else []) bundles
 
--- the times held at the nodes that pass a test
-abbrev pub held_where : {T : Type 0} → (ℕ → Bool) → List (HeldTime T) → List T
-held_where test held = flat_map (λ m. if test m.node then m.time ∷ [] else []) held
+-- each element of a bundle's stamp, at the port where the bundle waits, on whichever worker
+abbrev pub items_in_flight : {T : Type 0} → List (Bundle T) → List (Counted T)
+items_in_flight bundles = flat_map
+    (λ b. map (λ t. record { place = Port b.place.node b.place.port; time = t }) b.stamp) bundles
 
--- the frontiers of the inputs that pass a test
-abbrev pub open_where : {T : Type 0} → (ℕ → Bool) → List (OpenTime T) → List T
-open_where test open_times = flat_map (λ o. if test o.input then o.time ∷ [] else []) open_times
+-- each held time, at its node
+abbrev pub items_held : {T : Type 0} → List (HeldTime T) → List (Counted T)
+items_held held = map (λ m. record { place = Held m.node; time = m.time }) held
 
--- what is outstanding, if bundles and inputs count at the nodes that pass one test, and held times
--- at those that pass another
-abbrev pub counted_times : {T : Type 0} → State T → (ℕ → Bool) → (ℕ → Bool) → List T
-counted_times w there holding = stamps (λ site. there site.node) w.in_flight
-    ++ (held_where holding w.held ++ open_where there w.open_times)
+-- each element of an input's frontier, at the input
+abbrev pub items_open : {T : Type 0} → List (OpenTime T) → List (Counted T)
+items_open open_times = map (λ o. record { place = Input o.input; time = o.time }) open_times
 
--- what is outstanding at a node or above it
-abbrev pub outstanding : {T : Type 0} → Dataflow → State T → ℕ → List T
-outstanding p w n = counted_times w (upstream p n) (upstream p n)
-
--- what is outstanding at the source of a port or above it; at an input, the input's own frontier
-abbrev pub outstanding_from : {T : Type 0} → Dataflow → State T → ℕ → Option ℕ → List T
-outstanding_from p w n None = open_at n w.open_times
-outstanding_from p w n (Some source) = outstanding p w source
+-- all that is outstanding in a state
+abbrev pub items_of : {T : Type 0} → State T → List (Counted T)
+items_of w = items_in_flight w.in_flight ++ (items_held w.held ++ items_open w.open_times)
 
 module _ {T : Type 0} (below : T → T → Bool) where
   -- the frontier of a node: the least of what is outstanding at it or above it
   abbrev pub frontier : Dataflow → State T → ℕ → List T
-  frontier p w n = least below (outstanding p w n)
+  frontier p w n = Tallies.frontier below p.nodes (items_of w) n
 
   -- the input frontier of a node, without what is held at the node itself: updates may still come
   -- to the node at times beyond it
   abbrev pub input_frontier : Dataflow → State T → ℕ → List T
-  input_frontier p w n = least below (counted_times w (upstream p n) (strictly_upstream p n))
+  input_frontier p w n = Tallies.input_frontier below p.nodes (items_of w) n
 
   -- the frontier of one port: what is in flight to it, and what is outstanding at its source or
   -- above
   abbrev pub port_frontier : Dataflow → State T → ℕ → ℕ → List T
-  port_frontier p w n port = least below
-      (stamps (λ site. eqb site.node n && eqb site.port port) w.in_flight
-      ++ outstanding_from p w n (source_of p n port))
+  port_frontier p w n port = Tallies.port_frontier below p.nodes (items_of w) n port

@@ -8,14 +8,15 @@ ghost use Rattle.antichain.specs.Antichains.{SameElements, least};
 ghost use Rattle.update.specs.declared.refusal.Refusal.TheVariants.{OutOfMemory};
 ghost use Rattle.plan.specs.Ancestors.{reaches, numbers_below};
 ghost use Rattle.plan.specs.Changes.{has_passed};
+ghost use Rattle.progress.specs.Tallies.{is_upstream, is_input_upstream, times_where};
 ghost use Rattle.machine.specs.Histories.Dataflows.{upstream};
-ghost use Rattle.machine.specs.Histories.Outstanding.{stamps, held_where, open_where, outstanding, strictly_upstream};
+ghost use Rattle.machine.specs.Histories.Outstanding.{items_of, strictly_upstream};
 ghost use Rattle.machine.specs.declared.histories.event.Event.{Event};
 ghost use Rattle.machine.specs.Boards.{IsBoard, Stands, frontier_on, input_frontier_on, held_on};
 ghost use Rattle.machine.specs.Boards.Loads.{all_bundles, all_held, stamps_at, times_at};
 ghost use Rattle.machine.specs.Boards.Stations.{lots};
 ghost use Rattle.machine.specs.Boards.Inputs.{front_at};
-ghost use Rattle.machine.specs.Boards.Reads.{open_on, front, input_front, is_ready};
+ghost use Rattle.machine.specs.Boards.Reads.{on_board, open_on, front, input_front, is_ready};
 
 use crate::board::Board;
 use crate::board::inputs::InputFrontiers;
@@ -371,9 +372,7 @@ impl<T: Minimum> Board<T> {
     pub(crate) fn outstanding(&self, node: NodeId) -> Result<Vec<T>, Refusal>
         requires { node < length self.now.dataflow.nodes }
         ensures times { IfOk result (λ all. all.items
-            ≡ (stamps (λ s. upstream self.now.dataflow node s.node) (all_bundles self.now.stations)
-            ++ held_where (upstream self.now.dataflow node) (all_held self.now.stations))
-            ++ open_where (upstream self.now.dataflow node) (open_on self.now)) }
+            ≡ times_where (is_upstream self.now.dataflow.nodes node) (items_of (on_board self.now))) }
         ensures refused { IfErr result (λ refusal. refusal ≡ OutOfMemory) }
         ensures board { IsBoard self.now }
     {
@@ -388,9 +387,8 @@ impl<T: Minimum> Board<T> {
     fn outstanding_above(&self, node: NodeId) -> Result<Vec<T>, Refusal>
         requires { node < length self.now.dataflow.nodes }
         ensures times { IfOk result (λ all. all.items
-            ≡ (stamps (λ s. upstream self.now.dataflow node s.node) (all_bundles self.now.stations)
-            ++ held_where (strictly_upstream self.now.dataflow node) (all_held self.now.stations))
-            ++ open_where (upstream self.now.dataflow node) (open_on self.now)) }
+            ≡ times_where (is_input_upstream self.now.dataflow.nodes node)
+            (items_of (on_board self.now))) }
         ensures refused { IfErr result (λ refusal. refusal ≡ OutOfMemory) }
         ensures board { IsBoard self.now }
     {

@@ -1,14 +1,10 @@
 use Rattle.std.proofs.Common.{not, ap, ◌∙◌}
-use Rattle.machine.specs.Histories.Dataflows.{upstream}
-use Rattle.machine.specs.Histories.Outstanding.{strictly_upstream}
-use Rattle.machine.specs.Boards.Reads.{on_board}
-use Rattle.machine.proofs.BoardLemmas.FrontLemmas.{passed_found, input_front_stands}
+use Rattle.machine.proofs.BoardLemmas.FrontLemmas.{input_passed_found, input_front_stands}
 use Rattle.machine.proofs.board.Board.is_input_passed.Goals as goal
 
 pub returns-clause-value : goal.returns-clause-value
 returns-clause-value g c =
-    let b = c.args.self.now in
-    passed_found _ g.met.T.PartialOrder.order (on_board b) (upstream b.dataflow c.args.node) (strictly_upstream b.dataflow c.args.node) c.args.t.now _ _ _ c.is_in_flight.ensures c.is_held_above.ensures c.is_open.ensures.any
+    input_passed_found _ g.met.T.PartialOrder.order c.args.self.now c.args.node c.args.t.now _ _ _ c.is_in_flight.ensures c.is_held_above.ensures c.is_open.ensures.any
 
 pub returns-clause-stands : goal.returns-clause-stands
 returns-clause-stands g c h s = returns-clause-value g c ∙ ap not (input_front_stands _ g.met.T.PartialOrder.order _ c.args.self.now c.is_open.ensures.board h s c.args.node c.args.t.now)
