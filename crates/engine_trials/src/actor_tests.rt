@@ -4,7 +4,7 @@
 ghost use Rattle.std.specs.Prelude.{◌≡◌, ◌∷◌, [], ℕ, None, IfOk};
 ghost use Rattle.plan.specs.declared.node.Node.TheVariants.{Input, Output};
 ghost use Rattle.hub.specs.Known.{Known};
-ghost use Rattle.machine.specs.declared.histories.event.Event.TheVariants.{Look};
+ghost use Rattle.histories.specs.declared.event.Event.TheVariants.{Look};
 ghost use Rattle.shared_board.specs.declared.event.Doing.{Doing};
 ghost use Rattle.worker.specs.Tenures.{Adds, IsActor, IsFirst, Terms, state_left, terms_for, terms_in};
 

@@ -18,21 +18,21 @@ use Rattle.update.specs.declared.refusal.Refusal.{Refusal}
 use Rattle.plan.specs.Changes.{query_at}
 use Rattle.plan.specs.Rules.{first_refusal}
 use Rattle.plan.specs.Nodes.{is_output}
-use Rattle.machine.specs.declared.histories.event.Site.{Site}
-use Rattle.machine.specs.declared.histories.event.Bundle.{Bundle}
-use Rattle.machine.specs.declared.histories.event.Fed.{Fed}
-use Rattle.machine.specs.declared.histories.event.Emission.{Emission}
-use Rattle.machine.specs.declared.histories.event.Event.{Event}
-use Rattle.machine.specs.declared.histories.event.Event.TheVariants.{Feed, Advance, Allow, Look, Take, TakeHeld, Give}
+use Rattle.histories.specs.declared.event.Site.{Site}
+use Rattle.histories.specs.declared.event.Bundle.{Bundle}
+use Rattle.histories.specs.declared.event.Fed.{Fed}
+use Rattle.histories.specs.declared.event.Emission.{Emission}
+use Rattle.histories.specs.declared.event.Event.{Event}
+use Rattle.histories.specs.declared.event.Event.TheVariants.{Feed, Advance, Allow, Look, Take, TakeHeld, Give}
 use Rattle.views.specs.Views.{ViewState}
-use Rattle.machine.specs.Histories.Dataflows.{Dataflow, node_of}
-use Rattle.machine.specs.Histories.States.{State, queue, held_at, emitted_at, fed_to, open_at}
-use Rattle.machine.specs.Histories.Shares.{home}
+use Rattle.histories.specs.Histories.Dataflows.{Dataflow, node_of}
+use Rattle.histories.specs.Histories.States.{State, queue, held_at, emitted_at, fed_to, open_at}
+use Rattle.histories.specs.Histories.Shares.{home}
 use Rattle.machine.specs.Boards.Inputs.{front_at, first_inputs, feed_faults, advance_faults}
-use Rattle.machine.specs.Histories.Outstanding.{frontier, input_frontier}
-use Rattle.machine.specs.Histories.{alone, state_after, dataflow_after, IsLegal, IsGive}
-use Rattle.machine.specs.Histories.Promises.{changes_in}
-use Rattle.machine.specs.Histories.Readings.{IsQuiet, is_from_start}
+use Rattle.histories.specs.Histories.Outstanding.{frontier, input_frontier}
+use Rattle.histories.specs.Histories.{alone, state_after, dataflow_after, IsLegal, IsGive}
+use Rattle.histories.specs.Histories.Promises.{changes_in}
+use Rattle.histories.specs.Histories.Readings.{IsQuiet, is_from_start}
 use Rattle.machine.specs.Boards.Loads.{Lot, load_in, lot_of, first_stations, put_at, put_all, taken_from, held_from, queue_of}
 
 -- the state of a board
@@ -59,7 +59,7 @@ module _ {T : Type 0} where
   -- the invariant of every board: its dataflow is well formed, and each list has an entry for each
   -- node or worker
   pub record IsBoard (b : BoardState T) : Type 0 where
-    pub dataflow : Rattle.machine.specs.Histories.Dataflows.IsDataflow b.dataflow
+    pub dataflow : Rattle.histories.specs.Histories.Dataflows.IsDataflow b.dataflow
     pub stations : length b.stations ≡ length b.dataflow.nodes
     pub rows : (n : ℕ) → n < length b.dataflow.nodes
         → length (get_or b.stations n []) ≡ b.dataflow.workers

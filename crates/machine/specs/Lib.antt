@@ -4,5 +4,4 @@ pub use Rattle.lattice.specs.Order
 pub use Rattle.lattice.specs.Frontiers
 pub use Rattle.update.specs.Bags
 pub use Rattle.update.specs.Updates
-pub mod Histories
 pub mod Boards

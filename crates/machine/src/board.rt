@@ -8,8 +8,8 @@
 //! history with one event more.
 ghost use Rattle.std.specs.Prelude.{◌≡◌, ◌≤◌, List, [], ◌∷◌, None, IfErr, IfOk, replicate};
 ghost use Rattle.update.specs.declared.refusal.Refusal.TheVariants.{OutOfMemory};
-ghost use Rattle.machine.specs.Histories.Dataflows.{IsDataflow};
-ghost use Rattle.machine.specs.declared.histories.event.Event.{Event};
+ghost use Rattle.histories.specs.Histories.Dataflows.{IsDataflow};
+ghost use Rattle.histories.specs.declared.event.Event.{Event};
 ghost use Rattle.machine.specs.Boards.{BoardState, IsBoard, Stands, first_board, after_look};
 
 pub(crate) mod arrivals;
@@ -30,7 +30,7 @@ pub(crate) mod workers;
 
 use crate::board::inputs::InputFrontiers;
 use crate::board::stations::Stations;
-use crate::histories::event::Event;
+use histories::Event;
 use lattice::Minimum;
 use plan::{NodeId, Plan};
 use progress::Graph;

@@ -34,7 +34,6 @@
 #![tactic(auto)]
 
 mod board;
-mod histories;
 
 pub use board::Board;
 pub use board::cut_emission::CutEmission;
@@ -43,15 +42,12 @@ pub use board::inputs::{InputFrontiers, MAX_CHANGES, MAX_DIFFERENCE};
 pub use board::pieces::Piece;
 pub use board::promises::{later_sinces_keep_sums, meets};
 pub use board::routing::Routing;
-pub use histories::event::{
+pub use histories::{
     Bundle, Bundles, Emission, Event, Fed, HeldTime, OpenTime, RememberedEmission, Site,
-};
-pub use histories::theorems::{
-    bounds_are_kept, clients_are_apart, frontiers_do_not_go_back, headline, nothing_lurks,
-    one_list, parts_of_workers, port_frontiers_are_the_input_frontier, premises_can_be_met,
-    quiet_is_caught_up, stamps_are_frontiers, what_waits_has_its_place, workers_are_apart,
-};
-pub use histories::witnesses::{
-    bundles_wait_in_order, definitions_fit_examples, own_bounds_are_met, two_workers_can_exchange,
+    bounds_are_kept, bundles_wait_in_order, clients_are_apart, definitions_fit_examples,
+    frontiers_do_not_go_back, headline, nothing_lurks, one_list, own_bounds_are_met,
+    parts_of_workers, port_frontiers_are_the_input_frontier, premises_can_be_met,
+    quiet_is_caught_up, stamps_are_frontiers, two_workers_can_exchange, what_waits_has_its_place,
+    workers_are_apart,
 };
 pub use views::View;

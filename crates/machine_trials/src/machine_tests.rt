@@ -1,7 +1,7 @@
 //! Boards and routings: their calls succeed if there is memory, and after a refusal once there is.
 ghost use Rattle.std.specs.Prelude.{◌<◌, IsTrue, length};
 ghost use Rattle.plan.specs.Nodes.{is_output};
-ghost use Rattle.machine.specs.Histories.Dataflows.{node_of};
+ghost use Rattle.histories.specs.Histories.Dataflows.{node_of};
 
 use lattice::Bitime;
 use machine::{Board, CutEmission, Emission, Routing};

@@ -27,9 +27,9 @@ use Rattle.plan.specs.Reductions.{has_key, reduction_answer}
 use Rattle.plan.specs.Widths.{reduced_width}
 use Rattle.plan.proofs.CountLemmas.{row_same, row_itself, count_of-filter}
 use Rattle.plan.proofs.ReductionLemmas.{by_key_at}
-use Rattle.machine.specs.Histories.States.{times}
-use Rattle.machine.proofs.HistoryLemmas.FlowLemmas.{sum_at-append, not_beyond, is_passed}
-use Rattle.machine.proofs.HistoryLemmas.KeptLemmas.{as_of-passed}
+use Rattle.histories.specs.Histories.States.{times}
+use Rattle.histories.proofs.HistoryLemmas.FlowLemmas.{sum_at-append, not_beyond, is_passed}
+use Rattle.histories.proofs.HistoryLemmas.KeptLemmas.{as_of-passed}
 use Rattle.trace.proofs.ReadingLemmas.{size-append}
 use Rattle.reduce.specs.Joined.{Member, IsFresh, times_of, of_key}
 use Rattle.reduce.specs.Histories.{HistoryState, due_of, IsWaiting}

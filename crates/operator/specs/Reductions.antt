@@ -11,7 +11,7 @@ use Rattle.plan.specs.Reductions.{reduction_answer}
 use Rattle.plan.specs.Widths.{reduced_width}
 use Rattle.plan.specs.declared.node.Kind.{Kind}
 use Rattle.plan.specs.declared.node.Kind.TheVariants.{Count, Distinct, Min, Max}
-use Rattle.machine.specs.Histories.States.{times}
+use Rattle.histories.specs.Histories.States.{times}
 use Rattle.reduce.specs.Histories.{HistoryState, ReduceView}
 use Rattle.reduce.specs.Kinds.{kind_answer}
 use Rattle.reduce.specs.Reductions.{StandsFor, IsOpenTo}

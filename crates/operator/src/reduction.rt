@@ -19,7 +19,7 @@ ghost use Rattle.update.specs.Refusals.{IsMemoryOrOverflow};
 ghost use Rattle.update.specs.Updates.{size, total_where, AreApart};
 ghost use Rattle.update.specs.declared.change.Update.{Update};
 ghost use Rattle.plan.specs.Changes.{has_passed};
-ghost use Rattle.machine.specs.Histories.States.{times};
+ghost use Rattle.histories.specs.Histories.States.{times};
 ghost use Rattle.trace.specs.Readings.{Insertion, all_updates};
 ghost use Rattle.spine.specs.Spines.{Stands};
 ghost use Rattle.operator_laws.specs.Reducing.{IsPendingWith};

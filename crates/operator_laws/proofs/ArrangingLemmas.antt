@@ -32,19 +32,19 @@ use Rattle.batch.specs.Intervals.{is_between, all_between, is_interval_of, passe
 use Rattle.batch.proofs.TieLemmas.{no_tie, own_first}
 use Rattle.batch.proofs.SumsLemmas.{sums_from_totals}
 use Rattle.trace.specs.Readings.{Insertion, reached}
-use Rattle.machine.specs.declared.histories.event.Bundle.{Bundle}
-use Rattle.machine.specs.declared.histories.event.Emission.{Emission}
-use Rattle.machine.specs.declared.histories.event.Event.{Event}
-use Rattle.machine.specs.declared.histories.event.Event.TheVariants.{Take, Give}
-use Rattle.machine.specs.Histories.Dataflows.{Dataflow, IsDataflow, node_of, upstream}
-use Rattle.machine.specs.Histories.States.{State, times, emitted_by}
-use Rattle.machine.specs.Histories.Outstanding.{input_frontier}
-use Rattle.machine.specs.Histories.NodeLaws.{received_at}
-use Rattle.machine.specs.Histories.{open_entries, initial_state, give_state, next_state, IsTake, IsGive, IsAllowed}
-use Rattle.machine.specs.Histories.Promises.{NeverGoesBack}
-use Rattle.machine.proofs.HistoryLemmas.FlowLemmas.{is_passed, not_beyond}
-use Rattle.machine.proofs.HistoryLemmas.OnwardLemmas.{input_onward, taken_later}
-use Rattle.machine.proofs.HistoryLemmas.OutstandingLemmas.{open_where, beyond_input_frontier}
+use Rattle.histories.specs.declared.event.Bundle.{Bundle}
+use Rattle.histories.specs.declared.event.Emission.{Emission}
+use Rattle.histories.specs.declared.event.Event.{Event}
+use Rattle.histories.specs.declared.event.Event.TheVariants.{Take, Give}
+use Rattle.histories.specs.Histories.Dataflows.{Dataflow, IsDataflow, node_of, upstream}
+use Rattle.histories.specs.Histories.States.{State, times, emitted_by}
+use Rattle.histories.specs.Histories.Outstanding.{input_frontier}
+use Rattle.histories.specs.Histories.NodeLaws.{received_at}
+use Rattle.histories.specs.Histories.{open_entries, initial_state, give_state, next_state, IsTake, IsGive, IsAllowed}
+use Rattle.histories.specs.Histories.Promises.{NeverGoesBack}
+use Rattle.histories.proofs.HistoryLemmas.FlowLemmas.{is_passed, not_beyond}
+use Rattle.histories.proofs.HistoryLemmas.OnwardLemmas.{input_onward, taken_later}
+use Rattle.histories.proofs.HistoryLemmas.OutstandingLemmas.{open_where, beyond_input_frontier}
 use Rattle.operator_laws.specs.Gathering.{is_of, IsCut, IsInHand, IsSplit, IsStamped, IsGathering, IsHeldFor}
 use Rattle.operator_laws.specs.Arranging.{IsArranging, IsSealOf}
 use Rattle.operator_laws.proofs.GatheringLemmas.{size_none, times_both, over_times, beyond_both, same_after, same_gathering, first_gathering, linear_piece_lem, took_gathering, emitted_is, may_give, gave_gathering, turned_beyond, turned_gathering}

@@ -28,20 +28,20 @@ use Rattle.linear.specs.Ports.{is_port, with_more_at}
 use Rattle.linear.proofs.PortLemmas.{output_bound-more}
 use Rattle.linear.proofs.SumLemmas.{applied_goes_on}
 use Rattle.linear.proofs.SizeLemmas.{size_applied, times_applied}
-use Rattle.machine.specs.declared.histories.event.Site.{Site}
-use Rattle.machine.specs.declared.histories.event.Bundle.{Bundle}
-use Rattle.machine.specs.declared.histories.event.Emission.{Emission}
-use Rattle.machine.specs.declared.histories.event.HeldTime.{HeldTime}
-use Rattle.machine.specs.declared.histories.event.Event.{Event}
-use Rattle.machine.specs.declared.histories.event.Event.TheVariants.{Take, TakeHeld, Give}
-use Rattle.machine.specs.Histories.Dataflows.{Dataflow, node_of, node_output, source_of}
-use Rattle.machine.specs.Histories.States.{State, place, same_place, times, emitted_by, held_at}
-use Rattle.machine.specs.Histories.Shares.{share_from, part}
-use Rattle.machine.specs.Histories.NodeLaws.{received_at, NodeLaw}
-use Rattle.machine.specs.Histories.{is_held_by, held_entries, initial_state, give_state, next_state, state_after, IsTake, IsGive, IsAllowed, IsLegal}
-use Rattle.machine.proofs.HistoryLemmas.FlowLemmas.{as_of-append, sum_at, sum_at-append, not_beyond, queued}
-use Rattle.machine.proofs.HistoryLemmas.KeptLemmas.{as_of-passed, held_marked, held_unmarked, held_kept, is_stamped, kept_state}
-use Rattle.machine.proofs.HistoryLemmas.StampLemmas.{beyond_passed}
+use Rattle.histories.specs.declared.event.Site.{Site}
+use Rattle.histories.specs.declared.event.Bundle.{Bundle}
+use Rattle.histories.specs.declared.event.Emission.{Emission}
+use Rattle.histories.specs.declared.event.HeldTime.{HeldTime}
+use Rattle.histories.specs.declared.event.Event.{Event}
+use Rattle.histories.specs.declared.event.Event.TheVariants.{Take, TakeHeld, Give}
+use Rattle.histories.specs.Histories.Dataflows.{Dataflow, node_of, node_output, source_of}
+use Rattle.histories.specs.Histories.States.{State, place, same_place, times, emitted_by, held_at}
+use Rattle.histories.specs.Histories.Shares.{share_from, part}
+use Rattle.histories.specs.Histories.NodeLaws.{received_at, NodeLaw}
+use Rattle.histories.specs.Histories.{is_held_by, held_entries, initial_state, give_state, next_state, state_after, IsTake, IsGive, IsAllowed, IsLegal}
+use Rattle.histories.proofs.HistoryLemmas.FlowLemmas.{as_of-append, sum_at, sum_at-append, not_beyond, queued}
+use Rattle.histories.proofs.HistoryLemmas.KeptLemmas.{as_of-passed, held_marked, held_unmarked, held_kept, is_stamped, kept_state}
+use Rattle.histories.proofs.HistoryLemmas.StampLemmas.{beyond_passed}
 use Rattle.operator_laws.specs.Gathering.{is_of, IsCut, IsInHand, IsPiece, IsSplit, IsStamped, IsGathering, IsHeldFor}
 
 -- a node and a worker are the same node and worker; every claim about the event's own node needs it

@@ -14,16 +14,16 @@ use Rattle.plan.specs.declared.node.Node.TheVariants.{Join}
 use Rattle.trace.specs.Readings.{Insertion, all_updates}
 use Rattle.join.specs.Pairs.{pairs}
 use Rattle.join.proofs.VisibleLemmas.{left_goes_on, right_goes_on}
-use Rattle.machine.specs.declared.histories.event.Site.{Site}
-use Rattle.machine.specs.declared.histories.event.Bundle.{Bundle}
-use Rattle.machine.specs.declared.histories.event.Emission.{Emission}
-use Rattle.machine.specs.declared.histories.event.Event.{Event}
-use Rattle.machine.specs.declared.histories.event.Event.TheVariants.{Take}
-use Rattle.machine.specs.Histories.Dataflows.{Dataflow, node_of}
-use Rattle.machine.specs.Histories.States.{State, place, same_place, times, queue}
-use Rattle.machine.specs.Histories.NodeLaws.{received_at}
-use Rattle.machine.specs.Histories.{without, next_state, give_state, IsTake, IsAllowed}
-use Rattle.machine.proofs.HistoryLemmas.FlowLemmas.{sum_at, sum_at-append}
+use Rattle.histories.specs.declared.event.Site.{Site}
+use Rattle.histories.specs.declared.event.Bundle.{Bundle}
+use Rattle.histories.specs.declared.event.Emission.{Emission}
+use Rattle.histories.specs.declared.event.Event.{Event}
+use Rattle.histories.specs.declared.event.Event.TheVariants.{Take}
+use Rattle.histories.specs.Histories.Dataflows.{Dataflow, node_of}
+use Rattle.histories.specs.Histories.States.{State, place, same_place, times, queue}
+use Rattle.histories.specs.Histories.NodeLaws.{received_at}
+use Rattle.histories.specs.Histories.{without, next_state, give_state, IsTake, IsAllowed}
+use Rattle.histories.proofs.HistoryLemmas.FlowLemmas.{sum_at, sum_at-append}
 use Rattle.operator_laws.specs.Gathering.{is_of, IsPiece, IsSplit, IsStamped, IsHeldFor}
 use Rattle.operator_laws.specs.Joining.{IsAnswer, IsJoining, IsQueued, on_top}
 use Rattle.operator_laws.proofs.GatheringLemmas.{size_both, same_after, same_gathering, took_gathering, received_is, gave_gathering}

@@ -11,19 +11,19 @@ use Rattle.plan.specs.declared.edges.Edge.{Edge}
 use Rattle.plan.specs.Nodes.{is_input, arranged_by}
 use Rattle.plan.proofs.SortLemmas.{no_source}
 use Rattle.trace.specs.Readings.{Insertion}
-use Rattle.machine.specs.declared.histories.event.Site.{Site}
-use Rattle.machine.specs.declared.histories.event.Bundle.{Bundle}
-use Rattle.machine.specs.declared.histories.event.Emission.{Emission}
-use Rattle.machine.specs.declared.histories.event.Event.{Event}
-use Rattle.machine.specs.declared.histories.event.Event.TheVariants.{Feed, Take, Give}
-use Rattle.machine.specs.Histories.Dataflows.{Dataflow, node_of, source_of, route}
-use Rattle.machine.specs.Histories.States.{State, place, same_place, updates_at, queue}
-use Rattle.machine.specs.Histories.Shares.{share, share_from, are_filled}
-use Rattle.machine.specs.Histories.{alone, without, next_state, give_state, IsAllowed}
-use Rattle.machine.specs.Histories.Cuts.{bundled, cut_along, cut}
-use Rattle.machine.proofs.HistoryLemmas.FlowLemmas.{place_same}
-use Rattle.machine.proofs.HistoryLemmas.KeptLemmas.{no_totals}
-use Rattle.machine.proofs.HistoryLemmas.CuttingLemmas.{one_below}
+use Rattle.histories.specs.declared.event.Site.{Site}
+use Rattle.histories.specs.declared.event.Bundle.{Bundle}
+use Rattle.histories.specs.declared.event.Emission.{Emission}
+use Rattle.histories.specs.declared.event.Event.{Event}
+use Rattle.histories.specs.declared.event.Event.TheVariants.{Feed, Take, Give}
+use Rattle.histories.specs.Histories.Dataflows.{Dataflow, node_of, source_of, route}
+use Rattle.histories.specs.Histories.States.{State, place, same_place, updates_at, queue}
+use Rattle.histories.specs.Histories.Shares.{share, share_from, are_filled}
+use Rattle.histories.specs.Histories.{alone, without, next_state, give_state, IsAllowed}
+use Rattle.histories.specs.Histories.Cuts.{bundled, cut_along, cut}
+use Rattle.histories.proofs.HistoryLemmas.FlowLemmas.{place_same}
+use Rattle.histories.proofs.HistoryLemmas.KeptLemmas.{no_totals}
+use Rattle.histories.proofs.HistoryLemmas.CuttingLemmas.{one_below}
 use Rattle.operator_laws.specs.Joining.{IsQueued, is_at_port, on_top}
 
 module _ {T : Type 0} where

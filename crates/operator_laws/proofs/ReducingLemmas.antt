@@ -15,18 +15,18 @@ use Rattle.plan.specs.Nodes.{is_reduction, key_width}
 use Rattle.plan.specs.declared.node.Kind.{Kind}
 use Rattle.plan.specs.declared.node.Node.TheVariants.{Reduce}
 use Rattle.plan.proofs.OperatorLemmas.{given_nothing}
-use Rattle.machine.specs.declared.histories.event.Bundle.{Bundle}
-use Rattle.machine.specs.declared.histories.event.Emission.{Emission}
-use Rattle.machine.specs.declared.histories.event.Event.{Event}
-use Rattle.machine.specs.declared.histories.event.Event.TheVariants.{Take, TakeHeld, Give}
-use Rattle.machine.specs.Histories.Dataflows.{Dataflow, IsDataflow, node_of, node_output}
-use Rattle.machine.specs.Histories.States.{State, place, same_place, times, emitted_by, held_at}
-use Rattle.machine.specs.Histories.Outstanding.{input_frontier}
-use Rattle.machine.specs.Histories.NodeLaws.{received_at, was_passed}
-use Rattle.machine.specs.Histories.{initial_state, take_state, give_state, next_state, IsTake, IsGive, IsAllowed}
-use Rattle.machine.proofs.HistoryLemmas.FlowLemmas.{as_of-append, is_passed, not_beyond}
-use Rattle.machine.proofs.HistoryLemmas.KeptLemmas.{as_of-passed}
-use Rattle.machine.proofs.HistoryLemmas.StampLemmas.{beyond_passed}
+use Rattle.histories.specs.declared.event.Bundle.{Bundle}
+use Rattle.histories.specs.declared.event.Emission.{Emission}
+use Rattle.histories.specs.declared.event.Event.{Event}
+use Rattle.histories.specs.declared.event.Event.TheVariants.{Take, TakeHeld, Give}
+use Rattle.histories.specs.Histories.Dataflows.{Dataflow, IsDataflow, node_of, node_output}
+use Rattle.histories.specs.Histories.States.{State, place, same_place, times, emitted_by, held_at}
+use Rattle.histories.specs.Histories.Outstanding.{input_frontier}
+use Rattle.histories.specs.Histories.NodeLaws.{received_at, was_passed}
+use Rattle.histories.specs.Histories.{initial_state, take_state, give_state, next_state, IsTake, IsGive, IsAllowed}
+use Rattle.histories.proofs.HistoryLemmas.FlowLemmas.{as_of-append, is_passed, not_beyond}
+use Rattle.histories.proofs.HistoryLemmas.KeptLemmas.{as_of-passed}
+use Rattle.histories.proofs.HistoryLemmas.StampLemmas.{beyond_passed}
 use Rattle.operator_laws.specs.Gathering.{is_of, IsCut, IsInHand, IsStamped, IsHeldFor}
 use Rattle.operator_laws.specs.Reducing.{IsReducing, IsPendingWith, IsFound}
 use Rattle.operator_laws.proofs.GatheringLemmas.{own_place, beyond_both, same_after, still_held, newly_held, in_hand_now, held_beyond, held_now, emitted_is}

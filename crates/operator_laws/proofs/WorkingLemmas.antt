@@ -22,26 +22,26 @@ use Rattle.plan.proofs.PlanLemmas.{has_source}
 use Rattle.plan.proofs.SortLemmas.{no_source}
 use Rattle.plan.proofs.StandLemmas.{above_itself}
 use Rattle.trace.specs.Readings.{Insertion}
-use Rattle.machine.specs.declared.histories.event.Bundle.{Bundle}
-use Rattle.machine.specs.declared.histories.event.Emission.{Emission}
-use Rattle.machine.specs.declared.histories.event.HeldTime.{HeldTime}
-use Rattle.machine.specs.declared.histories.event.Event.{Event}
-use Rattle.machine.specs.declared.histories.event.Event.TheVariants.{Take, Give}
-use Rattle.machine.specs.Histories.Cuts.{cut}
-use Rattle.machine.specs.Histories.Dataflows.{Dataflow, IsDataflow, node_of, source_of, upstream}
-use Rattle.machine.specs.Histories.States.{State, place, updates_at, queue, emitted_by, held_at}
-use Rattle.machine.specs.Histories.Shares.{share, share_fed, share_from}
-use Rattle.machine.specs.Histories.Outstanding.{strictly_upstream, input_frontier}
-use Rattle.machine.specs.Histories.NodeLaws.{received_at}
-use Rattle.machine.specs.Histories.Readings.{IsQuiet}
-use Rattle.machine.specs.Histories.{initial_state, next_state, give_state, state_after, IsTake, IsGive, IsAllowed, IsLegal}
-use Rattle.machine.proofs.HistoryLemmas.ClearLemmas.{arrived_passed}
-use Rattle.machine.proofs.HistoryLemmas.CuttingLemmas.{share_none}
-use Rattle.machine.proofs.HistoryLemmas.FlowLemmas.{value, through_is, not_beyond}
-use Rattle.machine.proofs.HistoryLemmas.OutstandingLemmas.{beyond_input_frontier}
-use Rattle.machine.proofs.HistoryLemmas.KeptLemmas.{coming, kept_state}
-use Rattle.machine.proofs.HistoryLemmas.PlaceLemmas.{in_place_lem}
-use Rattle.machine.proofs.HistoryLemmas.WorkerLemmas.{shared_along, fed_none}
+use Rattle.histories.specs.declared.event.Bundle.{Bundle}
+use Rattle.histories.specs.declared.event.Emission.{Emission}
+use Rattle.histories.specs.declared.event.HeldTime.{HeldTime}
+use Rattle.histories.specs.declared.event.Event.{Event}
+use Rattle.histories.specs.declared.event.Event.TheVariants.{Take, Give}
+use Rattle.histories.specs.Histories.Cuts.{cut}
+use Rattle.histories.specs.Histories.Dataflows.{Dataflow, IsDataflow, node_of, source_of, upstream}
+use Rattle.histories.specs.Histories.States.{State, place, updates_at, queue, emitted_by, held_at}
+use Rattle.histories.specs.Histories.Shares.{share, share_fed, share_from}
+use Rattle.histories.specs.Histories.Outstanding.{strictly_upstream, input_frontier}
+use Rattle.histories.specs.Histories.NodeLaws.{received_at}
+use Rattle.histories.specs.Histories.Readings.{IsQuiet}
+use Rattle.histories.specs.Histories.{initial_state, next_state, give_state, state_after, IsTake, IsGive, IsAllowed, IsLegal}
+use Rattle.histories.proofs.HistoryLemmas.ClearLemmas.{arrived_passed}
+use Rattle.histories.proofs.HistoryLemmas.CuttingLemmas.{share_none}
+use Rattle.histories.proofs.HistoryLemmas.FlowLemmas.{value, through_is, not_beyond}
+use Rattle.histories.proofs.HistoryLemmas.OutstandingLemmas.{beyond_input_frontier}
+use Rattle.histories.proofs.HistoryLemmas.KeptLemmas.{coming, kept_state}
+use Rattle.histories.proofs.HistoryLemmas.PlaceLemmas.{in_place_lem}
+use Rattle.histories.proofs.HistoryLemmas.WorkerLemmas.{shared_along, fed_none}
 use Rattle.operator_laws.specs.Gathering.{IsCut, is_of, IsGathering}
 use Rattle.operator_laws.specs.Arranging.{IsArranging}
 use Rattle.operator_laws.specs.Joining.{is_at_port, IsJoining, IsQueued}

@@ -8,10 +8,10 @@ use Rattle.update.specs.Updates.{total_where, size}
 use Rattle.plan.specs.declared.node.Node.TheVariants.{Arrange}
 use Rattle.batch.specs.Batches.{IsSealed}
 use Rattle.trace.specs.Readings.{Insertion, all_updates, reached}
-use Rattle.machine.specs.Histories.Dataflows.{Dataflow, node_of}
-use Rattle.machine.specs.Histories.States.{State, times, emitted_by}
-use Rattle.machine.specs.Histories.Outstanding.{input_frontier}
-use Rattle.machine.specs.Histories.Promises.{NeverGoesBack}
+use Rattle.histories.specs.Histories.Dataflows.{Dataflow, node_of}
+use Rattle.histories.specs.Histories.States.{State, times, emitted_by}
+use Rattle.histories.specs.Histories.Outstanding.{input_frontier}
+use Rattle.histories.specs.Histories.Promises.{NeverGoesBack}
 use Rattle.operator_laws.specs.Gathering.{IsGathering}
 
 module _ {T : Type 0} (below : T → T → Bool) where

@@ -10,14 +10,14 @@ use Rattle.plan.specs.Bounds.{output_bound}
 use Rattle.plan.specs.Nodes.{is_reduction}
 use Rattle.plan.specs.declared.node.Node.{Node}
 use Rattle.linear.specs.Ports.{with_more_at}
-use Rattle.machine.specs.declared.histories.event.Bundle.{Bundle}
-use Rattle.machine.specs.declared.histories.event.Emission.{Emission}
-use Rattle.machine.specs.declared.histories.event.Event.{Event}
-use Rattle.machine.specs.declared.histories.event.Event.TheVariants.{Feed, Advance, Allow, Look, Take, TakeHeld, Give}
-use Rattle.machine.specs.Histories.Dataflows.{Dataflow, node_of, node_output}
-use Rattle.machine.specs.Histories.States.{State, times, emitted_by, held_at}
-use Rattle.machine.specs.Histories.Shares.{AreShares, are_filled, are_stamped}
-use Rattle.machine.specs.Histories.NodeLaws.{received_at}
+use Rattle.histories.specs.declared.event.Bundle.{Bundle}
+use Rattle.histories.specs.declared.event.Emission.{Emission}
+use Rattle.histories.specs.declared.event.Event.{Event}
+use Rattle.histories.specs.declared.event.Event.TheVariants.{Feed, Advance, Allow, Look, Take, TakeHeld, Give}
+use Rattle.histories.specs.Histories.Dataflows.{Dataflow, node_of, node_output}
+use Rattle.histories.specs.Histories.States.{State, times, emitted_by, held_at}
+use Rattle.histories.specs.Histories.Shares.{AreShares, are_filled, are_stamped}
+use Rattle.histories.specs.Histories.NodeLaws.{received_at}
 
 -- the event is a take of a bundle at this node by this worker, or a give of it there
 abbrev pub is_of : {T : Type 0} → ℕ → ℕ → Event T → Bool

@@ -7,12 +7,12 @@ use Rattle.update.specs.Updates.{as_of, size}
 use Rattle.update.specs.declared.change.Update.{Update}
 use Rattle.plan.specs.declared.node.Node.TheVariants.{Join}
 use Rattle.trace.specs.Readings.{Insertion, all_updates}
-use Rattle.machine.specs.declared.histories.event.Bundle.{Bundle}
-use Rattle.machine.specs.declared.histories.event.Event.{Event}
-use Rattle.machine.specs.declared.histories.event.Event.TheVariants.{Feed, Advance, Allow, Look, Take, TakeHeld, Give}
-use Rattle.machine.specs.Histories.Dataflows.{Dataflow, node_of}
-use Rattle.machine.specs.Histories.States.{State, place, same_place, times, queue}
-use Rattle.machine.specs.Histories.NodeLaws.{received_at}
+use Rattle.histories.specs.declared.event.Bundle.{Bundle}
+use Rattle.histories.specs.declared.event.Event.{Event}
+use Rattle.histories.specs.declared.event.Event.TheVariants.{Feed, Advance, Allow, Look, Take, TakeHeld, Give}
+use Rattle.histories.specs.Histories.Dataflows.{Dataflow, node_of}
+use Rattle.histories.specs.Histories.States.{State, place, same_place, times, queue}
+use Rattle.histories.specs.Histories.NodeLaws.{received_at}
 use Rattle.operator_laws.specs.Gathering.{IsGathering}
 
 -- the event is a take from this port, or a give by the same worker at the node that is read there

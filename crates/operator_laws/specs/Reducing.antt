@@ -8,11 +8,11 @@ use Rattle.update.specs.declared.change.Update.{Update}
 use Rattle.plan.specs.Changes.{has_passed}
 use Rattle.plan.specs.declared.node.Kind.{Kind}
 use Rattle.plan.specs.declared.node.Node.TheVariants.{Reduce}
-use Rattle.machine.specs.Histories.Dataflows.{Dataflow, node_of, node_output}
-use Rattle.machine.specs.Histories.States.{State, times, emitted_by, held_at}
-use Rattle.machine.specs.Histories.Outstanding.{input_frontier}
-use Rattle.machine.specs.Histories.NodeLaws.{received_at, was_passed}
-use Rattle.machine.specs.Histories.Promises.{NeverGoesBack}
+use Rattle.histories.specs.Histories.Dataflows.{Dataflow, node_of, node_output}
+use Rattle.histories.specs.Histories.States.{State, times, emitted_by, held_at}
+use Rattle.histories.specs.Histories.Outstanding.{input_frontier}
+use Rattle.histories.specs.Histories.NodeLaws.{received_at, was_passed}
+use Rattle.histories.specs.Histories.Promises.{NeverGoesBack}
 
 module _ {T : Type 0} (below : T → T → Bool) where
   -- what a reduction gave is right wherever no pending time has come; it is final: of times that

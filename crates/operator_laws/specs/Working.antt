@@ -4,11 +4,11 @@ use Rattle.update.specs.declared.change.Update.{Update}
 use Rattle.plan.specs.declared.node.Node.{Node}
 use Rattle.plan.specs.declared.node.Node.TheVariants.{Arrange, Join, Reduce}
 use Rattle.trace.specs.Readings.{Insertion}
-use Rattle.machine.specs.declared.histories.event.Bundle.{Bundle}
-use Rattle.machine.specs.declared.histories.event.Event.{Event}
-use Rattle.machine.specs.declared.histories.event.Event.TheVariants.{Take, Give}
-use Rattle.machine.specs.Histories.Dataflows.{Dataflow, node_of}
-use Rattle.machine.specs.Histories.States.{State, place, queue, times}
+use Rattle.histories.specs.declared.event.Bundle.{Bundle}
+use Rattle.histories.specs.declared.event.Event.{Event}
+use Rattle.histories.specs.declared.event.Event.TheVariants.{Take, Give}
+use Rattle.histories.specs.Histories.Dataflows.{Dataflow, node_of}
+use Rattle.histories.specs.Histories.States.{State, place, queue, times}
 use Rattle.operator_laws.specs.Gathering.{IsGathering}
 use Rattle.operator_laws.specs.Arranging.{IsArranging}
 use Rattle.operator_laws.specs.Joining.{IsJoining, IsQueued}

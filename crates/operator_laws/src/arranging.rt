@@ -7,15 +7,15 @@ ghost use Rattle.batch.specs.Intervals.{is_interval_of, passed_updates, open_upd
 ghost use Rattle.plan.specs.declared.node.Node.TheVariants.{Arrange};
 ghost use Rattle.linear.specs.Ports.{is_port};
 ghost use Rattle.trace.specs.Readings.{Insertion, reached};
-ghost use Rattle.machine.specs.declared.histories.event.Bundle.{Bundle};
-ghost use Rattle.machine.specs.declared.histories.event.Emission.{Emission};
-ghost use Rattle.machine.specs.declared.histories.event.Event.{Event};
-ghost use Rattle.machine.specs.declared.histories.event.Event.TheVariants.{Take};
-ghost use Rattle.machine.specs.Histories.Dataflows.{Dataflow, IsDataflow, node_of};
-ghost use Rattle.machine.specs.Histories.States.{State, times};
-ghost use Rattle.machine.specs.Histories.Outstanding.{input_frontier};
-ghost use Rattle.machine.specs.Histories.{initial_state, next_state, give_state, IsTake, IsGive, IsAllowed};
-ghost use Rattle.machine.specs.Histories.Promises.{NeverGoesBack};
+ghost use Rattle.histories.specs.declared.event.Bundle.{Bundle};
+ghost use Rattle.histories.specs.declared.event.Emission.{Emission};
+ghost use Rattle.histories.specs.declared.event.Event.{Event};
+ghost use Rattle.histories.specs.declared.event.Event.TheVariants.{Take};
+ghost use Rattle.histories.specs.Histories.Dataflows.{Dataflow, IsDataflow, node_of};
+ghost use Rattle.histories.specs.Histories.States.{State, times};
+ghost use Rattle.histories.specs.Histories.Outstanding.{input_frontier};
+ghost use Rattle.histories.specs.Histories.{initial_state, next_state, give_state, IsTake, IsGive, IsAllowed};
+ghost use Rattle.histories.specs.Histories.Promises.{NeverGoesBack};
 ghost use Rattle.operator_laws.specs.Gathering.{is_of, IsCut, IsInHand, IsSplit, IsStamped, IsHeldFor};
 ghost use Rattle.operator_laws.specs.Arranging.{IsArranging, IsSealOf};
 

@@ -26,8 +26,8 @@ use Rattle.plan.specs.Rules.{IsPlan}
 use Rattle.plan.specs.declared.node.Node.{Node}
 use Rattle.plan.proofs.CountLemmas.{count_of-append, count_of-negated_entry}
 use Rattle.plan.proofs.StandLemmas.{above_earlier}
-use Rattle.machine.specs.declared.histories.event.Fed.{Fed}
-use Rattle.machine.specs.Histories.States.{fed_to}
+use Rattle.histories.specs.declared.event.Fed.{Fed}
+use Rattle.histories.specs.Histories.States.{fed_to}
 use Rattle.oracle.specs.Evaluation.{list_of}
 use Rattle.oracle.specs.JoinClosures.{Covers, HasPassedTimes, IsClosed, IsJoinClosure}
 use Rattle.oracle.specs.Listing.{at_time, ContinuesListing, IsListed}

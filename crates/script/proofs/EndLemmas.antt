@@ -16,9 +16,9 @@ use Rattle.grammar.specs.declared.command.InputCommand.TheVariants.{Change, Adva
 use Rattle.grammar.specs.declared.command.ViewCommand.TheVariants.{Read, Changes, Frontier}
 use Rattle.grammar.specs.declared.command.CommandLine.{CommandLine}
 use Rattle.grammar.specs.ScriptModels.{ScriptModel}
-use Rattle.machine.specs.Histories.Readings.{is_from_start}
+use Rattle.histories.specs.Histories.Readings.{is_from_start}
 use Rattle.machine.specs.Boards.Inputs.{front_at, feed_faults, advance_faults}
-use Rattle.machine.specs.Histories.States.{fed_to}
+use Rattle.histories.specs.Histories.States.{fed_to}
 use Rattle.script.specs.Ends.{IsTextBefore}
 use Rattle.script.specs.Engines.{EndsRun, IsEnd, IsRunEnd}
 use Rattle.script.specs.Sessions.{view_frontier}

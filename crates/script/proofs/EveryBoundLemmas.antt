@@ -19,9 +19,9 @@ use Rattle.plan.specs.declared.node.Kind.{Kind}
 use Rattle.plan.specs.declared.node.Node.{Node}
 use Rattle.plan.specs.declared.node.Node.TheVariants.{Input, Reduce}
 use Rattle.plan.proofs.PlanLemmas.{node_past}
-use Rattle.machine.specs.declared.histories.event.Fed.{Fed}
-use Rattle.machine.specs.Histories.States.{fed_to}
-use Rattle.machine.proofs.HistoryLemmas.CuttingLemmas.{one_below}
+use Rattle.histories.specs.declared.event.Fed.{Fed}
+use Rattle.histories.specs.Histories.States.{fed_to}
+use Rattle.histories.proofs.HistoryLemmas.CuttingLemmas.{one_below}
 use Rattle.machine.proofs.BoardLemmas.LotLemmas.{flat_flat}
 use Rattle.script.specs.Changes.{changes_along}
 use Rattle.script.proofs.ChangesLemmas.{changes_are}

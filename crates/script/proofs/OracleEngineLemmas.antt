@@ -36,9 +36,9 @@ use Rattle.plan.specs.Widths.{width_of}
 use Rattle.plan.specs.declared.node.Node.{Node}
 use Rattle.plan.proofs.PlanLemmas.{no_first, no_fault}
 use Rattle.plan.proofs.CountLemmas.{count_of-append}
-use Rattle.machine.specs.declared.histories.event.Fed.{Fed}
+use Rattle.histories.specs.declared.event.Fed.{Fed}
 use Rattle.machine.specs.Boards.Inputs.{front_at, feed_faults, advance_faults}
-use Rattle.machine.specs.Histories.States.{fed_to}
+use Rattle.histories.specs.Histories.States.{fed_to}
 use Rattle.grammar.specs.Commands.{is_input_of}
 use Rattle.oracle.specs.Evaluation.{HasLargeAbove, inputs_before, list_of, sums_at}
 use Rattle.oracle.specs.Listing.{HasLargeDifference}

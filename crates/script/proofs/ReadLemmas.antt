@@ -18,15 +18,15 @@ use Rattle.update.specs.Refusals.{IsRefusalOr, IsMemoryOrOverflow}
 use Rattle.plan.specs.Changes.{AreDifferences, has_passed, query_at, open_for}
 use Rattle.plan.specs.Rules.{first_refusal}
 use Rattle.plan.specs.Bounds.{HasLargeBound}
-use Rattle.machine.specs.declared.histories.event.Fed.{Fed}
-use Rattle.machine.specs.Histories.Dataflows.{Dataflow, IsDataflow}
-use Rattle.machine.specs.Histories.States.{State, fed_to, open_at}
-use Rattle.machine.specs.Histories.Outstanding.{frontier}
-use Rattle.machine.specs.Histories.Promises.{changes_in}
-use Rattle.machine.specs.Histories.Readings.{is_from_start}
-use Rattle.machine.proofs.HistoryLemmas.FlowLemmas.{is_passed, not_beyond}
-use Rattle.machine.proofs.HistoryLemmas.PassedLemmas.{passed_down}
-use Rattle.machine.proofs.HistoryLemmas.QuietLemmas.{beyond_elements}
+use Rattle.histories.specs.declared.event.Fed.{Fed}
+use Rattle.histories.specs.Histories.Dataflows.{Dataflow, IsDataflow}
+use Rattle.histories.specs.Histories.States.{State, fed_to, open_at}
+use Rattle.histories.specs.Histories.Outstanding.{frontier}
+use Rattle.histories.specs.Histories.Promises.{changes_in}
+use Rattle.histories.specs.Histories.Readings.{is_from_start}
+use Rattle.histories.proofs.HistoryLemmas.FlowLemmas.{is_passed, not_beyond}
+use Rattle.histories.proofs.HistoryLemmas.PassedLemmas.{passed_down}
+use Rattle.histories.proofs.HistoryLemmas.QuietLemmas.{beyond_elements}
 use Rattle.worker.specs.Tenures.{HasLargeListed, read_refusal_in, changes_refusal_in}
 use Rattle.script.specs.Bags.{consolidated_bag}
 use Rattle.script.specs.Engines.{IsFound}

@@ -20,19 +20,19 @@ use Rattle.plan.specs.declared.node.Node.{Node}
 use Rattle.hub.specs.Histories.{entry, NoneBy}
 use Rattle.hub.specs.Known.{Known}
 use Rattle.hub.specs.declared.view.Entry.{Entry}
-use Rattle.machine.specs.declared.histories.event.Event.{Event}
-use Rattle.machine.specs.declared.histories.event.Event.TheVariants.{Feed, Advance, Look}
-use Rattle.machine.specs.declared.histories.event.Fed.{Fed}
-use Rattle.machine.specs.Histories.Actors.{IsSameOfClients}
-use Rattle.machine.specs.Histories.Dataflows.{Dataflow, IsDataflow}
-use Rattle.machine.specs.Histories.Outstanding.{frontier}
-use Rattle.machine.specs.Histories.Readings.{IsQuiet}
-use Rattle.machine.specs.Histories.{IsInput, IsLegal, initial_state, next_state}
-use Rattle.machine.specs.Histories.States.{State, fed_to, open_at}
+use Rattle.histories.specs.declared.event.Event.{Event}
+use Rattle.histories.specs.declared.event.Event.TheVariants.{Feed, Advance, Look}
+use Rattle.histories.specs.declared.event.Fed.{Fed}
+use Rattle.histories.specs.Histories.Actors.{IsSameOfClients}
+use Rattle.histories.specs.Histories.Dataflows.{Dataflow, IsDataflow}
+use Rattle.histories.specs.Histories.Outstanding.{frontier}
+use Rattle.histories.specs.Histories.Readings.{IsQuiet}
+use Rattle.histories.specs.Histories.{IsInput, IsLegal, initial_state, next_state}
+use Rattle.histories.specs.Histories.States.{State, fed_to, open_at}
 use Rattle.machine.specs.Boards.Inputs.{feed_faults, advance_faults}
 use Rattle.machine.proofs.BoardLemmas.OpenLemmas.{first_front, open_set}
-use Rattle.machine.proofs.HistoryLemmas.PlaceLemmas.{in_place_lem}
-use Rattle.machine.proofs.HistoryLemmas.QuietLemmas.{caught_up_lem}
+use Rattle.histories.proofs.HistoryLemmas.PlaceLemmas.{in_place_lem}
+use Rattle.histories.proofs.HistoryLemmas.QuietLemmas.{caught_up_lem}
 use Rattle.grammar.specs.Commands.{is_input_of}
 use Rattle.shared_board.specs.declared.event.Doing.{Doing}
 use Rattle.worker.specs.Found.{dataflow_of}

@@ -17,8 +17,8 @@ use Rattle.plan.specs.Nodes.{is_input}
 use Rattle.plan.specs.Rules.{IsPlan}
 use Rattle.plan.specs.Widths.{width_of}
 use Rattle.plan.specs.declared.node.Node.{Node}
-use Rattle.machine.specs.declared.histories.event.Event.TheVariants.{Look}
-use Rattle.machine.specs.Histories.Readings.{IsQuiet}
+use Rattle.histories.specs.declared.event.Event.TheVariants.{Look}
+use Rattle.histories.specs.Histories.Readings.{IsQuiet}
 use Rattle.oracle.specs.Evaluation.{inputs_before}
 use Rattle.shared_board.specs.declared.event.Doing.{Doing}
 use Rattle.worker.specs.Found.{dataflow_of}

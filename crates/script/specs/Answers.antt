@@ -6,7 +6,7 @@ use Rattle.update.specs.Bags.{Entry}
 use Rattle.update.specs.declared.change.Update.{Update}
 use Rattle.update.specs.declared.refusal.Refusal.{Refusal}
 use Rattle.plan.specs.declared.node.Node.{Node}
-use Rattle.machine.specs.declared.histories.event.Fed.{Fed}
+use Rattle.histories.specs.declared.event.Fed.{Fed}
 use Rattle.script.specs.Engines.{IsTold, IsFound}
 use Rattle.script.specs.Sessions.{with_change, with_frontier, change_refusal, frontier_refusal, read_refusal, changes_refusal, rows_at, changes_at, frontier_at}
 use Rattle.script.specs.Text.{BitemporalSession}

@@ -7,7 +7,7 @@ use Rattle.plan.specs.Bounds.{HasLargeBound}
 use Rattle.plan.specs.declared.node.Node.{Node}
 use Rattle.grammar.specs.ScriptModels.{ScriptModel}
 use Rattle.grammar.specs.declared.command.CommandLine.{CommandLine}
-use Rattle.machine.specs.Histories.States.{fed_to}
+use Rattle.histories.specs.Histories.States.{fed_to}
 use Rattle.update.specs.Refusals.{IsMemoryOrOverflow}
 use Rattle.script.specs.Engines.{EndsRun}
 use Rattle.script.specs.Text.{BitemporalSession, HoldsAlong, opening_session}

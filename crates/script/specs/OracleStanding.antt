@@ -7,9 +7,9 @@ use Rattle.plan.specs.Nodes.{is_input}
 use Rattle.plan.specs.Edges.{numbers_where}
 use Rattle.plan.specs.Rules.{first_refusal}
 use Rattle.plan.specs.declared.node.Node.{Node}
-use Rattle.machine.specs.declared.histories.event.Fed.{Fed}
+use Rattle.histories.specs.declared.event.Fed.{Fed}
 use Rattle.machine.specs.Boards.Inputs.{front_at, feed_faults, advance_faults}
-use Rattle.machine.specs.Histories.States.{fed_to}
+use Rattle.histories.specs.Histories.States.{fed_to}
 use Rattle.grammar.specs.Commands.{is_input_of}
 use Rattle.oracle.specs.Evaluation.{AreWide, inputs_before, list_of}
 use Rattle.script.specs.Sessions.{Session}

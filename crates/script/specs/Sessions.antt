@@ -11,9 +11,9 @@ use Rattle.update.specs.declared.refusal.Refusal.TheVariants.{NotPassed, GivenUp
 use Rattle.plan.specs.Changes.{query_at, open_for}
 use Rattle.plan.specs.Rules.{first_refusal}
 use Rattle.plan.specs.declared.node.Node.{Node}
-use Rattle.machine.specs.declared.histories.event.Fed.{Fed}
-use Rattle.machine.specs.Histories.States.{fed_to}
-use Rattle.machine.specs.Histories.Readings.{is_from_start}
+use Rattle.histories.specs.declared.event.Fed.{Fed}
+use Rattle.histories.specs.Histories.States.{fed_to}
+use Rattle.histories.specs.Histories.Readings.{is_from_start}
 use Rattle.machine.specs.Boards.Inputs.{front_at, first_inputs, feed_faults, advance_faults}
 use Rattle.script.specs.Bags.{consolidated_bag}
 use Rattle.script.specs.Changes.{changes_along}

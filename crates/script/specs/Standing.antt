@@ -2,8 +2,8 @@
 use Rattle.std.specs.Prelude.{◌≡◌, ℕ, Bool, length}
 use Rattle.hub.specs.Known.{Known}
 use Rattle.machine.specs.Boards.Inputs.{front_at}
-use Rattle.machine.specs.Histories.Dataflows.{Dataflow}
-use Rattle.machine.specs.Histories.States.{State, open_at}
+use Rattle.histories.specs.Histories.Dataflows.{Dataflow}
+use Rattle.histories.specs.Histories.States.{State, open_at}
 use Rattle.shared_board.specs.declared.event.Doing.{Doing}
 use Rattle.worker.specs.Found.{dataflow_of}
 use Rattle.worker.specs.Tenures.{state_left}

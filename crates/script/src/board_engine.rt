@@ -8,7 +8,7 @@
 //! it acts. So the worker does not occur in what a question's answer rests on.
 ghost use Rattle.std.specs.Prelude.{◌≡◌, ◌++◌, ◌∷◌, [], true, Some, IfErr, IfOk, OnOk, length};
 ghost use Rattle.update.specs.declared.refusal.Refusal.TheVariants.{OutOfMemory};
-ghost use Rattle.machine.specs.Histories.Readings.{IsQuiet};
+ghost use Rattle.histories.specs.Histories.Readings.{IsQuiet};
 ghost use Rattle.worker.specs.Found.{dataflow_of};
 ghost use Rattle.worker.specs.Tenures.{IsFirst, state_left, terms_for};
 ghost use Rattle.script.specs.Standing.{StandsAs};
@@ -123,7 +123,7 @@ impl<'a, R: Wait> Engine for BoardEngine<'a, R> {
     ghost use Rattle.std.specs.Prelude.{◌≡◌, true};
     ghost use Rattle.lattice.specs.Bitimes.{bitime_below};
     ghost use Rattle.lattice.specs.Pairs.{make_pair};
-    ghost use Rattle.machine.specs.Histories.Readings.{IsQuiet};
+    ghost use Rattle.histories.specs.Histories.Readings.{IsQuiet};
     ghost use Rattle.worker.specs.Found.{dataflow_of};
     ghost use Rattle.worker.specs.Tenures.{state_left};
     ghost use Rattle.script.specs.Standing.{StandsAs};

@@ -9,18 +9,18 @@ use Rattle.hub.specs.declared.view.Entry.{Entry}
 use Rattle.hub.specs.Histories.{entry, NoneBy}
 use Rattle.hub.specs.Known.{Known}
 use Rattle.hub.specs.Passes.{AgreesWith}
-use Rattle.machine.specs.declared.histories.event.Event.{Event}
-use Rattle.machine.specs.declared.histories.event.Event.TheVariants.{Feed, Advance, Allow, Look, Take, TakeHeld, Give}
+use Rattle.histories.specs.declared.event.Event.{Event}
+use Rattle.histories.specs.declared.event.Event.TheVariants.{Feed, Advance, Allow, Look, Take, TakeHeld, Give}
 use Rattle.std.proofs.lemmas.List.{append-nil}
-use Rattle.machine.specs.Histories.Dataflows.{Dataflow, IsDataflow}
-use Rattle.machine.specs.declared.histories.event.Site.{Site}
-use Rattle.machine.specs.Histories.States.{State, place, queue}
+use Rattle.histories.specs.Histories.Dataflows.{Dataflow, IsDataflow}
+use Rattle.histories.specs.declared.event.Site.{Site}
+use Rattle.histories.specs.Histories.States.{State, place, queue}
 use Rattle.machine.specs.Boards.Loads.{queue_of}
-use Rattle.machine.specs.Histories.Actors.{IsSameOfWorker, IsSameOfClients}
-use Rattle.machine.proofs.HistoryLemmas.ActorLemmas.{worker_apart}
-use Rattle.machine.specs.Histories.{IsAllowed, IsGive, IsLegal, actor_of, next_state}
-use Rattle.machine.specs.declared.histories.event.Bundle.{Bundle}
-use Rattle.machine.specs.declared.histories.event.Emission.{Emission}
+use Rattle.histories.specs.Histories.Actors.{IsSameOfWorker, IsSameOfClients}
+use Rattle.histories.proofs.HistoryLemmas.ActorLemmas.{worker_apart}
+use Rattle.histories.specs.Histories.{IsAllowed, IsGive, IsLegal, actor_of, next_state}
+use Rattle.histories.specs.declared.event.Bundle.{Bundle}
+use Rattle.histories.specs.declared.event.Emission.{Emission}
 use Rattle.shared_board.proofs.ApartLemmas.{give_apart}
 use Rattle.shared_board.specs.declared.event.Doing.{Doing}
 use Rattle.shared_board.specs.Tenures.{WaitsOrNot, WaitsOrNotIn, Terms, SharedState, events, terms_of_board, doing, is_change, AreOn, left_by, StandsFor, terms_in, AreKnown, found_last, state_found, state_left, Adds, IsActor, IsFirst}

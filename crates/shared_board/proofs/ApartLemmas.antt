@@ -10,16 +10,16 @@ use Rattle.update.specs.Updates.{as_of, size, AreApart}
 use Rattle.update.specs.declared.change.Update.{Update}
 use Rattle.plan.specs.Bounds.{output_bound}
 use Rattle.plan.specs.Changes.{has_passed}
-use Rattle.machine.specs.declared.histories.event.Bundle.{Bundle}
-use Rattle.machine.specs.declared.histories.event.Emission.{Emission}
-use Rattle.machine.specs.declared.histories.event.HeldTime.{HeldTime}
-use Rattle.machine.specs.Histories.Actors.{IsSameOfWorker, observed_by}
-use Rattle.machine.specs.Histories.Dataflows.{Dataflow, node_of, node_output}
-use Rattle.machine.specs.Histories.NodeLaws.{NodeLaw, LoadRule, was_passed}
-use Rattle.machine.specs.Histories.Shares.{are_stamped}
-use Rattle.machine.specs.Histories.States.{State, ObservedFrontier, emitted_by, held_at, times}
-use Rattle.machine.specs.Histories.{is_held_by, held_entries, IsGive, give_state}
-use Rattle.machine.proofs.HistoryLemmas.KeptLemmas.{held_marked}
+use Rattle.histories.specs.declared.event.Bundle.{Bundle}
+use Rattle.histories.specs.declared.event.Emission.{Emission}
+use Rattle.histories.specs.declared.event.HeldTime.{HeldTime}
+use Rattle.histories.specs.Histories.Actors.{IsSameOfWorker, observed_by}
+use Rattle.histories.specs.Histories.Dataflows.{Dataflow, node_of, node_output}
+use Rattle.histories.specs.Histories.NodeLaws.{NodeLaw, LoadRule, was_passed}
+use Rattle.histories.specs.Histories.Shares.{are_stamped}
+use Rattle.histories.specs.Histories.States.{State, ObservedFrontier, emitted_by, held_at, times}
+use Rattle.histories.specs.Histories.{is_held_by, held_entries, IsGive, give_state}
+use Rattle.histories.proofs.HistoryLemmas.KeptLemmas.{held_marked}
 
 gone : {T : Type 0} (n k : ℕ) (ms : List (HeldTime T)) → held_at n k (filter (λ m. not (is_held_by n k m)) ms) ≡ []
 gone n k [] = refl

@@ -8,14 +8,14 @@ use Rattle.lattice.specs.Frontiers.{is_beyond}
 use Rattle.antichain.proofs.Lists.{all_at, among_contains}
 use Rattle.hub.specs.declared.view.Entry.{Entry}
 use Rattle.hub.specs.Histories.{NoneBy}
-use Rattle.machine.specs.declared.histories.event.Event.{Event}
-use Rattle.machine.specs.declared.histories.event.Event.TheVariants.{Feed, Advance, Allow, Look, Take, TakeHeld, Give}
-use Rattle.machine.specs.declared.histories.event.HeldTime.{HeldTime}
-use Rattle.machine.specs.Histories.Dataflows.{Dataflow}
-use Rattle.machine.specs.Histories.Outstanding.{input_frontier}
-use Rattle.machine.specs.Histories.Readings.{IsQuiet}
-use Rattle.machine.specs.Histories.States.{State, held_at, queue}
-use Rattle.machine.specs.Histories.{IsAllowed, IsLegal, actor_of, next_state}
+use Rattle.histories.specs.declared.event.Event.{Event}
+use Rattle.histories.specs.declared.event.Event.TheVariants.{Feed, Advance, Allow, Look, Take, TakeHeld, Give}
+use Rattle.histories.specs.declared.event.HeldTime.{HeldTime}
+use Rattle.histories.specs.Histories.Dataflows.{Dataflow}
+use Rattle.histories.specs.Histories.Outstanding.{input_frontier}
+use Rattle.histories.specs.Histories.Readings.{IsQuiet}
+use Rattle.histories.specs.Histories.States.{State, held_at, queue}
+use Rattle.histories.specs.Histories.{IsAllowed, IsLegal, actor_of, next_state}
 use Rattle.shared_board.specs.declared.event.Doing.{Doing}
 use Rattle.shared_board.specs.Tenures.{AreOn, Terms, events, is_change, left_by}
 use Rattle.shared_board.proofs.ActorLemmas.{not_by_others}

@@ -8,15 +8,15 @@ use Rattle.hub.specs.declared.view.Entry.{Entry}
 use Rattle.hub.specs.Histories.{entry}
 use Rattle.update.specs.declared.refusal.Refusal.{Refusal}
 use Rattle.plan.specs.Rules.{first_refusal}
-use Rattle.machine.specs.declared.histories.event.Event.{Event}
-use Rattle.machine.specs.declared.histories.event.Event.TheVariants.{Feed, Look, Advance, Allow, Take, TakeHeld, Give}
-use Rattle.machine.specs.declared.histories.event.Bundle.{Bundle}
-use Rattle.machine.specs.declared.histories.event.Emission.{Emission}
-use Rattle.machine.specs.declared.histories.event.Fed.{Fed}
-use Rattle.machine.specs.Histories.Dataflows.{Dataflow, IsDataflow}
-use Rattle.machine.specs.Histories.States.{fed_to}
-use Rattle.machine.specs.Histories.{actor_of, next_state}
-use Rattle.machine.specs.Histories.Promises.{changes_in}
+use Rattle.histories.specs.declared.event.Event.{Event}
+use Rattle.histories.specs.declared.event.Event.TheVariants.{Feed, Look, Advance, Allow, Take, TakeHeld, Give}
+use Rattle.histories.specs.declared.event.Bundle.{Bundle}
+use Rattle.histories.specs.declared.event.Emission.{Emission}
+use Rattle.histories.specs.declared.event.Fed.{Fed}
+use Rattle.histories.specs.Histories.Dataflows.{Dataflow, IsDataflow}
+use Rattle.histories.specs.Histories.States.{fed_to}
+use Rattle.histories.specs.Histories.{actor_of, next_state}
+use Rattle.histories.specs.Histories.Promises.{changes_in}
 use Rattle.machine.specs.Boards.Inputs.{feed_faults, advance_faults}
 use Rattle.machine.specs.Boards as boards
 use Rattle.machine.specs.Boards.{BoardState, Stands, after_look, after_feed, after_advance, after_allow, after_take, after_turn, after_give}

@@ -17,16 +17,16 @@ use Rattle.plan.specs.Nodes.{is_output}
 use Rattle.plan.specs.Rules.{first_refusal}
 use Rattle.plan.proofs.PlanLemmas.{no_first, no_fault}
 use Rattle.hub.specs.declared.view.Entry.{Entry}
-use Rattle.machine.specs.Histories.Dataflows.{node_of}
-use Rattle.machine.specs.Histories.States.{State}
-use Rattle.machine.specs.Histories.Outstanding.{frontier}
-use Rattle.machine.specs.Histories.Promises.{changes_in}
-use Rattle.machine.specs.Histories.Readings.{is_from_start}
+use Rattle.histories.specs.Histories.Dataflows.{node_of}
+use Rattle.histories.specs.Histories.States.{State}
+use Rattle.histories.specs.Histories.Outstanding.{frontier}
+use Rattle.histories.specs.Histories.Promises.{changes_in}
+use Rattle.histories.specs.Histories.Readings.{is_from_start}
 use Rattle.machine.specs.Boards.{IsBoard}
 use Rattle.machine.specs.Boards.Reads as reads
 use Rattle.machine.specs.Boards.Reads.{front, captured_of, since_of}
 use Rattle.machine.proofs.BoardLemmas.FrontLemmas.{front_stands}
-use Rattle.machine.proofs.HistoryLemmas.HeadlineLemmas.{headline_lem}
+use Rattle.histories.proofs.HistoryLemmas.HeadlineLemmas.{headline_lem}
 use Rattle.shared_board.specs.declared.event.Doing.{Doing}
 use Rattle.shared_board.specs.Tenures.{SharedState, StandsFor, events, left_by, read_refusal_in, changes_refusal_in, HasLargeListed, IsReadRefusalIn, IsChangesRefusalIn}
 

@@ -16,16 +16,16 @@ use Rattle.plan.specs.declared.node.Node.{Node}
 use Rattle.hub.specs.declared.view.Entry.{Entry}
 use Rattle.hub.specs.Histories.{entry, NoneBy}
 use Rattle.hub.specs.Known.{Known}
-use Rattle.machine.specs.declared.histories.event.Event.{Event}
-use Rattle.machine.specs.declared.histories.event.Event.TheVariants.{Feed, Advance, Allow, Look, Take, TakeHeld, Give}
-use Rattle.machine.specs.declared.histories.event.Fed.{Fed}
+use Rattle.histories.specs.declared.event.Event.{Event}
+use Rattle.histories.specs.declared.event.Event.TheVariants.{Feed, Advance, Allow, Look, Take, TakeHeld, Give}
+use Rattle.histories.specs.declared.event.Fed.{Fed}
 use Rattle.machine.specs.Boards.Inputs.{feed_faults, advance_faults}
-use Rattle.machine.specs.Histories.Dataflows.{Dataflow, IsDataflow}
-use Rattle.machine.specs.Histories.States.{State, place, queue, fed_to, open_at}
-use Rattle.machine.specs.Histories.{actor_of, state_after, IsLegal}
-use Rattle.machine.specs.Histories.Promises.{changes_in}
-use Rattle.machine.specs.Histories.Outstanding.{frontier}
-use Rattle.machine.specs.Histories.Readings.{is_from_start}
+use Rattle.histories.specs.Histories.Dataflows.{Dataflow, IsDataflow}
+use Rattle.histories.specs.Histories.States.{State, place, queue, fed_to, open_at}
+use Rattle.histories.specs.Histories.{actor_of, state_after, IsLegal}
+use Rattle.histories.specs.Histories.Promises.{changes_in}
+use Rattle.histories.specs.Histories.Outstanding.{frontier}
+use Rattle.histories.specs.Histories.Readings.{is_from_start}
 use Rattle.machine.specs.Boards.{BoardState, Stands}
 use Rattle.machine.specs.Boards.Loads.{Lot, queue_of}
 use Rattle.shared_board.specs.declared.event.Doing.{Doing}

@@ -2,13 +2,13 @@
 ghost use Rattle.std.specs.Prelude.{◌≡◌, ℕ, suc, List, ◌++◌};
 ghost use Rattle.hub.specs.declared.view.Entry.{Entry};
 ghost use Rattle.hub.specs.Histories.{NoneBy};
-ghost use Rattle.machine.specs.declared.histories.event.Bundle.{Bundle};
-ghost use Rattle.machine.specs.declared.histories.event.Emission.{Emission};
-ghost use Rattle.machine.specs.Histories.Actors.{IsSameOfWorker, IsSameOfClients};
-ghost use Rattle.machine.specs.Histories.Dataflows.{Dataflow};
-ghost use Rattle.machine.specs.Histories.Readings.{IsQuiet};
-ghost use Rattle.machine.specs.Histories.States.{State};
-ghost use Rattle.machine.specs.Histories.{IsGive, IsLegal};
+ghost use Rattle.histories.specs.declared.event.Bundle.{Bundle};
+ghost use Rattle.histories.specs.declared.event.Emission.{Emission};
+ghost use Rattle.histories.specs.Histories.Actors.{IsSameOfWorker, IsSameOfClients};
+ghost use Rattle.histories.specs.Histories.Dataflows.{Dataflow};
+ghost use Rattle.histories.specs.Histories.Readings.{IsQuiet};
+ghost use Rattle.histories.specs.Histories.States.{State};
+ghost use Rattle.histories.specs.Histories.{IsGive, IsLegal};
 ghost use Rattle.shared_board.specs.declared.event.Doing.{Doing};
 ghost use Rattle.shared_board.specs.Tenures.{AreOn, Terms, events, left_by};
 

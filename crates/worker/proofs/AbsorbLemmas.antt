@@ -18,15 +18,15 @@ use Rattle.linear.specs.Widths.{are_wide}
 use Rattle.spine.specs.Spines.{Stands as SpineStands}
 use Rattle.trace.specs.Readings.{Insertion}
 use Rattle.hub.specs.Known.{Known}
-use Rattle.machine.specs.declared.histories.event.Bundle.{Bundle}
-use Rattle.machine.specs.declared.histories.event.Event.{Event}
-use Rattle.machine.specs.declared.histories.event.Event.TheVariants.{Take, Give}
-use Rattle.machine.specs.Histories.Dataflows.{Dataflow, IsDataflow, node_of}
-use Rattle.machine.specs.Histories.States.{State, times, held_at}
-use Rattle.machine.specs.Histories.Promises.{NeverGoesBack}
-use Rattle.machine.specs.Histories.Outstanding.{input_frontier}
-use Rattle.machine.specs.Histories.{initial_state, state_after, next_state, IsLegal, IsGive}
-use Rattle.machine.proofs.HistoryLemmas.HeadlineLemmas.{inputs_lem}
+use Rattle.histories.specs.declared.event.Bundle.{Bundle}
+use Rattle.histories.specs.declared.event.Event.{Event}
+use Rattle.histories.specs.declared.event.Event.TheVariants.{Take, Give}
+use Rattle.histories.specs.Histories.Dataflows.{Dataflow, IsDataflow, node_of}
+use Rattle.histories.specs.Histories.States.{State, times, held_at}
+use Rattle.histories.specs.Histories.Promises.{NeverGoesBack}
+use Rattle.histories.specs.Histories.Outstanding.{input_frontier}
+use Rattle.histories.specs.Histories.{initial_state, state_after, next_state, IsLegal, IsGive}
+use Rattle.histories.proofs.HistoryLemmas.HeadlineLemmas.{inputs_lem}
 use Rattle.shared_board.specs.declared.event.Doing.{Doing}
 use Rattle.operator_laws.specs.Gathering.{IsHeldFor, IsStamped}
 use Rattle.worker.specs.Passes.{IsAtNode}

@@ -9,13 +9,13 @@ use Rattle.update.specs.declared.change.Update.{Update}
 use Rattle.plan.specs.declared.node.Node.{Node}
 use Rattle.plan.specs.declared.node.Node.TheVariants.{Input, Map, Filter, Concat, Negate, Arrange, Join, Reduce, Output}
 use Rattle.trace.specs.Readings.{Insertion}
-use Rattle.machine.specs.declared.histories.event.Site.{Site}
-use Rattle.machine.specs.declared.histories.event.Bundle.{Bundle}
-use Rattle.machine.specs.Histories.Dataflows.{Dataflow, node_of, upstream}
-use Rattle.machine.specs.Histories.Outstanding.{stamps, strictly_upstream, input_frontier}
-use Rattle.machine.specs.Histories.Promises.{NeverGoesBack}
-use Rattle.machine.specs.Histories.States.{State, place, queue}
-use Rattle.machine.proofs.HistoryLemmas.OutstandingLemmas.{held_where, open_where, beyond_input_frontier}
+use Rattle.histories.specs.declared.event.Site.{Site}
+use Rattle.histories.specs.declared.event.Bundle.{Bundle}
+use Rattle.histories.specs.Histories.Dataflows.{Dataflow, node_of, upstream}
+use Rattle.histories.specs.Histories.Outstanding.{stamps, strictly_upstream, input_frontier}
+use Rattle.histories.specs.Histories.Promises.{NeverGoesBack}
+use Rattle.histories.specs.Histories.States.{State, place, queue}
+use Rattle.histories.proofs.HistoryLemmas.OutstandingLemmas.{held_where, open_where, beyond_input_frontier}
 use Rattle.worker.specs.Between.{IsAlike}
 use Rattle.worker.specs.Desks.{DeskState, IsDeskAt}
 use Rattle.operator_laws.specs.Gathering.{IsGathering}

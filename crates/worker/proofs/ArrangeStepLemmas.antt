@@ -17,14 +17,14 @@ use Rattle.linear.specs.Ports.{is_port}
 use Rattle.trace.specs.Readings.{Insertion, reached}
 use Rattle.trace.specs.BatchLists.{end_of}
 use Rattle.spine.specs.Spines.{Stands}
-use Rattle.machine.specs.declared.histories.event.Bundle.{Bundle}
-use Rattle.machine.specs.declared.histories.event.Emission.{Emission}
-use Rattle.machine.specs.declared.histories.event.Event.TheVariants.{Take, TakeHeld, Give}
-use Rattle.machine.specs.Histories.Dataflows.{Dataflow, IsDataflow, node_of, source_of}
-use Rattle.machine.specs.Histories.States.{State, place, queue, times}
-use Rattle.machine.specs.Histories.Outstanding.{input_frontier}
-use Rattle.machine.specs.Histories.Promises.{NeverGoesBack}
-use Rattle.machine.specs.Histories.{with_at, next_state, give_state, IsTake, IsTakeHeld, IsGive}
+use Rattle.histories.specs.declared.event.Bundle.{Bundle}
+use Rattle.histories.specs.declared.event.Emission.{Emission}
+use Rattle.histories.specs.declared.event.Event.TheVariants.{Take, TakeHeld, Give}
+use Rattle.histories.specs.Histories.Dataflows.{Dataflow, IsDataflow, node_of, source_of}
+use Rattle.histories.specs.Histories.States.{State, place, queue, times}
+use Rattle.histories.specs.Histories.Outstanding.{input_frontier}
+use Rattle.histories.specs.Histories.Promises.{NeverGoesBack}
+use Rattle.histories.specs.Histories.{with_at, next_state, give_state, IsTake, IsTakeHeld, IsGive}
 use Rattle.operator_laws.specs.Gathering.{IsCut, IsStamped, IsInHand, IsSplit, IsHeldFor}
 use Rattle.operator_laws.specs.Arranging.{IsArranging, IsSealOf}
 use Rattle.operator.specs.Arrangements.{ArrangementState, AreInTurn}
@@ -179,7 +179,7 @@ module _ {T : Type 0} (below : T → T → Bool) (joined : T → T → T) (minim
         )
 
         -- a batch that is given is inserted
-        pub settle_desk : Stands below b.spine (insertion ∷ desk.inserted n) → out ≢ [] → IsTrue (all_between below (end_of a.spine.list.start a.spine.list.batches) front out) → sent ≡ Rattle.machine.specs.Histories.Cuts.cut below p emission
+        pub settle_desk : Stands below b.spine (insertion ∷ desk.inserted n) → out ≢ [] → IsTrue (all_between below (end_of a.spine.list.start a.spine.list.batches) front out) → sent ≡ Rattle.histories.specs.Histories.Cuts.cut below p emission
             → ((m port : ℕ) → is_join (node_of p m) ≡ true → source_of p m port ≡ Some n → queue (place m port k) w.in_flight ≡ []) → IsDesk below joined minimum p given k (with_arrangement n b d)
         settle_desk stands some between as_cut caught =
             desk_from below joined minimum p given k (with_arrangement n b d) inserted_then n (others inserted_then others_then reads)

@@ -5,10 +5,10 @@ use Rattle.update.specs.declared.change.Update.{Update}
 use Rattle.plan.specs.Nodes.{is_input}
 use Rattle.hub.specs.Known.{Known}
 use Rattle.hub.specs.declared.view.Entry.{Entry}
-use Rattle.machine.specs.declared.histories.event.Event.{Event}
-use Rattle.machine.specs.Histories.Dataflows.{Dataflow, IsDataflow, node_of}
-use Rattle.machine.specs.Histories.States.{State}
-use Rattle.machine.specs.Histories.{IsLegal}
+use Rattle.histories.specs.declared.event.Event.{Event}
+use Rattle.histories.specs.Histories.Dataflows.{Dataflow, IsDataflow, node_of}
+use Rattle.histories.specs.Histories.States.{State}
+use Rattle.histories.specs.Histories.{IsLegal}
 use Rattle.shared_board.specs.declared.event.Doing.{Doing}
 use Rattle.worker.specs.Between.{state_from, AreOfClients, DoClientsLead, IsLeftBy}
 use Rattle.worker.specs.Desks.{DeskState}

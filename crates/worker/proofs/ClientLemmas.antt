@@ -10,14 +10,14 @@ use Rattle.lattice.specs.Order.{PartialOrderLaws}
 use Rattle.plan.specs.Nodes.{sources, is_input}
 use Rattle.plan.specs.Widths.{width_of}
 use Rattle.plan.proofs.SortLemmas.{input_reads_none, no_source}
-use Rattle.machine.specs.declared.histories.event.Bundle.{Bundle}
-use Rattle.machine.specs.declared.histories.event.Fed.{Fed}
-use Rattle.machine.specs.declared.histories.event.Event.{Event}
-use Rattle.machine.specs.declared.histories.event.Event.TheVariants.{Feed, Advance, Allow, Look, Take, TakeHeld, Give}
-use Rattle.machine.specs.Histories.Dataflows.{Dataflow, IsDataflow, node_of, source_of, route}
-use Rattle.machine.specs.Histories.States.{State, place, queue}
-use Rattle.machine.specs.Histories.{alone, next_state, IsFeed, IsAllowed}
-use Rattle.machine.proofs.HistoryLemmas.ClaimLemmas.{routed}
+use Rattle.histories.specs.declared.event.Bundle.{Bundle}
+use Rattle.histories.specs.declared.event.Fed.{Fed}
+use Rattle.histories.specs.declared.event.Event.{Event}
+use Rattle.histories.specs.declared.event.Event.TheVariants.{Feed, Advance, Allow, Look, Take, TakeHeld, Give}
+use Rattle.histories.specs.Histories.Dataflows.{Dataflow, IsDataflow, node_of, source_of, route}
+use Rattle.histories.specs.Histories.States.{State, place, queue}
+use Rattle.histories.specs.Histories.{alone, next_state, IsFeed, IsAllowed}
+use Rattle.histories.proofs.HistoryLemmas.ClaimLemmas.{routed}
 use Rattle.operator_laws.specs.Gathering.{is_of}
 use Rattle.operator_laws.specs.Joining.{is_at_port}
 use Rattle.worker.specs.Passes.{is_due, JoinsHaveTaken, IsAtNode}

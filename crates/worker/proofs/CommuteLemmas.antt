@@ -8,18 +8,18 @@ use Rattle.std.proofs.lemmas.List.Concat.{flat_map-append}
 use Rattle.std.proofs.lemmas.List.Folds.{list_all-append, list_any-append}
 use Rattle.lattice.specs.Frontiers.{is_beyond, all_beyond}
 use Rattle.plan.specs.Nodes.{is_input}
-use Rattle.machine.specs.declared.histories.event.Site.{Site}
-use Rattle.machine.specs.declared.histories.event.Bundle.{Bundle}
-use Rattle.machine.specs.declared.histories.event.Emission.{Emission}
-use Rattle.machine.specs.declared.histories.event.Fed.{Fed}
-use Rattle.machine.specs.declared.histories.event.OpenTime.{OpenTime}
-use Rattle.machine.specs.declared.histories.event.Event.{Event}
-use Rattle.machine.specs.declared.histories.event.Event.TheVariants.{Feed, Advance, Allow, Look, Take, TakeHeld, Give}
-use Rattle.machine.specs.Histories.Dataflows.{Dataflow, node_of}
-use Rattle.machine.specs.Histories.Outstanding.{stamps}
-use Rattle.machine.specs.Histories.Shares.{home}
-use Rattle.machine.specs.Histories.States.{State, same_place, queue, fed_to, open_at}
-use Rattle.machine.specs.Histories.{alone, give_state, next_state, open_entries, with_at, IsAllowed}
+use Rattle.histories.specs.declared.event.Site.{Site}
+use Rattle.histories.specs.declared.event.Bundle.{Bundle}
+use Rattle.histories.specs.declared.event.Emission.{Emission}
+use Rattle.histories.specs.declared.event.Fed.{Fed}
+use Rattle.histories.specs.declared.event.OpenTime.{OpenTime}
+use Rattle.histories.specs.declared.event.Event.{Event}
+use Rattle.histories.specs.declared.event.Event.TheVariants.{Feed, Advance, Allow, Look, Take, TakeHeld, Give}
+use Rattle.histories.specs.Histories.Dataflows.{Dataflow, node_of}
+use Rattle.histories.specs.Histories.Outstanding.{stamps}
+use Rattle.histories.specs.Histories.Shares.{home}
+use Rattle.histories.specs.Histories.States.{State, same_place, queue, fed_to, open_at}
+use Rattle.histories.specs.Histories.{alone, give_state, next_state, open_entries, with_at, IsAllowed}
 use Rattle.worker.specs.Between.{is_of_client, state_from, AreOfClients, IsAlike}
 use Rattle.operator_laws.proofs.QueueLemmas.{queue_both}
 

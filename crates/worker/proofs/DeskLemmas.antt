@@ -13,14 +13,14 @@ use Rattle.linear.specs.Applied.{linear_output}
 use Rattle.linear.specs.Ports.{is_port}
 use Rattle.trace.specs.Readings.{Insertion}
 use Rattle.spine.specs.Spines.{Stands}
-use Rattle.machine.specs.declared.histories.event.Bundle.{Bundle}
-use Rattle.machine.specs.declared.histories.event.Emission.{Emission}
-use Rattle.machine.specs.declared.histories.event.Event.{Event}
-use Rattle.machine.specs.declared.histories.event.Event.TheVariants.{Take, Give}
-use Rattle.machine.specs.Histories.Dataflows.{Dataflow, IsDataflow, node_of}
-use Rattle.machine.specs.Histories.States.{State, times, emitted_by}
-use Rattle.machine.specs.Histories.NodeLaws.{received_at}
-use Rattle.machine.specs.Histories.{next_state, give_state, IsAllowed, IsTake, IsGive}
+use Rattle.histories.specs.declared.event.Bundle.{Bundle}
+use Rattle.histories.specs.declared.event.Emission.{Emission}
+use Rattle.histories.specs.declared.event.Event.{Event}
+use Rattle.histories.specs.declared.event.Event.TheVariants.{Take, Give}
+use Rattle.histories.specs.Histories.Dataflows.{Dataflow, IsDataflow, node_of}
+use Rattle.histories.specs.Histories.States.{State, times, emitted_by}
+use Rattle.histories.specs.Histories.NodeLaws.{received_at}
+use Rattle.histories.specs.Histories.{next_state, give_state, IsAllowed, IsTake, IsGive}
 use Rattle.operator_laws.specs.Gathering.{is_of, IsCut, IsStamped, IsInHand, IsSplit, IsHeldFor, IsGathering}
 use Rattle.operator.specs.Arrangements.{ArrangementState}
 use Rattle.operator_laws.specs.Arranging.{IsArranging}

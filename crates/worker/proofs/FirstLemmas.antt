@@ -9,17 +9,17 @@ use Rattle.linear.proofs.PortLemmas.{input_at}
 use Rattle.linear.proofs.SizeLemmas.{large_applied}
 use Rattle.linear.specs.Applied.{Overflows}
 use Rattle.linear.specs.Widths.{takes_rows}
-use Rattle.machine.specs.declared.histories.event.Site.{Site}
-use Rattle.machine.specs.declared.histories.event.Bundle.{Bundle}
-use Rattle.machine.specs.declared.histories.event.Event.{Event}
-use Rattle.machine.specs.declared.histories.event.Event.TheVariants.{Take}
-use Rattle.machine.specs.Histories.Dataflows.{Dataflow, IsDataflow, node_of, source_of}
-use Rattle.machine.specs.Histories.States.{State}
-use Rattle.machine.specs.Histories.NodeLaws.{received_at}
-use Rattle.machine.specs.Histories.Promises.{changes_in}
-use Rattle.machine.specs.Histories.{state_after, IsTake, IsLegal}
+use Rattle.histories.specs.declared.event.Site.{Site}
+use Rattle.histories.specs.declared.event.Bundle.{Bundle}
+use Rattle.histories.specs.declared.event.Event.{Event}
+use Rattle.histories.specs.declared.event.Event.TheVariants.{Take}
+use Rattle.histories.specs.Histories.Dataflows.{Dataflow, IsDataflow, node_of, source_of}
+use Rattle.histories.specs.Histories.States.{State}
+use Rattle.histories.specs.Histories.NodeLaws.{received_at}
+use Rattle.histories.specs.Histories.Promises.{changes_in}
+use Rattle.histories.specs.Histories.{state_after, IsTake, IsLegal}
 use Rattle.machine.proofs.BoardLemmas.PlacingLemmas.{itself}
-use Rattle.machine.proofs.HistoryLemmas.FlowLemmas.{queued}
+use Rattle.histories.proofs.HistoryLemmas.FlowLemmas.{queued}
 use Rattle.operator_laws.specs.Gathering.{IsStamped}
 use Rattle.worker.specs.Passes.{is_due, IsAtNode}
 use Rattle.shared_board.specs.Large.{HasNoSmallBound}

@@ -18,17 +18,17 @@ use Rattle.plan.specs.Nodes.{arranged_by, is_linear, key_width}
 use Rattle.plan.specs.Widths.{width_of}
 use Rattle.linear.specs.Applied.{linear_output, Overflows}
 use Rattle.linear.specs.Widths.{are_wide, takes_rows}
-use Rattle.machine.specs.declared.histories.event.Site.{Site}
-use Rattle.machine.specs.declared.histories.event.Bundle.{Bundle}
-use Rattle.machine.specs.declared.histories.event.Emission.{Emission}
-use Rattle.machine.specs.declared.histories.event.Event.{Event}
-use Rattle.machine.specs.declared.histories.event.Event.TheVariants.{Take, Give}
-use Rattle.machine.specs.Histories.Dataflows.{Dataflow, IsDataflow, node_of}
-use Rattle.machine.specs.Histories.States.{State, place, queue, times}
-use Rattle.machine.specs.Histories.Outstanding.{input_frontier}
-use Rattle.machine.specs.Histories.Promises.{changes_in}
-use Rattle.machine.specs.Histories.NodeLaws.{received_at}
-use Rattle.machine.specs.Histories.{state_after, next_state, give_state, IsGive, IsLegal, IsTake}
+use Rattle.histories.specs.declared.event.Site.{Site}
+use Rattle.histories.specs.declared.event.Bundle.{Bundle}
+use Rattle.histories.specs.declared.event.Emission.{Emission}
+use Rattle.histories.specs.declared.event.Event.{Event}
+use Rattle.histories.specs.declared.event.Event.TheVariants.{Take, Give}
+use Rattle.histories.specs.Histories.Dataflows.{Dataflow, IsDataflow, node_of}
+use Rattle.histories.specs.Histories.States.{State, place, queue, times}
+use Rattle.histories.specs.Histories.Outstanding.{input_frontier}
+use Rattle.histories.specs.Histories.Promises.{changes_in}
+use Rattle.histories.specs.Histories.NodeLaws.{received_at}
+use Rattle.histories.specs.Histories.{state_after, next_state, give_state, IsGive, IsLegal, IsTake}
 use Rattle.worker.specs.Desks.{DeskState, IsDesk}
 use Rattle.operator_laws.specs.Gathering.{IsCut, IsGathering, IsHeldFor, IsInHand, IsSplit, IsStamped}
 use Rattle.shared_board.specs.Large.{HasNoSmallBound}

@@ -10,9 +10,9 @@ use Rattle.plan.specs.Nodes.{arranged_by, is_linear}
 use Rattle.plan.specs.declared.node.Node.{Node}
 use Rattle.plan.specs.declared.node.Node.TheVariants.{Input, Map, Filter, Concat, Negate, Arrange, Join, Reduce, Output}
 use Rattle.trace.specs.Readings.{Insertion}
-use Rattle.machine.specs.Histories.Dataflows.{Dataflow, node_of}
-use Rattle.machine.specs.Histories.States.{State, held_at}
-use Rattle.machine.specs.Histories.Outstanding.{input_frontier}
+use Rattle.histories.specs.Histories.Dataflows.{Dataflow, node_of}
+use Rattle.histories.specs.Histories.States.{State, held_at}
+use Rattle.histories.specs.Histories.Outstanding.{input_frontier}
 use Rattle.operator_laws.specs.Gathering.{IsGathering}
 use Rattle.worker.specs.Desks.{DeskState, IsDeskAt}
 use Rattle.worker.specs.Relays.{IsReadyAt}

@@ -13,14 +13,14 @@ use Rattle.batch.specs.Intervals.{is_interval_of}
 use Rattle.trace.specs.Readings.{all_updates}
 use Rattle.join.specs.Pairs.{pairs}
 use Rattle.hub.specs.Known.{Known}
-use Rattle.machine.specs.declared.histories.event.Bundle.{Bundle}
-use Rattle.machine.specs.declared.histories.event.Emission.{Emission}
-use Rattle.machine.specs.declared.histories.event.Event.TheVariants.{Take, Give}
-use Rattle.machine.specs.Histories.Cuts.{cut}
-use Rattle.machine.specs.Histories.Dataflows.{Dataflow}
-use Rattle.machine.specs.Histories.States.{State, place}
-use Rattle.machine.specs.Histories.NodeLaws.{received_at}
-use Rattle.machine.specs.Histories.{next_state, IsGive}
+use Rattle.histories.specs.declared.event.Bundle.{Bundle}
+use Rattle.histories.specs.declared.event.Emission.{Emission}
+use Rattle.histories.specs.declared.event.Event.TheVariants.{Take, Give}
+use Rattle.histories.specs.Histories.Cuts.{cut}
+use Rattle.histories.specs.Histories.Dataflows.{Dataflow}
+use Rattle.histories.specs.Histories.States.{State, place}
+use Rattle.histories.specs.Histories.NodeLaws.{received_at}
+use Rattle.histories.specs.Histories.{next_state, IsGive}
 use Rattle.shared_board.specs.declared.event.Doing.{Doing}
 use Rattle.operator_laws.specs.Gathering.{IsCut}
 use Rattle.operator_laws.specs.Joining.{IsAnswer}

@@ -9,12 +9,12 @@ use Rattle.plan.specs.declared.node.Node.TheVariants.{Join}
 use Rattle.batch.specs.Intervals.{is_interval_of}
 use Rattle.trace.specs.Readings.{Insertion, all_updates, reached}
 use Rattle.join.specs.Pairs.{pairs}
-use Rattle.machine.specs.declared.histories.event.Bundle.{Bundle}
-use Rattle.machine.specs.declared.histories.event.Emission.{Emission}
-use Rattle.machine.specs.declared.histories.event.Event.TheVariants.{Take, Give}
-use Rattle.machine.specs.Histories.Dataflows.{Dataflow, IsDataflow, node_of, source_of}
-use Rattle.machine.specs.Histories.States.{State, place, times}
-use Rattle.machine.specs.Histories.{next_state, give_state, IsTake, IsGive}
+use Rattle.histories.specs.declared.event.Bundle.{Bundle}
+use Rattle.histories.specs.declared.event.Emission.{Emission}
+use Rattle.histories.specs.declared.event.Event.TheVariants.{Take, Give}
+use Rattle.histories.specs.Histories.Dataflows.{Dataflow, IsDataflow, node_of, source_of}
+use Rattle.histories.specs.Histories.States.{State, place, times}
+use Rattle.histories.specs.Histories.{next_state, give_state, IsTake, IsGive}
 use Rattle.operator_laws.specs.Gathering.{IsCut, IsStamped, IsInHand, IsSplit, IsHeldFor}
 use Rattle.operator_laws.specs.Joining.{IsAnswer, IsQueued, IsReadAt, IsJoining}
 use Rattle.operator.specs.Joins.{JoiningView}

@@ -26,18 +26,18 @@ use Rattle.spine.specs.Spines.{boundaries, stored}
 use Rattle.join.specs.Pairs.{pairs}
 use Rattle.join.specs.Sides.{all_rows_have}
 use Rattle.hub.specs.Known.{Known}
-use Rattle.machine.specs.declared.histories.event.Bundle.{Bundle}
-use Rattle.machine.specs.declared.histories.event.Emission.{Emission}
-use Rattle.machine.specs.declared.histories.event.Event.TheVariants.{Take, Give}
-use Rattle.machine.specs.Histories.Cuts.{cut}
-use Rattle.machine.specs.Histories.Dataflows.{Dataflow, node_of, source_of}
-use Rattle.machine.specs.Histories.Outstanding.{input_frontier}
-use Rattle.machine.specs.Histories.Promises.{NeverGoesBack, changes_in}
-use Rattle.machine.specs.Histories.States.{State, place, times}
-use Rattle.machine.specs.Histories.NodeLaws.{received_at}
-use Rattle.machine.specs.Histories.{initial_state, state_after, next_state, IsTake, IsGive, IsLegal}
-use Rattle.machine.proofs.HistoryLemmas.FlowLemmas.{queued}
-use Rattle.machine.proofs.HistoryLemmas.HeadlineLemmas.{inputs_lem}
+use Rattle.histories.specs.declared.event.Bundle.{Bundle}
+use Rattle.histories.specs.declared.event.Emission.{Emission}
+use Rattle.histories.specs.declared.event.Event.TheVariants.{Take, Give}
+use Rattle.histories.specs.Histories.Cuts.{cut}
+use Rattle.histories.specs.Histories.Dataflows.{Dataflow, node_of, source_of}
+use Rattle.histories.specs.Histories.Outstanding.{input_frontier}
+use Rattle.histories.specs.Histories.Promises.{NeverGoesBack, changes_in}
+use Rattle.histories.specs.Histories.States.{State, place, times}
+use Rattle.histories.specs.Histories.NodeLaws.{received_at}
+use Rattle.histories.specs.Histories.{initial_state, state_after, next_state, IsTake, IsGive, IsLegal}
+use Rattle.histories.proofs.HistoryLemmas.FlowLemmas.{queued}
+use Rattle.histories.proofs.HistoryLemmas.HeadlineLemmas.{inputs_lem}
 use Rattle.shared_board.specs.declared.event.Doing.{Doing}
 use Rattle.operator_laws.specs.Gathering.{IsCut, IsStamped}
 use Rattle.operator_laws.specs.Joining.{IsAnswer, IsReadAt}

@@ -6,13 +6,13 @@ use Rattle.update.specs.Updates.{size}
 use Rattle.plan.specs.Bounds.{output_bound}
 use Rattle.plan.specs.Nodes.{is_reduction}
 use Rattle.plan.proofs.PlanLemmas.{source_smaller, has_source}
-use Rattle.machine.specs.declared.histories.event.Event.{Event}
-use Rattle.machine.specs.Histories.Dataflows.{Dataflow, IsDataflow, node_of, source_of}
-use Rattle.machine.specs.Histories.NodeLaws.{received_at}
-use Rattle.machine.specs.Histories.Promises.{changes_in}
-use Rattle.machine.specs.Histories.States.{State}
-use Rattle.machine.specs.Histories.{state_after, IsLegal}
-use Rattle.machine.proofs.HistoryLemmas.BoundLemmas.{takes_lem, loads_lem}
+use Rattle.histories.specs.declared.event.Event.{Event}
+use Rattle.histories.specs.Histories.Dataflows.{Dataflow, IsDataflow, node_of, source_of}
+use Rattle.histories.specs.Histories.NodeLaws.{received_at}
+use Rattle.histories.specs.Histories.Promises.{changes_in}
+use Rattle.histories.specs.Histories.States.{State}
+use Rattle.histories.specs.Histories.{state_after, IsLegal}
+use Rattle.histories.proofs.HistoryLemmas.BoundLemmas.{takes_lem, loads_lem}
 use Rattle.shared_board.specs.Large.{HasNoSmallBound}
 
 module _ {T : Type 0} (below : T → T → Bool) (minimum : T) (o : PartialOrderLaws below) (cmp : T → T → Ordering) (p : Dataflow) (q : IsDataflow p) (h : List (Event T)) (legal : IsLegal below minimum p h) where

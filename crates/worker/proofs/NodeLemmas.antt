@@ -3,8 +3,8 @@ use Rattle.std.proofs.Common.{◌≡◌, ℕ, zero, suc, Bool, List, [], ◌∷�
 use Rattle.std.specs.List.{slice_get}
 use Rattle.std.proofs.lemmas.List.{set-set}
 use Rattle.reduce.proofs.RenewLemmas.{set_same}
-use Rattle.machine.specs.Histories.Dataflows.{Dataflow}
-use Rattle.machine.specs.Histories.States.{State}
+use Rattle.histories.specs.Histories.Dataflows.{Dataflow}
+use Rattle.histories.specs.Histories.States.{State}
 use Rattle.operator.specs.Arrangements.{ArrangementState}
 use Rattle.operator.specs.Joins.{JoiningView}
 use Rattle.operator.specs.Reductions.{ReducingView}

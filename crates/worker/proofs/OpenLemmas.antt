@@ -16,9 +16,9 @@ use Rattle.plan.proofs.KeyLemmas.{key_bounds, source_arranged}
 use Rattle.plan.proofs.PlanLemmas.{source_smaller}
 use Rattle.plan.proofs.StepLemmas.{width_by_sources}
 use Rattle.plan.proofs.WidthLemmas.{width_bounds}
-use Rattle.machine.specs.Histories.Dataflows.{Dataflow, node_of}
-use Rattle.machine.specs.Histories.States.{State}
-use Rattle.machine.specs.Histories.{initial_state}
+use Rattle.histories.specs.Histories.Dataflows.{Dataflow, node_of}
+use Rattle.histories.specs.Histories.States.{State}
+use Rattle.histories.specs.Histories.{initial_state}
 use Rattle.operator_laws.specs.Joining.{IsReadAt}
 use Rattle.operator.specs.Joins.{JoiningView, IsFitting}
 use Rattle.operator_laws.specs.Arranging.{IsArranging}

@@ -9,14 +9,14 @@ use Rattle.plan.specs.Nodes.{is_input}
 use Rattle.plan.proofs.SortLemmas.{no_source}
 use Rattle.linear.specs.Ports.{is_port}
 use Rattle.linear.specs.Widths.{are_wide}
-use Rattle.machine.specs.declared.histories.event.Site.{Site}
-use Rattle.machine.specs.declared.histories.event.Bundle.{Bundle}
-use Rattle.machine.specs.declared.histories.event.Emission.{Emission}
-use Rattle.machine.specs.declared.histories.event.Event.TheVariants.{Take, TakeHeld}
-use Rattle.machine.specs.Histories.Dataflows.{Dataflow, node_of, source_of}
-use Rattle.machine.specs.Histories.States.{State, place, same_place, queue}
-use Rattle.machine.specs.Histories.{without, next_state, give_state}
-use Rattle.machine.proofs.HistoryLemmas.FlowLemmas.{among_left}
+use Rattle.histories.specs.declared.event.Site.{Site}
+use Rattle.histories.specs.declared.event.Bundle.{Bundle}
+use Rattle.histories.specs.declared.event.Emission.{Emission}
+use Rattle.histories.specs.declared.event.Event.TheVariants.{Take, TakeHeld}
+use Rattle.histories.specs.Histories.Dataflows.{Dataflow, node_of, source_of}
+use Rattle.histories.specs.Histories.States.{State, place, same_place, queue}
+use Rattle.histories.specs.Histories.{without, next_state, give_state}
+use Rattle.histories.proofs.HistoryLemmas.FlowLemmas.{among_left}
 use Rattle.operator_laws.proofs.QueueLemmas.{queue_both}
 use Rattle.worker.specs.Passes.{width_at, is_due, JoinsHaveTaken, IsAtNode}
 

@@ -9,15 +9,15 @@ use Rattle.plan.specs.declared.node.Node.{Node}
 use Rattle.plan.specs.declared.node.Node.TheVariants.{Input, Map, Filter, Concat, Negate, Arrange, Join, Reduce, Output}
 use Rattle.plan.proofs.PlanLemmas.{has_source}
 use Rattle.trace.specs.Readings.{Insertion}
-use Rattle.machine.specs.declared.histories.event.Bundle.{Bundle}
-use Rattle.machine.specs.declared.histories.event.Emission.{Emission}
-use Rattle.machine.specs.declared.histories.event.Event.{Event}
-use Rattle.machine.specs.declared.histories.event.Event.TheVariants.{Take, TakeHeld, Give}
-use Rattle.machine.specs.Histories.Cuts.{cut}
-use Rattle.machine.specs.Histories.Dataflows.{Dataflow, IsDataflow, node_of, source_of}
-use Rattle.machine.specs.Histories.States.{State, place, queue}
-use Rattle.machine.specs.Histories.{next_state, give_state, IsTake, IsTakeHeld, IsGive, IsAllowed}
-use Rattle.machine.proofs.HistoryLemmas.CuttingLemmas.{share_none}
+use Rattle.histories.specs.declared.event.Bundle.{Bundle}
+use Rattle.histories.specs.declared.event.Emission.{Emission}
+use Rattle.histories.specs.declared.event.Event.{Event}
+use Rattle.histories.specs.declared.event.Event.TheVariants.{Take, TakeHeld, Give}
+use Rattle.histories.specs.Histories.Cuts.{cut}
+use Rattle.histories.specs.Histories.Dataflows.{Dataflow, IsDataflow, node_of, source_of}
+use Rattle.histories.specs.Histories.States.{State, place, queue}
+use Rattle.histories.specs.Histories.{next_state, give_state, IsTake, IsTakeHeld, IsGive, IsAllowed}
+use Rattle.histories.proofs.HistoryLemmas.CuttingLemmas.{share_none}
 use Rattle.operator_laws.specs.Gathering.{IsCut}
 use Rattle.operator_laws.specs.Joining.{is_at_port, IsQueued, IsReadAt, on_top}
 use Rattle.worker.specs.Passes.{JoinsHaveTaken}

@@ -29,18 +29,18 @@ use Rattle.linear.specs.Widths.{are_wide}
 use Rattle.trace.specs.Readings.{Insertion, all_updates}
 use Rattle.spine.specs.Spines.{SpineState, Stands as SpineStands}
 use Rattle.hub.specs.Known.{Known}
-use Rattle.machine.specs.declared.histories.event.Bundle.{Bundle}
-use Rattle.machine.specs.declared.histories.event.Emission.{Emission}
-use Rattle.machine.specs.declared.histories.event.Event.TheVariants.{Take, TakeHeld, Give}
-use Rattle.machine.specs.Histories.Cuts.{cut}
-use Rattle.machine.specs.Histories.Dataflows.{Dataflow, node_of, source_of}
-use Rattle.machine.specs.Histories.States.{State, times, emitted_by}
-use Rattle.machine.specs.Histories.NodeLaws.{received_at}
-use Rattle.machine.specs.Histories.Outstanding.{input_frontier}
-use Rattle.machine.specs.Histories.Promises.{AreOwed, changes_in}
-use Rattle.machine.specs.Histories.{next_state, IsGive}
-use Rattle.machine.proofs.HistoryLemmas.BoundLemmas.{owed_lem}
-use Rattle.machine.proofs.HistoryLemmas.QuietLemmas.{beyond_elements}
+use Rattle.histories.specs.declared.event.Bundle.{Bundle}
+use Rattle.histories.specs.declared.event.Emission.{Emission}
+use Rattle.histories.specs.declared.event.Event.TheVariants.{Take, TakeHeld, Give}
+use Rattle.histories.specs.Histories.Cuts.{cut}
+use Rattle.histories.specs.Histories.Dataflows.{Dataflow, node_of, source_of}
+use Rattle.histories.specs.Histories.States.{State, times, emitted_by}
+use Rattle.histories.specs.Histories.NodeLaws.{received_at}
+use Rattle.histories.specs.Histories.Outstanding.{input_frontier}
+use Rattle.histories.specs.Histories.Promises.{AreOwed, changes_in}
+use Rattle.histories.specs.Histories.{next_state, IsGive}
+use Rattle.histories.proofs.HistoryLemmas.BoundLemmas.{owed_lem}
+use Rattle.histories.proofs.HistoryLemmas.QuietLemmas.{beyond_elements}
 use Rattle.shared_board.specs.declared.event.Doing.{Doing}
 use Rattle.operator.specs.Arrangements.{ArrangementState}
 use Rattle.operator_laws.specs.Gathering.{IsCut, IsHeldFor, IsStamped}

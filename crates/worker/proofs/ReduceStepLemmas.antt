@@ -18,16 +18,16 @@ use Rattle.plan.specs.declared.node.Node.{Node}
 use Rattle.plan.specs.declared.node.Node.TheVariants.{Reduce}
 use Rattle.plan.proofs.OperatorLemmas.{given_alike}
 use Rattle.trace.specs.Readings.{Insertion}
-use Rattle.machine.specs.declared.histories.event.Bundle.{Bundle}
-use Rattle.machine.specs.declared.histories.event.Emission.{Emission}
-use Rattle.machine.specs.declared.histories.event.Event.TheVariants.{Take, TakeHeld, Give}
-use Rattle.machine.specs.Histories.Dataflows.{Dataflow, IsDataflow, node_of}
-use Rattle.machine.specs.Histories.States.{State, place, same_place, times, emitted_by, held_at}
-use Rattle.machine.specs.Histories.Outstanding.{input_frontier}
-use Rattle.machine.specs.Histories.NodeLaws.{received_at, was_passed}
-use Rattle.machine.specs.Histories.{next_state, give_state, IsTake, IsTakeHeld, IsGive}
-use Rattle.machine.proofs.HistoryLemmas.FlowLemmas.{is_passed, not_beyond, sum_at, sum_at-append}
-use Rattle.machine.proofs.HistoryLemmas.StampLemmas.{beyond_passed}
+use Rattle.histories.specs.declared.event.Bundle.{Bundle}
+use Rattle.histories.specs.declared.event.Emission.{Emission}
+use Rattle.histories.specs.declared.event.Event.TheVariants.{Take, TakeHeld, Give}
+use Rattle.histories.specs.Histories.Dataflows.{Dataflow, IsDataflow, node_of}
+use Rattle.histories.specs.Histories.States.{State, place, same_place, times, emitted_by, held_at}
+use Rattle.histories.specs.Histories.Outstanding.{input_frontier}
+use Rattle.histories.specs.Histories.NodeLaws.{received_at, was_passed}
+use Rattle.histories.specs.Histories.{next_state, give_state, IsTake, IsTakeHeld, IsGive}
+use Rattle.histories.proofs.HistoryLemmas.FlowLemmas.{is_passed, not_beyond, sum_at, sum_at-append}
+use Rattle.histories.proofs.HistoryLemmas.StampLemmas.{beyond_passed}
 use Rattle.operator_laws.specs.Gathering.{IsCut, IsStamped, IsInHand, IsHeldFor}
 use Rattle.operator_laws.specs.Reducing.{IsReducing, IsFound}
 use Rattle.operator.specs.Reductions.{ReducingView, IsReduced, IsPendingAfter, IsAnswerAt, pending_of}

@@ -7,10 +7,10 @@ use Rattle.lattice.specs.Order.{PartialOrderLaws}
 use Rattle.update.specs.declared.refusal.Refusal.{Refusal}
 use Rattle.plan.specs.Nodes.{is_input}
 use Rattle.hub.specs.Known.{Known}
-use Rattle.machine.specs.Histories.Dataflows.{node_of}
-use Rattle.machine.specs.declared.histories.event.Event.TheVariants.{Give}
-use Rattle.machine.specs.Histories.States.{State, place, queue}
-use Rattle.machine.specs.Histories.{next_state}
+use Rattle.histories.specs.Histories.Dataflows.{node_of}
+use Rattle.histories.specs.declared.event.Event.TheVariants.{Give}
+use Rattle.histories.specs.Histories.States.{State, place, queue}
+use Rattle.histories.specs.Histories.{next_state}
 use Rattle.shared_board.specs.declared.event.Doing.{Doing}
 use Rattle.worker.specs.Between.{DoClientsLead, IsLeftBy}
 use Rattle.worker.specs.Desks.{DeskState}

@@ -15,14 +15,14 @@ use Rattle.linear.specs.Applied.{linear_output}
 use Rattle.linear.specs.Ports.{is_port}
 use Rattle.linear.specs.Widths.{takes_rows, are_wide}
 use Rattle.linear.proofs.WidthLemmas.{plan_takes, plan_gives}
-use Rattle.machine.specs.declared.histories.event.Site.{Site}
-use Rattle.machine.specs.declared.histories.event.Bundle.{Bundle}
-use Rattle.machine.specs.declared.histories.event.Emission.{Emission}
-use Rattle.machine.specs.Histories.Dataflows.{Dataflow, IsDataflow, node_of, source_of, route}
-use Rattle.machine.specs.Histories.States.{same_place, updates_at}
-use Rattle.machine.specs.Histories.Shares.{part, share, share_from}
+use Rattle.histories.specs.declared.event.Site.{Site}
+use Rattle.histories.specs.declared.event.Bundle.{Bundle}
+use Rattle.histories.specs.declared.event.Emission.{Emission}
+use Rattle.histories.specs.Histories.Dataflows.{Dataflow, IsDataflow, node_of, source_of, route}
+use Rattle.histories.specs.Histories.States.{same_place, updates_at}
+use Rattle.histories.specs.Histories.Shares.{part, share, share_from}
 use Rattle.machine.proofs.BoardLemmas.PlacingLemmas.{itself}
-use Rattle.machine.proofs.HistoryLemmas.PlaceLemmas.{there_some, shared}
+use Rattle.histories.proofs.HistoryLemmas.PlaceLemmas.{there_some, shared}
 use Rattle.worker.specs.Passes.{width_at, is_due}
 use Rattle.worker.proofs.PassLemmas.{IsDue, due_from, lt_to}
 

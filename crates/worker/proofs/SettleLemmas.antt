@@ -16,16 +16,16 @@ use Rattle.plan.specs.declared.node.Node.TheVariants.{Arrange}
 use Rattle.trace.specs.Readings.{Insertion}
 use Rattle.spine.specs.Spines.{Stands as SpineStands}
 use Rattle.hub.specs.Known.{Known}
-use Rattle.machine.specs.declared.histories.event.Bundle.{Bundle}
-use Rattle.machine.specs.declared.histories.event.Emission.{Emission}
-use Rattle.machine.specs.declared.histories.event.Event.TheVariants.{TakeHeld, Give}
-use Rattle.machine.specs.Histories.Dataflows.{Dataflow, node_of, source_of}
-use Rattle.machine.specs.Histories.States.{State, times, place, queue}
-use Rattle.machine.specs.Histories.Outstanding.{input_frontier}
-use Rattle.machine.specs.Histories.Promises.{changes_in}
-use Rattle.machine.specs.Histories.Cuts.{cut}
-use Rattle.machine.specs.Histories.{next_state, IsGive}
-use Rattle.machine.proofs.HistoryLemmas.QuietLemmas.{beyond_elements}
+use Rattle.histories.specs.declared.event.Bundle.{Bundle}
+use Rattle.histories.specs.declared.event.Emission.{Emission}
+use Rattle.histories.specs.declared.event.Event.TheVariants.{TakeHeld, Give}
+use Rattle.histories.specs.Histories.Dataflows.{Dataflow, node_of, source_of}
+use Rattle.histories.specs.Histories.States.{State, times, place, queue}
+use Rattle.histories.specs.Histories.Outstanding.{input_frontier}
+use Rattle.histories.specs.Histories.Promises.{changes_in}
+use Rattle.histories.specs.Histories.Cuts.{cut}
+use Rattle.histories.specs.Histories.{next_state, IsGive}
+use Rattle.histories.proofs.HistoryLemmas.QuietLemmas.{beyond_elements}
 use Rattle.shared_board.specs.declared.event.Doing.{Doing}
 use Rattle.operator_laws.specs.Gathering.{IsCut, IsHeldFor}
 use Rattle.operator_laws.specs.Arranging.{IsSealOf}

@@ -9,20 +9,20 @@ use Rattle.lattice.specs.Frontiers.{is_beyond, all_beyond}
 use Rattle.antichain.specs.Antichains.{least}
 use Rattle.antichain.proofs.Lists.{Among, all_at, all_from, contains_among}
 use Rattle.plan.proofs.StandLemmas.{above_earlier}
-use Rattle.machine.specs.declared.histories.event.Site.{Site}
-use Rattle.machine.specs.declared.histories.event.Bundle.{Bundle}
-use Rattle.machine.specs.declared.histories.event.Emission.{Emission}
-use Rattle.machine.specs.declared.histories.event.HeldTime.{HeldTime}
-use Rattle.machine.specs.declared.histories.event.Event.{Event}
-use Rattle.machine.specs.declared.histories.event.Event.TheVariants.{Take, TakeHeld}
-use Rattle.machine.specs.Histories.Dataflows.{Dataflow, IsDataflow, upstream}
-use Rattle.machine.specs.Histories.States.{State, place, same_place, queue, held_at}
-use Rattle.machine.specs.Histories.Outstanding.{stamps, strictly_upstream, input_frontier}
-use Rattle.machine.proofs.HistoryLemmas.OutstandingLemmas.{held_where, open_where, input_outstanding_is}
-use Rattle.machine.specs.Histories.Readings.{IsQuiet}
-use Rattle.machine.specs.Histories.{without, is_held_by, held_entries, next_state, give_state, state_after, IsLegal}
-use Rattle.machine.proofs.HistoryLemmas.KeptLemmas.{held_unmarked, held_kept}
-use Rattle.machine.proofs.HistoryLemmas.PlaceLemmas.{in_place_lem}
+use Rattle.histories.specs.declared.event.Site.{Site}
+use Rattle.histories.specs.declared.event.Bundle.{Bundle}
+use Rattle.histories.specs.declared.event.Emission.{Emission}
+use Rattle.histories.specs.declared.event.HeldTime.{HeldTime}
+use Rattle.histories.specs.declared.event.Event.{Event}
+use Rattle.histories.specs.declared.event.Event.TheVariants.{Take, TakeHeld}
+use Rattle.histories.specs.Histories.Dataflows.{Dataflow, IsDataflow, upstream}
+use Rattle.histories.specs.Histories.States.{State, place, same_place, queue, held_at}
+use Rattle.histories.specs.Histories.Outstanding.{stamps, strictly_upstream, input_frontier}
+use Rattle.histories.proofs.HistoryLemmas.OutstandingLemmas.{held_where, open_where, input_outstanding_is}
+use Rattle.histories.specs.Histories.Readings.{IsQuiet}
+use Rattle.histories.specs.Histories.{without, is_held_by, held_entries, next_state, give_state, state_after, IsLegal}
+use Rattle.histories.proofs.HistoryLemmas.KeptLemmas.{held_unmarked, held_kept}
+use Rattle.histories.proofs.HistoryLemmas.PlaceLemmas.{in_place_lem}
 use Rattle.worker.specs.Passes.{is_due, IsFreeAtNode}
 use Rattle.worker.specs.Relays.{HasNone, IsSettledTo}
 use Rattle.worker.proofs.PassLemmas.{due_parts, still_none}

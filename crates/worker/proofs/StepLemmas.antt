@@ -13,17 +13,17 @@ use Rattle.hub.specs.declared.view.Entry.{Entry}
 use Rattle.lattice.specs.Order.{PartialOrderLaws}
 use Rattle.plan.specs.Nodes.{is_input, arranged_by}
 use Rattle.plan.proofs.SortLemmas.{input_reads_none}
-use Rattle.machine.specs.declared.histories.event.Site.{Site}
-use Rattle.machine.specs.declared.histories.event.Bundle.{Bundle}
-use Rattle.machine.specs.declared.histories.event.Emission.{Emission}
-use Rattle.machine.specs.declared.histories.event.Event.{Event}
-use Rattle.machine.specs.declared.histories.event.Event.TheVariants.{Feed, Advance, Allow, Look, Take, TakeHeld, Give}
-use Rattle.machine.specs.Histories.Dataflows.{Dataflow, IsDataflow, node_of}
-use Rattle.machine.specs.Histories.Outstanding.{input_frontier}
-use Rattle.machine.specs.Histories.Shares.{share, share_from}
-use Rattle.machine.specs.Histories.States.{State, queue, updates_at}
-use Rattle.machine.specs.Histories.{actor_of, initial_state, next_state, give_state, IsAllowed, IsGive, IsLegal, IsTakeHeld}
-use Rattle.machine.proofs.HistoryLemmas.KeptLemmas.{no_totals}
+use Rattle.histories.specs.declared.event.Site.{Site}
+use Rattle.histories.specs.declared.event.Bundle.{Bundle}
+use Rattle.histories.specs.declared.event.Emission.{Emission}
+use Rattle.histories.specs.declared.event.Event.{Event}
+use Rattle.histories.specs.declared.event.Event.TheVariants.{Feed, Advance, Allow, Look, Take, TakeHeld, Give}
+use Rattle.histories.specs.Histories.Dataflows.{Dataflow, IsDataflow, node_of}
+use Rattle.histories.specs.Histories.Outstanding.{input_frontier}
+use Rattle.histories.specs.Histories.Shares.{share, share_from}
+use Rattle.histories.specs.Histories.States.{State, queue, updates_at}
+use Rattle.histories.specs.Histories.{actor_of, initial_state, next_state, give_state, IsAllowed, IsGive, IsLegal, IsTakeHeld}
+use Rattle.histories.proofs.HistoryLemmas.KeptLemmas.{no_totals}
 use Rattle.shared_board.specs.declared.event.Doing.{Doing}
 use Rattle.worker.specs.Between.{is_of_client, state_from, AreOfClients, DoClientsLead, IsAlike, IsLeftBy}
 use Rattle.worker.specs.Desks.{DeskState}

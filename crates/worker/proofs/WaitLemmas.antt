@@ -8,12 +8,12 @@ use Rattle.plan.specs.Nodes.{sources, arranged_by}
 use Rattle.plan.specs.declared.node.Node.{Node}
 use Rattle.plan.specs.declared.node.Node.TheVariants.{Input, Map, Filter, Concat, Negate, Arrange, Join, Reduce, Output}
 use Rattle.linear.specs.Ports.{is_port}
-use Rattle.machine.specs.declared.histories.event.Site.{Site}
-use Rattle.machine.specs.declared.histories.event.Bundle.{Bundle}
-use Rattle.machine.specs.declared.histories.event.Emission.{Emission}
-use Rattle.machine.specs.Histories.Dataflows.{Dataflow, node_of, source_of}
-use Rattle.machine.specs.Histories.States.{State, place, same_place, queue, updates_at}
-use Rattle.machine.specs.Histories.Shares.{are_filled, part, share, share_from}
+use Rattle.histories.specs.declared.event.Site.{Site}
+use Rattle.histories.specs.declared.event.Bundle.{Bundle}
+use Rattle.histories.specs.declared.event.Emission.{Emission}
+use Rattle.histories.specs.Histories.Dataflows.{Dataflow, node_of, source_of}
+use Rattle.histories.specs.Histories.States.{State, place, same_place, queue, updates_at}
+use Rattle.histories.specs.Histories.Shares.{are_filled, part, share, share_from}
 use Rattle.machine.proofs.BoardLemmas.PlacingLemmas.{itself}
 use Rattle.operator_laws.specs.Gathering.{IsCut}
 use Rattle.worker.specs.Passes.{is_due}
@@ -75,7 +75,7 @@ module _ {T : Type 0} (below : T → T → Bool) (p : Dataflow) (g : Emission T)
           off : (b : Bool) → cond {A = List (Update T)} b [] [] ≡ []
           off true = refl
           off false = refl
-      part_none (Some columns) giver worker us e = ap (filter (λ u. eqb (Rattle.machine.specs.Histories.Dataflows.route p (Rattle.std.proofs.Common.take columns u.row)) worker)) e
+      part_none (Some columns) giver worker us e = ap (filter (λ u. eqb (Rattle.histories.specs.Histories.Dataflows.route p (Rattle.std.proofs.Common.take columns u.row)) worker)) e
 
       share_none : (source columns : Option ℕ) (worker : ℕ) → share_from p source columns worker g ≡ []
       share_none None columns worker = refl

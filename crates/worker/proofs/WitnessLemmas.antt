@@ -20,8 +20,8 @@ use Rattle.trace.specs.Holds.{HoldState}
 use Rattle.spine.proofs.StandingLemmas.{stands_for_nothing}
 use Rattle.reduce.specs.Kinds.{kind_answer}
 use Rattle.reduce.specs.Reductions.{StandsFor}
-use Rattle.machine.specs.Histories.{initial_state}
-use Rattle.machine.specs.declared.histories.event.Event.TheVariants.{Look}
+use Rattle.histories.specs.Histories.{initial_state}
+use Rattle.histories.specs.declared.event.Event.TheVariants.{Look}
 use Rattle.operator.specs.Arrangements.{ArrangementState, IsWithReader, upper_of}
 use Rattle.operator.specs.Joins.{JoiningView}
 use Rattle.operator.specs.Reductions.{ReducingView, state_key}

@@ -8,9 +8,9 @@ use Rattle.plan.specs.declared.node.Node.{Node}
 use Rattle.plan.specs.declared.node.Node.TheVariants.{Input, Map, Filter, Concat, Negate, Arrange, Join, Reduce, Output}
 use Rattle.spine.specs.Spines.{Stands}
 use Rattle.trace.specs.Readings.{Insertion, reached}
-use Rattle.machine.specs.Histories.Dataflows.{Dataflow, node_of, source_of}
-use Rattle.machine.specs.Histories.States.{State, emitted_by}
-use Rattle.machine.specs.Histories.NodeLaws.{received_at}
+use Rattle.histories.specs.Histories.Dataflows.{Dataflow, node_of, source_of}
+use Rattle.histories.specs.Histories.States.{State, emitted_by}
+use Rattle.histories.specs.Histories.NodeLaws.{received_at}
 use Rattle.operator_laws.specs.Gathering.{IsGathering}
 use Rattle.operator_laws.specs.Arranging.{IsArranging}
 use Rattle.operator_laws.specs.Reducing.{IsReducing}

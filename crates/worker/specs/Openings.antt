@@ -6,7 +6,7 @@ use Rattle.plan.specs.declared.node.Kind.{Kind}
 use Rattle.plan.specs.declared.node.Node.{Node}
 use Rattle.plan.specs.declared.node.Node.TheVariants.{Input, Map, Filter, Concat, Negate, Arrange, Join, Reduce, Output}
 use Rattle.spine.specs.Spines.{Stands}
-use Rattle.machine.specs.Histories.Dataflows.{Dataflow}
+use Rattle.histories.specs.Histories.Dataflows.{Dataflow}
 use Rattle.operator.specs.Arrangements.{ArrangementState}
 use Rattle.operator.specs.Joins.{JoiningView}
 use Rattle.operator.specs.Reductions.{ReducingView, IsReduced, pending_of}

@@ -6,10 +6,10 @@ use Rattle.plan.specs.Nodes.{is_input, is_join}
 use Rattle.plan.specs.Widths.{width_of}
 use Rattle.linear.specs.Ports.{is_port}
 use Rattle.linear.specs.Widths.{are_wide}
-use Rattle.machine.specs.declared.histories.event.Site.{Site}
-use Rattle.machine.specs.declared.histories.event.Bundle.{Bundle}
-use Rattle.machine.specs.Histories.Dataflows.{Dataflow, node_of, source_of}
-use Rattle.machine.specs.Histories.States.{State, place, queue}
+use Rattle.histories.specs.declared.event.Site.{Site}
+use Rattle.histories.specs.declared.event.Bundle.{Bundle}
+use Rattle.histories.specs.Histories.Dataflows.{Dataflow, node_of, source_of}
+use Rattle.histories.specs.Histories.States.{State, place, queue}
 
 -- the width of the rows that arrive at a place: that of the node read there, or the input's own
 abbrev pub width_at : Dataflow → Site → ℕ

@@ -13,13 +13,13 @@ use Rattle.plan.specs.Widths.{width_of}
 use Rattle.hub.specs.Histories.{EndsIn}
 use Rattle.hub.specs.Known.{Known}
 use Rattle.hub.specs.declared.view.Entry.{Entry}
-use Rattle.machine.specs.declared.histories.event.Bundle.{Bundle}
-use Rattle.machine.specs.declared.histories.event.Event.TheVariants.{Take, TakeHeld}
-use Rattle.machine.specs.Histories.Dataflows.{Dataflow}
-use Rattle.machine.specs.Histories.Outstanding.{input_frontier}
-use Rattle.machine.specs.Histories.Promises.{changes_in}
-use Rattle.machine.specs.Histories.States.{State, held_at, place, queue}
-use Rattle.machine.specs.Histories.{IsTake, IsTakeHeld, next_state}
+use Rattle.histories.specs.declared.event.Bundle.{Bundle}
+use Rattle.histories.specs.declared.event.Event.TheVariants.{Take, TakeHeld}
+use Rattle.histories.specs.Histories.Dataflows.{Dataflow}
+use Rattle.histories.specs.Histories.Outstanding.{input_frontier}
+use Rattle.histories.specs.Histories.Promises.{changes_in}
+use Rattle.histories.specs.Histories.States.{State, held_at, place, queue}
+use Rattle.histories.specs.Histories.{IsTake, IsTakeHeld, next_state}
 use Rattle.shared_board.specs.declared.event.Doing.{Doing}
 use Rattle.worker.specs.Desks.{DeskState, IsDesk, IsDeskWith}
 use Rattle.shared_board.specs.Found.{dataflow_of}

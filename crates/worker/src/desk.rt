@@ -10,7 +10,7 @@ ghost use Rattle.update.specs.declared.refusal.Refusal.{Refusal};
 ghost use Rattle.plan.specs.Nodes.{node_at};
 ghost use Rattle.plan.specs.declared.node.Kind.{Kind};
 ghost use Rattle.plan.specs.declared.node.Node.TheVariants.{Arrange, Join, Reduce};
-ghost use Rattle.machine.specs.Histories.{initial_state};
+ghost use Rattle.histories.specs.Histories.{initial_state};
 ghost use Rattle.operator.specs.Arrangements.{ArrangementState, IsWithReader};
 ghost use Rattle.operator.specs.Joins.{JoiningView};
 ghost use Rattle.operator.specs.Reductions.{ReducingView};

@@ -9,7 +9,7 @@
 //! there already, then it waits for the next pass. All else that a step found before they acted is
 //! as right after it (`steps`).
 ghost use Rattle.std.specs.Prelude.{◌≡◌, IfErr, OnOk};
-ghost use Rattle.machine.specs.Histories.Readings.{IsQuiet};
+ghost use Rattle.histories.specs.Histories.Readings.{IsQuiet};
 ghost use Rattle.shared_board.specs.Found.{dataflow_of};
 ghost use Rattle.worker.specs.Relays.{IsCalm, IsRunning, IsSameActor, IsStopped};
 ghost use Rattle.shared_board.specs.Tenures.{state_left};

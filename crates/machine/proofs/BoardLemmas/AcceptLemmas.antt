@@ -6,9 +6,9 @@ use Rattle.std.proofs.lemmas.List.{get_or_default, length-set}
 use Rattle.update.specs.declared.refusal.Refusal.{Refusal}
 use Rattle.update.specs.declared.refusal.Refusal.TheVariants.{OutOfMemory}
 use Rattle.update.specs.Refusals.{IsRefusalBy}
-use Rattle.machine.specs.declared.histories.event.Bundle.{Bundle}
-use Rattle.machine.specs.declared.histories.event.Fed.{Fed}
-use Rattle.machine.specs.declared.histories.event.Site.{Site}
+use Rattle.histories.specs.declared.event.Bundle.{Bundle}
+use Rattle.histories.specs.declared.event.Fed.{Fed}
+use Rattle.histories.specs.declared.event.Site.{Site}
 use Rattle.machine.specs.Boards.Loads.{Load, Lot, with_load_at, without_load_at, with_lot, put_at, put_all, taken_from, held_from}
 use Rattle.views.specs.Views.{ViewState}
 use Rattle.machine.specs.Boards.{BoardState, IsBoard, put_change, accept_change}

@@ -10,12 +10,12 @@ use Rattle.update.specs.declared.change.Update.{Update}
 use Rattle.update.specs.declared.refusal.Refusal.TheVariants.{NotForward}
 use Rattle.plan.specs.Nodes.{is_output}
 use Rattle.plan.proofs.PlanLemmas.{no_first}
-use Rattle.machine.specs.declared.histories.event.Event.{Event}
-use Rattle.machine.specs.declared.histories.event.Event.TheVariants.{Allow}
-use Rattle.machine.specs.Histories.Dataflows.{node_of}
-use Rattle.machine.specs.Histories.States.{State, emitted_at}
-use Rattle.machine.specs.Histories.{state_after, with_at}
-use Rattle.machine.specs.Histories.Readings.{is_from_start}
+use Rattle.histories.specs.declared.event.Event.{Event}
+use Rattle.histories.specs.declared.event.Event.TheVariants.{Allow}
+use Rattle.histories.specs.Histories.Dataflows.{node_of}
+use Rattle.histories.specs.Histories.States.{State, emitted_at}
+use Rattle.histories.specs.Histories.{state_after, with_at}
+use Rattle.histories.specs.Histories.Readings.{is_from_start}
 use Rattle.views.specs.Views.{ViewState}
 use Rattle.machine.specs.Boards.{BoardState, IsBoard, IsKeptOf, Stands, after_allow, allow_refusal, no_view}
 

@@ -13,35 +13,35 @@ use Rattle.update.specs.declared.refusal.Refusal.TheVariants.{WrongWidth, ZeroWe
 use Rattle.plan.specs.Rules.{first_refusal}
 use Rattle.plan.specs.Widths.{width_of}
 use Rattle.plan.proofs.PlanLemmas.{no_first}
-use Rattle.machine.specs.declared.histories.event.Fed.{Fed}
-use Rattle.machine.specs.declared.histories.event.OpenTime.{OpenTime}
-use Rattle.machine.specs.declared.histories.event.Event.{Event}
-use Rattle.machine.specs.declared.histories.event.Event.TheVariants.{Feed, Advance, Take, Give}
-use Rattle.machine.specs.Histories.States.{State, fed_to, open_at, queue, emitted_at, same_place}
-use Rattle.machine.specs.Histories.{IsInput, IsFeed, state_after, alone, with_at, IsGive, IsTakeHeld}
+use Rattle.histories.specs.declared.event.Fed.{Fed}
+use Rattle.histories.specs.declared.event.OpenTime.{OpenTime}
+use Rattle.histories.specs.declared.event.Event.{Event}
+use Rattle.histories.specs.declared.event.Event.TheVariants.{Feed, Advance, Take, Give}
+use Rattle.histories.specs.Histories.States.{State, fed_to, open_at, queue, emitted_at, same_place}
+use Rattle.histories.specs.Histories.{IsInput, IsFeed, state_after, alone, with_at, IsGive, IsTakeHeld}
 use Rattle.std.specs.Result.{IfOk, OnOk, OnErr}
 use Rattle.std.specs.Prelude.{Result, Ok, Err, replicate, IsTrue, Option, Some}
 use Rattle.update.specs.Bags.{count_of}
 use Rattle.update.specs.Updates.{as_of, size}
 use Rattle.update.proofs.ConsolidatedLemmas.{summed_size_is, summed_size-append}
-use Rattle.machine.specs.Histories.Dataflows.{Dataflow, node_of}
+use Rattle.histories.specs.Histories.Dataflows.{Dataflow, node_of}
 use Rattle.update.specs.declared.change.Update.{Update}
 use Rattle.plan.specs.Nodes.{arranged_by, sources, is_output}
-use Rattle.machine.specs.declared.histories.event.Site.{Site}
+use Rattle.histories.specs.declared.event.Site.{Site}
 use Rattle.std.proofs.lemmas.Int.{ints}
-use Rattle.machine.specs.declared.histories.event.Bundle.{Bundle}
-use Rattle.machine.specs.declared.histories.event.Emission.{Emission}
+use Rattle.histories.specs.declared.event.Bundle.{Bundle}
+use Rattle.histories.specs.declared.event.Emission.{Emission}
 use Rattle.views.specs.Views.{ViewState}
 use Rattle.machine.specs.Boards.{capture, after_give, after_take, after_turn, no_view, first_board, BoardState, IsBoard, Stands, after_look, after_feed, after_advance, feed_refusal, advance_refusal}
-use Rattle.machine.specs.Histories.Readings.{is_from_start}
-use Rattle.machine.proofs.HistoryLemmas.FlowLemmas.{sum_at-append}
-use Rattle.machine.specs.Histories.Shares.{home}
-use Rattle.machine.specs.Histories.Promises.{IsPlace}
+use Rattle.histories.specs.Histories.Readings.{is_from_start}
+use Rattle.histories.proofs.HistoryLemmas.FlowLemmas.{sum_at-append}
+use Rattle.histories.specs.Histories.Shares.{home}
+use Rattle.histories.specs.Histories.Promises.{IsPlace}
 use Rattle.machine.specs.Boards.Loads.{Lot, no_lot, lot_of, first_stations, load_in, bundle_at, loads_at, put_all, queue_of}
 use Rattle.antichain.proofs.Lists.{Among, contains_among}
-use Rattle.machine.proofs.HistoryLemmas.PlaceLemmas.{in_place_lem}
+use Rattle.histories.proofs.HistoryLemmas.PlaceLemmas.{in_place_lem}
 use Rattle.plan.proofs.SortLemmas.{few_sources}
-use Rattle.machine.proofs.HistoryLemmas.ClaimLemmas.{routed}
+use Rattle.histories.proofs.HistoryLemmas.ClaimLemmas.{routed}
 use Rattle.machine.proofs.BoardLemmas.PlacingLemmas.{IsThere, AreThere, queue_put, held_put, queue_put_all, held_put_all, many_put_all, wide_put_all, queue_taken, held_taken, queue_held, held_instead}
 use Rattle.std.proofs.lemmas.List.Concat.{flat_map-append}
 use Rattle.machine.proofs.BoardLemmas.OpenLemmas.{first_front, open_set}

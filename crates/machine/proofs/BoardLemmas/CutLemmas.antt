@@ -7,9 +7,9 @@ use Rattle.update.specs.declared.change.Update.{Update}
 use Rattle.plan.specs.Edges.{edges_from, leads_from}
 use Rattle.plan.specs.declared.edges.Edge.{Edge}
 use Rattle.plan.specs.declared.node.Node.{Node}
-use Rattle.machine.specs.declared.histories.event.Bundle.{Bundle}
-use Rattle.machine.specs.Histories.States.{times}
-use Rattle.machine.specs.Histories.Outstanding.{with_time, with_times}
+use Rattle.histories.specs.declared.event.Bundle.{Bundle}
+use Rattle.histories.specs.Histories.States.{times}
+use Rattle.histories.specs.Histories.Outstanding.{with_time, with_times}
 use Rattle.machine.specs.Boards.CutEmissions.{last_updates}
 use Rattle.machine.proofs.BoardLemmas.RoutingLemmas.{leading}
 
@@ -32,13 +32,6 @@ module _ {T : Type 0} where
   last_read (c ∷ []) (suc n) b l e = absurd (omega (arith, l))
   last_read (c ∷ (d ∷ bs)) zero b l e = absurd (omega (arith, l))
   last_read (c ∷ (d ∷ bs)) (suc n) b l e = last_read (d ∷ bs) n b (omega (arith, l)) e
-
-  -- the time of the next update goes into a frontier before those of the rest
-  pub stamp_next : (below : T → T → Bool) (us : List (Update T)) (i : ℕ) (time : T) (front next all : List T) → i < length us → IsSomeAnd (slice_get us i) (λ u. time ≡ u.time) → next ≡ with_time below front time → with_times below front (times (drop i us)) ≡ all → with_times below next (times (drop (suc i) us)) ≡ all
-  stamp_next below [] i time front next all l s n e = absurd (omega (arith, l))
-  stamp_next below (u ∷ us) zero time front next all l s n e =
-      ap (λ f. with_times below f (times us)) (n ∙ ap (with_time below front) s) ∙ e
-  stamp_next below (u ∷ us) (suc i) time front next all l s n e = stamp_next below us i time front next all (omega (arith, l)) s n e
 
 -- the edges among the first ones lead from the node, too
 pub leading_first : (nodes : List Node) (n count i : ℕ) (edge : Edge) (edges : List Edge) → edges ≡ take count (edges_from nodes n) → count ≤ length (edges_from nodes n) → i < length edges → edge ≡ get_or edges i edge → leads_from nodes n edge ≡ true

@@ -3,10 +3,10 @@ use Rattle.std.proofs.Common.{◌≡◌, ℕ, zero, suc, ◌<◌, List, [], ◌�
 use Rattle.std.proofs.lemmas.List.{length-replicate, length-map}
 use Rattle.plan.specs.Nodes.{is_input}
 use Rattle.machine.specs.Boards.Loads.{Lot, no_lot, first_stations}
-use Rattle.machine.specs.declared.histories.event.Event.{Event}
-use Rattle.machine.specs.declared.histories.event.Event.TheVariants.{Look}
+use Rattle.histories.specs.declared.event.Event.{Event}
+use Rattle.histories.specs.declared.event.Event.TheVariants.{Look}
 use Rattle.views.specs.Views.{ViewState}
-use Rattle.machine.specs.Histories.Dataflows.{Dataflow, IsDataflow}
+use Rattle.histories.specs.Histories.Dataflows.{Dataflow, IsDataflow}
 use Rattle.machine.specs.Boards.Inputs.{first_inputs}
 use Rattle.machine.specs.Boards.{IsBoard, first_board}
 

@@ -13,24 +13,24 @@ use Rattle.antichain.specs.Antichains.{least, SameElements}
 use Rattle.antichain.proofs.InsertionLemmas.{least_beyond}
 use Rattle.antichain.proofs.Lists.{Among, contains_among, all_at, all_from}
 use Rattle.plan.specs.Changes.{has_passed}
-use Rattle.machine.specs.declared.histories.event.Bundle.{Bundle}
-use Rattle.machine.specs.declared.histories.event.HeldTime.{HeldTime}
-use Rattle.machine.specs.declared.histories.event.OpenTime.{OpenTime}
-use Rattle.machine.specs.declared.histories.event.Event.{Event}
-use Rattle.machine.specs.Histories.Dataflows.{Dataflow, upstream}
-use Rattle.machine.specs.Histories.States.{State, queue, held_at}
+use Rattle.histories.specs.declared.event.Bundle.{Bundle}
+use Rattle.histories.specs.declared.event.HeldTime.{HeldTime}
+use Rattle.histories.specs.declared.event.OpenTime.{OpenTime}
+use Rattle.histories.specs.declared.event.Event.{Event}
+use Rattle.histories.specs.Histories.Dataflows.{Dataflow, upstream}
+use Rattle.histories.specs.Histories.States.{State, queue, held_at}
 use Rattle.progress.specs.Tallies.{is_upstream, is_input_upstream, times_where}
 use Rattle.progress.proofs.FrontierLemmas.{same_least}
 use Rattle.progress.proofs.NumberLemmas.{number_below}
-use Rattle.machine.specs.Histories.Outstanding.{stamps, items_of, frontier, strictly_upstream, input_frontier}
-use Rattle.machine.specs.Histories.{state_after, IsTakeHeld}
-use Rattle.machine.specs.Histories.Promises.{IsInPlace}
-use Rattle.machine.specs.Histories.Readings.{IsQuiet}
+use Rattle.histories.specs.Histories.Outstanding.{stamps, items_of, frontier, strictly_upstream, input_frontier}
+use Rattle.histories.specs.Histories.{state_after, IsTakeHeld}
+use Rattle.histories.specs.Histories.Promises.{IsInPlace}
+use Rattle.histories.specs.Histories.Readings.{IsQuiet}
 use Rattle.machine.specs.Boards.{BoardState, IsBoard, Stands}
 use Rattle.machine.specs.Boards.Reads.{on_board, open_on, front, input_front, is_ready, hands_are_free, is_quiet_board}
 use Rattle.machine.specs.Boards.Loads.{Lot, is_none, lot_of, all_bundles, all_held, stamps_at, times_at}
 use Rattle.machine.proofs.BoardLemmas.LotLemmas.{any_flat, all_held_all, all_queued, all_held_at, stamps_spread, held_spread}
-use Rattle.machine.proofs.HistoryLemmas.OutstandingLemmas.{held_where, open_where, counted_times, outstanding_is, input_outstanding_is, beyond_frontier, beyond_input_frontier}
+use Rattle.histories.proofs.HistoryLemmas.OutstandingLemmas.{held_where, open_where, counted_times, outstanding_is, input_outstanding_is, beyond_frontier, beyond_input_frontier}
 use Rattle.machine.proofs.BoardLemmas.OpenLemmas.{open_on_at, where_spread}
 use Rattle.machine.specs.Boards.Inputs.{front_at}
 use Rattle.plan.specs.Ancestors.{numbers_below}

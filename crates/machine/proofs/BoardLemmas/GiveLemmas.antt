@@ -2,10 +2,10 @@
 use Rattle.std.proofs.Common.{◌≡◌, ℕ, Bool, cond, List, set, get_or, ap, ap₂, ◌∙◌, None}
 use Rattle.plan.specs.Nodes.{is_output}
 use Rattle.plan.specs.declared.node.Node.{Node}
-use Rattle.machine.specs.declared.histories.event.Bundle.{Bundle}
-use Rattle.machine.specs.declared.histories.event.Emission.{Emission}
+use Rattle.histories.specs.declared.event.Bundle.{Bundle}
+use Rattle.histories.specs.declared.event.Emission.{Emission}
 use Rattle.views.specs.Views.{ViewState}
-use Rattle.machine.specs.Histories.Dataflows.{node_of}
+use Rattle.histories.specs.Histories.Dataflows.{node_of}
 use Rattle.machine.specs.Boards.{BoardState, capture_output, capture, give_output, no_view}
 use Rattle.machine.specs.Boards.Loads.{Lot, put_all, held_from}
 

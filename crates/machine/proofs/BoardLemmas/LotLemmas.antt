@@ -8,13 +8,13 @@ use Rattle.std.proofs.lemmas.List.Concat.{flat_map-append}
 use Rattle.std.proofs.lemmas.List.Folds.{flat_map-map, list_any-append, list_all-append, list_all-map}
 use Rattle.lattice.specs.Frontiers.{is_beyond}
 use Rattle.plan.specs.Ancestors.{numbers_below}
-use Rattle.machine.specs.declared.histories.event.Site.{Site}
-use Rattle.machine.specs.declared.histories.event.Bundle.{Bundle}
-use Rattle.machine.specs.declared.histories.event.HeldTime.{HeldTime}
-use Rattle.machine.specs.Histories.States.{place, same_place, queue, held_at}
-use Rattle.machine.specs.Histories.Outstanding.{stamps}
-use Rattle.machine.proofs.HistoryLemmas.OutstandingLemmas.{held_where}
-use Rattle.machine.specs.Histories.{held_entries}
+use Rattle.histories.specs.declared.event.Site.{Site}
+use Rattle.histories.specs.declared.event.Bundle.{Bundle}
+use Rattle.histories.specs.declared.event.HeldTime.{HeldTime}
+use Rattle.histories.specs.Histories.States.{place, same_place, queue, held_at}
+use Rattle.histories.specs.Histories.Outstanding.{stamps}
+use Rattle.histories.proofs.HistoryLemmas.OutstandingLemmas.{held_where}
+use Rattle.histories.specs.Histories.{held_entries}
 use Rattle.machine.specs.Boards.Loads.{is_none, Load, Lot, bundle_at, no_lot, loads_at, lot_of, queue_of, bundles_of, bundles_in, all_bundles, held_in, all_held, stamps_of, stamps_at, times_at}
 use Rattle.machine.specs.Boards.Stations.{lot}
 

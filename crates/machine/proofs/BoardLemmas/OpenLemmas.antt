@@ -13,10 +13,10 @@ use Rattle.plan.specs.Edges.{numbers_where}
 use Rattle.plan.specs.Nodes.{node_at, is_input}
 use Rattle.plan.specs.declared.node.Node.{Node}
 use Rattle.plan.specs.declared.node.Node.TheVariants.{Input}
-use Rattle.machine.specs.declared.histories.event.OpenTime.{OpenTime}
-use Rattle.machine.specs.Histories.States.{open_at}
-use Rattle.machine.proofs.HistoryLemmas.OutstandingLemmas.{open_where}
-use Rattle.machine.specs.Histories.{open_entries}
+use Rattle.histories.specs.declared.event.OpenTime.{OpenTime}
+use Rattle.histories.specs.Histories.States.{open_at}
+use Rattle.histories.proofs.HistoryLemmas.OutstandingLemmas.{open_where}
+use Rattle.histories.specs.Histories.{open_entries}
 use Rattle.machine.specs.Boards.Inputs.{front_at, first_inputs}
 
 -- ---- loops that ask something of the numbers below a number

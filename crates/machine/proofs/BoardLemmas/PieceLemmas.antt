@@ -14,13 +14,13 @@ use Rattle.antichain.proofs.Lists.{among_contains}
 use Rattle.plan.specs.Ancestors.{numbers_below}
 use Rattle.plan.specs.Changes.{has_passed}
 use Rattle.plan.specs.Nodes.{arranged_by}
-use Rattle.machine.specs.declared.histories.event.Site.{Site}
-use Rattle.machine.specs.declared.histories.event.Event.{Event}
+use Rattle.histories.specs.declared.event.Site.{Site}
+use Rattle.histories.specs.declared.event.Event.{Event}
 use Rattle.machine.specs.declared.board.pieces.Piece.{Piece}
 use Rattle.machine.specs.declared.board.pieces.Piece.TheVariants.{Waiting, Held}
-use Rattle.machine.specs.Histories.{state_after}
-use Rattle.machine.specs.Histories.Dataflows.{node_of}
-use Rattle.machine.specs.Histories.States.{place}
+use Rattle.histories.specs.Histories.{state_after}
+use Rattle.histories.specs.Histories.Dataflows.{node_of}
+use Rattle.histories.specs.Histories.States.{place}
 use Rattle.machine.specs.Boards.{BoardState, IsBoard, Stands}
 use Rattle.machine.specs.Boards.Loads.{Load, bundle_at, no_lot, loads_at, lot_of, queue_of}
 use Rattle.machine.specs.Boards.Reads.{input_front, is_ready}

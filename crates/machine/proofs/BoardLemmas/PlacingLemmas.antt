@@ -5,14 +5,14 @@ use Rattle.std.specs.List.{filter, flat_map, remove}
 use Rattle.std.proofs.lemmas.Bool.{eqb-true, eqb-false, eq-eqb, ne_eqb, and_from, cases_lt}
 use Rattle.std.proofs.lemmas.List.{append-nil, map-append, length-set, append_assoc}
 use Rattle.std.proofs.lemmas.List.Concat.{flat_map-append}
-use Rattle.machine.specs.declared.histories.event.Site.{Site}
-use Rattle.machine.specs.declared.histories.event.Bundle.{Bundle}
-use Rattle.machine.specs.declared.histories.event.HeldTime.{HeldTime}
-use Rattle.machine.specs.Histories.States.{same_place, queue, held_at}
-use Rattle.machine.specs.Histories.{without, held_entries, is_held_by}
+use Rattle.histories.specs.declared.event.Site.{Site}
+use Rattle.histories.specs.declared.event.Bundle.{Bundle}
+use Rattle.histories.specs.declared.event.HeldTime.{HeldTime}
+use Rattle.histories.specs.Histories.States.{same_place, queue, held_at}
+use Rattle.histories.specs.Histories.{without, held_entries, is_held_by}
 use Rattle.machine.specs.Boards.Loads.{Load, Lot, no_lot, load_in, bundle_at, loads_at, with_loads, with_load_at, without_load_at, lot_of, with_lot, put_at, put_all, taken_from, held_from, queue_of}
-use Rattle.machine.proofs.HistoryLemmas.FlowLemmas.{place_same}
-use Rattle.machine.proofs.HistoryLemmas.KeptLemmas.{held_marked, held_unmarked, held_kept}
+use Rattle.histories.proofs.HistoryLemmas.FlowLemmas.{place_same}
+use Rattle.histories.proofs.HistoryLemmas.KeptLemmas.{held_marked, held_unmarked, held_kept}
 use Rattle.machine.proofs.BoardLemmas.SiteLemmas.{less, queue_less, queue_other}
 
 -- a place is the same as itself

@@ -16,18 +16,18 @@ use Rattle.update.specs.declared.refusal.Refusal.TheVariants.{NotPassed, GivenUp
 use Rattle.plan.specs.Changes.{has_passed, query_at, AreDifferences}
 use Rattle.plan.specs.Nodes.{is_output}
 use Rattle.plan.proofs.PlanLemmas.{no_first}
-use Rattle.machine.specs.declared.histories.event.Event.{Event}
-use Rattle.machine.specs.Histories.Dataflows.{node_of}
-use Rattle.machine.specs.Histories.Outstanding.{frontier}
-use Rattle.machine.specs.Histories.{state_after}
-use Rattle.machine.specs.Histories.Promises.{changes_in}
+use Rattle.histories.specs.declared.event.Event.{Event}
+use Rattle.histories.specs.Histories.Dataflows.{node_of}
+use Rattle.histories.specs.Histories.Outstanding.{frontier}
+use Rattle.histories.specs.Histories.{state_after}
+use Rattle.histories.specs.Histories.Promises.{changes_in}
 use Rattle.views.specs.Views.{ViewState}
 use Rattle.machine.specs.Boards.{BoardState, no_view, Stands, IsBoard}
-use Rattle.machine.specs.Histories.Readings.{is_from_start}
+use Rattle.histories.specs.Histories.Readings.{is_from_start}
 use Rattle.machine.specs.Boards.Reads.{front, captured_of, since_of, read_refusal_on, changes_refusal_on}
-use Rattle.machine.proofs.HistoryLemmas.FlowLemmas.{is_passed, not_beyond}
-use Rattle.machine.proofs.HistoryLemmas.PassedLemmas.{passed_down}
-use Rattle.machine.proofs.HistoryLemmas.HeadlineLemmas.{headline_lem, differences_lem}
+use Rattle.histories.proofs.HistoryLemmas.FlowLemmas.{is_passed, not_beyond}
+use Rattle.histories.proofs.HistoryLemmas.PassedLemmas.{passed_down}
+use Rattle.histories.proofs.HistoryLemmas.HeadlineLemmas.{headline_lem, differences_lem}
 use Rattle.machine.proofs.BoardLemmas.FrontLemmas.{front_stands}
 
 -- the view that the code reads is the view of its number

@@ -8,11 +8,11 @@ use Rattle.std.proofs.lemmas.List.{take_more, append-nil, length-append}
 use Rattle.std.proofs.lemmas.List.Concat.{flat_map-append}
 use Rattle.std.proofs.lemmas.List.Elements.{All-more, All-weaker}
 use Rattle.machine.specs.declared.board.stations.Station.{Station}
-use Rattle.machine.specs.declared.histories.event.Site.{Site}
-use Rattle.machine.specs.declared.histories.event.Bundle.{Bundle}
-use Rattle.machine.specs.Histories.States.{same_place, queue}
+use Rattle.histories.specs.declared.event.Site.{Site}
+use Rattle.histories.specs.declared.event.Bundle.{Bundle}
+use Rattle.histories.specs.Histories.States.{same_place, queue}
 use Rattle.machine.specs.Boards.Stations.{has_room, HasRoom, HasRoomFor}
-use Rattle.machine.proofs.HistoryLemmas.FlowLemmas.{place_same}
+use Rattle.histories.proofs.HistoryLemmas.FlowLemmas.{place_same}
 use Rattle.machine.proofs.BoardLemmas.LotLemmas.{same_self}
 
 -- ---- tests of places

@@ -12,9 +12,9 @@ use Rattle.plan.specs.declared.node.Node.{Node}
 use Rattle.plan.specs.declared.node.Node.TheVariants.{Input}
 use Rattle.plan.proofs.PlanLemmas.{has_source, source_smaller}
 use Rattle.progress.proofs.NumberLemmas.{numbers_long, number_at}
-use Rattle.machine.specs.Histories.Dataflows.{Dataflow, node_of}
+use Rattle.histories.specs.Histories.Dataflows.{Dataflow, node_of}
 use Rattle.machine.specs.Boards.Routings.{IsRouting}
-use Rattle.machine.proofs.HistoryLemmas.CuttingLemmas.{source_there}
+use Rattle.histories.proofs.HistoryLemmas.CuttingLemmas.{source_there}
 
 -- ---- how the tables are built
 

@@ -6,13 +6,13 @@ use Rattle.std.proofs.lemmas.Bool.{and_parts, and_from, or_left, or_right, eqb-t
 use Rattle.std.proofs.lemmas.List.Concat.{flat_map-append}
 use Rattle.lattice.proofs.BoundLemmas.{same_test}
 use Rattle.antichain.proofs.Lists.{Among, all_at, all_from}
-use Rattle.machine.specs.declared.histories.event.Site.{Site}
-use Rattle.machine.specs.declared.histories.event.Bundle.{Bundle}
-use Rattle.machine.specs.declared.histories.event.HeldTime.{HeldTime}
-use Rattle.machine.specs.declared.histories.event.OpenTime.{OpenTime}
-use Rattle.machine.specs.Histories.States.{same_place, queue, held_at, open_at}
-use Rattle.machine.specs.Histories.{without, is_held_by, open_entries}
-use Rattle.machine.proofs.HistoryLemmas.FlowLemmas.{place_same}
+use Rattle.histories.specs.declared.event.Site.{Site}
+use Rattle.histories.specs.declared.event.Bundle.{Bundle}
+use Rattle.histories.specs.declared.event.HeldTime.{HeldTime}
+use Rattle.histories.specs.declared.event.OpenTime.{OpenTime}
+use Rattle.histories.specs.Histories.States.{same_place, queue, held_at, open_at}
+use Rattle.histories.specs.Histories.{without, is_held_by, open_entries}
+use Rattle.histories.proofs.HistoryLemmas.FlowLemmas.{place_same}
 
 -- if some element passes a test, there is an element of the list that passes
 pub any_among : {A : Type 0} (f : A → Bool) (xs : List A) → list_any f xs ≡ true → (x : A) × Among x xs × (f x ≡ true)

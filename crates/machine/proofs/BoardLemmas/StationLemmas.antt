@@ -5,8 +5,8 @@ use Rattle.std.specs.Option.{IfSome, option_map}
 use Rattle.std.specs.Result.{OnErr}
 use Rattle.std.proofs.lemmas.List.{length-map, get_or-map, map-set, set-get_or, get_or-set_same}
 use Rattle.std.proofs.lemmas.Option.{slice_get-get_or, slice_get-map}
-use Rattle.machine.specs.declared.histories.event.Site.{Site}
-use Rattle.machine.specs.declared.histories.event.Bundle.{Bundle}
+use Rattle.histories.specs.declared.event.Site.{Site}
+use Rattle.histories.specs.declared.event.Bundle.{Bundle}
 use Rattle.machine.specs.Boards.Loads.{Load, Lot, no_lot, load_in, loads_at, lot_of, bundle_at, queue_of, put_at, put_all}
 
 -- ---- one element of a list that is seen by a function

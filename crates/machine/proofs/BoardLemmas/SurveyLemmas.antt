@@ -7,7 +7,7 @@ use Rattle.std.proofs.lemmas.List.Folds.{flat_map-map, list_all-map}
 use Rattle.lattice.specs.Frontiers.{is_beyond}
 use Rattle.machine.specs.declared.board.queue.Parcel.{Parcel}
 use Rattle.machine.specs.declared.board.stations.Station.{Station}
-use Rattle.machine.specs.Histories.States.{place}
+use Rattle.histories.specs.Histories.States.{place}
 use Rattle.machine.specs.Boards.Loads.{is_none, Load, Lot, queue_of, all_bundles, load_of}
 use Rattle.machine.specs.Boards.Stations.{lot, lots}
 use Rattle.machine.proofs.BoardLemmas.FoundLemmas.{found}

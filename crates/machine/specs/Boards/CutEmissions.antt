@@ -1,8 +1,8 @@
 -- An emission and the bundles that are sent of it: which of them has the updates.
 use Rattle.std.specs.Prelude.{◌<◌, List, [], ◌∷◌, length, ⊤, Option, Some, None}
 use Rattle.update.specs.declared.change.Update.{Update}
-use Rattle.machine.specs.declared.histories.event.Bundle.{Bundle}
-use Rattle.machine.specs.declared.histories.event.Emission.{Emission}
+use Rattle.histories.specs.declared.event.Bundle.{Bundle}
+use Rattle.histories.specs.declared.event.Emission.{Emission}
 
 -- what a worker gives, and the bundles in which it goes on
 pub record CutState (T : Type 0) : Type 0 where

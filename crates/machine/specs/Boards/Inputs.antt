@@ -7,7 +7,7 @@ use Rattle.update.specs.declared.refusal.Refusal.TheVariants.{WrongWidth, ZeroWe
 use Rattle.plan.specs.Nodes.{is_input}
 use Rattle.plan.specs.Widths.{width_of}
 use Rattle.plan.specs.declared.node.Node.{Node}
-use Rattle.machine.specs.declared.histories.event.Fed.{Fed}
+use Rattle.histories.specs.declared.event.Fed.{Fed}
 
 module _ {T : Type 0} where
   -- the frontier of a node; it has no times if the input is closed, or if the node is no input

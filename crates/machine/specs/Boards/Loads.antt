@@ -5,13 +5,13 @@ use Rattle.std.specs.Prelude.{ℕ, zero, suc, Bool, true, false, List, [], ◌�
 use Rattle.std.specs.List.{remove, flat_map}
 use Rattle.update.specs.declared.change.Update.{Update}
 use Rattle.plan.specs.Ancestors.{numbers_below}
-use Rattle.machine.specs.declared.histories.event.Site.{Site}
-use Rattle.machine.specs.declared.histories.event.Bundle.{Bundle}
-use Rattle.machine.specs.declared.histories.event.HeldTime.{HeldTime}
+use Rattle.histories.specs.declared.event.Site.{Site}
+use Rattle.histories.specs.declared.event.Bundle.{Bundle}
+use Rattle.histories.specs.declared.event.HeldTime.{HeldTime}
 use Rattle.machine.specs.declared.board.queue.Parcel.{Parcel}
 use Rattle.machine.specs.declared.board.queue.Parcel.TheVariants.{Change, Sent}
-use Rattle.machine.specs.Histories.States.{place}
-use Rattle.machine.specs.Histories.{held_entries}
+use Rattle.histories.specs.Histories.States.{place}
+use Rattle.histories.specs.Histories.{held_entries}
 
 -- the list is empty
 abbrev pub is_none : {A : Type 0} → List A → Bool

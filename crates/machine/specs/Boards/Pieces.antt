@@ -6,15 +6,15 @@ use Rattle.std.specs.List.{flat_map}
 use Rattle.plan.specs.Ancestors.{numbers_below}
 use Rattle.plan.specs.Changes.{has_passed}
 use Rattle.plan.specs.Nodes.{arranged_by}
-use Rattle.machine.specs.declared.histories.event.Site.{Site}
-use Rattle.machine.specs.declared.histories.event.Bundle.{Bundle}
-use Rattle.machine.specs.declared.histories.event.Event.{Event}
+use Rattle.histories.specs.declared.event.Site.{Site}
+use Rattle.histories.specs.declared.event.Bundle.{Bundle}
+use Rattle.histories.specs.declared.event.Event.{Event}
 use Rattle.machine.specs.declared.board.pieces.Piece.{Piece}
 use Rattle.machine.specs.declared.board.pieces.Piece.TheVariants.{Waiting, Held}
-use Rattle.machine.specs.Histories.{IsTake, IsTakeHeld}
-use Rattle.machine.specs.Histories.Dataflows.{Dataflow, node_of}
-use Rattle.machine.specs.Histories.Outstanding.{input_frontier}
-use Rattle.machine.specs.Histories.States.{State, place, queue, held_at}
+use Rattle.histories.specs.Histories.{IsTake, IsTakeHeld}
+use Rattle.histories.specs.Histories.Dataflows.{Dataflow, node_of}
+use Rattle.histories.specs.Histories.Outstanding.{input_frontier}
+use Rattle.histories.specs.Histories.States.{State, place, queue, held_at}
 use Rattle.machine.specs.Boards.{BoardState, plan_on, state_on}
 use Rattle.machine.specs.Boards.Loads.{queue_of}
 use Rattle.machine.specs.Boards.Reads.{is_ready}

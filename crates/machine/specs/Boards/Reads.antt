@@ -9,12 +9,12 @@ use Rattle.update.specs.declared.refusal.Refusal.TheVariants.{NotPassed, GivenUp
 use Rattle.plan.specs.Changes.{has_passed}
 use Rattle.plan.specs.Rules.{first_refusal}
 use Rattle.plan.specs.Ancestors.{numbers_below}
-use Rattle.machine.specs.declared.histories.event.OpenTime.{OpenTime}
-use Rattle.machine.specs.Histories.{open_entries}
+use Rattle.histories.specs.declared.event.OpenTime.{OpenTime}
+use Rattle.histories.specs.Histories.{open_entries}
 use Rattle.machine.specs.Boards.Inputs.{front_at}
-use Rattle.machine.specs.Histories.States.{State}
+use Rattle.histories.specs.Histories.States.{State}
 use Rattle.machine.specs.Boards.Loads.{is_none, lot_of, all_bundles, all_held}
-use Rattle.machine.specs.Histories.Outstanding.{frontier, input_frontier}
+use Rattle.histories.specs.Histories.Outstanding.{frontier, input_frontier}
 use Rattle.views.specs.Views.{HasLargeSum}
 use Rattle.update.specs.Refusals.{IsRefusalOr}
 use Rattle.machine.specs.Boards.{BoardState, no_view, is_from_start}

@@ -5,7 +5,7 @@ use Rattle.plan.specs.Edges.{edges_from}
 use Rattle.plan.specs.Nodes.{arranged_by}
 use Rattle.plan.specs.declared.edges.Edge.{Edge}
 use Rattle.plan.specs.declared.node.Node.{Node}
-use Rattle.machine.specs.Histories.Dataflows.{Dataflow, IsDataflow}
+use Rattle.histories.specs.Histories.Dataflows.{Dataflow, IsDataflow}
 
 -- by node, the edges that lead from it
 abbrev pub all_edges : List Node → List (List Edge)

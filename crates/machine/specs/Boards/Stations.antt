@@ -3,10 +3,10 @@
 -- all.
 use Rattle.std.specs.Prelude.{◌≡◌, ℕ, zero, suc, ◌≤◌, List, [], map, length, get_or, slice_get, ⊤}
 use Rattle.std.specs.Option.{IfSome}
-use Rattle.machine.specs.declared.histories.event.Site.{Site}
-use Rattle.machine.specs.declared.histories.event.Bundle.{Bundle}
+use Rattle.histories.specs.declared.event.Site.{Site}
+use Rattle.histories.specs.declared.event.Bundle.{Bundle}
 use Rattle.machine.specs.declared.board.stations.Station.{Station}
-use Rattle.machine.specs.Histories.States.{queue}
+use Rattle.histories.specs.Histories.States.{queue}
 use Rattle.machine.specs.Boards.Loads.{Lot}
 
 module _ {T : Type 0} where

@@ -1,11 +1,11 @@
 //! What a worker asks of a board before it takes: where a bundle waits for it, and whether it has a
 //! piece in hand.
 ghost use Rattle.std.specs.Prelude.{◌≡◌, ◌<◌, ℕ, [], None, IfSome, get_or, length};
-ghost use Rattle.machine.specs.Histories.States.{place};
+ghost use Rattle.histories.specs.Histories.States.{place};
 ghost use Rattle.machine.specs.Boards.Loads.{queue_of};
 
 use crate::board::Board;
-use crate::histories::event::Site;
+use histories::Site;
 use lattice::Minimum;
 use plan::NodeId;
 

@@ -5,18 +5,18 @@
 ghost use Rattle.std.specs.Prelude.{◌≡◌, ◌<◌, ◌≤◌, ◌+◌, List, [], ◌∷◌, None, Some, IfErr, IfOk, IsTrue, OnErr, OnOk, length};
 ghost use Rattle.update.specs.declared.refusal.Refusal.TheVariants.{OutOfMemory};
 ghost use Rattle.update.specs.Refusals.{IsRefusalBy};
-ghost use Rattle.machine.specs.declared.histories.event.Event.{Event};
-ghost use Rattle.machine.specs.declared.histories.event.Event.TheVariants.{Feed};
-ghost use Rattle.machine.specs.Histories.States.{change_to};
+ghost use Rattle.histories.specs.declared.event.Event.{Event};
+ghost use Rattle.histories.specs.declared.event.Event.TheVariants.{Feed};
+ghost use Rattle.histories.specs.Histories.States.{change_to};
 ghost use Rattle.plan.specs.Nodes.{is_output};
-ghost use Rattle.machine.specs.Histories.Dataflows.{node_of};
-ghost use Rattle.machine.specs.Histories.{IsInput};
+ghost use Rattle.histories.specs.Histories.Dataflows.{node_of};
+ghost use Rattle.histories.specs.Histories.{IsInput};
 ghost use Rattle.machine.specs.Boards.{BoardState, IsBoard, Stands, after_look, put_change, accept_change, after_feed, after_advance, after_allow, feed_refusal, advance_refusal, allow_refusal};
 
 use crate::board::Board;
 use crate::board::queue::Parcel;
-use crate::histories::event::{Event, Site, remembered_advance, remembered_allow, remembered_feed};
 use antichain::all_beyond;
+use histories::{Event, Site, remembered_advance, remembered_allow, remembered_feed};
 use lattice::Minimum;
 use plan::{NodeId, Plan};
 use std::alloc::Global;

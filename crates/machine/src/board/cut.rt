@@ -7,12 +7,11 @@
 //! each place getting exactly its share, in bundles that are stamped and not empty.
 ghost use Rattle.std.specs.Prelude.{◌≡◌, ◌<◌, ◌≤◌, ◌++◌, IfErr, IfOk, OnOk, get_or, length, replicate, take, ℕ, []};
 ghost use Rattle.update.specs.declared.refusal.Refusal.TheVariants.{OutOfMemory};
-ghost use Rattle.machine.specs.Histories.States.{place};
-ghost use Rattle.machine.specs.Histories.Cuts.{part_by_key, bundled, bundles_along};
+ghost use Rattle.histories.specs.Histories.States.{place};
+ghost use Rattle.histories.specs.Histories.Cuts.{part_by_key, bundled, bundles_along};
 
-use crate::board::workers::stamp_of;
-use crate::histories::event::{Bundle, Emission, Site};
 use columns::UpdateList;
+use histories::{Bundle, Emission, Site, stamp_of};
 use lattice::Minimum;
 use plan::Edge;
 use row::Row;

@@ -8,14 +8,13 @@
 //! A contract sees the emission and the bundles, whichever of them has the list.
 ghost use Rattle.std.specs.Prelude.{◌≡◌, ◌++◌, IfErr, IfOk, OnErr, OnOk};
 ghost use Rattle.update.specs.declared.refusal.Refusal.TheVariants.{OutOfMemory};
-ghost use Rattle.machine.specs.declared.histories.event.Event.TheVariants.{Give};
-ghost use Rattle.machine.specs.Histories.Cuts.{bundled};
+ghost use Rattle.histories.specs.declared.event.Event.TheVariants.{Give};
+ghost use Rattle.histories.specs.Histories.Cuts.{bundled};
 
-use crate::board::workers::stamp_of;
-use crate::histories::event::{
-    Bundle, Bundles, Emission, Event, RememberedEmission, Site, remembered_give,
-};
 use columns::UpdateList;
+use histories::{
+    Bundle, Bundles, Emission, Event, RememberedEmission, Site, remembered_give, stamp_of,
+};
 use lattice::Minimum;
 use plan::NodeId;
 use std::alloc::Global;
@@ -165,7 +164,7 @@ impl<T: Minimum> CutEmission<T> {
             own: _,
             sent,
         } = self;
-        sent.items
+        sent.into_vec()
     }
 
     // The event of a give of this, for clauses alone. The giver holds these times from then on.

@@ -1,7 +1,7 @@
 //! The event by which a worker gives what it computed. The updates go on to the next nodes; at a
 //! view they are captured.
 ghost use Rattle.std.specs.Prelude.{◌≡◌, ◌<◌, List, ◌∷◌, None, if◌then◌else◌, IfErr, OnErr, OnOk, length};
-ghost use Rattle.machine.specs.declared.histories.event.Event.{Event};
+ghost use Rattle.histories.specs.declared.event.Event.{Event};
 ghost use Rattle.machine.specs.Boards.Stations.{lots, HasRoomFor};
 ghost use Rattle.machine.specs.Boards.{BoardState, IsBoard, IsGiveOn, Stands, after_look, give_output, after_give, capture_at};
 

@@ -9,9 +9,9 @@ ghost use Rattle.update.specs.declared.refusal.Refusal.TheVariants.{OutOfMemory}
 ghost use Rattle.plan.specs.Ancestors.{reaches, numbers_below};
 ghost use Rattle.plan.specs.Changes.{has_passed};
 ghost use Rattle.progress.specs.Tallies.{is_upstream, is_input_upstream, times_where};
-ghost use Rattle.machine.specs.Histories.Dataflows.{upstream};
-ghost use Rattle.machine.specs.Histories.Outstanding.{items_of, strictly_upstream};
-ghost use Rattle.machine.specs.declared.histories.event.Event.{Event};
+ghost use Rattle.histories.specs.Histories.Dataflows.{upstream};
+ghost use Rattle.histories.specs.Histories.Outstanding.{items_of, strictly_upstream};
+ghost use Rattle.histories.specs.declared.event.Event.{Event};
 ghost use Rattle.machine.specs.Boards.{IsBoard, Stands, frontier_on, input_frontier_on, held_on};
 ghost use Rattle.machine.specs.Boards.Loads.{all_bundles, all_held, stamps_at, times_at};
 ghost use Rattle.machine.specs.Boards.Stations.{lots};

@@ -9,7 +9,7 @@ ghost use Rattle.std.specs.Prelude.{◌≡◌, ◌<◌, IfErr, IfOk, OnOk, OnErr
 ghost use Rattle.lattice.specs.Frontiers.{is_beyond};
 ghost use Rattle.update.specs.declared.refusal.Refusal.TheVariants.{OutOfMemory};
 ghost use Rattle.plan.specs.Rules.{first_refusal};
-ghost use Rattle.machine.specs.Histories.States.{change_to};
+ghost use Rattle.histories.specs.Histories.States.{change_to};
 ghost use Rattle.machine.specs.Boards.Inputs.{front_at, first_inputs, feed_faults, advance_faults};
 
 use antichain::{all_beyond, is_beyond};

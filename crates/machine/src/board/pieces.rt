@@ -11,14 +11,14 @@
 //! that it passes. If it comes to the end, what it subtracted is the number of all pieces, and a
 //! second search takes the remainder.
 ghost use Rattle.std.specs.Prelude.{◌≡◌, ◌<◌, ◌+◌, ◌%◌, List, [], Some, None, IfErr, IfOk, IfSome, length, min, slice_get};
-ghost use Rattle.machine.specs.declared.histories.event.Event.{Event};
-ghost use Rattle.machine.specs.Histories.States.{place};
+ghost use Rattle.histories.specs.declared.event.Event.{Event};
+ghost use Rattle.histories.specs.Histories.States.{place};
 ghost use Rattle.machine.specs.Boards.{IsBoard, Stands};
 ghost use Rattle.machine.specs.Boards.Reads.{is_ready};
 ghost use Rattle.machine.specs.Boards.Pieces.{takable_at, pieces_held, pieces_at, pieces, IsPiece, MayTakeOn, HasNoPieceOn};
 
 use crate::board::Board;
-use crate::histories::event::Site;
+use histories::Site;
 use lattice::Minimum;
 use plan::NodeId;
 

@@ -3,9 +3,9 @@
 ghost use Rattle.std.specs.Prelude.{ℕ, List, IsTrue};
 ghost use Rattle.lattice.specs.Frontiers.{all_beyond};
 ghost use Rattle.update.specs.declared.change.Update.{Update};
-ghost use Rattle.machine.specs.declared.histories.event.Event.{Event};
-ghost use Rattle.machine.specs.Histories.Promises.{MeetsQuery};
-ghost use Rattle.machine.specs.Histories.Readings.{ReadsQuery};
+ghost use Rattle.histories.specs.declared.event.Event.{Event};
+ghost use Rattle.histories.specs.Histories.Promises.{MeetsQuery};
+ghost use Rattle.histories.specs.Histories.Readings.{ReadsQuery};
 ghost use Rattle.machine.specs.Boards.{state_on, plan_on, IsKeptOf, Stands};
 
 use crate::board::Board;

@@ -8,16 +8,16 @@ ghost use Rattle.update.specs.declared.refusal.Refusal.TheVariants.{OutOfMemory}
 ghost use Rattle.plan.specs.Edges.{edges_from, leads_from};
 ghost use Rattle.plan.specs.Nodes.{arranged_by};
 ghost use Rattle.plan.specs.Rules.{IsPlan};
-ghost use Rattle.machine.specs.declared.histories.event.Site.{Site};
-ghost use Rattle.machine.specs.Histories.States.{times, updates_at};
-ghost use Rattle.machine.specs.Histories.Shares.{share, AreShares, are_filled, are_stamped};
-ghost use Rattle.machine.specs.Histories.Cuts.{cut_along, cut};
+ghost use Rattle.histories.specs.declared.event.Site.{Site};
+ghost use Rattle.histories.specs.Histories.States.{times, updates_at};
+ghost use Rattle.histories.specs.Histories.Shares.{share, AreShares, are_filled, are_stamped};
+ghost use Rattle.histories.specs.Histories.Cuts.{cut_along, cut};
 ghost use Rattle.machine.specs.Boards.Routings.{all_edges};
-ghost use Rattle.machine.specs.Histories.Dataflows.{IsDataflow, node_of};
+ghost use Rattle.histories.specs.Histories.Dataflows.{IsDataflow, node_of};
 
 use crate::board::cut::{place_at, push_for_giver, push_for_workers};
 use crate::board::cut_emission::CutEmission;
-use crate::histories::event::{Bundle, Emission};
+use histories::{Bundle, Emission};
 use lattice::Minimum;
 use plan::{Edge, NodeId, Plan};
 use std::alloc::Global;
@@ -63,7 +63,7 @@ pub struct Routing {
 }
 
 impl Model for Routing {
-    ghost use Rattle.machine.specs.Histories.Dataflows.{Dataflow};
+    ghost use Rattle.histories.specs.Histories.Dataflows.{Dataflow};
     ghost use Rattle.machine.specs.Boards.Routings.{IsRouting};
 
     ghost Value = { Dataflow };

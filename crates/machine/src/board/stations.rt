@@ -6,14 +6,14 @@
 ghost use Rattle.std.specs.Prelude.{◌≡◌, ◌<◌, ◌&&◌, ℕ, suc, eqb, false, Some, IfErr, IfOk, IfSome, OnErr, OnOk, length, slice_get, map, replicate};
 ghost use Rattle.std.specs.List.{All};
 ghost use Rattle.update.specs.declared.refusal.Refusal.TheVariants.{OutOfMemory};
-ghost use Rattle.machine.specs.declared.histories.event.Site.{Site};
+ghost use Rattle.histories.specs.declared.event.Site.{Site};
 ghost use Rattle.machine.specs.Boards.Loads.{load_of, no_lot, loads_at, with_load_at, without_load_at, lot_in, at_worker, first_stations, put_at, put_all, taken_from, held_from, queue_of};
-ghost use Rattle.machine.specs.Histories.States.{same_place};
+ghost use Rattle.histories.specs.Histories.States.{same_place};
 ghost use Rattle.machine.specs.Boards.Stations.{lot, lots, has_room, IsReleased, RowHasRoom, HasRoom, HasReleased, HasRoomFor};
 
 use crate::board::queue::{Parcel, Queue};
-use crate::histories::event::{Bundle, Site};
 use columns::UpdateList;
+use histories::{Bundle, Site};
 use lattice::Minimum;
 use plan::NodeId;
 use std::alloc::Global;

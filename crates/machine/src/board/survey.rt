@@ -4,13 +4,13 @@ ghost use Rattle.std.specs.Prelude.{◌≡◌, ◌<◌, ◌++◌, ℕ, [], None,
 ghost use Rattle.std.specs.List.{list_all};
 ghost use Rattle.lattice.specs.Frontiers.{is_beyond};
 ghost use Rattle.update.specs.declared.refusal.Refusal.TheVariants.{OutOfMemory};
-ghost use Rattle.machine.specs.Histories.States.{place};
+ghost use Rattle.histories.specs.Histories.States.{place};
 ghost use Rattle.machine.specs.Boards.Loads.{is_none, loads_at, lot_of, queue_of, all_bundles, stamps_of, stamps_at, times_at};
 ghost use Rattle.machine.specs.Boards.Stations.{lot, lots};
 
 use crate::board::stations::{Row, Station, Stations};
-use crate::histories::event::Site;
 use antichain::is_beyond;
+use histories::Site;
 use lattice::Minimum;
 use plan::NodeId;
 use update::Refusal;

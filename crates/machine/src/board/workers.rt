@@ -1,65 +1,28 @@
 //! The events by which a worker with nothing in hand gets to work: it takes a bundle that waits for
-//! it, or it turns to times that it holds. The file also builds stamps, the frontiers of the times
-//! of updates.
+//! it, or it turns to times that it holds.
 ghost use Rattle.std.specs.Prelude.{◌≡◌, ◌<◌, List, ◌∷◌, Some, None, IfErr, IfOk, OnErr, OnOk, IsTrue, length, get_or, slice_get, set, not};
 ghost use Rattle.std.specs.List.{filter};
 ghost use Rattle.update.specs.declared.refusal.Refusal.TheVariants.{OutOfMemory};
 ghost use Rattle.plan.specs.Nodes.{arranged_by};
-ghost use Rattle.machine.specs.declared.histories.event.Bundle.{Bundle};
-ghost use Rattle.machine.specs.declared.histories.event.Event.{Event};
-ghost use Rattle.machine.specs.declared.histories.event.Event.TheVariants.{Take};
-ghost use Rattle.machine.specs.Histories.Dataflows.{node_of};
-ghost use Rattle.machine.specs.Histories.States.{times};
-ghost use Rattle.machine.specs.Histories.Outstanding.{stamp, with_time};
+ghost use Rattle.histories.specs.declared.event.Bundle.{Bundle};
+ghost use Rattle.histories.specs.declared.event.Event.{Event};
+ghost use Rattle.histories.specs.declared.event.Event.TheVariants.{Take};
+ghost use Rattle.histories.specs.Histories.Dataflows.{node_of};
+ghost use Rattle.histories.specs.Histories.States.{times};
+ghost use Rattle.histories.specs.Histories.Outstanding.{stamp, with_time};
 ghost use Rattle.machine.specs.Boards.Loads.{queue_of};
 ghost use Rattle.machine.specs.Boards.{BoardState, IsBoard, Stands, after_look, after_take, after_turn};
 ghost use Rattle.machine.specs.Boards.Reads.{is_ready};
 
 use crate::board::Board;
-use crate::histories::event::{Bundle, Event, Site, remembered_take};
 use antichain::is_beyond;
 use columns::UpdateList;
+use histories::{Bundle, Event, Site, remembered_take};
 use lattice::Minimum;
 use plan::NodeId;
 use std::alloc::Global;
 use std::snapshot::Snapshot;
 use update::Refusal;
-
-// The stamp of updates: the frontier of their times.
-#[tactic(auto, unfolding(crate::specs::Histories::Outstanding::stamp))]
-pub(crate) fn stamp_of<T: Minimum>(
-    alloc: Global,
-    updates: &UpdateList<T>,
-) -> Result<Vec<T>, Refusal>
-    ensures stamp { IfOk result (λ front. front.items ≡ stamp T.below updates.now) }
-    ensures refused { IfErr result (λ refusal. refusal ≡ OutOfMemory) }
-{
-    let mut stamp = Vec::new(alloc);
-    for i in 0..updates.len() {
-        insert(&mut stamp, updates.time(i))?;
-    }
-    Ok(stamp)
-}
-
-// Adds a time to a frontier, unless it is beyond the frontier already.
-pub(crate) fn insert<T: Minimum>(front: &mut Vec<T>, t: T) -> Result<(), Refusal>
-    ensures with { OnOk result (front.new.items ≡ with_time T.below front.old.items t) }
-    ensures refused { IfErr result (λ refusal. refusal ≡ OutOfMemory) }
-{
-    if is_beyond(front, &t) {
-        return Ok(());
-    }
-    leave(front, t);
-    front.push(t)?;
-    Ok(())
-}
-
-// Removes the elements of a frontier that are beyond a new time.
-fn leave<T: Minimum>(front: &mut Vec<T>, t: T)
-    ensures left { front.new.items ≡ filter (λ f. not (T.below t f)) front.old.items }
-{
-    front.retain(|f| !t.less_equal(f));
-}
 
 impl<T: Minimum> Board<T> {
     /// A worker with nothing in hand takes a bundle that waits at a place: the one of this number,

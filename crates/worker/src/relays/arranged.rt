@@ -3,7 +3,7 @@
 //! spine.
 ghost use Rattle.std.specs.Prelude.{◌≡◌, ◌<◌, ℕ, suc, Some, false, IfErr, IfOk, OnOk, length, slice_get};
 ghost use Rattle.plan.specs.declared.node.Node.TheVariants.{Arrange};
-ghost use Rattle.machine.specs.Histories.Dataflows.{node_of};
+ghost use Rattle.histories.specs.Histories.Dataflows.{node_of};
 ghost use Rattle.worker.specs.Desks.{DeskState, with_arrangement};
 ghost use Rattle.shared_board.specs.Found.{dataflow_of};
 ghost use Rattle.worker.specs.Relays.{HasNone, HasTurned, IsCalm, IsReadyAt, IsRunning, IsSameActor, IsSettledTo, IsStopped};

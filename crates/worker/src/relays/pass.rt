@@ -3,7 +3,7 @@
 ghost use Rattle.std.specs.Prelude.{◌≡◌, ◌<◌, ℕ, suc, IfErr, OnOk, length};
 ghost use Rattle.plan.specs.declared.node.Kind.{Kind};
 ghost use Rattle.plan.specs.declared.node.Node.TheVariants.{Arrange, Join, Reduce};
-ghost use Rattle.machine.specs.Histories.Dataflows.{node_of};
+ghost use Rattle.histories.specs.Histories.Dataflows.{node_of};
 ghost use Rattle.shared_board.specs.Found.{dataflow_of};
 ghost use Rattle.worker.specs.Relays.{IsCalm, IsRunning, IsSameActor, IsSettledTo, IsStopped};
 ghost use Rattle.shared_board.specs.Tenures.{state_left};

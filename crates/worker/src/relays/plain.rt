@@ -13,7 +13,7 @@ ghost use Rattle.update.specs.Updates.{HasLargeTotal};
 ghost use Rattle.linear.specs.Applied.{Overflows, linear_output};
 ghost use Rattle.linear.specs.Widths.{are_wide, takes_rows};
 ghost use Rattle.plan.specs.Nodes.{arranged_by, is_linear};
-ghost use Rattle.machine.specs.Histories.Dataflows.{node_of};
+ghost use Rattle.histories.specs.Histories.Dataflows.{node_of};
 ghost use Rattle.operator.specs.Arrangements.{times_of};
 ghost use Rattle.worker.specs.Desks.{DeskState};
 ghost use Rattle.shared_board.specs.Found.{dataflow_of};

@@ -4,7 +4,7 @@
 ghost use Rattle.std.specs.Prelude.{◌≡◌, ◌<◌, ℕ, suc, [], ◌∷◌, Some, false, IfErr, IfOk, OnOk, length, slice_get};
 ghost use Rattle.plan.specs.declared.node.Kind.{Kind};
 ghost use Rattle.plan.specs.declared.node.Node.TheVariants.{Reduce};
-ghost use Rattle.machine.specs.Histories.Dataflows.{node_of};
+ghost use Rattle.histories.specs.Histories.Dataflows.{node_of};
 ghost use Rattle.worker.specs.Desks.{DeskState, with_reduction};
 ghost use Rattle.shared_board.specs.Found.{dataflow_of};
 ghost use Rattle.worker.specs.Relays.{HasNone, HasTurned, IsCalm, IsReadyAt, IsRunning, IsSameActor, IsSettledTo, IsStopped};

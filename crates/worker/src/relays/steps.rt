@@ -9,11 +9,11 @@ ghost use Rattle.std.specs.Prelude.{◌≡◌, ◌<◌, [], false, None, IfErr, 
 ghost use Rattle.std.specs.List.{list_any};
 ghost use Rattle.update.specs.declared.refusal.Refusal.TheVariants.{OutOfMemory};
 ghost use Rattle.plan.specs.Changes.{has_passed};
-ghost use Rattle.machine.specs.declared.histories.event.Event.TheVariants.{Give};
-ghost use Rattle.machine.specs.Histories.Cuts.{cut};
-ghost use Rattle.machine.specs.Histories.Outstanding.{input_frontier};
-ghost use Rattle.machine.specs.Histories.States.{held_at};
-ghost use Rattle.machine.specs.Histories.{IsGive, next_state};
+ghost use Rattle.histories.specs.declared.event.Event.TheVariants.{Give};
+ghost use Rattle.histories.specs.Histories.Cuts.{cut};
+ghost use Rattle.histories.specs.Histories.Outstanding.{input_frontier};
+ghost use Rattle.histories.specs.Histories.States.{held_at};
+ghost use Rattle.histories.specs.Histories.{IsGive, next_state};
 ghost use Rattle.worker.specs.Between.{DoClientsLead, IsLeftBy};
 ghost use Rattle.shared_board.specs.Found.{dataflow_of};
 ghost use Rattle.operator_laws.specs.Gathering.{IsCut};

@@ -3,7 +3,7 @@ use Rattle.plan.specs.Nodes.{is_input}
 use Rattle.plan.specs.declared.node.Kind.TheVariants.{Min}
 use Rattle.plan.specs.declared.node.Node.{Node}
 use Rattle.plan.specs.declared.node.Node.TheVariants.{Arrange, Input, Output, Reduce}
-use Rattle.machine.specs.Histories.Dataflows.{node_of}
+use Rattle.histories.specs.Histories.Dataflows.{node_of}
 use Rattle.worker.specs.Tenures.{Terms, terms_for, terms_in}
 use Rattle.engine_trials.proofs.worker_tests.is_carried.Goals as goal
 

@@ -1,6 +1,6 @@
 use Rattle.operator_laws.proofs.ArrangingLemmas.{may_insert, gave_arranging}
 use Rattle.operator_laws.proofs.GatheringLemmas.{held_beyond}
-use Rattle.machine.specs.Histories.States.{times}
+use Rattle.histories.specs.Histories.States.{times}
 use Rattle.operator_laws.proofs.arranging.arranged_inserts.Goals as goal
 
 pub returns : goal.returns

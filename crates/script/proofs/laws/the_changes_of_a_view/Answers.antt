@@ -1,4 +1,4 @@
-use Rattle.machine.specs.Histories.States.{fed_to}
+use Rattle.histories.specs.Histories.States.{fed_to}
 use Rattle.script.specs.Sessions.{view_frontier, changes_at}
 use Rattle.script.proofs.ChangesLemmas.{changes_are, differences_only}
 use Rattle.script.proofs.laws.the_changes_of_a_view.Goals as goal

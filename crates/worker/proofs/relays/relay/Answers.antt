@@ -1,5 +1,5 @@
 use Rattle.std.proofs.Common.{◌≡◌, suc, ◌+◌, ap, sym, subst, ◌∙◌, length, arith}
-use Rattle.machine.specs.Histories.Readings.{IsQuiet}
+use Rattle.histories.specs.Histories.Readings.{IsQuiet}
 use Rattle.shared_board.specs.Found.{dataflow_of}
 use Rattle.worker.specs.Passes.{IsFreeAtNode}
 use Rattle.worker.specs.Relays.{IsRunning, IsSettledTo}

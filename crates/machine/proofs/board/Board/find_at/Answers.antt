@@ -1,7 +1,7 @@
 use Rattle.std.proofs.Common.{◌≡◌, ◌∙◌, ◌<◌, ◌+◌, ◌-◌, sym, ap, subst, ℕ, Some, length, slice_get, arith}
-use Rattle.machine.specs.declared.histories.event.Site.{Site}
+use Rattle.histories.specs.declared.event.Site.{Site}
 use Rattle.machine.specs.declared.board.pieces.Piece.TheVariants.{Waiting}
-use Rattle.machine.specs.Histories.States.{place}
+use Rattle.histories.specs.Histories.States.{place}
 use Rattle.machine.specs.Boards.Pieces.{takable_at, pieces_held, pieces_at}
 use Rattle.machine.proofs.BoardLemmas.FrontLemmas.{on_ok}
 use Rattle.machine.proofs.BoardLemmas.PieceLemmas.{at_first, at_second, at_held, past_held, on_err}

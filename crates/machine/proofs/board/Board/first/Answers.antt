@@ -1,5 +1,5 @@
 use Rattle.std.proofs.Common.{ap, sym, subst, ◌∙◌}
-use Rattle.machine.specs.Histories.Dataflows.{Dataflow}
+use Rattle.histories.specs.Histories.Dataflows.{Dataflow}
 use Rattle.machine.specs.Boards.Inputs.{first_inputs}
 use Rattle.machine.specs.Boards.{IsBoard}
 use Rattle.machine.specs.Boards.Stations.{lots}

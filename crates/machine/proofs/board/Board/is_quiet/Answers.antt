@@ -1,5 +1,5 @@
 use Rattle.std.proofs.Common.{sym, ◌∙◌}
-use Rattle.machine.proofs.HistoryLemmas.PlaceLemmas.{in_place_lem}
+use Rattle.histories.proofs.HistoryLemmas.PlaceLemmas.{in_place_lem}
 use Rattle.machine.proofs.BoardLemmas.FrontLemmas.{quiet_into, quiet_back}
 use Rattle.machine.proofs.board.Board.is_quiet.Goals as goal
 

@@ -1,10 +1,10 @@
 use Rattle.std.proofs.Common.{◌∙◌, [], ap}
 use Rattle.lattice.specs.Frontiers.{is_beyond}
 use Rattle.machine.specs.Boards.Reads.{captured_of}
-use Rattle.machine.specs.Histories.Outstanding.{with_times}
+use Rattle.histories.specs.Histories.Outstanding.{with_times}
 use Rattle.machine.proofs.BoardLemmas.FrontLemmas.{on_ok, beyond_found}
 use Rattle.machine.proofs.BoardLemmas.ReadLemmas.{same_kept}
-use Rattle.machine.proofs.HistoryLemmas.StampLemmas.{with_times_beyond}
+use Rattle.histories.proofs.HistoryLemmas.StampLemmas.{with_times_beyond}
 use Rattle.machine.proofs.board.Board.passed_captured.Goals as goal
 
 pub returns-clause-passed : goal.returns-clause-passed

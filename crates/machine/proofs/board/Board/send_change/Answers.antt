@@ -1,5 +1,5 @@
 use Rattle.machine.specs.declared.board.queue.Parcel.TheVariants.{Change}
-use Rattle.machine.specs.Histories.States.{place}
+use Rattle.histories.specs.Histories.States.{place}
 use Rattle.machine.specs.Boards.Loads.{load_of}
 use Rattle.machine.specs.Boards.Stations.{lots}
 use Rattle.machine.proofs.BoardLemmas.AcceptLemmas.{board_sent}

@@ -1,5 +1,5 @@
 use Rattle.std.proofs.Common.{◌≡◌, ℕ, ◌<◌, [], take, length, get_or}
-use Rattle.machine.specs.Histories.Cuts.{part_by_key}
+use Rattle.histories.specs.Histories.Cuts.{part_by_key}
 use Rattle.machine.proofs.board.cut.parts_by_key.Given as goal
 
 -- the parts of the updates so far

@@ -1,7 +1,7 @@
 use Rattle.std.proofs.Common.{◌≢◌, ◌<◌, [], get_or, get_or-set_other, length, ap₂, ◌∙◌, arith}
 use Rattle.std.proofs.lemmas.List.{length-set, get_or_read}
-use Rattle.machine.specs.Histories.States.{place}
-use Rattle.machine.specs.Histories.Cuts.{bundled}
+use Rattle.histories.specs.Histories.States.{place}
+use Rattle.histories.specs.Histories.Cuts.{bundled}
 use Rattle.machine.proofs.BoardLemmas.PartLemmas.{with_next}
 use Rattle.machine.proofs.board.cut.push_bundles.Goals as goal
 

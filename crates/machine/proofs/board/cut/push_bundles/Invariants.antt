@@ -1,5 +1,5 @@
 use Rattle.std.proofs.Common.{◌≡◌, ℕ, ◌≤◌, ◌++◌, [], length, get_or}
-use Rattle.machine.specs.Histories.Cuts.{bundles_along}
+use Rattle.histories.specs.Histories.Cuts.{bundles_along}
 use Rattle.machine.proofs.board.cut.push_bundles.Given as goal
 
 -- the bundles of the workers so far; the parts of the others are as they were

@@ -1,8 +1,8 @@
 use Rattle.std.proofs.Common.{◌≡◌, ◌++◌, [], get_or, subst, ap, ◌∙◌}
 use Rattle.std.specs.Prelude.{OnOk}
-use Rattle.machine.specs.Histories.States.{place}
-use Rattle.machine.specs.Histories.Cuts.{part_by_key, bundled, bundles_along}
-use Rattle.machine.proofs.HistoryLemmas.CuttingLemmas.{same_below}
+use Rattle.histories.specs.Histories.States.{place}
+use Rattle.histories.specs.Histories.Cuts.{part_by_key, bundled, bundles_along}
+use Rattle.histories.proofs.HistoryLemmas.CuttingLemmas.{same_below}
 use Rattle.machine.proofs.board.cut.push_for_workers.Goals as goal
 
 pub returns-clause-more : goal.returns-clause-more

@@ -1,5 +1,5 @@
-use Rattle.machine.proofs.HistoryLemmas.HeadlineLemmas.{headline_lem}
-use Rattle.machine.proofs.HistoryLemmas.MeetsLemmas.{reads_lem}
+use Rattle.histories.proofs.HistoryLemmas.HeadlineLemmas.{headline_lem}
+use Rattle.histories.proofs.HistoryLemmas.MeetsLemmas.{reads_lem}
 use Rattle.machine.proofs.board.promises.meets.Goals as goal
 
 pub returns-clause-headline : goal.returns-clause-headline

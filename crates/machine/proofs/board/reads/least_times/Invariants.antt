@@ -1,5 +1,5 @@
 use Rattle.std.proofs.Common.{◌≡◌, [], drop}
-use Rattle.machine.specs.Histories.Outstanding.{with_times}
+use Rattle.histories.specs.Histories.Outstanding.{with_times}
 use Rattle.machine.proofs.board.reads.least_times.Given as goal
 
 -- the least so far, with the times that are left, are the least of all

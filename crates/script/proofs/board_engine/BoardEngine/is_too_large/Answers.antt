@@ -5,7 +5,7 @@ use Rattle.lattice.specs.Bitimes.{bitime_below}
 use Rattle.lattice.specs.Naturals.{nat_order, nat_bounds, nat_extends}
 use Rattle.lattice.specs.Pairs.{make_pair, pair_order, pair_bounds, pair_extends}
 use Rattle.lattice.specs.declared.product.Pair.{Pair}
-use Rattle.machine.specs.declared.histories.event.Event.TheVariants.{Look}
+use Rattle.histories.specs.declared.event.Event.TheVariants.{Look}
 use Rattle.worker.specs.Found.{dataflow_of}
 use Rattle.worker.specs.Tenures.{Terms, state_found, state_left}
 use Rattle.shared_board.specs.declared.event.Doing.{Doing}

@@ -1,5 +1,5 @@
 use Rattle.std.proofs.Common.{inr, refl, subst, ◌∙◌}
-use Rattle.machine.specs.Histories.Dataflows.{Dataflow}
+use Rattle.histories.specs.Histories.Dataflows.{Dataflow}
 use Rattle.script.specs.Bounds.{IsLarge}
 use Rattle.script.proofs.board_engine.BoardEngineCatchUp.catch_up.Goals as goal
 

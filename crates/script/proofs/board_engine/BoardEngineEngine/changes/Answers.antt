@@ -10,8 +10,8 @@ use Rattle.std.proofs.lemmas.Bool.{and_parts}
 use Rattle.grammar.specs.Commands.{is_view_of}
 use Rattle.update.specs.declared.change.Update.{Update}
 use Rattle.update.specs.declared.refusal.Refusal.{Refusal}
-use Rattle.machine.specs.declared.histories.event.Event.TheVariants.{Look}
-use Rattle.machine.specs.Histories.Readings.{IsQuiet}
+use Rattle.histories.specs.declared.event.Event.TheVariants.{Look}
+use Rattle.histories.specs.Histories.Readings.{IsQuiet}
 use Rattle.worker.specs.Found.{dataflow_of}
 use Rattle.worker.specs.Tenures.{HasLargeListed, Terms, changes_refusal_in, state_found, state_left}
 use Rattle.shared_board.specs.declared.event.Doing.{Doing}

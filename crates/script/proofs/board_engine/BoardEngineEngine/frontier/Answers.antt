@@ -9,8 +9,8 @@ use Rattle.std.specs.Prelude.{Result}
 use Rattle.std.proofs.lemmas.Bool.{and_parts}
 use Rattle.grammar.specs.Commands.{is_view_of}
 use Rattle.update.specs.declared.refusal.Refusal.{Refusal}
-use Rattle.machine.specs.declared.histories.event.Event.TheVariants.{Look}
-use Rattle.machine.specs.Histories.Readings.{IsQuiet}
+use Rattle.histories.specs.declared.event.Event.TheVariants.{Look}
+use Rattle.histories.specs.Histories.Readings.{IsQuiet}
 use Rattle.worker.specs.Found.{dataflow_of}
 use Rattle.worker.specs.Tenures.{Terms, state_found, state_left}
 use Rattle.shared_board.specs.declared.event.Doing.{Doing}

@@ -9,9 +9,9 @@ use Rattle.std.proofs.lemmas.Bool.{and_parts}
 use Rattle.grammar.specs.Commands.{is_view_of}
 use Rattle.update.specs.Bags.{HasLargeCount}
 use Rattle.plan.specs.Changes.{query_at}
-use Rattle.machine.specs.declared.histories.event.Event.TheVariants.{Look}
-use Rattle.machine.specs.Histories.Promises.{changes_in}
-use Rattle.machine.specs.Histories.Readings.{IsQuiet}
+use Rattle.histories.specs.declared.event.Event.TheVariants.{Look}
+use Rattle.histories.specs.Histories.Promises.{changes_in}
+use Rattle.histories.specs.Histories.Readings.{IsQuiet}
 use Rattle.worker.specs.Found.{dataflow_of}
 use Rattle.worker.specs.Tenures.{Terms, state_found, state_left}
 use Rattle.shared_board.specs.declared.event.Doing.{Doing}

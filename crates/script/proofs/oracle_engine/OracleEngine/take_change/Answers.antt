@@ -2,7 +2,7 @@ use Rattle.std.proofs.Common.{◌≡◌, ◌<◌, ◌∙◌, ℕ, map, Some, Non
 use Rattle.lattice.specs.declared.product.Pair.{Pair}
 use Rattle.update.specs.declared.change.Update.{Update}
 use Rattle.update.specs.Refusals.{IsRefusalBy}
-use Rattle.machine.specs.declared.histories.event.Fed.{Fed}
+use Rattle.histories.specs.declared.event.Fed.{Fed}
 use Rattle.grammar.specs.Commands.{is_input_of}
 use Rattle.script.specs.OracleStanding.{Register, entry_refusal}
 use Rattle.lattice.specs.Bitimes.{bitime_below}

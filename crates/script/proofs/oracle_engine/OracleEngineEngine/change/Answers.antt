@@ -1,6 +1,6 @@
 use Rattle.std.proofs.Common.{ℕ}
 use Rattle.lattice.specs.declared.product.Pair.{Pair}
-use Rattle.machine.specs.declared.histories.event.Fed.{Fed}
+use Rattle.histories.specs.declared.event.Fed.{Fed}
 use Rattle.lattice.specs.Bitimes.{bitime_below}
 use Rattle.script.proofs.OracleEngineLemmas.{entry_answered}
 use Rattle.script.proofs.oracle_engine.OracleEngineEngine.change.Goals as goal

@@ -1,9 +1,9 @@
 use Rattle.std.proofs.Common.{◌∷◌, rules, ◌≡◌, ◌<◌, ◌≤◌, sym, subst, ap, ◌∙◌, []}
 use Rattle.hub.specs.Histories.{entry}
 use Rattle.hub.specs.Known.{Known}
-use Rattle.machine.specs.declared.histories.event.Event.{Event}
-use Rattle.machine.specs.declared.histories.event.Event.TheVariants.{Advance}
-use Rattle.machine.specs.Histories.{IsInput}
+use Rattle.histories.specs.declared.event.Event.{Event}
+use Rattle.histories.specs.declared.event.Event.TheVariants.{Advance}
+use Rattle.histories.specs.Histories.{IsInput}
 use Rattle.shared_board.specs.declared.event.Doing.{Doing}
 use Rattle.shared_board.specs.Tenures.{Adds, Terms, terms_in}
 use Rattle.shared_board.proofs.ActorLemmas.{IsIn, after_tenure, at_board, is_some_at}

@@ -4,11 +4,11 @@ use Rattle.std.proofs.lemmas.Result.{on_ok_weaker, on_err_weaker}
 use Rattle.hub.specs.Histories.{entry}
 use Rattle.hub.specs.Known.{Known}
 use Rattle.update.specs.Refusals.{IsRefusalBy}
-use Rattle.machine.specs.declared.histories.event.Event.{Event}
-use Rattle.machine.specs.declared.histories.event.Event.TheVariants.{Feed, Look}
-use Rattle.machine.specs.Histories.{IsInput}
-use Rattle.machine.specs.Histories.Dataflows.{Dataflow}
-use Rattle.machine.specs.Histories.States.{State, change_to}
+use Rattle.histories.specs.declared.event.Event.{Event}
+use Rattle.histories.specs.declared.event.Event.TheVariants.{Feed, Look}
+use Rattle.histories.specs.Histories.{IsInput}
+use Rattle.histories.specs.Histories.Dataflows.{Dataflow}
+use Rattle.histories.specs.Histories.States.{State, change_to}
 use Rattle.shared_board.specs.declared.event.Doing.{Doing}
 use Rattle.shared_board.specs.Tenures.{StandsFor, Adds, Terms, terms_in, state_found, feed_refusal_in}
 use Rattle.shared_board.proofs.ActorLemmas.{leaves, IsIn, after_tenure, at_board, is_some_at, of_found}

@@ -3,11 +3,11 @@ use Rattle.std.specs.Prelude.{IfOk}
 use Rattle.hub.specs.Histories.{entry}
 use Rattle.hub.specs.Known.{Known}
 use Rattle.antichain.specs.Antichains.{SameElements}
-use Rattle.machine.specs.declared.histories.event.Event.{Event}
-use Rattle.machine.specs.declared.histories.event.Event.TheVariants.{Look}
-use Rattle.machine.specs.Histories.Dataflows.{Dataflow}
-use Rattle.machine.specs.Histories.Outstanding.{frontier}
-use Rattle.machine.specs.Histories.States.{State}
+use Rattle.histories.specs.declared.event.Event.{Event}
+use Rattle.histories.specs.declared.event.Event.TheVariants.{Look}
+use Rattle.histories.specs.Histories.Dataflows.{Dataflow}
+use Rattle.histories.specs.Histories.Outstanding.{frontier}
+use Rattle.histories.specs.Histories.States.{State}
 use Rattle.shared_board.specs.declared.event.Doing.{Doing}
 use Rattle.shared_board.specs.Tenures.{Adds, Terms, terms_in, state_found, StandsFor}
 use Rattle.shared_board.proofs.ActorLemmas.{IsIn, after_tenure, at_board, is_some_at, leaves, of_found}

@@ -2,9 +2,9 @@ use Rattle.std.proofs.Common.{◌∷◌, rules, ◌≡◌, ◌<◌, sym, subst, 
 use Rattle.std.proofs.lemmas.Result.{on_ok_weaker}
 use Rattle.hub.specs.Histories.{entry}
 use Rattle.hub.specs.Known.{Known}
-use Rattle.machine.specs.declared.histories.event.Event.{Event}
-use Rattle.machine.specs.declared.histories.event.Event.TheVariants.{Give, Look}
-use Rattle.machine.specs.Histories.{IsGive}
+use Rattle.histories.specs.declared.event.Event.{Event}
+use Rattle.histories.specs.declared.event.Event.TheVariants.{Give, Look}
+use Rattle.histories.specs.Histories.{IsGive}
 use Rattle.shared_board.specs.declared.event.Doing.{Doing}
 use Rattle.shared_board.specs.Tenures.{Adds, Terms, state_left, terms_in, StandsFor}
 use Rattle.shared_board.proofs.ActorLemmas.{IsIn, after_with, leaves_with, stood_at, at_board, give_found, if_err_map, is_some_at}

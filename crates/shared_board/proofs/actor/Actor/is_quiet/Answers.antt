@@ -2,11 +2,11 @@ use Rattle.std.proofs.Common.{◌∷◌, rules, ◌≡◌, sym, subst, ap, ◌�
 use Rattle.std.specs.Prelude.{◌↔◌}
 use Rattle.hub.specs.Histories.{entry}
 use Rattle.hub.specs.Known.{Known}
-use Rattle.machine.specs.declared.histories.event.Event.{Event}
-use Rattle.machine.specs.declared.histories.event.Event.TheVariants.{Look}
-use Rattle.machine.specs.Histories.Dataflows.{Dataflow}
-use Rattle.machine.specs.Histories.Readings.{IsQuiet}
-use Rattle.machine.specs.Histories.States.{State}
+use Rattle.histories.specs.declared.event.Event.{Event}
+use Rattle.histories.specs.declared.event.Event.TheVariants.{Look}
+use Rattle.histories.specs.Histories.Dataflows.{Dataflow}
+use Rattle.histories.specs.Histories.Readings.{IsQuiet}
+use Rattle.histories.specs.Histories.States.{State}
 use Rattle.shared_board.specs.declared.event.Doing.{Doing}
 use Rattle.shared_board.specs.Tenures.{Adds, terms_in, state_found}
 use Rattle.shared_board.proofs.ActorLemmas.{IsIn, after_tenure, is_some_at, of_found}

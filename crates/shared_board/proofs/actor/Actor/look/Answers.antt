@@ -1,8 +1,8 @@
 use Rattle.std.proofs.Common.{◌∷◌, rules, ◌≡◌, sym, subst, ap, ◌∙◌}
 use Rattle.hub.specs.Histories.{entry}
 use Rattle.hub.specs.Known.{Known}
-use Rattle.machine.specs.declared.histories.event.Event.{Event}
-use Rattle.machine.specs.declared.histories.event.Event.TheVariants.{Look}
+use Rattle.histories.specs.declared.event.Event.{Event}
+use Rattle.histories.specs.declared.event.Event.TheVariants.{Look}
 use Rattle.shared_board.specs.declared.event.Doing.{Doing}
 use Rattle.shared_board.specs.Tenures.{Adds, StandsFor}
 use Rattle.shared_board.proofs.ActorLemmas.{IsIn, after_tenure, is_some_at, leaves_with, stood_at}

@@ -5,11 +5,11 @@ use Rattle.hub.specs.Known.{Known}
 use Rattle.update.specs.Bags.{Alike}
 use Rattle.plan.specs.Changes.{query_at}
 use Rattle.plan.specs.Nodes.{is_output}
-use Rattle.machine.specs.declared.histories.event.Event.{Event}
-use Rattle.machine.specs.declared.histories.event.Event.TheVariants.{Look}
-use Rattle.machine.specs.Histories.Dataflows.{Dataflow, node_of}
-use Rattle.machine.specs.Histories.Promises.{changes_in}
-use Rattle.machine.specs.Histories.States.{State}
+use Rattle.histories.specs.declared.event.Event.{Event}
+use Rattle.histories.specs.declared.event.Event.TheVariants.{Look}
+use Rattle.histories.specs.Histories.Dataflows.{Dataflow, node_of}
+use Rattle.histories.specs.Histories.Promises.{changes_in}
+use Rattle.histories.specs.Histories.States.{State}
 use Rattle.shared_board.specs.declared.event.Doing.{Doing}
 use Rattle.shared_board.specs.Tenures.{StandsFor, Adds, Terms, terms_in, state_found, read_refusal_in, IsReadRefusalIn}
 use Rattle.shared_board.proofs.ActorLemmas.{leaves, IsIn, after_tenure, at_board, is_some_at, of_found}

@@ -2,10 +2,10 @@ use Rattle.std.proofs.Common.{◌∷◌, rules, ◌≡◌, ◌<◌, sym, subst, 
 use Rattle.std.specs.Prelude.{IfOk, IfSome}
 use Rattle.hub.specs.Histories.{entry}
 use Rattle.hub.specs.Known.{Known}
-use Rattle.machine.specs.declared.histories.event.Event.{Event}
-use Rattle.machine.specs.declared.histories.event.Event.TheVariants.{Look, Take}
-use Rattle.machine.specs.Histories.Dataflows.{Dataflow}
-use Rattle.machine.specs.Histories.States.{State, place, queue}
+use Rattle.histories.specs.declared.event.Event.{Event}
+use Rattle.histories.specs.declared.event.Event.TheVariants.{Look, Take}
+use Rattle.histories.specs.Histories.Dataflows.{Dataflow}
+use Rattle.histories.specs.Histories.States.{State, place, queue}
 use Rattle.shared_board.specs.declared.event.Doing.{Doing}
 use Rattle.shared_board.specs.Tenures.{Adds, Terms, WaitsOrNotIn, state_found, state_left, terms_in}
 use Rattle.shared_board.proofs.ActorLemmas.{IsIn, after_tenure, both_ok, at_board, hand_found, if_err_map, if_ok_map, if_some_map, is_some_at, of_found, waits_left}

@@ -1,9 +1,9 @@
 use Rattle.std.proofs.Common.{◌∷◌, rules, ◌≡◌, sym, subst, ap, ◌∙◌, length}
 use Rattle.hub.specs.Histories.{entry}
 use Rattle.hub.specs.Known.{Known}
-use Rattle.machine.specs.declared.histories.event.Event.{Event}
-use Rattle.machine.specs.declared.histories.event.Event.TheVariants.{Look}
-use Rattle.machine.specs.Histories.Promises.{changes_in}
+use Rattle.histories.specs.declared.event.Event.{Event}
+use Rattle.histories.specs.declared.event.Event.TheVariants.{Look}
+use Rattle.histories.specs.Histories.Promises.{changes_in}
 use Rattle.shared_board.specs.declared.event.Doing.{Doing}
 use Rattle.shared_board.specs.Large.{HasNoSmallBound}
 use Rattle.shared_board.specs.Tenures.{Adds, Terms, left_by, state_left, terms_in, terms_of_board, StandsFor}

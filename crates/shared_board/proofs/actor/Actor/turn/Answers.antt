@@ -5,11 +5,11 @@ use Rattle.hub.specs.Histories.{entry}
 use Rattle.hub.specs.Known.{Known}
 use Rattle.antichain.specs.Antichains.{SameElements}
 use Rattle.plan.specs.Changes.{has_passed}
-use Rattle.machine.specs.declared.histories.event.Event.{Event}
-use Rattle.machine.specs.declared.histories.event.Event.TheVariants.{Look, TakeHeld}
-use Rattle.machine.specs.Histories.Dataflows.{Dataflow}
-use Rattle.machine.specs.Histories.Outstanding.{input_frontier}
-use Rattle.machine.specs.Histories.States.{State, held_at}
+use Rattle.histories.specs.declared.event.Event.{Event}
+use Rattle.histories.specs.declared.event.Event.TheVariants.{Look, TakeHeld}
+use Rattle.histories.specs.Histories.Dataflows.{Dataflow}
+use Rattle.histories.specs.Histories.Outstanding.{input_frontier}
+use Rattle.histories.specs.Histories.States.{State, held_at}
 use Rattle.shared_board.specs.declared.event.Doing.{Doing}
 use Rattle.shared_board.specs.Tenures.{Adds, Terms, state_found, state_left, terms_in, StandsFor}
 use Rattle.shared_board.proofs.ActorLemmas.{IsIn, after_tenure, both_ok, both_some, at_board, hand_found, if_err_map, if_ok_map, if_some_map, is_some_at, leaves, of_found}

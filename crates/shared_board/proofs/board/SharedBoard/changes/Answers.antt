@@ -7,9 +7,9 @@ use Rattle.shared_board.specs.Tenures.{SharedState, StandsFor, doing, events, le
 use Rattle.std.proofs.lemmas.Result.{on_ok_weaker}
 use Rattle.plan.specs.Changes.{AreDifferences}
 use Rattle.plan.specs.Nodes.{is_output}
-use Rattle.machine.specs.Histories.Dataflows.{node_of}
-use Rattle.machine.specs.Histories.Outstanding.{frontier}
-use Rattle.machine.specs.Histories.Promises.{changes_in}
+use Rattle.histories.specs.Histories.Dataflows.{node_of}
+use Rattle.histories.specs.Histories.Outstanding.{frontier}
+use Rattle.histories.specs.Histories.Promises.{changes_in}
 use Rattle.shared_board.proofs.SharedLemmas.{asked}
 use Rattle.shared_board.proofs.SharedReadingLemmas.{same_changes_refusal, changes_refused}
 use Rattle.shared_board.proofs.board.SharedBoard.changes.Goals as goal

@@ -1,7 +1,7 @@
 use Rattle.std.proofs.Common.{List, ◌∷◌, sym, subst, ◌<◌, false}
 use Rattle.hub.specs.declared.view.Entry.{Entry}
 use Rattle.hub.specs.Histories.{entry}
-use Rattle.machine.specs.Histories.States.{change_to}
+use Rattle.histories.specs.Histories.States.{change_to}
 use Rattle.shared_board.specs.declared.event.Doing.{Doing}
 use Rattle.shared_board.specs.Tenures.{SharedState, StandsFor, doing, terms_of_board}
 use Rattle.shared_board.proofs.SharedLemmas.{accepted, looked}

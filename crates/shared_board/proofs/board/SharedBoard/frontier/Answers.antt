@@ -5,7 +5,7 @@ use Rattle.hub.specs.Histories.{entry}
 use Rattle.shared_board.specs.declared.event.Doing.{Doing}
 use Rattle.shared_board.specs.Tenures.{SharedState, StandsFor, doing, events, left_by, terms_of_board}
 use Rattle.antichain.specs.Antichains.{SameElements}
-use Rattle.machine.specs.Histories.Outstanding.{frontier}
+use Rattle.histories.specs.Histories.Outstanding.{frontier}
 use Rattle.shared_board.proofs.SharedLemmas.{asked}
 use Rattle.shared_board.proofs.board.SharedBoard.frontier.Goals as goal
 

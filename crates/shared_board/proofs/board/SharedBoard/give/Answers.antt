@@ -3,7 +3,7 @@ use Rattle.hub.specs.declared.view.Entry.{Entry}
 use Rattle.hub.specs.Histories.{entry}
 use Rattle.shared_board.specs.declared.event.Doing.{Doing}
 use Rattle.shared_board.specs.Tenures.{SharedState, StandsFor, doing, events, left_by, terms_of_board}
-use Rattle.machine.specs.Histories.{IsGive}
+use Rattle.histories.specs.Histories.{IsGive}
 use Rattle.shared_board.proofs.SharedLemmas.{gave}
 use Rattle.shared_board.proofs.board.SharedBoard.give.Goals as goal
 

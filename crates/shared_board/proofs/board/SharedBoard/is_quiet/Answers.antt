@@ -4,7 +4,7 @@ use Rattle.hub.specs.declared.view.Entry.{Entry}
 use Rattle.hub.specs.Histories.{entry}
 use Rattle.shared_board.specs.declared.event.Doing.{Doing}
 use Rattle.shared_board.specs.Tenures.{SharedState, StandsFor, doing, events, left_by, terms_of_board}
-use Rattle.machine.specs.Histories.Readings.{IsQuiet}
+use Rattle.histories.specs.Histories.Readings.{IsQuiet}
 use Rattle.shared_board.proofs.SharedLemmas.{asked}
 use Rattle.shared_board.proofs.board.SharedBoard.is_quiet.Goals as goal
 

@@ -8,8 +8,8 @@ use Rattle.std.proofs.lemmas.Result.{on_ok_weaker}
 use Rattle.update.specs.Bags.{Alike}
 use Rattle.plan.specs.Changes.{query_at}
 use Rattle.plan.specs.Nodes.{is_output}
-use Rattle.machine.specs.Histories.Dataflows.{node_of}
-use Rattle.machine.specs.Histories.Promises.{changes_in}
+use Rattle.histories.specs.Histories.Dataflows.{node_of}
+use Rattle.histories.specs.Histories.Promises.{changes_in}
 use Rattle.shared_board.proofs.SharedLemmas.{asked}
 use Rattle.shared_board.proofs.SharedReadingLemmas.{same_read_refusal, read_refused}
 use Rattle.shared_board.proofs.board.SharedBoard.read.Goals as goal

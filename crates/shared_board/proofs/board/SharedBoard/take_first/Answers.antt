@@ -3,7 +3,7 @@ use Rattle.hub.specs.declared.view.Entry.{Entry}
 use Rattle.hub.specs.Histories.{entry}
 use Rattle.shared_board.specs.declared.event.Doing.{Doing}
 use Rattle.shared_board.specs.Tenures.{SharedState, StandsFor, doing, terms_of_board}
-use Rattle.machine.specs.declared.histories.event.Site.{Site}
+use Rattle.histories.specs.declared.event.Site.{Site}
 use Rattle.machine.specs.Boards.{after_look}
 use Rattle.shared_board.proofs.SharedLemmas.{looked, taken}
 use Rattle.shared_board.proofs.board.SharedBoard.take_first.Goals as goal

@@ -6,7 +6,7 @@ use Rattle.shared_board.specs.declared.event.Doing.{Doing}
 use Rattle.shared_board.specs.Large.{HasNoSmallBound}
 use Rattle.shared_board.specs.Tenures.{SharedState, StandsFor, doing, left_by, terms_of_board}
 use Rattle.std.proofs.Common.{◌||◌}
-use Rattle.machine.specs.Histories.Promises.{changes_in}
+use Rattle.histories.specs.Histories.Promises.{changes_in}
 use Rattle.shared_board.proofs.SharedLemmas.{told}
 use Rattle.shared_board.proofs.board.SharedBoard.tell_too_large.Goals as goal
 

@@ -8,8 +8,8 @@ use Rattle.antichain.specs.Antichains.{SameElements}
 use Rattle.plan.specs.Changes.{has_passed}
 use Rattle.machine.specs.Boards.{BoardState}
 use Rattle.machine.specs.Boards.Reads.{is_ready}
-use Rattle.machine.specs.Histories.Outstanding.{input_frontier}
-use Rattle.machine.specs.Histories.States.{held_at}
+use Rattle.histories.specs.Histories.Outstanding.{input_frontier}
+use Rattle.histories.specs.Histories.States.{held_at}
 use Rattle.shared_board.proofs.SharedLemmas.{asked, turned}
 use Rattle.shared_board.proofs.board.SharedBoard.turn.Goals as goal
 

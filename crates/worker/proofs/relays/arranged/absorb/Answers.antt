@@ -1,7 +1,7 @@
 use Rattle.std.proofs.Common.{◌<◌, ◌++◌, length, ap, sym, subst, ◌∙◌, IsTrue}
 use Rattle.std.specs.Prelude.{IfSome}
 use Rattle.plan.specs.Nodes.{is_input}
-use Rattle.machine.specs.Histories.Dataflows.{node_of}
+use Rattle.histories.specs.Histories.Dataflows.{node_of}
 use Rattle.operator.specs.Arrangements.{rows_have, times_from}
 use Rattle.worker.specs.Desks.{with_arrangement}
 use Rattle.shared_board.specs.Found.{dataflow_of}

@@ -6,11 +6,11 @@ use Rattle.batch.specs.Intervals.{is_interval_of, all_between, passed_updates, o
 use Rattle.batch.specs.Descriptions.{DescriptionState}
 use Rattle.trace.specs.BatchLists.{Continues}
 use Rattle.spine.specs.Spines.{Stands as SpineStands}
-use Rattle.machine.specs.declared.histories.event.Emission.{Emission}
-use Rattle.machine.specs.declared.histories.event.Event.TheVariants.{Give}
-use Rattle.machine.specs.Histories.Cuts.{cut}
-use Rattle.machine.specs.Histories.States.{times}
-use Rattle.machine.specs.Histories.{IsGive, next_state}
+use Rattle.histories.specs.declared.event.Emission.{Emission}
+use Rattle.histories.specs.declared.event.Event.TheVariants.{Give}
+use Rattle.histories.specs.Histories.Cuts.{cut}
+use Rattle.histories.specs.Histories.States.{times}
+use Rattle.histories.specs.Histories.{IsGive, next_state}
 use Rattle.worker.specs.Between.{IsLeftBy}
 use Rattle.operator_laws.specs.Gathering.{IsCut, IsHeldFor}
 use Rattle.operator_laws.specs.Arranging.{IsSealOf}

@@ -1,7 +1,7 @@
 -- The bundles at a join are taken one by one.
 use Rattle.std.proofs.Common.{rules, ◌≡◌, ◌<◌, Some, length, sym, ap, subst, refl, ◌∙◌}
 use Rattle.plan.specs.declared.node.Node.TheVariants.{Join}
-use Rattle.machine.specs.Histories.Dataflows.{Dataflow, node_of}
+use Rattle.histories.specs.Histories.Dataflows.{Dataflow, node_of}
 use Rattle.shared_board.specs.Found.{dataflow_of}
 use Rattle.worker.specs.Relays.{IsReadyAt, IsRunning}
 use Rattle.shared_board.specs.Tenures.{Terms, state_left}

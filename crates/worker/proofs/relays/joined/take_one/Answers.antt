@@ -1,6 +1,6 @@
 -- One bundle is taken at a join, at whichever port it waits.
 use Rattle.std.proofs.Common.{rules, ◌≡◌, ◌<◌, sym, ap, subst, length, arith, ◌∙◌}
-use Rattle.machine.specs.Histories.Dataflows.{Dataflow, node_of}
+use Rattle.histories.specs.Histories.Dataflows.{Dataflow, node_of}
 use Rattle.plan.specs.declared.node.Node.TheVariants.{Join}
 use Rattle.shared_board.specs.Found.{dataflow_of}
 use Rattle.worker.specs.Relays.{IsRunning, IsSettledTo}

@@ -1,9 +1,9 @@
 -- What was gathered is given in one piece.
 use Rattle.std.proofs.Common.{suc, sym, subst, inl, inr, ⊎_elim}
 use Rattle.std.proofs.lemmas.Result.{err_from_is_err_and}
-use Rattle.machine.specs.Histories.{IsGive, next_state}
-use Rattle.machine.specs.Histories.Cuts.{cut}
-use Rattle.machine.specs.declared.histories.event.Event.TheVariants.{Give}
+use Rattle.histories.specs.Histories.{IsGive, next_state}
+use Rattle.histories.specs.Histories.Cuts.{cut}
+use Rattle.histories.specs.declared.event.Event.TheVariants.{Give}
 use Rattle.worker.specs.Between.{IsLeftBy}
 use Rattle.shared_board.specs.Found.{dataflow_of}
 use Rattle.worker.specs.Relays.{IsSettledTo, IsStopped}

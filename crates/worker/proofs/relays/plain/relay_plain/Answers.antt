@@ -1,7 +1,7 @@
 -- All that waits at a linear node is gathered and given, and the pass goes on.
 use Rattle.std.proofs.Common.{Some, suc, ap, subst}
 use Rattle.std.specs.Prelude.{OnOk}
-use Rattle.machine.specs.Histories.Dataflows.{Dataflow}
+use Rattle.histories.specs.Histories.Dataflows.{Dataflow}
 use Rattle.shared_board.specs.Found.{dataflow_of}
 use Rattle.worker.specs.Relays.{IsGatheringOn, IsReadyAt, IsSettledTo}
 use Rattle.shared_board.specs.Tenures.{Terms, state_left}

@@ -5,8 +5,8 @@ use Rattle.lattice.specs.Frontiers.{all_beyond}
 use Rattle.update.specs.Updates.{size}
 use Rattle.update.specs.Refusals.{IsMemoryOrOverflow}
 use Rattle.plan.specs.Nodes.{is_input}
-use Rattle.machine.specs.Histories.Dataflows.{node_of}
-use Rattle.machine.specs.Histories.States.{times}
+use Rattle.histories.specs.Histories.Dataflows.{node_of}
+use Rattle.histories.specs.Histories.States.{times}
 use Rattle.worker.specs.Desks.{with_reduction}
 use Rattle.shared_board.specs.Found.{dataflow_of}
 use Rattle.operator.specs.Reductions.{have_width, IsReduced, IsPendingAfter, pending_of}

@@ -1,5 +1,5 @@
 use Rattle.std.proofs.Common.{Some, ap, sym, subst, ◌∙◌, rules}
-use Rattle.machine.specs.Histories.Dataflows.{node_of}
+use Rattle.histories.specs.Histories.Dataflows.{node_of}
 use Rattle.worker.specs.Desks.{with_reduction}
 use Rattle.worker.specs.Relays.{IsRunning}
 use Rattle.shared_board.specs.Tenures.{state_left}

@@ -1,7 +1,7 @@
 use Rattle.std.proofs.Common.{◌<◌, Some, suc, length, ap, sym, subst, ◌∙◌, rules}
 use Rattle.std.specs.Prelude.{IfSome, OnOk}
 use Rattle.plan.specs.Nodes.{is_input}
-use Rattle.machine.specs.Histories.Dataflows.{Dataflow, node_of}
+use Rattle.histories.specs.Histories.Dataflows.{Dataflow, node_of}
 use Rattle.worker.specs.Desks.{with_reduction}
 use Rattle.shared_board.specs.Found.{dataflow_of}
 use Rattle.worker.specs.Relays.{HasTurned, IsRunning, IsSettledTo}

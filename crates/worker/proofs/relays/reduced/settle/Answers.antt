@@ -1,9 +1,9 @@
 use Rattle.std.proofs.Common.{◌≡◌, suc, ap, sym, subst}
 use Rattle.std.proofs.lemmas.Result.{err_from_is_err_and}
-use Rattle.machine.specs.declared.histories.event.Emission.{Emission}
-use Rattle.machine.specs.declared.histories.event.Event.TheVariants.{Give}
-use Rattle.machine.specs.Histories.Cuts.{cut}
-use Rattle.machine.specs.Histories.{IsGive, next_state}
+use Rattle.histories.specs.declared.event.Emission.{Emission}
+use Rattle.histories.specs.declared.event.Event.TheVariants.{Give}
+use Rattle.histories.specs.Histories.Cuts.{cut}
+use Rattle.histories.specs.Histories.{IsGive, next_state}
 use Rattle.worker.specs.Between.{IsLeftBy}
 use Rattle.worker.specs.Desks.{with_reduction}
 use Rattle.shared_board.specs.Found.{dataflow_of}

@@ -1,9 +1,9 @@
 use Rattle.std.proofs.Common.{List, ap, subst, ◌∙◌}
-use Rattle.machine.specs.declared.histories.event.Bundle.{Bundle}
-use Rattle.machine.specs.declared.histories.event.Emission.{Emission}
+use Rattle.histories.specs.declared.event.Bundle.{Bundle}
+use Rattle.histories.specs.declared.event.Emission.{Emission}
 use Rattle.machine.specs.Boards.CutEmissions.{CutState}
-use Rattle.machine.specs.declared.histories.event.Event.TheVariants.{Give}
-use Rattle.machine.specs.Histories.{next_state}
+use Rattle.histories.specs.declared.event.Event.TheVariants.{Give}
+use Rattle.histories.specs.Histories.{next_state}
 use Rattle.worker.specs.Between.{IsLeftBy}
 use Rattle.shared_board.specs.Found.{dataflow_of}
 use Rattle.shared_board.specs.Tenures.{state_left}

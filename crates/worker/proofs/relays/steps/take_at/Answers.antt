@@ -1,7 +1,7 @@
 use Rattle.std.proofs.Common.{◌∙◌, sym, subst, ap, refl}
 use Rattle.std.specs.Prelude.{IfOk, IfSome}
-use Rattle.machine.specs.declared.histories.event.Event.TheVariants.{Take}
-use Rattle.machine.specs.Histories.States.{queue, place}
+use Rattle.histories.specs.declared.event.Event.TheVariants.{Take}
+use Rattle.histories.specs.Histories.States.{queue, place}
 use Rattle.shared_board.specs.Tenures.{WaitsOrNotIn, state_found, state_left}
 use Rattle.shared_board.proofs.ActorLemmas.{if_err_map, if_ok_map, if_some_map}
 use Rattle.worker.proofs.StepLemmas.{some_event, has_taken, looked_left, err_to_on_err}

@@ -1,11 +1,11 @@
 use Rattle.std.proofs.Common.{◌≡◌, subst, refl, false}
 use Rattle.std.specs.List.{list_any}
 use Rattle.plan.specs.Changes.{has_passed}
-use Rattle.machine.specs.Histories.Outstanding.{input_frontier}
-use Rattle.machine.specs.Histories.States.{held_at}
+use Rattle.histories.specs.Histories.Outstanding.{input_frontier}
+use Rattle.histories.specs.Histories.States.{held_at}
 use Rattle.shared_board.specs.Found.{dataflow_of}
 use Rattle.shared_board.specs.Tenures.{state_found}
-use Rattle.machine.specs.declared.histories.event.Event.TheVariants.{TakeHeld}
+use Rattle.histories.specs.declared.event.Event.TheVariants.{TakeHeld}
 use Rattle.shared_board.proofs.ActorLemmas.{if_err_map, if_ok_map, if_some_map}
 use Rattle.worker.proofs.StepLemmas.{some_event, has_turned, looked_left, err_to_on_err}
 use Rattle.worker.proofs.relays.steps.turn_at.Goals as goal

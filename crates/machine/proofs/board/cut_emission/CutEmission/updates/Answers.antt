@@ -1,5 +1,5 @@
 use Rattle.std.proofs.Common.{◌<◌, ◌-◌, length, subst, sym, ap, ◌∙◌, arith}
-use Rattle.machine.specs.declared.histories.event.Bundle.{Bundle}
+use Rattle.histories.specs.declared.event.Bundle.{Bundle}
 use Rattle.machine.specs.Boards.CutEmissions.{CutState, HasUpdates, last_updates, updates_in}
 use Rattle.machine.proofs.BoardLemmas.CutLemmas.{last_read}
 use Rattle.machine.proofs.board.cut_emission.CutEmission.updates.Goals as goal

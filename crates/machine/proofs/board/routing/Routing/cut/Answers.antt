@@ -1,7 +1,7 @@
 use Rattle.std.proofs.Common.{ap, ◌∙◌}
 use Rattle.std.specs.List.{list_all}
-use Rattle.machine.specs.Histories.States.{updates_at}
-use Rattle.machine.proofs.HistoryLemmas.CuttingLemmas.{is_filled, is_stamped_beyond, cut_whole, cut_filled, cut_stamped}
+use Rattle.histories.specs.Histories.States.{updates_at}
+use Rattle.histories.proofs.HistoryLemmas.CuttingLemmas.{is_filled, is_stamped_beyond, cut_whole, cut_filled, cut_stamped}
 use Rattle.machine.proofs.BoardLemmas.CutLemmas.{if_ok}
 use Rattle.machine.proofs.board.routing.Routing.cut.Goals as goal
 

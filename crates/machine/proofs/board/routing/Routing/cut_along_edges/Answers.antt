@@ -1,6 +1,6 @@
 use Rattle.std.proofs.Common.{◌-◌, ◌++◌, length, take, sym, ap, ◌∙◌, arith}
 use Rattle.std.specs.List.{flat_map}
-use Rattle.machine.specs.Histories.Cuts.{cut_along}
+use Rattle.histories.specs.Histories.Cuts.{cut_along}
 use Rattle.machine.proofs.BoardLemmas.CutLemmas.{if_ok, last_behind}
 use Rattle.machine.proofs.BoardLemmas.RoutingLemmas.{leading}
 use Rattle.machine.proofs.board.routing.Routing.cut_along_edges.Goals as goal

@@ -1,6 +1,6 @@
 use Rattle.std.proofs.Common.{◌≡◌, take}
 use Rattle.std.specs.List.{flat_map}
-use Rattle.machine.specs.Histories.Cuts.{cut_along}
+use Rattle.histories.specs.Histories.Cuts.{cut_along}
 use Rattle.machine.proofs.board.routing.Routing.cut_along_first.Given as goal
 
 -- the bundles along the edges so far

@@ -1,6 +1,6 @@
 use Rattle.std.proofs.Common.{◌++◌, ap, ◌∙◌, ⊎_elim}
-use Rattle.machine.specs.Histories.Cuts.{bundled}
-use Rattle.machine.proofs.HistoryLemmas.CuttingLemmas.{along_giver, along_one}
+use Rattle.histories.specs.Histories.Cuts.{bundled}
+use Rattle.histories.proofs.HistoryLemmas.CuttingLemmas.{along_giver, along_one}
 use Rattle.machine.proofs.BoardLemmas.CutLemmas.{if_ok}
 use Rattle.machine.proofs.board.routing.Routing.cut_along_last.Goals as goal
 

@@ -1,8 +1,8 @@
 use Rattle.std.proofs.Common.{◌≡◌, ◌++◌, subst, ap, ◌∙◌, arith}
 use Rattle.std.specs.Prelude.{OnOk}
-use Rattle.machine.specs.Histories.Dataflows.{Dataflow}
-use Rattle.machine.specs.Histories.Cuts.{part_by_key, bundles_along}
-use Rattle.machine.proofs.HistoryLemmas.CuttingLemmas.{along_giver, along_workers}
+use Rattle.histories.specs.Histories.Dataflows.{Dataflow}
+use Rattle.histories.specs.Histories.Cuts.{part_by_key, bundles_along}
+use Rattle.histories.proofs.HistoryLemmas.CuttingLemmas.{along_giver, along_workers}
 use Rattle.machine.proofs.BoardLemmas.RoutingLemmas.{column_within, column_there}
 use Rattle.machine.proofs.board.routing.Routing.push_along.Goals as goal
 

@@ -1,6 +1,6 @@
 use Rattle.std.proofs.Common.{below_more, arith}
 use Rattle.std.proofs.lemmas.List.{nil_from_length}
-use Rattle.machine.specs.Histories.States.{place}
+use Rattle.histories.specs.Histories.States.{place}
 use Rattle.machine.specs.Boards.Loads.{queue_of}
 use Rattle.machine.specs.Boards.Stations.{lots}
 use Rattle.machine.proofs.BoardLemmas.SurveyLemmas.{none_at_ports}

@@ -1,5 +1,5 @@
 use Rattle.std.proofs.Common.{◌≡◌, ℕ, ◌<◌, []}
-use Rattle.machine.specs.Histories.States.{place}
+use Rattle.histories.specs.Histories.States.{place}
 use Rattle.machine.specs.Boards.Loads.{queue_of}
 use Rattle.machine.specs.Boards.Stations.{lots}
 use Rattle.machine.proofs.board.stations.Stations.port_waiting.Given as goal

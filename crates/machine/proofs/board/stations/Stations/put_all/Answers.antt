@@ -1,6 +1,6 @@
 use Rattle.std.proofs.Common.{◌≡◌, ◌∷◌, ◌∙◌, List, length, sym, ap, arith}
 use Rattle.std.specs.Vec.Iter.{into_iter_items}
-use Rattle.machine.specs.declared.histories.event.Bundle.{Bundle}
+use Rattle.histories.specs.declared.event.Bundle.{Bundle}
 use Rattle.machine.specs.Boards.Loads.{put_all}
 use Rattle.machine.specs.Boards.Stations.{lots}
 use Rattle.machine.proofs.BoardLemmas.StationLemmas.{put_next, put_last}

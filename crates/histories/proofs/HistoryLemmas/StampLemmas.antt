@@ -1,0 +1,165 @@
+-- A stamp stands for the times that it was made from: the same times are beyond both. No two of its
+-- times can be compared, so none occurs twice.
+use Rattle.std.proofs.Common.{ℕ, zero, suc, ◌<◌, length, drop, slice_get, IsSomeAnd, arith, ◌≡◌, Bool, true, false, cond, not, ◌||◌, List, [], ◌∷◌, ◌++◌, sym, refl, ap, ap₂, ◌∙◌}
+use Rattle.std.specs.List.{filter, list_all}
+use Rattle.std.proofs.lemmas.Bool.{and_parts, and_from, or_parts, true≢false, false_from_ne_true}
+use Rattle.std.proofs.lemmas.List.Folds.{list_any-append, list_all-append}
+use Rattle.lattice.specs.Order.{PartialOrderLaws}
+use Rattle.lattice.specs.Frontiers.{is_beyond, all_beyond}
+use Rattle.lattice.proofs.FrontierLemmas.{beyond_later, all_beyond_from}
+use Rattle.antichain.specs.Antichains.{is_incomparable, is_antichain}
+use Rattle.antichain.proofs.InsertionLemmas.{beyond_already}
+use Rattle.antichain.proofs.Lists.{all_filter}
+use Rattle.update.specs.declared.change.Update.{Update}
+use Rattle.histories.specs.Histories.States.{times}
+use Rattle.histories.specs.Histories.Outstanding.{with_time, with_times, stamp}
+
+or_swap : (a b : Bool) → (a || b) ≡ (b || a)
+or_swap true true = refl
+or_swap true false = refl
+or_swap false true = refl
+or_swap false false = refl
+
+or_false : (a : Bool) → (a || false) ≡ a
+or_false true = refl
+or_false false = refl
+
+or_three : (a b c : Bool) → ((a || b) || c) ≡ (a || (b || c))
+or_three true b c = refl
+or_three false b c = refl
+
+module _ {T : Type 0} (below : T → T → Bool) (o : PartialOrderLaws below) where
+  -- if t is not at or before s, dropping the elements beyond t does not change whether s is beyond
+  -- the rest
+  beyond_left : (t s : T) → below t s ≡ false → (F : List T) → is_beyond below (filter (λ f. not (below t f)) F) s ≡ is_beyond below F s
+  beyond_left t s e [] = refl
+  beyond_left t s e (f ∷ F) = step (below t f) refl (below f s) refl (beyond_left t s e F)
+    where
+      step : (c : Bool) → below t f ≡ c → (d : Bool) → below f s ≡ d → is_beyond below (filter (λ f. not (below t f)) F) s ≡ is_beyond below F s
+          → is_beyond below (cond (not c) (f ∷ filter (λ f. not (below t f)) F) (filter (λ f. not (below t f)) F)) s ≡ (d || is_beyond below F s)
+      step true g true h ih = absurd (true≢false (sym (o.transitive t f s g h) ∙ e))
+      step true g false h ih = ih
+      step false g d h ih = ap₂ (λ x y. x || y) h ih
+
+  with_time_beyond : (F : List T) (t s : T) → is_beyond below (with_time below F t) s ≡ (is_beyond below F s || below t s)
+  with_time_beyond F t s = step (is_beyond below F t) refl (below t s) refl
+    where
+      all_true : (b : Bool) → (b || true) ≡ true
+      all_true true = refl
+      all_true false = refl
+
+      step : (c : Bool) → is_beyond below F t ≡ c → (d : Bool) → below t s ≡ d → is_beyond below (cond c F (filter (λ f. not (below t f)) F ++ t ∷ [])) s ≡ (is_beyond below F s || d)
+      step true g d h = beyond_already o t s F g ∙ (or_swap (below t s) (is_beyond below F s) ∙ ap (λ b. is_beyond below F s || b) h)
+      step false g true h = list_any-append (λ f. below f s) (filter (λ f. not (below t f)) F) (t ∷ []) ∙ (ap (λ b. is_beyond below (filter (λ f. not (below t f)) F) s || (b || false)) h ∙ (all_true (is_beyond below (filter (λ f. not (below t f)) F) s) ∙ sym (all_true (is_beyond below F s))))
+      step false g false h = list_any-append (λ f. below f s) (filter (λ f. not (below t f)) F) (t ∷ []) ∙ ap₂ (λ x y. x || y) (beyond_left t s h F) (or_false (below t s) ∙ h)
+
+  -- what is beyond a frontier with times added is what was beyond it, and what is beyond one of
+  -- those times
+  pub with_times_beyond : (F ts : List T) (s : T) → is_beyond below (with_times below F ts) s ≡ (is_beyond below F s || is_beyond below ts s)
+  with_times_beyond F [] s = sym (or_false (is_beyond below F s))
+  with_times_beyond F (t ∷ ts) s =
+      with_times_beyond (with_time below F t) ts s
+      ∙ (ap (λ b. b || is_beyond below ts s) (with_time_beyond F t s)
+      ∙ or_three (is_beyond below F s) (below t s) (is_beyond below ts s))
+
+  -- the same times are beyond a stamp and beyond the times that it was made from
+  pub stamp_beyond : (us : List (Update T)) (s : T) → is_beyond below (stamp below us) s ≡ is_beyond below (times us) s
+  unfolding stamp
+  stamp_beyond us s = with_times_beyond [] (times us) s
+
+  -- each of the times is beyond the stamp
+  pub stamp_before : (us : List (Update T)) → all_beyond below (stamp below us) (times us) ≡ true
+  stamp_before us = all_beyond_from o (stamp below us) (times us) (λ t h. stamp_beyond us t ∙ h)
+
+  -- if a frontier has passed a time, so have the times that are beyond the frontier
+  pub beyond_passed : (F G : List T) (t : T) → all_beyond below F G ≡ true → is_beyond below F t ≡ false → is_beyond below G t ≡ false
+  beyond_passed F G t a h = false_from_ne_true (is_beyond below G t) (λ b. true≢false (sym (beyond_later o F G t a b) ∙ h))
+
+  -- A test that all times pass is one that all times of their stamp pass
+
+  all_with_time : (p : T → Bool) (F : List T) (t : T) → list_all p F ≡ true → p t ≡ true → list_all p (with_time below F t) ≡ true
+  all_with_time p F t a h = step (is_beyond below F t)
+    where
+      step : (c : Bool) → list_all p (cond c F (filter (λ f. not (below t f)) F ++ t ∷ [])) ≡ true
+      step true = a
+      step false = list_all-append p (filter (λ f. not (below t f)) F) (t ∷ []) ∙ and_from (list_all p (filter (λ f. not (below t f)) F)) (list_all p (t ∷ [])) (all_filter p (λ f. not (below t f)) F a) (and_from (p t) true h refl)
+
+  all_with_times : (p : T → Bool) (F ts : List T) → list_all p F ≡ true → list_all p ts ≡ true → list_all p (with_times below F ts) ≡ true
+  all_with_times p F [] a h = a
+  all_with_times p F (t ∷ ts) a h = let g = and_parts (p t) (list_all p ts) h in all_with_times p (with_time below F t) ts (all_with_time p F t a g.0) g.1
+
+  -- a test that all times of a list pass is one that all times of its stamp pass
+  pub all_stamp : (p : T → Bool) (us : List (Update T)) → list_all p (times us) ≡ true → list_all p (stamp below us) ≡ true
+  unfolding stamp
+  all_stamp p us h = all_with_times p [] (times us) refl h
+
+  -- No two times of a stamp can be compared
+
+  apart_filter : (p : T → Bool) (t : T) (F : List T) → list_all (is_incomparable below t) F ≡ true → list_all (is_incomparable below t) (filter p F) ≡ true
+  apart_filter p t [] h = refl
+  apart_filter p t (f ∷ F) h = let a = and_parts (is_incomparable below t f) (list_all (is_incomparable below t) F) h in step (p f) a.0 (apart_filter p t F a.1)
+    where
+      step : (c : Bool) → is_incomparable below t f ≡ true → list_all (is_incomparable below t) (filter p F) ≡ true → list_all (is_incomparable below t) (cond c (f ∷ filter p F) (filter p F)) ≡ true
+      step true g ih = and_from (is_incomparable below t f) (list_all (is_incomparable below t) (filter p F)) g ih
+      step false g ih = ih
+
+  antichain_filter : (p : T → Bool) (F : List T) → is_antichain below F ≡ true → is_antichain below (filter p F) ≡ true
+  antichain_filter p [] h = refl
+  antichain_filter p (f ∷ F) h = let a = and_parts (list_all (is_incomparable below f) F) (is_antichain below F) h in step (p f) a.0 (antichain_filter p F a.1)
+    where
+      step : (c : Bool) → list_all (is_incomparable below f) F ≡ true → is_antichain below (filter p F) ≡ true → is_antichain below (cond c (f ∷ filter p F) (filter p F)) ≡ true
+      step true g ih = and_from (list_all (is_incomparable below f) (filter p F)) (is_antichain below (filter p F)) (apart_filter p f F g) ih
+      step false g ih = ih
+
+  apart_last : (f t : T) (F : List T) → list_all (is_incomparable below f) F ≡ true → is_incomparable below f t ≡ true → list_all (is_incomparable below f) (F ++ t ∷ []) ≡ true
+  apart_last f t [] h e = and_from (is_incomparable below f t) true e refl
+  apart_last f t (x ∷ F) h e = let a = and_parts (is_incomparable below f x) (list_all (is_incomparable below f) F) h in and_from (is_incomparable below f x) (list_all (is_incomparable below f) (F ++ t ∷ [])) a.0 (apart_last f t F a.1 e)
+
+  antichain_last : (t : T) (F : List T) → is_antichain below F ≡ true → list_all (λ f. is_incomparable below f t) F ≡ true → is_antichain below (F ++ t ∷ []) ≡ true
+  antichain_last t [] h e = refl
+  antichain_last t (f ∷ F) h e =
+      let a = and_parts (list_all (is_incomparable below f) F) (is_antichain below F) h in
+      let b = and_parts (is_incomparable below f t) (list_all (λ f. is_incomparable below f t) F) e in
+      and_from (list_all (is_incomparable below f) (F ++ t ∷ [])) (is_antichain below (F ++ t ∷ [])) (apart_last f t F a.0 b.0) (antichain_last t F a.1 b.1)
+
+  -- the elements that stay cannot be compared with the time that comes in
+  left_apart : (t : T) (F : List T) → is_beyond below F t ≡ false → list_all (λ f. is_incomparable below f t) (filter (λ f. not (below t f)) F) ≡ true
+  left_apart t [] h = refl
+  left_apart t (f ∷ F) h = let a = or_parts (below f t) (is_beyond below F t) h in step (below t f) refl a.0 (left_apart t F a.1)
+    where
+      step : (c : Bool) → below t f ≡ c → below f t ≡ false → list_all (λ f. is_incomparable below f t) (filter (λ f. not (below t f)) F) ≡ true
+          → list_all (λ f. is_incomparable below f t) (cond (not c) (f ∷ filter (λ f. not (below t f)) F) (filter (λ f. not (below t f)) F)) ≡ true
+      step true g e ih = ih
+      step false g e ih = and_from (is_incomparable below f t) (list_all (λ f. is_incomparable below f t) (filter (λ f. not (below t f)) F)) (and_from (not (below f t)) (not (below t f)) (ap not e) (ap not g)) ih
+
+  with_time_apart : (F : List T) (t : T) → is_antichain below F ≡ true → is_antichain below (with_time below F t) ≡ true
+  with_time_apart F t h = step (is_beyond below F t) refl
+    where
+      step : (c : Bool) → is_beyond below F t ≡ c → is_antichain below (cond c F (filter (λ f. not (below t f)) F ++ t ∷ [])) ≡ true
+      step true e = h
+      step false e = antichain_last t (filter (λ f. not (below t f)) F) (antichain_filter (λ f. not (below t f)) F h) (left_apart t F e)
+
+  with_times_apart : (F ts : List T) → is_antichain below F ≡ true → is_antichain below (with_times below F ts) ≡ true
+  with_times_apart F [] h = h
+  with_times_apart F (t ∷ ts) h = with_times_apart (with_time below F t) ts (with_time_apart F t h)
+
+  -- a stamp is an antichain
+  pub stamp_apart : (us : List (Update T)) → is_antichain below (stamp below us) ≡ true
+  unfolding stamp
+  stamp_apart us = with_times_apart [] (times us) refl
+
+-- the frontier after a time came in, from the loop's test and the elements that it kept
+pub time_in : {T : Type 0} (below : T → T → Bool) (old left new : List T) (t : T) (test : Bool) → test ≡ is_beyond below old t → test ≡ false → left ≡ filter (λ f. not (below t f)) old → new ≡ left ++ t ∷ [] → new ≡ with_time below old t
+time_in below old left new t test e f l n = n ∙ (ap (λ ts. ts ++ t ∷ []) l ∙ ap (λ c. cond c old (filter (λ f. not (below t f)) old ++ t ∷ [])) (sym f ∙ e))
+
+-- a time that is beyond a frontier already leaves it as it was
+pub time_known : {T : Type 0} (below : T → T → Bool) (old : List T) (t : T) (test : Bool) → test ≡ is_beyond below old t → test ≡ true → old ≡ with_time below old t
+time_known below old t test e f = ap (λ c. cond c old (filter (λ f. not (below t f)) old ++ t ∷ [])) (sym f ∙ e)
+
+module _ {T : Type 0} where
+  -- the time of the next update goes into a frontier before those of the rest
+  pub stamp_next : (below : T → T → Bool) (us : List (Update T)) (i : ℕ) (time : T) (front next all : List T) → i < length us → IsSomeAnd (slice_get us i) (λ u. time ≡ u.time) → next ≡ with_time below front time → with_times below front (times (drop i us)) ≡ all → with_times below next (times (drop (suc i) us)) ≡ all
+  stamp_next below [] i time front next all l s n e = absurd (omega (arith, l))
+  stamp_next below (u ∷ us) zero time front next all l s n e =
+      ap (λ f. with_times below f (times us)) (n ∙ ap (with_time below front) s) ∙ e
+  stamp_next below (u ∷ us) (suc i) time front next all l s n e = stamp_next below us i time front next all (omega (arith, l)) s n e

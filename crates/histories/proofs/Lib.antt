@@ -1,0 +1,2 @@
+-- The proofs of what holds of every legal history.
+pub mod HistoryLemmas

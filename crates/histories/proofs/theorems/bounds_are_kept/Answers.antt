@@ -1,0 +1,12 @@
+use Rattle.histories.proofs.HistoryLemmas.BoundLemmas.{bound_lem, owed_lem, takes_lem, loads_lem}
+use Rattle.histories.proofs.theorems.bounds_are_kept.Goals as goal
+
+pub returns : goal.returns
+returns g c =
+    let order = g.met.T.PartialOrder.order in
+    record {
+      emitted = λ p q h l n. bound_lem _ _ order p q _ h l n;
+      owed = λ p q h l n. owed_lem _ _ order p q _ h l n;
+      received = λ p q h l n. takes_lem _ _ order p q _ h l n;
+      loads = λ p q h l n. loads_lem _ _ order p q _ h l n;
+    }

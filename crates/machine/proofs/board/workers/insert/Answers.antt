@@ -1,9 +1,0 @@
-use Rattle.std.proofs.Common.{ap, ◌∙◌}
-use Rattle.lattice.specs.Frontiers.{is_beyond}
-use Rattle.machine.proofs.HistoryLemmas.StampLemmas.{time_in}
-use Rattle.machine.proofs.board.workers.insert.Goals as goal
-
-pub returns-clause-with : goal.returns-clause-with
-returns-clause-with g c =
-    let below = g.T.PartialOrder.below in
-    time_in below c.args.front.now.items c.leave.new.front.items c.push.new.self.items c.args.t c.is_beyond.result (c.is_beyond.ensures ∙ ap (λ ts. is_beyond below ts c.args.t) c.deref.ensures.value) c.if-is_beyond.false c.leave.ensures.left c.in_ok-push.ensures.items

@@ -1,5 +1,0 @@
-use Rattle.machine.proofs.HistoryLemmas.HeadlineLemmas.{headline_lem}
-use Rattle.machine.proofs.histories.theorems.headline.Goals as goal
-
-pub returns : goal.returns
-returns g c p q h l n = headline_lem _ _ g.met.T.PartialOrder.order p q h l n

@@ -1,8 +1,0 @@
-use Rattle.machine.proofs.HistoryLemmas.HeadlineLemmas.{differences_lem, agree_lem}
-use Rattle.machine.proofs.histories.theorems.one_list.Goals as goal
-
-pub returns : goal.returns
-returns g c = record {
-  differences = λ p q h l n. differences_lem _ _ g.met.T.PartialOrder.order p q h l n _;
-  agree = agree_lem _ _ g.met.T.PartialOrder.order;
-}

@@ -1,5 +1,0 @@
-use Rattle.machine.proofs.HistoryLemmas.HeadlineLemmas.{part_lem}
-use Rattle.machine.proofs.histories.theorems.parts_of_workers.Goals as goal
-
-pub returns : goal.returns
-returns g c p q h l n = part_lem _ _ g.met.T.PartialOrder.order p q h l n

@@ -1,5 +1,0 @@
-use Rattle.machine.proofs.HistoryLemmas.StampLemmas.{stamp_apart, stamp_beyond}
-use Rattle.machine.proofs.histories.theorems.stamps_are_frontiers.Goals as goal
-
-pub returns : goal.returns
-returns g c = let order = g.met.T.PartialOrder.order in record { apart = λ us. stamp_apart _ order us; beyond = λ us t. stamp_beyond _ order us t }

@@ -1,5 +1,0 @@
-use Rattle.machine.proofs.HistoryLemmas.PlaceLemmas.{in_place_lem}
-use Rattle.machine.proofs.histories.theorems.what_waits_has_its_place.Goals as goal
-
-pub returns : goal.returns
-returns g c p q h l = in_place_lem p q _ _ h l

@@ -1,5 +1,0 @@
-use Rattle.machine.proofs.HistoryLemmas.ExchangeLemmas.{in_order, not_overtaken, any_at_arrange}
-use Rattle.machine.proofs.histories.witnesses.bundles_wait_in_order.Goals as goal
-
-pub returns : goal.returns
-returns c = record { in_order = in_order; overtaken = not_overtaken; at_arrange = any_at_arrange }

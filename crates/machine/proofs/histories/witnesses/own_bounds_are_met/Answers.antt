@@ -1,5 +1,0 @@
-use Rattle.machine.proofs.HistoryLemmas.WitnessLemmas.{distinct_bound, distinct_view_bound}
-use Rattle.machine.proofs.histories.witnesses.own_bounds_are_met.Goals as goal
-
-pub returns : goal.returns
-returns c = record { distinct = distinct_bound; view = distinct_view_bound }
