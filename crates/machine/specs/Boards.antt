@@ -2,9 +2,6 @@
 -- for. `Stands` is the invariant of this room: the board has at each place what the history leaves
 -- there. Several histories may leave the same, so a contract speaks of every history that the board
 -- may stand for.
-pub mod Loads
-pub mod Stations
-pub mod Inputs
 pub mod Reads
 pub mod Routings
 pub mod CutEmissions
@@ -28,12 +25,12 @@ use Rattle.views.specs.Views.{ViewState}
 use Rattle.histories.specs.Histories.Dataflows.{Dataflow, node_of}
 use Rattle.histories.specs.Histories.States.{State, queue, held_at, emitted_at, fed_to, open_at}
 use Rattle.histories.specs.Histories.Shares.{home}
-use Rattle.machine.specs.Boards.Inputs.{front_at, first_inputs, feed_faults, advance_faults}
+use Rattle.outstanding.specs.Inputs.{front_at, first_inputs, feed_faults, advance_faults}
 use Rattle.histories.specs.Histories.Outstanding.{frontier, input_frontier}
 use Rattle.histories.specs.Histories.{alone, state_after, dataflow_after, IsLegal, IsGive}
 use Rattle.histories.specs.Histories.Promises.{changes_in}
 use Rattle.histories.specs.Histories.Readings.{IsQuiet, is_from_start}
-use Rattle.machine.specs.Boards.Loads.{Lot, load_in, lot_of, first_stations, put_at, put_all, taken_from, held_from, queue_of}
+use Rattle.outstanding.specs.Loads.{Lot, load_in, lot_of, first_stations, put_at, put_all, taken_from, held_from, queue_of}
 
 -- the state of a board
 pub record BoardState (T : Type 0) : Type 0 where

@@ -18,20 +18,15 @@ pub(crate) mod cut;
 pub(crate) mod cut_emission;
 pub(crate) mod emission;
 pub(crate) mod frontiers;
-pub(crate) mod inputs;
 pub(crate) mod pieces;
 pub(crate) mod promises;
-pub(crate) mod queue;
 pub(crate) mod reads;
 pub(crate) mod routing;
-pub(crate) mod stations;
-pub(crate) mod survey;
 pub(crate) mod workers;
 
-use crate::board::inputs::InputFrontiers;
-use crate::board::stations::Stations;
 use histories::Event;
 use lattice::Minimum;
+use outstanding::{InputFrontiers, Stations};
 use plan::{NodeId, Plan};
 use progress::Graph;
 use std::alloc::Global;
@@ -56,7 +51,7 @@ pub struct Board<T: Minimum> {
 
 impl<T: Minimum> Model for Board<T> {
     ghost use Rattle.machine.specs.Boards.{BoardState, IsBoard};
-    ghost use Rattle.machine.specs.Boards.Stations.{lots};
+    ghost use Rattle.outstanding.specs.Stations.{lots};
 
     ghost Value = { BoardState T };
 

@@ -38,7 +38,6 @@ mod board;
 pub use board::Board;
 pub use board::cut_emission::CutEmission;
 pub use board::emission::Ungiven;
-pub use board::inputs::{InputFrontiers, MAX_CHANGES, MAX_DIFFERENCE};
 pub use board::pieces::Piece;
 pub use board::promises::{later_sinces_keep_sums, meets};
 pub use board::routing::Routing;
@@ -50,4 +49,5 @@ pub use histories::{
     quiet_is_caught_up, stamps_are_frontiers, two_workers_can_exchange, what_waits_has_its_place,
     workers_are_apart,
 };
+pub use outstanding::{InputFrontiers, MAX_CHANGES, MAX_DIFFERENCE};
 pub use views::View;

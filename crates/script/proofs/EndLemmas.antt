@@ -17,7 +17,7 @@ use Rattle.grammar.specs.declared.command.ViewCommand.TheVariants.{Read, Changes
 use Rattle.grammar.specs.declared.command.CommandLine.{CommandLine}
 use Rattle.grammar.specs.ScriptModels.{ScriptModel}
 use Rattle.histories.specs.Histories.Readings.{is_from_start}
-use Rattle.machine.specs.Boards.Inputs.{front_at, feed_faults, advance_faults}
+use Rattle.outstanding.specs.Inputs.{front_at, feed_faults, advance_faults}
 use Rattle.histories.specs.Histories.States.{fed_to}
 use Rattle.script.specs.Ends.{IsTextBefore}
 use Rattle.script.specs.Engines.{EndsRun, IsEnd, IsRunEnd}

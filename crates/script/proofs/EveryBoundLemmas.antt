@@ -22,7 +22,7 @@ use Rattle.plan.proofs.PlanLemmas.{node_past}
 use Rattle.histories.specs.declared.event.Fed.{Fed}
 use Rattle.histories.specs.Histories.States.{fed_to}
 use Rattle.histories.proofs.HistoryLemmas.CuttingLemmas.{one_below}
-use Rattle.machine.proofs.BoardLemmas.LotLemmas.{flat_flat}
+use Rattle.outstanding.proofs.LotLemmas.{flat_flat}
 use Rattle.script.specs.Changes.{changes_along}
 use Rattle.script.proofs.ChangesLemmas.{changes_are}
 use Rattle.script.proofs.InputLemmas.{query_at_inputs}

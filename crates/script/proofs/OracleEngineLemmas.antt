@@ -37,7 +37,7 @@ use Rattle.plan.specs.declared.node.Node.{Node}
 use Rattle.plan.proofs.PlanLemmas.{no_first, no_fault}
 use Rattle.plan.proofs.CountLemmas.{count_of-append}
 use Rattle.histories.specs.declared.event.Fed.{Fed}
-use Rattle.machine.specs.Boards.Inputs.{front_at, feed_faults, advance_faults}
+use Rattle.outstanding.specs.Inputs.{front_at, feed_faults, advance_faults}
 use Rattle.histories.specs.Histories.States.{fed_to}
 use Rattle.grammar.specs.Commands.{is_input_of}
 use Rattle.oracle.specs.Evaluation.{HasLargeAbove, inputs_before, list_of, sums_at}

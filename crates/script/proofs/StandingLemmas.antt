@@ -29,8 +29,8 @@ use Rattle.histories.specs.Histories.Outstanding.{frontier}
 use Rattle.histories.specs.Histories.Readings.{IsQuiet}
 use Rattle.histories.specs.Histories.{IsInput, IsLegal, initial_state, next_state}
 use Rattle.histories.specs.Histories.States.{State, fed_to, open_at}
-use Rattle.machine.specs.Boards.Inputs.{feed_faults, advance_faults}
-use Rattle.machine.proofs.BoardLemmas.OpenLemmas.{first_front, open_set}
+use Rattle.outstanding.specs.Inputs.{feed_faults, advance_faults}
+use Rattle.outstanding.proofs.OpenLemmas.{first_front, open_set}
 use Rattle.histories.proofs.HistoryLemmas.PlaceLemmas.{in_place_lem}
 use Rattle.histories.proofs.HistoryLemmas.QuietLemmas.{caught_up_lem}
 use Rattle.grammar.specs.Commands.{is_input_of}

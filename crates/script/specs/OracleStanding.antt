@@ -8,7 +8,7 @@ use Rattle.plan.specs.Edges.{numbers_where}
 use Rattle.plan.specs.Rules.{first_refusal}
 use Rattle.plan.specs.declared.node.Node.{Node}
 use Rattle.histories.specs.declared.event.Fed.{Fed}
-use Rattle.machine.specs.Boards.Inputs.{front_at, feed_faults, advance_faults}
+use Rattle.outstanding.specs.Inputs.{front_at, feed_faults, advance_faults}
 use Rattle.histories.specs.Histories.States.{fed_to}
 use Rattle.grammar.specs.Commands.{is_input_of}
 use Rattle.oracle.specs.Evaluation.{AreWide, inputs_before, list_of}

@@ -14,7 +14,7 @@ use Rattle.plan.specs.declared.node.Node.{Node}
 use Rattle.histories.specs.declared.event.Fed.{Fed}
 use Rattle.histories.specs.Histories.States.{fed_to}
 use Rattle.histories.specs.Histories.Readings.{is_from_start}
-use Rattle.machine.specs.Boards.Inputs.{front_at, first_inputs, feed_faults, advance_faults}
+use Rattle.outstanding.specs.Inputs.{front_at, first_inputs, feed_faults, advance_faults}
 use Rattle.script.specs.Bags.{consolidated_bag}
 use Rattle.script.specs.Changes.{changes_along}
 use Rattle.script.specs.Orders.{in_order}

@@ -1,7 +1,7 @@
 -- When the board engine stands for a session.
 use Rattle.std.specs.Prelude.{◌≡◌, ℕ, Bool, length}
 use Rattle.hub.specs.Known.{Known}
-use Rattle.machine.specs.Boards.Inputs.{front_at}
+use Rattle.outstanding.specs.Inputs.{front_at}
 use Rattle.histories.specs.Histories.Dataflows.{Dataflow}
 use Rattle.histories.specs.Histories.States.{State, open_at}
 use Rattle.shared_board.specs.declared.event.Doing.{Doing}

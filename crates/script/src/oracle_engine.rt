@@ -14,7 +14,7 @@ ghost use Rattle.lattice.specs.Pairs.{make_pair};
 ghost use Rattle.update.specs.declared.refusal.Refusal.TheVariants.{OutOfMemory};
 ghost use Rattle.plan.specs.Changes.{open_for};
 ghost use Rattle.update.specs.Refusals.{IsRefusalBy};
-ghost use Rattle.machine.specs.Boards.Inputs.{front_at};
+ghost use Rattle.outstanding.specs.Inputs.{front_at};
 ghost use Rattle.grammar.specs.Commands.{is_input_of};
 ghost use Rattle.script.specs.Ends.{IsTextBeforeOverflow};
 ghost use Rattle.script.specs.Engines.{IsRunEnd, failures};

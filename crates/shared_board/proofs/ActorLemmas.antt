@@ -15,7 +15,7 @@ use Rattle.std.proofs.lemmas.List.{append-nil}
 use Rattle.histories.specs.Histories.Dataflows.{Dataflow, IsDataflow}
 use Rattle.histories.specs.declared.event.Site.{Site}
 use Rattle.histories.specs.Histories.States.{State, place, queue}
-use Rattle.machine.specs.Boards.Loads.{queue_of}
+use Rattle.outstanding.specs.Loads.{queue_of}
 use Rattle.histories.specs.Histories.Actors.{IsSameOfWorker, IsSameOfClients}
 use Rattle.histories.proofs.HistoryLemmas.ActorLemmas.{worker_apart}
 use Rattle.histories.specs.Histories.{IsAllowed, IsGive, IsLegal, actor_of, next_state}

@@ -17,7 +17,7 @@ use Rattle.histories.specs.Histories.Dataflows.{Dataflow, IsDataflow}
 use Rattle.histories.specs.Histories.States.{fed_to}
 use Rattle.histories.specs.Histories.{actor_of, next_state}
 use Rattle.histories.specs.Histories.Promises.{changes_in}
-use Rattle.machine.specs.Boards.Inputs.{feed_faults, advance_faults}
+use Rattle.outstanding.specs.Inputs.{feed_faults, advance_faults}
 use Rattle.machine.specs.Boards as boards
 use Rattle.machine.specs.Boards.{BoardState, Stands, after_look, after_feed, after_advance, after_allow, after_take, after_turn, after_give}
 use Rattle.shared_board.specs.declared.event.Doing.{Doing}

@@ -19,7 +19,7 @@ use Rattle.hub.specs.Known.{Known}
 use Rattle.histories.specs.declared.event.Event.{Event}
 use Rattle.histories.specs.declared.event.Event.TheVariants.{Feed, Advance, Allow, Look, Take, TakeHeld, Give}
 use Rattle.histories.specs.declared.event.Fed.{Fed}
-use Rattle.machine.specs.Boards.Inputs.{feed_faults, advance_faults}
+use Rattle.outstanding.specs.Inputs.{feed_faults, advance_faults}
 use Rattle.histories.specs.Histories.Dataflows.{Dataflow, IsDataflow}
 use Rattle.histories.specs.Histories.States.{State, place, queue, fed_to, open_at}
 use Rattle.histories.specs.Histories.{actor_of, state_after, IsLegal}
@@ -27,7 +27,7 @@ use Rattle.histories.specs.Histories.Promises.{changes_in}
 use Rattle.histories.specs.Histories.Outstanding.{frontier}
 use Rattle.histories.specs.Histories.Readings.{is_from_start}
 use Rattle.machine.specs.Boards.{BoardState, Stands}
-use Rattle.machine.specs.Boards.Loads.{Lot, queue_of}
+use Rattle.outstanding.specs.Loads.{Lot, queue_of}
 use Rattle.shared_board.specs.declared.event.Doing.{Doing}
 use Rattle.shared_board.specs.Large.{HasNoSmallBound}
 

@@ -18,7 +18,7 @@ use Rattle.histories.specs.Histories.States.{State}
 use Rattle.histories.specs.Histories.NodeLaws.{received_at}
 use Rattle.histories.specs.Histories.Promises.{changes_in}
 use Rattle.histories.specs.Histories.{state_after, IsTake, IsLegal}
-use Rattle.machine.proofs.BoardLemmas.PlacingLemmas.{itself}
+use Rattle.outstanding.proofs.PlacingLemmas.{itself}
 use Rattle.histories.proofs.HistoryLemmas.FlowLemmas.{queued}
 use Rattle.operator_laws.specs.Gathering.{IsStamped}
 use Rattle.worker.specs.Passes.{is_due, IsAtNode}

@@ -21,7 +21,7 @@ use Rattle.histories.specs.declared.event.Emission.{Emission}
 use Rattle.histories.specs.Histories.Dataflows.{Dataflow, IsDataflow, node_of, source_of, route}
 use Rattle.histories.specs.Histories.States.{same_place, updates_at}
 use Rattle.histories.specs.Histories.Shares.{part, share, share_from}
-use Rattle.machine.proofs.BoardLemmas.PlacingLemmas.{itself}
+use Rattle.outstanding.proofs.PlacingLemmas.{itself}
 use Rattle.histories.proofs.HistoryLemmas.PlaceLemmas.{there_some, shared}
 use Rattle.worker.specs.Passes.{width_at, is_due}
 use Rattle.worker.proofs.PassLemmas.{IsDue, due_from, lt_to}

@@ -14,7 +14,7 @@ use Rattle.histories.specs.declared.event.Emission.{Emission}
 use Rattle.histories.specs.Histories.Dataflows.{Dataflow, node_of, source_of}
 use Rattle.histories.specs.Histories.States.{State, place, same_place, queue, updates_at}
 use Rattle.histories.specs.Histories.Shares.{are_filled, part, share, share_from}
-use Rattle.machine.proofs.BoardLemmas.PlacingLemmas.{itself}
+use Rattle.outstanding.proofs.PlacingLemmas.{itself}
 use Rattle.operator_laws.specs.Gathering.{IsCut}
 use Rattle.worker.specs.Passes.{is_due}
 use Rattle.worker.specs.Relays.{HasNone}

@@ -9,10 +9,10 @@ use Rattle.update.specs.Refusals.{IsRefusalBy}
 use Rattle.histories.specs.declared.event.Bundle.{Bundle}
 use Rattle.histories.specs.declared.event.Fed.{Fed}
 use Rattle.histories.specs.declared.event.Site.{Site}
-use Rattle.machine.specs.Boards.Loads.{Load, Lot, with_load_at, without_load_at, with_lot, put_at, put_all, taken_from, held_from}
+use Rattle.outstanding.specs.Loads.{Load, Lot, with_load_at, without_load_at, with_lot, put_at, put_all, taken_from, held_from}
 use Rattle.views.specs.Views.{ViewState}
 use Rattle.machine.specs.Boards.{BoardState, IsBoard, put_change, accept_change}
-use Rattle.machine.proofs.BoardLemmas.PlacingLemmas.{as_many, as_wide, many_put_all, wide_put_all}
+use Rattle.outstanding.proofs.PlacingLemmas.{as_many, as_wide, many_put_all, wide_put_all}
 
 -- the refusal that the code finds is the one that the definition names
 pub refuses : (o found : Option Refusal) (refusal : Refusal) → found ≡ o → found ≡ Some refusal → IsRefusalBy o refusal

@@ -37,15 +37,15 @@ use Rattle.histories.specs.Histories.Readings.{is_from_start}
 use Rattle.histories.proofs.HistoryLemmas.FlowLemmas.{sum_at-append}
 use Rattle.histories.specs.Histories.Shares.{home}
 use Rattle.histories.specs.Histories.Promises.{IsPlace}
-use Rattle.machine.specs.Boards.Loads.{Lot, no_lot, lot_of, first_stations, load_in, bundle_at, loads_at, put_all, queue_of}
+use Rattle.outstanding.specs.Loads.{Lot, no_lot, lot_of, first_stations, load_in, bundle_at, loads_at, put_all, queue_of}
 use Rattle.antichain.proofs.Lists.{Among, contains_among}
 use Rattle.histories.proofs.HistoryLemmas.PlaceLemmas.{in_place_lem}
 use Rattle.plan.proofs.SortLemmas.{few_sources}
 use Rattle.histories.proofs.HistoryLemmas.ClaimLemmas.{routed}
-use Rattle.machine.proofs.BoardLemmas.PlacingLemmas.{IsThere, AreThere, queue_put, held_put, queue_put_all, held_put_all, many_put_all, wide_put_all, queue_taken, held_taken, queue_held, held_instead}
+use Rattle.outstanding.proofs.PlacingLemmas.{IsThere, AreThere, queue_put, held_put, queue_put_all, held_put_all, many_put_all, wide_put_all, queue_taken, held_taken, queue_held, held_instead}
 use Rattle.std.proofs.lemmas.List.Concat.{flat_map-append}
-use Rattle.machine.proofs.BoardLemmas.OpenLemmas.{first_front, open_set}
-use Rattle.machine.specs.Boards.Inputs.{front_at}
+use Rattle.outstanding.proofs.OpenLemmas.{first_front, open_set}
+use Rattle.outstanding.specs.Inputs.{front_at}
 
 -- a time is beyond an input's frontier if an element of the log of open times says so
 pub open_any : {T : Type 0} (below : T → T → Bool) (i : ℕ) (t : T) (os : List (OpenTime T)) → is_beyond below (open_at i os) t ≡ list_any (λ o. eqb o.input i && below o.time t) os

@@ -2,12 +2,12 @@
 use Rattle.std.proofs.Common.{◌≡◌, ℕ, zero, suc, ◌<◌, List, [], ◌∷◌, length, get_or, replicate, ap, ◌∙◌, Option, None, cond, arith}
 use Rattle.std.proofs.lemmas.List.{length-replicate, length-map}
 use Rattle.plan.specs.Nodes.{is_input}
-use Rattle.machine.specs.Boards.Loads.{Lot, no_lot, first_stations}
+use Rattle.outstanding.specs.Loads.{Lot, no_lot, first_stations}
 use Rattle.histories.specs.declared.event.Event.{Event}
 use Rattle.histories.specs.declared.event.Event.TheVariants.{Look}
 use Rattle.views.specs.Views.{ViewState}
 use Rattle.histories.specs.Histories.Dataflows.{Dataflow, IsDataflow}
-use Rattle.machine.specs.Boards.Inputs.{first_inputs}
+use Rattle.outstanding.specs.Inputs.{first_inputs}
 use Rattle.machine.specs.Boards.{IsBoard, first_board}
 
 module _ {T : Type 0} (least : T) (p : Dataflow) (last : Event T) (look : last ≡ Look 0) (stations : List (List (Lot T))) (inputs : List (List T)) (hand : List (Option ℕ)) (accepted : List ℕ) (views : List (ViewState T))

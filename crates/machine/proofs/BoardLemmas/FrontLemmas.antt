@@ -28,13 +28,13 @@ use Rattle.histories.specs.Histories.Promises.{IsInPlace}
 use Rattle.histories.specs.Histories.Readings.{IsQuiet}
 use Rattle.machine.specs.Boards.{BoardState, IsBoard, Stands}
 use Rattle.machine.specs.Boards.Reads.{on_board, open_on, front, input_front, is_ready, hands_are_free, is_quiet_board}
-use Rattle.machine.specs.Boards.Loads.{Lot, is_none, lot_of, all_bundles, all_held, stamps_at, times_at}
-use Rattle.machine.proofs.BoardLemmas.LotLemmas.{any_flat, all_held_all, all_queued, all_held_at, stamps_spread, held_spread}
+use Rattle.outstanding.specs.Loads.{Lot, is_none, lot_of, all_bundles, all_held, stamps_at, times_at}
+use Rattle.outstanding.proofs.LotLemmas.{any_flat, all_held_all, all_queued, all_held_at, stamps_spread, held_spread}
 use Rattle.histories.proofs.HistoryLemmas.OutstandingLemmas.{held_where, open_where, counted_times, outstanding_is, input_outstanding_is, beyond_frontier, beyond_input_frontier}
-use Rattle.machine.proofs.BoardLemmas.OpenLemmas.{open_on_at, where_spread}
-use Rattle.machine.specs.Boards.Inputs.{front_at}
+use Rattle.outstanding.proofs.OpenLemmas.{open_on_at, where_spread}
+use Rattle.outstanding.specs.Inputs.{front_at}
 use Rattle.plan.specs.Ancestors.{numbers_below}
-use Rattle.machine.proofs.BoardLemmas.SiteLemmas.{AreQueued, AreHeld, AreOpen, any_among, queued_any, none_queued, held_any_like, held_all_like, open_any_like}
+use Rattle.outstanding.proofs.SiteLemmas.{AreQueued, AreHeld, AreOpen, any_among, queued_any, none_queued, held_any_like, held_all_like, open_any_like}
 
 or_nothing : (b : Bool) → (b || false) ≡ b
 or_nothing true = refl

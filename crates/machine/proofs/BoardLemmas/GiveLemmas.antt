@@ -7,7 +7,7 @@ use Rattle.histories.specs.declared.event.Emission.{Emission}
 use Rattle.views.specs.Views.{ViewState}
 use Rattle.histories.specs.Histories.Dataflows.{node_of}
 use Rattle.machine.specs.Boards.{BoardState, capture_output, capture, give_output, no_view}
-use Rattle.machine.specs.Boards.Loads.{Lot, put_all, held_from}
+use Rattle.outstanding.specs.Loads.{Lot, put_all, held_from}
 
 module _ {T : Type 0} (b : BoardState T) {v : BoardState T} (e : v ≡ b) (n k : ℕ) where
   -- what the code wrote, part by part, is the board after the give

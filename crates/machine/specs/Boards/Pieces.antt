@@ -16,7 +16,7 @@ use Rattle.histories.specs.Histories.Dataflows.{Dataflow, node_of}
 use Rattle.histories.specs.Histories.Outstanding.{input_frontier}
 use Rattle.histories.specs.Histories.States.{State, place, queue, held_at}
 use Rattle.machine.specs.Boards.{BoardState, plan_on, state_on}
-use Rattle.machine.specs.Boards.Loads.{queue_of}
+use Rattle.outstanding.specs.Loads.{queue_of}
 use Rattle.machine.specs.Boards.Reads.{is_ready}
 
 -- how many of the bundles that wait at a place may be taken: all at an arrange node, elsewhere only

@@ -11,9 +11,9 @@ use Rattle.plan.specs.Rules.{first_refusal}
 use Rattle.plan.specs.Ancestors.{numbers_below}
 use Rattle.histories.specs.declared.event.OpenTime.{OpenTime}
 use Rattle.histories.specs.Histories.{open_entries}
-use Rattle.machine.specs.Boards.Inputs.{front_at}
+use Rattle.outstanding.specs.Inputs.{front_at}
 use Rattle.histories.specs.Histories.States.{State}
-use Rattle.machine.specs.Boards.Loads.{is_none, lot_of, all_bundles, all_held}
+use Rattle.outstanding.specs.Loads.{is_none, lot_of, all_bundles, all_held}
 use Rattle.histories.specs.Histories.Outstanding.{frontier, input_frontier}
 use Rattle.views.specs.Views.{HasLargeSum}
 use Rattle.update.specs.Refusals.{IsRefusalOr}

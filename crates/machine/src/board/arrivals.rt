@@ -2,7 +2,7 @@
 //! piece in hand.
 ghost use Rattle.std.specs.Prelude.{◌≡◌, ◌<◌, ℕ, [], None, IfSome, get_or, length};
 ghost use Rattle.histories.specs.Histories.States.{place};
-ghost use Rattle.machine.specs.Boards.Loads.{queue_of};
+ghost use Rattle.outstanding.specs.Loads.{queue_of};
 
 use crate::board::Board;
 use histories::Site;

@@ -14,10 +14,10 @@ ghost use Rattle.histories.specs.Histories.{IsInput};
 ghost use Rattle.machine.specs.Boards.{BoardState, IsBoard, Stands, after_look, put_change, accept_change, after_feed, after_advance, after_allow, feed_refusal, advance_refusal, allow_refusal};
 
 use crate::board::Board;
-use crate::board::queue::Parcel;
 use antichain::all_beyond;
 use histories::{Event, Site, remembered_advance, remembered_allow, remembered_feed};
 use lattice::Minimum;
+use outstanding::Parcel;
 use plan::{NodeId, Plan};
 use std::alloc::Global;
 use std::snapshot::Snapshot;

@@ -2,13 +2,13 @@
 //! view they are captured.
 ghost use Rattle.std.specs.Prelude.{◌≡◌, ◌<◌, List, ◌∷◌, None, if◌then◌else◌, IfErr, OnErr, OnOk, length};
 ghost use Rattle.histories.specs.declared.event.Event.{Event};
-ghost use Rattle.machine.specs.Boards.Stations.{lots, HasRoomFor};
+ghost use Rattle.outstanding.specs.Stations.{lots, HasRoomFor};
 ghost use Rattle.machine.specs.Boards.{BoardState, IsBoard, IsGiveOn, Stands, after_look, give_output, after_give, capture_at};
 
 use crate::board::Board;
 use crate::board::cut_emission::CutEmission;
-use crate::board::stations::Stations;
 use lattice::Minimum;
+use outstanding::Stations;
 use update::{Refusal, Times};
 use views::View;
 

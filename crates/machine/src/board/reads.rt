@@ -18,7 +18,7 @@ ghost use Rattle.update.specs.Refusals.{IsMemoryOrOverflow};
 ghost use Rattle.machine.specs.Boards.{plan_on, frontier_on, changes_on, query_on, IsQuietOn, Stands, IsBoard};
 ghost use Rattle.histories.specs.Histories.Readings.{is_from_start};
 ghost use Rattle.plan.specs.Ancestors.{numbers_below};
-ghost use Rattle.machine.specs.Boards.Loads.{lot_of};
+ghost use Rattle.outstanding.specs.Loads.{lot_of};
 ghost use Rattle.machine.specs.Boards.Reads.{front, input_front, captured_of, passed_captured, since_of, hands_are_free, all_wait, is_quiet_board, read_refusal_on, changes_refusal_on, IsReadRefusal, IsChangesRefusal};
 
 use crate::board::Board;

@@ -10,7 +10,7 @@ ghost use Rattle.histories.specs.declared.event.Event.TheVariants.{Take};
 ghost use Rattle.histories.specs.Histories.Dataflows.{node_of};
 ghost use Rattle.histories.specs.Histories.States.{times};
 ghost use Rattle.histories.specs.Histories.Outstanding.{stamp, with_time};
-ghost use Rattle.machine.specs.Boards.Loads.{queue_of};
+ghost use Rattle.outstanding.specs.Loads.{queue_of};
 ghost use Rattle.machine.specs.Boards.{BoardState, IsBoard, Stands, after_look, after_take, after_turn};
 ghost use Rattle.machine.specs.Boards.Reads.{is_ready};
 

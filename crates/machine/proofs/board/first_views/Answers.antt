@@ -1,6 +1,6 @@
 use Rattle.std.proofs.Common.{◌≡◌, ◌++◌, ◌∷◌, [], replicate, ap, ◌∙◌, arith}
 use Rattle.views.specs.Views.{ViewState}
-use Rattle.machine.proofs.BoardLemmas.PutLemmas.{put_alike}
+use Rattle.outstanding.proofs.PutLemmas.{put_alike}
 use Rattle.machine.proofs.board.first_views.Goals as goal
 
 pub loop-node-preserved : goal.loop-node-preserved

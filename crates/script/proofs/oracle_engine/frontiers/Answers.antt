@@ -1,7 +1,7 @@
 use Rattle.std.proofs.Common.{◌≡◌, ◌∙◌, ap, sym}
 use Rattle.lattice.specs.Frontiers.{is_beyond}
 use Rattle.plan.specs.Nodes.{node_at, is_input}
-use Rattle.machine.specs.Boards.Inputs.{front_at}
+use Rattle.outstanding.specs.Inputs.{front_at}
 use Rattle.lattice.specs.Bitimes.{bitime_below}
 use Rattle.script.proofs.OracleEngineLemmas.{some_more, some_same}
 use Rattle.script.proofs.oracle_engine.frontiers.Goals as goal

@@ -1,7 +1,7 @@
 use Rattle.std.proofs.Common.{◌≡◌}
 use Rattle.std.specs.List.{filter, flat_map}
 use Rattle.plan.specs.Ancestors.{feeds, numbers_below}
-use Rattle.machine.specs.Boards.Inputs.{front_at}
+use Rattle.outstanding.specs.Inputs.{front_at}
 use Rattle.script.proofs.oracle_engine.open_for.Given as goal
 
 -- the elements so far

@@ -2,7 +2,7 @@ use Rattle.std.proofs.Common.{◌≡◌, IfErr, get_or, ap, sym, subst, ◌∙�
 use Rattle.std.proofs.lemmas.Result.{err_from_is_err_and}
 use Rattle.plan.specs.Rules.{first_refusal}
 use Rattle.update.specs.Refusals.{IsRefusalBy}
-use Rattle.machine.specs.Boards.Inputs.{front_at, feed_faults}
+use Rattle.outstanding.specs.Inputs.{front_at, feed_faults}
 use Rattle.machine.specs.Boards.{accept_change, feed_refusal}
 use Rattle.machine.proofs.BoardLemmas.AcceptLemmas.{one_accepted, count_read, board_accepting}
 use Rattle.machine.proofs.board.Board.accept.Goals as goal

@@ -3,10 +3,10 @@ use Rattle.std.specs.List.{list_all}
 use Rattle.lattice.specs.Frontiers.{is_beyond}
 use Rattle.plan.specs.Ancestors.{numbers_below}
 use Rattle.machine.specs.Boards.{BoardState, IsBoard}
-use Rattle.machine.specs.Boards.Loads.{lot_of}
+use Rattle.outstanding.specs.Loads.{lot_of}
 use Rattle.machine.specs.Boards.Reads.{input_front}
 use Rattle.machine.proofs.BoardLemmas.FrontLemmas.{wait_found}
-use Rattle.machine.proofs.BoardLemmas.OpenLemmas.{all_next, all_fails}
+use Rattle.outstanding.proofs.OpenLemmas.{all_next, all_fails}
 use Rattle.machine.proofs.board.Board.all_wait.Goals as goal
 
 pub returns-then-not-all_wait_at : goal.returns-then-not-all_wait_at

@@ -2,7 +2,7 @@ use Rattle.std.proofs.Common.{◌≡◌, true}
 use Rattle.std.specs.List.{list_all}
 use Rattle.lattice.specs.Frontiers.{is_beyond}
 use Rattle.plan.specs.Ancestors.{numbers_below}
-use Rattle.machine.specs.Boards.Loads.{lot_of}
+use Rattle.outstanding.specs.Loads.{lot_of}
 use Rattle.machine.specs.Boards.Reads.{input_front}
 use Rattle.machine.proofs.board.Board.all_wait.Given as goal
 

@@ -2,9 +2,9 @@ use Rattle.std.proofs.Common.{◌≡◌, ◌∙◌, ◌<◌, sym, ap, subst, ℕ
 use Rattle.std.specs.List.{list_all}
 use Rattle.lattice.specs.Frontiers.{is_beyond}
 use Rattle.machine.specs.Boards.{BoardState}
-use Rattle.machine.specs.Boards.Loads.{lot_of}
+use Rattle.outstanding.specs.Loads.{lot_of}
 use Rattle.machine.specs.Boards.Reads.{input_front}
-use Rattle.machine.proofs.BoardLemmas.OpenLemmas.{all_next, all_fails}
+use Rattle.outstanding.proofs.OpenLemmas.{all_next, all_fails}
 use Rattle.machine.proofs.board.Board.all_wait_at.Goals as goal
 
 pub returns-then-not-are_waiting : goal.returns-then-not-are_waiting

@@ -1,8 +1,8 @@
 use Rattle.std.proofs.Common.{ap, sym, subst, ◌∙◌}
 use Rattle.histories.specs.Histories.Dataflows.{Dataflow}
-use Rattle.machine.specs.Boards.Inputs.{first_inputs}
+use Rattle.outstanding.specs.Inputs.{first_inputs}
 use Rattle.machine.specs.Boards.{IsBoard}
-use Rattle.machine.specs.Boards.Stations.{lots}
+use Rattle.outstanding.specs.Stations.{lots}
 use Rattle.machine.proofs.BoardLemmas.FirstLemmas.{first_made, first_is_board}
 use Rattle.machine.proofs.board.Board.first.Goals as goal
 

@@ -3,7 +3,7 @@ use Rattle.std.specs.List.{list_any}
 use Rattle.lattice.specs.Frontiers.{is_beyond}
 use Rattle.plan.specs.Ancestors.{reaches, numbers_below}
 use Rattle.machine.specs.Boards.{BoardState, IsBoard}
-use Rattle.machine.specs.Boards.Loads.{stamps_at}
+use Rattle.outstanding.specs.Loads.{stamps_at}
 use Rattle.machine.proofs.BoardLemmas.FrontLemmas.{in_flight_found}
 use Rattle.machine.proofs.board.Board.is_in_flight.Goals as goal
 

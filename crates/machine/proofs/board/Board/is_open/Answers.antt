@@ -3,8 +3,8 @@ use Rattle.std.specs.List.{list_any}
 use Rattle.lattice.specs.Frontiers.{is_beyond}
 use Rattle.plan.specs.Ancestors.{reaches, numbers_below}
 use Rattle.machine.specs.Boards.{BoardState}
-use Rattle.machine.specs.Boards.Inputs.{front_at}
-use Rattle.machine.proofs.BoardLemmas.OpenLemmas.{any_spread}
+use Rattle.outstanding.specs.Inputs.{front_at}
+use Rattle.outstanding.proofs.OpenLemmas.{any_spread}
 use Rattle.machine.proofs.board.Board.is_open.Goals as goal
 
 pub returns-clause-any : goal.returns-clause-any

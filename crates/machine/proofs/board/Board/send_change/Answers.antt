@@ -1,7 +1,7 @@
-use Rattle.machine.specs.declared.board.queue.Parcel.TheVariants.{Change}
+use Rattle.outstanding.specs.declared.queue.Parcel.TheVariants.{Change}
 use Rattle.histories.specs.Histories.States.{place}
-use Rattle.machine.specs.Boards.Loads.{load_of}
-use Rattle.machine.specs.Boards.Stations.{lots}
+use Rattle.outstanding.specs.Loads.{load_of}
+use Rattle.outstanding.specs.Stations.{lots}
 use Rattle.machine.proofs.BoardLemmas.AcceptLemmas.{board_sent}
 use Rattle.machine.proofs.board.Board.send_change.Goals as goal
 

@@ -1,4 +1,4 @@
-use Rattle.machine.specs.Boards.Stations.{lots}
+use Rattle.outstanding.specs.Stations.{lots}
 use Rattle.machine.proofs.BoardLemmas.AcceptLemmas.{board_gave}
 use Rattle.machine.proofs.board.Board.try_give.Goals as goal
 

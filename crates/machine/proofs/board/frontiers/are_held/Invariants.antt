@@ -2,8 +2,8 @@ use Rattle.std.proofs.Common.{◌≡◌, ◌&&◌, false}
 use Rattle.std.specs.List.{list_any}
 use Rattle.lattice.specs.Frontiers.{is_beyond}
 use Rattle.plan.specs.Ancestors.{reaches, numbers_below}
-use Rattle.machine.specs.Boards.Loads.{times_at}
-use Rattle.machine.specs.Boards.Stations.{lots}
+use Rattle.outstanding.specs.Loads.{times_at}
+use Rattle.outstanding.specs.Stations.{lots}
 use Rattle.machine.proofs.board.frontiers.are_held.Given as goal
 
 -- no node so far has such a time

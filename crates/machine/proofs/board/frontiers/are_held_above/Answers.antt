@@ -1,10 +1,10 @@
 use Rattle.std.proofs.Common.{◌&&◌, ap, sym, subst, ◌∙◌, ◌<◌, length, not, eqb}
 use Rattle.lattice.specs.Frontiers.{is_beyond}
 use Rattle.plan.specs.Ancestors.{reaches}
-use Rattle.machine.specs.Boards.Loads.{times_at}
-use Rattle.machine.specs.Boards.Stations.{lots}
-use Rattle.machine.proofs.BoardLemmas.FoundLemmas.{both_pass}
-use Rattle.machine.proofs.BoardLemmas.OpenLemmas.{any_below}
+use Rattle.outstanding.specs.Loads.{times_at}
+use Rattle.outstanding.specs.Stations.{lots}
+use Rattle.outstanding.proofs.FoundLemmas.{both_pass}
+use Rattle.outstanding.proofs.OpenLemmas.{any_below}
 use Rattle.machine.proofs.board.frontiers.are_held_above.Goals as goal
 
 pub returns-then-holds : goal.returns-then-holds

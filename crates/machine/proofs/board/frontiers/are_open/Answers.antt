@@ -1,9 +1,9 @@
 use Rattle.std.proofs.Common.{◌&&◌, ap, sym, subst, ◌∙◌, ◌<◌, length}
 use Rattle.lattice.specs.Frontiers.{is_beyond}
 use Rattle.plan.specs.Ancestors.{reaches}
-use Rattle.machine.specs.Boards.Inputs.{front_at}
-use Rattle.machine.proofs.BoardLemmas.FoundLemmas.{both_pass}
-use Rattle.machine.proofs.BoardLemmas.OpenLemmas.{any_below}
+use Rattle.outstanding.specs.Inputs.{front_at}
+use Rattle.outstanding.proofs.FoundLemmas.{both_pass}
+use Rattle.outstanding.proofs.OpenLemmas.{any_below}
 use Rattle.machine.proofs.board.frontiers.are_open.Goals as goal
 
 pub returns-then-is_open : goal.returns-then-is_open

@@ -2,7 +2,7 @@ use Rattle.std.proofs.Common.{◌≡◌, ◌&&◌, false}
 use Rattle.std.specs.List.{list_any}
 use Rattle.lattice.specs.Frontiers.{is_beyond}
 use Rattle.plan.specs.Ancestors.{reaches, numbers_below}
-use Rattle.machine.specs.Boards.Inputs.{front_at}
+use Rattle.outstanding.specs.Inputs.{front_at}
 use Rattle.machine.proofs.board.frontiers.are_open.Given as goal
 
 -- no node so far has such a time

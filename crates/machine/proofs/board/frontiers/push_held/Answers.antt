@@ -1,9 +1,9 @@
 use Rattle.std.proofs.Common.{◌≡◌, ℕ, List, ◌++◌, cond, [], ap, sym, ◌∙◌}
 use Rattle.plan.specs.Ancestors.{reaches}
 use Rattle.std.proofs.lemmas.List.{append-nil}
-use Rattle.machine.specs.Boards.Loads.{times_at}
-use Rattle.machine.specs.Boards.Stations.{lots}
-use Rattle.machine.proofs.BoardLemmas.OpenLemmas.{give_next}
+use Rattle.outstanding.specs.Loads.{times_at}
+use Rattle.outstanding.specs.Stations.{lots}
+use Rattle.outstanding.proofs.OpenLemmas.{give_next}
 use Rattle.machine.proofs.board.frontiers.push_held.Goals as goal
 use Rattle.machine.proofs.board.frontiers.push_held.Goals.{then-reaches+in_ok-push_held, else-reaches}
 

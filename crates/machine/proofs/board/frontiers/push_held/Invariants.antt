@@ -1,8 +1,8 @@
 use Rattle.std.proofs.Common.{◌≡◌, ◌++◌, cond, []}
 use Rattle.std.specs.List.{flat_map}
 use Rattle.plan.specs.Ancestors.{reaches, numbers_below}
-use Rattle.machine.specs.Boards.Loads.{times_at}
-use Rattle.machine.specs.Boards.Stations.{lots}
+use Rattle.outstanding.specs.Loads.{times_at}
+use Rattle.outstanding.specs.Stations.{lots}
 use Rattle.machine.proofs.board.frontiers.push_held.Given as goal
 
 -- the times of the nodes so far are appended

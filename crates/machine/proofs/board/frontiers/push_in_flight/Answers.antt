@@ -1,9 +1,9 @@
 use Rattle.std.proofs.Common.{◌≡◌, ℕ, List, ◌++◌, cond, [], ap, sym, ◌∙◌}
 use Rattle.plan.specs.Ancestors.{reaches}
 use Rattle.std.proofs.lemmas.List.{append-nil}
-use Rattle.machine.specs.Boards.Loads.{stamps_at}
-use Rattle.machine.specs.Boards.Stations.{lots}
-use Rattle.machine.proofs.BoardLemmas.OpenLemmas.{give_next}
+use Rattle.outstanding.specs.Loads.{stamps_at}
+use Rattle.outstanding.specs.Stations.{lots}
+use Rattle.outstanding.proofs.OpenLemmas.{give_next}
 use Rattle.machine.proofs.board.frontiers.push_in_flight.Goals as goal
 use Rattle.machine.proofs.board.frontiers.push_in_flight.Goals.{then-reaches+in_ok-push_stamps, else-reaches}
 

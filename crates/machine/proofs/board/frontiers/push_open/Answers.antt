@@ -1,8 +1,8 @@
 use Rattle.std.proofs.Common.{◌≡◌, ℕ, List, ◌++◌, cond, [], ap, sym, ◌∙◌}
 use Rattle.plan.specs.Ancestors.{reaches}
 use Rattle.std.proofs.lemmas.List.{append-nil}
-use Rattle.machine.specs.Boards.Inputs.{front_at}
-use Rattle.machine.proofs.BoardLemmas.OpenLemmas.{give_next}
+use Rattle.outstanding.specs.Inputs.{front_at}
+use Rattle.outstanding.proofs.OpenLemmas.{give_next}
 use Rattle.machine.proofs.board.frontiers.push_open.Goals as goal
 use Rattle.machine.proofs.board.frontiers.push_open.Goals.{then-reaches+in_ok-extend_from_slice, else-reaches}
 

@@ -1,7 +1,7 @@
 use Rattle.std.proofs.Common.{◌≡◌, ◌++◌, cond, []}
 use Rattle.std.specs.List.{flat_map}
 use Rattle.plan.specs.Ancestors.{reaches, numbers_below}
-use Rattle.machine.specs.Boards.Inputs.{front_at}
+use Rattle.outstanding.specs.Inputs.{front_at}
 use Rattle.machine.proofs.board.frontiers.push_open.Given as goal
 
 -- the times of the nodes so far are appended

@@ -2,7 +2,7 @@ use Rattle.std.proofs.Common.{◌≡◌, not, [], IsSomeAnd, sym, ap, ◌∙◌,
 use Rattle.lattice.specs.Frontiers.{is_beyond}
 use Rattle.update.specs.declared.change.Update.{Update}
 use Rattle.views.proofs.CapturedLemmas.{found_at}
-use Rattle.machine.proofs.BoardLemmas.PutLemmas.{put_kept, put_left}
+use Rattle.outstanding.proofs.PutLemmas.{put_kept, put_left}
 use Rattle.machine.proofs.board.reads.passed_by.Goals as goal
 use Rattle.machine.proofs.board.reads.passed_by.Goals.{then-not-is_beyond+in_ok-push, else-not-is_beyond}
 

@@ -5,7 +5,7 @@ use Rattle.lattice.specs.Pairs.{make_pair, pair_order, pair_extends}
 use Rattle.lattice.specs.declared.product.Pair.{Pair}
 use Rattle.update.specs.declared.change.Update.{Update}
 use Rattle.plan.specs.Changes.{open_for}
-use Rattle.machine.specs.Boards.Inputs.{front_at}
+use Rattle.outstanding.specs.Inputs.{front_at}
 use Rattle.script.specs.OracleStanding.{Register, Records}
 use Rattle.script.specs.Sessions.{frontier_at}
 use Rattle.lattice.specs.Bitimes.{bitime_cmp, bitime_below}

@@ -8,7 +8,7 @@ use Rattle.lattice.specs.declared.product.Pair.{Pair}
 use Rattle.update.specs.Bags.{Alike}
 use Rattle.update.specs.declared.change.Update.{Update}
 use Rattle.plan.specs.Changes.{open_for, query_at}
-use Rattle.machine.specs.Boards.Inputs.{front_at}
+use Rattle.outstanding.specs.Inputs.{front_at}
 use Rattle.grammar.specs.Commands.{is_view_of}
 use Rattle.oracle.specs.Evaluation.{HasLargeAbove, list_of, sums_at}
 use Rattle.script.specs.Answers.{FindsRows}

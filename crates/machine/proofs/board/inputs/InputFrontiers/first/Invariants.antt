@@ -1,6 +1,0 @@
-use Rattle.std.proofs.Common.{◌≡◌, take}
-use Rattle.machine.specs.Boards.Inputs.{first_inputs}
-use Rattle.machine.proofs.board.inputs.InputFrontiers.first.Given as goal
-
-abbrev pub invariant-loop-n : goal.invariant-loop-n
-invariant-loop-n g l = l.by_node.items ≡ first_inputs g.T.Minimum.least (take l.n l.plan)
