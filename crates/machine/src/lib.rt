@@ -16,9 +16,11 @@
 //! for before the call, it stands afterwards for that history with the board's last event on top. A
 //! `give` promises this only if the event is allowed, which the board cannot test. A question to
 //! the board, such as a view's rows, is answered for every history that it may stand for. Waiting
-//! bundles lie in queues by node, worker and port, so an event costs only what it moves. The
-//! inputs' frontiers, and the tests that refuse a change or a frontier, are a type of their own
-//! ([`InputFrontiers`]), so that changes can be accepted without a board.
+//! bundles lie in queues by node, worker and port, so an event costs only what it moves.
+//!
+//! The events and the theorems stand in the crate `histories`, what waits, what is held and the
+//! inputs' frontiers in `outstanding`, and what is kept of views in `views`. This crate joins them to
+//! a board, and hands their names on.
 //!
 //! A client calls `feed`, `advance`, `close`, `allow` and `look`, and reads by `frontier`, `read`,
 //! `changes` and `is_quiet`. A worker finds work by `waiting_at` or `is_ready` and starts on it by

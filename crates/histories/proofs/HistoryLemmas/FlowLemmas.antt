@@ -17,7 +17,6 @@ use Rattle.histories.specs.Histories.States.{same_place, updates_at, queue}
 use Rattle.histories.specs.Histories.{without}
 use Rattle.update.proofs.SumLemmas.{total_by-append}
 use Rattle.plan.proofs.CountLemmas.{count_of-append}
-pub use Rattle.views.proofs.SumLemmas.{sum_at, as_of-append, sum_at-append}
 
 -- places that the test calls the same are equal
 pub place_same : (a b : Site) → same_place a b ≡ true → a ≡ b
@@ -28,6 +27,27 @@ place_same a b h =
   where
     made : a.node ≡ b.node → a.port ≡ b.port → a.worker ≡ b.worker → a ≡ b
     made x y z = λ i. record { node = x i; port = y i; worker = z i }
+
+module _ {T : Type 0} (leq : T → T → Bool) (t : T) where
+  -- how often a row is in the sum at t
+  abbrev pub sum_at : List (Update T) → List ℤ → ℤ
+  sum_at us r = count_of (as_of leq t us) r
+
+  abbrev counts : Update T → Bool
+  counts u = leq u.time t
+
+  -- the sum of two lists at a time is the sum of each
+  pub as_of-append : (xs ys : List (Update T)) → as_of leq t (xs ++ ys) ≡ as_of leq t xs ++ as_of leq t ys
+  as_of-append [] ys = refl
+  as_of-append (u ∷ xs) ys = step (leq u.time t) (as_of-append xs ys)
+    where
+      step : (b : Bool) → as_of leq t (xs ++ ys) ≡ as_of leq t xs ++ as_of leq t ys → map entry (cond b (u ∷ filter counts (xs ++ ys)) (filter counts (xs ++ ys))) ≡ map entry (cond b (u ∷ filter counts xs) (filter counts xs)) ++ as_of leq t ys
+      step true h = ap (λ z. entry u ∷ z) h
+      step false h = h
+
+  -- the count of a row in two lists is the sum of its counts in each
+  pub sum_at-append : (xs ys : List (Update T)) (r : List ℤ) → sum_at (xs ++ ys) r ≡ sum_at xs r +ℤ sum_at ys r
+  sum_at-append xs ys r = rw (as_of-append xs ys) (count_of-append (as_of leq t xs) (as_of leq t ys) r)
 
 -- what an update adds to a row
 abbrev pub value : {T : Type 0} → List ℤ → Update T → ℤ
