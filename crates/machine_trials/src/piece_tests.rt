@@ -1,5 +1,9 @@
-//! The pieces that a worker may take, told by number: the order in which a caller meets them.
-use lattice::Bitime;
+//! The pieces that a worker may take, told by number: the order in which a caller meets them, and
+//! how it takes one.
+ghost use Rattle.std.specs.Prelude.{◌≡◌, ◌<◌, None, get_or};
+ghost use Rattle.machine.specs.Boards.Pieces.{IsPiece};
+
+use lattice::{Bitime, Minimum};
 use machine::{Board, Emission, Piece, Routing, Site};
 use plan::{Kind, NodeId};
 use row::Row;
@@ -201,5 +205,42 @@ fn an_idle_board_has_no_pieces(rt: HostRuntime) -> Result<(), Fail> {
     let is_staffed = board.workers() > 0;
     assert!(rt; is_staffed);
     assert!(rt; board.piece_at(0, 5).is_none() && board.pieces(0) == 0);
+    Ok(())
+}
+
+// A worker with nothing in hand takes a piece that it was told.
+fn started<T: Minimum>(board: &mut Board<T>, worker: usize, piece: &Piece) -> Result<(), Refusal>
+    requires worker { worker < board.old.dataflow.workers }
+    requires free { get_or board.old.hand worker None ≡ None }
+    requires piece { IsPiece T.below board.old worker piece.now }
+{
+    match piece {
+        Piece::Waiting { site, number } => {
+            let _bundle = board.take(*site, *number)?;
+        }
+        Piece::Held { node } => board.take_held(worker, *node),
+    }
+    Ok(())
+}
+
+// Takes the piece that a pick tells, and answers the node that the worker then has in hand.
+fn picked(rt: &impl Abort, alloc: Global, pick: usize) -> Result<Option<NodeId>, Refusal> {
+    let mut board = prepared(rt, alloc)?;
+    board.known();
+    let is_free = board.in_hand(0).is_none();
+    assert!(rt; is_free);
+    if let Some(piece) = board.piece_at(0, pick) {
+        started(&mut board, 0, &piece)?;
+    }
+    board.known();
+    Ok(board.in_hand(0))
+}
+
+#[test]
+fn told_pieces_are_taken(rt: HostRuntime) -> Result<(), Fail> {
+    for (pick, node) in [(0, INPUT), (2, ARRANGED), (3, COUNTS)] {
+        let in_hand = picked(&rt, rt.alloc(), pick)?;
+        assert!(rt; in_hand == Some(NodeId::new(node)));
+    }
     Ok(())
 }
