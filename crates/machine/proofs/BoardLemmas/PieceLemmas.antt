@@ -25,7 +25,7 @@ use Rattle.machine.specs.Boards.{BoardState, IsBoard, Stands}
 use Rattle.outstanding.specs.Loads.{Load, bundle_at, no_lot, loads_at, lot_of, queue_of}
 use Rattle.machine.specs.Boards.Reads.{input_front, is_ready}
 use Rattle.machine.specs.Boards.Pieces.{takable, takable_at, pieces_waiting, pieces_held, pieces_at, pieces, IsPiece, MayTake, HasNoPiece}
-use Rattle.machine.proofs.BoardLemmas.RoutingLemmas.{numbers_long}
+use Rattle.progress.proofs.NumberLemmas.{numbers_long}
 use Rattle.outstanding.proofs.SiteLemmas.{among_any}
 use Rattle.machine.proofs.BoardLemmas.FrontLemmas.{input_front_stands, may_turn}
 
