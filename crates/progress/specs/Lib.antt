@@ -4,3 +4,4 @@ pub mod Several
 pub mod Scopes
 pub mod Graphs
 pub mod Kept
+pub mod Counting
