@@ -1,20 +1,20 @@
 -- Counts: what an item more or less makes of them, and that frontiers depend on counts alone.
 use Rattle.std.proofs.Common.{◌≡◌, ℕ, zero, suc, ◌<◌, Bool, true, false, cond, ◌||◌, List, [], ◌∷◌, ◌++◌, length, refl, ap, sym, ◌∙◌, arith}
 use Rattle.std.specs.List.{filter, list_any, remove}
-use Rattle.std.specs.Prelude.{slice_index_or, slice_set}
+use Rattle.std.specs.Prelude.{slice_index_or}
 use Rattle.std.proofs.lemmas.List.Folds.{list_any-append}
 use Rattle.lattice.specs.Frontiers.{is_beyond}
 use Rattle.progress.specs.declared.place.Place.{Place}
 use Rattle.progress.specs.declared.counted.Counted.{Counted}
 use Rattle.progress.specs.Tallies.{SameCounts, times_where}
 
-one_more : {A : Type 0} (test : A → Bool) (xs : List A) (x : A) → length (filter test (x ∷ xs)) ≡ cond (test x) (suc (length (filter test xs))) (length (filter test xs))
+pub one_more : {A : Type 0} (test : A → Bool) (xs : List A) (x : A) → length (filter test (x ∷ xs)) ≡ cond (test x) (suc (length (filter test xs))) (length (filter test xs))
 one_more test xs x = elim (test x) as (λ c. length (cond c (x ∷ filter test xs) (filter test xs)) ≡ cond c (suc (length (filter test xs))) (length (filter test xs))) [
   | true ↦ refl
   | false ↦ refl
 ]
 
-swapped : (a b : Bool) (n : ℕ) → cond a (suc (cond b (suc n) n)) (cond b (suc n) n) ≡ cond b (suc (cond a (suc n) n)) (cond a (suc n) n)
+pub swapped : (a b : Bool) (n : ℕ) → cond a (suc (cond b (suc n) n)) (cond b (suc n) n) ≡ cond b (suc (cond a (suc n) n)) (cond a (suc n) n)
 swapped true true n = refl
 swapped true false n = refl
 swapped false true n = refl
@@ -47,6 +47,19 @@ module _ {T : Type 0} where
       ∙ (sym (ap (λ n. cond (test y) (suc n) n) (one_more test (remove ys i) x))
       ∙ (ap (λ n. cond (test y) (suc n) n) (removed ys i x (omega (arith, l)) e test)
       ∙ sym (one_more test ys y)))))
+
+  -- the order of two items does not count
+  pub exchanged : (xs : List (Counted T)) (x y : Counted T) → SameCounts (x ∷ (y ∷ xs)) (y ∷ (x ∷ xs))
+  exchanged xs x y test =
+      one_more test (y ∷ xs) x
+      ∙ (ap (λ n. cond (test x) (suc n) n) (one_more test xs y)
+      ∙ (swapped (test x) (test y) (length (filter test xs))
+      ∙ (sym (ap (λ n. cond (test y) (suc n) n) (one_more test xs x))
+      ∙ sym (one_more test (x ∷ xs) y))))
+
+  -- one item more in front of lists that count alike
+  pub more_alike : (xs ys : List (Counted T)) (x : Counted T) → SameCounts xs ys → SameCounts (x ∷ xs) (x ∷ ys)
+  more_alike xs ys x same test = one_more test xs x ∙ (ap (λ n. cond (test x) (suc n) n) (same test) ∙ sym (one_more test ys x))
 
   -- a time counts for a frontier if some item says so
   pub any_where : (test : Place → Bool) (p : T → Bool) (xs : List (Counted T)) → list_any p (times_where test xs) ≡ list_any (λ i. cond (test i.place) (p i.time) false) xs
@@ -104,37 +117,6 @@ module _ {T : Type 0} where
           pred : (m n : ℕ) → suc m ≡ suc n → m ≡ n
           pred m n k = omega (arith, k)
       more false q m n k f = ap some k
-
-  -- an item in place of another counts once, and the other once less
-  pub replaced : (xs : List (Counted T)) (i : ℕ) (x y : Counted T) → i < length xs → x ≡ slice_index_or xs i x → SameCounts (x ∷ slice_set xs i y) (y ∷ xs)
-  replaced [] i x y l e test = absurd (omega (arith, l))
-  replaced (z ∷ zs) zero x y l e test =
-      one_more test (y ∷ zs) x
-      ∙ (ap (λ n. cond (test x) (suc n) n) (one_more test zs y)
-      ∙ (swapped (test x) (test y) (length (filter test zs))
-      ∙ (sym (ap (λ n. cond (test y) (suc n) n) (one_more test zs x))
-      ∙ (sym (one_more test (x ∷ zs) y) ∙ ap (λ w. length (filter test (y ∷ (w ∷ zs)))) e))))
-  replaced (z ∷ zs) (suc i) x y l e test =
-      one_more test (z ∷ slice_set zs i y) x
-      ∙ (ap (λ n. cond (test x) (suc n) n) (one_more test (slice_set zs i y) z)
-      ∙ (swapped (test x) (test z) (length (filter test (slice_set zs i y)))
-      ∙ (sym (ap (λ n. cond (test z) (suc n) n) (one_more test (slice_set zs i y) x))
-      ∙ (ap (λ n. cond (test z) (suc n) n) (replaced zs i x y (omega (arith, l)) e test ∙ one_more test zs y)
-      ∙ (swapped (test z) (test y) (length (filter test zs))
-      ∙ (sym (ap (λ n. cond (test y) (suc n) n) (one_more test zs z))
-      ∙ sym (one_more test (z ∷ zs) y)))))))
-
-  -- an item set in a place is that item and the others
-  pub set_counts : (xs : List (Counted T)) (i : ℕ) (y : Counted T) → i < length xs → SameCounts (y ∷ remove xs i) (slice_set xs i y)
-  set_counts [] i y l test = absurd (omega (arith, l))
-  set_counts (z ∷ zs) zero y l test = refl
-  set_counts (z ∷ zs) (suc i) y l test =
-      one_more test (z ∷ remove zs i) y
-      ∙ (ap (λ n. cond (test y) (suc n) n) (one_more test (remove zs i) z)
-      ∙ (swapped (test y) (test z) (length (filter test (remove zs i)))
-      ∙ (sym (ap (λ n. cond (test z) (suc n) n) (one_more test (remove zs i) y))
-      ∙ (ap (λ n. cond (test z) (suc n) n) (set_counts zs i y (omega (arith, l)) test)
-      ∙ sym (one_more test (slice_set zs i y) z)))))
 
 or_swap : (a b c : Bool) → ((a || b) || c) ≡ (b || (a || c))
 or_swap true true c = refl

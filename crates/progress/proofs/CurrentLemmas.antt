@@ -1,6 +1,7 @@
 -- What is kept of all nodes stays right or marked, whatever is counted.
 use Rattle.std.proofs.Common.{◌≡◌, ℕ, ◌<◌, Bool, true, false, List, ◌∷◌, length, refl, ap, sym, subst, ◌∙◌, IsTrue, ◌⊎◌, inl, inr, ⊎_elim}
-use Rattle.std.specs.Prelude.{slice_index_or, slice_set}
+use Rattle.std.specs.List.{remove}
+use Rattle.std.specs.Prelude.{Contains, slice_index_or, slice_set}
 use Rattle.std.proofs.lemmas.Bool.{false≢true}
 use Rattle.plan.specs.Ancestors.{reaches}
 use Rattle.plan.specs.declared.node.Node.{Node}
@@ -12,7 +13,7 @@ use Rattle.progress.specs.Kept.{HaveChanged, IsInserted, IsForgotten, IsSpared, 
 use Rattle.progress.specs.Scopes.{is_in_scope}
 use Rattle.progress.specs.Tallies.{AreMarksBelow, SameCounts, node_of}
 use Rattle.progress.proofs.ChangeLemmas.{changed_all, set_all}
-use Rattle.progress.proofs.CountLemmas.{counts_tell}
+use Rattle.progress.proofs.CountLemmas.{cancelled, counts_tell, exchanged, more_alike, removed}
 use Rattle.progress.proofs.MarkLemmas.{marks_below, same_marks}
 
 either : (b : Bool) → (b ≡ true) ⊎ (b ≡ false)
@@ -82,3 +83,14 @@ module _ {T : Type 0} (below : T → T → Bool) (nodes : List Node) where
       forgotten_marks = marks_below nodes place old new h.len
           (λ n d l. (changed_all (IsForgotten below nodes place t) old new h n d l).stays)
           (λ n d l. (changed_all (IsForgotten below nodes place t) old new h n d l).reached)
+
+      -- the later item is counted in place of the other
+      pub moved_current : (u : T) (before after : List (Counted T)) → Contains before (record { place = place; time = t }) → IsTrue (below t u) → SameCounts (record { place = place; time = t } ∷ after) (record { place = place; time = u } ∷ before) → AreCurrent below nodes before old → AreCurrent below nodes after new
+      moved_current u before after there onward moved all =
+          let x : Counted T = record { place = place; time = t } in
+          let y : Counted T = record { place = place; time = u } in
+          let rest = remove before there.0 in
+          let left : SameCounts (x ∷ rest) before = removed before there.0 x there.1 (sym there.2) in
+          let both : SameCounts (x ∷ after) (x ∷ (y ∷ rest)) = (λ test. moved test ∙ (sym (more_alike (x ∷ rest) before y left test) ∙ exchanged rest y x test)) in
+          current_same new (y ∷ rest) after (λ test. sym (cancelled after (y ∷ rest) x both test))
+          (later_current rest u onward (current_same old before (x ∷ rest) (λ test. sym (left test)) all))

@@ -10,3 +10,5 @@ pub mod ChangeLemmas
 pub mod MarkLemmas
 pub mod ScopeLemmas
 pub mod CurrentLemmas
+pub mod CountingLemmas
+pub mod TieLemmas

@@ -3,3 +3,4 @@ pub mod Tallies
 pub mod Scopes
 pub mod Graphs
 pub mod Kept
+pub mod Counting

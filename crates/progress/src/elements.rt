@@ -10,10 +10,9 @@ ghost use Rattle.progress.specs.declared.counted.Counted.{Counted};
 ghost use Rattle.progress.specs.Kept.{IsFront};
 ghost use Rattle.progress.specs.Scopes.{scope_node, is_in_scope};
 
-use crate::counted::Counted;
+use crate::counts::Counts;
 use crate::graph::Graph;
 use crate::place::Place;
-use crate::scan::insert_times;
 use crate::scope::Scope;
 use antichain::is_beyond;
 use lattice::Lattice;
@@ -24,14 +23,14 @@ pub(crate) fn find<T: Lattice>(
     elements: &mut Vec<T>,
     graph: &Graph,
     scope: &Scope,
-    items: &[Counted<T>],
+    items: &Counts<T>,
 ) -> Result<(), Refusal>
     requires { scope_node scope.now < length graph.now }
     ensures front { OnOk result (IsFront T.below graph.now items.now scope.now elements.new.items) }
     ensures refused { IfErr result (λ refusal. refusal ≡ OutOfMemory) }
 {
     elements.clear();
-    insert_times(elements, graph, scope, items)?;
+    items.insert_times(elements, graph, scope)?;
     Ok(())
 }
 

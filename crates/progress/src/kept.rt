@@ -14,11 +14,10 @@ ghost use Rattle.progress.specs.Kept.{IsFront, AreFronts, IsCurrent, IsSpared, I
 ghost use Rattle.progress.specs.Tallies.{times_where};
 ghost use Rattle.progress.specs.Scopes.{scope_node, is_in_scope};
 
-use crate::counted::Counted;
+use crate::counts::Counts;
 use crate::elements::{find, has_element_where, insert_where};
 use crate::graph::Graph;
 use crate::place::Place;
-use crate::scan::{insert_times, is_any_in};
 use crate::scope::{Scope, is_reached};
 use antichain::{Antichain, is_beyond};
 use lattice::Lattice;
@@ -159,13 +158,13 @@ impl<T: Lattice> Kept<T> {
     /// anew from what is counted, and it is marked no more. Refused only with `OutOfMemory`; then
     /// its mark is what it was.
     ///
-    /// Cost: the square of the elements. If the node is marked, also linear in what is counted,
-    /// times the elements.
+    /// Cost: the square of the elements. If the node is marked, also linear in the different items
+    /// that are counted, times the elements.
     pub(crate) fn answer(
         &mut self,
         graph: &Graph,
         scope: &Scope,
-        items: &[Counted<T>],
+        items: &Counts<T>,
     ) -> Result<Antichain<T>, Refusal>
         requires node { scope_node scope.now < length graph.now }
         requires current { IsCurrent T.below graph.now items.now (scope_node scope.now) self.old }
@@ -186,7 +185,7 @@ impl<T: Lattice> Kept<T> {
     }
 
     // Finds all frontiers anew if the node is marked. It stays marked.
-    fn find_all(&mut self, graph: &Graph, node: NodeId, items: &[Counted<T>]) -> Result<(), Refusal>
+    fn find_all(&mut self, graph: &Graph, node: NodeId, items: &Counts<T>) -> Result<(), Refusal>
         requires node { node < length graph.now }
         requires current { IsCurrent T.below graph.now items.now node self.old }
         ensures fronts { OnOk result (AreFronts T.below graph.now items.now node self.new) }
@@ -209,7 +208,7 @@ impl<T: Lattice> Kept<T> {
         &self,
         graph: &Graph,
         scope: &Scope,
-        items: &[Counted<T>],
+        items: &Counts<T>,
     ) -> Result<Antichain<T>, Refusal>
         requires node { scope_node scope.now < length graph.now }
         requires fronts { AreFronts T.below graph.now items.now (scope_node scope.now) self.now }
@@ -225,20 +224,15 @@ impl<T: Lattice> Kept<T> {
             return Ok(Antichain::least_of(alloc, elements)?);
         }
         let mut found = Vec::new(alloc);
-        insert_times(&mut found, graph, scope, items)?;
+        items.insert_times(&mut found, graph, scope)?;
         Ok(Antichain::least_of(alloc, &found)?)
     }
 
     /// Whether one of the frontiers of the node has passed a time. Takes no memory.
     ///
-    /// Cost: linear in the elements. If the node is marked, linear in what is counted.
-    pub(crate) fn has_passed(
-        &self,
-        graph: &Graph,
-        scope: &Scope,
-        items: &[Counted<T>],
-        t: &T,
-    ) -> bool
+    /// Cost: linear in the elements. If the node is marked, linear in the different items that are
+    /// counted.
+    pub(crate) fn has_passed(&self, graph: &Graph, scope: &Scope, items: &Counts<T>, t: &T) -> bool
         requires node { scope_node scope.now < length graph.now }
         requires current { IsCurrent T.below graph.now items.now (scope_node scope.now) self.now }
         ensures { result ≡ has_passed T.below (least T.below
@@ -249,7 +243,7 @@ impl<T: Lattice> Kept<T> {
         {
             return !is_beyond(elements, t);
         }
-        !is_any_in(graph, scope, items, t)
+        !items.is_any_in(graph, scope, t)
     }
 
     // The elements that are kept for a frontier. None are for a port of 2 or more.

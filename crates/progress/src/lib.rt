@@ -15,14 +15,15 @@
 //!
 //! A time more is inserted into what is kept. A time less is harder: whether the frontier moves
 //! depends on all else that is counted. But it can move only if the time is one of its elements.
-//! Otherwise some element is before the time, that element is still counted, and the frontier is
-//! what it was. So a time that is an element marks the node, and the next question finds its
-//! frontiers anew; any other time costs nothing more. [`Tally::rebuilt`] counts how often a node was
-//! found anew. At first all nodes are marked, so a node that nobody asks about is never found.
+//! Otherwise some element is before the time, what is counted there is still counted, and the
+//! frontier is what it was. So a time that is an element marks the node, and the next question finds
+//! its frontiers anew; any other time costs nothing more. [`Tally::rebuilt`] counts how often a node
+//! was found anew. At first all nodes are marked, so a node that nobody asks about is never found.
 //!
 //! Of what is counted, a contract says only how often each item occurs, and nothing of the order.
-//! [`counts_determine_frontiers`] proves that no frontier depends on more than that. Questions
-//! borrow the tally mutably, since they change what is kept.
+//! [`counts_determine_frontiers`] proves that no frontier depends on more than that. So the items
+//! stand in a tree, each once with a number, and a million bundles at one time are one entry.
+//! Questions borrow the tally mutably, since they change what is kept.
 //!
 //! A [`Capability`] is the right to give updates at a place at a time or later. The tally counts
 //! it as long as it lives. It cannot be dropped: it goes back to the tally, or is given anew at a
@@ -34,6 +35,7 @@
 
 mod capability;
 mod counted;
+mod counts;
 mod elements;
 mod graph;
 mod kept;

@@ -3,6 +3,7 @@
 ghost use Rattle.std.specs.Prelude.{◌≡◌, ◌<◌, ◌||◌, IfErr, OnOk, length};
 ghost use Rattle.lattice.specs.Frontiers.{is_beyond};
 ghost use Rattle.update.specs.declared.refusal.Refusal.TheVariants.{OutOfMemory};
+ghost use Rattle.progress.specs.Counting.{listed};
 ghost use Rattle.progress.specs.Tallies.{times_where};
 ghost use Rattle.progress.specs.Scopes.{scope_node, is_in_scope};
 
@@ -11,6 +12,7 @@ use crate::elements::insert_time;
 use crate::graph::Graph;
 use crate::scope::Scope;
 use lattice::Lattice;
+use std::collections::BTreeMap;
 use update::Refusal;
 
 // Inserts the times that count for a frontier.
@@ -48,6 +50,46 @@ pub(crate) fn is_any_in<T: Lattice>(
 {
     for item in items {
         if scope.counts(graph, &item.place) && item.time.less_equal(t) {
+            return true;
+        }
+    }
+    false
+}
+
+// Inserts the times that count for a frontier, once each.
+pub(crate) fn insert_listed<T: Lattice>(
+    found: &mut Vec<T>,
+    graph: &Graph,
+    scope: &Scope,
+    more: &BTreeMap<Counted<T>, usize>,
+) -> Result<(), Refusal>
+    requires { scope_node scope.now < length graph.now }
+    ensures beyond { OnOk result ((t : T) → is_beyond T.below found.new.items t
+        ≡ (is_beyond T.below found.old.items t || is_beyond T.below
+        (times_where (is_in_scope graph.now scope.now) (listed more.now.entries)) t)) }
+    ensures refused { IfErr result (λ refusal. refusal ≡ OutOfMemory) }
+{
+    for (entry, _) in more {
+        if scope.counts(graph, &entry.place) {
+            insert_time(found, entry.time)?;
+        }
+    }
+    Ok(())
+}
+
+// Whether some time that counts for a frontier is at or before this one.
+pub(crate) fn is_any_listed<T: Lattice>(
+    graph: &Graph,
+    scope: &Scope,
+    more: &BTreeMap<Counted<T>, usize>,
+    t: &T,
+) -> bool
+    requires { scope_node scope.now < length graph.now }
+    ensures { result ≡ is_beyond T.below
+        (times_where (is_in_scope graph.now scope.now) (listed more.now.entries)) t.now }
+{
+    for (entry, _) in more {
+        if scope.counts(graph, &entry.place) && entry.time.less_equal(t) {
             return true;
         }
     }

@@ -1,6 +1,6 @@
-//! The tally: a plain list of what is outstanding, and the frontiers of those nodes that somebody
-//! asked about. What is kept of a node is right, or the node is marked.
-ghost use Rattle.std.specs.Prelude.{◌≡◌, ℕ, ◌<◌, true, not, ◌&&◌, eqb, [], ◌∷◌, IsTrue, IfErr, IfOk, OnErr, OnOk, Contains, length, slice_index_or};
+//! The tally: counts of what is outstanding, and the frontiers of those nodes that somebody asked
+//! about. What is kept of a node is right, or the node is marked.
+ghost use Rattle.std.specs.Prelude.{◌≡◌, ℕ, ◌<◌, true, not, ◌&&◌, eqb, [], ◌∷◌, IsTrue, IfErr, IfOk, OnErr, OnOk, Contains, length};
 ghost use Rattle.lattice.specs.Frontiers.{is_beyond};
 ghost use Rattle.antichain.specs.Antichains.{SameElements, least};
 ghost use Rattle.update.specs.declared.refusal.Refusal.TheVariants.{OutOfMemory};
@@ -12,6 +12,7 @@ ghost use Rattle.progress.specs.Scopes.{scope_node, is_in_scope};
 
 use crate::capability::Capability;
 use crate::counted::Counted;
+use crate::counts::Counts;
 use crate::graph::Graph;
 use crate::kept::Kept;
 use crate::place::Place;
@@ -31,7 +32,7 @@ use update::Refusal;
 #[derive(Drop)]
 pub struct Tally<T: Lattice> {
     graph: Graph,
-    items: Vec<Counted<T>>,
+    items: Counts<T>,
     // By node.
     kept: Vec<Kept<T>>,
     rebuilt: u64,
@@ -45,12 +46,12 @@ impl<T: Lattice> Model for Tally<T> {
 
     ghost view = { λ t. record {
       nodes = t.graph;
-      items = t.items.items;
+      items = t.items;
       marked = marks_of t.kept.items;
       rebuilt = t.rebuilt;
     } };
 
-    ghost invariant = { λ t. IsTally T.below t.graph t.items.items t.kept.items };
+    ghost invariant = { λ t. IsTally T.below t.graph t.items t.kept.items };
 }
 
 impl<T: Lattice> Tally<T> {
@@ -69,7 +70,7 @@ impl<T: Lattice> Tally<T> {
         let kept = all_marked(alloc, graph.len())?;
         Ok(Tally {
             graph,
-            items: Vec::new(alloc),
+            items: Counts::new(alloc),
             kept,
             rebuilt: 0,
         })
@@ -95,8 +96,8 @@ impl<T: Lattice> Tally<T> {
     /// `OutOfMemory`, and then nothing is counted. The time is inserted into what is kept of the
     /// nodes that count the place. If that is refused, these nodes are marked.
     ///
-    /// Cost: constant for each node of the plan, and linear in what is kept of those that count the
-    /// place; but for the growth of lists.
+    /// Cost: logarithmic in the different items that are counted; constant for each node of the plan,
+    /// and linear in what is kept of those that count the place.
     pub fn add(&mut self, place: Place, t: T) -> Result<(), Refusal>
         ensures counted { OnOk result
             (SameCounts self.new.items (record { place = place; time = t } ∷ self.old.items)) }
@@ -119,7 +120,7 @@ impl<T: Lattice> Tally<T> {
     /// marked if the place counts for one of its frontiers that has the time as an element. If it is
     /// no element, then an earlier time keeps that frontier back, and it stays what it is.
     ///
-    /// Cost: linear in what is counted. For each node of the plan as `add`.
+    /// Cost: that of `add`.
     pub fn remove(&mut self, place: &Place, t: &T)
         requires { Contains self.old.items (record { place = place.now; time = t.now }) }
         ensures counted { SameCounts (record { place = place.now; time = t.now } ∷ self.new.items)
@@ -128,8 +129,11 @@ impl<T: Lattice> Tally<T> {
         ensures below { AreMarksBelow self.old.nodes place.now self.old.marked self.new.marked }
         ensures rebuilt { self.new.rebuilt ≡ self.old.rebuilt }
     {
-        let number = position(self.items.as_slice(), place, t);
-        let _ = self.items.remove(number);
+        let item = Counted {
+            place: place.copy(),
+            time: *t,
+        };
+        self.items.remove(&item);
         forget_in_all(&mut self.kept, &self.graph, place, t);
     }
 
@@ -174,11 +178,15 @@ impl<T: Lattice> Tally<T> {
         ensures rebuilt { self.new.rebuilt ≡ self.old.rebuilt }
     {
         let Capability { place, time } = capability;
-        let number = position(self.items.as_slice(), &place, &time);
-        self.items[number] = Counted {
+        let item = Counted {
+            place: place.copy(),
+            time,
+        };
+        let moved = Counted {
             place: place.copy(),
             time: later,
         };
+        self.items.replace(&item, moved);
         forget_in_all(&mut self.kept, &self.graph, &place, &time);
         Capability { place, time: later }
     }
@@ -203,8 +211,8 @@ impl<T: Lattice> Tally<T> {
     /// answer is a copy of what is kept, and takes memory only for more than four elements. Refused
     /// only with `OutOfMemory`, and then the mark is what it was.
     ///
-    /// Cost: the square of the elements. If the node is marked, also linear in what is counted,
-    /// times the most elements that are met on the way.
+    /// Cost: the square of the elements. If the node is marked, also linear in the different items
+    /// that are counted, times the most elements that are met on the way.
     pub fn frontier(&mut self, node: NodeId) -> Result<Antichain<T>, Refusal>
         requires { node < length self.old.nodes }
         ensures items { self.new.items ≡ self.old.items }
@@ -274,8 +282,8 @@ impl<T: Lattice> Tally<T> {
 
     /// Whether the frontier of a node has passed a time. Takes no memory, and leaves a mark.
     ///
-    /// Cost: linear in the elements. If the node is marked, linear in what is counted, and less if
-    /// the time is not passed.
+    /// Cost: linear in the elements. If the node is marked, linear in the different items that are
+    /// counted, and less if the time is not passed.
     pub fn has_passed(&mut self, node: NodeId, t: &T) -> bool
         requires { node < length self.old.nodes }
         ensures items { self.new.items ≡ self.old.items }
@@ -324,7 +332,7 @@ impl<T: Lattice> Tally<T> {
     {
         let number = scope.node().number();
         let was_marked = self.kept[number].is_marked();
-        let found = self.kept[number].answer(&self.graph, scope, self.items.as_slice())?;
+        let found = self.kept[number].answer(&self.graph, scope, &self.items)?;
         self.rebuilt = rebuilt_after(was_marked, self.rebuilt);
         Ok(found)
     }
@@ -336,7 +344,7 @@ impl<T: Lattice> Tally<T> {
             (times_where (is_in_scope self.now.nodes scope.now) self.now.items)) t.now }
     {
         let number = scope.node().number();
-        self.kept[number].has_passed(&self.graph, scope, self.items.as_slice(), t)
+        self.kept[number].has_passed(&self.graph, scope, &self.items, t)
     }
 }
 
@@ -354,38 +362,23 @@ fn rebuilt_after(was_marked: bool, rebuilt: u64) -> u64
 // place may have the time and others not, so all of them must be marked.
 fn count<T: Lattice>(
     kept: &mut Vec<Kept<T>>,
-    items: &mut Vec<Counted<T>>,
+    items: &mut Counts<T>,
     graph: &Graph,
     place: &Place,
     t: T,
 ) -> Result<(), Refusal>
     requires { length kept.old.items ≡ length graph.now }
-    ensures counted { OnOk result (SameCounts items.new.items
-        (record { place = place.now; time = t } ∷ items.old.items)) }
+    ensures counted { OnOk result (SameCounts items.new
+        (record { place = place.now; time = t } ∷ items.old)) }
     ensures inserted { OnOk result (HaveChanged (IsInserted T.below graph.now place.now t)
         kept.old.items kept.new.items (length kept.old.items)) }
     ensures spared { HaveChanged (IsSpared graph.now place.now) kept.old.items kept.new.items
         (length kept.old.items) }
     ensures refused { IfErr result (λ refusal. refusal ≡ OutOfMemory) }
-    ensures unchanged { OnErr result (items.new.items ≡ items.old.items) }
+    ensures unchanged { OnErr result (items.new ≡ items.old) }
 {
     insert_in_all(kept, graph, place, t)?;
     let place = place.copy();
-    items.push(Counted { place, time: t })?;
+    items.add(Counted { place, time: t })?;
     Ok(())
-}
-
-// The number of an item of a place and a time. There must be one; which of several does not matter.
-fn position<T: Lattice>(items: &[Counted<T>], place: &Place, t: &T) -> usize
-    requires { Contains items.now (record { place = place.now; time = t.now }) }
-    ensures within { result < length items.now }
-    ensures there { slice_index_or items.now result (record { place = place.now; time = t.now })
-        ≡ record { place = place.now; time = t.now } }
-{
-    for number in 0..items.len() {
-        if items[number].is(place, t) {
-            return number;
-        }
-    }
-    unreachable!()
 }

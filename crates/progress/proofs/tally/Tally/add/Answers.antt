@@ -16,7 +16,7 @@ invariant_of-self g c =
       plan = c.self.invariant.plan;
       len = c.mark_below.ensures.len ∙ (c.count.ensures.spared.len ∙ c.self.invariant.len);
       current = subst (λ xs. AreCurrent below nodes xs new) (sym c.in-Err.ensures.unchanged)
-          (undone_current nodes c.args.place old mid new c.count.ensures.spared c.mark_below.ensures below c.self.inside.items.items c.self.invariant.current);
+          (undone_current nodes c.args.place old mid new c.count.ensures.spared c.mark_below.ensures below c.self.inside.items c.self.invariant.current);
     }
 
 pub returns-in-Err-clause-below : goal.returns-in-Err-clause-below
@@ -29,13 +29,13 @@ pub invariant_of-self-in_default : goal.invariant_of-self-in_default
 invariant_of-self-in_default g c =
     let below = g.T.PartialOrder.below in
     let nodes = c.self.inside.graph in
-    let items = c.self.inside.items.items in
+    let items = c.self.inside.items in
     let new = c.count.new.kept.items in
     let x : Counted g.row.T.Denot = record { place = c.args.place; time = c.args.t } in
     record {
       plan = c.self.invariant.plan;
       len = c.in_default.ensures.inserted.len ∙ c.self.invariant.len;
-      current = current_same below nodes new (x ∷ items) c.count.new.items.items (λ test. sym (c.in_default.ensures.counted test))
+      current = current_same below nodes new (x ∷ items) c.count.new.items (λ test. sym (c.in_default.ensures.counted test))
           (inserted_current below nodes c.args.place c.args.t c.self.inside.kept.items new items c.in_default.ensures.inserted c.self.invariant.current);
     }
 

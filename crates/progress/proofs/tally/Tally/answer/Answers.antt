@@ -3,7 +3,7 @@ use Rattle.std.specs.Prelude.{Result, Ok, Err, OnErr}
 use Rattle.lattice.specs.Frontiers.{is_beyond}
 use Rattle.antichain.specs.Antichains.{SameElements, least}
 use Rattle.progress.specs.Kept.{IsCurrent}
-use Rattle.progress.specs.Scopes.{scope_node, is_in_scope}
+use Rattle.progress.specs.Scopes.{is_in_scope}
 use Rattle.progress.specs.Tallies.{TallyState, is_marked, times_where}
 use Rattle.progress.proofs.ChangeLemmas.{set_length}
 use Rattle.progress.proofs.CurrentLemmas.{current_set}
@@ -19,14 +19,13 @@ returns-clause-least g c =
     let below = g.T.PartialOrder.below in
     let found = c.in_ok-found.found in
     subst (λ (s : TallyState g.row.T.Denot). SameElements found (least below (times_where (is_in_scope s.nodes c.args.scope.now) s.items))) c.self.view_is
-    (subst (λ xs. SameElements found (least below (times_where (is_in_scope c.self.inside.graph c.args.scope.now) xs))) c.as_slice.ensures.value c.in_ok-found.ensures.least)
+    c.in_ok-found.ensures.least
 
 pub returns-clause-beyond : goal.returns-clause-beyond
 returns-clause-beyond g c t =
     let below = g.T.PartialOrder.below in
     c.in_ok-found.ensures.beyond t
-    ∙ ((λ i. is_beyond below (least below (times_where (is_in_scope c.self.inside.graph c.args.scope.now) (c.as_slice.ensures.value i))) t)
-    ∙ (λ i. is_beyond below (least below (times_where (is_in_scope (c.self.view_is i).nodes c.args.scope.now) (c.self.view_is i).items)) t))
+    ∙ (λ i. is_beyond below (least below (times_where (is_in_scope (c.self.view_is i).nodes c.args.scope.now) (c.self.view_is i).items)) t)
 
 pub returns-clause-unmarked : goal.returns-clause-unmarked
 returns-clause-unmarked g c n =
@@ -49,30 +48,28 @@ pub invariant_of-self : goal.invariant_of-self
 invariant_of-self g c =
     let below = g.T.PartialOrder.below in
     let nodes = c.self.inside.graph in
-    let items = c.self.inside.items.items in
+    let items = c.self.inside.items in
     let ks = c.self.inside.kept.items in
     let at = c.number-number.ensures ∙ c.node.ensures in
     let long = ap (λ (s : TallyState g.row.T.Denot). length s.nodes) c.self.view_is in
     let within : c.number-number.result < length c.self.inside.kept.items = omega (arith, at, long, c.requires, c.self.invariant.len) in
-    let right = subst (λ xs. IsCurrent below nodes xs (scope_node c.args.scope.now) c.answer.new.self) c.as_slice.ensures.value c.answer.ensures.current in
     record {
       plan = c.self.invariant.plan;
       len = set_length ks c.number-number.result c.answer.new.self ∙ c.self.invariant.len;
-      current = current_set below nodes items ks c.number-number.result c.answer.new.self within (subst (λ n. IsCurrent below nodes items n c.answer.new.self) (sym at) right) c.self.invariant.current;
+      current = current_set below nodes items ks c.number-number.result c.answer.new.self within (subst (λ n. IsCurrent below nodes items n c.answer.new.self) (sym at) c.answer.ensures.current) c.self.invariant.current;
     }
 
 pub invariant_of-self-2 : goal.invariant_of-self-2
 invariant_of-self-2 g c =
     let below = g.T.PartialOrder.below in
     let nodes = c.self.inside.graph in
-    let items = c.self.inside.items.items in
+    let items = c.self.inside.items in
     let ks = c.self.inside.kept.items in
     let at = c.number-number.ensures ∙ c.node.ensures in
     let long = ap (λ (s : TallyState g.row.T.Denot). length s.nodes) c.self.view_is in
     let within : c.number-number.result < length c.self.inside.kept.items = omega (arith, at, long, c.requires, c.self.invariant.len) in
-    let right = subst (λ xs. IsCurrent below nodes xs (scope_node c.args.scope.now) c.answer.new.self) c.as_slice.ensures.value c.answer.ensures.current in
     record {
       plan = c.self.invariant.plan;
       len = set_length ks c.number-number.result c.answer.new.self ∙ c.self.invariant.len;
-      current = current_set below nodes items ks c.number-number.result c.answer.new.self within (subst (λ n. IsCurrent below nodes items n c.answer.new.self) (sym at) right) c.self.invariant.current;
+      current = current_set below nodes items ks c.number-number.result c.answer.new.self within (subst (λ n. IsCurrent below nodes items n c.answer.new.self) (sym at) c.answer.ensures.current) c.self.invariant.current;
     }

@@ -1,24 +1,28 @@
-use Rattle.std.proofs.Common.{◌≡◌, ◌<◌, sym, ap, subst, ◌∙◌, IsTrue}
-use Rattle.std.specs.List.{filter, remove}
-use Rattle.std.specs.Prelude.{slice_index_or, length, ◌∷◌, slice_set}
+use Rattle.std.proofs.Common.{◌∷◌, length, sym, ap, subst, ◌∙◌, IsTrue}
+use Rattle.std.specs.List.{filter}
+use Rattle.std.specs.Prelude.{Contains}
 use Rattle.progress.specs.declared.counted.Counted.{Counted}
-use Rattle.progress.specs.Kept.{AreCurrent, marks_of}
-use Rattle.progress.specs.Tallies.{AreMarksBelow, TallyState}
-use Rattle.progress.proofs.CountLemmas.{replaced, removed, set_counts}
-use Rattle.progress.proofs.CurrentLemmas.{current_same, later_current, forgotten_marks}
+use Rattle.progress.specs.declared.place.Place.{Place}
+use Rattle.progress.specs.Kept.{marks_of}
+use Rattle.progress.specs.Tallies.{AreMarksBelow, SameCounts, TallyState}
+use Rattle.progress.proofs.CurrentLemmas.{moved_current, forgotten_marks}
 use Rattle.progress.proofs.tally.Tally.downgrade.Goals as goal
+
+pub replace-requires : goal.replace-requires
+replace-requires g c =
+    let seen = ap (λ (s : TallyState g.row.T.Denot). s.items) c.self.view_is in
+    let item = λ (p : Place). let x : Counted g.row.T.Denot = record { place = p; time = c.capability.inside.time } in x in
+    subst (λ xs. Contains xs (item c.copy.result)) (sym seen)
+    (subst (λ p. Contains c.args.self.now.items (item p)) (sym c.copy.ensures) (subst (λ x. Contains c.args.self.now.items x) (sym c.capability.view_is) c.requires.counted))
 
 pub returns-clause-counted : goal.returns-clause-counted
 returns-clause-counted g c test =
     let seen = ap (λ (s : TallyState g.row.T.Denot). s.items) c.self.view_is in
-    let x : Counted g.row.T.Denot = record { place = c.capability.inside.place; time = c.capability.inside.time } in
-    let y : Counted g.row.T.Denot = record { place = c.copy.result; time = c.args.later } in
-    let number = c.position-number.result in
-    let same : x ≡ c.args.capability = c.capability.view_is in
-    ap (λ w. length (filter test (w ∷ slice_set c.self.inside.items.items number y))) (sym same)
-    ∙ (ap (λ xs. length (filter test (x ∷ slice_set xs number y))) seen
-    ∙ (replaced c.args.self.now.items number x y (subst (λ xs. number < length xs) (c.as_slice.ensures.value ∙ seen) c.position-number.ensures.within) (sym (subst (λ xs. slice_index_or xs number x ≡ x) (c.as_slice.ensures.value ∙ seen) c.position-number.ensures.there)) test
-    ∙ ap (λ w. length (filter test (w ∷ c.args.self.now.items))) (λ i. let z : Counted g.row.T.Denot = record { place = c.copy.ensures i; time = c.args.later } in z)))
+    let left = c.replace.new.self in
+    let item = λ (p : Place). let x : Counted g.row.T.Denot = record { place = p; time = c.capability.inside.time } in x in
+    let moved = λ (p : Place). let x : Counted g.row.T.Denot = record { place = p; time = c.args.later } in x in
+    ap (λ (w : Counted g.row.T.Denot). length (filter test (w ∷ left))) (sym c.capability.view_is ∙ ap item (sym c.copy.ensures))
+    ∙ (c.replace.ensures test ∙ (λ i. length (filter test (moved (c.copy-2.ensures i) ∷ seen i))))
 
 pub returns-clause-below : goal.returns-clause-below
 returns-clause-below g c =
@@ -31,23 +35,19 @@ pub invariant_of-self : goal.invariant_of-self
 invariant_of-self g c =
     let below = g.T.PartialOrder.below in
     let nodes = c.self.inside.graph in
-    let xs = c.self.inside.items.items in
+    let items = c.self.inside.items in
     let ks = c.self.inside.kept.items in
+    let left = c.replace.new.self in
     let new = c.forget_in_all.new.kept.items in
-    let number = c.position-number.result in
-    let x : Counted g.row.T.Denot = record { place = c.capability.inside.place; time = c.capability.inside.time } in
-    let y : Counted g.row.T.Denot = record { place = c.copy.result; time = c.args.later } in
-    let z : Counted g.row.T.Denot = record { place = c.capability.inside.place; time = c.args.later } in
-    let same : z ≡ y = (λ i. let w : Counted g.row.T.Denot = record { place = sym c.copy.ensures i; time = c.args.later } in w) in
+    let seen = ap (λ (s : TallyState g.row.T.Denot). s.items) c.self.view_is in
+    let item = λ (p : Place). let x : Counted g.row.T.Denot = record { place = p; time = c.capability.inside.time } in x in
+    let moved = λ (p : Place). let x : Counted g.row.T.Denot = record { place = p; time = c.args.later } in x in
+    let place = c.capability.inside.place in
     let onward = subst (λ (x : Counted g.row.T.Denot). IsTrue (below x.time c.args.later)) (sym c.capability.view_is) c.requires.later in
-    let within = subst (λ ys. number < length ys) c.as_slice.ensures.value c.position-number.ensures.within in
-    let there = subst (λ ys. slice_index_or ys number x ≡ x) c.as_slice.ensures.value c.position-number.ensures.there in
-    let rest = remove xs number in
-    let before = current_same below nodes ks xs (x ∷ rest) (λ test. sym (removed xs number x within (sym there) test)) c.self.invariant.current in
-    let after = later_current below nodes c.capability.inside.place c.capability.inside.time ks new c.forget_in_all.ensures rest c.args.later onward before in
-    let at = subst (λ w. AreCurrent below nodes (w ∷ rest) new) same after in
+    let there : Contains items (item place) = subst (λ xs. Contains xs (item place)) (sym seen) (subst (λ x. Contains c.args.self.now.items x) (sym c.capability.view_is) c.requires.counted) in
+    let same : SameCounts (item place ∷ left) (moved place ∷ items) = (λ test. ap (λ p. length (filter test (item p ∷ left))) (sym c.copy.ensures) ∙ (c.replace.ensures test ∙ ap (λ p. length (filter test (moved p ∷ items))) c.copy-2.ensures)) in
     record {
       plan = c.self.invariant.plan;
       len = c.forget_in_all.ensures.len ∙ c.self.invariant.len;
-      current = current_same below nodes new (y ∷ rest) (slice_set xs number y) (set_counts xs number y within) at;
+      current = moved_current below nodes place c.capability.inside.time ks new c.forget_in_all.ensures c.args.later items left there onward same c.self.invariant.current;
     }

@@ -1,19 +1,24 @@
-use Rattle.std.proofs.Common.{◌≡◌, ◌<◌, sym, ap, subst, ◌∙◌}
-use Rattle.std.specs.List.{filter, remove}
-use Rattle.std.specs.Prelude.{slice_index_or, length, ◌∷◌}
+use Rattle.std.proofs.Common.{◌∷◌, length, sym, ap, subst, ◌∙◌}
+use Rattle.std.specs.List.{filter}
+use Rattle.std.specs.Prelude.{Contains}
 use Rattle.progress.specs.declared.counted.Counted.{Counted}
-use Rattle.progress.specs.Kept.{AreCurrent, marks_of}
-use Rattle.progress.specs.Tallies.{AreMarksBelow, TallyState}
-use Rattle.progress.proofs.CountLemmas.{removed}
+use Rattle.progress.specs.declared.place.Place.{Place}
+use Rattle.progress.specs.Kept.{marks_of}
+use Rattle.progress.specs.Tallies.{AreMarksBelow, SameCounts, TallyState}
 use Rattle.progress.proofs.CurrentLemmas.{current_same, gone_current, forgotten_marks}
 use Rattle.progress.proofs.tally.Tally.remove.Goals as goal
+
+pub remove-requires : goal.remove-requires
+remove-requires g c =
+    let seen = ap (λ (s : TallyState g.row.T.Denot). s.items) c.self.view_is in
+    let item = λ (p : Place). let x : Counted g.row.T.Denot = record { place = p; time = c.args.t.now } in x in
+    subst (λ xs. Contains xs (item c.copy.result)) (sym seen) (subst (λ p. Contains c.args.self.now.items (item p)) (sym c.copy.ensures) c.requires)
 
 pub returns-clause-counted : goal.returns-clause-counted
 returns-clause-counted g c test =
     let seen = ap (λ (s : TallyState g.row.T.Denot). s.items) c.self.view_is in
-    let x : Counted g.row.T.Denot = record { place = c.args.place.now; time = c.args.t.now } in
-    ap (λ xs. length (filter test (x ∷ xs))) (c.remove.ensures.items ∙ ap (λ xs. remove xs c.position-number.result) seen)
-    ∙ removed c.args.self.now.items c.position-number.result x (subst (λ xs. c.position-number.result < length xs) (c.as_slice.ensures.value ∙ seen) c.position-number.ensures.within) (sym (subst (λ xs. slice_index_or xs c.position-number.result x ≡ x) (c.as_slice.ensures.value ∙ seen) c.position-number.ensures.there)) test
+    ap (λ (p : Place). let x : Counted g.row.T.Denot = record { place = p; time = c.args.t.now } in length (filter test (x ∷ c.remove.new.self))) (sym c.copy.ensures)
+    ∙ (c.remove.ensures test ∙ ap (λ xs. length (filter test xs)) seen)
 
 pub returns-clause-below : goal.returns-clause-below
 returns-clause-below g c =
@@ -25,16 +30,13 @@ pub invariant_of-self : goal.invariant_of-self
 invariant_of-self g c =
     let below = g.T.PartialOrder.below in
     let nodes = c.self.inside.graph in
-    let xs = c.self.inside.items.items in
     let ks = c.self.inside.kept.items in
-    let number = c.position-number.result in
+    let left = c.remove.new.self in
     let x : Counted g.row.T.Denot = record { place = c.args.place.now; time = c.args.t.now } in
-    let within = subst (λ ys. number < length ys) c.as_slice.ensures.value c.position-number.ensures.within in
-    let there = subst (λ ys. slice_index_or ys number x ≡ x) c.as_slice.ensures.value c.position-number.ensures.there in
-    let before = subst (λ ys. AreCurrent below nodes (x ∷ ys) ks) (sym c.remove.ensures.items)
-    (current_same below nodes ks xs (x ∷ remove xs number) (λ test. sym (removed xs number x within (sym there) test)) c.self.invariant.current) in
+    let counted : SameCounts (x ∷ left) c.self.inside.items = (λ test. ap (λ (p : Place). let x : Counted g.row.T.Denot = record { place = p; time = c.args.t.now } in length (filter test (x ∷ left))) (sym c.copy.ensures) ∙ c.remove.ensures test) in
     record {
       plan = c.self.invariant.plan;
       len = c.forget_in_all.ensures.len ∙ c.self.invariant.len;
-      current = gone_current below nodes c.args.place.now c.args.t.now ks c.forget_in_all.new.kept.items c.forget_in_all.ensures c.remove.new.self.items before;
+      current = gone_current below nodes c.args.place.now c.args.t.now ks c.forget_in_all.new.kept.items c.forget_in_all.ensures left
+          (current_same below nodes ks c.self.inside.items (x ∷ left) (λ test. sym (counted test)) c.self.invariant.current);
     }

@@ -1,7 +1,7 @@
 use Rattle.std.proofs.Common.{◌≡◌, ℕ, ◌<◌}
 use Rattle.std.specs.Prelude.{slice_index_or}
 use Rattle.progress.specs.declared.counted.Counted.{Counted}
-use Rattle.progress.proofs.tally.position.Given as goal
+use Rattle.progress.proofs.counts.position.Given as goal
 
 -- no item so far is the one
 abbrev pub invariant-loop-number : goal.invariant-loop-number
